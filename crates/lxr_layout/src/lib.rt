@@ -1,0 +1,134 @@
+//! Names, shapes and places of objects, and the words that hold them.
+//!
+//! A heap is cut into blocks of 32 KB, a block into 128 lines of 256 bytes, a line into 16 granules of two
+//! 8-byte words (blocks and lines are those of Immix: Blackburn and McKinley, 2008). An object begins at a
+//! granule with a header word that packs its name and shape. Nothing here knows of a heap's content.
+#![tactic(auto)]
+
+ghost use Rattle.std.specs.Prelude.{◌≡◌, ◌↔◌, IsTrue};
+ghost use Rattle.lxr_layout.specs.Objects.{FitsShape, header_of, header_word, line_count, word_count};
+ghost use Rattle.lxr_layout.specs.Places.{IsPlace, block_at, first_word, line_at};
+
+mod limits;
+mod runs;
+mod spaces;
+
+pub use limits::{Limits, Regions};
+pub use runs::{LogEntry, Run, entry_of, entry_word, run_of, run_word};
+pub use spaces::regions;
+
+/// The bits of a reference count in its table.
+pub const COUNT_BITS: u32 = 2;
+
+/// The count at which an object is stuck: it is neither raised nor lowered from then on, and only a trace
+/// reclaims its object.
+pub const STUCK: u8 = 3;
+
+/// Where an object begins: the index of its first granule in the heap, plus 1. 0 is nil.
+#[derive(Clone, Copy, Debug, PartialEq, Eq)]
+pub struct Place(pub u32);
+
+/// How many references and how many data words an object has.
+#[derive(Clone, Copy, Debug, PartialEq, Eq)]
+pub struct Shape {
+    pub refs: u16,
+    pub values: u16,
+}
+
+/// What an object is called for good: the thread that made it, and its number among that thread's objects.
+#[derive(Clone, Copy, Debug, PartialEq, Eq, PartialOrd, Ord)]
+pub struct Name {
+    pub thread: u8,
+    pub serial: u32,
+}
+
+/// What an object's first word says.
+#[derive(Clone, Copy, Debug, PartialEq, Eq)]
+pub enum Header {
+    /// An object of this name and shape begins here.
+    Object(Name, Shape),
+    /// The object that began here begins at this place now.
+    Moved(Place),
+}
+
+/// Whether an object of this shape can be made: at most 1,023 references and at most 1,023 data words.
+pub fn fits_shape(shape: Shape) -> bool
+    ensures { IsTrue result ↔ FitsShape shape }
+{
+    shape.refs <= 1023 && shape.values <= 1023
+}
+
+/// The words of an object with its header, rounded up to an even number.
+pub fn words_of(shape: Shape) -> u32
+    requires { FitsShape shape }
+    ensures { result ≡ word_count shape }
+{
+    (1 + u32::from(shape.refs) + u32::from(shape.values) + 1) / 2 * 2
+}
+
+/// The lines of 32 words that an object needs when it begins at the front of a line.
+pub fn lines_of(shape: Shape) -> u32
+    requires { FitsShape shape }
+    ensures { result ≡ line_count shape }
+{
+    words_of(shape).div_ceil(32)
+}
+
+/// The header word of an object.
+pub fn pack(name: Name, shape: Shape) -> u64
+    requires { FitsShape shape }
+    ensures word { result ≡ header_word name shape }
+    // `unpack` gives the name and the shape again.
+    ensures unpacked { header_of result ≡ Header.Object name shape }
+{
+    let values = u64::from(shape.values);
+    let refs = u64::from(shape.refs) << 10;
+    let serial = u64::from(name.serial) << 20;
+    let thread = u64::from(name.thread) << 52;
+    values | refs | serial | thread
+}
+
+/// What a header word says.
+pub fn unpack(word: u64) -> Header
+    ensures { result ≡ header_of word }
+{
+    if word >> 63 == 1 {
+        return Header::Moved(Place((word & 0xffff_ffff) as u32));
+    }
+    let name = Name {
+        thread: (word >> 52 & 0xff) as u8,
+        serial: (word >> 20 & 0xffff_ffff) as u32,
+    };
+    let shape = Shape {
+        refs: (word >> 10 & 0x3ff) as u16,
+        values: (word & 0x3ff) as u16,
+    };
+    Header::Object(name, shape)
+}
+
+/// The heap word at which a place begins.
+pub fn word_of(place: Place) -> u32
+    requires { IsPlace place }
+    ensures { result ≡ first_word place.0 }
+{
+    2 * (place.0 - 1)
+}
+
+/// The line of a place, counted over the whole heap.
+pub fn line_of(place: Place) -> u32
+    requires { IsPlace place }
+    ensures { result ≡ line_at place.0 }
+{
+    (place.0 - 1) / 16
+}
+
+/// The block of a place.
+pub fn block_of(place: Place) -> u32
+    requires { IsPlace place }
+    ensures { result ≡ block_at place.0 }
+{
+    (place.0 - 1) / 2048
+}
+
+#[cfg(test)]
+mod tests;
