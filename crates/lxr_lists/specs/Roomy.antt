@@ -1,0 +1,15 @@
+-- Lists with the room that was taken for them.
+use Rattle.std.specs.Prelude.{ℕ, List, [], ◌∷◌, ◌++◌}
+
+-- what contracts see of a list: its items, and how many it can hold without taking memory
+pub record Roomy (T : Type 0) : Type 0 where
+  pub items : List T
+  pub room : ℕ
+
+-- the list with one item more at its end, in the same room
+abbrev pub pushed : {T : Type 0} → Roomy T → T → Roomy T
+pushed l x = record l { items = l.items ++ x ∷ [] }
+
+-- no items, in the same room
+abbrev pub emptied : {T : Type 0} → Roomy T → Roomy T
+emptied l = record l { items = [] }
