@@ -1,0 +1,236 @@
+//! The graph with the registers of its threads, and one step of it.
+ghost use Rattle.std.specs.Prelude.{◌≡◌, ◌+◌, ◌-◌, ◌*◌, ◌^◌, ◌<◌, ◌≤◌, ◌++◌, [], IfOk, OnErr, OnOk, length};
+ghost use Rattle.lxr_graph.specs.Names.{same_held};
+ghost use Rattle.lxr_graph.specs.State.{next_name, opening, opening_row, register_at, row_of, with_register};
+ghost use Rattle.lxr_graph.specs.Step.{IsWellFormed, cleared, fresh, get_from, load_from, make, put_to, step, store_to};
+
+use crate::rows::{Body, Row, reference_of, set_reference, set_value, value_of};
+use crate::{Op, Reply};
+use lxr_layout::{Name, Shape};
+use std::alloc::{AllocError, Global};
+use std::marker::Model;
+
+/// The graph, which only grows, and sixteen registers for each thread.
+#[derive(Drop)]
+pub struct Graph {
+    rows: Vec<Row>,
+    registers: Vec<Option<Name>>,
+}
+
+impl Model for Graph {
+    ghost use Rattle.std.specs.Prelude.{◌≡◌, ◌+◌, ◌*◌, length};
+    ghost use Rattle.lxr_graph.specs.State.{State};
+
+    ghost Value = { State };
+
+    ghost view = { λ a. record { graph = a.rows.items; registers = a.registers.items } };
+
+    ghost invariant = { λ a. length a.registers.items + 16 ≡ 16 * length a.rows.items };
+}
+
+/// Whether both hold nothing, or both hold one name.
+fn same_names(left: Option<Name>, right: Option<Name>) -> bool
+    ensures { result ≡ same_held left right }
+{
+    match (left, right) {
+        (None, None) => true,
+        (Some(left), Some(right)) => left.thread == right.thread && left.serial == right.serial,
+        (None, Some(_)) => false,
+        (Some(_), None) => false,
+    }
+}
+
+/// Adds the registers of one more thread.
+fn push_opening_row(registers: &mut Vec<Option<Name>>) -> Result<(), AllocError>
+    ensures { OnOk result (registers.new.items ≡ registers.old.items ++ opening_row) }
+{
+    let mut row = [None; 16];
+    row[0] = Some(Name {
+        thread: 0,
+        serial: 0,
+    });
+    registers.extend_from_slice(&row)?;
+    Ok(())
+}
+
+impl Graph {
+    /// The opening state of 1 to 16 threads: the world alone, held by r0 of each thread.
+    pub fn new(alloc: Global, threads: u8) -> Result<Graph, AllocError>
+        requires { (1 ≤ threads) × (threads ≤ 16) }
+        ensures { IfOk result (λ graph. graph ≡ opening threads) }
+    {
+        let world = Body::new(
+            alloc,
+            Shape {
+                refs: 64,
+                values: 0,
+            },
+        )?;
+        let mut first = Row::new(alloc);
+        first.push(world)?;
+        let mut rows = Vec::new(alloc);
+        rows.push(first)?;
+        let mut registers = Vec::new(alloc);
+        for _ in 0..threads {
+            rows.push(Row::new(alloc))?;
+            push_opening_row(&mut registers)?;
+        }
+        Ok(Graph { rows, registers })
+    }
+
+    fn register(&self, thread: u8, register: u8) -> Option<Name>
+        requires thread { (0 < thread) × (thread < length self.now.graph) }
+        requires register { register < 16 }
+        ensures { result ≡ register_at self.now thread register }
+    {
+        self.registers[16 * usize::from(thread - 1) + usize::from(register)]
+    }
+
+    fn set_register(&mut self, thread: u8, register: u8, name: Option<Name>)
+        requires thread { (0 < thread) × (thread < length self.old.graph) }
+        requires register { register < 16 }
+        ensures { self.new ≡ with_register self.old thread register name }
+    {
+        self.registers[16 * usize::from(thread - 1) + usize::from(register)] = name;
+    }
+
+    fn load(&mut self, thread: u8, dest: u8, base: u8, index: u16) -> Reply
+        requires thread { (0 < thread) × (thread < length self.old.graph) }
+        requires registers { (dest < 16) × (base < 16) }
+        ensures { load_from self.old thread dest index (register_at self.old thread base) ≡ (self.new, result) }
+    {
+        match self.register(thread, base) {
+            None => Reply::Bad,
+            Some(name) => match reference_of(&self.rows, name, index) {
+                None => Reply::Range,
+                Some(found) => {
+                    self.set_register(thread, dest, found);
+                    Reply::Loaded(found)
+                }
+            },
+        }
+    }
+
+    fn store(&mut self, thread: u8, base: u8, index: u16, source: u8) -> Reply
+        requires thread { (0 < thread) × (thread < length self.old.graph) }
+        requires registers { (base < 16) × (source < 16) }
+        ensures { store_to self.old index (register_at self.old thread source) (register_at self.old thread base) ≡ (self.new, result) }
+    {
+        let reference = self.register(thread, source);
+        match self.register(thread, base) {
+            None => Reply::Bad,
+            Some(name) => match reference_of(&self.rows, name, index) {
+                None => Reply::Range,
+                Some(_) => {
+                    set_reference(&mut self.rows, name, index, reference);
+                    Reply::Stored
+                }
+            },
+        }
+    }
+
+    fn put(&mut self, thread: u8, base: u8, index: u16, value: u64) -> Reply
+        requires thread { (0 < thread) × (thread < length self.old.graph) }
+        requires registers { base < 16 }
+        ensures { put_to self.old index value (register_at self.old thread base) ≡ (self.new, result) }
+    {
+        match self.register(thread, base) {
+            None => Reply::Bad,
+            Some(name) => match value_of(&self.rows, name, index) {
+                None => Reply::Range,
+                Some(_) => {
+                    set_value(&mut self.rows, name, index, value);
+                    Reply::Put
+                }
+            },
+        }
+    }
+
+    fn get(&self, thread: u8, base: u8, index: u16) -> Reply
+        requires thread { (0 < thread) × (thread < length self.now.graph) }
+        requires registers { base < 16 }
+        ensures { get_from self.now index (register_at self.now thread base) ≡ (self.now, result) }
+    {
+        match self.register(thread, base) {
+            None => Reply::Bad,
+            Some(name) => match value_of(&self.rows, name, index) {
+                None => Reply::Range,
+                Some(value) => Reply::Got(value),
+            },
+        }
+    }
+
+    fn make(
+        &mut self,
+        alloc: Global,
+        thread: u8,
+        dest: u8,
+        shape: Shape,
+    ) -> Result<Reply, AllocError>
+        requires thread { (0 < thread) × (thread < length self.old.graph) }
+        requires room { length (row_of self.old.graph thread) < 2 ^ 32 - 1 }
+        requires registers { dest < 16 }
+        ensures ok { IfOk result (λ reply. make self.old thread dest (fresh shape) (next_name self.old.graph thread) ≡ (self.new, reply)) }
+        ensures err { OnErr result (self.new ≡ self.old) }
+    {
+        let body = Body::new(alloc, shape)?;
+        let row = &mut self.rows[usize::from(thread)];
+        let serial = row.len() as u32 + 1;
+        row.push(body)?;
+        let name = Name { thread, serial };
+        self.set_register(thread, dest, Some(name));
+        Ok(Reply::New(name))
+    }
+
+    fn clear(&mut self, thread: u8)
+        requires { (0 < thread) × (thread < length self.old.graph) }
+        ensures { self.new ≡ record self.old { registers = cleared self.old.registers thread } }
+    {
+        let from = 16 * usize::from(thread - 1);
+        for register in 0..16 {
+            self.registers[from + register] = None;
+        }
+    }
+
+    /// One step: does an operation of a thread, which is 1 or more, and gives its reply. A `New` finds room, and its
+    /// name has the thread's next serial. Where memory runs out nothing has changed.
+    pub fn apply(&mut self, alloc: Global, thread: u8, op: Op) -> Result<Reply, AllocError>
+        requires thread { (0 < thread) × (thread < length self.old.graph) }
+        requires room { length (row_of self.old.graph thread) < 2 ^ 32 - 1 }
+        requires op { IsWellFormed op }
+        ensures ok { IfOk result (λ reply. step self.old thread op ≡ (self.new, reply)) }
+        ensures err { OnErr result (self.new ≡ self.old) }
+    {
+        match op {
+            Op::New { dest, shape } => self.make(alloc, thread, dest, shape),
+            Op::Load { dest, base, index } => Ok(self.load(thread, dest, base, index)),
+            Op::Store {
+                base,
+                index,
+                source,
+            } => Ok(self.store(thread, base, index, source)),
+            Op::Put { base, index, value } => Ok(self.put(thread, base, index, value)),
+            Op::Get { base, index } => Ok(self.get(thread, base, index)),
+            Op::Move { dest, source } => {
+                let held = self.register(thread, source);
+                self.set_register(thread, dest, held);
+                Ok(Reply::Moved)
+            }
+            Op::Nil { dest } => {
+                self.set_register(thread, dest, None);
+                Ok(Reply::Cleared)
+            }
+            Op::Same { left, right } => {
+                let left = self.register(thread, left);
+                let right = self.register(thread, right);
+                Ok(Reply::Same(same_names(left, right)))
+            }
+            Op::Pause => Ok(Reply::Paused),
+            Op::Collect => Ok(Reply::Collected),
+            Op::End => {
+                self.clear(thread);
+                Ok(Reply::Ended)
+            }
+        }
+    }
+}
