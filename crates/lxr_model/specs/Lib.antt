@@ -1,0 +1,10 @@
+pub mod Reachable
+pub mod References
+pub mod Dead
+pub mod Terms
+pub mod Moments
+pub mod Reports
+pub mod Kinds
+pub mod Full
+pub mod Legal
+pub mod Belongs

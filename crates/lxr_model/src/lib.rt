@@ -1,0 +1,9 @@
+//! What a reader must believe of the collector: histories of the object graph, and when one is legal.
+//!
+//! All of it is in `specs/`. A history is a list of calls with their replies and of pauses with their reports. It is
+//! legal where each call is one step of the graph and each pause reports exactly the names that were promoted, that
+//! died, became stuck or were swept. The graph has no places and nothing leaves it, so references are counted afresh
+//! from all of it. The scheme is that of LXR (Zhao, Blackburn and McKinley, 2022); each rule and number here is this
+//! project's own choice within it. The functions of this crate do nothing: their contracts are the laws that the
+//! definitions obey.
+#![tactic(auto)]
