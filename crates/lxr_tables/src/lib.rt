@@ -1,8 +1,18 @@
 //! Tables over a list of words.
 //!
-//! A table is a part of one list of 64-bit words. Contracts see the words as a list of numbers.
+//! A table is a part of one list of 64-bit words that begins at a word `base` and is cut into entries of a few
+//! bits: bits, 64 to a word, and reference counts, 32 to a word. Contracts see a table as the list of its entries,
+//! so each call reads one entry, or gives the list with one entry changed. A call takes a few instructions and
+//! neither loops nor branches on what it finds.
 #![tactic(auto)]
 
+mod bits;
+mod counts;
 mod words;
 
+pub use bits::{bit, clear_bit, set_bit};
+pub use counts::{COUNTS_IN_WORD, Lowered, Raised, lower_two, raise_two, set_two, two};
 pub use words::{PlainWords, Words};
+
+#[cfg(test)]
+mod tests;

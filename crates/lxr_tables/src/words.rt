@@ -2,7 +2,7 @@
 //!
 //! `Words` is what the tables ask of their words. `PlainWords` are words of one owner; how they lie in memory is
 //! private, and contracts see the list of them.
-ghost use Rattle.std.specs.Prelude.{◌≡◌, ℕ, ◌<◌, List, length, slice_index, slice_set, replicate, IfOk};
+ghost use Rattle.std.specs.Prelude.{◌≡◌, ℕ, ◌+◌, ◌<◌, List, [], length, slice_index, slice_set, replicate, IfOk};
 
 use std::alloc::{AllocError, Global};
 use std::marker::Model;
@@ -40,6 +40,15 @@ impl Model for PlainWords {
 }
 
 impl PlainWords {
+    /// No words. It takes no memory.
+    pub fn empty(alloc: Global) -> PlainWords
+        ensures { result ≡ [] }
+    {
+        PlainWords {
+            items: Vec::new(alloc),
+        }
+    }
+
     /// So many words, all 0.
     pub fn new(alloc: Global, count: usize) -> Result<PlainWords, AllocError>
         ensures { IfOk result (λ w. w ≡ replicate count 0) }
@@ -47,6 +56,17 @@ impl PlainWords {
         let items = vec![in alloc; 0_u64; count]?;
         Ok(PlainWords { items })
     }
+}
+
+/// The word so many words behind another, of those that there are.
+#[inline(always)]
+pub(crate) fn word_at<W: Words>(words: &W, base: usize, offset: usize) -> usize
+    requires { base + offset < length (W.words_of words.now) }
+    ensures { result ≡ base + offset }
+{
+    // The number of all words is a `usize`, so the sum is one too.
+    let _count = words.count();
+    base + offset
 }
 
 impl Words for PlainWords {
