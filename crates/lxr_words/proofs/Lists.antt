@@ -1,0 +1,94 @@
+-- Lemmas on tests, texts and lists of options that know nothing of `clap`.
+use Rattle.std.proofs.Common.{◌≡◌, ◌∙◌, ◌&&◌, ◌||◌, ◌++◌, Bool, not, true, false, refl, sym, ap, arith, List, [], ◌∷◌, Some, true≢false}
+use Rattle.std.specs.List.{list_all, list_any}
+use Rattle.std.specs.Str.{bytes_eq}
+use Rattle.std.proofs.lemmas.Slice.Eq.{bytes_eq-Decides}
+use Rattle.lxr_words.specs.Number.{Text, is_number}
+use Rattle.clap.specs.Lexer.{strip_byte}
+use Rattle.lxr_words.specs.Settings.{Settings, each_once, is_set}
+
+pub or_false : (b : Bool) → (b || false) ≡ b
+or_false true = refl
+or_false false = refl
+
+pub and_false : (b : Bool) → (b && false) ≡ false
+and_false true = refl
+and_false false = refl
+
+pub and_left : (a b : Bool) → (a && b) ≡ true → a ≡ true
+and_left true b e = refl
+and_left false b e = absurd (true≢false (sym e))
+
+pub and_right : (a b : Bool) → (a && b) ≡ true → b ≡ true
+and_right true b e = e
+and_right false b e = absurd (true≢false (sym e))
+
+pub same_text : (x y : Text) → bytes_eq x y ≡ true → x ≡ y
+same_text x y e = (bytes_eq-Decides x y).0 e
+
+pub text_same : (x y : Text) → x ≡ y → bytes_eq x y ≡ true
+text_same x y e = (bytes_eq-Decides x y).1 e
+
+pub eq_refl : (x : Text) → bytes_eq x x ≡ true
+eq_refl x = text_same x x refl
+
+pub eq_sym : (x y : Text) → bytes_eq x y ≡ bytes_eq y x
+eq_sym x y = go (bytes_eq x y) (bytes_eq y x) refl refl
+  where
+    go : (a b : Bool) → bytes_eq x y ≡ a → bytes_eq y x ≡ b → a ≡ b
+    go true true p q = refl
+    go false false p q = refl
+    go true false p q = absurd (true≢false (sym (text_same y x (sym (same_text x y p))) ∙ q))
+    go false true p q = absurd (true≢false (sym (text_same x y (sym (same_text y x q))) ∙ p))
+
+-- ---- options that are given
+
+pub or_true : (b : Bool) → (b || true) ≡ true
+or_true true = refl
+or_true false = refl
+
+pub or_assoc : (a b c : Bool) → (a || (b || c)) ≡ ((a || b) || c)
+or_assoc true b c = refl
+or_assoc false b c = refl
+
+pub given-append : (name : Text) (g h : Settings) → is_set name (g ++ h) ≡ (is_set name g || is_set name h)
+given-append name [] h = refl
+given-append name (p ∷ g) h = ap (λ b. bytes_eq p.0 name || b) (given-append name g h) ∙ or_assoc (bytes_eq p.0 name) (is_set name g) (is_set name h)
+
+-- a name that is given already is given twice
+pub twice : (name x : Text) (g more : Settings) → is_set name g ≡ true → each_once (g ++ (name, x) ∷ more) ≡ false
+twice name x [] more e = absurd (true≢false (sym e))
+twice name x (p ∷ g) more e = go (bytes_eq p.0 name) refl (twice name x g more)
+  where
+    go : (b : Bool) → bytes_eq p.0 name ≡ b → (is_set name g ≡ true → each_once (g ++ (name, x) ∷ more) ≡ false) → each_once (p ∷ (g ++ (name, x) ∷ more)) ≡ false
+    go true q ih =
+        let here : is_set p.0 (g ++ (name, x) ∷ more) ≡ true = given-append p.0 g ((name, x) ∷ more) ∙ ap (λ b. is_set p.0 g || (b || is_set p.0 more)) (eq_sym name p.0 ∙ q) ∙ or_true (is_set p.0 g) in
+        ap (λ b. not b && each_once (g ++ (name, x) ∷ more)) here
+    go false q ih =
+        let later : is_set name g ≡ true = ap (λ b. b || is_set name g) (sym q) ∙ e in
+        ap (λ b. not (is_set p.0 (g ++ (name, x) ∷ more)) && b) (ih later) ∙ and_false _
+
+-- one more option, of a name that is not given, leaves each given once
+pub once_more : (name x : Text) (g : Settings) → each_once g ≡ true → is_set name g ≡ false → each_once (g ++ (name, x) ∷ []) ≡ true
+once_more name x [] e n = refl
+once_more name x (p ∷ g) e n = go (bytes_eq p.0 name) refl (once_more name x g)
+  where
+    go : (b : Bool) → bytes_eq p.0 name ≡ b → (each_once g ≡ true → is_set name g ≡ false → each_once (g ++ (name, x) ∷ []) ≡ true) → each_once (p ∷ (g ++ (name, x) ∷ [])) ≡ true
+    go true q ih = absurd (true≢false (ap (λ b. b || is_set name g) (sym q) ∙ n))
+    go false q ih =
+        let apart : is_set p.0 (g ++ (name, x) ∷ []) ≡ is_set p.0 g = given-append p.0 g ((name, x) ∷ []) ∙ ap (λ b. is_set p.0 g || (b || false)) (eq_sym name p.0 ∙ q) ∙ or_false _ in
+        let rest : is_set name g ≡ false = ap (λ b. b || is_set name g) (sym q) ∙ n in
+        let now : not (is_set p.0 g) ≡ true = and_left _ (each_once g) e in
+        let later : each_once g ≡ true = and_right (not (is_set p.0 g)) _ e in
+        ap (λ b. not b && each_once (g ++ (name, x) ∷ [])) apart ∙ ap (λ b. b && each_once (g ++ (name, x) ∷ [])) now ∙ ih later rest
+
+pub all_fails : {X : Type 0} (p : X → Bool) (xs : List X) (x : X) (ys : List X) → p x ≡ false → list_all p (xs ++ x ∷ ys) ≡ false
+all_fails p [] x ys e = ap (λ b. b && list_all p ys) e
+all_fails p (y ∷ xs) x ys e = ap (λ b. p y && b) (all_fails p xs x ys e) ∙ and_false _
+
+-- ---- numbers
+
+-- a text that begins with a hyphen is no number
+pub hyphen_no_number : (word rest : Text) → strip_byte 45 word ≡ Some rest → is_number word ≡ false
+hyphen_no_number [] rest e = absurd (true≢false (ap (λ o. Rattle.std.specs.Option.is_some o) (sym e)))
+hyphen_no_number (c ∷ cs) rest e = grind (arith)

@@ -1,0 +1,66 @@
+//! Reads the words from the left: the command, the seed where there is one, and then the options.
+
+ghost use Rattle.std.specs.Prelude.{◌≡◌, map};
+ghost use Rattle.std.specs.List.{list_any};
+ghost use Rattle.std.specs.Str.{bytes_eq};
+ghost use Rattle.lxr_words.specs.Settings.{dashes};
+ghost use Rattle.lxr_words.specs.Options.{Answers, load_in, options_in, reading_of};
+
+use crate::arguments::matches_among;
+use crate::values::{number_in, options_among};
+use crate::{Command, Options, WordError, WordFault};
+use std::alloc::Global;
+
+/// What the words of a command line say, the program's own name not among them. The answer `Memory`
+/// comes only where memory ran out.
+pub fn read_words(alloc: Global, words: &[&str]) -> Result<Options, WordError>
+    ensures { Answers (reading_of (map (λ word. word.now) words.now)) result }
+{
+    let [word, rest @ ..] = words else {
+        return Err(WordError::Fault(WordFault::Command));
+    };
+    match *word {
+        "run" => read_options(alloc, Command::Run, rest),
+        "map" => read_options(alloc, Command::Map, rest),
+        "load" => read_load(alloc, rest),
+        _ => Err(WordError::Fault(WordFault::Command)),
+    }
+}
+
+// Reads the words after `load`: the seed, and then the options.
+fn read_load(alloc: Global, words: &[&str]) -> Result<Options, WordError>
+    ensures { Answers (load_in (map (λ word. word.now) words.now)) result }
+{
+    let [seed, rest @ ..] = words else {
+        return Err(WordError::Fault(WordFault::Seed));
+    };
+    match number_in(seed) {
+        Some(seed) => read_options(alloc, Command::Load(seed), rest),
+        None => Err(WordError::Fault(WordFault::Seed)),
+    }
+}
+
+// Reads the options of the command.
+fn read_options<'a>(
+    alloc: Global,
+    command: Command,
+    words: &'a [&'a str],
+) -> Result<Options, WordError>
+    ensures { Answers (options_in command (map (λ word. word.now) words.now)) result }
+{
+    // `clap` would take this word as the end of the options.
+    if has_dashes(words) {
+        return Err(WordError::Fault(WordFault::Options));
+    }
+    match matches_among(alloc, command, words) {
+        Ok(matches) => options_among(command, matches.get_flag("counts"), &matches),
+        Err(error) => Err(error),
+    }
+}
+
+// Whether a word is `--`.
+fn has_dashes(words: &[&str]) -> bool
+    ensures { result ≡ list_any (λ word. bytes_eq word.now dashes) words.now }
+{
+    words.iter().any(|word| *word == "--")
+}
