@@ -1,18 +1,20 @@
 //! The options as arguments of one simple `clap` command. Their values are read as texts, since `clap`'s
 //! own readers of numbers take a sign, and the numbers are read afterwards.
 
-ghost use Rattle.std.specs.Prelude.{◌≡◌, ◌≢◌, ◌⊎◌, Some, None, false, IfOk, codes, map};
+ghost use Rattle.std.specs.Prelude.{◌≡◌, ◌≢◌, ◌⊎◌, false, IfOk, codes, map};
 ghost use Rattle.std.specs.List.{list_any};
 ghost use Rattle.std.specs.Str.{bytes_eq};
 ghost use Rattle.clap.specs.Simple.{app_of};
-ghost use Rattle.clap.specs.Walk.{rule_of};
 ghost use Rattle.lxr_words.specs.Settings.{dashes};
 ghost use Rattle.lxr_words.specs.Options.{table_of};
-ghost use Rattle.lxr_words.specs.Arguments.{Finds, app_for, argument_rule, common_options};
+ghost use Rattle.lxr_words.specs.Arguments.{Finds, app_for, common_options};
 
+use crate::table::{
+    BLOCKS, COUNTS, EVERY, LOG, REMEMBER, REPLAY, ROUNDS, THREADS, TRACE, WITHIN, WORKERS, flag,
+};
 use crate::{Command, WordError, WordFault};
+use clap::ArgMatches;
 use clap::error::ErrorKind;
-use clap::{Arg, ArgAction, ArgMatches};
 use std::alloc::{AllocError, Global};
 
 // What `clap` finds among the words.
@@ -49,10 +51,10 @@ fn arguments_of<'a>(alloc: Global, command: Command) -> Result<clap::Command<'a>
 {
     let common = common_arguments(alloc)?;
     match command {
-        Command::Run | Command::Map => common.arg(flag(alloc, "counts")),
+        Command::Run | Command::Map => common.arg(flag(alloc, COUNTS)),
         Command::Load(_) => common
-            .arg(number(alloc, "threads"))?
-            .arg(number(alloc, "rounds")),
+            .arg(THREADS.argument(alloc))?
+            .arg(ROUNDS.argument(alloc)),
     }
 }
 
@@ -63,28 +65,12 @@ fn common_arguments<'a>(alloc: Global) -> Result<clap::Command<'a>, AllocError>
     clap::Command::new(alloc, "lxr")
         .no_binary_name(true)
         .disable_help_flag(true)
-        .arg(number(alloc, "blocks"))?
-        .arg(number(alloc, "workers"))?
-        .arg(number(alloc, "every"))?
-        .arg(number(alloc, "log"))?
-        .arg(number(alloc, "trace"))?
-        .arg(number(alloc, "within"))?
-        .arg(number(alloc, "remember"))?
-        .arg(number(alloc, "replay"))
-}
-
-// An option that takes a number, as a text.
-fn number<'a>(alloc: Global, name: &'a str) -> Arg<'a>
-    ensures rule { rule_of result ≡ argument_rule (Some (0, 0)) name.now }
-    ensures local { result.global ≡ false }
-{
-    Arg::new(alloc, name).long(name).action(ArgAction::Set)
-}
-
-// An option that takes none.
-fn flag<'a>(alloc: Global, name: &'a str) -> Arg<'a>
-    ensures rule { rule_of result ≡ argument_rule None name.now }
-    ensures local { result.global ≡ false }
-{
-    Arg::new(alloc, name).long(name).action(ArgAction::SetTrue)
+        .arg(BLOCKS.argument(alloc))?
+        .arg(WORKERS.argument(alloc))?
+        .arg(EVERY.argument(alloc))?
+        .arg(LOG.argument(alloc))?
+        .arg(TRACE.argument(alloc))?
+        .arg(WITHIN.argument(alloc))?
+        .arg(REMEMBER.argument(alloc))?
+        .arg(REPLAY.argument(alloc))
 }

@@ -24,8 +24,9 @@ ghost use Rattle.std.specs.Prelude.{◌≡◌};
 ghost use Rattle.lxr_words.specs.WordFault.{error_line_of};
 
 mod arguments;
+mod digits;
 mod reading;
-mod values;
+mod table;
 
 pub use reading::read_words;
 use thiserror::Error;

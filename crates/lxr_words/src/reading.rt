@@ -3,12 +3,18 @@
 ghost use Rattle.std.specs.Prelude.{◌≡◌, map};
 ghost use Rattle.std.specs.List.{list_any};
 ghost use Rattle.std.specs.Str.{bytes_eq};
+ghost use Rattle.clap.specs.Matches.{first_value, found_of};
 ghost use Rattle.lxr_words.specs.Settings.{dashes};
-ghost use Rattle.lxr_words.specs.Options.{Answers, load_in, options_in, reading_of};
+ghost use Rattle.lxr_words.specs.Arguments.{ReadsIfFine, all_fine};
+ghost use Rattle.lxr_words.specs.Options.{Answers, load_in, options_by, options_in, reading_of};
 
 use crate::arguments::matches_among;
-use crate::values::{number_in, options_among};
+use crate::digits::number_in;
+use crate::table::{
+    BLOCKS, COUNTS, EVERY, LOG, REMEMBER, REPLAY, ROUNDS, THREADS, TRACE, WITHIN, WORKERS,
+};
 use crate::{Command, Options, WordError, WordFault};
+use clap::ArgMatches;
 use std::alloc::Global;
 
 /// What the words of a command line say, the program's own name not among them. The answer `Memory`
@@ -53,7 +59,7 @@ fn read_options<'a>(
         return Err(WordError::Fault(WordFault::Options));
     }
     match matches_among(alloc, command, words) {
-        Ok(matches) => options_among(command, matches.get_flag("counts"), &matches),
+        Ok(matches) => options_among(command, matches.get_flag(COUNTS), &matches),
         Err(error) => Err(error),
     }
 }
@@ -63,4 +69,29 @@ fn has_dashes(words: &[&str]) -> bool
     ensures { result ≡ list_any (λ word. bytes_eq word.now dashes) words.now }
 {
     words.iter().any(|word| *word == "--")
+}
+
+// The options by the texts that were found.
+fn options_among(
+    command: Command,
+    counts: bool,
+    matches: &ArgMatches<'_>,
+) -> Result<Options, WordError>
+    ensures { ReadsIfFine (all_fine (first_value (found_of matches.now)))
+        (options_by (first_value (found_of matches.now)) counts command) result }
+{
+    Ok(Options {
+        command,
+        blocks: BLOCKS.number_or(matches, 64)? as u32,
+        workers: WORKERS.number_or(matches, 2)? as u8,
+        every: EVERY.number_or(matches, 1024)? as u32,
+        log: LOG.number_or(matches, 1024)? as u32,
+        trace: TRACE.number_or(matches, 8)? as u32,
+        within: WITHIN.number_or(matches, 4)? as u32,
+        remember: REMEMBER.number_or(matches, 4096)? as u32,
+        counts,
+        replay: REPLAY.number(matches)?,
+        threads: THREADS.number_or(matches, 4)? as u8,
+        rounds: ROUNDS.number_or(matches, 1000)? as u32,
+    })
 }

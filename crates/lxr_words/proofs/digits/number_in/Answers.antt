@@ -5,7 +5,7 @@ use Rattle.std.specs.Str.{all_ascii_digits}
 use Rattle.std.specs.Str.Parse.{ParsesUnsigned}
 use Rattle.std.proofs.lemmas.Str.Parse.{numerals_by_value, parse_digits, tells_all_ascii_digits}
 use Rattle.lxr_words.specs.Number.{Text, number_of, value_of}
-use Rattle.lxr_words.proofs.values.number_in.Goals as goal
+use Rattle.lxr_words.proofs.digits.number_in.Goals as goal
 
 same_test : (ds : Text) → list_all is_ascii_digit ds ≡ all_ascii_digits ds
 same_test [] = refl
