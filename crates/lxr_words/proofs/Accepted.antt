@@ -4,17 +4,12 @@ use Rattle.std.proofs.Common.{◌⊎◌, inl, inr, ◌≡◌, ◌∙◌, ◌&&�
 use Rattle.std.specs.List.{list_all, list_any}
 use Rattle.std.specs.Option.{option_map_or}
 use Rattle.std.specs.Str.{bytes_eq}
+use Rattle.lxr_words.specs.Grammar.{TakesNumber}
 use Rattle.lxr_words.specs.Number.{Text}
-use Rattle.lxr_words.specs.Settings.{Settings, KnownOption, Table, Word, after_dashes, after_word, dashes, each_once, fits, settings_in, is_accepted, is_set, is_in, option_named, name_in, opens, stray, value_in, text_of, whole, with_setting, word_after, word_of, word_for}
-use Rattle.lxr_words.proofs.Lists.{and_false, and_left, and_right, eq_refl, same_text}
+use Rattle.lxr_words.specs.Settings.{Settings, KnownOption, Table, Word, after_dashes, after_word, dashes, each_once, fits, settings_in, is_accepted, is_set, is_in, option_named, name_in, opens, stray, value_in, text_of, whole, word_after, word_of, word_for}
+use Rattle.lxr_words.proofs.Lists.{and_false, and_left, and_right, eq_refl, same_text, with_first}
 use Rattle.lxr_words.proofs.Rules.{known_itself}
 use Rattle.lxr_words.proofs.Walks.{no_dashes}
-
-with_first : (n x : Text) (read : Option Settings) (more : Settings) → with_setting n x read ≡ Some more → (m : Settings) × (read ≡ Some m) × (more ≡ (n, x) ∷ m)
-with_first n x None more e = absurd (true≢false (ap is_some (sym e)))
-with_first n x (Some m) more e =
-    let is : more ≡ (n, x) ∷ m = cc in
-    (m, refl, is)
 
 given_text : (n x : Text) (g : Settings) → text_of n g ≡ Some x → is_set n g ≡ true
 given_text n x [] e = absurd (true≢false (ap is_some (sym e)))
@@ -42,12 +37,9 @@ module _ (t : Table) where
   abbrev pub sound : Text × Text → Bool
   sound p = option_map_or (λ (k : KnownOption). sound_text k.range p.1) (option_named t p.0) false
 
-  abbrev TakesNumber : Text → Type 0
-  TakesNumber n = (r : ℕ × ℕ) × (option_named t n ≡ Some (record { name = n; range = Some r }))
-
-  abbrev GoodWord : Word → Type 0
+  abbrev pub GoodWord : Word → Type 0
   GoodWord (whole n x) = sound (n, x) ≡ true
-  GoodWord (opens n) = TakesNumber n
+  GoodWord (opens n) = TakesNumber t n
   GoodWord stray = Unit {0}
 
   good_known : (ko : Option KnownOption) (v : Option Text) → ((k : KnownOption) → ko ≡ Some k → option_named t k.name ≡ Some k) → GoodWord (word_for ko v)
@@ -64,12 +56,12 @@ module _ (t : Table) where
   good_after None = tt
   good_after (Some rest) = good_known (option_named t (name_in rest)) (value_in rest) (λ k e. known_itself t (name_in rest) k e)
 
-  good_word : (word : Text) → GoodWord (word_of t word)
+  pub good_word : (word : Text) → GoodWord (word_of t word)
   good_word word = good_after (after_dashes word)
 
-  abbrev Waiting : Option Text → Type 0
+  abbrev pub Waiting : Option Text → Type 0
   Waiting None = Unit {0}
-  Waiting (Some n) = TakesNumber n
+  Waiting (Some n) = TakesNumber t n
 
   pub all_sound : (words : List Text) (w : Option Text) (g : Settings) → Waiting w → settings_in t words w ≡ Some g → list_all sound g ≡ true
   all_sound [] None g h e = let is : g ≡ [] = cc in ap (list_all sound) is
@@ -88,7 +80,7 @@ module _ (t : Table) where
 
   -- ---- a word `--` is never accepted
 
-  dashes_no_fit : (n : Text) → TakesNumber n → fits t (n, dashes) ≡ false
+  dashes_no_fit : (n : Text) → TakesNumber t n → fits t (n, dashes) ≡ false
   dashes_no_fit n h = ap (λ o. option_map_or (λ (k : KnownOption). is_in k.range dashes) o false) h.1
 
   pub dashes_refused : option_named t [] ≡ None → (words : List Text) (w : Option Text) (g : Settings) → Waiting w → no_dashes words ≡ false → settings_in t words w ≡ Some g → list_all (fits t) g ≡ false
@@ -155,7 +147,7 @@ module _ (t : Table) where
           let here : fits t p.0 ≡ is_in k.range x = ap₂ (λ m y. option_map_or (λ (j : KnownOption). is_in j.range y) (option_named t m) false) ok.0 p.2 ∙ ap (λ o. option_map_or (λ (j : KnownOption). is_in j.range x) o false) own in
           absurd (true≢false (sym ok.1 ∙ here ∙ ap (λ o. option_map_or (is_in k.range) o true) (sym f) ∙ e))
 
-  passes_at : (test : KnownOption → Bool) (s : Table) (n : Text) (k : KnownOption) → option_named s n ≡ Some k → list_all test s ≡ true → test k ≡ true
+  pub passes_at : (test : KnownOption → Bool) (s : Table) (n : Text) (k : KnownOption) → option_named s n ≡ Some k → list_all test s ≡ true → test k ≡ true
   passes_at test [] n k e all = absurd (true≢false (ap is_some (sym e)))
   passes_at test (j ∷ s) n k e all = go (bytes_eq j.name n) refl (passes_at test s n k)
     where

@@ -1,11 +1,11 @@
 -- Lemmas on tests, texts and lists of options that know nothing of `clap`.
-use Rattle.std.proofs.Common.{◌≡◌, ◌∙◌, ◌&&◌, ◌||◌, ◌++◌, Bool, not, true, false, refl, sym, ap, arith, List, [], ◌∷◌, Some, true≢false}
-use Rattle.std.specs.List.{list_all, list_any}
+use Rattle.std.proofs.Common.{◌≡◌, ◌∙◌, ◌&&◌, ◌||◌, ◌++◌, Bool, not, true, false, refl, sym, ap, arith, List, [], ◌∷◌, Option, None, Some, is_some, true≢false}
+use Rattle.std.specs.List.{list_all}
 use Rattle.std.specs.Str.{bytes_eq}
 use Rattle.std.proofs.lemmas.Slice.Eq.{bytes_eq-Decides}
 use Rattle.lxr_words.specs.Number.{Text, is_number}
 use Rattle.clap.specs.Lexer.{strip_byte}
-use Rattle.lxr_words.specs.Settings.{Settings, each_once, is_set}
+use Rattle.lxr_words.specs.Settings.{Settings, each_once, is_set, with_setting}
 
 pub or_false : (b : Bool) → (b || false) ≡ b
 or_false true = refl
@@ -90,5 +90,12 @@ all_fails p (y ∷ xs) x ys e = ap (λ b. p y && b) (all_fails p xs x ys e) ∙ 
 
 -- a text that begins with a hyphen is no number
 pub hyphen_no_number : (word rest : Text) → strip_byte 45 word ≡ Some rest → is_number word ≡ false
-hyphen_no_number [] rest e = absurd (true≢false (ap (λ o. Rattle.std.specs.Option.is_some o) (sym e)))
+hyphen_no_number [] rest e = absurd (true≢false (ap (λ o. is_some o) (sym e)))
 hyphen_no_number (c ∷ cs) rest e = grind (arith)
+
+-- what is read with one setting more, is what is read and that setting
+pub with_first : (n x : Text) (read : Option Settings) (more : Settings) → with_setting n x read ≡ Some more → (m : Settings) × (read ≡ Some m) × (more ≡ (n, x) ∷ m)
+with_first n x None more e = absurd (true≢false (ap is_some (sym e)))
+with_first n x (Some m) more e =
+    let is : more ≡ (n, x) ∷ m = cc in
+    (m, refl, is)

@@ -1,7 +1,6 @@
 -- From what `clap` finds to what the words say.
-use Rattle.std.proofs.Common.{◌≡◌, ◌∙◌, ◌&&◌, ◌⊎◌, ◌++◌, Bool, cond, not, true, false, refl, sym, ap, ap₂, subst, List, [], ◌∷◌, map, Option, Some, None, Result, Ok, Err, find, option_map, option_and_then, is_some, codes, inl, inr, true≢false}
+use Rattle.std.proofs.Common.{◌≡◌, ◌∙◌, ◌&&◌, ◌⊎◌, Bool, cond, not, true, false, refl, sym, ap, subst, List, [], map, Option, Some, None, Result, Ok, Err, find, option_map, option_and_then, is_some, codes, inl, inr, true≢false}
 use Rattle.std.specs.List.{list_all, list_any}
-use Rattle.std.specs.Option.{option_map_or}
 use Rattle.std.specs.Str.{bytes_eq}
 use Rattle.clap.specs.Kinds.{HasKind, IsAmong, Kinds}
 use Rattle.clap.specs.Faults.{fault_of, is_simple_and_free}

@@ -1,5 +1,5 @@
 -- The arguments of a built command for a table, and what `clap` finds among them.
-use Rattle.std.proofs.Common.{◌≡◌, ◌∙◌, ◌&&◌, ℕ, Bool, cond, not, true, false, refl, sym, ap, List, [], ◌∷◌, map, Option, Some, None, find, option_map, is_some, arith}
+use Rattle.std.proofs.Common.{◌≡◌, ◌∙◌, ◌&&◌, ℕ, Bool, cond, not, true, false, refl, sym, ap, List, [], ◌∷◌, map, Option, Some, None, find, option_map, is_some, arith, nat_le}
 use Rattle.std.specs.List.{list_any}
 use Rattle.std.specs.Option.{option_map_or}
 use Rattle.std.specs.Prelude.{option_and_then}
@@ -7,10 +7,10 @@ use Rattle.std.specs.Str.{bytes_eq}
 use Rattle.clap.specs.Lexer.{long_of, long_of_rest, strip_byte}
 use Rattle.clap.specs.Walk.{Rule, arg_by_id, arg_by_index, arg_by_long, arg_by_short, has_long, has_short}
 use Rattle.clap.specs.Simple.{Shape, filled, new_shape}
-use Rattle.lxr_words.specs.Number.{Text}
-use Rattle.lxr_words.specs.Settings.{KnownOption, Table, Word, after_dashes, option_named, stray, value_in, word_after, word_of, word_for}
+use Rattle.lxr_words.specs.Number.{Text, value_of}
+use Rattle.lxr_words.specs.Settings.{KnownOption, Table, Word, after_dashes, fits, is_in, option_named, stray, value_in, word_after, word_of, word_for}
 use Rattle.lxr_words.specs.Arguments.{argument_rule}
-use Rattle.lxr_words.proofs.Lists.{or_false, same_text}
+use Rattle.lxr_words.proofs.Lists.{hyphen_no_number, or_false, same_text}
 
 abbrev pub built_for : KnownOption → Rule
 built_for k = filled (argument_rule k.range k.name)
@@ -103,3 +103,9 @@ after_two (a ∷ b ∷ rest) = grind arith
 -- a word is what `clap` splits it into
 pub word_is : (t : Table) → option_named t [] ≡ None → (word : Text) → word_of t word ≡ from_long t (long_of word)
 word_is t e word = ap (word_after t) (after_two word) ∙ from_rest t e (option_and_then (strip_byte 45) (strip_byte 45 word))
+
+-- a word that begins with a hyphen is no number, so it does not fit
+pub hyphen_no_fit : (t : Table) (n word rest : Text) (r : ℕ × ℕ) → option_named t n ≡ Some (record { name = n; range = Some r }) → strip_byte 45 word ≡ Some rest → fits t (n, word) ≡ false
+hyphen_no_fit t n word rest r e f =
+    ap (λ o. option_map_or (λ (k : KnownOption). is_in k.range word) o false) e
+    ∙ ap (λ b. b && (nat_le r.0 (value_of word) && nat_le (value_of word) r.1)) (hyphen_no_number word rest f)

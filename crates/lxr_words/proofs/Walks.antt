@@ -1,6 +1,6 @@
 -- What the walk of `clap` over the words comes to, for the command of a table: it takes the words just
 -- where they give options, each once, and the rows that it leaves are those options with their texts.
-use Rattle.std.proofs.Common.{◌≡◌, ◌∙◌, ◌&&◌, ◌||◌, ◌⊎◌, ◌++◌, ℕ, zero, suc, Bool, cond, not, true, false, refl, sym, ap, ap₂, subst, List, [], ◌∷◌, map, length, Option, Some, None, option_map, is_some, codes, inl, inr, true≢false, append_assoc, append-nil, fold, slice_get, drop, nat_le, nat_lt, if◌then◌else◌}
+use Rattle.std.proofs.Common.{◌≡◌, ◌∙◌, ◌&&◌, ◌||◌, ◌⊎◌, ◌++◌, ℕ, zero, suc, Bool, cond, not, true, false, refl, sym, ap, ap₂, subst, List, [], ◌∷◌, map, length, Option, Some, None, option_map, is_some, codes, inl, inr, true≢false, append_assoc, append-nil, fold, slice_get, drop, nat_lt, if◌then◌else◌}
 use Rattle.std.specs.List.{list_all, list_any}
 use Rattle.std.specs.Option.{option_map_or}
 use Rattle.std.specs.Prelude.{option_and_then, encode_utf8}
@@ -13,10 +13,10 @@ use Rattle.clap.specs.declared.builder.value_parser.Reading.TheVariants.{AsWritt
 use Rattle.clap.specs.declared.error.kind.ErrorKind.TheVariants as kind
 use Rattle.clap.specs.declared.parser.matches.ValueSource.TheVariants.{CommandLine}
 use Rattle.clap.proofs.WalkLemmas.{list_any-map}
-use Rattle.lxr_words.specs.Number.{Text, value_of}
-use Rattle.lxr_words.specs.Settings.{Settings, KnownOption, Table, after_word, dashes, each_once, fits, settings_in, is_accepted, is_set, is_in, option_named, with_setting, word_for}
-use Rattle.lxr_words.proofs.Lists.{all_fails, and_false, eq_refl, hyphen_no_number, once_more, twice}
-use Rattle.lxr_words.proofs.Rules.{built_for, built_rules, by_id, by_long, from_long, known_itself, no_place, no_short, shape_for, word_is}
+use Rattle.lxr_words.specs.Number.{Text}
+use Rattle.lxr_words.specs.Settings.{Settings, KnownOption, Table, after_word, dashes, each_once, fits, settings_in, is_accepted, is_set, option_named, with_setting, word_for}
+use Rattle.lxr_words.proofs.Lists.{all_fails, and_false, eq_refl, once_more, twice, with_first}
+use Rattle.lxr_words.proofs.Rules.{built_for, built_rules, by_id, by_long, from_long, hyphen_no_fit, known_itself, no_place, no_short, shape_for, word_is}
 
 -- ---- kinds
 
@@ -182,12 +182,6 @@ module _ (title : Text) (t : Table) where
   out_as : (kinds kinds' : Kinds) (rows rows' : List Row) (g : Settings) (read : Option Settings) → kinds ≡ kinds' → rows ≡ rows' → Out kinds' rows' g read → Out kinds rows g read
   out_as kinds kinds' rows rows' g read e f (inl y) = inl (record { more = y.more; read_is = y.read_is; once = y.once; kinds_are = e ∙ y.kinds_are; rows_are = f ∙ y.rows_are })
   out_as kinds kinds' rows rows' g read e f (inr n) = inr (record { kinds_are = ap refuses e ∙ n.kinds_are; not_accepted = n.not_accepted })
-
-  with_first : (n x : Text) (read : Option Settings) (more : Settings) → with_setting n x read ≡ Some more → (m : Settings) × (read ≡ Some m) × (more ≡ (n, x) ∷ m)
-  with_first n x None more e = absurd (true≢false (ap is_some (sym e)))
-  with_first n x (Some m) more e =
-      let is : more ≡ (n, x) ∷ m = cc in
-      (m, refl, is)
 
   -- what is read after one more option is read with it
   carry : (kinds : Kinds) (rows : List Row) (g : Settings) (n x : Text) (read : Option Settings) → Out kinds rows (g ++ (n, x) ∷ []) read → Out kinds rows g (with_setting n x read)
@@ -417,12 +411,6 @@ module _ (title : Text) (t : Table) where
       go None q = absurd (true≢false (ap is_some (sym e ∙ ap (λ o. option_and_then short_of_rest o) q)))
       go (Some rest) q = (rest, q)
 
-  -- a word that begins with a hyphen is no number, so it does not fit
-  hyphen_no_fit : (n word rest : Text) (r : ℕ × ℕ) → option_named t n ≡ Some (record { name = n; range = Some r }) → strip_byte 45 word ≡ Some rest → fits t (n, word) ≡ false
-  hyphen_no_fit n word rest r e f =
-      ap (λ o. option_map_or (λ (k : KnownOption). is_in k.range word) o false) e
-      ∙ ap (λ b. b && (nat_le r.0 (value_of word) && nat_le (value_of word) r.1)) (hyphen_no_number word rest f)
-
   -- a plain word is the text of the option that waits
   option_gets : (rows : List Row) (n word : Text) (r : ℕ × ℕ) → option_named t n ≡ Some (record { name = n; range = Some r })
       → plain_word (built_rules t) (option n) word (held rows (Some (n, []))) ≡ (held rows (Some (n, word ∷ [])), next idle)
@@ -464,7 +452,7 @@ module _ (title : Text) (t : Table) where
             → Gets (Some flags)
         go (inl f) =
             let w : (rest : Text) × (strip_byte 45 word ≡ Some rest) = hyphen_short word flags e in
-            refused_text _ _ g n word (settings_in t rest None) (first_refuses _ _ (first_refuses _ _ f)) (hyphen_no_fit n word w.0 r own w.1)
+            refused_text _ _ g n word (settings_in t rest None) (first_refuses _ _ (first_refuses _ _ f)) (hyphen_no_fit t n word w.0 r own w.1)
         go (inr p) =
             let is : after_flag (built_rules t) (option n) word (bundle (built_rules t) flags (held (rows_for g) (Some (n, [])))).0 (bundle (built_rules t) flags (held (rows_for g) (Some (n, [])))).1 ≡ (held (rows_for g) (Some (n, word ∷ [])), next idle)
             = ap (λ (m : Held × Outcome). after_flag (built_rules t) (option n) word m.0 m.1) p.1 ∙ option_gets (rows_for g) n word r own in
@@ -479,7 +467,7 @@ module _ (title : Text) (t : Table) where
         let w : (rest : Text) × (strip_byte 45 word ≡ Some rest) = hyphen_first word p e in
         let refused_long : refuses (long_fault (built_rules t) false (arg_by_long (built_rules t) p.0) p.1 (held (rows_for g) (Some (n, [])))) ≡ true
         = ap (λ o. refuses (long_fault (built_rules t) false o p.1 (held (rows_for g) (Some (n, []))))) (by_long t p.0 (option_named t p.0) refl) ∙ long_refuses (option_named t p.0) p.1 (held (rows_for g) (Some (n, []))) (settle_none (rows_for g) n r own) in
-        refused_text _ _ g n word (settings_in t rest None) (first_refuses _ _ (first_refuses _ _ refused_long)) (hyphen_no_fit n word w.0 r own w.1)
+        refused_text _ _ g n word (settings_in t rest None) (first_refuses _ _ (first_refuses _ _ refused_long)) (hyphen_no_fit t n word w.0 r own w.1)
 
   -- the words come to what the options that they give say
   goes : option_named t [] ≡ None → (words : List Text) → Idle words × Waits words

@@ -1,5 +1,5 @@
 -- The table of a command as `clap` is told of it, and what `clap`'s answer then says of the words.
-use Rattle.std.specs.Prelude.{◌≡◌, ⊤, Bool, Result, Ok, Err, ℕ, true, false, List, [], ◌∷◌, Option, Some, None, filter, is_some, map, codes, take}
+use Rattle.std.specs.Prelude.{◌≡◌, ⊤, Bool, Result, Ok, Err, ℕ, true, false, List, [], Option, Some, None, filter, is_some, map, codes, take}
 use Rattle.std.specs.List.{list_all}
 use Rattle.std.specs.Option.{option_map_or}
 use Rattle.clap.specs.Walk.{Rule}
@@ -12,7 +12,6 @@ use Rattle.lxr_words.specs.Number.{Text}
 use Rattle.lxr_words.specs.Settings.{KnownOption, Table, is_in}
 use Rattle.lxr_words.specs.Options.{options_by, options_in, option_rows}
 use Rattle.lxr_words.specs.declared.Command.{Command}
-use Rattle.lxr_words.specs.declared.Options.{Options}
 use Rattle.lxr_words.specs.declared.WordError.{WordError}
 use Rattle.lxr_words.specs.declared.WordError.TheVariants as error
 use Rattle.lxr_words.specs.declared.WordFault.TheVariants as fault

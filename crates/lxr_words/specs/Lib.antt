@@ -1,4 +1,5 @@
 pub mod Arguments
+pub mod Grammar
 pub mod Number
 pub mod Options
 pub mod Settings

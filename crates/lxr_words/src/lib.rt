@@ -25,9 +25,11 @@ ghost use Rattle.lxr_words.specs.WordFault.{error_line_of};
 
 mod arguments;
 mod digits;
+mod laws;
 mod reading;
 mod table;
 
+pub use laws::{accepts_command_lines, reads_spellings_alike};
 pub use reading::read_words;
 use thiserror::Error;
 
@@ -107,3 +109,6 @@ pub enum WordError {
     #[error("out of memory")]
     Memory,
 }
+
+#[cfg(test)]
+mod tests;

@@ -58,10 +58,8 @@ fn read_options<'a>(
     if has_dashes(words) {
         return Err(WordError::Fault(WordFault::Options));
     }
-    match matches_among(alloc, command, words) {
-        Ok(matches) => options_among(command, matches.get_flag(COUNTS), &matches),
-        Err(error) => Err(error),
-    }
+    let matches = matches_among(alloc, command, words)?;
+    options_among(command, matches.get_flag(COUNTS), &matches)
 }
 
 // Whether a word is `--`.

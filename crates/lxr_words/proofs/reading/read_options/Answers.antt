@@ -9,8 +9,8 @@ pub returns-then-has_dashes : goal.returns-then-has_dashes
 returns-then-has_dashes c =
     dashes_say c.args.command (map (λ (word : Bor Text). word.now) c.args.words.now) (clear_words c.args.words.now _ (sym c.has_dashes.ensures ∙ c.if-has_dashes.true))
 
-pub returns-in-Ok : goal.returns-in-Ok
-returns-in-Ok c =
-    answers c.args.command (map (λ (word : Bor Text). word.now) c.args.words.now) (found_of c.in-Ok.matches) c.get_flag.result
+pub returns : goal.returns
+returns c =
+    answers c.args.command (map (λ (word : Bor Text). word.now) c.args.words.now) (found_of c.in_ok-matches.matches) c.get_flag.result
     (record { none = c.get_flag.ensures.none; yes = c.get_flag.ensures.value; no = c.get_flag.ensures.other })
-    c.in-Ok.ensures c.options_among.result c.options_among.ensures
+    c.in_ok-matches.ensures c.options_among.result c.options_among.ensures
