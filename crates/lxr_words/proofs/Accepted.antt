@@ -7,7 +7,9 @@ use Rattle.std.specs.Str.{bytes_eq}
 use Rattle.lxr_words.specs.Grammar.{TakesNumber}
 use Rattle.lxr_words.specs.Number.{Text}
 use Rattle.lxr_words.specs.Settings.{Settings, KnownOption, Table, Word, after_dashes, after_word, dashes, each_once, fits, settings_in, is_accepted, is_set, is_in, option_named, name_in, opens, stray, value_in, text_of, whole, word_after, word_of, word_for}
-use Rattle.lxr_words.proofs.Lists.{and_false, and_left, and_right, eq_refl, same_text, with_first}
+use Rattle.std.proofs.Math.Bool.{and-false}
+use Rattle.std.proofs.lemmas.Bool.{and_parts}
+use Rattle.lxr_words.proofs.Lists.{eq_refl, same_text, with_first}
 use Rattle.lxr_words.proofs.Rules.{known_itself}
 use Rattle.lxr_words.proofs.Walks.{no_dashes}
 
@@ -94,7 +96,7 @@ module _ (t : Table) where
       go false q ih =
           let w : (m : Settings) × (settings_in t rest None ≡ Some m) × (g ≡ (n, word) ∷ m) = with_first n word (settings_in t rest None) g e in
           let later : no_dashes rest ≡ false = ap (λ b. not (b || list_any (λ x. bytes_eq x dashes) rest)) (sym q) ∙ d in
-          ap (list_all (fits t)) w.2 ∙ ap (λ b. fits t (n, word) && b) (ih w.0 tt later w.1) ∙ and_false _
+          ap (list_all (fits t)) w.2 ∙ ap (λ b. fits t (n, word) && b) (ih w.0 tt later w.1) ∙ and-false _
   dashes_refused named_all (word ∷ rest) None g h d e = go (bytes_eq word dashes) refl (word_of t word) refl (good_word word) (dashes_refused named_all rest)
     where
       go : (b : Bool) → bytes_eq word dashes ≡ b → (v : Word) → word_of t word ≡ v → GoodWord v
@@ -106,7 +108,7 @@ module _ (t : Table) where
       go false q (whole n x) f good ih =
           let w : (m : Settings) × (settings_in t rest None ≡ Some m) × (g ≡ (n, x) ∷ m) = with_first n x (settings_in t rest None) g (ap (λ y. after_word y (settings_in t rest)) (sym f) ∙ e) in
           let later : no_dashes rest ≡ false = ap (λ b. not (b || list_any (λ y. bytes_eq y dashes) rest)) (sym q) ∙ d in
-          ap (list_all (fits t)) w.2 ∙ ap (λ b. fits t (n, x) && b) (ih None w.0 tt later w.1) ∙ and_false _
+          ap (list_all (fits t)) w.2 ∙ ap (λ b. fits t (n, x) && b) (ih None w.0 tt later w.1) ∙ and-false _
       go false q (opens n) f good ih =
           let later : no_dashes rest ≡ false = ap (λ b. not (b || list_any (λ y. bytes_eq y dashes) rest)) (sym q) ∙ d in
           ih (Some n) g good later (ap (λ y. after_word y (settings_in t rest)) (sym f) ∙ e)
@@ -131,8 +133,8 @@ module _ (t : Table) where
       go true f ih =
           let some_is : Some q ≡ Some p = ap (λ b. cond b (Some q) (find (λ z. bytes_eq z.0 n) g)) (sym f) ∙ e in
           let is : q ≡ p = cc in
-          (ap (λ (z : Text × Text). z.0) (sym is) ∙ same_text q.0 n f, ap test (sym is) ∙ and_left (test q) (list_all test g) all)
-      go false f ih = ih (ap (λ b. cond b (Some q) (find (λ z. bytes_eq z.0 n) g)) (sym f) ∙ e) (and_right (test q) (list_all test g) all)
+          (ap (λ (z : Text × Text). z.0) (sym is) ∙ same_text q.0 n f, ap test (sym is) ∙ (and_parts (test q) (list_all test g) all).0)
+      go false f ih = ih (ap (λ b. cond b (Some q) (find (λ z. bytes_eq z.0 n) g)) (sym f) ∙ e) ((and_parts (test q) (list_all test g) all).1)
 
   -- a text out of range: the options are not accepted
   pub wrong_refused : (k : KnownOption) (g : Settings) → option_named t k.name ≡ Some k → is_right g k ≡ false → is_accepted t g ≡ false
@@ -140,7 +142,7 @@ module _ (t : Table) where
     where
       go : (o : Option Text) → text_of k.name g ≡ o → (b : Bool) → list_all (fits t) g ≡ b → is_accepted t g ≡ false
       go None f b h = absurd (true≢false (ap (λ o. option_map_or (is_in k.range) o true) (sym f) ∙ e))
-      go (Some x) f false h = ap (λ b. each_once g && b) h ∙ and_false _
+      go (Some x) f false h = ap (λ b. each_once g && b) h ∙ and-false _
       go (Some x) f true h =
           let p : (p : Text × Text) × (find (λ q. bytes_eq q.0 k.name) g ≡ Some p) × (p.1 ≡ x) = some_text k.name x g f in
           let ok : (p.0.0 ≡ k.name) × (fits t p.0 ≡ true) = found_passes (fits t) k.name g p.0 p.1 h in
@@ -155,8 +157,8 @@ module _ (t : Table) where
       go true f ih =
           let some_is : Some j ≡ Some k = ap (λ b. cond b (Some j) (option_named s n)) (sym f) ∙ e in
           let is : j ≡ k = cc in
-          ap test (sym is) ∙ and_left (test j) (list_all test s) all
-      go false f ih = ih (ap (λ b. cond b (Some j) (option_named s n)) (sym f) ∙ e) (and_right (test j) (list_all test s) all)
+          ap test (sym is) ∙ (and_parts (test j) (list_all test s) all).0
+      go false f ih = ih (ap (λ b. cond b (Some j) (option_named s n)) (sym f) ∙ e) ((and_parts (test j) (list_all test s) all).1)
 
   -- the options h, of which g holds each under its name, fit
   all_fit : (g h : Settings) → list_all (is_right g) t ≡ true → list_all sound h ≡ true → each_once h ≡ true
@@ -164,10 +166,10 @@ module _ (t : Table) where
   all_fit g [] right good once same = refl
   all_fit g (p ∷ h) right good once same =
       ap₂ (λ a b. a && b) (here (option_named t p.0) refl)
-      (all_fit g h right (and_right (sound p) (list_all sound h) good) (and_right (not (is_set p.0 h)) (each_once h) once) later)
+      (all_fit g h right ((and_parts (sound p) (list_all sound h) good).1) ((and_parts (not (is_set p.0 h)) (each_once h) once).1) later)
     where
       here : (ko : Option KnownOption) → option_named t p.0 ≡ ko → fits t p ≡ true
-      here None e = absurd (true≢false (sym (and_left (sound p) (list_all sound h) good) ∙ ap (λ o. option_map_or (λ (k : KnownOption). sound_text k.range p.1) o false) e))
+      here None e = absurd (true≢false (sym ((and_parts (sound p) (list_all sound h) good).0) ∙ ap (λ o. option_map_or (λ (k : KnownOption). sound_text k.range p.1) o false) e))
       here (Some k) e =
           let right_at : is_right g k ≡ true = passes_at (is_right g) t p.0 k e right in
           let name_is : k.name ≡ p.0 = Rattle.lxr_words.proofs.Rules.named t p.0 k e in
@@ -182,7 +184,7 @@ module _ (t : Table) where
           go false f = same n x (ap (λ b. option_map (λ (q : Text × Text). q.1) (cond b (Some p) (find (λ q. bytes_eq q.0 n) h))) f ∙ e)
           go true f =
               let is : is_set n h ≡ true = given_text n x h e in
-              let alone : not (is_set p.0 h) ≡ true = and_left (not (is_set p.0 h)) (each_once h) once in
+              let alone : not (is_set p.0 h) ≡ true = (and_parts (not (is_set p.0 h)) (each_once h) once).0 in
               absurd (true≢false (sym alone ∙ ap not (ap (λ m. is_set m h) (same_text p.0 n f) ∙ is)))
 
   -- each option of the table is right: the options are accepted

@@ -11,7 +11,8 @@ use Rattle.lxr_words.specs.declared.Command.{Command}
 use Rattle.lxr_words.specs.declared.Command.TheVariants.{Load, Map, Run}
 use Rattle.lxr_words.specs.declared.WordFault.TheVariants as fault
 use Rattle.lxr_words.proofs.Accepted.{GoodWord, Waiting, good_word, passes_at}
-use Rattle.lxr_words.proofs.Lists.{and_false, hyphen_no_number, same_text}
+use Rattle.std.proofs.Math.Bool.{and-false}
+use Rattle.lxr_words.proofs.Lists.{hyphen_no_number, same_text}
 use Rattle.lxr_words.proofs.Rules.{hyphen_no_fit, named}
 use Rattle.lxr_words.proofs.Spellings.{joined_word_is, name_word_is}
 
@@ -48,7 +49,7 @@ accepts_fitting command (Some s) = go (list_all (fits (table_of command)) s) ref
   where
     go : (b : Bool) → list_all (fits (table_of command)) s ≡ b → accepted command (Some s) ≡ accepted command (cond b (Some s) None)
     go true e = refl
-    go false e = ap (λ b. cond b (Ok (options_from command s)) (Err fault.Options)) (ap (λ b. each_once s && b) e ∙ and_false (each_once s))
+    go false e = ap (λ b. cond b (Ok (options_from command s)) (Err fault.Options)) (ap (λ b. each_once s && b) e ∙ and-false (each_once s))
 
 module _ (name value : Text) (after : List Text) (free : list_any is_equals name ≡ false) (other : name ≢ codes "counts") where
   -- the rest of the words in the one spelling and in the other

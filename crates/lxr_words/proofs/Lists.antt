@@ -1,27 +1,14 @@
 -- Lemmas on tests, texts and lists of options that know nothing of `clap`.
-use Rattle.std.proofs.Common.{◌≡◌, ◌∙◌, ◌&&◌, ◌||◌, ◌++◌, Bool, not, true, false, refl, sym, ap, arith, List, [], ◌∷◌, Option, None, Some, is_some, true≢false}
-use Rattle.std.specs.List.{list_all}
+use Rattle.std.proofs.Common.{◌≡◌, ◌∙◌, ◌&&◌, ◌||◌, ◌++◌, Bool, not, true, false, refl, sym, ap, arith, List, [], ◌∷◌, cond, find, map, option_map, Option, None, Some, is_some, true≢false}
+use Rattle.std.specs.List.{list_all, list_any}
 use Rattle.std.specs.Str.{bytes_eq}
+use Rattle.std.proofs.Math.Bool.{and-false, or-false, or-true}
+use Rattle.std.proofs.lemmas.Bool.{and_parts}
+use Rattle.std.proofs.lemmas.List.Folds.{list_all-append, list_any-append}
 use Rattle.std.proofs.lemmas.Slice.Eq.{bytes_eq-Decides}
 use Rattle.lxr_words.specs.Number.{Text, is_number}
 use Rattle.clap.specs.Lexer.{strip_byte}
 use Rattle.lxr_words.specs.Settings.{Settings, each_once, is_set, with_setting}
-
-pub or_false : (b : Bool) → (b || false) ≡ b
-or_false true = refl
-or_false false = refl
-
-pub and_false : (b : Bool) → (b && false) ≡ false
-and_false true = refl
-and_false false = refl
-
-pub and_left : (a b : Bool) → (a && b) ≡ true → a ≡ true
-and_left true b e = refl
-and_left false b e = absurd (true≢false (sym e))
-
-pub and_right : (a b : Bool) → (a && b) ≡ true → b ≡ true
-and_right true b e = e
-and_right false b e = absurd (true≢false (sym e))
 
 pub same_text : (x y : Text) → bytes_eq x y ≡ true → x ≡ y
 same_text x y e = (bytes_eq-Decides x y).0 e
@@ -43,18 +30,6 @@ eq_sym x y = go (bytes_eq x y) (bytes_eq y x) refl refl
 
 -- ---- options that are given
 
-pub or_true : (b : Bool) → (b || true) ≡ true
-or_true true = refl
-or_true false = refl
-
-pub or_assoc : (a b c : Bool) → (a || (b || c)) ≡ ((a || b) || c)
-or_assoc true b c = refl
-or_assoc false b c = refl
-
-pub given-append : (name : Text) (g h : Settings) → is_set name (g ++ h) ≡ (is_set name g || is_set name h)
-given-append name [] h = refl
-given-append name (p ∷ g) h = ap (λ b. bytes_eq p.0 name || b) (given-append name g h) ∙ or_assoc (bytes_eq p.0 name) (is_set name g) (is_set name h)
-
 -- a name that is given already is given twice
 pub twice : (name x : Text) (g more : Settings) → is_set name g ≡ true → each_once (g ++ (name, x) ∷ more) ≡ false
 twice name x [] more e = absurd (true≢false (sym e))
@@ -62,11 +37,11 @@ twice name x (p ∷ g) more e = go (bytes_eq p.0 name) refl (twice name x g more
   where
     go : (b : Bool) → bytes_eq p.0 name ≡ b → (is_set name g ≡ true → each_once (g ++ (name, x) ∷ more) ≡ false) → each_once (p ∷ (g ++ (name, x) ∷ more)) ≡ false
     go true q ih =
-        let here : is_set p.0 (g ++ (name, x) ∷ more) ≡ true = given-append p.0 g ((name, x) ∷ more) ∙ ap (λ b. is_set p.0 g || (b || is_set p.0 more)) (eq_sym name p.0 ∙ q) ∙ or_true (is_set p.0 g) in
+        let here : is_set p.0 (g ++ (name, x) ∷ more) ≡ true = list_any-append (λ q. bytes_eq q.0 p.0) g ((name, x) ∷ more) ∙ ap (λ b. is_set p.0 g || (b || is_set p.0 more)) (eq_sym name p.0 ∙ q) ∙ or-true (is_set p.0 g) in
         ap (λ b. not b && each_once (g ++ (name, x) ∷ more)) here
     go false q ih =
         let later : is_set name g ≡ true = ap (λ b. b || is_set name g) (sym q) ∙ e in
-        ap (λ b. not (is_set p.0 (g ++ (name, x) ∷ more)) && b) (ih later) ∙ and_false _
+        ap (λ b. not (is_set p.0 (g ++ (name, x) ∷ more)) && b) (ih later) ∙ and-false _
 
 -- one more option, of a name that is not given, leaves each given once
 pub once_more : (name x : Text) (g : Settings) → each_once g ≡ true → is_set name g ≡ false → each_once (g ++ (name, x) ∷ []) ≡ true
@@ -76,15 +51,32 @@ once_more name x (p ∷ g) e n = go (bytes_eq p.0 name) refl (once_more name x g
     go : (b : Bool) → bytes_eq p.0 name ≡ b → (each_once g ≡ true → is_set name g ≡ false → each_once (g ++ (name, x) ∷ []) ≡ true) → each_once (p ∷ (g ++ (name, x) ∷ [])) ≡ true
     go true q ih = absurd (true≢false (ap (λ b. b || is_set name g) (sym q) ∙ n))
     go false q ih =
-        let apart : is_set p.0 (g ++ (name, x) ∷ []) ≡ is_set p.0 g = given-append p.0 g ((name, x) ∷ []) ∙ ap (λ b. is_set p.0 g || (b || false)) (eq_sym name p.0 ∙ q) ∙ or_false _ in
+        let apart : is_set p.0 (g ++ (name, x) ∷ []) ≡ is_set p.0 g = list_any-append (λ q. bytes_eq q.0 p.0) g ((name, x) ∷ []) ∙ ap (λ b. is_set p.0 g || (b || false)) (eq_sym name p.0 ∙ q) ∙ or-false _ in
         let rest : is_set name g ≡ false = ap (λ b. b || is_set name g) (sym q) ∙ n in
-        let now : not (is_set p.0 g) ≡ true = and_left _ (each_once g) e in
-        let later : each_once g ≡ true = and_right (not (is_set p.0 g)) _ e in
+        let now : not (is_set p.0 g) ≡ true = (and_parts _ (each_once g) e).0 in
+        let later : each_once g ≡ true = (and_parts (not (is_set p.0 g)) _ e).1 in
         ap (λ b. not b && each_once (g ++ (name, x) ∷ [])) apart ∙ ap (λ b. b && each_once (g ++ (name, x) ∷ [])) now ∙ ih later rest
 
 pub all_fails : {X : Type 0} (p : X → Bool) (xs : List X) (x : X) (ys : List X) → p x ≡ false → list_all p (xs ++ x ∷ ys) ≡ false
-all_fails p [] x ys e = ap (λ b. b && list_all p ys) e
-all_fails p (y ∷ xs) x ys e = ap (λ b. p y && b) (all_fails p xs x ys e) ∙ and_false _
+all_fails p xs x ys e = list_all-append p xs (x ∷ ys) ∙ ap (λ b. list_all p xs && (b && list_all p ys)) e ∙ and-false (list_all p xs)
+
+-- a test passes somewhere just where it finds something
+pub list_any-find : {X : Type 0} (p : X → Bool) (xs : List X) → list_any p xs ≡ is_some (find p xs)
+list_any-find p [] = refl
+list_any-find p (x ∷ xs) = go (p x) (list_any-find p xs)
+  where
+    go : (b : Bool) → list_any p xs ≡ is_some (find p xs) → (b || list_any p xs) ≡ is_some (cond b (Some x) (find p xs))
+    go true e = refl
+    go false e = e
+
+-- what is found among the images is the image of what is found
+pub find-map : {X Y : Type 0} (f : X → Y) (p : Y → Bool) (q : X → Bool) → ((x : X) → p (f x) ≡ q x) → (xs : List X) → find p (map f xs) ≡ option_map f (find q xs)
+find-map f p q same [] = refl
+find-map f p q same (x ∷ xs) = ap (λ b. cond b (Some (f x)) (find p (map f xs))) (same x) ∙ go (q x) (find-map f p q same xs)
+  where
+    go : (b : Bool) → find p (map f xs) ≡ option_map f (find q xs) → cond b (Some (f x)) (find p (map f xs)) ≡ option_map f (cond b (Some x) (find q xs))
+    go true e = refl
+    go false e = e
 
 -- ---- numbers
 

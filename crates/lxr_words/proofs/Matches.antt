@@ -13,9 +13,11 @@ use Rattle.clap.proofs.FaultLemmas.{leaf_fault}
 use Rattle.lxr_words.specs.Number.{Text}
 use Rattle.lxr_words.specs.Settings.{Settings, KnownOption, Table, is_set, option_named, text_of}
 use Rattle.lxr_words.specs.Arguments.{app_for, argument_rule, rule_for}
-use Rattle.lxr_words.proofs.Lists.{or_true, same_text}
+use Rattle.std.proofs.lemmas.Bool.{and_parts}
+use Rattle.std.proofs.Math.Bool.{or-true}
+use Rattle.lxr_words.proofs.Lists.{find-map, list_any-find, same_text}
 use Rattle.lxr_words.proofs.Rules.{built_for, built_rules, shape_for}
-use Rattle.lxr_words.proofs.Walks.{end_rows, ending, row_for, rows_for}
+use Rattle.lxr_words.proofs.Walks.{end_rows, ending, or_else_nil, row_for, rows_for}
 
 -- ---- the command as built
 
@@ -36,7 +38,7 @@ abbrev no_kinds : Kinds
 no_kinds = []
 
 no_default_fault : (r : Option (ℕ × ℕ)) (n : Text) (rows : List Row) → default_fault rows (filled (argument_rule r n)) ≡ []
-no_default_fault (Some r) n rows = rw (or_true (has_row n rows)) refl
+no_default_fault (Some r) n rows = rw (or-true (has_row n rows)) refl
 no_default_fault None n rows = go (has_row n rows || false)
   where
     go : (b : Bool) → cond b no_kinds no_kinds ≡ no_kinds
@@ -62,10 +64,6 @@ none_required (k ∷ t) rows =
 
 check_none : (title : Text) (t : Table) (rows : List Row) → check_fault (shape_for title (built_rules t)) rows false ≡ []
 check_none title t rows = ap (λ b. Rattle.clap.specs.Kinds.check_kinds false false b) (none_required t rows)
-
-or_else_nil : (a : Kinds) → or_else a [] ≡ a
-or_else_nil [] = refl
-or_else_nil (k ∷ ks) = refl
 
 pub fault_is : (title : Text) (t : Table) (words : List Text) → fault_of (app_for title t) words ≡ ending title t (walk_from nothing_held) words
 fault_is title t words =
@@ -143,10 +141,10 @@ not_flag n k = is_some k.range || not (bytes_eq k.name n)
 pub no_default : (n : Text) (t : Table) → list_all (not_flag n) t ≡ true → (rows : List Row) → row_of_id n (fold with_default rows (built_rules t)) ≡ row_of_id n rows
 no_default n [] e rows = refl
 no_default n (k ∷ t) e rows =
-    no_default n t (Rattle.lxr_words.proofs.Lists.and_right (not_flag n k) _ e) (with_default rows (built_for k)) ∙ go (adds rows k.range k.name)
+    no_default n t ((and_parts (not_flag n k) _ e).1) (with_default rows (built_for k)) ∙ go (adds rows k.range k.name)
   where
     other : k.range ≡ None → bytes_eq k.name n ≡ false
-    other h = go2 (bytes_eq k.name n) (ap (λ o. is_some o || not (bytes_eq k.name n)) (sym h) ∙ Rattle.lxr_words.proofs.Lists.and_left (not_flag n k) (list_all (not_flag n) t) e)
+    other h = go2 (bytes_eq k.name n) (ap (λ o. is_some o || not (bytes_eq k.name n)) (sym h) ∙ (and_parts (not_flag n k) (list_all (not_flag n) t) e).0)
       where
         go2 : (b : Bool) → not b ≡ true → b ≡ false
         go2 true q = absurd (true≢false (sym q))
@@ -160,14 +158,6 @@ no_default n (k ∷ t) e rows =
     go (nothing f h) = ap (row_of_id n) f
     go (default h f) = ap (row_of_id n) f ∙ find_more n rows (default_row k.name ∷ [])
         ∙ ap (λ b. elim (row_of_id n rows) [ Some x ↦ Some x | None ↦ cond b (Some (default_row k.name)) None ]) (other h) ∙ same (row_of_id n rows)
-
-any_find : (n : Text) (rows : List Row) → has_row n rows ≡ is_some (row_of_id n rows)
-any_find n [] = refl
-any_find n (r ∷ rows) = go (bytes_eq r.id n) (any_find n rows)
-  where
-    go : (b : Bool) → has_row n rows ≡ is_some (row_of_id n rows) → (b || has_row n rows) ≡ is_some (cond b (Some r) (row_of_id n rows))
-    go true e = refl
-    go false e = e
 
 -- a flag that is not given gets its default
 flag_default : (n : Text) (t : Table) → option_named t n ≡ Some (record { name = n; range = None }) → (rows : List Row) → row_of_id n rows ≡ None
@@ -186,7 +176,7 @@ flag_default n (k ∷ t) e rows none = go (bytes_eq k.name n) refl (adds rows k.
         let flag_is : k.range ≡ None = ap (λ (o : Option KnownOption). option_and_then (λ (x : KnownOption). x.range) o) is in
         let row : has_row k.name rows ≡ true = h flag_is in
         let same : has_row n rows ≡ true = ap (λ m. has_row m rows) (sym (same_text k.name n q)) ∙ row in
-        absurd (true≢false (sym same ∙ any_find n rows ∙ ap is_some none))
+        absurd (true≢false (sym same ∙ list_any-find (λ (r : Row). bytes_eq r.id n) rows ∙ ap is_some none))
     go true q (default h f) ih =
         let name_is : k.name ≡ n = same_text k.name n q in
         stays n (default_row n) t (with_default rows (built_for k))
@@ -200,12 +190,7 @@ flag_default n (k ∷ t) e rows none = go (bytes_eq k.name n) refl (adds rows k.
 -- ---- what the getters read
 
 pub row_given : (n : Text) (g : Settings) → row_of_id n (rows_for g) ≡ option_map row_for (find (λ p. bytes_eq p.0 n) g)
-row_given n [] = refl
-row_given n (p ∷ g) = go (bytes_eq p.0 n) (row_given n g)
-  where
-    go : (b : Bool) → row_of_id n (rows_for g) ≡ option_map row_for (find (λ q. bytes_eq q.0 n) g) → cond b (Some (row_for p)) (row_of_id n (rows_for g)) ≡ option_map row_for (cond b (Some p) (find (λ q. bytes_eq q.0 n) g))
-    go true e = refl
-    go false e = e
+row_given n g = find-map row_for (λ (r : Row). bytes_eq r.id n) (λ p. bytes_eq p.0 n) (λ p. refl) g
 
 first_row : (o : Option (Text × Text)) → option_and_then (λ (r : Row). slice_get r.values 0) (option_map row_for o) ≡ option_map (λ p. p.1) o
 first_row None = refl
@@ -222,20 +207,12 @@ text_is title t words g n e plain =
 abbrev pub flag_text : Bool → Text
 flag_text b = if b then codes "true" else codes "false"
 
-pub find_given : (n : Text) (g : Settings) → is_set n g ≡ is_some (find (λ p. bytes_eq p.0 n) g)
-find_given n [] = refl
-find_given n (p ∷ g) = go (bytes_eq p.0 n) (find_given n g)
-  where
-    go : (b : Bool) → is_set n g ≡ is_some (find (λ q. bytes_eq q.0 n) g) → (b || is_set n g) ≡ is_some (cond b (Some p) (find (λ q. bytes_eq q.0 n) g))
-    go true e = refl
-    go false e = e
-
 -- a flag reads as whether it is given
 pub flag_is : (title : Text) (t : Table) (words : List Text) (g : Settings) (n : Text) → end_rows title t (walk_from nothing_held) words ≡ rows_for g
     → option_named t n ≡ Some (record { name = n; range = None }) → ((x : Text) → text_of n g ≡ Some x → x ≡ codes "true")
     → one_of n (matches_of (app_for title t) words) ≡ Some (flag_text (is_set n g))
 flag_is title t words g n e own whole_text = ap (one_of n) (matches_are title t words ∙ ap (λ rows. fold with_default rows (built_rules t)) e)
-    ∙ go (find (λ p. bytes_eq p.0 n) g) refl ∙ ap (λ b. Some (flag_text b)) (sym (find_given n g))
+    ∙ go (find (λ p. bytes_eq p.0 n) g) refl ∙ ap (λ b. Some (flag_text b)) (sym (list_any-find (λ (p : Text × Text). bytes_eq p.0 n) g))
   where
     go : (o : Option (Text × Text)) → find (λ p. bytes_eq p.0 n) g ≡ o → one_of n (fold with_default (rows_for g) (built_rules t)) ≡ Some (flag_text (is_some o))
     go None f = ap (option_and_then row_text) (flag_default n t own (rows_for g) (row_given n g ∙ ap (option_map row_for) f))

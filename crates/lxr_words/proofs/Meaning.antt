@@ -24,8 +24,10 @@ use Rattle.lxr_words.specs.declared.Command.{Command}
 use Rattle.lxr_words.specs.declared.Command.TheVariants as command
 use Rattle.lxr_words.specs.declared.Options.{Options}
 use Rattle.lxr_words.specs.declared.WordFault.TheVariants as fault
-use Rattle.lxr_words.proofs.Lists.{and_false, and_left}
-use Rattle.lxr_words.proofs.Matches.{fault_is, find_given, flag_is, flag_text, matches_are, no_default, not_flag, row_given, text_is}
+use Rattle.lxr_words.proofs.Lists.{list_any-find}
+use Rattle.std.proofs.Math.Bool.{and-false}
+use Rattle.std.proofs.lemmas.Bool.{and_parts}
+use Rattle.lxr_words.proofs.Matches.{fault_is, flag_is, flag_text, matches_are, no_default, not_flag, row_given, text_is}
 use Rattle.lxr_words.proofs.Accepted.{Owns, Within, right_within, absent, all_sound, dashes_refused, flag_says, is_right, right_accepted, sound, wrong_one}
 use Rattle.lxr_words.proofs.Walks.{Refused, Taken, end_rows, ending, no_dashes, reads, refuses, rows_for}
 
@@ -110,7 +112,7 @@ module _ (words : List Text) (g : Settings) (found : Found) (b : Bool) (says : F
       let is : one_text found (codes "counts") ≡ None
       = one_text-rows found (codes "counts") ∙ ap (one_of (codes "counts")) (rows ∙ matches_are title t words)
       ∙ ap (option_and_then row_text) (no_default (codes "counts") t none (end_rows title t (walk_from nothing_held) words) ∙ ap (find (λ (r : Row). bytes_eq r.id (codes "counts"))) end ∙ row_given (codes "counts") g ∙ ap (option_map Rattle.lxr_words.proofs.Walks.row_for) no_entry) in
-      says.none is ∙ sym (find_given (codes "counts") g ∙ ap is_some no_entry)
+      says.none is ∙ sym (list_any-find (λ (p : Text × Text). bytes_eq p.0 (codes "counts")) g ∙ ap is_some no_entry)
 
   flag_right : (which : Command) → list_all (sound (table_of which)) g ≡ true → rows_of found ≡ matches_of (app_for title (table_of which)) words
       → end_rows title (table_of which) (walk_from nothing_held) words ≡ rows_for g → b ≡ is_set (codes "counts") g
@@ -136,7 +138,7 @@ found_holds which words m clear no_fault matches = go (reads title (table_of whi
     t = table_of which
 
     rows : rows_of (found_of m) ≡ matches_of (app_for title (table_of which)) words
-    rows = (matches (and_left (is_simple (app_for title (table_of which))) _ (simple_is which))).0
+    rows = (matches ((and_parts (is_simple (app_for title (table_of which))) _ (simple_is which)).0)).0
 
     go : Taken title (table_of which) (ending title (table_of which) (walk_from nothing_held) words) (end_rows title (table_of which) (walk_from nothing_held) words) [] (settings_in (table_of which) words None)
         ⊎ Refused title (table_of which) (ending title (table_of which) (walk_from nothing_held) words) [] (settings_in (table_of which) words None) → Holds which words (found_of m)
@@ -170,7 +172,7 @@ refused_says which words clear some_fault = go (reads title (table_of which) (na
 -- `--` is never accepted
 pub dashes_say : (which : Command) (words : List Text) → no_dashes words ≡ false → options_in which words ≡ Err fault.Options
 dashes_say which words e = refused_given which (settings_in (table_of which) words None)
-    (λ g f. ap (λ b. Rattle.lxr_words.specs.Settings.each_once g && b) (dashes_refused (table_of which) (named_all which) words None g tt e f) ∙ and_false _)
+    (λ g f. ap (λ b. Rattle.lxr_words.specs.Settings.each_once g && b) (dashes_refused (table_of which) (named_all which) words None g tt e f) ∙ and-false _)
 
 pub clear_words : (words : List (Bor Text)) (b : Bool) → list_any (λ word. bytes_eq word.now dashes) words ≡ b → no_dashes (map (λ word. word.now) words) ≡ not b
 clear_words words b e = ap not (sym (list_any-map (λ w. bytes_eq w dashes) (λ (word : Bor Text). word.now) words) ∙ e)

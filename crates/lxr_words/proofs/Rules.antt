@@ -10,7 +10,8 @@ use Rattle.clap.specs.Simple.{Shape, filled, new_shape}
 use Rattle.lxr_words.specs.Number.{Text, value_of}
 use Rattle.lxr_words.specs.Settings.{KnownOption, Table, Word, after_dashes, fits, is_in, option_named, stray, value_in, word_after, word_of, word_for}
 use Rattle.lxr_words.specs.Arguments.{argument_rule}
-use Rattle.lxr_words.proofs.Lists.{hyphen_no_number, or_false, same_text}
+use Rattle.std.proofs.Math.Bool.{or-false}
+use Rattle.lxr_words.proofs.Lists.{find-map, hyphen_no_number, same_text}
 
 abbrev pub built_for : KnownOption → Rule
 built_for k = filled (argument_rule k.range k.name)
@@ -27,17 +28,9 @@ shape_for name rules = record (new_shape name) {
   is_built = true;
 }
 
-pub find_for : (p : Rule → Bool) (q : KnownOption → Bool) → ((k : KnownOption) → p (built_for k) ≡ q k) → (t : Table) → find p (built_rules t) ≡ option_map built_for (find q t)
-find_for p q same [] = refl
-find_for p q same (k ∷ t) = ap (λ b. cond b (Some (built_for k)) (find p (built_rules t))) (same k) ∙ go (q k) (find_for p q same t)
-  where
-    go : (b : Bool) → find p (built_rules t) ≡ option_map built_for (find q t) → cond b (Some (built_for k)) (find p (built_rules t)) ≡ option_map built_for (cond b (Some k) (find q t))
-    go true e = refl
-    go false e = e
-
 long_test : (r : Option (ℕ × ℕ)) (n name : Text) → (not (is_some (filled (argument_rule r n)).index) && has_long (filled (argument_rule r n)) name) ≡ bytes_eq n name
-long_test None n name = or_false _
-long_test (Some r) n name = or_false _
+long_test None n name = or-false _
+long_test (Some r) n name = or-false _
 
 id_test : (r : Option (ℕ × ℕ)) (n id : Text) → bytes_eq (filled (argument_rule r n)).id id ≡ bytes_eq n id
 id_test None n id = refl
@@ -56,16 +49,16 @@ none_passes [] = refl
 none_passes (x ∷ xs) = none_passes xs
 
 pub by_long : (t : Table) (name : Text) (o : Option KnownOption) → option_named t name ≡ o → arg_by_long (built_rules t) name ≡ option_map built_for o
-by_long t name o e = find_for (λ a. not (is_some a.index) && has_long a name) (λ k. bytes_eq k.name name) (λ k. long_test k.range k.name name) t ∙ ap (option_map built_for) e
+by_long t name o e = find-map built_for (λ a. not (is_some a.index) && has_long a name) (λ k. bytes_eq k.name name) (λ k. long_test k.range k.name name) t ∙ ap (option_map built_for) e
 
 pub by_id : (t : Table) (id : Text) (o : Option KnownOption) → option_named t id ≡ o → arg_by_id (built_rules t) id ≡ option_map built_for o
-by_id t id o e = find_for (λ a. bytes_eq a.id id) (λ k. bytes_eq k.name id) (λ k. id_test k.range k.name id) t ∙ ap (option_map built_for) e
+by_id t id o e = find-map built_for (λ a. bytes_eq a.id id) (λ k. bytes_eq k.name id) (λ k. id_test k.range k.name id) t ∙ ap (option_map built_for) e
 
 pub no_short : (t : Table) (x : ℕ) → arg_by_short (built_rules t) x ≡ None
-no_short t x = find_for (λ a. not (is_some a.index) && has_short a x) (λ _. false) (λ k. short_test k.range k.name x) t ∙ ap (option_map built_for) (none_passes t)
+no_short t x = find-map built_for (λ a. not (is_some a.index) && has_short a x) (λ _. false) (λ k. short_test k.range k.name x) t ∙ ap (option_map built_for) (none_passes t)
 
 pub no_place : (t : Table) (i : ℕ) → arg_by_index (built_rules t) i ≡ None
-no_place t i = find_for (λ a. option_map_or (λ k. Rattle.std.specs.Prelude.nat_eq k i) a.index false) (λ _. false) (λ k. index_test k.range k.name i) t ∙ ap (option_map built_for) (none_passes t)
+no_place t i = find-map built_for (λ a. option_map_or (λ k. Rattle.std.specs.Prelude.nat_eq k i) a.index false) (λ _. false) (λ k. index_test k.range k.name i) t ∙ ap (option_map built_for) (none_passes t)
 
 -- an option that is found by a name has that name
 pub named : (t : Table) (name : Text) (k : KnownOption) → option_named t name ≡ Some k → k.name ≡ name

@@ -15,7 +15,8 @@ use Rattle.clap.specs.declared.parser.matches.ValueSource.TheVariants.{CommandLi
 use Rattle.clap.proofs.WalkLemmas.{list_any-map}
 use Rattle.lxr_words.specs.Number.{Text}
 use Rattle.lxr_words.specs.Settings.{Settings, KnownOption, Table, after_word, dashes, each_once, fits, settings_in, is_accepted, is_set, option_named, with_setting, word_for}
-use Rattle.lxr_words.proofs.Lists.{all_fails, and_false, eq_refl, once_more, twice, with_first}
+use Rattle.std.proofs.Math.Bool.{and-false}
+use Rattle.lxr_words.proofs.Lists.{all_fails, eq_refl, once_more, twice, with_first}
 use Rattle.lxr_words.proofs.Rules.{built_for, built_rules, by_id, by_long, from_long, hyphen_no_fit, known_itself, no_place, no_short, shape_for, word_is}
 
 -- ---- kinds
@@ -31,6 +32,10 @@ first_refuses (k ∷ ks) b e = refl
 second_refuses : (a b : Kinds) → refuses b ≡ true → refuses (or_else a b) ≡ true
 second_refuses [] b e = e
 second_refuses (k ∷ ks) b e = refl
+
+pub or_else_nil : (a : Kinds) → or_else a [] ≡ a
+or_else_nil [] = refl
+or_else_nil (k ∷ ks) = refl
 
 or_else_assoc : (a b c : Kinds) → or_else (or_else a b) c ≡ or_else a (or_else b c)
 or_else_assoc [] b c = refl
@@ -220,14 +225,10 @@ module _ (title : Text) (t : Table) where
     kinds_are = e;
     not_accepted = λ more q.
         let w : (m : Settings) × (read ≡ Some m) × (more ≡ (n, x) ∷ m) = with_first n x read more q in
-        ap (λ m. is_accepted t (g ++ m)) w.2 ∙ ap (λ b. each_once (g ++ (n, x) ∷ w.0) && b) (all_fails (fits t) g (n, x) w.0 f) ∙ and_false _;
+        ap (λ m. is_accepted t (g ++ m)) w.2 ∙ ap (λ b. each_once (g ++ (n, x) ∷ w.0) && b) (all_fails (fits t) g (n, x) w.0 f) ∙ and-false _;
   })
 
   -- ---- one use
-
-  or_else_nil : (a : Kinds) → or_else a [] ≡ a
-  or_else_nil [] = refl
-  or_else_nil (k ∷ ks) = refl
 
   use_option : (n x : Text) (r : ℕ × ℕ) (rows : List Row) → use_fault false (built_for (record { name = n; range = Some r })) (x ∷ []) rows ≡ repeat_fault false n rows
   use_option n x r rows = or_else_nil (repeat_fault false n rows)
