@@ -10,7 +10,7 @@ use Rattle.lxr_words.specs.Settings.{Settings, KnownOption, Table, Word, after_d
 use Rattle.std.proofs.Math.Bool.{and-false}
 use Rattle.std.proofs.lemmas.Bool.{and_parts}
 use Rattle.lxr_words.proofs.Lists.{eq_refl, same_text, with_first}
-use Rattle.lxr_words.proofs.Rules.{known_itself}
+use Rattle.lxr_words.proofs.Rules.{known_itself, named}
 use Rattle.lxr_words.proofs.Walks.{no_dashes}
 
 given_text : (n x : Text) (g : Settings) → text_of n g ≡ Some x → is_set n g ≡ true
@@ -172,7 +172,7 @@ module _ (t : Table) where
       here None e = absurd (true≢false (sym ((and_parts (sound p) (list_all sound h) good).0) ∙ ap (λ o. option_map_or (λ (k : KnownOption). sound_text k.range p.1) o false) e))
       here (Some k) e =
           let right_at : is_right g k ≡ true = passes_at (is_right g) t p.0 k e right in
-          let name_is : k.name ≡ p.0 = Rattle.lxr_words.proofs.Rules.named t p.0 k e in
+          let name_is : k.name ≡ p.0 = named t p.0 k e in
           let first : text_of p.0 (p ∷ h) ≡ Some p.1 = ap (λ b. option_map (λ (q : Text × Text). q.1) (cond b (Some p) (find (λ q. bytes_eq q.0 p.0) h))) (eq_refl p.0) in
           let text : text_of k.name g ≡ Some p.1 = ap (λ n. text_of n g) name_is ∙ same p.0 p.1 first in
           ap (λ o. option_map_or (λ (j : KnownOption). is_in j.range p.1) o false) e ∙ ap (λ o. option_map_or (is_in k.range) o true) (sym text) ∙ right_at

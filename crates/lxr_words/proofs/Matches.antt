@@ -2,18 +2,18 @@
 use Rattle.std.proofs.Common.{◌≡◌, ◌∙◌, ◌&&◌, ◌||◌, ◌++◌, ℕ, Bool, cond, not, true, false, refl, sym, ap, ap₂, List, [], ◌∷◌, map, Option, Some, None, find, option_map, is_some, codes, true≢false, fold, slice_get, option_and_then, if◌then◌else◌}
 use Rattle.std.specs.List.{list_all, list_any}
 use Rattle.std.specs.Str.{bytes_eq}
-use Rattle.clap.specs.Kinds.{Kinds, or_else}
-use Rattle.clap.specs.Walk.{Row, Rule, at_row, first_of, has_row, more_values, nothing_held, one_of, row_text, settled, walk, walk_from, walked, with_default}
-use Rattle.clap.specs.Faults.{check_fault, default_fault, defaults_fault, fault_of, level_fault, settle_fault, walk_fault}
+use Rattle.clap.specs.Kinds.{Kinds, or_else, check_kinds}
+use Rattle.clap.specs.Walk.{Row, Rule, at_row, first_of, has_row, more_values, nothing_held, one_of, row_text, walk, walk_from, with_default, rows_after, with_values}
+use Rattle.clap.specs.Faults.{check_fault, default_fault, defaults_fault, fault_of, settle_fault, walk_fault, built_fault}
 use Rattle.clap.specs.Takes.{is_given as row_is_given}
-use Rattle.clap.specs.Simple.{App, Shape, built, filled, filled_from, matches_of, with_filled_rules}
+use Rattle.clap.specs.Simple.{App, Shape, built, filled, filled_from, matches_of, names_of}
 use Rattle.clap.specs.declared.builder.value_parser.Reading.TheVariants.{AsWritten}
 use Rattle.clap.specs.declared.parser.matches.ValueSource.TheVariants.{DefaultValue}
 use Rattle.clap.proofs.FaultLemmas.{leaf_fault}
 use Rattle.lxr_words.specs.Number.{Text}
 use Rattle.lxr_words.specs.Settings.{Settings, KnownOption, Table, is_set, option_named, text_of}
 use Rattle.lxr_words.specs.Arguments.{app_for, argument_rule, rule_for}
-use Rattle.std.proofs.lemmas.Bool.{and_parts}
+use Rattle.std.proofs.lemmas.Bool.{and_parts, not-true}
 use Rattle.std.proofs.Math.Bool.{or-true}
 use Rattle.lxr_words.proofs.Lists.{find-map, list_any-find, same_text}
 use Rattle.lxr_words.proofs.Rules.{built_for, built_rules, shape_for}
@@ -63,19 +63,19 @@ none_required (k ∷ t) rows =
     ∙ none_required t rows
 
 check_none : (title : Text) (t : Table) (rows : List Row) → check_fault (shape_for title (built_rules t)) rows false ≡ []
-check_none title t rows = ap (λ b. Rattle.clap.specs.Kinds.check_kinds false false b) (none_required t rows)
+check_none title t rows = ap (λ b. check_kinds false false b) (none_required t rows)
 
 pub fault_is : (title : Text) (t : Table) (words : List Text) → fault_of (app_for title t) words ≡ ending title t (walk_from nothing_held) words
 fault_is title t words =
     let s : Shape = shape_for title (built_rules t) in
-    ap (λ a. Rattle.clap.specs.Faults.built_fault a nothing_held words) (built_is title t)
+    ap (λ a. built_fault a nothing_held words) (built_is title t)
     ∙ leaf_fault (record { top = s; subs = [] }) nothing_held words refl
     ∙ ap₂ (λ d k. or_else (walk_fault s [] (walk_from nothing_held) words) (or_else (settle_fault (built_rules t) false (walk (built_rules t) [] nothing_held words).held) (or_else d k)))
     (defaults_none t _) (check_none title t _)
     ∙ ap (or_else (walk_fault s [] (walk_from nothing_held) words)) (or_else_nil _)
 
 pub matches_are : (title : Text) (t : Table) (words : List Text) → matches_of (app_for title t) words ≡ fold with_default (end_rows title t (walk_from nothing_held) words) (built_rules t)
-matches_are title t words = ap (λ (a : App). Rattle.clap.specs.Walk.rows_after a.top.rules (Rattle.clap.specs.Simple.names_of a) words) (built_is title t)
+matches_are title t words = ap (λ (a : App). rows_after a.top.rules (names_of a) words) (built_is title t)
 
 -- ---- defaults
 
@@ -122,8 +122,8 @@ adds rows (Some r) n = nothing (go (has_row n rows)) (λ e. absurd (true≢false
 adds rows None n = go (has_row n rows) refl
   where
     go : (b : Bool) → has_row n rows ≡ b → Added rows None n
-    go true e = nothing (ap (λ b. cond b rows (Rattle.clap.specs.Walk.with_values n AsWritten DefaultValue (codes "false" ∷ []) rows)) e) (λ _. e)
-    go false e = default refl (ap (λ b. cond b rows (Rattle.clap.specs.Walk.with_values n AsWritten DefaultValue (codes "false" ∷ []) rows)) e ∙ at_missing n (more_values DefaultValue (codes "false" ∷ [])) (default_row n ∷ []) rows e)
+    go true e = nothing (ap (λ b. cond b rows (with_values n AsWritten DefaultValue (codes "false" ∷ []) rows)) e) (λ _. e)
+    go false e = default refl (ap (λ b. cond b rows (with_values n AsWritten DefaultValue (codes "false" ∷ []) rows)) e ∙ at_missing n (more_values DefaultValue (codes "false" ∷ [])) (default_row n ∷ []) rows e)
 
 -- a row that is there stays
 stays : (n : Text) (x : Row) (t : Table) (rows : List Row) → row_of_id n rows ≡ Some x → row_of_id n (fold with_default rows (built_rules t)) ≡ Some x
@@ -144,11 +144,7 @@ no_default n (k ∷ t) e rows =
     no_default n t ((and_parts (not_flag n k) _ e).1) (with_default rows (built_for k)) ∙ go (adds rows k.range k.name)
   where
     other : k.range ≡ None → bytes_eq k.name n ≡ false
-    other h = go2 (bytes_eq k.name n) (ap (λ o. is_some o || not (bytes_eq k.name n)) (sym h) ∙ (and_parts (not_flag n k) (list_all (not_flag n) t) e).0)
-      where
-        go2 : (b : Bool) → not b ≡ true → b ≡ false
-        go2 true q = absurd (true≢false (sym q))
-        go2 false q = refl
+    other h = not-true (bytes_eq k.name n) (ap (λ o. is_some o || not (bytes_eq k.name n)) (sym h) ∙ (and_parts (not_flag n k) (list_all (not_flag n) t) e).0)
 
     same : (o : Option Row) → elim o [ Some x ↦ Some x | None ↦ None ] ≡ o
     same None = refl

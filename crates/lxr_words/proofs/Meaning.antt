@@ -16,7 +16,7 @@ use Rattle.clap.specs.declared.parser.matches.ArgMatches.{ArgMatches}
 use Rattle.clap.specs.declared.parser.matches.Found.{Found}
 use Rattle.clap.proofs.WalkLemmas.{first_value-rows, list_any-map, one_text-rows}
 use Rattle.lxr_words.specs.Number.{Text}
-use Rattle.lxr_words.specs.Settings.{Settings, KnownOption, Table, dashes, settings_in, is_accepted, is_set, is_in, option_named, text_of}
+use Rattle.lxr_words.specs.Settings.{Settings, Table, dashes, settings_in, is_accepted, is_set, option_named, text_of, each_once}
 use Rattle.lxr_words.specs.Options.{Answers, accepted, options_by, options_from, options_in, table_of}
 use Rattle.lxr_words.specs.Arguments.{ReadsIfFine, all_fine, number_options}
 use Rattle.lxr_words.specs.Arguments.{FlagReads, Holds, app_for}
@@ -29,7 +29,7 @@ use Rattle.std.proofs.Math.Bool.{and-false}
 use Rattle.std.proofs.lemmas.Bool.{and_parts}
 use Rattle.lxr_words.proofs.Matches.{fault_is, flag_is, flag_text, matches_are, no_default, not_flag, row_given, text_is}
 use Rattle.lxr_words.proofs.Accepted.{Owns, Within, right_within, absent, all_sound, dashes_refused, flag_says, is_right, right_accepted, sound, wrong_one}
-use Rattle.lxr_words.proofs.Walks.{Refused, Taken, end_rows, ending, no_dashes, reads, refuses, rows_for}
+use Rattle.lxr_words.proofs.Walks.{Refused, Taken, end_rows, ending, no_dashes, reads, refuses, rows_for, row_for}
 
 abbrev pub title : Text
 title = codes "lxr"
@@ -111,7 +111,7 @@ module _ (words : List Text) (g : Settings) (found : Found) (b : Bool) (says : F
       let no_entry : find (λ p. bytes_eq p.0 (codes "counts")) g ≡ None = absent t (codes "counts") g own good in
       let is : one_text found (codes "counts") ≡ None
       = one_text-rows found (codes "counts") ∙ ap (one_of (codes "counts")) (rows ∙ matches_are title t words)
-      ∙ ap (option_and_then row_text) (no_default (codes "counts") t none (end_rows title t (walk_from nothing_held) words) ∙ ap (find (λ (r : Row). bytes_eq r.id (codes "counts"))) end ∙ row_given (codes "counts") g ∙ ap (option_map Rattle.lxr_words.proofs.Walks.row_for) no_entry) in
+      ∙ ap (option_and_then row_text) (no_default (codes "counts") t none (end_rows title t (walk_from nothing_held) words) ∙ ap (find (λ (r : Row). bytes_eq r.id (codes "counts"))) end ∙ row_given (codes "counts") g ∙ ap (option_map row_for) no_entry) in
       says.none is ∙ sym (list_any-find (λ (p : Text × Text). bytes_eq p.0 (codes "counts")) g ∙ ap is_some no_entry)
 
   flag_right : (which : Command) → list_all (sound (table_of which)) g ≡ true → rows_of found ≡ matches_of (app_for title (table_of which)) words
@@ -172,7 +172,7 @@ refused_says which words clear some_fault = go (reads title (table_of which) (na
 -- `--` is never accepted
 pub dashes_say : (which : Command) (words : List Text) → no_dashes words ≡ false → options_in which words ≡ Err fault.Options
 dashes_say which words e = refused_given which (settings_in (table_of which) words None)
-    (λ g f. ap (λ b. Rattle.lxr_words.specs.Settings.each_once g && b) (dashes_refused (table_of which) (named_all which) words None g tt e f) ∙ and-false _)
+    (λ g f. ap (λ b. each_once g && b) (dashes_refused (table_of which) (named_all which) words None g tt e f) ∙ and-false _)
 
 pub clear_words : (words : List (Bor Text)) (b : Bool) → list_any (λ word. bytes_eq word.now dashes) words ≡ b → no_dashes (map (λ word. word.now) words) ≡ not b
 clear_words words b e = ap not (sym (list_any-map (λ w. bytes_eq w dashes) (λ (word : Bor Text). word.now) words) ∙ e)

@@ -1,8 +1,7 @@
 -- The arguments of a built command for a table, and what `clap` finds among them.
 use Rattle.std.proofs.Common.{◌≡◌, ◌∙◌, ◌&&◌, ℕ, Bool, cond, not, true, false, refl, sym, ap, List, [], ◌∷◌, map, Option, Some, None, find, option_map, is_some, arith, nat_le}
-use Rattle.std.specs.List.{list_any}
 use Rattle.std.specs.Option.{option_map_or}
-use Rattle.std.specs.Prelude.{option_and_then}
+use Rattle.std.specs.Prelude.{option_and_then, nat_eq}
 use Rattle.std.specs.Str.{bytes_eq}
 use Rattle.clap.specs.Lexer.{long_of, long_of_rest, strip_byte}
 use Rattle.clap.specs.Walk.{Rule, arg_by_id, arg_by_index, arg_by_long, arg_by_short, has_long, has_short}
@@ -40,7 +39,7 @@ short_test : (r : Option (ℕ × ℕ)) (n : Text) (x : ℕ) → (not (is_some (f
 short_test None n x = refl
 short_test (Some r) n x = refl
 
-index_test : (r : Option (ℕ × ℕ)) (n : Text) (i : ℕ) → option_map_or (λ k. Rattle.std.specs.Prelude.nat_eq k i) (filled (argument_rule r n)).index false ≡ false
+index_test : (r : Option (ℕ × ℕ)) (n : Text) (i : ℕ) → option_map_or (λ k. nat_eq k i) (filled (argument_rule r n)).index false ≡ false
 index_test None n i = refl
 index_test (Some r) n i = refl
 
@@ -58,7 +57,7 @@ pub no_short : (t : Table) (x : ℕ) → arg_by_short (built_rules t) x ≡ None
 no_short t x = find-map built_for (λ a. not (is_some a.index) && has_short a x) (λ _. false) (λ k. short_test k.range k.name x) t ∙ ap (option_map built_for) (none_passes t)
 
 pub no_place : (t : Table) (i : ℕ) → arg_by_index (built_rules t) i ≡ None
-no_place t i = find-map built_for (λ a. option_map_or (λ k. Rattle.std.specs.Prelude.nat_eq k i) a.index false) (λ _. false) (λ k. index_test k.range k.name i) t ∙ ap (option_map built_for) (none_passes t)
+no_place t i = find-map built_for (λ a. option_map_or (λ k. nat_eq k i) a.index false) (λ _. false) (λ k. index_test k.range k.name i) t ∙ ap (option_map built_for) (none_passes t)
 
 -- an option that is found by a name has that name
 pub named : (t : Table) (name : Text) (k : KnownOption) → option_named t name ≡ Some k → k.name ≡ name

@@ -2,6 +2,7 @@
 -- as an option exactly where it is one of the three spellings.
 use Rattle.std.proofs.Common.{◌≡◌, ◌≢◌, ◌∙◌, ◌||◌, ◌++◌, ◌<◌, ℕ, zero, suc, Bool, cond, not, true, false, refl, sym, ap, ap₂, subst, List, [], ◌∷◌, Option, Some, None, is_some, codes, true≢false, arith, length, get_or}
 use Rattle.std.specs.List.{after_first, list_all, list_any}
+use Rattle.std.proofs.lemmas.Bool.{not-true}
 use Rattle.clap.proofs.CutLemmas.{Lacks, after_first-at, before_first-Lacks, before_first-at, list_any-at}
 use Rattle.lxr_words.specs.Grammar.{IsFlag, Spells, TakesNumber, alone, apart, joined, joined_word, name_word, nothing}
 use Rattle.lxr_words.specs.Number.{Text}
@@ -98,12 +99,8 @@ begins (a ∷ b ∷ rest) body e = grind (arith, e)
 
 module _ (t : Table) (plain : list_all (λ k. not (list_any is_equals k.name)) t ≡ true) where
   free_name : (name : Text) (k : KnownOption) → option_named t name ≡ Some k → list_any is_equals name ≡ false
-  free_name name k e = negated (list_any is_equals name)
+  free_name name k e = not-true (list_any is_equals name)
       (ap (λ n. not (list_any is_equals n)) (sym (named t name k e)) ∙ passes_at t (λ j. not (list_any is_equals j.name)) t name k e plain)
-    where
-      negated : (b : Bool) → not b ≡ true → b ≡ false
-      negated true q = absurd (true≢false (sym q))
-      negated false q = refl
 
   -- ---- from a spelling to the word that is read
 

@@ -7,7 +7,7 @@ use Rattle.std.specs.Prelude.{option_and_then, encode_utf8}
 use Rattle.std.specs.Str.{bytes_eq, chars}
 use Rattle.clap.specs.Lexer.{long_of, long_of_rest, short_of, short_of_rest, strip_byte}
 use Rattle.clap.specs.Kinds.{Kinds, or_else}
-use Rattle.clap.specs.Walk.{Held, Outcome, Row, Rule, Step, Waiting, Walk, after_flag, after_step, arg_by_id, arg_by_index, arg_by_long, arg_by_short, at_row, bundle, bundle_met, has_row, idle, long_met, long_or_other, more_values, nothing_held, option, option_word, plain, plain_word, next, positional, settled, settled_rows, short_or_plain, used, used_by_id, walk, walk_from, walked}
+use Rattle.clap.specs.Walk.{Held, Outcome, Row, Rule, Step, Waiting, Walk, after_flag, after_step, arg_by_long, at_row, bundle, bundle_met, has_row, idle, long_met, long_or_other, more_values, nothing_held, option, option_word, plain, plain_word, next, positional, settled, settled_rows, short_or_plain, used, used_by_id, walk_from, walked, value}
 use Rattle.clap.specs.Faults.{bundle_fault, flag_word_fault, flags_fault, long_fault, positional_fault, react_fault, repeat_fault, settle_fault, short_fault, step_fault, turn_fault, use_fault, walk_fault}
 use Rattle.clap.specs.declared.builder.value_parser.Reading.TheVariants.{AsWritten}
 use Rattle.clap.specs.declared.error.kind.ErrorKind.TheVariants as kind
@@ -367,7 +367,7 @@ module _ (title : Text) (t : Table) where
       (short_or_plain (built_rules t) waiting word flags (held rows pending)).0 (short_or_plain (built_rules t) waiting word flags (held rows pending)).1
 
   -- no argument takes it
-  is_stray : (rows : List Row) (pending : Option (Text × List Text)) → refuses (step_fault (shape_for title (built_rules t)) 1 (held rows pending) Rattle.clap.specs.Walk.value) ≡ true
+  is_stray : (rows : List Row) (pending : Option (Text × List Text)) → refuses (step_fault (shape_for title (built_rules t)) 1 (held rows pending) value) ≡ true
   is_stray rows pending = ap (λ o. refuses (option_map_or (λ a. positional_fault (built_rules t) false a (held rows pending)) o (kind.UnknownArgument ∷ []))) (no_place t 1)
 
   other_refuses : (flags : Option Text) (rows : List Row) (pending : Option (Text × List Text)) (word : Text) → refuses (other_at flags (held rows pending) idle word) ≡ true

@@ -52,7 +52,8 @@ is_fine range text = option_map_or (is_in (Some range)) text true
 
 -- each option's text is a number in its range
 abbrev pub all_fine : (Text → Option Text) → Bool
-all_fine text = list_all (λ option. option_map_or (is_in option.range) (text option.name) true) number_options
+all_fine text =
+    list_all (λ option. option_map_or (is_in option.range) (text option.name) true) number_options
 
 -- the value where the texts are fine, and else the fault Options
 abbrev pub ReadsIfFine : {X : Type 0} → Bool → X → Result X WordError → Type 0
@@ -67,7 +68,8 @@ pub record FlagReads (text : Option Text) (answer : Bool) : Type 0 where
 
 -- the words are accepted just where each text that was found is fine, and then say those texts
 pub record Holds (command : Command) (words : List Text) (found : Found) : Type 0 where
-  pub fine : all_fine (first_value found) ≡ true → (counts : Bool) → FlagReads (one_text found (codes "counts")) counts
+  pub fine : all_fine (first_value found) ≡ true
+      → (counts : Bool) → FlagReads (one_text found (codes "counts")) counts
       → options_in command words ≡ Ok (options_by (first_value found) counts command)
   pub wrong : all_fine (first_value found) ≡ false → options_in command words ≡ Err fault.Options
 

@@ -1,5 +1,5 @@
--- The command lines as a grammar, beside which the reading of the words is stated again: it accepts
--- exactly what the grammar spells, and the two spellings of a number are alike.
+-- The command lines as a grammar, and what it says of the reading of the words: the reading accepts
+-- exactly what the grammar spells, and takes the two spellings of a number alike.
 use Rattle.std.specs.Prelude.{◌≡◌, ◌≢◌, ◌↔◌, ◌++◌, ℕ, true, false, List, [], ◌∷◌, Some, None, Ok, codes}
 use Rattle.std.specs.List.{list_any}
 use Rattle.lxr_words.specs.Number.{Text, is_number, value_of}
@@ -11,7 +11,8 @@ use Rattle.lxr_words.specs.declared.Options.{Options}
 
 -- the table has an option of that name with a number
 abbrev pub TakesNumber : Table → Text → Type 0
-TakesNumber table name = (range : ℕ × ℕ) × (option_named table name ≡ Some (record { name = name; range = Some range }))
+TakesNumber table name =
+    (range : ℕ × ℕ) × (option_named table name ≡ Some (record { name = name; range = Some range }))
 
 -- the table has a flag of that name
 abbrev pub IsFlag : Table → Text → Type 0
@@ -29,14 +30,17 @@ joined_word name value = dashes ++ (name ++ (codes "=" ++ value))
 pub data Spells (table : Table) : List Text → Settings → Type 0 where
   nothing : Spells table [] []
   apart : (name value : Text) (words : List Text) (settings : Settings) → TakesNumber table name
-      → Spells table words settings → Spells table (name_word name ∷ value ∷ words) ((name, value) ∷ settings)
+      → Spells table words settings
+      → Spells table (name_word name ∷ value ∷ words) ((name, value) ∷ settings)
   joined : (name value : Text) (words : List Text) (settings : Settings) → TakesNumber table name
-      → Spells table words settings → Spells table (joined_word name value ∷ words) ((name, value) ∷ settings)
+      → Spells table words settings
+      → Spells table (joined_word name value ∷ words) ((name, value) ∷ settings)
   alone : (name : Text) (words : List Text) (settings : Settings) → IsFlag table name
-      → Spells table words settings → Spells table (name_word name ∷ words) ((name, codes "true") ∷ settings)
+      → Spells table words settings
+      → Spells table (name_word name ∷ words) ((name, codes "true") ∷ settings)
 
--- the words spell settings of the command, each at most once and with a number in its range, and the
--- options are by these settings
+-- the words spell settings of the command, each option at most once and with a number in its range,
+-- and the options are by these settings
 pub record SpellsOptions (command : Command) (words : List Text) (options : Options) : Type 0 where
   pub settings : Settings
   pub spelt : Spells (table_of command) words settings
@@ -45,17 +49,23 @@ pub record SpellsOptions (command : Command) (words : List Text) (options : Opti
 
 -- the words are a command line, with these options
 pub data CommandLine : List Text → Options → Type 0 where
-  run : (words : List Text) (options : Options) → SpellsOptions Run words options → CommandLine (codes "run" ∷ words) options
-  map : (words : List Text) (options : Options) → SpellsOptions Map words options → CommandLine (codes "map" ∷ words) options
+  run : (words : List Text) (options : Options) → SpellsOptions Run words options
+      → CommandLine (codes "run" ∷ words) options
+  map : (words : List Text) (options : Options) → SpellsOptions Map words options
+      → CommandLine (codes "map" ∷ words) options
   load : (seed : Text) (words : List Text) (options : Options) → is_number seed ≡ true
-      → SpellsOptions (Load (value_of seed)) words options → CommandLine (codes "load" ∷ seed ∷ words) options
+      → SpellsOptions (Load (value_of seed)) words options
+      → CommandLine (codes "load" ∷ seed ∷ words) options
 
 -- the words say options exactly where they are a command line with these
 abbrev pub AcceptsCommandLines : Type 0
-AcceptsCommandLines = (words : List Text) (options : Options) → reading_of words ≡ Ok options ↔ CommandLine words options
+AcceptsCommandLines =
+    (words : List Text) (options : Options) → reading_of words ≡ Ok options ↔ CommandLine words options
 
--- `--name value` and `--name=value` say the same wherever they stand, also where a word is wrong, for
--- each name without `=` that is not the flag's
+-- `--name value` and `--name=value` say the same wherever they stand, also where a word is wrong,
+-- for each name without `=` that is not the flag's
 abbrev pub ReadsSpellingsAlike : Type 0
-ReadsSpellingsAlike = (name value : Text) (before after : List Text) → list_any is_equals name ≡ false → name ≢ codes "counts"
-    → reading_of (before ++ (name_word name ∷ value ∷ after)) ≡ reading_of (before ++ (joined_word name value ∷ after))
+ReadsSpellingsAlike =
+    (name value : Text) (before after : List Text) → list_any is_equals name ≡ false → name ≢ codes "counts"
+    → reading_of (before ++ (name_word name ∷ value ∷ after))
+    ≡ reading_of (before ++ (joined_word name value ∷ after))

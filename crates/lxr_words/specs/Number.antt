@@ -14,7 +14,8 @@ value_of text = digits_value 10 text
 
 -- one decimal digit or more, leading zeros allowed, with a value below 2 ^ 64
 abbrev pub is_number : Text → Bool
-is_number text = nat_lt 0 (length text) && (list_all is_ascii_digit text && nat_lt (value_of text) (2 ^ 64))
+is_number text =
+    nat_lt 0 (length text) && (list_all is_ascii_digit text && nat_lt (value_of text) (2 ^ 64))
 
 -- the number that the text writes, if it writes one
 abbrev pub number_of : Text → Option ℕ

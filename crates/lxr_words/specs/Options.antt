@@ -93,7 +93,8 @@ options_from command settings =
 abbrev pub accepted : Command → Option Settings → Result Options WordFault
 accepted command None = Err fault.Options
 accepted command (Some settings) =
-    if is_accepted (table_of command) settings then Ok (options_from command settings) else Err fault.Options
+    if is_accepted (table_of command) settings then Ok (options_from command settings)
+    else Err fault.Options
 
 -- the words after the command and its seed
 abbrev pub options_in : Command → List Text → Result Options WordFault

@@ -1,5 +1,5 @@
--- Which options the words of a command line set, for any table of options. An option with a number is
--- spelt `--name value`, in two words, or `--name=value`, in one; a flag is spelt `--name`, alone.
+-- Which options the words of a command line set, for any table of options. An option with a number
+-- is spelt `--name value`, in two words, or `--name=value`, in one; a flag is spelt `--name`, alone.
 use Rattle.std.specs.Prelude.{◌==◌, ◌&&◌, ℕ, Bool, true, false, not, List, [], ◌∷◌, codes, drop, find}
 use Rattle.std.specs.Prelude.{Option, Some, None, option_map, if◌then◌else◌, nat_eq, nat_le}
 use Rattle.std.specs.List.{list_all, list_any, before_first, after_first, starts_with}
@@ -20,8 +20,8 @@ Table = List KnownOption
 abbrev pub option_named : Table → Text → Option KnownOption
 option_named table name = find (λ option. bytes_eq option.name name) table
 
--- options by name, each with the text that it is set to, in the order of the words; a flag that is set
--- has the text `true`
+-- options by name, each with the text that it is set to, in the order of the words; a flag that is
+-- set has the text `true`
 abbrev pub Settings : Type 0
 Settings = List (Text × Text)
 
@@ -83,8 +83,8 @@ after_word (whole name text) rest = with_setting name text (rest None)
 after_word (opens name) rest = rest (Some name)
 after_word stray rest = None
 
--- the settings that the words spell, in order, where the option `waiting` takes the next word; `None`
--- where some word is neither an option nor the text of one
+-- the settings that the words spell, in order, where the option that waits, if one does, takes the
+-- next word; `None` where some word is neither an option nor the text of one
 abbrev pub settings_in : Table → List Text → Option Text → Option Settings
 settings_in table [] None = Some []
 settings_in table [] (Some name) = None
@@ -98,7 +98,8 @@ is_set name settings = list_any (λ setting. bytes_eq setting.0 name) settings
 
 -- the text that the option of that name is set to
 abbrev pub text_of : Text → Settings → Option Text
-text_of name settings = option_map (λ setting. setting.1) (find (λ setting. bytes_eq setting.0 name) settings)
+text_of name settings =
+    option_map (λ setting. setting.1) (find (λ setting. bytes_eq setting.0 name) settings)
 
 -- no option is set twice
 abbrev pub each_once : Settings → Bool
@@ -112,7 +113,8 @@ is_in (Some range) text =
     is_number text && (nat_le range.0 (value_of text) && nat_le (value_of text) range.1)
 
 abbrev pub fits : Table → Text × Text → Bool
-fits table setting = option_map_or (λ option. is_in option.range setting.1) (option_named table setting.0) false
+fits table setting =
+    option_map_or (λ option. is_in option.range setting.1) (option_named table setting.0) false
 
 -- each option at most once, with a number in its range
 abbrev pub is_accepted : Table → Settings → Bool

@@ -1,5 +1,5 @@
-//! The options as arguments of one simple `clap` command. Their values are read as texts, since `clap`'s
-//! own readers of numbers take a sign, and the numbers are read afterwards.
+//! The options as arguments of one simple `clap` command. Their values are read as texts, since
+//! `clap`'s own readers of numbers take a sign; the numbers are read afterwards.
 
 ghost use Rattle.std.specs.Prelude.{◌≡◌, ◌≢◌, ◌⊎◌, false, IfOk, codes, map};
 ghost use Rattle.std.specs.List.{list_any};
@@ -37,7 +37,8 @@ pub(crate) fn matches_among<'a>(
 
 // A parse fails for want of memory, or because the words are wrong.
 fn word_error(kind: ErrorKind) -> WordError
-    ensures { ((kind ≡ ErrorKind.OutOfMemory) × (result ≡ WordError.Memory)) ⊎ ((kind ≢ ErrorKind.OutOfMemory) × (result ≡ WordError.Fault WordFault.Options)) }
+    ensures { ((kind ≡ ErrorKind.OutOfMemory) × (result ≡ WordError.Memory))
+        ⊎ ((kind ≢ ErrorKind.OutOfMemory) × (result ≡ WordError.Fault WordFault.Options)) }
 {
     match kind {
         ErrorKind::OutOfMemory => WordError::Memory,

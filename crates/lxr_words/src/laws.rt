@@ -1,5 +1,5 @@
-//! What the reading of the words comes to, as laws that the definitions keep. Each is the contract of a
-//! function that does nothing.
+//! What the reading of the words comes to, as laws that the definitions keep. Each is the contract
+//! of a function that does nothing.
 
 ghost use Rattle.lxr_words.specs.Grammar.{AcceptsCommandLines, ReadsSpellingsAlike};
 

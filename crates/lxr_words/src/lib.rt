@@ -1,9 +1,11 @@
 //! The words of the command line: which command the program carries out, and under which options.
 //!
-//! [`read_words`] takes the words after the program's own name. The first is the command, `run`, `load`
-//! or `map`; after `load` comes the seed; all others are options. Each option is given at most once, in
-//! any order, as `--name value` or as `--name=value`, where the value is a number in the option's range;
-//! the flag `--counts` has no value. Nothing else is accepted: no `--`, no `--help`, no shortened name.
+//! [`read_words`] takes the words after the program's own name. The first is the command, `run`,
+//! `load` or `map`; after `load` comes the seed; all others are options. Each option is given at
+//! most once, in any order, as `--name value` or as `--name=value`, where the value is a number in
+//! the option's range; the flag `--counts` has no value. Nothing else is accepted: no `--`, no
+//! `--help`, no shortened name. A number is one decimal digit or more, without a sign; leading zeros
+//! are allowed.
 //!
 //! | Option | Range | Default | Commands |
 //! |---|---|---|---|
@@ -44,15 +46,15 @@ pub enum Command {
     Map,
 }
 
-/// The command and its options. An option that the words leave out, or that the command does not have,
-/// has its default.
+/// The command and its options. An option that the words leave out, or that the command does not
+/// have, has its default.
 #[derive(Clone, Copy, Debug, PartialEq, Eq)]
 pub struct Options {
     /// What to do.
     pub command: Command,
     /// The size of the heap, in blocks.
     pub blocks: u32,
-    /// The number of workers. Each has one helper for decrements and one for tracing.
+    /// The number of workers. Each has one decrementer and one tracer.
     pub workers: u8,
     /// After how many operations since the last pause a thread asks for the next one.
     pub every: u32,
@@ -81,8 +83,8 @@ pub enum WordFault {
     Command,
     /// There is no word after `load`, or it is no number below 2^64.
     Seed,
-    /// A word after these is not part of an option that the command has, or an option is given twice,
-    /// without a value, or with one out of its range.
+    /// A word after these is not part of an option that the command has, or an option is given
+    /// twice, without a value, or with one out of its range.
     Options,
 }
 

@@ -17,8 +17,9 @@ use crate::{Command, Options, WordError, WordFault};
 use clap::ArgMatches;
 use std::alloc::Global;
 
-/// What the words of a command line say, the program's own name not among them. The answer `Memory`
-/// comes only where memory ran out.
+/// What the words of a command line say, the program's own name not among them: the command with
+/// its options, or what is wrong with the words. The error `Memory` says that memory ran out, and
+/// nothing of the words.
 pub fn read_words(alloc: Global, words: &[&str]) -> Result<Options, WordError>
     ensures { Answers (reading_of (map (λ word. word.now) words.now)) result }
 {
@@ -75,8 +76,8 @@ fn options_among(
     counts: bool,
     matches: &ArgMatches<'_>,
 ) -> Result<Options, WordError>
-    ensures { ReadsIfFine (all_fine (first_value (found_of matches.now)))
-        (options_by (first_value (found_of matches.now)) counts command) result }
+    ensures { let text = first_value (found_of matches.now) in
+        ReadsIfFine (all_fine text) (options_by text counts command) result }
 {
     Ok(Options {
         command,

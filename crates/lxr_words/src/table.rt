@@ -1,11 +1,11 @@
-//! The table of options: a row for each, with the name by which the words give it and the range of its
-//! number.
+//! The table of options: a row for each, with the name by which the words give it and the range of
+//! its number. The defaults stand where the options are put together.
 
 ghost use Rattle.std.specs.Prelude.{◌≡◌, ◌≤◌, None, Some, false, IfOk, IfSome, option_map};
-ghost use Rattle.std.specs.Option.{option_map_or};
 ghost use Rattle.clap.specs.Matches.{first_value, found_of};
 ghost use Rattle.clap.specs.Walk.{rule_of};
 ghost use Rattle.lxr_words.specs.Number.{value_of};
+ghost use Rattle.lxr_words.specs.Options.{number_or};
 ghost use Rattle.lxr_words.specs.Arguments.{ReadsIfFine, argument_rule, is_fine};
 
 use crate::digits::number_in;
@@ -87,7 +87,8 @@ pub(crate) const COUNTS: &str = "counts";
 impl NumberOption {
     // The option as an argument that takes one text.
     pub(crate) fn argument<'a>(self, alloc: Global) -> Arg<'a>
-        ensures rule { rule_of result ≡ argument_rule (Some (self.least, self.greatest)) self.name.now }
+        ensures rule { let range = Some (self.least, self.greatest) in
+            rule_of result ≡ argument_rule range self.name.now }
         ensures local { result.global ≡ false }
     {
         Arg::new(alloc, self.name)
@@ -97,8 +98,8 @@ impl NumberOption {
 
     // The option's number, where it is given.
     pub(crate) fn number(self, matches: &ArgMatches<'_>) -> Result<Option<u64>, WordError>
-        ensures value { ReadsIfFine (is_fine (self.least, self.greatest) (first_value (found_of matches.now) self.name.now))
-            (option_map value_of (first_value (found_of matches.now) self.name.now)) result }
+        ensures value { let text = first_value (found_of matches.now) self.name.now in
+            ReadsIfFine (is_fine (self.least, self.greatest) text) (option_map value_of text) result }
         ensures within { IfOk result (λ o. IfSome o (λ n. n ≤ self.greatest)) }
     {
         let Some(text) = matches.get_str(self.name) else {
@@ -113,8 +114,8 @@ impl NumberOption {
     // The option's number, or the default where it is not given.
     pub(crate) fn number_or(self, matches: &ArgMatches<'_>, default: u64) -> Result<u64, WordError>
         requires { default ≤ self.greatest }
-        ensures value { ReadsIfFine (is_fine (self.least, self.greatest) (first_value (found_of matches.now) self.name.now))
-            (option_map_or value_of (first_value (found_of matches.now) self.name.now) default) result }
+        ensures value { let text = first_value (found_of matches.now) self.name.now in
+            ReadsIfFine (is_fine (self.least, self.greatest) text) (number_or default text) result }
         ensures within { IfOk result (λ n. n ≤ self.greatest) }
     {
         Ok(self.number(matches)?.unwrap_or(default))
