@@ -1,6 +1,6 @@
 -- What holds of the options that words give, and how their acceptance is one test for each option of
 -- the table.
-use Rattle.std.proofs.Common.{◌⊎◌, inl, inr, ◌≡◌, ◌∙◌, ◌&&◌, ◌||◌, ℕ, Bool, cond, not, true, false, refl, sym, ap, ap₂, List, [], ◌∷◌, Option, Some, None, find, option_map, is_some, codes, true≢false}
+use Rattle.std.proofs.Common.{◌≡◌, ◌∙◌, ◌&&◌, ◌||◌, ℕ, Bool, cond, not, true, false, refl, sym, ap, ap₂, List, [], ◌∷◌, Option, Some, None, find, option_map, is_some, codes, true≢false}
 use Rattle.std.specs.List.{list_all, list_any}
 use Rattle.std.specs.Option.{option_map_or}
 use Rattle.std.specs.Str.{bytes_eq}
@@ -10,7 +10,7 @@ use Rattle.lxr_words.specs.Settings.{Settings, KnownOption, Table, Word, after_d
 use Rattle.std.proofs.Math.Bool.{and-false}
 use Rattle.std.proofs.lemmas.Bool.{and_parts}
 use Rattle.lxr_words.proofs.Lists.{eq_refl, same_text, with_first}
-use Rattle.lxr_words.proofs.Rules.{known_itself, named}
+use Rattle.lxr_words.proofs.Rules.{known_itself, named, option_is, same_option}
 use Rattle.lxr_words.proofs.Walks.{no_dashes}
 
 given_text : (n x : Text) (g : Settings) → text_of n g ≡ Some x → is_set n g ≡ true
@@ -209,34 +209,47 @@ module _ (t : Table) where
       let says : bytes_eq p.0.1 (codes "true") ≡ true = sym (ap (λ m. option_map_or (λ (k : KnownOption). sound_text k.range p.0.1) (option_named t m) false) w.0 ∙ ap (λ o. option_map_or (λ (k : KnownOption). sound_text k.range p.0.1) o false) e) ∙ w.1 in
       sym p.2 ∙ same_text p.0.1 (codes "true") says
 
-  -- each option of s is the table's own, or the table has none of its name
-  abbrev pub Owns : Table → Type 0
-  Owns [] = Unit {0}
-  Owns (k ∷ s) = ((option_named t k.name ≡ Some k) ⊎ (option_named t k.name ≡ None)) × Owns s
+  -- the table has that option, or none of its name
+  abbrev pub is_own : KnownOption → Bool
+  is_own k = option_map_or (same_option k) (option_named t k.name) true
 
-  one_wrong : (g : Settings) (k : KnownOption) → list_all sound g ≡ true → (option_named t k.name ≡ Some k) ⊎ (option_named t k.name ≡ None) → is_right g k ≡ false → is_accepted t g ≡ false
-  one_wrong g k good (inl own) e = wrong_refused k g own e
-  one_wrong g k good (inr none) e =
-      absurd (true≢false (ap (λ o. option_map_or (is_in k.range) (option_map (λ (p : Text × Text). p.1) o) true) (sym (absent k.name g none good)) ∙ e))
+  one_wrong : (g : Settings) (k : KnownOption) → list_all sound g ≡ true → is_own k ≡ true → is_right g k ≡ false → is_accepted t g ≡ false
+  one_wrong g k good own e = go (option_named t k.name) refl
+    where
+      go : (o : Option KnownOption) → option_named t k.name ≡ o → is_accepted t g ≡ false
+      go None none = absurd (true≢false (ap (λ o. option_map_or (is_in k.range) (option_map (λ (p : Text × Text). p.1) o) true) (sym (absent k.name g none good)) ∙ e))
+      go (Some j) f =
+          let same : k ≡ j = option_is k j (sym (ap (λ o. option_map_or (same_option k) o true) f) ∙ own) in
+          wrong_refused k g (f ∙ ap Some (sym same)) e
 
   -- an option of s that is not right is refused
-  pub wrong_one : (g : Settings) → list_all sound g ≡ true → (s : Table) → Owns s → list_all (is_right g) s ≡ false → is_accepted t g ≡ false
-  wrong_one g good [] h e = absurd (true≢false e)
-  wrong_one g good (k ∷ s) h e = go (is_right g k) refl (wrong_one g good s h.1)
+  pub wrong_one : (g : Settings) → list_all sound g ≡ true → (s : Table) → list_all is_own s ≡ true → list_all (is_right g) s ≡ false → is_accepted t g ≡ false
+  wrong_one g good [] own e = absurd (true≢false e)
+  wrong_one g good (k ∷ s) own e = go (is_right g k) refl (wrong_one g good s)
     where
-      go : (b : Bool) → is_right g k ≡ b → (list_all (is_right g) s ≡ false → is_accepted t g ≡ false) → is_accepted t g ≡ false
-      go true q ih = ih (ap (λ b. b && list_all (is_right g) s) (sym q) ∙ e)
-      go false q ih = one_wrong g k good h.0 q
+      go : (b : Bool) → is_right g k ≡ b → (list_all is_own s ≡ true → list_all (is_right g) s ≡ false → is_accepted t g ≡ false) → is_accepted t g ≡ false
+      go true q ih = ih (and_parts (is_own k) (list_all is_own s) own).1 (ap (λ b. b && list_all (is_right g) s) (sym q) ∙ e)
+      go false q ih = one_wrong g k good (and_parts (is_own k) (list_all is_own s) own).0 q
 
-  -- each option of u with a number is one of s
-  abbrev pub Within : Table → Table → Type 0
-  Within s [] = Unit {0}
-  Within s (k ∷ u) = ((option_named s k.name ≡ Some k) ⊎ (k.range ≡ None)) × Within s u
+  -- an option with a number is one of s
+  abbrev pub is_within : Table → KnownOption → Bool
+  is_within s k = not (is_some k.range) || option_map_or (same_option k) (option_named s k.name) false
 
-  one_right : (g : Settings) (s : Table) (k : KnownOption) → (option_named s k.name ≡ Some k) ⊎ (k.range ≡ None) → list_all (is_right g) s ≡ true → is_right g k ≡ true
-  one_right g s k (inl e) right = passes_at (is_right g) s k.name k e right
-  one_right g s k (inr e) right = ap (λ r. option_map_or (is_in r) (text_of k.name g) true) e ∙ any_text (text_of k.name g)
+  one_right : (g : Settings) (s : Table) (k : KnownOption) → is_within s k ≡ true → list_all (is_right g) s ≡ true → is_right g k ≡ true
+  one_right g s k h right = go k.range refl
+    where
+      go : (r : Option (ℕ × ℕ)) → k.range ≡ r → is_right g k ≡ true
+      go None e = ap (λ r. option_map_or (is_in r) (text_of k.name g) true) e ∙ any_text (text_of k.name g)
+      go (Some r) e = at (option_named s k.name) refl
+        where
+          at : (o : Option KnownOption) → option_named s k.name ≡ o → is_right g k ≡ true
+          at None f = absurd (true≢false (sym h ∙ ap₂ (λ x y. not (is_some x) || option_map_or (same_option k) y false) e f))
+          at (Some j) f =
+              let same : k ≡ j = option_is k j (sym (ap₂ (λ x y. not (is_some x) || option_map_or (same_option k) y false) e f) ∙ h) in
+              passes_at (is_right g) s k.name k (f ∙ ap Some (sym same)) right
 
-  pub right_within : (g : Settings) (s u : Table) → Within s u → list_all (is_right g) s ≡ true → list_all (is_right g) u ≡ true
+  pub right_within : (g : Settings) (s u : Table) → list_all (is_within s) u ≡ true → list_all (is_right g) s ≡ true → list_all (is_right g) u ≡ true
   right_within g s [] h right = refl
-  right_within g s (k ∷ u) h right = ap₂ (λ a b. a && b) (one_right g s k h.0 right) (right_within g s u h.1 right)
+  right_within g s (k ∷ u) h right =
+      let both = and_parts (is_within s k) (list_all (is_within s) u) h in
+      ap₂ (λ a b. a && b) (one_right g s k both.0 right) (right_within g s u both.1 right)

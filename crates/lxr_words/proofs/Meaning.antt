@@ -28,7 +28,7 @@ use Rattle.lxr_words.proofs.Lists.{list_any-find}
 use Rattle.std.proofs.Math.Bool.{and-false}
 use Rattle.std.proofs.lemmas.Bool.{and_parts}
 use Rattle.lxr_words.proofs.Matches.{fault_is, flag_is, flag_text, matches_are, no_default, not_flag, row_given, text_is}
-use Rattle.lxr_words.proofs.Accepted.{Owns, Within, right_within, absent, all_sound, dashes_refused, flag_says, is_right, right_accepted, sound, wrong_one}
+use Rattle.lxr_words.proofs.Accepted.{is_own, is_within, right_within, absent, all_sound, dashes_refused, flag_says, is_right, right_accepted, sound, wrong_one}
 use Rattle.lxr_words.proofs.Walks.{Refused, Taken, end_rows, ending, no_dashes, reads, refuses, rows_for, row_for}
 
 abbrev pub title : Text
@@ -51,15 +51,15 @@ plain command.Run n e = ap (λ b. not b && true) e
 plain command.Map n e = ap (λ b. not b && true) e
 plain (command.Load seed) n e = refl
 
-owns : (which : Command) → Owns (table_of which) number_options
-owns command.Run = (inl refl, (inl refl, (inl refl, (inl refl, (inl refl, (inl refl, (inl refl, (inl refl, (inr refl, (inr refl, tt))))))))))
-owns command.Map = (inl refl, (inl refl, (inl refl, (inl refl, (inl refl, (inl refl, (inl refl, (inl refl, (inr refl, (inr refl, tt))))))))))
-owns (command.Load seed) = (inl refl, (inl refl, (inl refl, (inl refl, (inl refl, (inl refl, (inl refl, (inl refl, (inl refl, (inl refl, tt))))))))))
+owns : (which : Command) → list_all (is_own (table_of which)) number_options ≡ true
+owns command.Run = refl
+owns command.Map = refl
+owns (command.Load seed) = refl
 
-within : (which : Command) → Within (table_of which) number_options (table_of which)
-within command.Run = (inl refl, (inl refl, (inl refl, (inl refl, (inl refl, (inl refl, (inl refl, (inl refl, (inr refl, tt)))))))))
-within command.Map = (inl refl, (inl refl, (inl refl, (inl refl, (inl refl, (inl refl, (inl refl, (inl refl, (inr refl, tt)))))))))
-within (command.Load seed) = (inl refl, (inl refl, (inl refl, (inl refl, (inl refl, (inl refl, (inl refl, (inl refl, (inl refl, (inl refl, tt))))))))))
+within : (which : Command) → list_all (is_within (table_of which) number_options) (table_of which) ≡ true
+within command.Run = refl
+within command.Map = refl
+within (command.Load seed) = refl
 
 -- ---- texts
 

@@ -1,5 +1,5 @@
 -- The arguments of a built command for a table, and what `clap` finds among them.
-use Rattle.std.proofs.Common.{◌≡◌, ◌∙◌, ◌&&◌, ℕ, Bool, cond, not, true, false, refl, sym, ap, List, [], ◌∷◌, map, Option, Some, None, find, option_map, is_some, arith, nat_le}
+use Rattle.std.proofs.Common.{◌≡◌, ◌∙◌, ◌&&◌, ℕ, Bool, cond, not, true, false, refl, sym, ap, ap₂, List, [], ◌∷◌, map, Option, Some, None, find, option_map, is_some, arith, nat_le, true≢false}
 use Rattle.std.specs.Option.{option_map_or}
 use Rattle.std.specs.Prelude.{option_and_then, nat_eq}
 use Rattle.std.specs.Str.{bytes_eq}
@@ -10,6 +10,7 @@ use Rattle.lxr_words.specs.Number.{Text, value_of}
 use Rattle.lxr_words.specs.Settings.{KnownOption, Table, Word, after_dashes, fits, is_in, option_named, stray, value_in, word_after, word_of, word_for}
 use Rattle.lxr_words.specs.Arguments.{argument_rule}
 use Rattle.std.proofs.Math.Bool.{or-false}
+use Rattle.std.proofs.lemmas.Bool.{and_parts, eqb-true}
 use Rattle.lxr_words.proofs.Lists.{find-map, hyphen_no_number, same_text}
 
 abbrev pub built_for : KnownOption → Rule
@@ -74,6 +75,31 @@ named (x ∷ t) name k e = go (bytes_eq x.name name) refl (named t name k)
 
 pub known_itself : (t : Table) (name : Text) (k : KnownOption) → option_named t name ≡ Some k → option_named t k.name ≡ Some k
 known_itself t name k e = ap (option_named t) (named t name k e) ∙ e
+
+-- ---- options that are the same
+
+abbrev same_range : Option (ℕ × ℕ) → Option (ℕ × ℕ) → Bool
+same_range None None = true
+same_range None (Some s) = false
+same_range (Some r) None = false
+same_range (Some r) (Some s) = nat_eq r.0 s.0 && nat_eq r.1 s.1
+
+abbrev pub same_option : KnownOption → KnownOption → Bool
+same_option k j = bytes_eq k.name j.name && same_range k.range j.range
+
+range_is : (r s : Option (ℕ × ℕ)) → same_range r s ≡ true → r ≡ s
+range_is None None e = refl
+range_is None (Some s) e = absurd (true≢false (sym e))
+range_is (Some r) None e = absurd (true≢false (sym e))
+range_is (Some r) (Some s) e =
+    let p = and_parts (nat_eq r.0 s.0) (nat_eq r.1 s.1) e in
+    ap₂ (λ x y. Some (x, y)) (eqb-true r.0 s.0 p.0) (eqb-true r.1 s.1 p.1)
+
+pub option_is : (k j : KnownOption) → same_option k j ≡ true → k ≡ j
+option_is k j e =
+    let p = and_parts (bytes_eq k.name j.name) (same_range k.range j.range) e in
+    let option : Text → Option (ℕ × ℕ) → KnownOption = λ n r. record { name = n; range = r } in
+    ap₂ option (same_text k.name j.name p.0) (range_is k.range j.range p.1)
 
 -- ---- words
 
