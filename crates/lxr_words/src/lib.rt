@@ -60,7 +60,7 @@ pub struct Options {
     pub every: u32,
     /// The room of a thread's log, in entries.
     pub log: u32,
-    /// A trace may begin at each pause whose number is a multiple of this one.
+    /// A trace may begin at each pause whose number is a multiple of this.
     pub trace: u32,
     /// After how many pauses a trace ends at the latest.
     pub within: u32,
