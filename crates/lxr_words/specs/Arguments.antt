@@ -21,6 +21,7 @@ abbrev pub argument_rule : Option (ℕ × ℕ) → Text → Rule
 argument_rule (Some range) name = record (new_rule name) { long = Some name; action = Some Set }
 argument_rule None name = record (new_rule name) { long = Some name; action = Some SetTrue }
 
+-- the argument of an option
 abbrev pub rule_for : KnownOption → Rule
 rule_for option = argument_rule option.range option.name
 
@@ -39,6 +40,7 @@ app_for title table = record {
 abbrev pub common_options : Table
 common_options = map (λ row. row.option) (take 8 option_rows)
 
+-- the options of all commands together
 abbrev pub every_option : Table
 every_option = map (λ row. row.option) option_rows
 

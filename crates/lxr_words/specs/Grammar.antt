@@ -26,7 +26,8 @@ name_word name = dashes ++ name
 abbrev pub joined_word : Text → Text → Text
 joined_word name value = dashes ++ (name ++ (codes "=" ++ value))
 
--- the words spell the settings, in order
+-- the words spell the settings, in order: there are none, or first comes `--name value`,
+-- `--name=value` or `--name`
 pub data Spells (table : Table) : List Text → Settings → Type 0 where
   nothing : Spells table [] []
   apart : (name value : Text) (words : List Text) (settings : Settings) → TakesNumber table name
@@ -60,12 +61,14 @@ pub data CommandLine : List Text → Options → Type 0 where
 -- the words say options exactly where they are a command line with these
 abbrev pub AcceptsCommandLines : Type 0
 AcceptsCommandLines =
-    (words : List Text) (options : Options) → reading_of words ≡ Ok options ↔ CommandLine words options
+    (words : List Text) (options : Options)
+    → reading_of words ≡ Ok options ↔ CommandLine words options
 
 -- `--name value` and `--name=value` say the same wherever they stand, also where a word is wrong,
 -- for each name without `=` that is not the flag's
 abbrev pub ReadsSpellingsAlike : Type 0
 ReadsSpellingsAlike =
-    (name value : Text) (before after : List Text) → list_any is_equals name ≡ false → name ≢ codes "counts"
+    (name value : Text) (before after : List Text)
+    → list_any is_equals name ≡ false → name ≢ codes "counts"
     → reading_of (before ++ (name_word name ∷ value ∷ after))
     ≡ reading_of (before ++ (joined_word name value ∷ after))

@@ -15,35 +15,39 @@ use Rattle.lxr_words.specs.declared.WordFault.TheVariants as fault
 
 -- ---- the table of options
 
--- a row of the table: an option, and which commands have it
+-- a row of the table: an option, and whether a command has it
 pub record OptionRow : Type 0 where
   pub option : KnownOption
   pub is_of : Command → Bool
 
+-- the commands that have an option: all of them
 abbrev pub all_commands : Command → Bool
 all_commands command = true
 
--- the commands that run a script
+-- the commands that take a script
 abbrev pub script_commands : Command → Bool
 script_commands Run = true
 script_commands Map = true
 script_commands (Load seed) = false
 
+-- the command `load` alone
 abbrev pub load_command : Command → Bool
 load_command Run = false
 load_command Map = false
 load_command (Load seed) = true
 
+-- a row of an option with a number
 abbrev pub number_row : Text → ℕ → ℕ → (Command → Bool) → OptionRow
 number_row name least greatest is_of = record {
   option = record { name = name; range = Some (least, greatest) };
   is_of = is_of;
 }
 
+-- a row of a flag
 abbrev pub flag_row : Text → (Command → Bool) → OptionRow
 flag_row name is_of = record { option = record { name = name; range = None }; is_of = is_of }
 
--- name, least and greatest value, commands
+-- the table: name, least and greatest value, commands
 abbrev pub option_rows : List OptionRow
 option_rows = number_row (codes "blocks") 1 1024 all_commands
     ∷ number_row (codes "workers") 1 8 all_commands
@@ -64,6 +68,7 @@ table_of command = map (λ row. row.option) (filter (λ row. row.is_of command) 
 
 -- ---- the values of the options
 
+-- the number that the text writes, or the default where there is no text
 abbrev pub number_or : ℕ → Option Text → ℕ
 number_or default text = option_map_or value_of text default
 
@@ -84,12 +89,14 @@ options_by text counts command = record {
   rounds = number_or 1000 (text (codes "rounds"));
 }
 
+-- the options of the command by the settings
 abbrev pub options_from : Command → Settings → Options
 options_from command settings =
     options_by (λ name. text_of name settings) (is_set (codes "counts") settings) command
 
 -- ---- the words
 
+-- the options by the settings, if there are any and they are accepted
 abbrev pub accepted : Command → Option Settings → Result Options WordFault
 accepted command None = Err fault.Options
 accepted command (Some settings) =

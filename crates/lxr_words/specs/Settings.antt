@@ -1,5 +1,5 @@
 -- Which options the words of a command line set, for any table of options. An option with a number
--- is spelt `--name value`, in two words, or `--name=value`, in one; a flag is spelt `--name`, alone.
+-- is spelt `--name value`, in two words, or `--name=value`, in one; a flag is spelt `--name`.
 use Rattle.std.specs.Prelude.{◌==◌, ◌&&◌, ℕ, Bool, true, false, not, List, [], ◌∷◌, codes, drop, find}
 use Rattle.std.specs.Prelude.{Option, Some, None, option_map, if◌then◌else◌, nat_eq, nat_le}
 use Rattle.std.specs.List.{list_all, list_any, before_first, after_first, starts_with}
@@ -13,6 +13,7 @@ pub record KnownOption : Type 0 where
   pub name : Text
   pub range : Option (ℕ × ℕ)
 
+-- a table of options; each name stands in it once
 abbrev pub Table : Type 0
 Table = List KnownOption
 
@@ -41,6 +42,7 @@ dashes = codes "--"
 abbrev pub after_dashes : Text → Option Text
 after_dashes word = if starts_with nat_eq word dashes then Some (drop 2 word) else None
 
+-- the sign `=`
 abbrev pub is_equals : ℕ → Bool
 is_equals code = code == 61
 
@@ -59,6 +61,7 @@ word_with (Some range) name None = opens name
 word_with None name (Some text) = stray
 word_with None name None = whole name (codes "true")
 
+-- a word by the option that it names, if the table has it, and by the text after `=`
 abbrev pub word_for : Option KnownOption → Option Text → Word
 word_for None text = stray
 word_for (Some option) text = word_with option.range option.name text
@@ -78,6 +81,7 @@ word_of table word = word_after table (after_dashes word)
 abbrev pub with_setting : Text → Text → Option Settings → Option Settings
 with_setting name text more = option_map (λ settings. (name, text) ∷ settings) more
 
+-- the settings of a word and of those after it; `rest` gives the latter, by the option that waits
 abbrev pub after_word : Word → (Option Text → Option Settings) → Option Settings
 after_word (whole name text) rest = with_setting name text (rest None)
 after_word (opens name) rest = rest (Some name)
@@ -93,6 +97,7 @@ settings_in table (word ∷ rest) (Some name) = with_setting name word (settings
 
 -- ---- what is accepted
 
+-- whether the option of that name is set
 abbrev pub is_set : Text → Settings → Bool
 is_set name settings = list_any (λ setting. bytes_eq setting.0 name) settings
 
@@ -112,6 +117,7 @@ is_in None text = true
 is_in (Some range) text =
     is_number text && (nat_le range.0 (value_of text) && nat_le (value_of text) range.1)
 
+-- whether the table has the option, with a range that its text is in
 abbrev pub fits : Table → Text × Text → Bool
 fits table setting =
     option_map_or (λ option. is_in option.range setting.1) (option_named table setting.0) false

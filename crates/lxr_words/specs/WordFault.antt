@@ -3,6 +3,7 @@ use Rattle.std.specs.Prelude.{◌++◌, ℕ, List, [], ◌∷◌, codes}
 use Rattle.lxr_words.specs.declared.WordFault.{WordFault}
 use Rattle.lxr_words.specs.declared.WordFault.TheVariants as fault
 
+-- the name of a fault in its line
 abbrev pub fault_name : WordFault → List ℕ
 fault_name fault.Command = codes "command"
 fault_name fault.Seed = codes "seed"

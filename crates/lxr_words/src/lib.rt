@@ -4,8 +4,8 @@
 //! `load` or `map`; after `load` comes the seed; all others are options. Each option is given at
 //! most once, in any order, as `--name value` or as `--name=value`, where the value is a number in
 //! the option's range; the flag `--counts` has no value. Nothing else is accepted: no `--`, no
-//! `--help`, no shortened name. A number is one decimal digit or more, without a sign; leading zeros
-//! are allowed.
+//! `--help`, no shortened name. A number is one decimal digit or more, without a sign; leading
+//! zeros are allowed.
 //!
 //! | Option | Range | Default | Commands |
 //! |---|---|---|---|

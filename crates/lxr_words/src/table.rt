@@ -99,7 +99,8 @@ impl NumberOption {
     // The option's number, where it is given.
     pub(crate) fn number(self, matches: &ArgMatches<'_>) -> Result<Option<u64>, WordError>
         ensures value { let text = first_value (found_of matches.now) self.name.now in
-            ReadsIfFine (is_fine (self.least, self.greatest) text) (option_map value_of text) result }
+            ReadsIfFine (is_fine (self.least, self.greatest) text)
+            (option_map value_of text) result }
         ensures within { IfOk result (λ o. IfSome o (λ n. n ≤ self.greatest)) }
     {
         let Some(text) = matches.get_str(self.name) else {
@@ -115,7 +116,8 @@ impl NumberOption {
     pub(crate) fn number_or(self, matches: &ArgMatches<'_>, default: u64) -> Result<u64, WordError>
         requires { default ≤ self.greatest }
         ensures value { let text = first_value (found_of matches.now) self.name.now in
-            ReadsIfFine (is_fine (self.least, self.greatest) text) (number_or default text) result }
+            ReadsIfFine (is_fine (self.least, self.greatest) text)
+            (number_or default text) result }
         ensures within { IfOk result (λ n. n ≤ self.greatest) }
     {
         Ok(self.number(matches)?.unwrap_or(default))

@@ -1,3 +1,4 @@
+-- Each argument that is added is one rule more of the command, so the eight make the common table.
 use Rattle.std.proofs.Common.{ap, ap₂, ◌≡◌, ◌∙◌, codes, [], true}
 use Rattle.std.proofs.lemmas.Result.{IfOk-weaker}
 use Rattle.clap.specs.Simple.{App, app_of, app_of_fields, with_rule}

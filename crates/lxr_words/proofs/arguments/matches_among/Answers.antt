@@ -1,3 +1,4 @@
+-- What `clap` takes holds what the words say, and what it refuses is refused.
 use Rattle.std.proofs.Common.{◌≡◌, ◌∙◌, ap, sym, subst, map, List, inl, inr, Err, true}
 use Rattle.std.specs.Borrow.{Bor}
 use Rattle.clap.specs.Faults.{fault_of, is_simple_and_free}

@@ -1,3 +1,4 @@
+-- A text of digits alone is read as `parse` reads it; any other text is no number.
 use Rattle.std.proofs.Common.{◌≡◌, ◌∙◌, ◌^◌, ◌<◌, ◌&&◌, OkIff, length, sym, ap, ℕ, [], ◌∷◌, cond, true, false, Some, None, nat_lt, Bool, Result, refl, ltb-true, lt-ltb}
 use Rattle.std.specs.Char.{is_ascii_digit}
 use Rattle.std.specs.List.{list_all}

@@ -1,3 +1,4 @@
+-- The two readings are equal, whatever stands before.
 use Rattle.lxr_words.proofs.Alike.{same_reading}
 use Rattle.lxr_words.proofs.laws.reads_spellings_alike.Goals as goal
 

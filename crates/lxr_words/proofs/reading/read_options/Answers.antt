@@ -1,3 +1,4 @@
+-- The options are accepted just where the texts that were found are fine, and `--` is never accepted.
 use Rattle.std.proofs.Common.{◌∙◌, sym, map}
 use Rattle.std.specs.Borrow.{Bor}
 use Rattle.clap.specs.Matches.{found_of}
