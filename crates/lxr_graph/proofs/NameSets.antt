@@ -146,6 +146,14 @@ in_without ns out q h k = has-without ns out q ∙ and_both (has ns q) (has out 
 
 -- ---- order
 
+pub in_order-none : AreInOrder []
+unfolding IsStrictlySortedBy
+in_order-none = tt
+
+pub in_order-one : (n : Name) → AreInOrder (n ∷ [])
+unfolding IsStrictlySortedBy
+in_order-one n = (tt, tt)
+
 all_insert : (P : Name → Type 0) (n : Name) (ms : List Name) → P n → AllByRecursion P ms → AllByRecursion P (insert_name n ms)
 all_insert P n [] p a = (p, tt)
 all_insert P n (m ∷ ms) p a =

@@ -10,3 +10,5 @@ pub mod Legal
 pub mod Belongs
 pub mod Laws
 pub mod HistoryLaws
+pub mod OnceLaws
+pub mod ReportLaws
