@@ -6,6 +6,3 @@ pub mod CountLemmas
 pub mod DrainLemmas
 pub mod DecideLemmas
 pub mod CollectLemmas
-pub mod ReportLemmas
-pub mod TraceLemmas
-pub mod OnceLemmas

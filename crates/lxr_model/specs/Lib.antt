@@ -10,5 +10,3 @@ pub mod Legal
 pub mod Belongs
 pub mod Laws
 pub mod HistoryLaws
-pub mod OnceLaws
-pub mod ReportLaws

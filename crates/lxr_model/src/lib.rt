@@ -10,8 +10,6 @@
 
 mod history_laws;
 mod laws;
-mod once_laws;
-mod report_laws;
 
 pub use history_laws::{
     collecting_keeps_the_reachable, counts_are_exact, draining_leaves_no_zero,
@@ -20,9 +18,4 @@ pub use history_laws::{
 pub use laws::{
     dead_are_unreachable, dead_is_least, promoted_is_least, reachable_is_least, step_keeps_objects,
     step_reaches_new_name, unreachable_stays,
-};
-pub use once_laws::{dead_are_not_swept, promoted_once, reclaimed_once};
-pub use report_laws::{
-    history_is_determined, moments_are_in_order, report_is_determined, reports_are_in_order,
-    running_traces_are_young, traces_end_in_time,
 };

@@ -1,5 +1,5 @@
 //! Laws of legal histories: a name is promoted once, reclaimed once, and not promoted after it was reclaimed.
-ghost use Rattle.lxr_model.specs.OnceLaws.{DeadAreNotSwept, PromotedOnce, ReclaimedOnce};
+ghost use Rattle.lxr_history_laws.specs.OnceLaws.{DeadAreNotSwept, PromotedOnce, ReclaimedOnce};
 
 /// What a pause reclaims no pause reclaimed before.
 pub fn reclaimed_once()

@@ -1,5 +1,5 @@
 //! Laws of reports: their lists are in order, the moment and the kind determine them, and traces end in time.
-ghost use Rattle.lxr_model.specs.ReportLaws.{HistoryIsDetermined, MomentsAreInOrder, ReportIsDetermined, ReportsAreInOrder, RunningTracesAreYoung, TracesEndInTime};
+ghost use Rattle.lxr_history_laws.specs.ReportLaws.{HistoryIsDetermined, MomentsAreInOrder, ReportIsDetermined, ReportsAreInOrder, RunningTracesAreYoung, TracesEndInTime};
 
 /// Each list of names of a report is in order, each name once.
 pub fn reports_are_in_order()

@@ -16,7 +16,7 @@ use Rattle.lxr_model.specs.Moments.{Trace, Moment, moment, made_after, left_by, 
 use Rattle.lxr_model.specs.Reports.{PauseParts, IsReport, IsReportWith, IsSwept, IsSweptAtEnd, AreDrained, AreCounts, is_draining, kept_names}
 use Rattle.lxr_model.specs.Kinds.{MayStand, IsRunning, NeedsNoTrace}
 use Rattle.lxr_model.specs.Legal.{IsLegalSoFar}
-use Rattle.lxr_model.specs.ReportLaws.{ReportsAreInOrder, MomentsAreInOrder, ReportIsDetermined, HistoryIsDetermined, RunningTracesAreYoung, TracesEndInTime}
+use Rattle.lxr_history_laws.specs.ReportLaws.{ReportsAreInOrder, MomentsAreInOrder, ReportIsDetermined, HistoryIsDetermined, RunningTracesAreYoung, TracesEndInTime}
 
 -- ---- order
 

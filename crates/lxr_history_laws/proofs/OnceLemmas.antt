@@ -13,11 +13,11 @@ use Rattle.lxr_model.specs.Terms.{Terms}
 use Rattle.lxr_model.specs.Moments.{Trace, Moment, moment, after_pause}
 use Rattle.lxr_model.specs.Reports.{PauseParts, IsReportWith, IsSwept, IsSweptAtEnd, AreDrained, kept_names}
 use Rattle.lxr_model.specs.Legal.{IsLegalSoFar}
-use Rattle.lxr_model.specs.OnceLaws.{reclaimed_by, names_reclaimed, names_promoted, ReclaimedOnce, DeadAreNotSwept, PromotedOnce}
+use Rattle.lxr_history_laws.specs.OnceLaws.{reclaimed_by, names_reclaimed, names_promoted, ReclaimedOnce, DeadAreNotSwept, PromotedOnce}
 use Rattle.lxr_model.proofs.ReachableLemmas.{dead_parts, promoted_made}
 use Rattle.lxr_model.proofs.HistoryLemmas.{GoodAt, good_history}
 use Rattle.lxr_model.proofs.DrainLemmas.{not_first, kept_all, left_parts}
-use Rattle.lxr_model.proofs.TraceLemmas.{RunningGarbage, running_garbage, garbage_not_first, garbage_not_second}
+use Rattle.lxr_history_laws.proofs.TraceLemmas.{RunningGarbage, running_garbage, garbage_not_first, garbage_not_second}
 
 has-append : (ns ms : List Name) (q : Name) → IsTrue (has (ns ++ ms) q) → IsTrue (has ns q) ⊎ IsTrue (has ms q)
 has-append [] ms q h = inr h
