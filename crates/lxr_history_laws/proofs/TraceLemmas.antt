@@ -19,54 +19,52 @@ use Rattle.lxr_model.specs.Terms.{Terms}
 use Rattle.lxr_model.specs.Moments.{Trace, Moment, moment, after_pause, trace_after, unreclaimed_after, stuck_after}
 use Rattle.lxr_model.specs.Reports.{PauseParts, IsReportWith, AreDrained, IsSwept, is_draining, kept_names}
 use Rattle.lxr_model.specs.Legal.{IsLegalSoFar, Replies}
+use Rattle.lxr_history_laws.specs.UnreclaimedLaws.{IsGarbage, GarbageStays, UnstuckGarbageIsReferredTo}
 use Rattle.lxr_model.proofs.ObjectLemmas.{step_facts}
 use Rattle.lxr_model.proofs.HistoryLemmas.{TraceGood, RunningGood, GoodAt, good_history, call_cases}
+use Rattle.lxr_model.proofs.DecideLemmas.{find_referrer}
 use Rattle.lxr_model.proofs.DrainLemmas.{nothing_dead, still_stuck}
-
--- what was unreclaimed and unreachable when a trace began
-abbrev pub Garbage : Trace → Name → Type 0
-Garbage trace n = IsTrue (has trace.unreclaimed n) × ¬ Reachable trace.state n
 
 -- nothing unstuck was dead when it began, and garbage that was stuck there still is
 pub record Undead (trace : Trace) (stuck : List Name) : Type 0 where
   pub before : List Name
   pub none : (o : Name) → Dead trace.state trace.unreclaimed before o → ⊥
-  pub stays : (n : Name) → Garbage trace n → IsTrue (has before n) → IsTrue (has stuck n)
+  pub stays : (n : Name) → IsGarbage trace n → IsTrue (has before n) → IsTrue (has stuck n)
 
 -- garbage has the objects in this state that it had when the trace began
 abbrev pub SameObjects : Trace → State → Type 0
-SameObjects trace s = (n : Name) → Garbage trace n → object_at s.graph n ≡ object_at trace.state.graph n
+SameObjects trace s = (n : Name) → IsGarbage trace n → object_at s.graph n ≡ object_at trace.state.graph n
 
-pub record GarbageStays (trace : Trace) (m : Moment) : Type 0 where
-  pub kept : (n : Name) → Garbage trace n → IsTrue (has m.unreclaimed n)
+pub record StaysUnreclaimed (trace : Trace) (m : Moment) : Type 0 where
+  pub kept : (n : Name) → IsGarbage trace n → IsTrue (has m.unreclaimed n)
   pub last : SameObjects trace m.last
   pub now : SameObjects trace m.state
   pub undead : Undead trace m.stuck
 
 abbrev pub RunningGarbage : Option Trace → Moment → Type 0
 RunningGarbage None m = Unit {0}
-RunningGarbage (Some trace) m = GarbageStays trace m
+RunningGarbage (Some trace) m = StaysUnreclaimed trace m
 
 -- garbage that is dead in a later state, among names that have all garbage, was dead when the trace began
-was_dead : (trace : Trace) (s : State) (us stuck before : List Name) → ((n : Name) → Garbage trace n → IsTrue (has us n)) → SameObjects trace s
-    → ((n : Name) → Garbage trace n → IsTrue (has before n) → IsTrue (has stuck n))
-    → (o : Name) → Garbage trace o → Dead s us stuck o → Dead trace.state trace.unreclaimed before o
+was_dead : (trace : Trace) (s : State) (us stuck before : List Name) → ((n : Name) → IsGarbage trace n → IsTrue (has us n)) → SameObjects trace s
+    → ((n : Name) → IsGarbage trace n → IsTrue (has before n) → IsTrue (has stuck n))
+    → (o : Name) → IsGarbage trace o → Dead s us stuck o → Dead trace.state trace.unreclaimed before o
 was_dead trace s us stuck before kept same stays o g (dead member unstuck unheld each) =
     dead g.0
     (not_true (has before o) (λ b. not_both (has stuck o) (stays o g b) unstuck))
     (λ h. g.1 (held h))
     (λ u k f.
-    let gu : Garbage trace u = (k, λ r. g.1 (referred r f)) in
+    let gu : IsGarbage trace u = (k, λ r. g.1 (referred r f)) in
     was_dead trace s us stuck before kept same stays u gu (each u (kept u gu) (f.0, ap (λ x. slice_get (refs_of x) f.0) (same u gu) ∙ f.1)))
 
-pub garbage_undead : (trace : Trace) (s : State) (us stuck : List Name) → ((n : Name) → Garbage trace n → IsTrue (has us n)) → SameObjects trace s → Undead trace stuck
-    → (o : Name) → Garbage trace o → Dead s us stuck o → ⊥
+pub garbage_undead : (trace : Trace) (s : State) (us stuck : List Name) → ((n : Name) → IsGarbage trace n → IsTrue (has us n)) → SameObjects trace s → Undead trace stuck
+    → (o : Name) → IsGarbage trace o → Dead s us stuck o → ⊥
 garbage_undead trace s us stuck kept same undead o g d = undead.none o (was_dead trace s us stuck undead.before kept same undead.stays o g d)
 
 -- ---- a call
 
 -- garbage isn't reachable later, since it is no younger than the trace
-still_garbage : (trace : Trace) (s : State) → TraceGood trace s → (n : Name) → Garbage trace n → ¬ Reachable s n
+pub still_garbage : (trace : Trace) (s : State) → TraceGood trace s → (n : Name) → IsGarbage trace n → ¬ Reachable s n
 still_garbage trace s good n g r = elim (good.reach n r) [ inl q ↦ g.1 q | inr q ↦ q (good.kept n g.0) ]
 
 same_after : (trace : Trace) (s : State) (t : ℕ) (o : Op) → t < length s.graph → TraceGood trace s → SameObjects trace s → SameObjects trace (step s t o).0
@@ -93,11 +91,11 @@ running_call terms h t o r fit c good (Some trace) is stays =
 -- ---- a pause
 
 module _ (threads : ℕ) (m : Moment) (report : PauseReport) (parts : PauseParts) (is : IsReportWith m parts report) (good : GoodAt threads m)
-    (trace : Trace) (stays : GarbageStays trace m) where
-  pub garbage_not_first : (n : Name) → Garbage trace n → IsTrue (has parts.first_dead n) → ⊥
+    (trace : Trace) (stays : StaysUnreclaimed trace m) where
+  pub garbage_not_first : (n : Name) → IsGarbage trace n → IsTrue (has parts.first_dead n) → ⊥
   garbage_not_first n g d = garbage_undead trace m.last m.unreclaimed m.stuck stays.kept stays.last stays.undead n g ((is.first_dead.members n).0 d)
 
-  garbage_kept : (n : Name) → Garbage trace n → IsTrue (has (kept_names m parts report) n)
+  garbage_kept : (n : Name) → IsGarbage trace n → IsTrue (has (kept_names m parts report) n)
   garbage_kept n g = union_right report.promoted (without m.unreclaimed parts.first_dead) n (in_without m.unreclaimed parts.first_dead n (stays.kept n g) (garbage_not_first n g))
 
   undead_now : Undead trace (union report.stuck m.stuck)
@@ -107,19 +105,19 @@ module _ (threads : ℕ) (m : Moment) (report : PauseReport) (parts : PauseParts
     stays = λ n g b. union_right report.stuck m.stuck n (stays.undead.stays n g b);
   }
 
-  pub garbage_not_second : (b : Bool) → AreDrained m parts report b → (n : Name) → Garbage trace n → IsTrue (has parts.second_dead n) → ⊥
+  pub garbage_not_second : (b : Bool) → AreDrained m parts report b → (n : Name) → IsGarbage trace n → IsTrue (has parts.second_dead n) → ⊥
   garbage_not_second false drained n g d = let k = rw drained.0 at d in cc
   garbage_not_second true drained n g d =
       garbage_undead trace m.state (kept_names m parts report) (union report.stuck m.stuck) garbage_kept stays.now undead_now n g ((drained.0.members n).0 d)
 
   -- a plain pause leaves all garbage
-  plain_alive : AreDrained m parts report false → (n : Name) → Garbage trace n → has report.dead n ≡ false
+  plain_alive : AreDrained m parts report false → (n : Name) → IsGarbage trace n → has report.dead n ≡ false
   plain_alive drained n g = not_true (has report.dead n) (λ d. elim ((is.dead.members n).0 d) [
     | inl q ↦ garbage_not_first n g q
     | inr q ↦ elim q [ inl p ↦ garbage_not_second false drained n g p | inr p ↦ (let k = rw drained.1 at p in cc) ]
   ])
 
-  plain_stays : AreDrained m parts report false → report.swept ≡ [] → GarbageStays trace (after_pause m report)
+  plain_stays : AreDrained m parts report false → report.swept ≡ [] → StaysUnreclaimed trace (after_pause m report)
   plain_stays drained unswept =
       let none : (n : Name) → has report.swept n ≡ false = λ n. ap (λ ns. has ns n) unswept in
       record {
@@ -138,7 +136,7 @@ module _ (threads : ℕ) (m : Moment) (report : PauseReport) (parts : PauseParts
       }
 
 begun : (threads : ℕ) (m : Moment) (report : PauseReport) (parts : PauseParts) → IsReportWith m parts report → GoodAt threads m → IsTrue (is_draining report.kind)
-    → GarbageStays (record { began = report.number; state = m.state; unreclaimed = unreclaimed_after m report }) (after_pause m report)
+    → StaysUnreclaimed (record { began = report.number; state = m.state; unreclaimed = unreclaimed_after m report }) (after_pause m report)
 begun threads m report parts is good drains = record {
   kept = λ n g. g.0;
   last = λ n g. refl;
@@ -168,3 +166,28 @@ running_garbage terms (Call t o r ∷ h) legal =
     running_call terms h t o r (omega arith) legal.2.reply good (moment terms.threads h).trace refl (running_garbage terms h legal.0)
 running_garbage terms (Pause report ∷ h) legal =
     running_pause terms.threads (moment terms.threads h) report legal.2.reports.0 legal.2.reports.1 (good_history terms h legal.0) (running_garbage terms h legal.0) report.kind refl
+
+-- ---- the laws
+
+running_at : (terms : Terms) (h : List Item) (trace : Trace) → IsLegalSoFar terms h → (moment terms.threads h).trace ≡ Some trace → StaysUnreclaimed trace (moment terms.threads h)
+running_at terms h trace legal is = subst (λ x. RunningGarbage x (moment terms.threads h)) is (running_garbage terms h legal)
+
+pub good_at : (terms : Terms) (h : List Item) (trace : Trace) → IsLegalSoFar terms h → (moment terms.threads h).trace ≡ Some trace → TraceGood trace (moment terms.threads h).state
+good_at terms h trace legal is = subst (λ x. RunningGood x (moment terms.threads h).state) is (good_history terms h legal).running
+
+pub garbage_stays : GarbageStays
+garbage_stays terms h trace legal is n g =
+    let stays = running_at terms h trace legal is in
+    (stays.kept n g, still_garbage trace (moment terms.threads h).state (good_at terms h trace legal is) n g, stays.now n g)
+
+-- a search among what was unreclaimed finds who refers to it, since it isn't dead
+pub unstuck_referred : UnstuckGarbageIsReferredTo
+unstuck_referred terms h trace legal is n g unstuck =
+    let undead = (running_at terms h trace legal is).undead in
+    elim (find_referrer trace.state.graph n trace.unreclaimed) [
+      | inl r ↦ (r.0, (r.1, λ reach. g.1 (referred reach r.2)), r.2)
+      | inr none ↦ absurd (undead.none n (dead g.0
+          (not_true (has undead.before n) (λ b. not_both (has (moment terms.threads h).stuck n) (undead.stays n g b) unstuck))
+          (λ k. g.1 (held k))
+          (λ u k f. absurd (none u k f))))
+    ]

@@ -18,7 +18,7 @@ use Rattle.lxr_model.proofs.HistoryLemmas.{GoodAt, good_history, reachable_kept,
 use Rattle.lxr_model.proofs.DrainLemmas.{left_remain}
 use Rattle.lxr_model.proofs.DecideLemmas.{decide_reachable}
 
-collected_reachable : (threads : ℕ) (m : Moment) (report : PauseReport) (parts : PauseParts) → IsReportWith m parts report → GoodAt threads m → report.kind ≡ kind.Collect
+pub collected_reachable : (threads : ℕ) (m : Moment) (report : PauseReport) (parts : PauseParts) → IsReportWith m parts report → GoodAt threads m → report.kind ≡ kind.Collect
     → (n : Name) → IsTrue (has (unreclaimed_after m report) n) → Reachable m.state n
 collected_reachable threads m report parts is good collects n k =
     let swept : IsSwept m (without (kept_names m parts report) parts.second_dead) report.swept kind.Collect =

@@ -45,6 +45,14 @@ from_referrer g o (x ∷ us) u h f = elim (or_cases (same_name u x) (has us u) h
   | inr k ↦ or_right (refers_test g o x) (list_any (refers_test g o) us) (from_referrer g o us u k f)
 ]
 
+-- a member of U that refers to o, or none does
+pub find_referrer : (g : Graph) (o : Name) (us : List Name) → ((u : Name) × IsTrue (has us u) × Refers g u o) ⊎ ((u : Name) → IsTrue (has us u) → Refers g u o → ⊥)
+find_referrer g o us = elim (list_any (refers_test g o) us) as (λ b. list_any (refers_test g o) us ≡ b
+    → ((u : Name) × IsTrue (has us u) × Refers g u o) ⊎ ((u : Name) → IsTrue (has us u) → Refers g u o → ⊥)) [
+      | true ↦ λ e. inl (referrer g o us e)
+      | false ↦ λ e. inr (λ u h f. not_both (list_any (refers_test g o) us) (from_referrer g o us u h f) e)
+    ] refl
+
 -- ---- one more name
 
 -- the world, a name in a register, or one that a name taken before refers to

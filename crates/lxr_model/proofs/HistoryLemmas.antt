@@ -90,7 +90,7 @@ pub made_cases : (ms : List Name) (r : Reply) (n : Name) → IsTrue (has (made_a
 made_cases ms (reply.New q) n h = elim (insert_cases q ms n h) [ inl e ↦ inr (ap reply.New (sym e)) | inr k ↦ inl k ]
 made_cases ms _ n h = inl h
 
-made_old : (ms : List Name) (r : Reply) (n : Name) → IsTrue (has ms n) → IsTrue (has (made_after ms r) n)
+pub made_old : (ms : List Name) (r : Reply) (n : Name) → IsTrue (has ms n) → IsTrue (has (made_after ms r) n)
 made_old ms (reply.New q) n h = insert_old q ms n h
 made_old ms _ n h = h
 

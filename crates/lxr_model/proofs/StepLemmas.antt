@@ -12,7 +12,7 @@ use Rattle.lxr_graph.specs.Step.{fresh, stored, loaded, load_from, store_to, put
 use Rattle.lxr_graph.proofs.RowLemmas.{object_at-with_new, object_at-with_reference, object_at-with_value, next_none}
 use Rattle.lxr_graph.proofs.NameSets.{same_names}
 use Rattle.lxr_model.specs.Reachable.{Reachable, the_world, held, referred, Refers, Holds}
-use Rattle.lxr_model.specs.Laws.{StepReachesNewName}
+use Rattle.lxr_model.specs.Laws.{StepReachesNewName, StepStoresTheReachable}
 
 -- ---- what lists have
 
@@ -104,7 +104,11 @@ keeps_load : (s : State) (t dest base i : ℕ) (b : Option Name) → register_at
 keeps_load s t dest base i None e n r = r
 keeps_load s t dest base i (Some b) e n r = keeps_loaded s t dest i b (held (register_held s t base b e)) _ refl n r
 
-keeps_graph : (s : State) (g' : Graph) → ((m n : Name) → Refers g' m n → Refers s.graph m n ⊎ Reachable s n) → Keeps s (record s { graph = g' })
+-- the references of the second state are those of the first, or to what is reachable there
+abbrev RefersNoMore : State → State → Type 0
+RefersNoMore s s' = (m n : Name) → Refers s'.graph m n → Refers s.graph m n ⊎ Reachable s n
+
+keeps_graph : (s : State) (g' : Graph) → RefersNoMore s (record s { graph = g' }) → Keeps s (record s { graph = g' })
 keeps_graph s g' references = reach_same s (record s { graph = g' }) (λ n h. held h) references
 
 refers_changed : (g : Graph) (b : Name) (i : ℕ) (v : Option Name) (o : Object) → object_at g b ≡ Some o
@@ -120,19 +124,29 @@ refers_changed g b i v o is m n (j, e) =
       | false ↦ λ other k. inl (j, k)
     ] refl at
 
-keeps_stored : (s : State) (i : ℕ) (b : Name) (v : Option Name) → ((m : Name) → v ≡ Some m → Reachable s m) → (at : Option Object) → object_at s.graph b ≡ at
-    → (found : Option (Option Name)) → slice_get (refs_of at) i ≡ found → Keeps s (stored s b i v found).0
-keeps_stored s i b v from at is None e n r = r
-keeps_stored s i b v from None is (Some old) e n r = absurd (cc)
-keeps_stored s i b v from (Some o) is (Some old) e n r =
-    keeps_graph s (with_reference s.graph b i v (Some o))
-    (λ m n f. elim (refers_changed s.graph b i v o is m n f) [ inl g ↦ inl g | inr q ↦ inr (from n q) ]) n
-    (subst (λ x. Reachable (record s { graph = with_reference s.graph b i v x }) n) is r)
+refers_stored : (s : State) (i : ℕ) (b : Name) (v : Option Name) → ((m : Name) → v ≡ Some m → Reachable s m) → (at : Option Object) → object_at s.graph b ≡ at
+    → (old : Option Name) → slice_get (refs_of at) i ≡ Some old → RefersNoMore s (record s { graph = with_reference s.graph b i v at })
+refers_stored s i b v from None is old e m n f = absurd (cc)
+refers_stored s i b v from (Some o) is old e m n f = elim (refers_changed s.graph b i v o is m n f) [ inl g ↦ inl g | inr q ↦ inr (from n q) ]
+
+stored_refers : (s : State) (i : ℕ) (b : Name) (v : Option Name) → ((m : Name) → v ≡ Some m → Reachable s m)
+    → (found : Option (Option Name)) → slice_get (refs_of (object_at s.graph b)) i ≡ found → RefersNoMore s (stored s b i v found).0
+stored_refers s i b v from None e m n f = inl f
+stored_refers s i b v from (Some old) e m n f = refers_stored s i b v from (object_at s.graph b) refl old e m n f
+
+keeps_stored : (s : State) (i : ℕ) (b : Name) (v : Option Name) → ((m : Name) → v ≡ Some m → Reachable s m)
+    → (found : Option (Option Name)) → slice_get (refs_of (object_at s.graph b)) i ≡ found → Keeps s (stored s b i v found).0
+keeps_stored s i b v from None e n r = r
+keeps_stored s i b v from (Some old) e n r = keeps_graph s (with_reference s.graph b i v (object_at s.graph b)) (stored_refers s i b v from (Some old) e) n r
+
+store_refers : (s : State) (t i source : ℕ) (b : Option Name) → RefersNoMore s (store_to s i (register_at s t source) b).0
+store_refers s t i source None m n f = inl f
+store_refers s t i source (Some b) m n f = stored_refers s i b (register_at s t source) (λ m q. held (register_held s t source m q)) _ refl m n f
 
 keeps_store : (s : State) (t i source : ℕ) (b : Option Name) → Keeps s (store_to s i (register_at s t source) b).0
 keeps_store s t i source None n r = r
 keeps_store s t i source (Some b) n r =
-    keeps_stored s i b (register_at s t source) (λ m q. held (register_held s t source m q)) _ refl _ refl n r
+    keeps_stored s i b (register_at s t source) (λ m q. held (register_held s t source m q)) _ refl n r
 
 refers_value : (g : Graph) (b : Name) (i v : ℕ) (o : Object) → object_at g b ≡ Some o
     → (m n : Name) → Refers (with_value g b i v (Some o)) m n → Refers g m n
@@ -144,17 +158,26 @@ refers_value g b i v o is m n (j, e) =
       | false ↦ λ other k. (j, k)
     ] refl at
 
-keeps_put_at : (s : State) (i v : ℕ) (b : Name) → (at : Option Object) → object_at s.graph b ≡ at
-    → (found : Option ℕ) → slice_get (values_of at) i ≡ found → Keeps s (put_at s b i v found).0
-keeps_put_at s i v b at is None e n r = r
-keeps_put_at s i v b None is (Some old) e n r = absurd (cc)
-keeps_put_at s i v b (Some o) is (Some old) e n r =
-    keeps_graph s (with_value s.graph b i v (Some o)) (λ m n f. inl (refers_value s.graph b i v o is m n f)) n
-    (subst (λ x. Reachable (record s { graph = with_value s.graph b i v x }) n) is r)
+refers_put : (s : State) (i v : ℕ) (b : Name) → (at : Option Object) → object_at s.graph b ≡ at → (old : ℕ) → slice_get (values_of at) i ≡ Some old
+    → RefersNoMore s (record s { graph = with_value s.graph b i v at })
+refers_put s i v b None is old e m n f = absurd (cc)
+refers_put s i v b (Some o) is old e m n f = inl (refers_value s.graph b i v o is m n f)
+
+put_at_refers : (s : State) (i v : ℕ) (b : Name) → (found : Option ℕ) → slice_get (values_of (object_at s.graph b)) i ≡ found → RefersNoMore s (put_at s b i v found).0
+put_at_refers s i v b None e m n f = inl f
+put_at_refers s i v b (Some old) e m n f = refers_put s i v b (object_at s.graph b) refl old e m n f
+
+keeps_put_at : (s : State) (i v : ℕ) (b : Name) → (found : Option ℕ) → slice_get (values_of (object_at s.graph b)) i ≡ found → Keeps s (put_at s b i v found).0
+keeps_put_at s i v b None e n r = r
+keeps_put_at s i v b (Some old) e n r = keeps_graph s (with_value s.graph b i v (object_at s.graph b)) (put_at_refers s i v b (Some old) e) n r
+
+put_refers : (s : State) (i v : ℕ) (b : Option Name) → RefersNoMore s (put_to s i v b).0
+put_refers s i v None m n f = inl f
+put_refers s i v (Some b) m n f = put_at_refers s i v b _ refl m n f
 
 keeps_put : (s : State) (i v : ℕ) (b : Option Name) → Keeps s (put_to s i v b).0
 keeps_put s i v None n r = r
-keeps_put s i v (Some b) n r = keeps_put_at s i v b _ refl _ refl n r
+keeps_put s i v (Some b) n r = keeps_put_at s i v b _ refl n r
 
 keeps_get : (s : State) (i : ℕ) (b : Option Name) → Keeps s (get_from s i b).0
 keeps_get s i None n r = r
@@ -200,3 +223,30 @@ step_reaches s t (op.Same left right) h n r = inl r
 step_reaches s t op.Pause h n r = inl r
 step_reaches s t op.Collect h n r = inl r
 step_reaches s t op.End h n r = inl (reach_same s (record s { registers = cleared s.registers t }) (λ n g. held (held_cleared s.registers t n g)) (λ m n f. inl f) n r)
+
+-- ---- references
+
+loaded_refers : (s : State) (t dest : ℕ) (found : Option (Option Name)) → RefersNoMore s (loaded s t dest found).0
+loaded_refers s t dest None m n f = inl f
+loaded_refers s t dest (Some v) m n f = inl f
+
+load_refers : (s : State) (t dest i : ℕ) (b : Option Name) → RefersNoMore s (load_from s t dest i b).0
+load_refers s t dest i None m n f = inl f
+load_refers s t dest i (Some b) m n f = loaded_refers s t dest _ m n f
+
+get_refers : (s : State) (i : ℕ) (b : Option Name) → RefersNoMore s (get_from s i b).0
+get_refers s i None m n f = inl f
+get_refers s i (Some b) m n f = inl f
+
+pub step_refers : StepStoresTheReachable
+step_refers s t (op.New dest shape) h m n f = inl (refers_new s.graph t shape h m n f)
+step_refers s t (op.Load dest base index) h m n f = load_refers s t dest index (register_at s t base) m n f
+step_refers s t (op.Store base index source) h m n f = store_refers s t index source (register_at s t base) m n f
+step_refers s t (op.Put base index value) h m n f = put_refers s index value (register_at s t base) m n f
+step_refers s t (op.Get base index) h m n f = get_refers s index (register_at s t base) m n f
+step_refers s t (op.Move dest source) h m n f = inl f
+step_refers s t (op.Nil dest) h m n f = inl f
+step_refers s t (op.Same left right) h m n f = inl f
+step_refers s t op.Pause h m n f = inl f
+step_refers s t op.Collect h m n f = inl f
+step_refers s t op.End h m n f = inl f

@@ -6,7 +6,7 @@ use Rattle.lxr_graph.specs.declared.Reply.TheVariants as reply
 use Rattle.lxr_graph.specs.Names.{has}
 use Rattle.lxr_graph.specs.State.{State, HasObject, object_at, world_name}
 use Rattle.lxr_graph.specs.Step.{step}
-use Rattle.lxr_model.specs.Reachable.{Reachable, IsClosed}
+use Rattle.lxr_model.specs.Reachable.{Reachable, Refers, IsClosed}
 use Rattle.lxr_model.specs.Dead.{Dead, IsClosedUnderDeath, Promoted, IsClosedUnderPromotion}
 
 -- ---- least sets
@@ -35,6 +35,10 @@ DeadAreUnreachable = (s : State) (us stuck : List Name) → IsClosed s (has us) 
 -- what is reachable after a step was so before it, or is the name that it made
 abbrev pub StepReachesNewName : Type 0
 StepReachesNewName = (s : State) (t : ℕ) (o : Op) → t < length s.graph → (n : Name) → Reachable (step s t o).0 n → Reachable s n ⊎ ((step s t o).1 ≡ reply.New n)
+
+-- what an object refers to after a step it referred to before it, or it was reachable
+abbrev pub StepStoresTheReachable : Type 0
+StepStoresTheReachable = (s : State) (t : ℕ) (o : Op) → t < length s.graph → (m n : Name) → Refers (step s t o).0.graph m n → Refers s.graph m n ⊎ Reachable s n
 
 -- an object that isn't reachable stays so in a step, and keeps its references and data
 abbrev pub UnreachableStays : Type 0

@@ -17,5 +17,5 @@ pub use history_laws::{
 };
 pub use laws::{
     dead_are_unreachable, dead_is_least, promoted_is_least, reachable_is_least, step_keeps_objects,
-    step_reaches_new_name, unreachable_stays,
+    step_reaches_new_name, step_stores_the_reachable, unreachable_stays,
 };
