@@ -4,7 +4,7 @@ use Rattle.lxr_graph.specs.declared.report.Kind.TheVariants as kind
 use Rattle.lxr_graph.specs.Names.{AreInOrder}
 use Rattle.lxr_graph.specs.History.{PauseReport, Item, Call, Pause}
 use Rattle.lxr_model.specs.Terms.{Terms}
-use Rattle.lxr_model.specs.Moments.{Trace, Moment, moment}
+use Rattle.lxr_model.specs.Moments.{Trace, Moment, moment, trace_at}
 use Rattle.lxr_model.specs.Reports.{IsReport}
 use Rattle.lxr_model.specs.Legal.{IsLegalSoFar}
 
@@ -50,7 +50,7 @@ HistoryIsDetermined = (terms : Terms) (g h : List Item) → IsLegalSoFar terms g
 
 -- a trace that runs after pause k, where it didn't end, began at k or before and fewer than `within` pauses ago
 abbrev pub RunningTracesAreYoung : Type 0
-RunningTracesAreYoung = (terms : Terms) (h : List Item) (trace : Trace) → 1 ≤ terms.within → IsLegalSoFar terms h → (moment terms.threads h).trace ≡ Some trace
+RunningTracesAreYoung = (terms : Terms) (h : List Item) (trace : Trace) → 1 ≤ terms.within → IsLegalSoFar terms h → trace_at terms h ≡ Some trace
     → (trace.began ≤ (moment terms.threads h).number) × ((moment terms.threads h).number < trace.began + terms.within)
 
 -- a pause that ends the trace that began at j comes after j, and at most `within` pauses later

@@ -7,7 +7,7 @@ use Rattle.lxr_graph.specs.State.{HasObject, object_at}
 use Rattle.lxr_graph.specs.History.{PauseReport, Item, Pause}
 use Rattle.lxr_model.specs.Reachable.{Refers, Reachable, IsClosed}
 use Rattle.lxr_model.specs.Terms.{Terms}
-use Rattle.lxr_model.specs.Moments.{Trace, moment, unreclaimed_after}
+use Rattle.lxr_model.specs.Moments.{Trace, moment, unreclaimed_after, state_at, unreclaimed_at, stuck_at, trace_at}
 use Rattle.lxr_model.specs.Reports.{PauseParts, IsReportWith, remaining_names}
 use Rattle.lxr_model.specs.Legal.{IsLegalSoFar}
 
@@ -22,16 +22,16 @@ UnreclaimedRemain = (terms : Terms) (h : List Item) (report : PauseReport) (part
 -- right after a pause the unreclaimed names have the world, what registers hold and what their objects refer to
 abbrev pub UnreclaimedAreClosed : Type 0
 UnreclaimedAreClosed = (terms : Terms) (h : List Item) (report : PauseReport) → IsLegalSoFar terms (Pause report ∷ h)
-    → IsClosed (moment terms.threads h).state (has (moment terms.threads (Pause report ∷ h)).unreclaimed)
+    → IsClosed (state_at terms h) (has (unreclaimed_at terms (Pause report ∷ h)))
 
 -- unreclaimed names have objects, and only unreclaimed names are stuck
 abbrev pub UnreclaimedHaveObjects : Type 0
-UnreclaimedHaveObjects = (terms : Terms) (h : List Item) → IsLegalSoFar terms h → (n : Name) → IsTrue (has (moment terms.threads h).unreclaimed n)
-    → HasObject (moment terms.threads h).state.graph n
+UnreclaimedHaveObjects = (terms : Terms) (h : List Item) → IsLegalSoFar terms h → (n : Name) → IsTrue (has (unreclaimed_at terms h) n)
+    → HasObject (state_at terms h).graph n
 
 abbrev pub StuckAreUnreclaimed : Type 0
-StuckAreUnreclaimed = (terms : Terms) (h : List Item) → IsLegalSoFar terms h → (n : Name) → IsTrue (has (moment terms.threads h).stuck n)
-    → IsTrue (has (moment terms.threads h).unreclaimed n)
+StuckAreUnreclaimed = (terms : Terms) (h : List Item) → IsLegalSoFar terms h → (n : Name) → IsTrue (has (stuck_at terms h) n)
+    → IsTrue (has (unreclaimed_at terms h) n)
 
 -- ---- while a trace runs
 
@@ -41,17 +41,17 @@ IsGarbage trace n = IsTrue (has trace.unreclaimed n) × ¬ Reachable trace.state
 
 -- it is unreclaimed as long as the trace runs, unreachable, and as it was
 abbrev pub GarbageStays : Type 0
-GarbageStays = (terms : Terms) (h : List Item) (trace : Trace) → IsLegalSoFar terms h → (moment terms.threads h).trace ≡ Some trace → (n : Name) → IsGarbage trace n
-    → IsTrue (has (moment terms.threads h).unreclaimed n)
-    × ¬ Reachable (moment terms.threads h).state n
-    × (object_at (moment terms.threads h).state.graph n ≡ object_at trace.state.graph n)
+GarbageStays = (terms : Terms) (h : List Item) (trace : Trace) → IsLegalSoFar terms h → trace_at terms h ≡ Some trace → (n : Name) → IsGarbage trace n
+    → IsTrue (has (unreclaimed_at terms h) n)
+    × ¬ Reachable (state_at terms h) n
+    × (object_at (state_at terms h).graph n ≡ object_at trace.state.graph n)
 
 -- no other unreclaimed object refers to it
 abbrev pub OnlyGarbageRefersToGarbage : Type 0
-OnlyGarbageRefersToGarbage = (terms : Terms) (h : List Item) (trace : Trace) → IsLegalSoFar terms h → (moment terms.threads h).trace ≡ Some trace → (u n : Name)
-    → IsTrue (has (moment terms.threads h).unreclaimed u) → Refers (moment terms.threads h).state.graph u n → IsGarbage trace n → IsGarbage trace u
+OnlyGarbageRefersToGarbage = (terms : Terms) (h : List Item) (trace : Trace) → IsLegalSoFar terms h → trace_at terms h ≡ Some trace → (u n : Name)
+    → IsTrue (has (unreclaimed_at terms h) u) → Refers (state_at terms h).graph u n → IsGarbage trace n → IsGarbage trace u
 
 -- where it isn't stuck, some garbage refers to it, perhaps its own object
 abbrev pub UnstuckGarbageIsReferredTo : Type 0
-UnstuckGarbageIsReferredTo = (terms : Terms) (h : List Item) (trace : Trace) → IsLegalSoFar terms h → (moment terms.threads h).trace ≡ Some trace → (n : Name)
-    → IsGarbage trace n → has (moment terms.threads h).stuck n ≡ false → (u : Name) × IsGarbage trace u × Refers trace.state.graph u n
+UnstuckGarbageIsReferredTo = (terms : Terms) (h : List Item) (trace : Trace) → IsLegalSoFar terms h → trace_at terms h ≡ Some trace → (n : Name)
+    → IsGarbage trace n → has (stuck_at terms h) n ≡ false → (u : Name) × IsGarbage trace u × Refers trace.state.graph u n

@@ -9,7 +9,7 @@ use Rattle.lxr_graph.specs.History.{PauseReport, Item, Pause}
 use Rattle.lxr_model.specs.Reachable.{Reachable}
 use Rattle.lxr_model.specs.References.{references}
 use Rattle.lxr_model.specs.Terms.{Terms, OnlyPlain}
-use Rattle.lxr_model.specs.Moments.{moment}
+use Rattle.lxr_model.specs.Moments.{state_at, unreclaimed_at, stuck_at}
 use Rattle.lxr_model.specs.Reports.{is_draining}
 use Rattle.lxr_model.specs.Legal.{IsLegalSoFar, IsLegal}
 use Rattle.lxr_model.specs.Belongs.{Script, Belongs}
@@ -19,31 +19,31 @@ use Rattle.lxr_model.specs.Belongs.{Script, Belongs}
 -- no name that a pause reclaims, dead or swept, is reachable there
 abbrev pub ReclaimedAreUnreachable : Type 0
 ReclaimedAreUnreachable = (terms : Terms) (h : List Item) (report : PauseReport) → IsLegalSoFar terms (Pause report ∷ h)
-    → (o : Name) → IsTrue (has report.dead o) ⊎ IsTrue (has report.swept o) → ¬ Reachable (moment terms.threads h).state o
+    → (o : Name) → IsTrue (has report.dead o) ⊎ IsTrue (has report.swept o) → ¬ Reachable (state_at terms h) o
 
 -- what is reachable at a pause is unreclaimed after it
 abbrev pub ReachableAreKept : Type 0
 ReachableAreKept = (terms : Terms) (h : List Item) (report : PauseReport) → IsLegalSoFar terms (Pause report ∷ h)
-    → (n : Name) → Reachable (moment terms.threads h).state n → IsTrue (has (moment terms.threads (Pause report ∷ h)).unreclaimed n)
+    → (n : Name) → Reachable (state_at terms h) n → IsTrue (has (unreclaimed_at terms (Pause report ∷ h)) n)
 
 -- the unreclaimed names after a collecting pause are exactly the reachable ones
 abbrev pub CollectingKeepsTheReachable : Type 0
 CollectingKeepsTheReachable = (terms : Terms) (h : List Item) (report : PauseReport) → IsLegalSoFar terms (Pause report ∷ h) → report.kind ≡ kind.Collect
-    → (n : Name) → IsTrue (has (moment terms.threads (Pause report ∷ h)).unreclaimed n) ↔ Reachable (moment terms.threads h).state n
+    → (n : Name) → IsTrue (has (unreclaimed_at terms (Pause report ∷ h)) n) ↔ Reachable (state_at terms h) n
 
 -- where traces are in force, the unreclaimed names at the end of a history that belongs to a script are exactly the
 -- reachable ones
 abbrev pub LastUnreclaimedAreReachable : Type 0
 LastUnreclaimedAreReachable = (terms : Terms) (script : Script) (h : List Item) → terms.kinds ≢ OnlyPlain → IsLegal terms h → Belongs terms script h
-    → (n : Name) → IsTrue (has (moment terms.threads h).unreclaimed n) ↔ Reachable (moment terms.threads h).state n
+    → (n : Name) → IsTrue (has (unreclaimed_at terms h) n) ↔ Reachable (state_at terms h) n
 
 -- ---- counts
 
 -- after a draining pause each unreclaimed name that isn't stuck has a reference
 abbrev pub DrainingLeavesNoZero : Type 0
 DrainingLeavesNoZero = (terms : Terms) (h : List Item) (report : PauseReport) → IsLegalSoFar terms (Pause report ∷ h) → IsTrue (is_draining report.kind)
-    → (o : Name) → IsTrue (has (moment terms.threads (Pause report ∷ h)).unreclaimed o) → has (moment terms.threads (Pause report ∷ h)).stuck o ≡ false
-    → references (moment terms.threads h).state (moment terms.threads (Pause report ∷ h)).unreclaimed o ≢ 0
+    → (o : Name) → IsTrue (has (unreclaimed_at terms (Pause report ∷ h)) o) → has (stuck_at terms (Pause report ∷ h)) o ≡ false
+    → references (state_at terms h) (unreclaimed_at terms (Pause report ∷ h)) o ≢ 0
 
 -- a count is none exactly where its name is stuck, and else the references to it counted afresh
 pub record IsExactCount (s : State) (us stuck : List Name) (c : Count) : Type 0 where
@@ -53,6 +53,6 @@ pub record IsExactCount (s : State) (us stuck : List Name) (c : Count) : Type 0 
 -- the counts of a draining pause are those of the unreclaimed names after it, in their order, and each is exact
 abbrev pub CountsAreExact : Type 0
 CountsAreExact = (terms : Terms) (h : List Item) (report : PauseReport) → IsLegalSoFar terms (Pause report ∷ h) → IsTrue (is_draining report.kind)
-    → (map (λ c. c.name) report.counts ≡ (moment terms.threads (Pause report ∷ h)).unreclaimed)
+    → (map (λ c. c.name) report.counts ≡ (unreclaimed_at terms (Pause report ∷ h)))
     × ((i : ℕ) (c : Count) → slice_get report.counts i ≡ Some c
-    → IsExactCount (moment terms.threads h).state (moment terms.threads (Pause report ∷ h)).unreclaimed (moment terms.threads (Pause report ∷ h)).stuck c)
+    → IsExactCount (state_at terms h) (unreclaimed_at terms (Pause report ∷ h)) (stuck_at terms (Pause report ∷ h)) c)
