@@ -2,13 +2,15 @@
 -- promotes only what was made since the pause before, whose objects are younger.
 use Rattle.std.proofs.Common.{◌≡◌, ℕ, inl, inr, ◌⊎◌, Bool, true, false, List, [], ◌∷◌, ◌++◌, IsTrue}
 use Rattle.std.specs.Prelude.{Option, Some, None}
+use Rattle.std.proofs.lemmas.Bool.{false_from_ne_true, or_cases, or_left, or_right}
+use Rattle.std.proofs.lemmas.List.Folds.{list_any-append}
 use Rattle.lxr_layout.specs.declared.Name.{Name}
 use Rattle.lxr_graph.specs.declared.report.Kind.{Kind}
 use Rattle.lxr_graph.specs.declared.report.Kind.TheVariants as kind
 use Rattle.lxr_graph.specs.Names.{same_name, has, without, union}
 use Rattle.lxr_graph.specs.State.{HasObject}
 use Rattle.lxr_graph.specs.History.{PauseReport, Item, Call, Pause}
-use Rattle.lxr_graph.proofs.NameSets.{not_both, not_true, or_cases, or_left, or_right, union_cases, union_left, union_right, without_parts}
+use Rattle.lxr_graph.proofs.NameSets.{not_both, union_cases, union_left, union_right, without_parts}
 use Rattle.lxr_model.specs.Terms.{Terms}
 use Rattle.lxr_model.specs.Moments.{Trace, Moment, moment, after_pause}
 use Rattle.lxr_model.specs.Reports.{PauseParts, IsReportWith, IsSwept, IsSweptAtEnd, AreDrained, kept_names}
@@ -20,11 +22,7 @@ use Rattle.lxr_model.proofs.DrainLemmas.{not_first, kept_all, left_parts}
 use Rattle.lxr_history_laws.proofs.TraceLemmas.{RunningGarbage, running_garbage, garbage_not_first, garbage_not_second}
 
 has-append : (ns ms : List Name) (q : Name) → IsTrue (has (ns ++ ms) q) → IsTrue (has ns q) ⊎ IsTrue (has ms q)
-has-append [] ms q h = inr h
-has-append (n ∷ ns) ms q h = elim (or_cases (same_name q n) (has (ns ++ ms) q) h) [
-  | inl e ↦ inl (or_left (same_name q n) (has ns q) e)
-  | inr k ↦ elim (has-append ns ms q k) [ inl x ↦ inl (or_right (same_name q n) (has ns q) x) | inr x ↦ inr x ]
-]
+has-append ns ms q h = or_cases (has ns q) (has ms q) (sym (list_any-append (same_name q) ns ms) ∙ h)
 
 -- ---- what a pause reclaims was unreclaimed or promoted, and its dead and its swept are apart
 
@@ -85,9 +83,9 @@ module _ (threads : ℕ) (m : Moment) (report : PauseReport) (parts : PauseParts
 
   pub apart : (n : Name) → IsTrue (has report.dead n) → has report.swept n ≡ false
   apart n d = elim ((is.dead.members n).0 d) [
-    | inl q ↦ not_true (has report.swept n) (λ w. early_apart report.kind is.swept n w (inl q))
+    | inl q ↦ false_from_ne_true (has report.swept n) (λ w. early_apart report.kind is.swept n w (inl q))
     | inr q ↦ elim q [
-      | inl p ↦ not_true (has report.swept n) (λ w. early_apart report.kind is.swept n w (inr p))
+      | inl p ↦ false_from_ne_true (has report.swept n) (λ w. early_apart report.kind is.swept n w (inr p))
       | inr p ↦ (third_kept _ is.drained n p).1
     ]
   ]
@@ -143,7 +141,7 @@ reclaimed_once terms h report legal o k =
     let m = moment terms.threads h in
     let good = good_history terms h legal.0 in
     let stays = running_garbage terms h legal.0 in
-    not_true (has (names_reclaimed h) o) (λ r.
+    false_from_ne_true (has (names_reclaimed h) o) (λ r.
     gone_before terms.threads h m report legal.2.reports.0 legal.2.reports.1 good stays (past_history terms h legal.0) o r
     (reclaimed_within terms.threads m report legal.2.reports.0 legal.2.reports.1 good stays o k))
 
@@ -156,4 +154,4 @@ promoted_once terms h report legal o p =
     let past = past_history terms h legal.0 in
     let fresh : HasObject (moment terms.threads h).last.graph o → ⊥ = λ x.
     not_promoted terms.threads h (moment terms.threads h) report legal.2.reports.0 legal.2.reports.1 (good_history terms h legal.0) (running_garbage terms h legal.0) past o x p in
-    (not_true (has (names_promoted h) o) (λ k. fresh (past.grown o k)), not_true (has (names_reclaimed h) o) (λ k. fresh (past.gone o k).1))
+    (false_from_ne_true (has (names_promoted h) o) (λ k. fresh (past.grown o k)), false_from_ne_true (has (names_reclaimed h) o) (λ k. fresh (past.gone o k).1))

@@ -3,6 +3,7 @@
 -- would be dead later would have been dead then.
 use Rattle.std.proofs.Common.{◌≡◌, ℕ, ◌+◌, ◌<◌, ◌≤◌, refl, sym, ap, subst, ◌∙◌, inl, inr, arith, Bool, true, false, List, [], ◌∷◌, IsTrue, length}
 use Rattle.std.specs.Prelude.{Option, Some, None, slice_get}
+use Rattle.std.proofs.lemmas.Bool.{false_from_ne_true}
 use Rattle.lxr_layout.specs.declared.Name.{Name}
 use Rattle.lxr_graph.specs.declared.Op.{Op}
 use Rattle.lxr_graph.specs.declared.Reply.{Reply}
@@ -12,7 +13,7 @@ use Rattle.lxr_graph.specs.Names.{has, without, union}
 use Rattle.lxr_graph.specs.State.{State, object_at, refs_of}
 use Rattle.lxr_graph.specs.Step.{step}
 use Rattle.lxr_graph.specs.History.{PauseReport, Item, Call, Pause}
-use Rattle.lxr_graph.proofs.NameSets.{not_both, not_true, union_right, in_without}
+use Rattle.lxr_graph.proofs.NameSets.{not_both, union_right, in_without}
 use Rattle.lxr_model.specs.Reachable.{Reachable, held, referred}
 use Rattle.lxr_model.specs.Dead.{Dead, dead}
 use Rattle.lxr_model.specs.Terms.{Terms}
@@ -51,7 +52,7 @@ was_dead : (trace : Trace) (s : State) (us stuck before : List Name) → ((n : N
     → (o : Name) → IsGarbage trace o → Dead s us stuck o → Dead trace.state trace.unreclaimed before o
 was_dead trace s us stuck before kept same stays o g (dead member unstuck unheld each) =
     dead g.0
-    (not_true (has before o) (λ b. not_both (has stuck o) (stays o g b) unstuck))
+    (false_from_ne_true (has before o) (λ b. not_both (has stuck o) (stays o g b) unstuck))
     (λ h. g.1 (held h))
     (λ u k f.
     let gu : IsGarbage trace u = (k, λ r. g.1 (referred r f)) in
@@ -112,7 +113,7 @@ module _ (threads : ℕ) (m : Moment) (report : PauseReport) (parts : PauseParts
 
   -- a plain pause leaves all garbage
   plain_alive : AreDrained m parts report false → (n : Name) → IsGarbage trace n → has report.dead n ≡ false
-  plain_alive drained n g = not_true (has report.dead n) (λ d. elim ((is.dead.members n).0 d) [
+  plain_alive drained n g = false_from_ne_true (has report.dead n) (λ d. elim ((is.dead.members n).0 d) [
     | inl q ↦ garbage_not_first n g q
     | inr q ↦ elim q [ inl p ↦ garbage_not_second false drained n g p | inr p ↦ (let k = rw drained.1 at p in cc) ]
   ])
@@ -187,7 +188,7 @@ unstuck_referred terms h trace legal is n g unstuck =
     elim (find_referrer trace.state.graph n trace.unreclaimed) [
       | inl r ↦ (r.0, (r.1, λ reach. g.1 (referred reach r.2)), r.2)
       | inr none ↦ absurd (undead.none n (dead g.0
-          (not_true (has undead.before n) (λ b. not_both (has (moment terms.threads h).stuck n) (undead.stays n g b) unstuck))
+          (false_from_ne_true (has undead.before n) (λ b. not_both (has (moment terms.threads h).stuck n) (undead.stays n g b) unstuck))
           (λ k. g.1 (held k))
           (λ u k f. absurd (none u k f))))
     ]

@@ -1,10 +1,11 @@
 -- The references to a name are none exactly where no register and no member of U holds it.
 use Rattle.std.proofs.Common.{◌≡◌, ℕ, zero, suc, ◌+◌, refl, sym, ap, subst, ◌∙◌, inl, inr, arith, Bool, true, false, cond, List, [], ◌∷◌, IsTrue}
 use Rattle.std.specs.Prelude.{Option, Some, None}
+use Rattle.std.proofs.lemmas.Bool.{or_cases, or_left, or_right, false_from_ne_true}
 use Rattle.lxr_layout.specs.declared.Name.{Name}
 use Rattle.lxr_graph.specs.Names.{same_name, same_held, has}
 use Rattle.lxr_graph.specs.State.{State, Graph, object_at, refs_of}
-use Rattle.lxr_graph.proofs.NameSets.{same_itself, same_names, or_cases, or_left, or_right, not_true}
+use Rattle.lxr_graph.proofs.NameSets.{same_itself, same_names}
 use Rattle.lxr_model.specs.Reachable.{Holds, Refers}
 use Rattle.lxr_model.specs.References.{occurrences, references_from, references}
 use Rattle.lxr_model.proofs.StepLemmas.{Gets}
@@ -28,7 +29,7 @@ occurrences_zero (r ∷ rs) o e (suc i, g) = occurrences_zero rs o (count_none (
 occurrences_none : (rs : List (Option Name)) (o : Name) → (Gets rs (Some o) → ⊥) → occurrences rs o ≡ 0
 occurrences_none [] o h = refl
 occurrences_none (r ∷ rs) o h =
-    let first : same_held (Some o) r ≡ false = not_true (same_held (Some o) r) (λ e. h (0, ap Some (held_same o r e))) in
+    let first : same_held (Some o) r ≡ false = false_from_ne_true (same_held (Some o) r) (λ e. h (0, ap Some (held_same o r e))) in
     let rest : occurrences rs o ≡ 0 = occurrences_none rs o (λ g. h (suc g.0, g.1)) in
     rw (first, rest) refl
 

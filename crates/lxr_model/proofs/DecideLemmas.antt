@@ -3,10 +3,11 @@
 use Rattle.std.proofs.Common.{◌≡◌, ℕ, zero, suc, ◌+◌, ◌≤◌, refl, sym, ap, subst, ◌∙◌, inl, inr, ◌⊎◌, arith, Bool, true, false, List, [], ◌∷◌, IsTrue, length}
 use Rattle.std.specs.Prelude.{Option, Some, ◌||◌}
 use Rattle.std.specs.List.{list_any}
+use Rattle.std.proofs.lemmas.Bool.{or_cases, or_left, or_right}
 use Rattle.lxr_layout.specs.declared.Name.{Name}
 use Rattle.lxr_graph.specs.Names.{same_name, same_held, has}
 use Rattle.lxr_graph.specs.State.{State, Graph, object_at, refs_of, world_name}
-use Rattle.lxr_graph.proofs.NameSets.{same_itself, same_names, not_both, or_cases, or_left, or_right}
+use Rattle.lxr_graph.proofs.NameSets.{same_itself, same_names, not_both}
 use Rattle.lxr_model.specs.Reachable.{Reachable, the_world, held, referred, Holds, Refers, IsClosed}
 use Rattle.lxr_model.proofs.ReachableLemmas.{reachable_within}
 use Rattle.lxr_model.proofs.StepLemmas.{Gets}

@@ -2,11 +2,12 @@
 -- them is dead, so each that isn't stuck has a reference.
 use Rattle.std.proofs.Common.{◌≡◌, ℕ, zero, suc, refl, sym, ap, subst, ◌∙◌, inl, inr, Bool, true, false, cond, List, [], ◌∷◌, IsTrue}
 use Rattle.std.specs.Prelude.{Option, Some, None, map, slice_get}
+use Rattle.std.proofs.lemmas.Bool.{false_from_ne_true, or_left, or_right}
 use Rattle.lxr_layout.specs.declared.Name.{Name}
 use Rattle.lxr_graph.specs.declared.report.Count.{Count}
 use Rattle.lxr_graph.specs.Names.{same_name, has, without, union}
 use Rattle.lxr_graph.specs.History.{PauseReport}
-use Rattle.lxr_graph.proofs.NameSets.{same_itself, not_both, not_true, or_left, or_right, union_cases, union_left, union_right, without_parts, in_without}
+use Rattle.lxr_graph.proofs.NameSets.{same_itself, not_both, union_cases, union_left, union_right, without_parts, in_without}
 use Rattle.lxr_model.specs.Dead.{Dead, dead}
 use Rattle.lxr_model.specs.References.{references}
 use Rattle.lxr_model.specs.Moments.{Moment, moment, unreclaimed_after, stuck_after}
@@ -85,7 +86,7 @@ module _ (threads : ℕ) (m : Moment) (report : PauseReport) (parts : PauseParts
   dead_remain drained {o} (dead member unstuck unheld each) =
       let at = left_parts m report o member in
       dead (left_remain o member)
-      (not_true (has (union report.stuck m.stuck) o) (λ s. not_both (has (stuck_after m report) o) (still_stuck m report o at.1 at.2 s) unstuck))
+      (false_from_ne_true (has (union report.stuck m.stuck) o) (λ s. not_both (has (stuck_after m report) o) (still_stuck m report o at.1 at.2 s) unstuck))
       unheld
       (λ u k f. elim (has parts.third_dead u) as (λ b. has parts.third_dead u ≡ b → Dead m.state (remaining_names m parts report) (union report.stuck m.stuck) u) [
         | true ↦ λ e. (drained.1.members u).0 e

@@ -22,7 +22,7 @@ use Rattle.lxr_model.specs.Terms.{Terms}
 use Rattle.lxr_model.specs.Moments.{Trace, Moment, moment, opening_moment, after_pause, made_after, trace_after, left_by, unreclaimed_after}
 use Rattle.lxr_model.specs.Reports.{PauseParts, IsReportWith, IsSwept, IsSweptAtEnd, AreDrained, kept_names, remaining_names}
 use Rattle.lxr_model.specs.Legal.{IsLegalSoFar, Replies}
-use Rattle.lxr_model.specs.HistoryLaws.{ReclaimedAreUnreachable, ReachableAreKept}
+use Rattle.lxr_model.specs.HistoryLaws.{ReclaimedAreUnreachable, ReachableAreKept, ReachableAreOldOrMade, MadeAreYoung, RowsAreThreads}
 use Rattle.lxr_model.proofs.ReachableLemmas.{dead_apart, dead_parts, promoted_made}
 use Rattle.lxr_model.proofs.StepLemmas.{Gets, gets-append, gets-replicate, step_reaches}
 use Rattle.lxr_model.proofs.ObjectLemmas.{step_facts, no_object}
@@ -271,3 +271,12 @@ reclaimed_unreachable terms h report legal o which r =
 
 pub reachable_are_kept : ReachableAreKept
 reachable_are_kept terms h report legal n r = (good_history terms (Pause report ∷ h) legal).within n r
+
+pub old_or_made : ReachableAreOldOrMade
+old_or_made terms h legal n r = (good_history terms h legal).reach n r
+
+pub made_young : MadeAreYoung
+made_young terms h legal n k = (good_history terms h legal).young n k
+
+pub rows_threads : RowsAreThreads
+rows_threads terms h legal = (good_history terms h legal).rows

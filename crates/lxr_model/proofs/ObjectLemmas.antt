@@ -1,7 +1,8 @@
 -- A step loses no object, the name that it makes had none, and it changes no object that isn't reachable: what it
 -- writes to, a register holds.
-use Rattle.std.proofs.Common.{◌≡◌, ℕ, ◌<◌, refl, sym, ap, subst, ◌∙◌, inl, inr, Bool, true, false, cond, List, IsTrue, length}
+use Rattle.std.proofs.Common.{◌≡◌, ℕ, ◌<◌, refl, sym, ap, subst, ◌∙◌, inl, inr, Bool, cond, List, IsTrue, length}
 use Rattle.std.specs.Prelude.{Option, Some, None, is_some, slice_get, slice_set}
+use Rattle.std.proofs.lemmas.Bool.{cond_both, cond-false, false_from_ne_true}
 use Rattle.lxr_layout.specs.declared.Name.{Name}
 use Rattle.lxr_layout.specs.declared.Shape.{Shape}
 use Rattle.lxr_graph.specs.declared.Op.{Op}
@@ -26,12 +27,10 @@ pub no_object : (g : Graph) (n : Name) → object_at g n ≡ None → HasObject 
 no_object g n e h = let k = rw e at h in cc
 
 some_cond : {X : Type 0} (b : Bool) (x : X) (o : Option X) → IsTrue (is_some o) → IsTrue (is_some (cond b (Some x) o))
-some_cond true x o h = refl
-some_cond false x o h = h
+some_cond b x o h = cond_both b (Some x) o (λ y. IsTrue (is_some y)) (λ e. refl) (λ e. h)
 
 other_cond : {X : Type 0} (b : Bool) (x o : X) → (IsTrue b → ⊥) → cond b x o ≡ o
-other_cond true x o h = absurd (h refl)
-other_cond false x o h = refl
+other_cond b x o h = cond-false b x o (false_from_ne_true b h)
 
 -- the graph stays
 still : (s : State) (rs : List (Option Name)) (r : Reply) → ((n : Name) → r ≡ reply.New n → ⊥) → StepFacts s (record { graph = s.graph; registers = rs }, r)

@@ -1,15 +1,15 @@
 -- Laws of legal histories, each the contract of a function with an empty body.
-use Rattle.std.specs.Prelude.{◌≡◌, ◌≢◌, ℕ, ◌⊎◌, ◌↔◌, false, Some, None, List, ◌∷◌, IsTrue, map, slice_get}
+use Rattle.std.specs.Prelude.{◌≡◌, ◌≢◌, ℕ, ◌+◌, ◌⊎◌, ◌↔◌, false, Some, None, List, ◌∷◌, IsTrue, length, map, slice_get}
 use Rattle.lxr_layout.specs.declared.Name.{Name}
 use Rattle.lxr_graph.specs.declared.report.Kind.TheVariants as kind
 use Rattle.lxr_graph.specs.declared.report.Count.{Count}
 use Rattle.lxr_graph.specs.Names.{has}
-use Rattle.lxr_graph.specs.State.{State}
+use Rattle.lxr_graph.specs.State.{State, HasObject}
 use Rattle.lxr_graph.specs.History.{PauseReport, Item, Pause}
 use Rattle.lxr_model.specs.Reachable.{Reachable}
 use Rattle.lxr_model.specs.References.{references}
 use Rattle.lxr_model.specs.Terms.{Terms, OnlyPlain}
-use Rattle.lxr_model.specs.Moments.{state_at, unreclaimed_at, stuck_at}
+use Rattle.lxr_model.specs.Moments.{moment, state_at, unreclaimed_at, stuck_at}
 use Rattle.lxr_model.specs.Reports.{is_draining}
 use Rattle.lxr_model.specs.Legal.{IsLegalSoFar, IsLegal}
 use Rattle.lxr_model.specs.Belongs.{Script, Belongs}
@@ -25,6 +25,20 @@ ReclaimedAreUnreachable = (terms : Terms) (h : List Item) (report : PauseReport)
 abbrev pub ReachableAreKept : Type 0
 ReachableAreKept = (terms : Terms) (h : List Item) (report : PauseReport) → IsLegalSoFar terms (Pause report ∷ h)
     → (n : Name) → Reachable (state_at terms h) n → IsTrue (has (unreclaimed_at terms (Pause report ∷ h)) n)
+
+-- what is reachable was so at the last pause, or was made since
+abbrev pub ReachableAreOldOrMade : Type 0
+ReachableAreOldOrMade = (terms : Terms) (h : List Item) → IsLegalSoFar terms h
+    → (n : Name) → Reachable (state_at terms h) n → Reachable (moment terms.threads h).last n ⊎ IsTrue (has (moment terms.threads h).made n)
+
+-- names made since the last pause have objects now, and had none there
+abbrev pub MadeAreYoung : Type 0
+MadeAreYoung = (terms : Terms) (h : List Item) → IsLegalSoFar terms h → (n : Name) → IsTrue (has (moment terms.threads h).made n)
+    → ¬ HasObject (moment terms.threads h).last.graph n × HasObject (state_at terms h).graph n
+
+-- the graph has a row for each thread, and one for the world
+abbrev pub RowsAreThreads : Type 0
+RowsAreThreads = (terms : Terms) (h : List Item) → IsLegalSoFar terms h → length (state_at terms h).graph ≡ terms.threads + 1
 
 -- the unreclaimed names after a collecting pause are exactly the reachable ones
 abbrev pub CollectingKeepsTheReachable : Type 0
