@@ -23,15 +23,18 @@ names_promoted (Pause report ∷ h) = report.promoted ++ names_promoted h
 
 -- what a pause reclaims no pause reclaimed before
 abbrev pub ReclaimedOnce : Type 0
-ReclaimedOnce = (terms : Terms) (h : List Item) (report : PauseReport) → IsLegalSoFar terms (Pause report ∷ h)
-    → (o : Name) → IsTrue (has (reclaimed_by report) o) → has (names_reclaimed h) o ≡ false
+ReclaimedOnce =
+    (terms : Terms) (h : List Item) (report : PauseReport) → IsLegalSoFar terms (Pause report ∷ h) → (o : Name)
+    → IsTrue (has (reclaimed_by report) o) → has (names_reclaimed h) o ≡ false
 
 -- no pause reports a name as dead and as swept
 abbrev pub DeadAreNotSwept : Type 0
-DeadAreNotSwept = (terms : Terms) (h : List Item) (report : PauseReport) → IsLegalSoFar terms (Pause report ∷ h)
-    → (o : Name) → IsTrue (has report.dead o) → has report.swept o ≡ false
+DeadAreNotSwept =
+    (terms : Terms) (h : List Item) (report : PauseReport) → IsLegalSoFar terms (Pause report ∷ h) → (o : Name)
+    → IsTrue (has report.dead o) → has report.swept o ≡ false
 
 -- what a pause promotes no pause promoted or reclaimed before
 abbrev pub PromotedOnce : Type 0
-PromotedOnce = (terms : Terms) (h : List Item) (report : PauseReport) → IsLegalSoFar terms (Pause report ∷ h)
-    → (o : Name) → IsTrue (has report.promoted o) → (has (names_promoted h) o ≡ false) × (has (names_reclaimed h) o ≡ false)
+PromotedOnce =
+    (terms : Terms) (h : List Item) (report : PauseReport) → IsLegalSoFar terms (Pause report ∷ h) → (o : Name)
+    → IsTrue (has report.promoted o) → (has (names_promoted h) o ≡ false) × (has (names_reclaimed h) o ≡ false)

@@ -44,16 +44,21 @@ AreAlike _ _ = ⊥
 
 -- two such histories that are legal have the same reports
 abbrev pub HistoryIsDetermined : Type 0
-HistoryIsDetermined = (terms : Terms) (g h : List Item) → IsLegalSoFar terms g → IsLegalSoFar terms h → AreAlike g h → g ≡ h
+HistoryIsDetermined =
+    (terms : Terms) (g h : List Item) → IsLegalSoFar terms g → IsLegalSoFar terms h → AreAlike g h → g ≡ h
 
 -- ---- traces
 
--- a trace that runs after pause k, where it didn't end, began at k or before and fewer than `within` pauses ago
+-- a trace that runs began at the last pause or before it, and fewer than `within` pauses ago
 abbrev pub RunningTracesAreYoung : Type 0
-RunningTracesAreYoung = (terms : Terms) (h : List Item) (trace : Trace) → 1 ≤ terms.within → IsLegalSoFar terms h → trace_at terms h ≡ Some trace
+RunningTracesAreYoung =
+    (terms : Terms) (h : List Item) (trace : Trace) → 1 ≤ terms.within → IsLegalSoFar terms h
+    → trace_at terms h ≡ Some trace
     → (trace.began ≤ (moment terms.threads h).number) × ((moment terms.threads h).number < trace.began + terms.within)
 
--- a pause that ends the trace that began at j comes after j, and at most `within` pauses later
+-- a pause that ends the trace that began at pause j comes after j, and at most `within` pauses later
 abbrev pub TracesEndInTime : Type 0
-TracesEndInTime = (terms : Terms) (h : List Item) (report : PauseReport) (j : ℕ) → 1 ≤ terms.within → IsLegalSoFar terms (Pause report ∷ h) → report.kind ≡ kind.End j
+TracesEndInTime =
+    (terms : Terms) (h : List Item) (report : PauseReport) (j : ℕ) → 1 ≤ terms.within
+    → IsLegalSoFar terms (Pause report ∷ h) → report.kind ≡ kind.End j
     → (j < report.number) × (report.number ≤ j + terms.within)

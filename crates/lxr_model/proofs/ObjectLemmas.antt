@@ -53,7 +53,8 @@ changed s b rb g' o r never looked = record {
   same = λ n h u. looked n ∙ other_cond (same_name n b) (Some o) (object_at s.graph n) (λ e. u (subst (Reachable s) (sym (same_names n b e)) rb));
 }
 
-stored_facts : (s : State) (i : ℕ) (b : Name) (v : Option Name) → Reachable s b → (at : Option Object) → object_at s.graph b ≡ at → (found : Option (Option Name)) → slice_get (refs_of at) i ≡ found → StepFacts s (stored s b i v found)
+stored_facts : (s : State) (i : ℕ) (b : Name) (v : Option Name) → Reachable s b → (at : Option Object) → object_at s.graph b ≡ at
+    → (found : Option (Option Name)) → slice_get (refs_of at) i ≡ found → StepFacts s (stored s b i v found)
 stored_facts s i b v rb at is None e = still s _ _ (λ n e. cc)
 stored_facts s i b v rb None is (Some old) e = absurd (cc)
 stored_facts s i b v rb (Some o) is (Some old) e =
@@ -64,7 +65,8 @@ store_facts : (s : State) (t base i : ℕ) (v b : Option Name) → register_at s
 store_facts s t base i v None e = still s _ _ (λ n e. cc)
 store_facts s t base i v (Some b) e = stored_facts s i b v (held (register_held s t base b e)) _ refl _ refl
 
-put_at_facts : (s : State) (i v : ℕ) (b : Name) → Reachable s b → (at : Option Object) → object_at s.graph b ≡ at → (found : Option ℕ) → slice_get (values_of at) i ≡ found → StepFacts s (put_at s b i v found)
+put_at_facts : (s : State) (i v : ℕ) (b : Name) → Reachable s b → (at : Option Object) → object_at s.graph b ≡ at
+    → (found : Option ℕ) → slice_get (values_of at) i ≡ found → StepFacts s (put_at s b i v found)
 put_at_facts s i v b rb at is None e = still s _ _ (λ n e. cc)
 put_at_facts s i v b rb None is (Some old) e = absurd (cc)
 put_at_facts s i v b rb (Some o) is (Some old) e =
