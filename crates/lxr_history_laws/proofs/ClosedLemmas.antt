@@ -3,6 +3,7 @@
 -- is dead or garbage only with the name that refers to it.
 use Rattle.std.proofs.Common.{◌≡◌, ℕ, ◌+◌, ◌<◌, ◌≤◌, refl, sym, subst, inl, inr, ◌⊎◌, arith, Bool, true, false, List, [], ◌∷◌, IsTrue, length}
 use Rattle.std.specs.Prelude.{Option, Some, None, is_some, slice_get}
+use Rattle.std.proofs.lemmas.Bool.{cases_Bool}
 use Rattle.lxr_layout.specs.declared.Name.{Name}
 use Rattle.lxr_graph.specs.declared.Op.{Op}
 use Rattle.lxr_graph.specs.declared.Reply.{Reply}
@@ -24,9 +25,9 @@ use Rattle.lxr_model.proofs.StepLemmas.{gets-replicate, step_refers}
 use Rattle.lxr_model.proofs.HistoryLemmas.{RunningGood, GoodAt, good_history, call_cases, made_old}
 use Rattle.lxr_model.proofs.DrainLemmas.{kept_all, left_parts, left_remain, remain_left}
 use Rattle.lxr_model.proofs.CollectLemmas.{collected_reachable}
-use Rattle.lxr_history_laws.specs.UnreclaimedLaws.{IsGarbage, UnreclaimedRemain, UnreclaimedAreClosed, UnreclaimedHaveObjects, StuckAreUnreclaimed, OnlyGarbageRefersToGarbage}
+use Rattle.lxr_history_laws.specs.UnreclaimedLaws.{IsGarbage, ReachableWereSoOrAreYounger, UnreclaimedWereSoOrAreYounger, UnreclaimedRemain, UnreclaimedAreClosed, UnreclaimedHaveObjects, StuckAreUnreclaimed, OnlyGarbageRefersToGarbage}
 use Rattle.lxr_history_laws.proofs.ReportLemmas.{moments_in_order}
-use Rattle.lxr_history_laws.proofs.TraceLemmas.{still_garbage}
+use Rattle.lxr_history_laws.proofs.TraceLemmas.{still_garbage, good_at}
 
 -- an object that refers to something is there
 refers_object : (g : Graph) (u n : Name) → Refers g u n → HasObject g u
@@ -207,12 +208,26 @@ unreclaimed_closed terms h report legal =
       references = (closed_history terms (Pause report ∷ h) legal).closed;
     }
 
+running_closed : (terms : Terms) (h : List Item) (trace : Trace) → IsLegalSoFar terms h → (moment terms.threads h).trace ≡ Some trace
+    → TraceClosed trace (moment terms.threads h).last (moment terms.threads h).unreclaimed (moment terms.threads h).state
+running_closed terms h trace legal is =
+    let m = moment terms.threads h in
+    subst (λ x. RunningClosed x m.last m.unreclaimed m.state) is (closed_history terms h legal).running
+
 pub only_garbage_refers : OnlyGarbageRefersToGarbage
 only_garbage_refers terms h trace legal is u n k f g =
-    let running : TraceClosed trace (moment terms.threads h).last (moment terms.threads h).unreclaimed (moment terms.threads h).state =
-    subst (λ x. RunningClosed x (moment terms.threads h).last (moment terms.threads h).unreclaimed (moment terms.threads h).state) is (closed_history terms h legal).running in
+    let running = running_closed terms h trace legal is in
     let there = running.old u n f g in
     (running.only u k (refers_object trace.state.graph u n there), λ r. g.1 (referred r there))
+
+pub reachable_were : ReachableWereSoOrAreYounger
+reachable_were terms h trace legal is n r = (good_at terms h trace legal is).reach n r
+
+pub unreclaimed_were : UnreclaimedWereSoOrAreYounger
+unreclaimed_were terms h trace legal is n k = elim (cases_Bool (is_some (object_at trace.state.graph n))) [
+  | inl e ↦ inl ((running_closed terms h trace legal is).only n k e)
+  | inr e ↦ inr (λ o. not_both (is_some (object_at trace.state.graph n)) o e)
+]
 
 pub have_objects : UnreclaimedHaveObjects
 have_objects terms h legal n k = let good = good_history terms h legal in good.grows n (good.kept n k)

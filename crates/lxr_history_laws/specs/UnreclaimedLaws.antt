@@ -1,6 +1,6 @@
 -- Laws of the unreclaimed names: what a pause leaves, that it is closed under references, and what of it is garbage to a
 -- trace that runs.
-use Rattle.std.specs.Prelude.{◌≡◌, false, Some, List, ◌∷◌, IsTrue}
+use Rattle.std.specs.Prelude.{◌≡◌, ◌⊎◌, false, Some, List, ◌∷◌, IsTrue}
 use Rattle.lxr_layout.specs.declared.Name.{Name}
 use Rattle.lxr_graph.specs.Names.{has, without}
 use Rattle.lxr_graph.specs.State.{HasObject, object_at}
@@ -39,6 +39,19 @@ StuckAreUnreclaimed =
     → IsTrue (has (unreclaimed_at terms h) n)
 
 -- ---- while a trace runs
+
+-- what is reachable was so when the trace began, or it is younger
+abbrev pub ReachableWereSoOrAreYounger : Type 0
+ReachableWereSoOrAreYounger =
+    (terms : Terms) (h : List Item) (trace : Trace) → IsLegalSoFar terms h → trace_at terms h ≡ Some trace
+    → (n : Name) → Reachable (state_at terms h) n → Reachable trace.state n ⊎ ¬ HasObject trace.state.graph n
+
+-- what is unreclaimed was so when the trace began, or it is younger
+abbrev pub UnreclaimedWereSoOrAreYounger : Type 0
+UnreclaimedWereSoOrAreYounger =
+    (terms : Terms) (h : List Item) (trace : Trace) → IsLegalSoFar terms h → trace_at terms h ≡ Some trace
+    → (n : Name) → IsTrue (has (unreclaimed_at terms h) n)
+    → IsTrue (has trace.unreclaimed n) ⊎ ¬ HasObject trace.state.graph n
 
 -- what was unreclaimed and unreachable when a trace began
 abbrev pub IsGarbage : Trace → Name → Type 0

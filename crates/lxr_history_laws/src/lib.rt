@@ -14,6 +14,7 @@ pub use reports::{
     running_traces_are_young, traces_end_in_time,
 };
 pub use unreclaimed::{
-    garbage_stays, only_garbage_refers_to_garbage, stuck_are_unreclaimed, unreclaimed_are_closed,
-    unreclaimed_have_objects, unreclaimed_remain, unstuck_garbage_is_referred_to,
+    garbage_stays, only_garbage_refers_to_garbage, reachable_were_so_or_are_younger,
+    stuck_are_unreclaimed, unreclaimed_are_closed, unreclaimed_have_objects, unreclaimed_remain,
+    unreclaimed_were_so_or_are_younger, unstuck_garbage_is_referred_to,
 };

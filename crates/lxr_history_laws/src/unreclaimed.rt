@@ -1,6 +1,6 @@
 //! Laws of the unreclaimed names: what a pause leaves, that it is closed under references, and what of it is garbage to
 //! a trace that runs.
-ghost use Rattle.lxr_history_laws.specs.UnreclaimedLaws.{GarbageStays, OnlyGarbageRefersToGarbage, StuckAreUnreclaimed, UnreclaimedAreClosed, UnreclaimedHaveObjects, UnreclaimedRemain, UnstuckGarbageIsReferredTo};
+ghost use Rattle.lxr_history_laws.specs.UnreclaimedLaws.{GarbageStays, OnlyGarbageRefersToGarbage, ReachableWereSoOrAreYounger, StuckAreUnreclaimed, UnreclaimedAreClosed, UnreclaimedHaveObjects, UnreclaimedRemain, UnreclaimedWereSoOrAreYounger, UnstuckGarbageIsReferredTo};
 
 /// What a pause leaves is what remains after its sweep, without its third dead; after a plain pause, the kept names.
 pub fn unreclaimed_remain()
@@ -20,6 +20,16 @@ pub fn unreclaimed_have_objects()
 /// Only unreclaimed names are stuck.
 pub fn stuck_are_unreclaimed()
     ensures { StuckAreUnreclaimed }
+{}
+
+/// What is reachable while a trace runs was so when it began, or is younger.
+pub fn reachable_were_so_or_are_younger()
+    ensures { ReachableWereSoOrAreYounger }
+{}
+
+/// What is unreclaimed while a trace runs was so when it began, or is younger.
+pub fn unreclaimed_were_so_or_are_younger()
+    ensures { UnreclaimedWereSoOrAreYounger }
 {}
 
 /// What was unreclaimed and unreachable when a trace began is so as long as it runs, and keeps its object as it was.
