@@ -1,0 +1,4 @@
+pub mod RegionLemmas
+pub mod HalfLemmas
+pub mod TableLaws
+pub mod SpaceLemmas
