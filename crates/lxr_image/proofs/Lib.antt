@@ -2,3 +2,4 @@ pub mod RegionLemmas
 pub mod HalfLemmas
 pub mod TableLaws
 pub mod SpaceLemmas
+pub mod OpenLemmas

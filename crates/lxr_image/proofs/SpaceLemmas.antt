@@ -22,5 +22,5 @@ still_space a b t space is size =
 pub turns_then : (a b c : Space) (t u : Tables) → Turns a b t → Turns b c u → Turns a c u
 turns_then a b c t u first second = record {
   tables = second.tables;
-  rest = second.rest ∙ ap (λ s. record s { words = c.words }) first.rest;
+  rest = second.rest ∙ ap {A = Space} (λ s. record s { words = c.words }) first.rest;
 }

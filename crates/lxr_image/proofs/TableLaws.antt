@@ -3,7 +3,7 @@ use Rattle.std.proofs.Common.{◌≡◌, ◌≢◌, ℕ, ◌+◌, ◌*◌, ◌/�
 use Rattle.std.specs.Prelude.{◌==◌, ◌↔◌, IsTrue, slice_index, slice_index_or, slice_set}
 use Rattle.std.proofs.lemmas.Bool.Decides.{eqb_tells}
 use Rattle.std.proofs.lemmas.List.{get_or-set_same, get_or-set_other}
-use Rattle.std.proofs.Math.ListN.{length-set}
+use Rattle.std.proofs.Math.ListN.{get_or-eq_default, length-set}
 use Rattle.lxr_layout.specs.declared.limits.Limits.{Limits}
 use Rattle.lxr_layout.specs.Spaces.{region_begin, region_sizes}
 use Rattle.lxr_tables.specs.Entries.{OthersStay, table}
@@ -206,3 +206,12 @@ half_put l ws vs n at w v e size within at_is w_is vs_is fits written =
     let inside = reuse_within l ws n size within in
     reuse_written l ws vs n e size within (written_at 32 2 (region_begin l 7) n ws vs at w v e (lit< tt) inside fits at_is w_is vs_is written)
     (subst (λ x. OthersStay ws x (region_begin l 7 + n / 2)) (sym (vs_is ∙ ap (λ k. slice_set ws k v) at_is)) (others_stay ws (region_begin l 7 + n / 2) v inside))
+
+-- past the heap no object begins
+pub no_start_past : (l : Limits) (ws : List ℕ) (g : ℕ) → (tables_in l ws).size ≡ region_begin l 15 → 2048 * l.blocks ≤ g → (tables_in l ws).starts g ≡ false
+unfolding tables_in
+no_start_past l ws g size past =
+    let region : List ℕ = slice_index_or (cut (region_sizes l) ws) 2 [] in
+    let len = length_region_table 1 64 (region_sizes l) ws 2 (lit< tt) (omega arith) in
+    let none : slice_index (table 1 64 region) g ≡ 0 = get_or-eq_default (table 1 64 region) 0 {n = g} (omega arith) in
+    ap (λ x. x == 1) none

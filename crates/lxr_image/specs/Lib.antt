@@ -1,2 +1,4 @@
 pub mod Tables
 pub mod Spaces
+pub mod Opened
+pub mod Reads

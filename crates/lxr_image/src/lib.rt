@@ -6,7 +6,10 @@
 //! an image of the graph.
 #![tactic(auto)]
 
+mod objects;
+mod open;
 mod space;
 mod tables;
 
+pub use open::WORLD_STATE;
 pub use space::{Entries, Places, Space, Tally};

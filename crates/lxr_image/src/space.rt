@@ -1,11 +1,8 @@
 //! The space and its numbers.
-ghost use Rattle.std.specs.Prelude.{◌≡◌, ◌↔◌, IsTrue, []};
-
-use lxr_graph::{Counts, Kind, Names, Report};
+use lxr_graph::Report;
 use lxr_layout::{Limits, LogEntry, Place};
 use lxr_lists::Listed;
-use lxr_tables::{PlainWords, Words};
-use std::alloc::Global;
+use lxr_tables::PlainWords;
 
 /// A list of places.
 pub type Places = Listed<Place>;
