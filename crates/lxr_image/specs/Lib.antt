@@ -2,3 +2,5 @@ pub mod Tables
 pub mod Spaces
 pub mod Opened
 pub mod Reads
+pub mod Image
+pub mod ImageLaws
