@@ -17,7 +17,7 @@ use Rattle.lxr_graph.proofs.NameSets.{same_names}
 use Rattle.lxr_image.specs.Tables.{Tables, changed}
 use Rattle.lxr_image.specs.Reads.{StandsWhole, granule_of}
 use Rattle.lxr_image.specs.Image.{ArePlacesOf, AreApart, IsImage, Stands, granules_of, place_word}
-use Rattle.lxr_image.specs.ImageLaws.{OutsideKeepsImage, PutKeepsImage, RegisterKeepsPlaces, StoreKeepsImage, with_heap}
+use Rattle.lxr_image.specs.ImageLaws.{ImageStandsWhole, OutsideKeepsImage, PutKeepsImage, RegisterKeepsPlaces, StoreKeepsImage, with_heap}
 
 -- ---- one word
 
@@ -218,3 +218,11 @@ put_keeps_image t blocks at g ms n o i v is member has_o h =
 pub register_keeps_places : RegisterKeepsPlaces
 register_keeps_places at places held i p v is e =
     map-set (λ (q : Place). q.0) places i p ∙ ap (λ xs. slice_set xs i p.0) is ∙ ap (slice_set (map (place_word at) held) i) e ∙ sym (map-set (place_word at) held i v)
+
+-- ---- start bits
+
+pub starts_stand_whole : ImageStandsWhole
+starts_stand_whole t blocks at g us ms is starts within g' start =
+    let u = starts.only g' start in
+    let a = is.stands u.0 (within u.0 u.1) in
+    (u.0, shape_of a.0, subst (λ k. StandsWhole t blocks k u.0 (shape_of a.0)) u.2 a.2.whole)

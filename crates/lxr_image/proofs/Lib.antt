@@ -6,3 +6,4 @@ pub mod OpenLemmas
 pub mod ImageLemmas
 pub mod NewLemmas
 pub mod ReadLemmas
+pub mod OpeningLemmas

@@ -19,7 +19,7 @@ use Rattle.lxr_image.specs.ImageLaws.{IsRoom, IsUnheld, NewKeepsImage, WritesNew
 use Rattle.lxr_image.proofs.ImageLemmas.{Rewrites, rewrites, stands_on, words_cover, words_even}
 
 -- what a list of one value has
-same_value : {X : Type 0} (n : ℕ) (x y : X) (i : ℕ) → slice_get (replicate n x) i ≡ Some y → y ≡ x
+pub same_value : {X : Type 0} (n : ℕ) (x y : X) (i : ℕ) → slice_get (replicate n x) i ≡ Some y → y ≡ x
 same_value zero x y i e = cc
 same_value (suc n) x y zero e = let k : Some x ≡ Some y = e in cc
 same_value (suc n) x y (suc i) e = same_value n x y i e
@@ -91,10 +91,6 @@ same_object g h m a same e = sym same ∙ e
 -- two objects that are apart at their places are apart at equal ones
 apart_at : (at to : Name → ℕ) (l m : Name) (a b : Object) (x y : ℕ) → to l ≡ x → to m ≡ y → (granule_of x + granules_of a ≤ granule_of y) ⊎ (granule_of y + granules_of b ≤ granule_of x) → AreApart to l a m b
 apart_at at to l m a b x y e f apart = elim apart [ inl q ↦ inl (omega (arith, q, e, f)) | inr q ↦ inr (omega (arith, q, e, f)) ]
-
-turned : {A B : Type 0} → A ⊎ B → B ⊎ A
-turned (inl a) = inr a
-turned (inr b) = inl b
 
 pub new_keeps_image : NewKeepsImage
 new_keeps_image t u blocks at g ms thread s p is row fits name unheld room writes =

@@ -3,12 +3,11 @@ use Rattle.std.proofs.Common.{◌≡◌, ℕ, zero, suc, ◌+◌, ◌-◌, ◌*�
 use Rattle.std.specs.Prelude.{◌&&◌, if◌then◌else◌, slice_index, slice_index_or}
 use Rattle.std.specs.List.{flat_map}
 use Rattle.std.proofs.lemmas.List.{length-replicate}
-use Rattle.std.proofs.lemmas.Bool.Decides.{nat_tests}
 use Rattle.std.proofs.lemmas.Nat.{div-mul-add, mod-mul-add, pow_pos}
 use Rattle.lxr_layout.specs.declared.limits.Limits.{Limits}
 use Rattle.lxr_layout.specs.Spaces.{region_begin, region_sizes}
 use Rattle.lxr_tables.specs.Entries.{entries, table}
-use Rattle.lxr_image.specs.Tables.{Tables, changed, cut, tables_in}
+use Rattle.lxr_image.specs.Tables.{Tables, cut, tables_in}
 use Rattle.lxr_image.specs.Opened.{cleared_tables}
 
 -- ---- the loops
@@ -20,36 +19,6 @@ unlogged_below n t = record t { unlogged = λ w. if nat_le 1 w && nat_lt w n the
 -- the free table lists the first blocks behind the world's
 abbrev pub frees_below : ℕ → Tables → Tables
 frees_below n t = record t { frees = λ i. if nat_lt (i + 1) n then (i + 1) else t.frees i }
-
-no_bit : (f : ℕ → Bool) (w : ℕ) → f w ≡ (if nat_le 1 w && nat_lt w 1 then true else f w)
-no_bit f w = grind (arith, nat_tests)
-
-pub unlogged_none : (t : Tables) → t ≡ unlogged_below 1 t
-unlogged_none t = λ j. record t { unlogged = λ w. no_bit t.unlogged w j }
-
-one_bit : (f : ℕ → Bool) (n w : ℕ) → 1 ≤ n → changed (λ i. if nat_le 1 i && nat_lt i n then true else f i) n true w ≡ (if nat_le 1 w && nat_lt w (n + 1) then true else f w)
-one_bit f n w pos = grind (arith, nat_tests)
-
-pub unlogged_more : (t : Tables) (n : ℕ) → 1 ≤ n → record (unlogged_below n t) { unlogged = changed (unlogged_below n t).unlogged n true } ≡ unlogged_below (n + 1) t
-unlogged_more t n pos = λ j. record t { unlogged = λ w. one_bit t.unlogged n w pos j }
-
-all_bits : (f : ℕ → Bool) (w : ℕ) → (if nat_le 1 w && nat_lt w 65 then true else f w) ≡ (if nat_le 1 w && nat_le w 64 then true else f w)
-all_bits f w = grind (arith, nat_tests)
-
-pub unlogged_all : (t : Tables) → unlogged_below 65 t ≡ record t { unlogged = λ w. if nat_le 1 w && nat_le w 64 then true else t.unlogged w }
-unlogged_all t = λ j. record t { unlogged = λ w. all_bits t.unlogged w j }
-
-no_block : (f : ℕ → ℕ) (i : ℕ) → f i ≡ (if nat_lt (i + 1) 1 then (i + 1) else f i)
-no_block f i = grind (arith, nat_tests)
-
-pub frees_none : (t : Tables) → t ≡ frees_below 1 t
-frees_none t = λ j. record t { frees = λ i. no_block t.frees i j }
-
-one_block : (f : ℕ → ℕ) (n i : ℕ) → 1 ≤ n → changed (λ k. if nat_lt (k + 1) n then (k + 1) else f k) (n - 1) n i ≡ (if nat_lt (i + 1) (n + 1) then (i + 1) else f i)
-one_block f n i pos = grind (arith, nat_tests)
-
-pub frees_more : (t : Tables) (n : ℕ) → 1 ≤ n → record (frees_below n t) { frees = changed (frees_below n t).frees (n - 1) n } ≡ frees_below (n + 1) t
-frees_more t n pos = λ j. record t { frees = λ i. one_block t.frees n i pos j }
 
 -- ---- words that are all 0
 

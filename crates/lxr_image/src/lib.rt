@@ -18,3 +18,6 @@ pub use laws::{
 };
 pub use open::WORLD_STATE;
 pub use space::{Entries, Places, Space, Tally};
+
+#[cfg(test)]
+mod tests;

@@ -4,7 +4,9 @@
 //! its lists. Then the world is placed and the blocks are listed.
 ghost use Rattle.std.specs.Prelude.{◌≡◌, ◌+◌, ◌*◌, ◌^◌, ◌≤◌, ◌++◌, ◌↔◌, [], IfOk, IsTrue, OnErr, OnOk, length, map};
 ghost use Rattle.lxr_graph.specs.State.{opening_registers, opening_row};
+ghost use Rattle.lxr_image.specs.Image.{IsOpeningImage};
 ghost use Rattle.lxr_image.specs.Opened.{HasReportRoom, IsBlank, IsNew, IsOpened, cleared_tables, no_tally, opening_place, with_blocks, with_world};
+ghost use Rattle.lxr_image.specs.Reads.{StartsStandWhole};
 ghost use Rattle.lxr_image.specs.Spaces.{IsSpace, Turns, tables_of};
 ghost use Rattle.lxr_layout.specs.Spaces.{AreLimits, region_begin};
 
@@ -133,6 +135,9 @@ impl Space {
         requires empty { self.old.words ≡ [] }
         requires limits { AreLimits limits }
         ensures opened { OnOk result (IsOpened self.new limits) }
+        ensures space { OnOk result (IsSpace self.new) }
+        ensures image { OnOk result (IsOpeningImage self.new) }
+        ensures starts { OnOk result (StartsStandWhole (tables_of self.new) self.new.limits.blocks) }
         ensures refused { OnErr result (self.new.words ≡ []) }
     {
         *self = Space::with_room(alloc, limits)?;
