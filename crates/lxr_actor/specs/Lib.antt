@@ -1,0 +1,3 @@
+pub mod Change
+pub mod Machine
+pub mod Run

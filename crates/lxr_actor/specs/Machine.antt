@@ -1,0 +1,29 @@
+-- What an actor means: a machine that acts on shared words, one atomic step at a time.
+use Rattle.std.specs.Prelude.{◌≡◌, ℕ, ◌<◌, List, length, Bool, Option, Some, IsTrue, slice_index, if◌then◌else◌}
+use Rattle.lxr_layout.specs.declared.Place.{Place}
+use Rattle.lxr_actor.specs.declared.Action.{Action}
+
+pub record Machine (A : Type 0) : Type 0 where
+  -- its next step, if it is not finished
+  pub action : A → Option Action
+  -- whether the word of its next step may have been this
+  pub accepts : A → ℕ → Bool
+  -- its state once it is told what the word was
+  pub after : A → ℕ → A
+  -- no unit is in progress
+  pub rests : A → Bool
+  -- a bound on the steps of the unit that is in progress or, at rest, of the next one
+  pub left : A → ℕ
+  -- its state once a place is offered to it, and whether it took the place
+  pub offered : A → Place → A × Bool
+  -- its state once it gave up a place, and the place, if it had one
+  pub spared : A → A × Option Place
+
+module _ {A : Type 0} (m : Machine A) where
+  -- a bound on the steps before it next rests
+  abbrev pub to_go : A → ℕ
+  to_go a = if m.rests a then 0 else m.left a
+
+  -- the word of its next step exists, and the actor accepts what it has
+  abbrev pub Fits : List ℕ → A → Type 0
+  Fits words a = (act : Action) → m.action a ≡ Some act → (act.word < length words) × IsTrue (m.accepts a (slice_index words act.word))

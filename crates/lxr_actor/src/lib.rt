@@ -1,0 +1,131 @@
+//! Machines that act on shared words one atomic step at a time, and what an interleaving of their steps does.
+//!
+//! Mutators, decrementers and tracers are such machines. What they do together is one fold over a list of events,
+//! whoever runs them: `replay` runs the fold on words of one owner, and passes over an atomic table run it from
+//! threads.
+#![tactic(auto)]
+
+ghost use Rattle.std.specs.Prelude.{◌≡◌, ℕ, ◌<◌, ◌↔◌, Bool, Option, IsSome, IsTrue, length, map, false};
+ghost use Rattle.lxr_actor.specs.declared.Action.{Action};
+ghost use Rattle.lxr_actor.specs.declared.Event.TheVariants.{Step};
+ghost use Rattle.lxr_actor.specs.Change.{changed};
+ghost use Rattle.lxr_actor.specs.Machine.{Machine, to_go, Fits};
+ghost use Rattle.lxr_actor.specs.Run.{core_of, stepped, run, ReplayFits};
+
+use lxr_layout::Place;
+use lxr_tables::{PlainWords, Words};
+use std::collections::LinkedList;
+
+/// The kinds of single atomic steps on a word. `Add` and `Sub` wrap.
+#[derive(Clone, Copy, Debug, PartialEq, Eq)]
+pub enum Kindred {
+    Load,
+    Store,
+    Swap,
+    Or,
+    And,
+    Add,
+    Sub,
+}
+
+impl Kindred {
+    /// What a step of this kind leaves in a word that was `old`.
+    #[inline(always)]
+    pub fn apply(self, old: u64, operand: u64) -> u64
+        ensures { result ≡ changed self old operand }
+    {
+        match self {
+            Kindred::Load => old,
+            Kindred::Store | Kindred::Swap => operand,
+            Kindred::Or => old | operand,
+            Kindred::And => old & operand,
+            Kindred::Add => old.wrapping_add(operand),
+            Kindred::Sub => old.wrapping_sub(operand),
+        }
+    }
+}
+
+/// A single atomic step: its kind, the index of its word, and its operand, which a `Load` does not read.
+#[derive(Clone, Copy, Debug, PartialEq, Eq)]
+pub struct Action {
+    pub kind: Kindred,
+    pub word: u32,
+    pub operand: u64,
+}
+
+/// A machine that acts on shared words. Its work comes in units of some steps each.
+pub trait Actor {
+    /// What the actor means.
+    ghost machine: { Machine Self };
+
+    /// The next step, which depends on the actor alone. `None` exactly where it is finished.
+    fn next(&self) -> Option<Action>
+        ensures { result ≡ machine.action self.now };
+
+    /// Goes on after its next step was done on a word that was `old`.
+    fn take(&mut self, old: u64)
+        requires next { IsSome (machine.action self.old) }
+        requires accepted { IsTrue (machine.accepts self.old old) }
+        ensures state { self.new ≡ machine.after self.old old }
+        ensures nearer { to_go machine self.new < machine.left self.old };
+
+    /// Whether no unit is in progress.
+    fn resting(&self) -> bool
+        ensures rests { result ≡ machine.rests self.now }
+        ensures busy { result ≡ false → IsSome (machine.action self.now) };
+
+    /// Offers a place to work on. Whether it was taken.
+    fn offer(&mut self, place: Place) -> bool
+        ensures { (self.new, result) ≡ machine.offered self.old place };
+
+    /// Gives up one of the places that it was to work on, if it has one.
+    fn surplus(&mut self) -> Option<Place>
+        ensures { (self.new, result) ≡ machine.spared self.old };
+}
+
+/// What can happen to the actor of a number: it does its next step, it is offered a place, or it gives one up.
+/// A schedule is a list of these. Only contracts speak of them.
+#[derive(Clone, Copy, Debug, PartialEq, Eq)]
+pub enum Event {
+    Step(usize),
+    Give(usize, Place),
+    Out(usize),
+}
+
+/// Shared words and the actors that act on them. Only contracts speak of it.
+pub struct Core<A> {
+    pub words: LinkedList<u64>,
+    pub actors: LinkedList<A>,
+}
+
+/// Does an actor's next step, on the condition that its word exists and that the actor accepts what it has.
+/// False exactly where there is no next step; then nothing changes.
+#[inline(always)]
+pub fn step<A: Actor>(words: &mut PlainWords, actor: &mut A) -> bool
+    requires { Fits A.machine words.old actor.old }
+    ensures told { IsTrue result ↔ IsSome (A.machine.action actor.old) }
+    ensures done { (words.new, actor.new) ≡ stepped A.machine words.old actor.old }
+{
+    let Some(action) = actor.next() else {
+        return false;
+    };
+    let at = action.word as usize;
+    let old = words.get(at);
+    words.set(at, action.kind.apply(old, action.operand));
+    actor.take(old);
+    true
+}
+
+/// Does the steps of a schedule, one after another. An entry that names no actor, or one that is finished, is
+/// skipped.
+pub fn replay<A: Actor>(words: &mut PlainWords, actors: &mut [A], schedule: &[u8])
+    requires { ReplayFits A.machine (core_of words.old actors.old) schedule.now }
+    ensures { core_of words.new actors.new ≡ run A.machine (core_of words.old actors.old) (map Step schedule.now) }
+{
+    for number in schedule {
+        let at = *number as usize;
+        if at < actors.len() {
+            step(words, &mut actors[at]);
+        }
+    }
+}
