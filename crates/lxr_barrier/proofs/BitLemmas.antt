@@ -1,0 +1,53 @@
+-- One word written clears one bit of a table, or writes one word before it. Bits and masks end here.
+use Rattle.std.proofs.Common.{◌≡◌, ◌≢◌, ℕ, ◌+◌, ◌/◌, ◌%◌, ◌<◌, refl, sym, ap, ◌∙◌, arith, Bool, true, false, List, length, get_or-set_same, get_or-set_other, nat_eq}
+use Rattle.std.specs.Prelude.{slice_set, slice_index, bit_and}
+use Rattle.std.specs.Int.{w64, bit_at}
+use Rattle.std.proofs.lemmas.Nat.Bits.{bit_at_clear_same, bit_at_clear_other}
+use Rattle.lxr_barrier.specs.Storing.{all_but}
+
+-- bit n of the table that begins at a word
+abbrev pub bit_in : List ℕ → ℕ → ℕ → ℕ
+bit_in words base n = bit_at (slice_index words (base + n / 64)) (n % 64)
+
+same_bit : (a b : ℕ) → a / 64 ≡ b / 64 → a % 64 ≡ b % 64 → a ≡ b
+same_bit a b p q = omega arith
+
+below_64 : (a : ℕ) → a % 64 < 64
+below_64 a = omega arith
+
+module _ (words : List ℕ) (base n : ℕ) (room : base + n / 64 < length words) where
+  -- the words with bit n cleared
+  abbrev pub cleared_words : List ℕ
+  cleared_words = slice_set words (base + n / 64) (bit_and (slice_index words (base + n / 64)) (all_but (n % 64)))
+
+  written : slice_index cleared_words (base + n / 64) ≡ bit_and (slice_index words (base + n / 64)) (all_but (n % 64))
+  written = get_or-set_same words (base + n / 64) (bit_and (slice_index words (base + n / 64)) (all_but (n % 64))) 0 room
+
+  pub bit_here : bit_in cleared_words base n ≡ 0
+  bit_here = ap (λ x. bit_at x (n % 64)) written ∙ bit_at_clear_same w64 (slice_index words (base + n / 64)) (n % 64) (below_64 n)
+
+  other_word : (k : ℕ) → k / 64 ≢ n / 64 → bit_in cleared_words base k ≡ bit_in words base k
+  other_word k ne = ap (λ x. bit_at x (k % 64)) (get_or-set_other words (base + n / 64) (base + k / 64) _ 0 (λ e. ne (omega arith)))
+
+  same_word : (k : ℕ) → k / 64 ≡ n / 64 → k ≢ n → bit_in cleared_words base k ≡ bit_in words base k
+  same_word k e ne =
+      let q : base + k / 64 ≡ base + n / 64 = ap (λ x. base + x) e in
+      ap (λ x. bit_at (slice_index cleared_words x) (k % 64)) q
+      ∙ ap (λ x. bit_at x (k % 64)) written
+      ∙ bit_at_clear_other w64 (slice_index words (base + n / 64)) (n % 64) (below_64 n) (k % 64) (below_64 k) (λ r. ne (same_bit k n e r))
+      ∙ ap (λ x. bit_at (slice_index words x) (k % 64)) (sym q)
+
+  by_word : (k : ℕ) → k ≢ n → (b : Bool) → nat_eq (k / 64) (n / 64) ≡ b → bit_in cleared_words base k ≡ bit_in words base k
+  by_word k ne true e = same_word k (grind arith) ne
+  by_word k ne false e = other_word k (grind arith)
+
+  pub bit_there : (k : ℕ) → k ≢ n → bit_in cleared_words base k ≡ bit_in words base k
+  bit_there k ne = by_word k ne (nat_eq (k / 64) (n / 64)) refl
+
+  -- what stands before the table stays
+  pub word_before : (k : ℕ) → k < base → slice_index cleared_words k ≡ slice_index words k
+  word_before k lt = get_or-set_other words (base + n / 64) k _ 0 (λ e. absurd (omega arith))
+
+-- a word before the table is written: no bit changes
+pub bit_behind : (words : List ℕ) (base at x n : ℕ) → at < base → bit_in (slice_set words at x) base n ≡ bit_in words base n
+bit_behind words base at x n lt = ap (λ w. bit_at w (n % 64)) (get_or-set_other words at (base + n / 64) x 0 (λ e. absurd (omega arith)))
