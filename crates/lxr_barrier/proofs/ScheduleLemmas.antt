@@ -26,7 +26,7 @@ use Rattle.lxr_barrier.specs.Storers.{Logging, storer_machine}
 use Rattle.lxr_barrier.specs.Unlogged.{HasBits, IsBeginning, IsStoreIn, StoreView, UnloggedBitsAndLogs, entries_for, entry_word, loaded_by, ready_for, store_view, unlogged_bit}
 use Rattle.lxr_barrier.proofs.BitLemmas.{cleared_words, bit_here, bit_there, word_before, bit_behind}
 use Rattle.lxr_barrier.proofs.ViewLemmas.{all_at, all_to, set_itself}
-use Rattle.lxr_barrier.proofs.UnloggedLemmas.{Clears, EntryFits, LoadedFits, ReadyFits, StoresTo, none_loaded, none_ready, one_loaded, one_ready, quiet, first_clear, late_clear, stored}
+use Rattle.lxr_barrier.proofs.UnloggedLemmas.{Clears, EntryFits, LoadedFits, ReadyFits, StoresTo, elsewhere, none_loaded, none_ready, one_loaded, one_ready, quiet, first_clear, late_clear, stored}
 use Rattle.lxr_barrier.proofs.StorerLemmas.{change_same, same_bits, same_store_in}
 
 set_bit : (word n : ℕ) → is_set word n ≡ true → bit_at word n ≡ 1
@@ -59,7 +59,9 @@ module _ (r : Regions) (opening words : List ℕ) (has : HasBits r words) (views
 
   -- a load changes no word
   loads : (at : ℕ) (x : StoreView) → UnloggedBitsAndLogs r opening words (set views i x) → UnloggedBitsAndLogs r opening (slice_set words at (slice_index words at)) (set views i x)
-  loads at x h = subst (λ ws. UnloggedBitsAndLogs r opening ws (set views i x)) (sym (set-get_or words at 0)) h
+  loads at x h =
+      let same = set-get_or words at 0 in
+      elsewhere r opening words _ _ (λ k lt. ap (λ (ws : List ℕ). unlogged_bit r ws k) same) (λ k set. ap (λ (ws : List ℕ). slice_index ws k) same) h
 
   clears : Clears r words (cleared_words words r.unlogged w room) w
   clears = record {
@@ -81,7 +83,7 @@ module _ (r : Regions) (opening words : List ℕ) (has : HasBits r words) (views
       → UnloggedBitsAndLogs r opening words (set views i (store_view (logging (if b then (if f then Ended LogFull else Unlogged) else Logged))))
   look true true e at h = quiet r opening words views h i _ at None None (none_loaded r opening words) (none_ready r opening words)
   look true false e at h = quiet r opening words views h i _ at None None (none_loaded r opening words) (none_ready r opening words)
-  look false f e at h = quiet r opening words views h i _ at None (Some w) (none_loaded r opening words) (one_ready r opening words w (clear_bit bits (w % 64) e))
+  look false f e at h = quiet r opening words views h i _ at None (Some w) (none_loaded r opening words) (one_ready r opening words w (heap, clear_bit bits (w % 64) e))
 
   -- what is loaded while the bit is set is the first value
   first_value : UnloggedBitsAndLogs r opening words views → unlogged_bit r words w ≡ 1 → (place_in (slice_index words w)).0 ≡ slice_index opening w
@@ -97,7 +99,7 @@ module _ (r : Regions) (opening words : List ℕ) (has : HasBits r words) (views
 
   step_at : (p : Phase) → Keeps p
   step_at Begun at h = loads (r.unlogged + w / 64) _ (look (is_set bits (w % 64)) (is_full log) refl at h)
-  step_at Unlogged at h = loads w _ (quiet r opening words views h i _ at (Some (entry_of (storing Unlogged) (place_in (slice_index words w)))) None (one_loaded r opening words _ (first_value h)) (none_ready r opening words))
+  step_at Unlogged at h = loads w _ (quiet r opening words views h i _ at (Some (entry_of (storing Unlogged) (place_in (slice_index words w)))) None (one_loaded r opening words _ (λ set. first_value h set.1)) (none_ready r opening words))
   step_at (Loaded old) at h = clear old (is_set bits (w % 64)) refl at h
   step_at Logged at h = stored r opening words views h i _ at _ w stores refl
   step_at (Ended how) at h = subst (UnloggedBitsAndLogs r opening words) (sym (set_itself views i _ at)) h

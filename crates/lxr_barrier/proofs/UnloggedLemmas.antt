@@ -1,12 +1,12 @@
 -- What a store machine can do keeps unlogged bits and logs: it goes on without a change, it clears the bit as the
 -- first or behind another, or it stores.
-use Rattle.std.proofs.Common.{◌≡◌, ◌≢◌, ℕ, ◌+◌, ◌<◌, refl, sym, ap, subst, ◌∙◌, arith, Bool, true, false, List, [], ◌∷◌, ◌++◌, nat_eq, set, eq-eqb, ne_eqb}
+use Rattle.std.proofs.Common.{◌≡◌, ◌≢◌, ℕ, ◌+◌, ◌<◌, refl, sym, subst, ◌∙◌, arith, Bool, true, false, List, [], ◌∷◌, ◌++◌, nat_eq, set, eq-eqb, ne_eqb}
 use Rattle.std.specs.Prelude.{Option, Some, None, slice_get, slice_index}
 use Rattle.std.specs.List.{All, count_by}
 use Rattle.std.proofs.lemmas.List.Elements.{All-push, All-set}
 use Rattle.lxr_layout.specs.declared.limits.Regions.{Regions}
 use Rattle.lxr_layout.specs.declared.runs.LogEntry.{LogEntry}
-use Rattle.lxr_barrier.specs.Unlogged.{StoreView, UnloggedBitsAndLogs, IsUnlogged, unlogged_bit, entries_for, entry_word}
+use Rattle.lxr_barrier.specs.Unlogged.{StoreView, UnloggedBitsAndLogs, IsLogged, IsUnlogged, unlogged_bit, entries_for, entry_word}
 use Rattle.lxr_barrier.proofs.ViewLemmas.{all_at, all_to, sum_set, count_yes, count_no}
 
 -- bit w is cleared, and nothing else of bits and heap changes
@@ -30,10 +30,10 @@ module _ (r : Regions) (opening : List ℕ) where
   EntryFits e = IsUnlogged r opening (entry_word e) × (e.old.0 ≡ slice_index opening (entry_word e))
 
   abbrev pub LoadedFits : List ℕ → Option LogEntry → Type 0
-  LoadedFits words held = (e : LogEntry) → held ≡ Some e → unlogged_bit r words (entry_word e) ≡ 1 → e.old.0 ≡ slice_index opening (entry_word e)
+  LoadedFits words held = (e : LogEntry) → held ≡ Some e → IsUnlogged r words (entry_word e) → e.old.0 ≡ slice_index opening (entry_word e)
 
   abbrev pub ReadyFits : List ℕ → Option ℕ → Type 0
-  ReadyFits words free = (w : ℕ) → free ≡ Some w → unlogged_bit r words w ≡ 0
+  ReadyFits words free = (w : ℕ) → free ≡ Some w → IsLogged r words w
 
   pub none_loaded : (words : List ℕ) → LoadedFits words None
   none_loaded words e q = absurd (cc)
@@ -41,11 +41,26 @@ module _ (r : Regions) (opening : List ℕ) where
   pub none_ready : (words : List ℕ) → ReadyFits words None
   none_ready words w q = absurd (cc)
 
-  pub one_ready : (words : List ℕ) (w : ℕ) → unlogged_bit r words w ≡ 0 → ReadyFits words (Some w)
-  one_ready words w clear k q = subst (λ x. unlogged_bit r words x ≡ 0) (let s : w ≡ k = cc in s) clear
+  pub one_ready : (words : List ℕ) (w : ℕ) → IsLogged r words w → ReadyFits words (Some w)
+  one_ready words w clear k q = subst (IsLogged r words) (let s : w ≡ k = cc in s) clear
 
-  pub one_loaded : (words : List ℕ) (e : LogEntry) → (unlogged_bit r words (entry_word e) ≡ 1 → e.old.0 ≡ slice_index opening (entry_word e)) → LoadedFits words (Some e)
-  one_loaded words e fits k q = subst (λ x. unlogged_bit r words (entry_word x) ≡ 1 → x.old.0 ≡ slice_index opening (entry_word x)) (let s : e ≡ k = cc in s) fits
+  pub one_loaded : (words : List ℕ) (e : LogEntry) → (IsUnlogged r words (entry_word e) → e.old.0 ≡ slice_index opening (entry_word e)) → LoadedFits words (Some e)
+  one_loaded words e fits k q = subst (λ x. IsUnlogged r words (entry_word x) → x.old.0 ≡ slice_index opening (entry_word x)) (let s : e ≡ k = cc in s) fits
+
+  -- a step that changes no bit of the heap, and no word whose bit is set
+  pub elsewhere : (words words' : List ℕ) (views : List StoreView) → ((k : ℕ) → k < r.counts → unlogged_bit r words' k ≡ unlogged_bit r words k)
+      → ((k : ℕ) → IsUnlogged r words k → slice_index words' k ≡ slice_index words k) → UnloggedBitsAndLogs r opening words views → UnloggedBitsAndLogs r opening words' views
+  elsewhere words words' views bits heap h =
+      let was : (k : ℕ) → IsUnlogged r words' k → IsUnlogged r words k = λ k set. (set.0, sym (bits k set.0) ∙ set.1) in
+      record {
+        places = h.places;
+        only = λ k set. h.only k (was k set);
+        unwritten = λ k set. heap k (was k set) ∙ h.unwritten k (was k set);
+        once = λ k ref. let o = h.once k ref in let z = bits k ref.0 in omega arith;
+        entries = h.entries;
+        loaded = all_to (λ x. LoadedFits words x.loaded) (λ x. LoadedFits words' x.loaded) views (λ x fits e p set. fits e p (was (entry_word e) set)) h.loaded;
+        ready = all_to (λ x. ReadyFits words x.ready) (λ x. ReadyFits words' x.ready) views (λ x fits k p. ((fits k p).0, bits k (fits k p).0 ∙ (fits k p).1)) h.ready;
+      }
 
   module _ (words : List ℕ) (views : List StoreView) (h : UnloggedBitsAndLogs r opening words views) (i : ℕ) (v : StoreView) (at : slice_get views i ≡ Some v) where
     entries_in : ℕ → StoreView → ℕ
@@ -83,8 +98,8 @@ module _ (r : Regions) (opening : List ℕ) where
         unwritten = λ k set. c.heap k set.0 ∙ h.unwritten k (set.0, still_set k set.1);
         once = once;
         entries = All-set (λ x. All EntryFits x.log) views i _ entries h.entries;
-        loaded = All-set (λ x. LoadedFits words' x.loaded) views i _ (none_loaded words') (all_to (λ x. LoadedFits words x.loaded) (λ x. LoadedFits words' x.loaded) views (λ x fits e q set. fits e q (still_set (entry_word e) set)) h.loaded);
-        ready = All-set (λ x. ReadyFits words' x.ready) views i _ (one_ready words' w c.here) (all_to (λ x. ReadyFits words x.ready) (λ x. ReadyFits words' x.ready) views (λ x fits k q. still_clear k (fits k q)) h.ready);
+        loaded = All-set (λ x. LoadedFits words' x.loaded) views i _ (none_loaded words') (all_to (λ x. LoadedFits words x.loaded) (λ x. LoadedFits words' x.loaded) views (λ x fits e q set. fits e q (set.0, still_set (entry_word e) set.1)) h.loaded);
+        ready = All-set (λ x. ReadyFits words' x.ready) views i _ (one_ready words' w (heap, c.here)) (all_to (λ x. ReadyFits words x.ready) (λ x. ReadyFits words' x.ready) views (λ x fits k q. ((fits k q).0, still_clear k (fits k q).1)) h.ready);
       }
 
       -- the first to clear the bit records what it loaded
@@ -94,7 +109,7 @@ module _ (r : Regions) (opening : List ℕ) where
           let test = λ (k : ℕ) (x : LogEntry). nat_eq (entry_word x) k in
           let sums = λ (k : ℕ). sum_set (λ x. count_by (test k) x.log) views i v (after log None (Some w)) at in
           let more = count_yes (test w) v.log e (eq-eqb (entry_word e) w is) in
-          let value = all_at (λ x. LoadedFits words x.loaded) views i v at h.loaded e loaded (ap (unlogged_bit r words) is ∙ was) in
+          let value = all_at (λ x. LoadedFits words x.loaded) views i v at h.loaded e loaded (subst (IsUnlogged r words) (sym is) (heap, was)) in
           cleared log
           (λ k. by_number (λ x. IsUnlogged r opening x → entries_for x (set views i (after log None (Some w))) + unlogged_bit r words' x ≡ 1) w k (nat_eq k w) refl
           (λ ref. let s = sums w in let o = h.once w ref in let z = c.here in omega arith)
@@ -116,12 +131,4 @@ module _ (r : Regions) (opening : List ℕ) where
     stored words' w s ready =
         let clear = all_at (λ x. ReadyFits words x.ready) views i v at h.ready w ready in
         let q = quiet None None (none_loaded words) (none_ready words) in
-        record {
-          places = q.places;
-          only = λ k set. q.only k (set.0, sym (s.bits k) ∙ set.1);
-          unwritten = λ k set. let was = sym (s.bits k) ∙ set.1 in s.heap k (λ e. let z = ap (unlogged_bit r words) e in absurd (omega arith)) ∙ q.unwritten k (set.0, was);
-          once = λ k ref. let o = q.once k ref in let z = s.bits k in omega arith;
-          entries = q.entries;
-          loaded = all_to (λ x. LoadedFits words x.loaded) (λ x. LoadedFits words' x.loaded) _ (λ x fits e p set. fits e p (sym (s.bits (entry_word e)) ∙ set)) q.loaded;
-          ready = all_to (λ x. ReadyFits words x.ready) (λ x. ReadyFits words' x.ready) _ (λ x fits k p. s.bits k ∙ fits k p) q.ready;
-        }
+        elsewhere words words' _ (λ k lt. s.bits k) (λ k set. s.heap k (λ e. let z = subst (IsUnlogged r words) e set in absurd (omega arith))) q

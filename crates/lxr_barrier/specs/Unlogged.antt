@@ -53,6 +53,10 @@ module _ (r : Regions) where
   abbrev pub IsUnlogged : List ℕ → ℕ → Type 0
   IsUnlogged words at = (at < r.counts) × (unlogged_bit words at ≡ 1)
 
+  -- a heap word whose unlogged bit is clear
+  abbrev pub IsLogged : List ℕ → ℕ → Type 0
+  IsLogged words at = (at < r.counts) × (unlogged_bit words at ≡ 0)
+
   -- The words and logs that lead from the opening words: a reference is a heap word whose bit was set then, and
   -- its first value is what it held.
   pub record UnloggedBitsAndLogs (opening words : List ℕ) (views : List StoreView) : Type 0 where
@@ -67,9 +71,9 @@ module _ (r : Regions) where
     -- each entry is for a reference, and has its first value
     pub entries : All (λ v. All (λ e. IsUnlogged opening (entry_word e) × (e.old.0 ≡ slice_index opening (entry_word e))) v.log) views
     -- what was loaded is the first value while the bit is set
-    pub loaded : All (λ v. (e : LogEntry) → v.loaded ≡ Some e → unlogged_bit words (entry_word e) ≡ 1 → e.old.0 ≡ slice_index opening (entry_word e)) views
+    pub loaded : All (λ v. (e : LogEntry) → v.loaded ≡ Some e → IsUnlogged words (entry_word e) → e.old.0 ≡ slice_index opening (entry_word e)) views
     -- who is about to store has the bit clear
-    pub ready : All (λ v. (at : ℕ) → v.ready ≡ Some at → unlogged_bit words at ≡ 0) views
+    pub ready : All (λ v. (at : ℕ) → v.ready ≡ Some at → IsLogged words at) views
 
   -- each heap word has its bit among the words, behind the heap
   pub record HasBits (words : List ℕ) : Type 0 where
