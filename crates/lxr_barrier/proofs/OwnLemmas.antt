@@ -115,8 +115,8 @@ module _ (r : Regions) (words : List ℕ) (has : HasBits r words) (place : Place
   step_leaves : (p : Phase) → (w ≡ at → ¬ IsPastBarrier (stepped storer_machine words (storer p)).1.store.phase) → IsLeft (stepped storer_machine words (storer p)).0
   step_leaves Begun yet = loaded (r.unlogged + w / 64)
   step_leaves Unlogged yet = loaded w
-  step_leaves (Loaded old) yet = let room = has.exist w heap in (word_before words r.unlogged w room at (before at lt), bit_there words r.unlogged w room at (λ e. yet (sym e) tt))
-  step_leaves Logged yet = (get_or-set_other words w at value.0 0 (λ e. yet (sym e) tt), bit_behind words r.unlogged w value.0 at (before w heap))
+  step_leaves (Loaded old) yet = let room = has.exist w heap in (word_before words r.unlogged w room at (before at lt), bit_there words r.unlogged w room at (has.exist at lt) (λ e. yet (sym e) tt))
+  step_leaves Logged yet = (get_or-set_other words w at value.0 0 (λ e. yet (sym e) tt), bit_behind words r.unlogged w value.0 at (before w heap) (has.exist at lt))
   step_leaves (Ended how) yet = (refl, refl)
 
 -- who is past the barrier stays so

@@ -24,7 +24,7 @@ use Rattle.lxr_barrier.specs.declared.machines.StoreEnd.TheVariants.{LogFull}
 use Rattle.lxr_barrier.specs.Storing.{Storing, entry_of, is_full, is_set, place_in, reference_word}
 use Rattle.lxr_barrier.specs.Storers.{Logging, storer_machine}
 use Rattle.lxr_barrier.specs.Unlogged.{HasBits, IsBeginning, IsStoreIn, StoreView, UnloggedBitsAndLogs, entries_for, entry_word, loaded_by, ready_for, store_view, unlogged_bit}
-use Rattle.lxr_barrier.proofs.BitLemmas.{cleared_words, bit_here, bit_there, word_before, bit_behind}
+use Rattle.lxr_barrier.proofs.BitLemmas.{bit_read, cleared_words, bit_here, bit_there, word_before, bit_behind}
 use Rattle.lxr_barrier.proofs.ViewLemmas.{all_at, all_to, set_itself}
 use Rattle.lxr_barrier.proofs.UnloggedLemmas.{Clears, EntryFits, LoadedFits, ReadyFits, StoresTo, elsewhere, none_loaded, none_ready, one_loaded, one_ready, quiet, first_clear, late_clear, stored}
 use Rattle.lxr_barrier.proofs.StorerLemmas.{change_same, same_bits, same_store_in}
@@ -66,24 +66,27 @@ module _ (r : Regions) (opening words : List ℕ) (has : HasBits r words) (views
   clears : Clears r words (cleared_words words r.unlogged w room) w
   clears = record {
     here = bit_here words r.unlogged w room;
-    there = λ k ne. bit_there words r.unlogged w room k ne;
+    there = λ k lt ne. bit_there words r.unlogged w room k (has.exist k lt) ne;
     heap = λ k lt. word_before words r.unlogged w room k (let b = has.behind in omega arith);
   }
 
   stores : StoresTo r words (slice_set words w value.0) w
   stores = record {
-    bits = λ k. bit_behind words r.unlogged w value.0 k before;
+    bits = λ k lt. bit_behind words r.unlogged w value.0 k before (has.exist k lt);
     heap = λ k ne. get_or-set_other words w k value.0 0 ne;
   }
 
   abbrev bits : ℕ
   bits = slice_index words (r.unlogged + w / 64)
 
+  bit : unlogged_bit r words w ≡ bit_at bits (w % 64)
+  bit = bit_read words r.unlogged w room
+
   look : (b f : Bool) → is_set bits (w % 64) ≡ b → slice_get views i ≡ Some (store_view (logging Begun)) → UnloggedBitsAndLogs r opening words views
       → UnloggedBitsAndLogs r opening words (set views i (store_view (logging (if b then (if f then Ended LogFull else Unlogged) else Logged))))
   look true true e at h = quiet r opening words views h i _ at None None (none_loaded r opening words) (none_ready r opening words)
   look true false e at h = quiet r opening words views h i _ at None None (none_loaded r opening words) (none_ready r opening words)
-  look false f e at h = quiet r opening words views h i _ at None (Some w) (none_loaded r opening words) (one_ready r opening words w (heap, clear_bit bits (w % 64) e))
+  look false f e at h = quiet r opening words views h i _ at None (Some w) (none_loaded r opening words) (one_ready r opening words w (heap, bit ∙ clear_bit bits (w % 64) e))
 
   -- what is loaded while the bit is set is the first value
   first_value : UnloggedBitsAndLogs r opening words views → unlogged_bit r words w ≡ 1 → (place_in (slice_index words w)).0 ≡ slice_index opening w
@@ -94,8 +97,8 @@ module _ (r : Regions) (opening words : List ℕ) (has : HasBits r words) (views
 
   clear : (old : Place) (b : Bool) → is_set bits (w % 64) ≡ b → slice_get views i ≡ Some (store_view (logging (Loaded old))) → UnloggedBitsAndLogs r opening words views
       → UnloggedBitsAndLogs r opening (cleared_words words r.unlogged w room) (set views i (store_view (record { store = storing Logged; log = (if b then pushed log (entry_of (storing (Loaded old)) old) else log) })))
-  clear old true e at h = first_clear r opening words views h i _ at _ w heap clears (entry_of (storing (Loaded old)) old) refl refl (set_bit bits (w % 64) e)
-  clear old false e at h = late_clear r opening words views h i _ at _ w heap clears (clear_bit bits (w % 64) e)
+  clear old true e at h = first_clear r opening words views h i _ at _ w heap clears (entry_of (storing (Loaded old)) old) refl refl (bit ∙ set_bit bits (w % 64) e)
+  clear old false e at h = late_clear r opening words views h i _ at _ w heap clears (bit ∙ clear_bit bits (w % 64) e)
 
   step_at : (p : Phase) → Keeps p
   step_at Begun at h = loads (r.unlogged + w / 64) _ (look (is_set bits (w % 64)) (is_full log) refl at h)

@@ -12,12 +12,12 @@ use Rattle.lxr_barrier.proofs.ViewLemmas.{all_at, all_to, sum_set, count_yes, co
 -- bit w is cleared, and nothing else of bits and heap changes
 pub record Clears (r : Regions) (words words' : List ℕ) (w : ℕ) : Type 0 where
   pub here : unlogged_bit r words' w ≡ 0
-  pub there : (k : ℕ) → k ≢ w → unlogged_bit r words' k ≡ unlogged_bit r words k
+  pub there : (k : ℕ) → k < r.counts → k ≢ w → unlogged_bit r words' k ≡ unlogged_bit r words k
   pub heap : (k : ℕ) → k < r.counts → slice_index words' k ≡ slice_index words k
 
 -- heap word w is stored to, and nothing else of bits and heap changes
 pub record StoresTo (r : Regions) (words words' : List ℕ) (w : ℕ) : Type 0 where
-  pub bits : (k : ℕ) → unlogged_bit r words' k ≡ unlogged_bit r words k
+  pub bits : (k : ℕ) → k < r.counts → unlogged_bit r words' k ≡ unlogged_bit r words k
   pub heap : (k : ℕ) → k ≢ w → slice_index words' k ≡ slice_index words k
 
 -- to show a fact of a number: at w, and elsewhere
@@ -84,22 +84,22 @@ module _ (r : Regions) (opening : List ℕ) where
     }
 
     module _ (words' : List ℕ) (w : ℕ) (heap : w < r.counts) (c : Clears r words words' w) where
-      still_set : (k : ℕ) → unlogged_bit r words' k ≡ 1 → unlogged_bit r words k ≡ 1
-      still_set k = by_number (λ x. unlogged_bit r words' x ≡ 1 → unlogged_bit r words x ≡ 1) w k (nat_eq k w) refl (λ e. let z = c.here in absurd (omega arith)) (λ ne e. sym (c.there k ne) ∙ e)
+      still_set : (k : ℕ) → k < r.counts → unlogged_bit r words' k ≡ 1 → unlogged_bit r words k ≡ 1
+      still_set k lt = by_number (λ x. x < r.counts → unlogged_bit r words' x ≡ 1 → unlogged_bit r words x ≡ 1) w k (nat_eq k w) refl (λ lt e. let z = c.here in absurd (omega arith)) (λ ne lt e. sym (c.there k lt ne) ∙ e) lt
 
-      still_clear : (k : ℕ) → unlogged_bit r words k ≡ 0 → unlogged_bit r words' k ≡ 0
-      still_clear k = by_number (λ x. unlogged_bit r words x ≡ 0 → unlogged_bit r words' x ≡ 0) w k (nat_eq k w) refl (λ e. c.here) (λ ne e. c.there k ne ∙ e)
+      still_clear : (k : ℕ) → k < r.counts → unlogged_bit r words k ≡ 0 → unlogged_bit r words' k ≡ 0
+      still_clear k lt = by_number (λ x. x < r.counts → unlogged_bit r words x ≡ 0 → unlogged_bit r words' x ≡ 0) w k (nat_eq k w) refl (λ lt e. c.here) (λ ne lt e. c.there k lt ne ∙ e) lt
 
       cleared : (log : List LogEntry) → ((k : ℕ) → IsUnlogged r opening k → entries_for k (set views i (after log None (Some w))) + unlogged_bit r words' k ≡ 1) → All EntryFits log
           → UnloggedBitsAndLogs r opening words' (set views i (after log None (Some w)))
       cleared log once entries = record {
         places = h.places;
-        only = λ k set. h.only k (set.0, still_set k set.1);
-        unwritten = λ k set. c.heap k set.0 ∙ h.unwritten k (set.0, still_set k set.1);
+        only = λ k set. h.only k (set.0, still_set k set.0 set.1);
+        unwritten = λ k set. c.heap k set.0 ∙ h.unwritten k (set.0, still_set k set.0 set.1);
         once = once;
         entries = All-set (λ x. All EntryFits x.log) views i _ entries h.entries;
-        loaded = All-set (λ x. LoadedFits words' x.loaded) views i _ (none_loaded words') (all_to (λ x. LoadedFits words x.loaded) (λ x. LoadedFits words' x.loaded) views (λ x fits e q set. fits e q (set.0, still_set (entry_word e) set.1)) h.loaded);
-        ready = All-set (λ x. ReadyFits words' x.ready) views i _ (one_ready words' w (heap, c.here)) (all_to (λ x. ReadyFits words x.ready) (λ x. ReadyFits words' x.ready) views (λ x fits k q. ((fits k q).0, still_clear k (fits k q).1)) h.ready);
+        loaded = All-set (λ x. LoadedFits words' x.loaded) views i _ (none_loaded words') (all_to (λ x. LoadedFits words x.loaded) (λ x. LoadedFits words' x.loaded) views (λ x fits e q set. fits e q (set.0, still_set (entry_word e) set.0 set.1)) h.loaded);
+        ready = All-set (λ x. ReadyFits words' x.ready) views i _ (one_ready words' w (heap, c.here)) (all_to (λ x. ReadyFits words x.ready) (λ x. ReadyFits words' x.ready) views (λ x fits k q. ((fits k q).0, still_clear k (fits k q).0 (fits k q).1)) h.ready);
       }
 
       -- the first to clear the bit records what it loaded
@@ -113,7 +113,7 @@ module _ (r : Regions) (opening : List ℕ) where
           cleared log
           (λ k. by_number (λ x. IsUnlogged r opening x → entries_for x (set views i (after log None (Some w))) + unlogged_bit r words' x ≡ 1) w k (nat_eq k w) refl
           (λ ref. let s = sums w in let o = h.once w ref in let z = c.here in omega arith)
-          (λ ne ref. let s = sums k in let o = h.once k ref in let z = c.there k ne in let same = count_no (test k) v.log e (ne_eqb (entry_word e) k (λ q. ne (sym q ∙ is))) in omega arith))
+          (λ ne ref. let s = sums k in let o = h.once k ref in let z = c.there k ref.0 ne in let same = count_no (test k) v.log e (ne_eqb (entry_word e) k (λ q. ne (sym q ∙ is))) in omega arith))
           (All-push EntryFits v.log e (all_at (λ x. All EntryFits x.log) views i v at h.entries) (subst (λ x. IsUnlogged r opening x) (sym is) (h.only w (heap, was)), value))
 
       -- who comes late records nothing
@@ -123,7 +123,7 @@ module _ (r : Regions) (opening : List ℕ) where
           cleared v.log
           (λ k. by_number (λ x. IsUnlogged r opening x → entries_for x (set views i (after v.log None (Some w))) + unlogged_bit r words' x ≡ 1) w k (nat_eq k w) refl
           (λ ref. let s = sums w in let o = h.once w ref in let z = c.here in omega arith)
-          (λ ne ref. let s = sums k in let o = h.once k ref in let z = c.there k ne in omega arith))
+          (λ ne ref. let s = sums k in let o = h.once k ref in let z = c.there k ref.0 ne in omega arith))
           (all_at (λ x. All EntryFits x.log) views i v at h.entries)
 
     -- a store comes after its bit was cleared
@@ -131,4 +131,4 @@ module _ (r : Regions) (opening : List ℕ) where
     stored words' w s ready =
         let clear = all_at (λ x. ReadyFits words x.ready) views i v at h.ready w ready in
         let q = quiet None None (none_loaded words) (none_ready words) in
-        elsewhere words words' _ (λ k lt. s.bits k) (λ k set. s.heap k (λ e. let z = subst (IsUnlogged r words) e set in absurd (omega arith))) q
+        elsewhere words words' _ s.bits (λ k set. s.heap k (λ e. let z = subst (IsUnlogged r words) e set in absurd (omega arith))) q

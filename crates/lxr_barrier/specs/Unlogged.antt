@@ -1,11 +1,11 @@
 -- Unlogged bits and logs: for each reference, one word or one log entry keeps the value that it had at the beginning.
-use Rattle.std.specs.Prelude.{◌≡◌, ℕ, ◌+◌, ◌/◌, ◌%◌, ◌^◌, ◌<◌, ◌≤◌, ◌⊎◌, Option, Some, None, List, [], length, nat_eq, slice_get, slice_index}
-use Rattle.std.specs.Int.{bit_at}
+use Rattle.std.specs.Prelude.{◌≡◌, ℕ, ◌+◌, ◌/◌, ◌^◌, ◌<◌, ◌≤◌, ◌⊎◌, Option, Some, None, List, [], length, nat_eq, slice_get, slice_index}
 use Rattle.std.specs.List.{All, sum_by, count_by}
 use Rattle.lxr_layout.specs.declared.Place.{Place}
 use Rattle.lxr_layout.specs.declared.limits.Regions.{Regions}
 use Rattle.lxr_layout.specs.declared.runs.LogEntry.{LogEntry}
 use Rattle.lxr_lists.specs.Roomy.{pushed}
+use Rattle.lxr_tables.specs.Entries.{bits_from}
 use Rattle.lxr_barrier.specs.declared.machines.Phase.{Phase}
 use Rattle.lxr_barrier.specs.declared.machines.Phase.TheVariants.{Begun, Unlogged, Loaded, Logged, Ended}
 use Rattle.lxr_barrier.specs.Storing.{Storing, IsPastBarrier, entry_of, reference_word, target}
@@ -45,9 +45,9 @@ abbrev pub entries_for : ℕ → List StoreView → ℕ
 entries_for at views = sum_by (λ v. count_by (λ e. nat_eq (entry_word e) at) v.log) views
 
 module _ (r : Regions) where
-  -- the unlogged bit of a heap word: 1 where it is set
+  -- the unlogged bit of a heap word, from the table of these bits: 1 where it is set
   abbrev pub unlogged_bit : List ℕ → ℕ → ℕ
-  unlogged_bit words at = bit_at (slice_index words (r.unlogged + at / 64)) (at % 64)
+  unlogged_bit words at = slice_index (bits_from words r.unlogged) at
 
   -- a heap word whose unlogged bit is set
   abbrev pub IsUnlogged : List ℕ → ℕ → Type 0
