@@ -1,7 +1,9 @@
 -- One word written clears one bit of a table, or writes one word before it. Bits and masks end here.
-use Rattle.std.proofs.Common.{◌≡◌, ◌≢◌, ℕ, ◌+◌, ◌/◌, ◌%◌, ◌<◌, ◌*◌, ◌^◌, refl, sym, ap, subst, ◌∙◌, arith, Bool, true, false, List, length, length-set, get_or-set_same, get_or-set_other, nat_eq}
+use Rattle.std.proofs.Common.{◌≡◌, ◌≢◌, ℕ, ◌+◌, ◌-◌, ◌/◌, ◌%◌, ◌<◌, ◌*◌, ◌^◌, refl, sym, ap, subst, ◌∙◌, arith, Bool, true, false, List, length, length-set, get_or-set_same, get_or-set_other, nat_eq}
 use Rattle.std.specs.Prelude.{slice_set, slice_index, bit_and}
 use Rattle.std.specs.Int.{w64, bit_at}
+use Rattle.std.proofs.Math.Nat.{mod-eq_of_lt}
+use Rattle.std.proofs.Math.Pow.{pow-lt}
 use Rattle.std.proofs.lemmas.Nat.Bits.{bit_at_clear_same, bit_at_clear_other}
 use Rattle.lxr_tables.specs.Entries.{bits_from}
 use Rattle.lxr_tables.proofs.EntryLemmas.{entry_read}
@@ -15,6 +17,14 @@ pub bit_read : (words : List ℕ) (base n : ℕ) → base + n / 64 < length word
 bit_read words base n room =
     let one : 1 * (n % 64) ≡ n % 64 = omega arith in
     entry_read 1 64 base n words (omega arith) room ∙ ap (λ (k : ℕ). slice_index words (base + n / 64) / 2 ^ k % 2) one
+
+-- the mask of the code: a one shifted and turned round
+pub mask : (n : ℕ) → n < 64 → 2 ^ 64 - 1 - 1 * 2 ^ n % 2 ^ 64 ≡ all_but n
+mask n h =
+    let below : 2 ^ n < 2 ^ 64 = pow-lt h in
+    let one : 1 * 2 ^ n ≡ 2 ^ n = omega arith in
+    let whole : 1 * 2 ^ n % 2 ^ 64 ≡ 2 ^ n = ap (λ x. x % 2 ^ 64) one ∙ mod-eq_of_lt below in
+    ap (λ x. 2 ^ 64 - 1 - x) whole
 
 same_bit : (a b : ℕ) → a / 64 ≡ b / 64 → a % 64 ≡ b % 64 → a ≡ b
 same_bit a b p q = omega arith
@@ -31,7 +41,7 @@ module _ (words : List ℕ) (base n : ℕ) (room : base + n / 64 < length words)
   written = get_or-set_same words (base + n / 64) (bit_and (slice_index words (base + n / 64)) (all_but (n % 64))) 0 room
 
   here_cleared : bit_in cleared_words base n ≡ 0
-  here_cleared = ap (λ x. bit_at x (n % 64)) written ∙ bit_at_clear_same w64 (slice_index words (base + n / 64)) (n % 64) (below_64 n)
+  here_cleared = ap (λ x. bit_at x (n % 64)) written ∙ ap (λ m. bit_at (bit_and (slice_index words (base + n / 64)) m) (n % 64)) (sym (mask (n % 64) (below_64 n))) ∙ bit_at_clear_same w64 (slice_index words (base + n / 64)) (n % 64) (below_64 n)
 
   other_word : (k : ℕ) → k / 64 ≢ n / 64 → bit_in cleared_words base k ≡ bit_in words base k
   other_word k ne = ap (λ x. bit_at x (k % 64)) (get_or-set_other words (base + n / 64) (base + k / 64) _ 0 (λ e. ne (omega arith)))
@@ -41,6 +51,7 @@ module _ (words : List ℕ) (base n : ℕ) (room : base + n / 64 < length words)
       let q : base + k / 64 ≡ base + n / 64 = ap (λ x. base + x) e in
       ap (λ x. bit_at (slice_index cleared_words x) (k % 64)) q
       ∙ ap (λ x. bit_at x (k % 64)) written
+      ∙ ap (λ m. bit_at (bit_and (slice_index words (base + n / 64)) m) (k % 64)) (sym (mask (n % 64) (below_64 n)))
       ∙ bit_at_clear_other w64 (slice_index words (base + n / 64)) (n % 64) (below_64 n) (k % 64) (below_64 k) (λ r. ne (same_bit k n e r))
       ∙ ap (λ x. bit_at (slice_index words x) (k % 64)) (sym q)
 

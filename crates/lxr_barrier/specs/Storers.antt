@@ -7,6 +7,7 @@ use Rattle.lxr_barrier.specs.declared.machines.Phase.{Phase}
 use Rattle.lxr_barrier.specs.declared.machines.Phase.TheVariants.{Begun, Unlogged, Loaded, Logged, Ended}
 use Rattle.lxr_barrier.specs.Storing.{Storing, next_action, store_after, log_after}
 
+-- a store, and the log that it records in
 pub record Logging : Type 0 where
   pub store : Storing
   pub log : Roomy LogEntry
@@ -35,6 +36,7 @@ steps_left (Loaded old) = 2
 steps_left Logged = 1
 steps_left (Ended how) = 0
 
+-- both, once the store is told what its word was
 abbrev pub storer_after : Logging → ℕ → Logging
 storer_after s old = record { store = store_after s.store s.log old; log = log_after s.store s.log old }
 

@@ -1,5 +1,5 @@
 -- One store of a reference behind the barrier: what its machine knows, and its single steps.
-use Rattle.std.specs.Prelude.{ℕ, ◌+◌, ◌-◌, ◌*◌, ◌/◌, ◌%◌, ◌^◌, Bool, nat_eq, nat_le, if◌then◌else◌, Option, Some, None, length}
+use Rattle.std.specs.Prelude.{ℕ, ◌+◌, ◌-◌, ◌/◌, ◌%◌, ◌^◌, Bool, nat_eq, nat_le, if◌then◌else◌, Option, Some, None, length}
 use Rattle.std.specs.Int.{bit_at}
 use Rattle.lxr_layout.specs.Places.{first_word}
 use Rattle.lxr_layout.specs.declared.Place.{Place}
@@ -43,15 +43,17 @@ bit_number s = target s % 64
 
 -- all bits of a word but one
 abbrev pub all_but : ℕ → ℕ
-all_but n = 2 ^ 64 - 1 - 1 * 2 ^ n % 2 ^ 64
+all_but n = 2 ^ 64 - 1 - 2 ^ n
 
--- the place that a reference word holds
+-- the place that a reference word holds, in its low 32 bits
 abbrev pub place_in : ℕ → Place
 place_in word = record { 0 = word % 2 ^ 32 }
 
+-- this bit of a word is set
 abbrev pub is_set : ℕ → ℕ → Bool
 is_set word n = nat_eq (bit_at word n) 1
 
+-- the log has no room for a further entry
 abbrev pub is_full : Roomy LogEntry → Bool
 is_full log = nat_le log.room (length log.items)
 
@@ -91,7 +93,7 @@ store_after s log old = record s { phase = phase_after s log old s.phase }
 abbrev pub entry_of : Storing → Place → LogEntry
 entry_of s old = record { place = s.place; index = s.index; old = old }
 
--- the log after: who clears the bit records what it loaded, and who finds it cleared records nothing
+-- the log then: who clears the bit records what it loaded, and who finds it cleared records nothing
 abbrev pub log_in : Storing → Roomy LogEntry → ℕ → Phase → Roomy LogEntry
 log_in s log old Begun = log
 log_in s log old Unlogged = log

@@ -19,6 +19,7 @@ pub record StoreView : Type 0 where
   -- the heap word that it is about to store to
   pub ready : Option ℕ
 
+-- the entry that it records if it is the first to clear the bit
 abbrev pub loaded_by : Storing → Phase → Option LogEntry
 loaded_by s Begun = None
 loaded_by s Unlogged = None
@@ -26,6 +27,7 @@ loaded_by s (Loaded old) = Some (entry_of s old)
 loaded_by s Logged = None
 loaded_by s (Ended how) = None
 
+-- where it is about to store
 abbrev pub ready_for : Storing → Phase → Option ℕ
 ready_for s Begun = None
 ready_for s Unlogged = None
@@ -33,6 +35,7 @@ ready_for s (Loaded old) = None
 ready_for s Logged = Some (target s)
 ready_for s (Ended how) = None
 
+-- what a storer shows
 abbrev pub store_view : Logging → StoreView
 store_view s = record { log = s.log.items; loaded = loaded_by s.store s.store.phase; ready = ready_for s.store s.store.phase }
 
@@ -102,5 +105,6 @@ pub record KeepsOwnLog (s t : Logging) : Type 0 where
   pub store : t.store ≡ record s.store { phase = t.store.phase }
   pub log : (t.log ≡ s.log) ⊎ (IsPastBarrier t.store.phase × ((old : Place) × (t.log ≡ pushed s.log (entry_of s.store old))))
 
+-- each storer and what becomes of it
 abbrev pub KeepOwnLogs : List Logging → List Logging → Type 0
 KeepOwnLogs storers storers' = (i : ℕ) (s t : Logging) → slice_get storers i ≡ Some s → slice_get storers' i ≡ Some t → KeepsOwnLog s t

@@ -7,10 +7,12 @@
 //! winner's loaded value the first one: the reference is loaded before the bit is cleared.
 #![tactic(auto)]
 
+mod laws;
 mod logs;
 mod machines;
 mod storers;
 
+pub use laws::stores_keep_first_values;
 pub use logs::Log;
 pub use machines::{Phase, StoreEnd, StoreMachine};
 pub use storers::{Storer, replay_stores};

@@ -62,7 +62,8 @@ impl Model for StoreMachine {
 }
 
 impl StoreMachine {
-    /// A store of `value` to a reference of the object at `place`, which has taken no step.
+    /// A store of `value` to reference `index` of the object at `place`, in a space of these regions. It has taken no
+    /// step.
     pub fn new(regions: Regions, place: Place, index: u16, value: Place) -> StoreMachine
         requires regions { regions.unlogged + regions.counts / 64 < 2 ^ 32 }
         requires place { IsPlace place }
@@ -80,6 +81,7 @@ impl StoreMachine {
 
     /// The atomic step that is due; none where the store is through.
     #[inline(always)]
+    #[tactic(auto, using(crate::proofs::BitLemmas::mask))]
     pub fn next(&self) -> Option<Action>
         ensures { result ≡ next_action self.now }
     {
@@ -101,7 +103,7 @@ impl StoreMachine {
     }
 
     /// Goes on after the due step was done on a word that was `old`. The one who cleared the bit records what it
-    /// loaded; the one who found it cleared records nothing.
+    /// loaded, for which the log has room; the one who found it cleared records nothing.
     #[inline(always)]
     pub fn take(&mut self, old: u64, log: &mut Log)
         requires next { IsSome (next_action self.old) }

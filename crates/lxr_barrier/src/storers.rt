@@ -10,7 +10,7 @@ ghost use Rattle.lxr_barrier.specs.Storing.{bit_word, target};
 ghost use Rattle.lxr_barrier.specs.Unlogged.{ChangesOnlyBehindBarrier, HasBits, IsBeginning, IsStoreIn, KeepOwnLogs, UnloggedBitsAndLogs, store_view};
 
 use crate::logs::Log;
-use crate::machines::{Phase, StoreMachine};
+use crate::machines::StoreMachine;
 use lxr_actor::{Action, Actor, replay};
 use lxr_layout::Place;
 use lxr_tables::PlainWords;

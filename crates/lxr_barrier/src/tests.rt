@@ -16,18 +16,19 @@ const LIMITS: Limits = Limits {
     remember: 1,
 };
 
-/// The reference, which is heap word 67: bit 3 of the second word of the unlogged bits.
+/// The reference: heap word 67.
 const PLACE: Place = Place(33);
 
 const INDEX: u16 = 2;
 
 const FIELD: usize = 67;
 
+/// The second word of the unlogged bits, which begin at word 4,288 of a space of one block, and the reference's bit.
 const BITS: usize = 4289;
 
 const BIT: u64 = 8;
 
-/// What the reference holds at first, and what the two store.
+/// What the reference holds at first, and what the two stores write.
 const P: Place = Place(9);
 
 const A: Place = Place(17);
