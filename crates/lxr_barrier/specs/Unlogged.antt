@@ -1,5 +1,5 @@
 -- Unlogged bits and logs: for each reference, one word or one log entry keeps the value that it had at the beginning.
-use Rattle.std.specs.Prelude.{◌≡◌, ℕ, ◌+◌, ◌/◌, ◌^◌, ◌<◌, ◌≤◌, ◌⊎◌, Option, Some, None, List, [], length, nat_eq, slice_get, slice_index}
+use Rattle.std.specs.Prelude.{◌≡◌, ℕ, ◌+◌, ◌/◌, ◌^◌, ◌<◌, ◌≤◌, ◌⊎◌, Option, Some, None, List, [], length, map, nat_eq, slice_get, slice_index}
 use Rattle.std.specs.List.{All, sum_by, count_by}
 use Rattle.lxr_layout.specs.declared.Place.{Place}
 use Rattle.lxr_layout.specs.declared.limits.Regions.{Regions}
@@ -8,7 +8,7 @@ use Rattle.lxr_lists.specs.Roomy.{pushed}
 use Rattle.lxr_tables.specs.Entries.{bits_from}
 use Rattle.lxr_barrier.specs.declared.machines.Phase.{Phase}
 use Rattle.lxr_barrier.specs.declared.machines.Phase.TheVariants.{Begun, Unlogged, Loaded, Logged, Ended}
-use Rattle.lxr_barrier.specs.Storing.{Storing, IsPastBarrier, entry_of, reference_word, target}
+use Rattle.lxr_barrier.specs.Storing.{Storing, IsPastBarrier, bit_word, entry_of, reference_word, target}
 use Rattle.lxr_barrier.specs.Storers.{Logging}
 
 -- what a log and a store machine show of themselves here
@@ -47,6 +47,10 @@ entry_word e = reference_word e.place e.index
 abbrev pub entries_for : ℕ → List StoreView → ℕ
 entries_for at views = sum_by (λ v. count_by (λ e. nat_eq (entry_word e) at) v.log) views
 
+-- the old value of an entry is what its reference held in the opening words
+abbrev pub HasFirstValue : List ℕ → LogEntry → Type 0
+HasFirstValue opening e = e.old.0 ≡ slice_index opening (entry_word e)
+
 module _ (r : Regions) where
   -- the unlogged bit of a heap word, from the table of these bits: 1 where it is set
   abbrev pub unlogged_bit : List ℕ → ℕ → ℕ
@@ -72,11 +76,15 @@ module _ (r : Regions) where
     -- either the bit is set, or exactly one log has exactly one entry
     pub once : (at : ℕ) → IsUnlogged opening at → entries_for at views + unlogged_bit words at ≡ 1
     -- each entry is for a reference, and has its first value
-    pub entries : All (λ v. All (λ e. IsUnlogged opening (entry_word e) × (e.old.0 ≡ slice_index opening (entry_word e))) v.log) views
+    pub entries : All (λ v. All (λ e. IsUnlogged opening (entry_word e) × HasFirstValue opening e) v.log) views
     -- what was loaded is the first value while the bit is set
-    pub loaded : All (λ v. (e : LogEntry) → v.loaded ≡ Some e → IsUnlogged words (entry_word e) → e.old.0 ≡ slice_index opening (entry_word e)) views
+    pub loaded : All (λ v. (e : LogEntry) → v.loaded ≡ Some e → IsUnlogged words (entry_word e) → HasFirstValue opening e) views
     -- who is about to store has the bit clear
     pub ready : All (λ v. (at : ℕ) → v.ready ≡ Some at → IsLogged words at) views
+
+  -- the words and the logs of these storers lead from the opening words
+  abbrev pub KeepFirstValues : List ℕ → List ℕ → List Logging → Type 0
+  KeepFirstValues opening words storers = UnloggedBitsAndLogs opening words (map store_view storers)
 
   -- each heap word has its bit among the words, behind the heap
   pub record HasBits (words : List ℕ) : Type 0 where
@@ -88,6 +96,10 @@ module _ (r : Regions) where
     pub bits : s.unlogged ≡ r.unlogged
     pub heap : target s < r.counts
 
+  -- storers on words of these regions
+  abbrev pub AreStorersIn : List ℕ → List Logging → Type 0
+  AreStorersIn words storers = HasBits words × All (λ s. IsStoreIn s.store) storers
+
   -- a beginning: no store has taken a step, the logs are empty, and references hold places, or nil
   pub record IsBeginning (words : List ℕ) (storers : List Logging) : Type 0 where
     pub begun : All (λ s. (s.store.phase ≡ Begun) × (s.log.items ≡ [])) storers
@@ -98,6 +110,10 @@ module _ (r : Regions) where
   ChangesOnlyBehindBarrier words words' storers' =
       (at : ℕ) → at < r.counts → All (λ t. target t.store ≡ at → ¬ IsPastBarrier t.store.phase) storers'
       → (slice_index words' at ≡ slice_index words at) × (unlogged_bit words' at ≡ unlogged_bit words at)
+
+-- each word with a storer's bit, and its reference, exist
+abbrev pub HaveWords : List ℕ → List Logging → Type 0
+HaveWords words storers = All (λ s. (bit_word s.store < length words) × (target s.store < length words)) storers
 
 -- a storer and what becomes of it: its log has at most one entry more, for its own reference, and only once it is
 -- past the barrier

@@ -1,13 +1,11 @@
 //! Storers: store machines with logs of their own, run beside each other on shared words.
 ghost use Rattle.std.specs.Prelude.{◌≡◌, ◌<◌, List, ℕ, length, map};
-ghost use Rattle.std.specs.List.{All};
 ghost use Rattle.lxr_layout.specs.declared.limits.Regions.{Regions};
 ghost use Rattle.lxr_actor.specs.Run.{core_of, run};
 ghost use Rattle.lxr_actor.specs.declared.Event.TheVariants.{Step};
 ghost use Rattle.lxr_barrier.specs.declared.machines.Phase.TheVariants.{Begun};
 ghost use Rattle.lxr_barrier.specs.Storers.{storer_machine};
-ghost use Rattle.lxr_barrier.specs.Storing.{bit_word, target};
-ghost use Rattle.lxr_barrier.specs.Unlogged.{ChangesOnlyBehindBarrier, HasBits, IsBeginning, IsStoreIn, KeepOwnLogs, UnloggedBitsAndLogs, store_view};
+ghost use Rattle.lxr_barrier.specs.Unlogged.{AreStorersIn, ChangesOnlyBehindBarrier, HaveWords, IsBeginning, KeepFirstValues, KeepOwnLogs};
 
 use crate::logs::Log;
 use crate::machines::StoreMachine;
@@ -82,21 +80,21 @@ impl Actor for Storer {
 /// Replays storers on words of one owner: the steps of a schedule, one after another. Whatever the schedule, for
 /// each reference either its word or exactly one log entry keeps the value that it had at the beginning.
 pub fn replay_stores(words: &mut PlainWords, storers: &mut [Storer], schedule: &[u8])
-    requires { All (λ s. (bit_word s.store < length words.old) × (target s.store < length words.old)) storers.old }
+    requires { HaveWords words.old storers.old }
     ensures run { core_of words.new storers.new ≡ run storer_machine (core_of words.old storers.old) (map Step schedule.now) }
     ensures count { length words.new ≡ length words.old }
 
-    // From every state in which unlogged bits and logs agree, and so from a beginning, they agree afterwards.
-    ensures kept { (regions : Regions) → (opening : List ℕ) → HasBits regions words.old → All (λ s. IsStoreIn regions s.store) storers.old
-        → UnloggedBitsAndLogs regions opening words.old (map store_view storers.old)
-        → UnloggedBitsAndLogs regions opening words.new (map store_view storers.new) }
-    ensures beginning { (regions : Regions) → HasBits regions words.old → All (λ s. IsStoreIn regions s.store) storers.old
+    // What kept the first values keeps them, and so they are kept from a beginning.
+    ensures kept { (regions : Regions) → (opening : List ℕ) → AreStorersIn regions words.old storers.old
+        → KeepFirstValues regions opening words.old storers.old
+        → KeepFirstValues regions opening words.new storers.new }
+    ensures beginning { (regions : Regions) → AreStorersIn regions words.old storers.old
         → IsBeginning regions words.old storers.old
-        → UnloggedBitsAndLogs regions words.old words.new (map store_view storers.new) }
+        → KeepFirstValues regions words.old words.new storers.new }
 
     // Who finds the bit cleared by another, or its own log full, records nothing; a full log leaves all as it was.
     ensures logs { KeepOwnLogs storers.old storers.new }
-    ensures untouched { (regions : Regions) → HasBits regions words.old → All (λ s. IsStoreIn regions s.store) storers.old
+    ensures untouched { (regions : Regions) → AreStorersIn regions words.old storers.old
         → ChangesOnlyBehindBarrier regions words.old words.new storers.new }
 {
     replay(words, storers, schedule);

@@ -18,15 +18,15 @@ returns-clause-count c = ap (λ (after : Core Logging). length after.words) c.re
 
 -- the core that is left, from what `replay` says of it
 pub returns-clause-kept : goal.returns-clause-kept
-returns-clause-kept c regions opening has stores kept =
+returns-clause-kept c regions opening are kept =
     let core : Core Logging = core_of c.args.words.now c.args.storers.now in
-    (subst (HoldsIn regions opening) (sym c.replay.ensures) (schedule_keeps regions opening core (map Step c.args.schedule.now) (record { has = has; stores = stores; kept = kept }))).kept
+    (subst (HoldsIn regions opening) (sym c.replay.ensures) (schedule_keeps regions opening core (map Step c.args.schedule.now) (record { has = are.0; stores = are.1; kept = kept }))).kept
 
 pub returns-clause-beginning : goal.returns-clause-beginning
-returns-clause-beginning c regions has stores begins =
+returns-clause-beginning c regions are begins =
     let core : Core Logging = core_of c.args.words.now c.args.storers.now in
     let kept = beginning_holds regions core.words core.actors begins in
-    (subst (HoldsIn regions core.words) (sym c.replay.ensures) (schedule_keeps regions core.words core (map Step c.args.schedule.now) (record { has = has; stores = stores; kept = kept }))).kept
+    (subst (HoldsIn regions core.words) (sym c.replay.ensures) (schedule_keeps regions core.words core (map Step c.args.schedule.now) (record { has = are.0; stores = are.1; kept = kept }))).kept
 
 pub returns-clause-logs : goal.returns-clause-logs
 returns-clause-logs c =
@@ -34,6 +34,6 @@ returns-clause-logs c =
     subst (λ (after : Core Logging). KeepOwnLogs core.actors after.actors) (sym c.replay.ensures) (schedule_keeps_logs core (map Step c.args.schedule.now))
 
 pub returns-clause-untouched : goal.returns-clause-untouched
-returns-clause-untouched c regions has stores =
+returns-clause-untouched c regions are =
     let core : Core Logging = core_of c.args.words.now c.args.storers.now in
-    subst (λ (after : Core Logging). ChangesOnlyBehindBarrier regions core.words after.words after.actors) (sym c.replay.ensures) (schedule_leaves regions core has stores (map Step c.args.schedule.now))
+    subst (λ (after : Core Logging). ChangesOnlyBehindBarrier regions core.words after.words after.actors) (sym c.replay.ensures) (schedule_leaves regions core are.0 are.1 (map Step c.args.schedule.now))
