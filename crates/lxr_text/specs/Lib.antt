@@ -1,0 +1,5 @@
+pub mod Lines
+pub mod Replies
+pub mod Reports
+pub mod Summary
+pub mod Pages
