@@ -3,3 +3,4 @@ pub mod Replies
 pub mod Reports
 pub mod Summary
 pub mod Pages
+pub mod Laws
