@@ -1,0 +1,6 @@
+pub mod Lines
+pub mod Replies
+pub mod Reports
+pub mod Summary
+pub mod Pages
+pub mod Laws
