@@ -1,0 +1,7 @@
+pub mod Lines
+pub mod Numbers
+pub mod Operations
+pub mod Reading
+pub mod Limits
+pub mod Faults
+pub mod Scanner
