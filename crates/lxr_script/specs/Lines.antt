@@ -1,6 +1,6 @@
 -- A text as numbered lines of words. What a line is, is said by std's `lines`: lines end at a line feed, one carriage
 -- return before it is dropped, a last line needs no line feed, and an empty rest after the last line feed is no line.
-use Rattle.std.specs.Prelude.{ℕ, ◌+◌, Bool, false, not, ◌||◌, ◌==◌, List, [], ◌∷◌, length, nat_lt, slice_index, filter}
+use Rattle.std.specs.Prelude.{ℕ, ◌+◌, Bool, true, false, not, ◌||◌, ◌==◌, List, [], ◌∷◌, length, slice_index, filter}
 use Rattle.std.specs.List.{slice_split}
 use Rattle.std.specs.Str.Lines.{lines}
 
@@ -12,19 +12,28 @@ Text = List ℕ
 abbrev pub is_blank : ℕ → Bool
 is_blank b = b == 32 || b == 9
 
+-- a part of a line that isn't empty
+abbrev pub is_word : Text → Bool
+is_word [] = false
+is_word (b ∷ bs) = true
+
 -- the words of a line: what stands between spaces and tabs, where it isn't empty
 unfoldable pub words_of : Text → List Text
-words_of line = filter (λ word. nat_lt 0 (length word)) (slice_split is_blank line)
+words_of line = filter is_word (slice_split is_blank line)
 
 -- a line by its words, with its number
 pub record Line : Type 0 where
   pub number : ℕ
   pub words : List Text
 
+-- the line with number n and these bytes
+abbrev pub text_line : ℕ → Text → Line
+text_line n line = record { number = n; words = words_of line }
+
 -- the lines, of which the first has number n
 abbrev pub numbered : ℕ → List Text → List Line
 numbered n [] = []
-numbered n (line ∷ others) = record { number = n; words = words_of line } ∷ numbered (n + 1) others
+numbered n (line ∷ others) = text_line n line ∷ numbered (n + 1) others
 
 -- there is a word, and the first doesn't begin with '#'
 abbrev pub has_item : List Text → Bool

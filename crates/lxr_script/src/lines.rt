@@ -1,8 +1,10 @@
 //! Lines and words of a text, cut off one after the other. The bytes are looked at from left to right, and nothing is
 //! copied.
-ghost use Rattle.std.specs.Prelude.{◌≡◌, ◌<◌, [], ◌∷◌, MatchOption, length};
+ghost use Rattle.std.specs.Prelude.{◌≡◌, ◌<◌, ◌==◌, [], ◌∷◌, MatchOption, false, length, not, position, true};
+ghost use Rattle.std.specs.List.{position_or_len};
 ghost use Rattle.std.specs.Str.Lines.{lines, strip_carriage_return};
-ghost use Rattle.lxr_script.specs.Lines.{words_of};
+ghost use Rattle.lxr_script.specs.Lines.{has_item, text_line, words_of};
+ghost use Rattle.lxr_script.specs.Scanner.{line_of};
 ghost use Rattle.lxr_script.specs.Lines as text;
 
 /// A line that isn't skipped: its number, its first word, and the bytes after that word.
@@ -35,15 +37,48 @@ fn without_carriage_return(line: &[u8]) -> &[u8]
     }
 }
 
+/// How many bytes stand before the first line feed, if there is one.
+fn line_end(text: &[u8]) -> Option<usize>
+    ensures { result ≡ position (λ b. b == 10) text.now }
+{
+    text.iter().position(|byte| *byte == b'\n')
+}
+
 /// The first line, and the bytes after it.
 fn split_line(text: &[u8]) -> (&[u8], &[u8])
     requires { 0 < length text.now }
     ensures lines { lines text.now ≡ result.0.now ∷ lines result.1.now }
     ensures shorter { length result.1.now < length text.now }
 {
-    match text.iter().position(|byte| *byte == b'\n') {
+    match line_end(text) {
         None => (text, &[]),
         Some(end) => (without_carriage_return(&text[..end]), &text[end + 1..]),
+    }
+}
+
+/// How many bytes stand before the first word, if there is one.
+fn word_start(line: &[u8]) -> Option<usize>
+    ensures { result ≡ position (λ b. not (text.is_blank b)) line.now }
+{
+    line.iter().position(|byte| !is_blank(*byte))
+}
+
+/// How many bytes stand before the first blank, if there is one.
+fn word_end(line: &[u8]) -> Option<usize>
+    ensures { result ≡ position text.is_blank line.now }
+{
+    line.iter().position(|byte| is_blank(*byte))
+}
+
+/// The word at the front, and the bytes after it.
+fn front_word(line: &[u8]) -> (&[u8], &[u8])
+    requires { 0 < position_or_len text.is_blank line.now }
+    ensures word { 0 < length result.0.now }
+    ensures words { words_of line.now ≡ result.0.now ∷ words_of result.1.now }
+{
+    match word_end(line) {
+        None => (line, &[]),
+        Some(end) => (&line[..end], &line[end..]),
     }
 }
 
@@ -51,17 +86,30 @@ fn split_line(text: &[u8]) -> (&[u8], &[u8])
 pub(crate) fn split_word(line: &[u8]) -> Option<(&[u8], &[u8])>
     ensures { MatchOption result (words_of line.now ≡ []) (λ found. (words_of line.now ≡ found.0.now ∷ words_of found.1.now) × (0 < length found.0.now)) }
 {
-    let start = line.iter().position(|byte| !is_blank(*byte))?;
-    let line = &line[start..];
-    let end = match line.iter().position(|byte| is_blank(*byte)) {
-        None => line.len(),
-        Some(end) => end,
-    };
-    Some((&line[..end], &line[end..]))
+    match word_start(line) {
+        None => None,
+        Some(start) => Some(front_word(&line[start..])),
+    }
+}
+
+/// The item of a line, if the line isn't skipped.
+fn item_of(number: u32, line: &[u8]) -> Option<Item<'_>>
+    ensures { MatchOption result (has_item (words_of line.now) ≡ false) (λ item. (has_item (words_of line.now) ≡ true) × (line_of item ≡ text_line number line.now)) }
+{
+    match split_word(line) {
+        None => None,
+        Some((word, rest)) => {
+            if word[0] == b'#' {
+                None
+            } else {
+                Some(Item { number, word, rest })
+            }
+        }
+    }
 }
 
 impl<'a> Scanner<'a> {
-    ghost use Rattle.lxr_script.specs.Scanner.{IsSmall, end_left, items_left, line_of};
+    ghost use Rattle.lxr_script.specs.Scanner.{IsSmall, end_left, items_left};
 
     pub fn new(text: &'a [u8]) -> Scanner<'a>
         ensures number { result.number ≡ 1 }
@@ -86,10 +134,8 @@ impl<'a> Scanner<'a> {
             let (line, rest) = split_line(self.rest);
             self.number = number + 1;
             self.rest = rest;
-            if let Some((word, rest)) = split_word(line) {
-                if word[0] != b'#' {
-                    return Some(Item { number, word, rest });
-                }
+            if let Some(item) = item_of(number, line) {
+                return Some(item);
             }
         }
         None
