@@ -49,12 +49,15 @@ threads_of end (line ∷ others) = do
   n ← or_fault (fault.Threads line.number) (thread_count (number_after (codes "threads") line.words))
   Ok (n, others)
 
+-- these words are `thread` and the number t
+abbrev pub is_opening : ℕ → List Text → Bool
+is_opening t words = option_map_or (λ n. n == t) (number_after (codes "thread") words) false
+
 -- the line `thread t`
 unfoldable pub opening_of : ℕ → ℕ → List Line → Read (List Line)
 opening_of end t [] = Err (fault.NoEnd end)
 opening_of end t (line ∷ others) =
-    if option_map_or (λ n. n == t) (number_after (codes "thread") line.words) false then Ok others
-    else Err (fault.Threads line.number)
+    if is_opening t line.words then Ok others else Err (fault.Threads line.number)
 
 -- the operation of a line; a thread has at most 1,048,576 of them, and so many stand before it
 unfoldable pub next_operation : ℕ → Line → Read Op

@@ -20,6 +20,7 @@ const MOST_BYTES: usize = 67_108_864;
 const MOST_OPERATIONS: usize = 1_048_576;
 
 /// The number of a line that consists of the given word and a number.
+#[tactic(auto, unfolding(crate::specs::Reading::number_after))]
 fn number_after(name: &[u8], item: &Item) -> Option<u64>
     ensures { result ≡ read.number_after name.now (line_of item.now).words }
 {
@@ -53,6 +54,7 @@ fn is_end(item: &Item) -> bool
 }
 
 /// Reads the line `lxr 1`.
+#[tactic(auto, unfolding(crate::specs::Reading::header_of))]
 fn read_header(lines: &mut Scanner) -> Result<(), ScriptFault>
     requires { IsSmall lines.old }
     ensures small { IsSmall lines.new }
@@ -71,7 +73,18 @@ fn read_header(lines: &mut Scanner) -> Result<(), ScriptFault>
     }
 }
 
+/// A number of 1 to 16.
+fn thread_count(number: Option<u64>) -> Option<u8>
+    ensures { result ≡ read.thread_count number }
+{
+    match number {
+        Some(number) if number >= 1 && number <= 16 => Some(number as u8),
+        _ => None,
+    }
+}
+
 /// Reads the line `threads N`, with N of 1 to 16.
+#[tactic(auto, unfolding(crate::specs::Reading::threads_of))]
 fn read_threads(lines: &mut Scanner) -> Result<u8, ScriptFault>
     requires { IsSmall lines.old }
     ensures small { IsSmall lines.new }
@@ -81,14 +94,23 @@ fn read_threads(lines: &mut Scanner) -> Result<u8, ScriptFault>
 {
     match lines.next() {
         None => Err(ScriptFault::Threads { line: lines.number }),
-        Some(item) => match number_after(b"threads", &item) {
-            Some(count @ 1..=16) => Ok(count as u8),
-            _ => Err(ScriptFault::Threads { line: item.number }),
-        },
+        Some(item) => thread_count(number_after(b"threads", &item))
+            .ok_or(ScriptFault::Threads { line: item.number }),
+    }
+}
+
+/// Whether a line is `thread t`.
+fn is_opening(item: &Item, thread: u8) -> bool
+    ensures { result ≡ read.is_opening thread (line_of item.now).words }
+{
+    match number_after(b"thread", item) {
+        None => false,
+        Some(number) => number == u64::from(thread),
     }
 }
 
 /// Reads the line `thread t`.
+#[tactic(auto, unfolding(crate::specs::Reading::opening_of))]
 fn read_opening(lines: &mut Scanner, thread: u8) -> Result<(), ScriptFault>
     requires { IsSmall lines.old }
     ensures small { IsSmall lines.new }
@@ -97,14 +119,18 @@ fn read_opening(lines: &mut Scanner, thread: u8) -> Result<(), ScriptFault>
 {
     match lines.next() {
         None => Err(ScriptFault::NoEnd { line: lines.number }),
-        Some(item) => match number_after(b"thread", &item) {
-            Some(number) if number == u64::from(thread) => Ok(()),
-            _ => Err(ScriptFault::Threads { line: item.number }),
-        },
+        Some(item) => {
+            if is_opening(&item, thread) {
+                Ok(())
+            } else {
+                Err(ScriptFault::Threads { line: item.number })
+            }
+        }
     }
 }
 
 /// The operation of a line, where so many of its thread stand before it.
+#[tactic(auto, unfolding(crate::specs::Reading::next_operation))]
 fn next_operation(item: &Item, before: usize) -> Result<Op, ScriptFault>
     ensures { result ≡ read.next_operation before (line_of item.now) }
 {
