@@ -1,3 +1,4 @@
 mod Cutting
 mod Items
 mod Digits
+mod Loops

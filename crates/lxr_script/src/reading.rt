@@ -168,9 +168,10 @@ fn read_bodies(alloc: Global, lines: &mut Scanner, count: u8) -> Result<Lists, S
     ensures read { Gives (λ bodies. (lists_in bodies, items_left lines.new)) result (read.bodies_of (end_left lines.old) count 1 (items_left lines.old)) }
 {
     let mut bodies = Vec::new(alloc);
-    for thread in 1..=count {
-        read_opening(lines, thread)?;
-        bodies.push(read_operations(alloc, lines)?)?;
+    for done in 0..count {
+        read_opening(lines, done + 1)?;
+        let body = read_operations(alloc, lines)?;
+        bodies.push(body)?;
     }
     Ok(Lists::from_vec(bodies))
 }
