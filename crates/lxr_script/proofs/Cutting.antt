@@ -1,5 +1,5 @@
 -- Cutting a text: a line ends at the first line feed, and a word stands between the blanks around it.
-use Rattle.std.proofs.Common.{◌≡◌, ℕ, suc, ◌+◌, ◌-◌, ◌<◌, ◌≤◌, Bool, true, false, not, cond, List, [], ◌∷◌, ◌++◌, length, take, drop, refl, sym, ap, ◌∙◌, arith, rules, filter, nat_lt, nat_eq, ltb, eqb, Some, None, position, get_or, length-drop, length-take, add-one, one-add, drop-cons}
+use Rattle.std.proofs.Common.{◌≡◌, ℕ, suc, ◌+◌, ◌-◌, ◌<◌, Bool, true, false, not, cond, List, [], ◌∷◌, length, take, drop, refl, sym, ap, ◌∙◌, arith, filter, nat_eq, ltb, eqb, Some, None, position, get_or, length-drop, length-take, add-one, one-add, drop-cons}
 use Rattle.std.proofs.Math.Seq.{drop-length}
 use Rattle.std.specs.List.{slice_split, onto_first, position_or_len}
 use Rattle.std.specs.Str.Lines.{lines, lines_of_parts, strip_carriage_return}
@@ -32,9 +32,9 @@ nowhere p xs e =
 pub one_part : (p : ℕ → Bool) (xs : List ℕ) → position_or_len p xs ≡ length xs → slice_split p xs ≡ xs ∷ []
 one_part p [] e = refl
 one_part p (x ∷ xs) e = elim (p x) as (λ v. cond (not v) (1 + position_or_len p xs) 0 ≡ suc (length xs) → cond v ([] ∷ slice_split p xs) (onto_first x (slice_split p xs)) ≡ (x ∷ xs) ∷ []) [
-    true ↦ λ h. absurd (omega arith)
-    | false ↦ λ h. let same : position_or_len p xs ≡ length xs = omega arith in rw (one_part p xs same) refl
-    ] e
+  | true ↦ λ h. absurd (omega arith)
+  | false ↦ λ h. let same : position_or_len p xs ≡ length xs = omega arith in rw (one_part p xs same) refl
+] e
 
 -- a part before others is followed by one
 part_first : (x : ℕ) (parts : List (List ℕ)) (line : Text) → lines_of_parts (line ∷ onto_first x parts) ≡ strip_carriage_return line ∷ lines_of_parts (onto_first x parts)
@@ -45,9 +45,9 @@ part_first x (part ∷ parts) line = refl
 lines_cut : (p : ℕ → Bool) (line rest : Text) → lines_of_parts (line ∷ slice_split p rest) ≡ strip_carriage_return line ∷ lines_of_parts (slice_split p rest)
 lines_cut p line [] = refl
 lines_cut p line (x ∷ xs) = elim (p x) as (λ v. lines_of_parts (line ∷ cond v ([] ∷ slice_split p xs) (onto_first x (slice_split p xs))) ≡ strip_carriage_return line ∷ lines_of_parts (cond v ([] ∷ slice_split p xs) (onto_first x (slice_split p xs)))) [
-    true ↦ refl
-    | false ↦ part_first x (slice_split p xs) line
-    ]
+  | true ↦ refl
+  | false ↦ part_first x (slice_split p xs) line
+]
 
 last : (text : Text) → 0 < length text → lines_of_parts (text ∷ []) ≡ text ∷ []
 last [] long = absurd (omega arith)
@@ -79,9 +79,9 @@ blank_first b line e = rw (slice_split-cons_yes is_blank b line e) refl
 pub skipped : (line : Text) → words_of line ≡ words_of (drop (position_or_len (λ b. not (is_blank b)) line) line)
 skipped [] = refl
 skipped (b ∷ line) = elim (is_blank b) as (λ v. is_blank b ≡ v → words_of (b ∷ line) ≡ words_of (drop (cond (not (not v)) (1 + position_or_len (λ b. not (is_blank b)) line) 0) (b ∷ line))) [
-    true ↦ λ h. blank_first b line h ∙ rw one-add (skipped line)
-    | false ↦ λ h. refl
-    ] refl
+  | true ↦ λ h. blank_first b line h ∙ rw one-add (skipped line)
+  | false ↦ λ h. refl
+] refl
 
 pub all_skipped : (line : Text) → position (λ b. not (is_blank b)) line ≡ None → words_of line ≡ []
 unfolding words_of

@@ -1,10 +1,9 @@
 -- Reading digits from the left gives their value, and stops once the value is no longer below 2^64: it never falls.
-use Rattle.std.proofs.Common.{◌≡◌, ℕ, suc, ◌+◌, ◌-◌, ◌*◌, ◌^◌, ◌<◌, ◌≤◌, Bool, true, false, ◌&&◌, cond, List, [], ◌∷◌, length, drop, refl, sym, ap, ◌∙◌, arith, rules, Option, Some, None, ltb, leb, eqb, lit<, take, get_or, drop-cons, inl, inr}
+use Rattle.std.proofs.Common.{◌≡◌, ℕ, ◌+◌, ◌-◌, ◌*◌, ◌^◌, ◌<◌, ◌≤◌, Bool, true, false, ◌&&◌, cond, [], ◌∷◌, length, drop, refl, sym, ◌∙◌, arith, Option, Some, None, ltb, leb, eqb, lit<, take, get_or, drop-cons, inl, inr}
 use Rattle.std.specs.Char.{digit_value, is_ascii_digit}
 use Rattle.std.specs.Str.{all_ascii_digits}
 use Rattle.std.specs.Str.Parse.{digits_value_after}
-use Rattle.std.specs.Option.{SomeIff, option_and_then}
-use Rattle.std.specs.Bool.{IsTrue}
+use Rattle.std.specs.Option.{option_and_then}
 use Rattle.std.proofs.lemmas.Bool.{and_parts, cases_lt, lt-ltb, le-ltb, leb-true, ltb-false, ltb-true, eq-eqb, ne_eqb}
 use Rattle.std.proofs.lemmas.List.{take_all, drop_all}
 use Rattle.lxr_script.specs.Lines.{Text}
@@ -44,12 +43,12 @@ too_large true n cs le =
 pub reads : (n : ℕ) (cs : Text) → n < 2 ^ 64 → read_on n cs ≡ value_after n cs
 reads n [] small = let yes : ltb n (2 ^ 64) ≡ true = lt-ltb _ _ small in rw yes refl
 reads n (c ∷ cs) small = elim (is_ascii_digit c) as (λ v. is_ascii_digit c ≡ v → option_and_then (λ m. read_on m cs) (cond (v && ltb (n * 10 + (c - 48)) (2 ^ 64)) (Some (n * 10 + (c - 48))) None) ≡ cond ((v && all_ascii_digits cs) && ltb (digits_value_after 10 (n * 10 + digit_value c) cs) (2 ^ 64)) (Some (digits_value_after 10 (n * 10 + digit_value c) cs)) None) [
-    false ↦ λ h. refl
-    | true ↦ λ h. rw (digit_is c h) (elim (ltb (n * 10 + (c - 48)) (2 ^ 64)) as (λ w. ltb (n * 10 + (c - 48)) (2 ^ 64) ≡ w → option_and_then (λ k. read_on k cs) (cond w (Some (n * 10 + (c - 48))) None) ≡ value_after (n * 10 + (c - 48)) cs) [
-        true ↦ λ e. reads (n * 10 + (c - 48)) cs (ltb-true _ _ e)
-        | false ↦ λ e. sym (too_large (all_ascii_digits cs) (n * 10 + (c - 48)) cs (ltb-false _ _ e))
-        ] refl)
-    ] refl
+  | false ↦ λ h. refl
+  | true ↦ λ h. rw (digit_is c h) (elim (ltb (n * 10 + (c - 48)) (2 ^ 64)) as (λ w. ltb (n * 10 + (c - 48)) (2 ^ 64) ≡ w → option_and_then (λ k. read_on k cs) (cond w (Some (n * 10 + (c - 48))) None) ≡ value_after (n * 10 + (c - 48)) cs) [
+    | true ↦ λ e. reads (n * 10 + (c - 48)) cs (ltb-true _ _ e)
+    | false ↦ λ e. sym (too_large (all_ascii_digits cs) (n * 10 + (c - 48)) cs (ltb-false _ _ e))
+  ] refl)
+] refl
 
 -- a number is a word that isn't empty and is read to its end
 pub number_is : (word : Text) → 0 < length word → number_of word ≡ read_on 0 word

@@ -1,9 +1,9 @@
 -- Going over the lines of a text: each line is skipped or is the next item.
-use Rattle.std.proofs.Common.{◌≡◌, ℕ, ◌+◌, ◌<◌, Bool, true, false, not, cond, List, [], ◌∷◌, length, refl, sym, ap, ◌∙◌, arith, filter, get_or, eqb}
+use Rattle.std.proofs.Common.{◌≡◌, ℕ, ◌+◌, true, false, [], ◌∷◌, length, refl, ap, arith}
 use Rattle.std.specs.Str.Lines.{lines}
 use Rattle.std.proofs.lemmas.Bool.{cond-true, cond-false}
 use Rattle.lxr_script.specs.declared.lines.Scanner.{Scanner}
-use Rattle.lxr_script.specs.Lines.{Text, Line, has_item, items_from, end_from, numbered, text_line, words_of}
+use Rattle.lxr_script.specs.Lines.{Text, has_item, items_from, end_from, text_line, words_of}
 use Rattle.lxr_script.specs.Scanner.{IsSmall, end_left, items_left}
 
 -- what is left is the same, but for lines that are skipped

@@ -2,3 +2,4 @@ mod Cutting
 mod Items
 mod Digits
 mod Loops
+mod Accepted

@@ -1,14 +1,16 @@
 -- Reading one after the other, as a loop does: what was read before stands in front of what is still read.
-use Rattle.std.proofs.Common.{◌≡◌, ℕ, zero, suc, ◌+◌, ◌-◌, ◌<◌, ◌≤◌, Bool, true, false, cond, List, [], ◌∷◌, ◌++◌, length, Result, Ok, Err, refl, sym, ap, ◌∙◌, arith, append_assoc, codes, length-append}
+use Rattle.std.proofs.Common.{◌≡◌, ℕ, suc, ◌+◌, ◌-◌, ◌<◌, ◌≤◌, true, false, List, [], ◌∷◌, ◌++◌, length, Ok, Err, refl, sym, ap, ◌∙◌, arith, append_assoc, codes, length-append}
 use Rattle.std.proofs.lemmas.List.{append-nil}
 use Rattle.lxr_graph.specs.declared.Op.{Op}
 use Rattle.lxr_script.specs.declared.fault.ScriptFault.{ScriptFault}
 use Rattle.lxr_script.specs.declared.fault.ScriptFault.TheVariants as fault
+use Rattle.lxr_script.specs.declared.fault.ScriptError.{ScriptError}
+use Rattle.lxr_script.specs.declared.fault.ScriptError.TheVariants as error
 use Rattle.lxr_script.specs.declared.lines.Scanner.{Scanner}
 use Rattle.lxr_script.specs.Lines.{Line}
 use Rattle.lxr_script.specs.Scanner.{IsSmall, end_left, items_left}
 use Rattle.lxr_script.specs.Operations.{Read, ◌>>=◌}
-use Rattle.lxr_script.specs.Reading.{are, bodies_of, next_operation, opening_of, operations_of}
+use Rattle.lxr_script.specs.Reading.{Fails, are, bodies_of, next_operation, opening_of, operations_of}
 
 -- what was read before, and what is still read
 abbrev pub with_front : {A : Type 0} → List A → Read (List A × List Line) → Read (List A × List Line)
@@ -17,6 +19,11 @@ with_front front read = read >>= λ x. Ok (front ++ x.0, x.1)
 regroup : {A : Type 0} (front : List A) (o : A) (read : Read (List A × List Line)) → with_front front (read >>= λ x. Ok (o ∷ x.0, x.1)) ≡ with_front (front ++ o ∷ []) read
 regroup front o (Ok x) = ap (λ (os : List _). Ok (os, x.1)) (simp append_assoc)
 regroup front o (Err f) = refl
+
+-- a fault of a part is the fault of the whole, and memory that runs out in a part does in the whole
+pub carried : {Y B : Type 0} (e : ScriptError) (read : Read Y) (total : Read B) → Fails e read → ((f : ScriptFault) → read ≡ Err f → total ≡ Err f) → Fails e total
+carried (error.Fault f) read total fails goes = goes f fails
+carried error.Memory read total fails goes = tt
 
 -- the operations so far, in front of those that are left, are those of the thread
 pub record ReadsOn (old new : Scanner) (front : List Op) : Type 0 where
@@ -60,6 +67,7 @@ without_end end front items total none so_far =
 pub record ThreadsOn (old new : Scanner) (count done : ℕ) (front : List (List Op)) : Type 0 where
   pub small : IsSmall new
   pub last : end_left new ≡ end_left old
+  pub so_far : length front ≡ done
   pub read : with_front front (bodies_of (end_left old) (count - done) (done + 1) (items_left new)) ≡ bodies_of (end_left old) count 1 (items_left old)
 
 pub body_more : (end count done : ℕ) (front : List (List Op)) (items body others : List Line) (thread : List Op) (total : Read (List (List Op) × List Line)) → done < count

@@ -1,5 +1,5 @@
 -- The lines that say why a script was refused.
-use Rattle.std.specs.Prelude.{ℕ, List, [], ◌∷◌, ◌++◌, codes}
+use Rattle.std.specs.Prelude.{ℕ, [], ◌∷◌, ◌++◌, codes}
 use Rattle.std.specs.Fmt.{decimal}
 use Rattle.lxr_script.specs.declared.fault.ScriptFault.{ScriptFault}
 use Rattle.lxr_script.specs.declared.fault.ScriptFault.TheVariants as fault

@@ -4,13 +4,12 @@
 --     thread t = `thread t`, operations, `end`
 --
 -- Each of these stands on a line of its own, and nothing comes after the last.
-use Rattle.std.specs.Prelude.{◌≡◌, ℕ, zero, suc, ◌+◌, Bool, true, false, ◌&&◌, ◌==◌, nat_lt, nat_le, List, [], ◌∷◌, length, map, Option, Some, None, Ok, Err, Result, codes, if◌then◌else◌}
+use Rattle.std.specs.Prelude.{◌≡◌, ℕ, zero, suc, ◌+◌, Bool, false, ◌&&◌, ◌==◌, nat_lt, nat_le, List, [], ◌∷◌, length, map, Option, Some, None, Ok, Err, Result, codes, if◌then◌else◌}
 use Rattle.std.specs.Option.{option_map_or}
 use Rattle.std.specs.Cmp.Lexicographic.{pointwise}
 use Rattle.std.specs.Str.{bytes_eq}
 use Rattle.lxr_lists.specs.Roomy.{Roomy}
 use Rattle.lxr_graph.specs.declared.Op.{Op}
-use Rattle.lxr_script.specs.declared.fault.ScriptFault.{ScriptFault}
 use Rattle.lxr_script.specs.declared.fault.ScriptFault.TheVariants as fault
 use Rattle.lxr_script.specs.declared.fault.ScriptError.{ScriptError}
 use Rattle.lxr_script.specs.declared.fault.ScriptError.TheVariants as error
@@ -112,8 +111,12 @@ lists_in lists = map (λ operations. operations.items) lists.items
 abbrev pub threads_in : Script → List (List Op)
 threads_in script = lists_in script.operations
 
+-- a refusal is the fault that is read; want of memory is free
+abbrev pub Fails : {Y : Type 0} → ScriptError → Read Y → Type 0
+Fails (error.Fault f) read = read ≡ Err f
+Fails error.Memory read = Unit {0}
+
 -- the answer, seen by view, is what is read, unless memory runs out
 abbrev pub Gives : {X Y : Type 0} → (X → Y) → Result X ScriptError → Read Y → Type 0
 Gives view (Ok x) read = read ≡ Ok (view x)
-Gives view (Err (error.Fault f)) read = read ≡ Err f
-Gives view (Err error.Memory) read = Unit {0}
+Gives view (Err e) read = Fails e read

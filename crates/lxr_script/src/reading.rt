@@ -94,8 +94,9 @@ fn read_threads(lines: &mut Scanner) -> Result<u8, ScriptFault>
 {
     match lines.next() {
         None => Err(ScriptFault::Threads { line: lines.number }),
-        Some(item) => thread_count(number_after(b"threads", &item))
-            .ok_or(ScriptFault::Threads { line: item.number }),
+        Some(item) => thread_count(number_after(b"threads", &item)).ok_or(ScriptFault::Threads {
+            line: item.number,
+        }),
     }
 }
 
@@ -166,6 +167,7 @@ fn read_bodies(alloc: Global, lines: &mut Scanner, count: u8) -> Result<Lists, S
     ensures small { IsSmall lines.new }
     ensures end { end_left lines.new ≡ end_left lines.old }
     ensures read { Gives (λ bodies. (lists_in bodies, items_left lines.new)) result (read.bodies_of (end_left lines.old) count 1 (items_left lines.old)) }
+    ensures count { IfOk result (λ bodies. length (lists_in bodies) ≡ count) }
 {
     let mut bodies = Vec::new(alloc);
     for done in 0..count {
@@ -176,12 +178,32 @@ fn read_bodies(alloc: Global, lines: &mut Scanner, count: u8) -> Result<Lists, S
     Ok(Lists::from_vec(bodies))
 }
 
+/// Reads the threads of a script up to the end of the input.
+#[tactic(auto, unfolding(crate::specs::Reading::script_of))]
+fn read_lines(alloc: Global, lines: &mut Scanner) -> Result<Script, ScriptError>
+    requires { IsSmall lines.old }
+    ensures exact { Gives threads_in result (read.script_of (end_left lines.old) (items_left lines.old)) }
+    ensures threads { IfOk result (λ script. script.threads ≡ length (threads_in script)) }
+{
+    read_header(lines)?;
+    let threads = read_threads(lines)?;
+    let operations = read_bodies(alloc, lines, threads)?;
+    match lines.next() {
+        None => Ok(Script {
+            threads,
+            operations,
+        }),
+        Some(item) => Err(ScriptError::Fault(ScriptFault::AfterEnd { line: item.number })),
+    }
+}
+
 /// Reads a script of at most 67,108,864 bytes. It has 1 to 16 threads of at most 1,048,576 operations each. The time
 /// is linear in the bytes, and memory is taken for the operations alone.
 ///
 /// # Errors
 ///
 /// The first fault with its line, or want of memory.
+#[tactic(auto, unfolding(crate::specs::Reading::reading_of))]
 pub fn read_script(alloc: Global, bytes: &[u8]) -> Result<Script, ScriptError>
     ensures exact { Gives threads_in result (reading_of bytes.now) }
     ensures threads { IfOk result (λ script. script.threads ≡ length (threads_in script)) }
@@ -190,15 +212,5 @@ pub fn read_script(alloc: Global, bytes: &[u8]) -> Result<Script, ScriptError>
     if bytes.len() > MOST_BYTES {
         return Err(ScriptError::Fault(ScriptFault::TooLong));
     }
-    let mut lines = Scanner::new(bytes);
-    read_header(&mut lines)?;
-    let threads = read_threads(&mut lines)?;
-    let operations = read_bodies(alloc, &mut lines, threads)?;
-    match lines.next() {
-        None => Ok(Script {
-            threads,
-            operations,
-        }),
-        Some(item) => Err(ScriptError::Fault(ScriptFault::AfterEnd { line: item.number })),
-    }
+    read_lines(alloc, &mut Scanner::new(bytes))
 }

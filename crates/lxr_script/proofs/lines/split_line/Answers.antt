@@ -1,6 +1,4 @@
-use Rattle.std.proofs.Common.{◌≡◌, sym, ap, ◌∙◌, ◌∷◌}
-use Rattle.std.specs.Str.Lines.{lines}
-use Rattle.lxr_script.specs.Lines.{Text}
+use Rattle.std.proofs.Common.{sym, ◌∙◌}
 use Rattle.lxr_script.proofs.Cutting.{last_line, first_line}
 use Rattle.lxr_script.proofs.lines.split_line.Goals as goal
 

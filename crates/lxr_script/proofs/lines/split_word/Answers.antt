@@ -1,4 +1,4 @@
-use Rattle.std.proofs.Common.{◌≡◌, sym, ◌∙◌}
+use Rattle.std.proofs.Common.{sym, ◌∙◌}
 use Rattle.lxr_script.proofs.Cutting.{word_in_front, words_behind, all_skipped}
 use Rattle.lxr_script.proofs.lines.split_word.Goals as goal
 

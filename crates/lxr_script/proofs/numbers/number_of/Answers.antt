@@ -1,6 +1,6 @@
-use Rattle.std.proofs.Common.{◌≡◌, ◌<◌, length, sym, ◌∙◌, arith, get_or}
+use Rattle.std.proofs.Common.{◌<◌, length, sym, ◌∙◌, arith}
 use Rattle.std.proofs.lemmas.Bool.{eqb-true, eqb-false}
-use Rattle.lxr_script.proofs.Digits.{number_is, no_number, stops, ends}
+use Rattle.lxr_script.proofs.Digits.{no_number, stops, ends}
 use Rattle.lxr_script.proofs.numbers.number_of.Goals as goal
 
 pub returns-then-is_empty : goal.returns-then-is_empty

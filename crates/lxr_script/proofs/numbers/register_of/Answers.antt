@@ -1,4 +1,4 @@
-use Rattle.std.proofs.Common.{◌≡◌, ◌<◌, length, sym, ◌∙◌, arith, get_or}
+use Rattle.std.proofs.Common.{sym, arith}
 use Rattle.lxr_script.proofs.Digits.{is_register, no_register}
 use Rattle.lxr_script.proofs.numbers.register_of.Goals as goal
 

@@ -1,7 +1,6 @@
-use Rattle.std.proofs.Common.{◌≡◌, length, codes, sym, ◌∙◌, arith, rules, ◌∷◌}
+use Rattle.std.proofs.Common.{◌≡◌, length, codes, arith, rules}
 use Rattle.std.proofs.lemmas.Slice.Eq.{text_from_reads, HasBytesAt}
 use Rattle.lxr_script.specs.Operations.{operation_of}
-use Rattle.lxr_script.specs.Lines.{words_of}
 use Rattle.lxr_script.proofs.operations.operation_of.Goals as goal
 
 pub returns-in-collect : goal.returns-in-collect

@@ -1,5 +1,5 @@
-use Rattle.lxr_script.proofs.Loops.{ThreadsOn}
 use Rattle.std.proofs.Common.{map}
+use Rattle.lxr_script.proofs.Loops.{ThreadsOn}
 use Rattle.lxr_script.proofs.reading.read_bodies.Given as goal
 
 abbrev pub invariant-loop-done : goal.invariant-loop-done

@@ -1,8 +1,6 @@
-use Rattle.std.proofs.Common.{◌≡◌, ◌<◌, ◌∷◌, sym, ◌∙◌, ap, arith, length}
+use Rattle.std.proofs.Common.{sym, ◌∙◌, arith}
 use Rattle.std.proofs.lemmas.Bool.{eqb-true}
-use Rattle.lxr_script.specs.Lines.{Line, text_line, items_from}
-use Rattle.lxr_script.specs.Scanner.{items_left}
-use Rattle.lxr_script.proofs.Items.{Keeps, passed, taken, end_stays, no_item}
+use Rattle.lxr_script.proofs.Items.{passed, taken, end_stays, no_item}
 use Rattle.lxr_script.proofs.lines.Scanner.next.Goals as goal
 
 pub returns-in-Some-clause-item : goal.returns-in-Some-clause-item

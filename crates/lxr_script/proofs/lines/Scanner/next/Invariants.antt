@@ -1,5 +1,4 @@
-use Rattle.std.proofs.Common.{◌≡◌, length}
-use Rattle.lxr_script.specs.Scanner.{IsSmall, end_left, items_left}
+use Rattle.std.proofs.Common.{length}
 use Rattle.lxr_script.proofs.Items.{Keeps}
 use Rattle.lxr_script.proofs.lines.Scanner.next.Given as goal
 
