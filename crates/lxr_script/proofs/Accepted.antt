@@ -207,16 +207,16 @@ below is = let le = is.small in omega arith
 
 -- what is spelled is within the limits
 operation_fits : {words : List Text} {o : Op} → SpellsOperation words o → IsOperation o
-operation_fits (new d r v) = (below d, (r.small, v.small))
-operation_fits (load d b i) = (below d, below b, i.small)
-operation_fits (store b i s) = (below b, i.small, below s)
-operation_fits (put b i v) = (below b, i.small, v.small)
-operation_fits (get b i) = (below b, i.small)
-operation_fits (move d s) = (below d, below s)
-operation_fits (nil d) = below d
-operation_fits (same l r) = (below l, below r)
-operation_fits pause = tt
-operation_fits collect = tt
+operation_fits (new d r v) = record { well_formed = (below d, (r.small, v.small)); written = tt }
+operation_fits (load d b i) = record { well_formed = (below d, below b); written = i.small }
+operation_fits (store b i s) = record { well_formed = (below b, below s); written = i.small }
+operation_fits (put b i v) = record { well_formed = below b; written = (i.small, v.small) }
+operation_fits (get b i) = record { well_formed = below b; written = i.small }
+operation_fits (move d s) = record { well_formed = (below d, below s); written = tt }
+operation_fits (nil d) = record { well_formed = below d; written = tt }
+operation_fits (same l r) = record { well_formed = (below l, below r); written = tt }
+operation_fits pause = record { well_formed = tt; written = tt }
+operation_fits collect = record { well_formed = tt; written = tt }
 
 operations_fit : {lines rest : List (List Text)} {operations : List Op} → SpellsOperations lines operations rest → AllByRecursion IsOperation operations
 operations_fit ended = tt

@@ -1,23 +1,27 @@
 -- The limits of a script: what its operations and threads may be.
-use Rattle.std.specs.Prelude.{◌^◌, ◌<◌, ◌≤◌, List, length, All}
-use Rattle.lxr_layout.specs.Objects.{FitsShape}
+use Rattle.std.specs.Prelude.{ℕ, ◌^◌, ◌<◌, ◌≤◌, List, length, All}
 use Rattle.lxr_graph.specs.declared.Op.{Op}
 use Rattle.lxr_graph.specs.declared.Op.TheVariants as op
+use Rattle.lxr_graph.specs.Step.{IsWellFormed}
 
--- registers are r0 to r15, shapes have at most 1,023 references and data words, indices are at most 1,023 and values
--- below 2^64; the end of a thread is no operation of a script
-abbrev pub IsOperation : Op → Type 0
-IsOperation (op.New dest shape) = (dest < 16) × FitsShape shape
-IsOperation (op.Load dest base index) = (dest < 16) × (base < 16) × (index ≤ 1023)
-IsOperation (op.Store base index source) = (base < 16) × (index ≤ 1023) × (source < 16)
-IsOperation (op.Put base index value) = (base < 16) × (index ≤ 1023) × (value < 2 ^ 64)
-IsOperation (op.Get base index) = (base < 16) × (index ≤ 1023)
-IsOperation (op.Move dest source) = (dest < 16) × (source < 16)
-IsOperation (op.Nil dest) = dest < 16
-IsOperation (op.Same left right) = (left < 16) × (right < 16)
-IsOperation op.Pause = Unit {0}
-IsOperation op.Collect = Unit {0}
-IsOperation op.End = ⊥
+-- indices are at most 1,023 and values below 2^64; the end of a thread is no operation of a script
+abbrev pub IsWritten : Op → Type 0
+IsWritten (op.New dest shape) = Unit {0}
+IsWritten (op.Load dest base index) = index ≤ 1023
+IsWritten (op.Store base index source) = index ≤ 1023
+IsWritten (op.Put base index value) = (index ≤ 1023) × (value < 2 ^ 64)
+IsWritten (op.Get base index) = index ≤ 1023
+IsWritten (op.Move dest source) = Unit {0}
+IsWritten (op.Nil dest) = Unit {0}
+IsWritten (op.Same left right) = Unit {0}
+IsWritten op.Pause = Unit {0}
+IsWritten op.Collect = Unit {0}
+IsWritten op.End = ⊥
+
+-- an operation of a script: its registers are below 16, its shape fits, and its numbers are in range
+pub record IsOperation (o : Op) : Type 0 where
+  pub well_formed : IsWellFormed o
+  pub written : IsWritten o
 
 -- a thread has at most 1,048,576 operations
 pub record IsThread (operations : List Op) : Type 0 where
