@@ -1,0 +1,5 @@
+mod Cutting
+mod Items
+mod Digits
+mod Loops
+mod Accepted
