@@ -1,0 +1,10 @@
+//! The top call: from the words of a command line and the bytes of a script to the replies of its thread.
+#![tactic(auto)]
+
+mod mutator;
+mod tally;
+
+pub use tally::Tally;
+
+/// The words of the flat space.
+pub const SPACE_WORDS: u32 = 262_144;
