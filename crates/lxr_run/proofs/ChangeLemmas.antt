@@ -67,7 +67,7 @@ known_more : (c c' : ℕ) (v : Option Name) → c ≤ c' → IsKnown c v → IsK
 known_more c c' None h known = tt
 known_more c c' (Some n) h known = (known.0, omega (arith, known.1))
 
-get_or-none : (n i : ℕ) → get_or (replicate {A = Option Name} n None) i None ≡ None
+pub get_or-none : (n i : ℕ) → get_or (replicate {A = Option Name} n None) i None ≡ None
 get_or-none zero i = refl
 get_or-none (suc n) zero = refl
 get_or-none (suc n) (suc i) = get_or-none n i

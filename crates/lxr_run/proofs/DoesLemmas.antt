@@ -14,8 +14,7 @@ use Rattle.lxr_graph.specs.declared.Reply.TheVariants as reply
 use Rattle.lxr_graph.specs.State.{Object, State, object_at, refs_of, register_at, shape_of}
 use Rattle.lxr_graph.specs.Step.{step, cleared, fresh}
 use Rattle.lxr_run.specs.Flat.{name_after, reference_word, size_of, space_count, words_before, words_made}
-use Rattle.lxr_run.specs.Legal.{MayReply}
-use Rattle.lxr_run.specs.Mutating.{Does, Finds, Holds, IsKnown, Shows, Stands, one_thread, place_for, reference_of}
+use Rattle.lxr_run.specs.Mutating.{Does, MayReply, Finds, Holds, IsKnown, Shows, Stands, one_thread, place_for, reference_of}
 use Rattle.lxr_run.specs.declared.mutator.Mutator.{Mutator}
 use Rattle.lxr_run.proofs.PlaceLemmas.{words_before-most, two_each}
 use Rattle.lxr_run.proofs.RowLemmas.{fields_in, words_before-fit}

@@ -18,8 +18,7 @@ use Rattle.lxr_graph.specs.declared.Reply.TheVariants as reply
 use Rattle.lxr_graph.specs.State.{Graph, Object, State, object_at, refs_of, values_of, register_at, with_register, row_of, index_in_row, shape_of, next_name, with_new}
 use Rattle.lxr_graph.specs.Step.{step, fresh, state_after}
 use Rattle.lxr_run.specs.Flat.{name_after, image_of, objects_of, reference_word, size_of, space_count, words_before, words_made}
-use Rattle.lxr_run.specs.Legal.{MayReply}
-use Rattle.lxr_run.specs.Mutating.{Does, Finds, Holds, IsKnown, Shows, Stands, one_thread, place_for, reference_of}
+use Rattle.lxr_run.specs.Mutating.{Does, MayReply, Finds, Holds, IsKnown, Shows, Stands, one_thread, place_for, reference_of}
 use Rattle.lxr_run.specs.declared.mutator.Mutator.{Mutator}
 use Rattle.lxr_run.proofs.PackLemmas.{header_of-header_word}
 use Rattle.lxr_run.proofs.RowLemmas.{fields_in, words_before-even, words_before-fit}

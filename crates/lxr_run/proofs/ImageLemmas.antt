@@ -76,7 +76,7 @@ map-none : (f : Option Name → ℕ) (n : ℕ) → f None ≡ 0 → map f (repli
 map-none f zero e = refl
 map-none f (suc n) e = let rest = map-none f n e in cc
 
-abbrev zeros : ℕ → List ℕ
+abbrev pub zeros : ℕ → List ℕ
 zeros n = replicate n 0
 
 zeros_join : (a b c : ℕ) → zeros a ++ (zeros b ++ zeros c) ≡ zeros (a + (b + c))
@@ -95,14 +95,14 @@ fresh-words os n shape =
 
 -- one more object behind the others, in place of zeros
 
-header_first : (row : List ℕ) (n m h : ℕ) → length row ≡ n → 1 ≤ m → set (row ++ zeros m) n h ≡ row ++ (h ∷ zeros (m - 1))
+pub header_first : (row : List ℕ) (n m h : ℕ) → length row ≡ n → 1 ≤ m → set (row ++ zeros m) n h ≡ row ++ (h ∷ zeros (m - 1))
 header_first row n zero h e pos = absurd (omega arith)
 header_first row n (suc m) h e pos =
     let first : n - n ≡ 0 = omega arith in
     let less : suc m - 1 ≡ m = omega arith in
     set-append_right row (zeros (suc m)) n n h e (omega arith) ∙ rw (first, less) refl
 
-same_row : (row : List ℕ) (a b c h : ℕ) → a + b ≡ c → (row ++ (h ∷ zeros a)) ++ zeros b ≡ row ++ (h ∷ zeros c)
+pub same_row : (row : List ℕ) (a b c h : ℕ) → a + b ≡ c → (row ++ (h ∷ zeros a)) ++ zeros b ≡ row ++ (h ∷ zeros c)
 same_row row a b c h e = append_assoc row (h ∷ zeros a) (zeros b) ∙ ap (λ z. row ++ (h ∷ z)) (replicate-append-replicate {A = ℕ} a b 0 ∙ ap zeros e)
 
 pub image-push : (count : ℕ) (os : List Object) (shape : Shape) → words_made os + word_count shape ≤ count → ((k i : ℕ) → IsKnown (length os) (reference_of os k i))

@@ -6,3 +6,4 @@ pub mod StateLemmas
 pub mod HoldsLemmas
 pub mod ChangeLemmas
 pub mod DoesLemmas
+pub mod OpeningLemmas

@@ -1,4 +1,4 @@
 pub mod Flat
 pub mod Tally
-pub mod Legal
 pub mod Mutating
+pub mod Script

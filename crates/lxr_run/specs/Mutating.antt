@@ -7,11 +7,12 @@ use Rattle.lxr_layout.specs.declared.Header.TheVariants as header
 use Rattle.lxr_layout.specs.Objects.{FitsShape, header_of}
 use Rattle.lxr_layout.specs.Places.{IsPlace, first_word}
 use Rattle.lxr_graph.specs.declared.Op.{Op}
+use Rattle.lxr_graph.specs.declared.Op.TheVariants as op
 use Rattle.lxr_graph.specs.declared.Reply.{Reply}
+use Rattle.lxr_graph.specs.declared.Reply.TheVariants as reply
 use Rattle.lxr_graph.specs.State.{Object, State, refs_of, register_at, shape_of}
-use Rattle.lxr_graph.specs.Step.{state_after}
-use Rattle.lxr_run.specs.Flat.{image_of, name_after, objects_of, reference_word, space_count, words_before, words_made}
-use Rattle.lxr_run.specs.Legal.{MayReply}
+use Rattle.lxr_graph.specs.Step.{IsReply, state_after}
+use Rattle.lxr_run.specs.Flat.{HasRoom, IsFull, image_of, name_after, objects_of, reference_word, space_count, words_before, words_made}
 use Rattle.lxr_run.specs.declared.mutator.Mutator.{Mutator}
 
 -- what stands at a place: nothing at nil, and else an object whose header says its name and shape
@@ -61,7 +62,19 @@ Finds s r (Some (begin, shape)) =
     (n : Name) × (o : Object) × (register_at s 1 r ≡ Some n) × (slice_get (objects_of s.graph) n.serial ≡ Some o)
         × (begin ≡ words_before (objects_of s.graph) n.serial) × (shape ≡ shape_of o)
 
+-- The reply that an operation may have in a state: `new full` exactly where the flat space has no room, and else that of
+-- one step of the model.
+abbrev pub MayReply : State → ℕ → Op → Reply → Type 0
+MayReply s t (op.New dest shape) reply.Full = IsFull s.graph shape
+MayReply s t (op.New dest shape) r = HasRoom s.graph shape × IsReply s t (op.New dest shape) r
+MayReply s t o r = IsReply s t o r
+
 -- An operation with its reply, on words and a mutator: whatever state they stood for, the reply is one that the
 -- operation may have there, and afterwards they stand for the state after it.
 abbrev pub Does : Op → Reply → List ℕ → Mutator → List ℕ → Mutator → Type 0
 Does o r words m words' m' = (s : State) → Stands words m s → MayReply s 1 o r × Stands words' m' (state_after s 1 o r)
+
+-- how many objects are made after a reply: a new object is one more
+abbrev pub made_after : ℕ → Reply → ℕ
+made_after k (reply.New n) = k + 1
+made_after k r = k

@@ -2,8 +2,10 @@
 #![tactic(auto)]
 
 mod mutator;
+mod space;
 mod tally;
 
+pub use space::Space;
 pub use tally::Tally;
 
 /// The words of the flat space.

@@ -42,11 +42,17 @@ fn object_at(words: &[u64], place: Place) -> Option<(Name, Shape)>
 }
 
 impl Mutator {
-    ghost use Rattle.lxr_graph.specs.State.{State};
-    ghost use Rattle.lxr_run.specs.Mutating.{Does, Finds, Stands};
+    ghost use Rattle.std.specs.Prelude.{List};
+    ghost use Rattle.lxr_graph.specs.State.{State, opening};
+    ghost use Rattle.lxr_graph.specs.Step.{IsWellFormed};
+    ghost use Rattle.lxr_run.specs.Flat.{IsImage};
+    ghost use Rattle.lxr_run.specs.Mutating.{Does, Finds, Stands, made_after};
+    ghost use Rattle.lxr_run.specs.Script.{IsDoneHere};
 
     /// The thread in a space that was just opened.
-    pub fn new() -> Mutator {
+    pub fn new() -> Mutator
+        ensures { (words : List ℕ) → IsImage words (opening 1).graph → Stands words result (opening 1) }
+    {
         let mut registers = [NIL; 16];
         registers[0] = WORLD;
         Mutator {
@@ -73,7 +79,8 @@ impl Mutator {
     fn load(&mut self, words: &[u64], dest: u8, base: u8, index: u16) -> Reply
         requires stands { (s : State) × Stands words.now self.old s }
         requires registers { (dest < 16) × (base < 16) }
-        ensures { Does (Op.Load dest base index) result words.now self.old words.now self.new }
+        ensures does { Does (Op.Load dest base index) result words.now self.old words.now self.new }
+        ensures made { self.new.made ≡ made_after self.old.made result }
     {
         let Some((begin, shape)) = self.find(words, base) else {
             return Reply::Bad;
@@ -92,7 +99,8 @@ impl Mutator {
     fn store(&self, words: &mut [u64], base: u8, index: u16, source: u8) -> Reply
         requires stands { (s : State) × Stands words.old self.now s }
         requires registers { (base < 16) × (source < 16) }
-        ensures { Does (Op.Store base index source) result words.old self.now words.new self.now }
+        ensures does { Does (Op.Store base index source) result words.old self.now words.new self.now }
+        ensures made { self.now.made ≡ made_after self.now.made result }
     {
         let Some((begin, shape)) = self.find(words, base) else {
             return Reply::Bad;
@@ -108,7 +116,8 @@ impl Mutator {
     fn put(&self, words: &mut [u64], base: u8, index: u16, value: u64) -> Reply
         requires stands { (s : State) × Stands words.old self.now s }
         requires registers { base < 16 }
-        ensures { Does (Op.Put base index value) result words.old self.now words.new self.now }
+        ensures does { Does (Op.Put base index value) result words.old self.now words.new self.now }
+        ensures made { self.now.made ≡ made_after self.now.made result }
     {
         let Some((begin, shape)) = self.find(words, base) else {
             return Reply::Bad;
@@ -123,7 +132,8 @@ impl Mutator {
     fn get(&self, words: &[u64], base: u8, index: u16) -> Reply
         requires stands { (s : State) × Stands words.now self.now s }
         requires registers { base < 16 }
-        ensures { Does (Op.Get base index) result words.now self.now words.now self.now }
+        ensures does { Does (Op.Get base index) result words.now self.now words.now self.now }
+        ensures made { self.now.made ≡ made_after self.now.made result }
     {
         let Some((begin, shape)) = self.find(words, base) else {
             return Reply::Bad;
@@ -138,7 +148,8 @@ impl Mutator {
         requires stands { (s : State) × Stands words.old self.old s }
         requires dest { dest < 16 }
         requires shape { FitsShape shape }
-        ensures { Does (Op.New dest shape) result words.old self.old words.new self.new }
+        ensures does { Does (Op.New dest shape) result words.old self.old words.new self.new }
+        ensures made { self.new.made ≡ made_after self.old.made result }
     {
         let size = words_of(shape);
         if self.used + size > SPACE_WORDS {
@@ -155,9 +166,34 @@ impl Mutator {
 
     fn end(&mut self, words: &[u64]) -> Reply
         requires stands { (s : State) × Stands words.now self.old s }
-        ensures { Does Op.End result words.now self.old words.now self.new }
+        ensures does { Does Op.End result words.now self.old words.now self.new }
+        ensures made { self.new.made ≡ made_after self.old.made result }
     {
         self.registers = [NIL; 16];
         Reply::Ended
+    }
+
+    /// Does an operation on an object, or the end of the thread: one step of the model, where a `new` is refused exactly
+    /// where the flat space has no room behind its last object.
+    pub fn apply(&mut self, words: &mut [u64], op: Op) -> Reply
+        requires stands { (s : State) × Stands words.old self.old s }
+        requires formed { IsWellFormed op }
+        requires done_here { IsDoneHere op }
+        ensures does { Does op result words.old self.old words.new self.new }
+        ensures made { self.new.made ≡ made_after self.old.made result }
+    {
+        match op {
+            Op::New { dest, shape } => self.make(words, dest, shape),
+            Op::Load { dest, base, index } => self.load(words, dest, base, index),
+            Op::Store {
+                base,
+                index,
+                source,
+            } => self.store(words, base, index, source),
+            Op::Put { base, index, value } => self.put(words, base, index, value),
+            Op::Get { base, index } => self.get(words, base, index),
+            Op::End => self.end(words),
+            _ => unreachable!(),
+        }
     }
 }

@@ -1,0 +1,23 @@
+-- The scripts of this stage: one thread, and operations on objects alone.
+use Rattle.std.specs.Prelude.{◌≡◌, ℕ, List, [], ◌∷◌, All, Ok}
+use Rattle.lxr_graph.specs.declared.Op.{Op}
+use Rattle.lxr_graph.specs.declared.Op.TheVariants as op
+
+-- `new`, `load`, `store`, `put` and `get` are the operations on objects
+abbrev pub IsOnObject : Op → Type 0
+IsOnObject (op.New dest shape) = Unit {0}
+IsOnObject (op.Load dest base index) = Unit {0}
+IsOnObject (op.Store base index source) = Unit {0}
+IsOnObject (op.Put base index value) = Unit {0}
+IsOnObject (op.Get base index) = Unit {0}
+IsOnObject (op.Move dest source) = ⊥
+IsOnObject (op.Nil dest) = ⊥
+IsOnObject (op.Same left right) = ⊥
+IsOnObject op.Pause = ⊥
+IsOnObject op.Collect = ⊥
+IsOnObject op.End = ⊥
+
+-- what is done on the words directly: operations on objects, and the end
+abbrev pub IsDoneHere : Op → Type 0
+IsDoneHere op.End = Unit {0}
+IsDoneHere o = IsOnObject o
