@@ -13,7 +13,7 @@ use Rattle.lxr_graph.specs.Step.{fresh}
 use Rattle.lxr_run.specs.Flat.{name_after, image_of, reference_word, size_of, space_count, words_before, words_made}
 use Rattle.lxr_run.specs.Mutating.{Holds, IsKnown, place_for, reference_of}
 use Rattle.lxr_run.specs.declared.mutator.Mutator.{Mutator}
-use Rattle.lxr_run.proofs.PlaceLemmas.{reference_word-set, reference_word-push, words_made-set, words_made-push, words_before-push}
+use Rattle.lxr_run.proofs.PlaceLemmas.{reference_word-set, reference_word-push, words_made-set, words_made-push, words_before-push, words_before-set}
 use Rattle.lxr_run.proofs.ImageLemmas.{image-set-reference, image-set-value, image-push}
 
 -- a list of references after a change of one, and a list of objects after a change or one more, by what holds of each
@@ -77,6 +77,7 @@ pub holds-register : (words : List ℕ) (m : Mutator) (os : List Object) (regs :
     → IsKnown (length os) v → p ≡ place_for os v → Holds words (record m { registers = set m.registers r p }) os (set regs r v)
 holds-register words m os regs r v p holds known is =
     record {
+      world = holds.world;
       fits = holds.fits;
       exact = holds.exact;
       shapes = holds.shapes;
@@ -96,6 +97,7 @@ holds-object words words' m os regs k o o' holds there same exact known =
     let made = words_made-set os k o o' there size in
     let count : length (set os k o') ≡ length os = length-set os k o' in
     record {
+      world = words_before-set os k o o' 1 there size ∙ holds.world;
       fits = omega (arith, holds.fits);
       exact = exact;
       shapes = slice_get-set (λ p. FitsShape (shape_of p)) os k o' holds.shapes (subst FitsShape (sym same) (holds.shapes k o there));
@@ -144,6 +146,7 @@ holds-push words m os regs r shape n word p holds fits room named serial header 
     let places : map (place_for os) regs ≡ map (place_for after) regs =
         map-place os after regs (λ i. sym (reference_word-push os o (get_or regs i None) (holds.held i))) in
     record {
+      world = words_before-push os o 1 (omega (arith, holds.made)) ∙ holds.world;
       fits = omega arith;
       exact = ap (λ z. set z m.used word) holds.exact ∙ ap (λ z. set (image_of space_count os) z word) holds.used
           ∙ ap (λ z. set (image_of space_count os) (words_made os) z) (header ∙ ap (λ z. header_word z shape) named)
@@ -163,6 +166,7 @@ pub holds-cleared : (words : List ℕ) (m : Mutator) (os : List Object) (regs : 
     → Holds words (record m { registers = replicate 16 (record { 0 = 0 }) }) os (replicate 16 None)
 holds-cleared words m os regs holds =
     record {
+      world = holds.world;
       fits = holds.fits;
       exact = holds.exact;
       shapes = holds.shapes;

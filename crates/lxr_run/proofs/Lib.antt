@@ -7,3 +7,4 @@ pub mod HoldsLemmas
 pub mod ChangeLemmas
 pub mod DoesLemmas
 pub mod OpeningLemmas
+pub mod RunLemmas

@@ -39,6 +39,7 @@ opening_stands words m image is =
     subst (λ z. Stands words z (opening 1)) (sym is)
       (world, [], Some world_name ∷ replicate 15 None, refl,
        record {
+         world = refl;
          fits = image.fits;
          exact = image.exact;
          shapes = shape_world;

@@ -2,3 +2,5 @@ pub mod Flat
 pub mod Tally
 pub mod Mutating
 pub mod Script
+pub mod Run
+pub mod Watch

@@ -36,6 +36,7 @@ place_for os v = record { 0 = reference_word os v }
 
 -- words and a mutator hold these objects and registers of one thread
 pub record Holds (words : List ℕ) (m : Mutator) (os : List Object) (regs : List (Option Name)) : Type 0 where
+  pub world : words_before os 1 ≡ 66
   pub fits : words_made os ≤ space_count
   pub exact : words ≡ image_of space_count os
   pub shapes : (k : ℕ) (o : Object) → slice_get os k ≡ Some o → FitsShape (shape_of o)
@@ -74,7 +75,7 @@ MayReply s t o r = IsReply s t o r
 abbrev pub Does : Op → Reply → List ℕ → Mutator → List ℕ → Mutator → Type 0
 Does o r words m words' m' = (s : State) → Stands words m s → MayReply s 1 o r × Stands words' m' (state_after s 1 o r)
 
--- how many objects are made after a reply: a new object is one more
-abbrev pub made_after : ℕ → Reply → ℕ
-made_after k (reply.New n) = k + 1
-made_after k r = k
+-- how many objects the thread made before and after a reply: a new object is one more, and has the next serial
+abbrev pub Makes : ℕ → Reply → ℕ → Type 0
+Makes k (reply.New n) k' = (n ≡ record { thread = 1; serial = k + 1 }) × (k' ≡ k + 1)
+Makes k r k' = k' ≡ k

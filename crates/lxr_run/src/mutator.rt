@@ -18,6 +18,7 @@ const WORLD: Place = Place(1);
 const WORLD_WORDS: u32 = 66;
 
 /// The thread as it stands in the flat space.
+#[derive(Drop)]
 pub(crate) struct Mutator {
     /// The places of what its registers hold.
     registers: [Place; 16],
@@ -46,7 +47,7 @@ impl Mutator {
     ghost use Rattle.lxr_graph.specs.State.{State, opening};
     ghost use Rattle.lxr_graph.specs.Step.{IsWellFormed};
     ghost use Rattle.lxr_run.specs.Flat.{IsImage};
-    ghost use Rattle.lxr_run.specs.Mutating.{Does, Finds, Stands, made_after};
+    ghost use Rattle.lxr_run.specs.Mutating.{Does, Finds, Makes, Stands};
     ghost use Rattle.lxr_run.specs.Script.{IsDoneHere};
 
     /// The thread in a space that was just opened.
@@ -80,7 +81,7 @@ impl Mutator {
         requires stands { (s : State) × Stands words.now self.old s }
         requires registers { (dest < 16) × (base < 16) }
         ensures does { Does (Op.Load dest base index) result words.now self.old words.now self.new }
-        ensures made { self.new.made ≡ made_after self.old.made result }
+        ensures made { Makes self.old.made result self.new.made }
     {
         let Some((begin, shape)) = self.find(words, base) else {
             return Reply::Bad;
@@ -100,7 +101,7 @@ impl Mutator {
         requires stands { (s : State) × Stands words.old self.now s }
         requires registers { (base < 16) × (source < 16) }
         ensures does { Does (Op.Store base index source) result words.old self.now words.new self.now }
-        ensures made { self.now.made ≡ made_after self.now.made result }
+        ensures made { Makes self.now.made result self.now.made }
     {
         let Some((begin, shape)) = self.find(words, base) else {
             return Reply::Bad;
@@ -117,7 +118,7 @@ impl Mutator {
         requires stands { (s : State) × Stands words.old self.now s }
         requires registers { base < 16 }
         ensures does { Does (Op.Put base index value) result words.old self.now words.new self.now }
-        ensures made { self.now.made ≡ made_after self.now.made result }
+        ensures made { Makes self.now.made result self.now.made }
     {
         let Some((begin, shape)) = self.find(words, base) else {
             return Reply::Bad;
@@ -133,7 +134,7 @@ impl Mutator {
         requires stands { (s : State) × Stands words.now self.now s }
         requires registers { base < 16 }
         ensures does { Does (Op.Get base index) result words.now self.now words.now self.now }
-        ensures made { self.now.made ≡ made_after self.now.made result }
+        ensures made { Makes self.now.made result self.now.made }
     {
         let Some((begin, shape)) = self.find(words, base) else {
             return Reply::Bad;
@@ -149,7 +150,7 @@ impl Mutator {
         requires dest { dest < 16 }
         requires shape { FitsShape shape }
         ensures does { Does (Op.New dest shape) result words.old self.old words.new self.new }
-        ensures made { self.new.made ≡ made_after self.old.made result }
+        ensures made { Makes self.old.made result self.new.made }
     {
         let size = words_of(shape);
         if self.used + size > SPACE_WORDS {
@@ -167,7 +168,7 @@ impl Mutator {
     fn end(&mut self, words: &[u64]) -> Reply
         requires stands { (s : State) × Stands words.now self.old s }
         ensures does { Does Op.End result words.now self.old words.now self.new }
-        ensures made { self.new.made ≡ made_after self.old.made result }
+        ensures made { Makes self.old.made result self.new.made }
     {
         self.registers = [NIL; 16];
         Reply::Ended
@@ -180,7 +181,7 @@ impl Mutator {
         requires formed { IsWellFormed op }
         requires done_here { IsDoneHere op }
         ensures does { Does op result words.old self.old words.new self.new }
-        ensures made { self.new.made ≡ made_after self.old.made result }
+        ensures made { Makes self.old.made result self.new.made }
     {
         match op {
             Op::New { dest, shape } => self.make(words, dest, shape),
