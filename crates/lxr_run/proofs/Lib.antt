@@ -8,3 +8,5 @@ pub mod ChangeLemmas
 pub mod DoesLemmas
 pub mod OpeningLemmas
 pub mod RunLemmas
+pub mod WordLemmas
+pub mod OutcomeLemmas

@@ -1,8 +1,9 @@
 -- How a history grows by a call, and what stands for it.
-use Rattle.std.proofs.Common.{◌≡◌, ℕ, zero, suc, ◌+◌, ◌-◌, ◌*◌, ◌/◌, ◌^◌, ◌<◌, ◌≤◌, refl, sym, ap, subst, ◌∙◌, List, [], ◌∷◌, ◌++◌, length, arith, map, get_or, take}
-use Rattle.std.specs.Prelude.{Option, Some, None, slice_get, sum_by}
+use Rattle.std.proofs.Common.{rules, ◌≡◌, ◌≢◌, ℕ, zero, suc, ◌+◌, ◌-◌, ◌*◌, ◌/◌, ◌^◌, ◌<◌, ◌≤◌, refl, sym, ap, subst, ◌∙◌, List, [], ◌∷◌, ◌++◌, length, arith, map, get_or, take}
+use Rattle.std.specs.Prelude.{All, Option, Some, None, slice_get, sum_by}
 use Rattle.std.proofs.lemmas.List.{length_push, take_more}
 use Rattle.std.proofs.lemmas.List.Sums.{sum_by-cons}
+use Rattle.std.proofs.lemmas.List.Elements.{All-push}
 use Rattle.std.specs.Option.{option_map_or}
 use Rattle.std.proofs.lemmas.Option.{slice_get-get_or}
 use Rattle.lxr_layout.specs.declared.Name.{Name}
@@ -21,6 +22,7 @@ use Rattle.lxr_model.specs.Moments.{moment}
 use Rattle.lxr_run.specs.Flat.{IsImage, name_after, objects_of, size_of, space_count, words_before, words_made}
 use Rattle.lxr_run.specs.Mutating.{Does, Holds, Makes, MayReply, Stands, one_thread}
 use Rattle.lxr_run.specs.Run.{HasNoPause, IsHistoryOf, IsLeftBy, IsRun, flat_terms}
+use Rattle.lxr_run.specs.Script.{IsOnObject}
 use Rattle.lxr_run.specs.Tally.{counted, no_tally, tally_of}
 use Rattle.lxr_run.specs.declared.mutator.Mutator.{Mutator}
 use Rattle.lxr_run.specs.declared.space.Space.{Space}
@@ -77,6 +79,7 @@ pub record IsSoFar (operations : List Op) (h : List Item) (words : List ℕ) (m 
   pub counts : tally ≡ tally_of h
   pub few : tally.news + tally.loads + tally.stores ≤ length operations
   pub as_many : length kept ≡ length operations
+  pub none_ended : All (λ r. r ≢ reply.Ended) kept
 
 -- a reply that may stand in the state may stand behind the history
 
@@ -110,9 +113,9 @@ tally_few t reply.Stored = omega arith
 tally_few t r = omega arith
 
 pub so_far-more : (operations : List Op) (h : List Item) (words words' : List ℕ) (m m' : Mutator) (tally tally' : Tally) (kept : List Reply) (o : Op) (r : Reply)
-    → IsSoFar operations h words m tally kept → IsWellFormed o → Does o r words m words' m' → Makes m.made r m'.made → tally' ≡ counted tally r
+    → IsSoFar operations h words m tally kept → IsWellFormed o → Does o r words m words' m' → Makes m.made r m'.made → r ≢ reply.Ended → tally' ≡ counted tally r
     → IsSoFar (operations ++ o ∷ []) (Call 1 o r ∷ h) words' m' tally' (kept ++ r ∷ [])
-so_far-more operations h words words' m m' tally tally' kept o r far formed does made count =
+so_far-more operations h words words' m m' tally tally' kept o r far formed does made unended count =
     let done = does (moment 1 h).state far.stands in
     let more = tally_few tally r in
     let few : tally'.news + tally'.loads + tally'.stores ≤ tally.news + tally.loads + tally.stores + 1 =
@@ -131,6 +134,7 @@ so_far-more operations h words words' m m' tally tally' kept o r far formed does
       counts = count ∙ ap (λ z. counted z r) far.counts;
       few = omega (arith, far.few, length_push operations o);
       as_many = length_push kept r ∙ ap (λ z. z + 1) far.as_many ∙ sym (length_push operations o);
+      none_ended = All-push (λ z. z ≢ reply.Ended) kept r far.none_ended unended;
     }
 
 none_made : (words : List ℕ) (m : Mutator) → Stands words m (opening 1) → m.made ≡ 0
@@ -153,16 +157,17 @@ so_far-none words m tally kept stands counts empty =
       counts = counts;
       few = subst (λ z. z.news + z.loads + z.stores ≤ 0) (sym counts) (omega arith);
       as_many = ap length empty;
+      none_ended = subst (λ z. All (λ r. r ≢ reply.Ended) z) (sym empty) (search rules);
     }
 
 -- the next operation of a list
 pub so_far-next : (operations : List Op) (i : ℕ) (d : Op) (h : List Item) (words words' : List ℕ) (m m' : Mutator) (tally tally' : Tally) (kept : List Reply) (r : Reply)
     → i < length operations → IsSoFar (take i operations) h words m tally kept → IsWellFormed (get_or operations i d) → Does (get_or operations i d) r words m words' m'
-    → Makes m.made r m'.made → tally' ≡ counted tally r
+    → Makes m.made r m'.made → r ≢ reply.Ended → tally' ≡ counted tally r
     → IsSoFar (take (i + 1) operations) (Call 1 (get_or operations i d) r ∷ h) words' m' tally' (kept ++ r ∷ [])
-so_far-next operations i d h words words' m m' tally tally' kept r within far formed does made count =
+so_far-next operations i d h words words' m m' tally tally' kept r within far formed does made unended count =
     rw (take_more operations i d within)
-      (so_far-more (take i operations) h words words' m m' tally tally' kept (get_or operations i d) r far formed does made count)
+      (so_far-more (take i operations) h words words' m m' tally tally' kept (get_or operations i d) r far formed does made unended count)
 
 pub length-stands : (words : List ℕ) (m : Mutator) (s : State) → Stands words m s → length words ≡ space_count
 length-stands words m s (w, row, regs, e, holds) = ap length holds.exact ∙ length-image space_count (w ∷ row) holds.fits
@@ -185,8 +190,14 @@ so_far-whole operations h words words' m m' kept r space space' far does written
         calls = ap (λ z. z ++ op.End ∷ []) far.calls;
       };
       replies = ap (λ z. z ++ r ∷ []) far.replies ∙ ap (λ z. kept ++ z ∷ []) ended;
+      as_many = far.as_many;
+      none_ended = far.none_ended;
       left = record {
         image = subst (λ z. IsImage z (moment 1 (Call 1 op.End r ∷ h)).state.graph) (sym written) (image-stands words' m' (state_after (moment 1 h).state 1 op.End r) done.1);
         tally = same ∙ far.counts ∙ sym (ap (counted (tally_of h)) ended);
       };
     })
+
+-- operations on objects aren't the end
+pub no_end : (o : Op) → IsOnObject o → o ≢ op.End
+no_end o on e = subst IsOnObject e on

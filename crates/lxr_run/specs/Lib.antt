@@ -4,3 +4,4 @@ pub mod Mutating
 pub mod Script
 pub mod Run
 pub mod Watch
+pub mod Outcome

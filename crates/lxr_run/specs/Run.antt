@@ -1,5 +1,5 @@
 -- Runs of one thread on the flat space: their histories, whose items stand newest first, and what they leave.
-use Rattle.std.specs.Prelude.{◌≡◌, ℕ, List, [], ◌∷◌, ◌++◌}
+use Rattle.std.specs.Prelude.{◌≡◌, ◌≢◌, ℕ, List, [], ◌∷◌, ◌++◌, All, length}
 use Rattle.lxr_graph.specs.declared.Op.{Op}
 use Rattle.lxr_graph.specs.declared.Op.TheVariants as op
 use Rattle.lxr_graph.specs.declared.Reply.{Reply}
@@ -39,4 +39,6 @@ pub record IsLeftBy (h : List Item) (space : Space) : Type 0 where
 pub record IsRun (operations : List Op) (h : List Item) (kept : List Reply) (space : Space) : Type 0 where
   pub history : IsHistoryOf operations h
   pub replies : replies_of 1 h ≡ kept ++ reply.Ended ∷ []
+  pub as_many : length kept ≡ length operations
+  pub none_ended : All (λ r. r ≢ reply.Ended) kept
   pub left : IsLeftBy h space

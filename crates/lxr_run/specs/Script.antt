@@ -1,7 +1,8 @@
--- The scripts of this stage: one thread, and operations on objects alone.
+-- The scripts of this stage: those of one thread that has operations on objects alone.
 use Rattle.std.specs.Prelude.{◌≡◌, ℕ, List, [], ◌∷◌, All, Ok}
 use Rattle.lxr_graph.specs.declared.Op.{Op}
 use Rattle.lxr_graph.specs.declared.Op.TheVariants as op
+use Rattle.lxr_script.specs.Reading.{reading_of}
 
 -- `new`, `load`, `store`, `put` and `get` are the operations on objects
 abbrev pub IsOnObject : Op → Type 0
@@ -21,3 +22,12 @@ IsOnObject op.End = ⊥
 abbrev pub IsDoneHere : Op → Type 0
 IsDoneHere op.End = Unit {0}
 IsDoneHere o = IsOnObject o
+
+-- bytes are a script of one thread with these operations, which are all on objects
+pub record IsScriptOf (bytes : List ℕ) (operations : List Op) : Type 0 where
+  pub reading : reading_of bytes ≡ Ok (operations ∷ [])
+  pub on_objects : All IsOnObject operations
+
+-- bytes are no such script
+abbrev pub IsNoScript : List ℕ → Type 0
+IsNoScript bytes = (operations : List Op) → ¬ IsScriptOf bytes operations

@@ -1,6 +1,6 @@
 //! The operations of the one thread, done on the words of the flat space themselves. Registers hold places, and what
 //! stands at a place is read off its header; no other graph is kept beside the words.
-ghost use Rattle.std.specs.Prelude.{◌≡◌, ℕ, ◌+◌, ◌<◌, ◌≤◌, Option, IfSome, length};
+ghost use Rattle.std.specs.Prelude.{◌≡◌, ◌≢◌, ℕ, ◌+◌, ◌<◌, ◌≤◌, Option, IfSome, length};
 ghost use Rattle.lxr_layout.specs.Objects.{FitsShape};
 ghost use Rattle.lxr_run.specs.Mutating.{Shows};
 
@@ -82,6 +82,7 @@ impl Mutator {
         requires registers { (dest < 16) × (base < 16) }
         ensures does { Does (Op.Load dest base index) result words.now self.old words.now self.new }
         ensures made { Makes self.old.made result self.new.made }
+        ensures unended { result ≢ Reply.Ended }
     {
         let Some((begin, shape)) = self.find(words, base) else {
             return Reply::Bad;
@@ -102,6 +103,7 @@ impl Mutator {
         requires registers { (base < 16) × (source < 16) }
         ensures does { Does (Op.Store base index source) result words.old self.now words.new self.now }
         ensures made { Makes self.now.made result self.now.made }
+        ensures unended { result ≢ Reply.Ended }
     {
         let Some((begin, shape)) = self.find(words, base) else {
             return Reply::Bad;
@@ -119,6 +121,7 @@ impl Mutator {
         requires registers { base < 16 }
         ensures does { Does (Op.Put base index value) result words.old self.now words.new self.now }
         ensures made { Makes self.now.made result self.now.made }
+        ensures unended { result ≢ Reply.Ended }
     {
         let Some((begin, shape)) = self.find(words, base) else {
             return Reply::Bad;
@@ -135,6 +138,7 @@ impl Mutator {
         requires registers { base < 16 }
         ensures does { Does (Op.Get base index) result words.now self.now words.now self.now }
         ensures made { Makes self.now.made result self.now.made }
+        ensures unended { result ≢ Reply.Ended }
     {
         let Some((begin, shape)) = self.find(words, base) else {
             return Reply::Bad;
@@ -151,6 +155,7 @@ impl Mutator {
         requires shape { FitsShape shape }
         ensures does { Does (Op.New dest shape) result words.old self.old words.new self.new }
         ensures made { Makes self.old.made result self.new.made }
+        ensures unended { result ≢ Reply.Ended }
     {
         let size = words_of(shape);
         if self.used + size > SPACE_WORDS {
@@ -182,6 +187,7 @@ impl Mutator {
         requires done_here { IsDoneHere op }
         ensures does { Does op result words.old self.old words.new self.new }
         ensures made { Makes self.old.made result self.new.made }
+        ensures unended { op ≢ Op.End → result ≢ Reply.Ended }
     {
         match op {
             Op::New { dest, shape } => self.make(words, dest, shape),

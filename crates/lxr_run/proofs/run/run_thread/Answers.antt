@@ -7,7 +7,8 @@ use Rattle.lxr_graph.specs.History.{Call}
 use Rattle.lxr_graph.specs.Step.{IsWellFormed}
 use Rattle.lxr_model.specs.Moments.{moment}
 use Rattle.lxr_run.specs.Mutating.{Does, Stands}
-use Rattle.lxr_run.proofs.RunLemmas.{IsSoFar, so_far-none, so_far-next, so_far-whole, length-stands}
+use Rattle.lxr_run.proofs.RunLemmas.{IsSoFar, so_far-none, so_far-next, so_far-whole, length-stands, no_end}
+use Rattle.lxr_run.specs.Script.{IsOnObject}
 use Rattle.lxr_run.proofs.run.run_thread.Goals as goal
 
 pub loop-number-init : goal.loop-number-init
@@ -36,7 +37,8 @@ loop-number-preserved g c =
     let back = with_items_is c.loop-number.space.words c.apply-reply.new.words len in
     let next = so_far-next c.args.operations.now c.loop-number.number d h c.loop-number.space.words.items c.apply-reply.new.words c.loop-number.mutator c.apply-reply.new.self
         c.loop-number.space.tally c.count.new.self c.loop-number.replies.items c.apply-reply.result c.loop-number-test.true far
-        (All-get_or IsWellFormed c.args.operations.now c.loop-number.number d c.loop-number-test.true c.requires.formed) does c.apply-reply.ensures.made c.count.ensures in
+        (All-get_or IsWellFormed c.args.operations.now c.loop-number.number d c.loop-number-test.true c.requires.formed) does c.apply-reply.ensures.made
+        (c.apply-reply.ensures.unended (no_end o (All-get_or IsOnObject c.args.operations.now c.loop-number.number d c.loop-number-test.true c.requires.on_objects))) c.count.ensures in
     let run = Call 1 o c.apply-reply.result ∷ h in
     record {
       run = (run, subst (λ z. IsSoFar (take (c.loop-number.number + 1) c.args.operations.now) run z c.apply-reply.new.self c.count.new.self c.push.new.self.items) (sym back)
