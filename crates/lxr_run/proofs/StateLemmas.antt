@@ -1,0 +1,112 @@
+-- One step of the model at a state of one thread, by what its registers and objects are.
+use Rattle.std.proofs.Common.{◌≡◌, ℕ, zero, suc, ◌+◌, ◌-◌, ◌*◌, ◌/◌, ◌<◌, ◌≤◌, refl, sym, ap, subst, ◌∙◌, List, [], ◌∷◌, ◌++◌, length, arith, map, get_or}
+use Rattle.std.specs.Prelude.{Option, Some, None, slice_get, slice_set, slice_index_or, replicate, nat_le, true}
+use Rattle.std.proofs.Math.ListN.{set}
+use Rattle.std.proofs.lemmas.Option.{slice_get-get_or, slice_get_past}
+use Rattle.lxr_layout.specs.declared.Name.{Name}
+use Rattle.lxr_graph.specs.declared.Op.TheVariants as op
+use Rattle.lxr_graph.specs.declared.Reply.{Reply}
+use Rattle.lxr_graph.specs.declared.Reply.TheVariants as reply
+use Rattle.lxr_graph.specs.State.{Graph, Object, State, object_at, refs_of, values_of, register_at, register_index, with_register, with_reference, with_value, row_of, index_in_row}
+use Rattle.lxr_graph.specs.Step.{step, load_from, loaded, store_to, stored, put_to, put_at, get_from, got}
+use Rattle.lxr_run.specs.Flat.{name_after}
+use Rattle.lxr_run.specs.Mutating.{IsKnown, one_thread}
+
+pub register_index-one : (r : ℕ) → register_index 1 r ≡ r
+register_index-one r = omega arith
+
+pub register_at-one : (s : State) (r : ℕ) → register_at s 1 r ≡ get_or s.registers r None
+register_at-one s r = ap (λ z. get_or s.registers z None) (register_index-one r)
+
+pub with_register-one : (s : State) (r : ℕ) (v : Option Name) → with_register s 1 r v ≡ record s { registers = set s.registers r v }
+with_register-one s r v = ap (λ z. record s { registers = set s.registers z v }) (register_index-one r)
+
+-- the graph of one thread
+abbrev pub rows : Object → List Object → Graph
+rows world row = (world ∷ []) ∷ row ∷ []
+
+one_le : (k : ℕ) → nat_le 1 (suc k) ≡ true
+one_le k = grind arith
+
+object_at-name : (world : Object) (row : List Object) (k : ℕ) → object_at (rows world row) (name_after k) ≡ slice_get (world ∷ row) k
+object_at-name world row zero = refl
+object_at-name world row (suc k) = let e : suc k - 1 ≡ k = omega arith in rw (e, one_le k) refl
+
+pub object_at-known : (world : Object) (row : List Object) (n : Name) → n ≡ name_after n.serial → object_at (rows world row) n ≡ slice_get (world ∷ row) n.serial
+object_at-known world row n e = ap (λ z. object_at (rows world row) z) e ∙ object_at-name world row n.serial
+
+-- the graph with another object under a name
+change-name : (world : Object) (row : List Object) (k : ℕ) (o : Object)
+    → (world' : Object) × (row' : List Object) × (set (world ∷ row) k o ≡ world' ∷ row')
+        × (set (rows world row) (name_after k).thread (set (row_of (rows world row) (name_after k).thread) (index_in_row (name_after k)) o) ≡ rows world' row')
+change-name world row zero o = (o, row, refl, refl)
+change-name world row (suc k) o = (world, set row k o, refl, let e : suc k - 1 ≡ k = omega arith in rw e refl)
+
+pub change-known : (world : Object) (row : List Object) (n : Name) (o : Object) → n ≡ name_after n.serial
+    → (world' : Object) × (row' : List Object) × (set (world ∷ row) n.serial o ≡ world' ∷ row')
+        × (set (rows world row) n.thread (set (row_of (rows world row) n.thread) (index_in_row n) o) ≡ rows world' row')
+change-known world row n o e =
+    let found = change-name world row n.serial o in
+    (found.0, found.1, found.2, subst (λ z. set (rows world row) z.thread (set (row_of (rows world row) z.thread) (index_in_row z) o) ≡ rows found.0 found.1) (sym e) found.3)
+
+-- steps by what is found
+
+pub load-bad : (s : State) (dest base i : ℕ) → register_at s 1 base ≡ None → step s 1 (op.Load dest base i) ≡ (s, reply.Bad)
+load-bad s dest base i e = ap (load_from s 1 dest i) e
+
+pub load-range : (s : State) (dest base i : ℕ) (n : Name) (o : Object) → register_at s 1 base ≡ Some n → object_at s.graph n ≡ Some o → length o.refs ≤ i
+    → step s 1 (op.Load dest base i) ≡ (s, reply.Range)
+load-range s dest base i n o held there past =
+    ap (load_from s 1 dest i) held ∙ ap (λ z. loaded s 1 dest (slice_get (refs_of z) i)) there ∙ ap (loaded s 1 dest) (slice_get_past o.refs i past)
+
+pub load-ok : (s : State) (dest base i : ℕ) (n : Name) (o : Object) → register_at s 1 base ≡ Some n → object_at s.graph n ≡ Some o → i < length o.refs
+    → step s 1 (op.Load dest base i) ≡ (record s { registers = set s.registers dest (get_or o.refs i None) }, reply.Loaded (get_or o.refs i None))
+load-ok s dest base i n o held there within =
+    ap (load_from s 1 dest i) held ∙ ap (λ z. loaded s 1 dest (slice_get (refs_of z) i)) there ∙ ap (loaded s 1 dest) (slice_get-get_or o.refs i None within)
+        ∙ ap (λ z. (z, reply.Loaded (get_or o.refs i None))) (with_register-one s dest (get_or o.refs i None))
+
+pub store-bad : (s : State) (base i source : ℕ) → register_at s 1 base ≡ None → step s 1 (op.Store base i source) ≡ (s, reply.Bad)
+store-bad s base i source e = ap (store_to s i (register_at s 1 source)) e
+
+pub store-range : (s : State) (base i source : ℕ) (n : Name) (o : Object) → register_at s 1 base ≡ Some n → object_at s.graph n ≡ Some o → length o.refs ≤ i
+    → step s 1 (op.Store base i source) ≡ (s, reply.Range)
+store-range s base i source n o held there past =
+    let v : Option Name = register_at s 1 source in
+    ap (store_to s i v) held ∙ ap (λ z. stored s n i v (slice_get (refs_of z) i)) there ∙ ap (stored s n i v) (slice_get_past o.refs i past)
+
+pub store-ok : (s : State) (base i source : ℕ) (n : Name) (o : Object) → register_at s 1 base ≡ Some n → object_at s.graph n ≡ Some o → i < length o.refs
+    → step s 1 (op.Store base i source)
+        ≡ (record s { graph = set s.graph n.thread (set (row_of s.graph n.thread) (index_in_row n) (record o { refs = set o.refs i (get_or s.registers source None) })) }, reply.Stored)
+store-ok s base i source n o held there within =
+    let v : Option Name = register_at s 1 source in
+    ap (store_to s i v) held ∙ ap (λ z. stored s n i v (slice_get (refs_of z) i)) there ∙ ap (stored s n i v) (slice_get-get_or o.refs i None within)
+        ∙ ap (λ z. (record s { graph = with_reference s.graph n i v z }, reply.Stored)) there
+        ∙ ap (λ z. (record s { graph = set s.graph n.thread (set (row_of s.graph n.thread) (index_in_row n) (record o { refs = set o.refs i z })) }, reply.Stored)) (register_at-one s source)
+
+pub put-bad : (s : State) (base i v : ℕ) → register_at s 1 base ≡ None → step s 1 (op.Put base i v) ≡ (s, reply.Bad)
+put-bad s base i v e = ap (put_to s i v) e
+
+pub put-range : (s : State) (base i v : ℕ) (n : Name) (o : Object) → register_at s 1 base ≡ Some n → object_at s.graph n ≡ Some o → length o.values ≤ i
+    → step s 1 (op.Put base i v) ≡ (s, reply.Range)
+put-range s base i v n o held there past =
+    ap (put_to s i v) held ∙ ap (λ z. put_at s n i v (slice_get (values_of z) i)) there ∙ ap (put_at s n i v) (slice_get_past o.values i past)
+
+pub put-ok : (s : State) (base i v : ℕ) (n : Name) (o : Object) → register_at s 1 base ≡ Some n → object_at s.graph n ≡ Some o → i < length o.values
+    → step s 1 (op.Put base i v)
+        ≡ (record s { graph = set s.graph n.thread (set (row_of s.graph n.thread) (index_in_row n) (record o { values = set o.values i v })) }, reply.Put)
+put-ok s base i v n o held there within =
+    ap (put_to s i v) held ∙ ap (λ z. put_at s n i v (slice_get (values_of z) i)) there ∙ ap (put_at s n i v) (slice_get-get_or o.values i 0 within)
+        ∙ ap (λ z. (record s { graph = with_value s.graph n i v z }, reply.Put)) there
+
+pub get-bad : (s : State) (base i : ℕ) → register_at s 1 base ≡ None → step s 1 (op.Get base i) ≡ (s, reply.Bad)
+get-bad s base i e = ap (get_from s i) e
+
+pub get-range : (s : State) (base i : ℕ) (n : Name) (o : Object) → register_at s 1 base ≡ Some n → object_at s.graph n ≡ Some o → length o.values ≤ i
+    → step s 1 (op.Get base i) ≡ (s, reply.Range)
+get-range s base i n o held there past =
+    ap (get_from s i) held ∙ ap (λ z. (s, got (slice_get (values_of z) i))) there ∙ ap (λ z. (s, got z)) (slice_get_past o.values i past)
+
+pub get-ok : (s : State) (base i : ℕ) (n : Name) (o : Object) → register_at s 1 base ≡ Some n → object_at s.graph n ≡ Some o → i < length o.values
+    → step s 1 (op.Get base i) ≡ (s, reply.Got (get_or o.values i 0))
+get-ok s base i n o held there within =
+    ap (get_from s i) held ∙ ap (λ z. (s, got (slice_get (values_of z) i))) there ∙ ap (λ z. (s, got z)) (slice_get-get_or o.values i 0 within)

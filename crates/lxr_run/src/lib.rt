@@ -1,0 +1,137 @@
+//! The top call: from the words of a command line and the bytes of a script to the replies of its thread.
+//!
+//! At this stage one loop does the operations of one thread directly on a flat space: a row of words in which each new
+//! object stands right behind the last one. The contract of [`lxr`] speaks of the model alone: the text that was written
+//! is that of one legal history, and the words are the image of that history's last graph.
+#![tactic(auto)]
+
+ghost use Rattle.std.specs.Prelude.{◌≡◌, ◌≢◌, ℕ, ◌≤◌, ◌⊎◌, ◌↔◌, ◌∷◌, [], IfOk, IfSome, IsTrue, OnErr, OnOk, length, map};
+ghost use Rattle.lxr_graph.specs.State.{opening};
+ghost use Rattle.lxr_stream.specs.Streams.{Rose, TakesSome};
+ghost use Rattle.lxr_run.specs.Flat.{IsImage};
+ghost use Rattle.lxr_run.specs.Outcome.{IsCutOff, IsDone, IsRefusal, IsRunCommand, WasJudged, judged_part};
+ghost use Rattle.lxr_run.specs.Script.{IsNoScript};
+ghost use Rattle.lxr_run.specs.Tally.{no_tally};
+
+mod edges;
+mod mutator;
+mod run;
+mod script;
+mod space;
+mod tally;
+
+pub use edges::{Gate, Open, Unseen, Watch};
+use lxr_graph::{Operations, Replies};
+use lxr_stream::{ReadError, Sink, Source, WriteError, read_all};
+use lxr_text::print_replies;
+use run::run_thread;
+use script::{NoOperations, read_operations};
+pub use space::Space;
+use std::alloc::{AllocError, Global};
+use std::thread::Threads;
+pub use tally::Tally;
+
+/// The words of the flat space.
+pub const SPACE_WORDS: u32 = 262_144;
+
+/// A script has at most so many bytes.
+const MOST_BYTES: usize = 67_108_864;
+
+/// How a run ended. Its number is the program's exit status.
+#[derive(Clone, Copy, Debug, PartialEq, Eq)]
+pub enum Status {
+    /// The text was written whole.
+    Done = 0,
+    /// The words of the command line aren't the one word `run`.
+    Words = 1,
+    /// The input is no script.
+    Script = 2,
+    /// Reading failed.
+    ReadFault = 3,
+    /// Writing failed.
+    WriteFault = 4,
+    /// Memory ran out.
+    Memory = 5,
+}
+
+/// Whether the words of the command line are the one word `run`.
+fn is_run(words: &[&str]) -> bool
+    ensures { IsTrue result ↔ IsRunCommand (map (λ word. word.now) words.now) }
+{
+    match words {
+        [word] => *word == "run",
+        _ => false,
+    }
+}
+
+/// Opens the space, with room for so many replies.
+fn open(alloc: Global, space: &mut Space, replies: usize) -> Result<Replies, AllocError>
+    requires { space.old.words.items ≡ [] }
+    ensures image { OnOk result (IsImage space.new.words.items (opening 1).graph) }
+    ensures tally { OnOk result (space.new.tally ≡ no_tally) }
+    ensures none { IfOk result (λ kept. kept.items ≡ []) }
+    ensures room { IfOk result (λ kept. replies ≤ kept.room) }
+    ensures err { OnErr result (space.new.words.items ≡ []) }
+{
+    let kept = Replies::with_room(alloc, replies)?;
+    space.open(alloc)?;
+    Ok(kept)
+}
+
+/// Runs a script: reads it from `input`, does its operations in `space`, and prints their replies to `output`.
+///
+/// The work is done in this order: the words, the input, the script, the opening of the space with room for all replies,
+/// the operations, the printing. The gate is called before each operation and before the end. `rt` and the watch aren't
+/// used yet, and nothing is written to `errors`. Want of memory is the one outcome that no clause ties to a cause.
+pub fn lxr<R: Threads + Sync, I: Source, O: Sink, E: Sink, G: Gate, W: Watch>(
+    rt: &R,
+    alloc: Global,
+    words: &[&str],
+    input: &mut I,
+    output: &mut O,
+    errors: &mut E,
+    gate: &G,
+    watch: &mut W,
+    space: &mut Space,
+) -> Status
+    requires { space.old.words.items ≡ [] }
+    ensures words { (result ≡ Status.Words) ↔ ¬ IsRunCommand (map (λ word. word.now) words.now) }
+    ensures script { IfSome (I.left input.old) (λ bytes. WasJudged result → ((result ≡ Status.Script) ↔ IsNoScript (judged_part bytes))) }
+    ensures read_fault { result ≡ Status.ReadFault → Rose (I.faults input.old) (I.faults input.new) }
+    ensures write_fault { result ≡ Status.WriteFault → Rose (O.faults output.old) (O.faults output.new) }
+
+    // What each outcome leaves.
+    ensures done { result ≡ Status.Done → IsDone (I.left input.old) (I.left input.new) (O.written output.old) (O.written output.new) space.new }
+    ensures cut_off { result ≡ Status.WriteFault → IsCutOff (I.left input.old) (I.left input.new) (O.written output.old) (O.written output.new) space.new }
+    ensures memory { result ≡ Status.Memory → IsCutOff (I.left input.old) (I.left input.new) (O.written output.old) (O.written output.new) space.new ⊎ ((output.new ≡ output.old) × (space.new.words.items ≡ [])) }
+    ensures refusal { IsRefusal result → (output.new ≡ output.old) × (space.new.words.items ≡ []) }
+
+    // What is read is read from the front, and nothing where the words are refused.
+    ensures taken { TakesSome (I.left input.old) (I.left input.new) }
+    ensures unread { result ≡ Status.Words → input.new ≡ input.old }
+    ensures unused { (errors.new ≡ errors.old) × (watch.new ≡ watch.old) }
+{
+    if !is_run(words) {
+        return Status::Words;
+    }
+    let bytes = match read_all(alloc, input, MOST_BYTES) {
+        Ok(bytes) => bytes,
+        Err(ReadError::Fault) => return Status::ReadFault,
+        Err(ReadError::Memory) => return Status::Memory,
+    };
+    let operations = match read_operations(alloc, &bytes) {
+        Ok(operations) => operations,
+        Err(NoOperations::Script) => return Status::Script,
+        Err(NoOperations::Memory) => return Status::Memory,
+    };
+    let mut replies = match open(alloc, space, operations.len()) {
+        Ok(replies) => replies,
+        Err(_) => return Status::Memory,
+    };
+    run_thread(space, operations.as_slice(), &mut replies, gate);
+    match print_replies(1, &operations, &replies, output) {
+        Ok(()) => Status::Done,
+        Err(WriteError::Fault) => Status::WriteFault,
+        Err(WriteError::Memory) => Status::Memory,
+    }
+}
