@@ -1,7 +1,8 @@
 //! One epoch of walkers.
-ghost use Rattle.std.specs.Prelude.{◌<◌};
+ghost use Rattle.std.specs.Prelude.{◌+◌, ◌<◌, length};
 
 use crate::walker::Walker;
+use lxr_passes::{close_passes, open_passes};
 use lxr_tables::{PlainWords, Words};
 use lxr_threads_test::run_passes;
 use std::alloc::{AllocError, Global};
@@ -32,6 +33,16 @@ pub fn in_threads<R: Threads + Sync>(
         threads as usize,
         units as usize,
     )?;
+    Ok(words)
+}
+
+/// Opens an epoch over so many words with no actor, and closes it: each word is copied in and out.
+pub fn reopened(alloc: Global, words: PlainWords) -> Result<PlainWords, AllocError>
+    requires { 8192 < length words + 1 }
+{
+    let walkers: Vec<Walker> = Vec::new(alloc);
+    let (epoch, passes) = open_passes(alloc, words, walkers)?;
+    let (words, _walkers) = close_passes(epoch, passes);
     Ok(words)
 }
 
