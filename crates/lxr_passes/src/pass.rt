@@ -12,6 +12,7 @@ use std::alloc::Global;
 use std::marker::Model;
 
 /// The shared words, from opening to closing. Passes step on it through a `&`.
+#[derive(Drop)]
 pub struct Epoch<A: Actor> {
     pub(crate) table: Table<(), View<A>, Opening<A>, Running<A>, Global>,
     pub(crate) words: PlainWords,

@@ -12,7 +12,7 @@ use Rattle.lxr_threads_test.specs.Repeating.{repeating}
 use Rattle.lxr_threads_test.specs.Drawing.{Drawing, draws, drawing}
 
 -- words below a number that all next steps name
-wide-fits : {A : Type 0} (m : Machine A) (wide : ℕ) → ((a : A) (act : Action) → m.action a ≡ Some act → act.word < wide) → ((a : A) (old : ℕ) → m.accepts a old ≡ true)
+pub wide-fits : {A : Type 0} (m : Machine A) (wide : ℕ) → ((a : A) (act : Action) → m.action a ≡ Some act → act.word < wide) → ((a : A) (old : ℕ) → m.accepts a old ≡ true)
     → (core : Core A) → wide < length core.words + 1 → AlwaysFits m core
 wide-fits m wide names accepts core enough =
     always-fits m (λ (c : Core _). wide < length c.words + 1)

@@ -11,7 +11,9 @@ mod run;
 mod tests;
 mod tickets;
 
-pub use fitting::{open_repeaters, replay_repeaters, run_repeaters, run_tickets};
+pub use fitting::{
+    exchange_in_pockets, open_repeaters, replay_repeaters, run_repeaters, run_tickets,
+};
 pub use repeater::Repeater;
 pub use run::run_passes;
 pub use tickets::Tickets;

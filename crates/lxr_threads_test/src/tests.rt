@@ -1,12 +1,13 @@
 //! Every kind of step, schedules with entries that are skipped, offers, and passes in 2, 8 and 32 threads.
 ghost use Rattle.std.specs.Prelude.{◌≡◌, ◌<◌, length, IfOk};
 
-use crate::fitting::{open_repeaters, replay_repeaters, run_repeaters, run_tickets};
+use crate::fitting::{
+    exchange_in_pockets, open_repeaters, replay_repeaters, run_repeaters, run_tickets,
+};
 use crate::repeater::Repeater;
 use crate::tickets::Tickets;
 use lxr_actor::Kindred;
 use lxr_layout::Place;
-use lxr_passes::close_passes;
 use lxr_tables::{PlainWords, Words};
 use std::alloc::{AllocError, Global};
 use std::test::Fail;
@@ -79,14 +80,13 @@ fn entries_of_nobody_are_skipped(rt: HostRuntime) -> Result<(), Fail> {
 
 #[test]
 fn offers_and_surplus(rt: HostRuntime) -> Result<(), Fail> {
-    let actors = repeaters(rt.alloc(), 1, Kindred::Add, 1, 1)?;
+    let actors = repeaters(rt.alloc(), 2, Kindred::Add, 1, 1)?;
     let (epoch, mut passes) = open_repeaters(rt.alloc(), words_from(rt.alloc(), 0, 1)?, actors)?;
-    assert!(rt; passes.len() == 1 && passes[0].resting());
-    assert!(rt; passes[0].offer(&epoch, Place(5)) && !passes[0].offer(&epoch, Place(6)));
-    assert!(rt; passes[0].surplus(&epoch) == Some(Place(5)));
-    assert!(rt; passes[0].surplus(&epoch).is_none() && passes[0].actor().todo == 1);
-    let (words, actors) = close_passes(epoch, passes);
-    assert!(rt; words.count() == 1 && words.get(0) == 0 && actors.len() == 1);
+    exchange_in_pockets(&rt, &epoch, passes.as_mut_slice());
+    assert!(rt; passes.len() == 2);
+    for pass in &passes {
+        assert!(rt; pass.resting() && pass.actor().pocket == Some(Place(7)));
+    }
     Ok(())
 }
 
