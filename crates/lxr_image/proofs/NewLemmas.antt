@@ -1,6 +1,6 @@
 -- A new object that is written on free room stands there, and all members stand as they did.
 use Rattle.std.proofs.Common.{◌≡◌, ◌≢◌, ℕ, zero, suc, ◌+◌, ◌-◌, ◌*◌, ◌/◌, ◌<◌, ◌≤◌, refl, sym, ap, subst, ◌∙◌, inl, inr, ◌⊎◌, arith, true, false, cond, List, ◌∷◌, length, replicate}
-use Rattle.std.specs.Prelude.{Option, Some, None, IsTrue, slice_get}
+use Rattle.std.specs.Prelude.{◌||◌, Option, Some, None, IsTrue, slice_get}
 use Rattle.std.proofs.lemmas.List.{length-replicate}
 use Rattle.std.proofs.lemmas.Option.{slice_get_within}
 use Rattle.lxr_layout.specs.declared.Name.{Name}
@@ -11,7 +11,7 @@ use Rattle.lxr_graph.specs.State.{Object, Graph, next_name, object_at, shape_of,
 use Rattle.lxr_graph.specs.Step.{fresh}
 use Rattle.lxr_graph.specs.Names.{has, same_name}
 use Rattle.lxr_graph.proofs.RowLemmas.{object_at-with_new}
-use Rattle.lxr_graph.proofs.NameSets.{not_both, or_cases, same_itself, same_names}
+use Rattle.lxr_graph.proofs.NameSets.{same_itself, same_names}
 use Rattle.lxr_image.specs.Tables.{Tables}
 use Rattle.lxr_image.specs.Reads.{IsName, StandsWhole, granule_of}
 use Rattle.lxr_image.specs.Image.{AreApart, IsImage, Stands, granules_of, place_word}
@@ -82,7 +82,7 @@ untouched t u at n m a p s first placed writes apart i h =
 
 -- a member of the old ones
 old_member : (ms : List Name) (n m : Name) → IsTrue (has (n ∷ ms) m) → same_name m n ≡ false → IsTrue (has ms m)
-old_member ms n m member differ = elim (or_cases (same_name m n) (has ms m) member) [ inl k ↦ not_both (same_name m n) k differ | inr k ↦ k ]
+old_member ms n m member differ = subst (λ b. IsTrue (b || has ms m)) differ member
 
 -- an old object keeps its object
 same_object : (g h : Graph) (m : Name) (a : Object) → object_at h m ≡ object_at g m → object_at h m ≡ Some a → object_at g m ≡ Some a

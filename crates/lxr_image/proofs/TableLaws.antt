@@ -7,7 +7,7 @@ use Rattle.std.proofs.Math.ListN.{get_or-eq_default, length-set}
 use Rattle.lxr_layout.specs.declared.limits.Limits.{Limits}
 use Rattle.lxr_layout.specs.Spaces.{region_begin, region_sizes}
 use Rattle.lxr_tables.specs.Entries.{OthersStay, table}
-use Rattle.lxr_tables.proofs.EntryLemmas.{IsWritten, others_stay, read_at, written_at}
+use Rattle.lxr_tables.proofs.EntryLemmas.{IsWritten, entry_below, others_stay, read_at, written_at}
 use Rattle.lxr_image.specs.declared.tables.BitTable.{BitTable}
 use Rattle.lxr_image.specs.declared.tables.BitTable.TheVariants.{Starts, Marks, Grays, Dones, Unlogged, Outs}
 use Rattle.lxr_image.specs.declared.tables.WordTable.{WordTable}
@@ -215,3 +215,13 @@ no_start_past l ws g size past =
     let len = length_region_table 1 64 (region_sizes l) ws 2 (lit< tt) (omega arith) in
     let none : slice_index (table 1 64 region) g ≡ 0 = get_or-eq_default (table 1 64 region) 0 {n = g} (omega arith) in
     ap (λ x. x == 1) none
+
+-- ---- what entries can be
+
+pub count_fits : (l : Limits) (ws : List ℕ) (g : ℕ) → (tables_in l ws).counts g ≤ 3
+unfolding tables_in
+count_fits l ws g = let below = entry_below 2 32 g (slice_index_or (cut (region_sizes l) ws) 1 []) in omega arith
+
+pub reuse_fits : (l : Limits) (ws : List ℕ) (n : ℕ) → (tables_in l ws).reuse n < 2 ^ 32
+unfolding tables_in
+reuse_fits l ws n = entry_below 32 2 n (slice_index_or (cut (region_sizes l) ws) 7 [])

@@ -1,6 +1,7 @@
 -- What a space is, and how a call on its words changes it.
-use Rattle.std.specs.Prelude.{◌≡◌, ℕ, Bool, slice_index}
-use Rattle.lxr_layout.specs.Spaces.{AreLimits, region_begin, region_sizes}
+use Rattle.std.specs.Prelude.{◌≡◌, ℕ, ◌*◌, ◌^◌, ◌<◌, ◌≤◌, Bool, false}
+use Rattle.lxr_layout.specs.declared.TheConstants.{STUCK}
+use Rattle.lxr_layout.specs.Spaces.{AreLimits, region_begin}
 use Rattle.lxr_image.specs.declared.space.Space.{Space}
 use Rattle.lxr_image.specs.declared.tables.BitTable.{BitTable}
 use Rattle.lxr_image.specs.declared.tables.BitTable.TheVariants as bit
@@ -21,6 +22,19 @@ pub record IsSpace (s : Space) : Type 0 where
 pub record Turns (before after : Space) (t : Tables) : Type 0 where
   pub tables : tables_of after ≡ t
   pub rest : after ≡ record before { words = after.words }
+
+-- no count is above STUCK, and a reuse counter has 32 bits
+pub record AreWithin (t : Tables) : Type 0 where
+  pub counts : (g : ℕ) → t.counts g ≤ STUCK
+  pub reuse : (n : ℕ) → t.reuse n < 2 ^ 32
+
+-- so it is in every space
+abbrev pub EntriesAreWithin : Type 0
+EntriesAreWithin = (s : Space) → AreWithin (tables_of s)
+
+-- past the heap's last granule no object begins
+abbrev pub NoneStartsPast : Type 0
+NoneStartsPast = (s : Space) (g : ℕ) → IsSpace s → 2048 * s.limits.blocks ≤ g → (tables_of s).starts g ≡ false
 
 -- the region of a table of bits, and of a table of words
 abbrev pub bit_region : BitTable → ℕ

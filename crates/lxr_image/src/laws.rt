@@ -1,5 +1,16 @@
-//! Laws of the image of an object graph, each the contract of a function that does nothing.
+//! Laws of the tables and of the image of an object graph, each the contract of a function that does nothing.
 ghost use Rattle.lxr_image.specs.ImageLaws.{ImageIsRead, ImageStandsWhole, NewKeepsImage, OutsideKeepsImage, PutKeepsImage, RegisterKeepsPlaces, StoreKeepsImage};
+ghost use Rattle.lxr_image.specs.Spaces.{EntriesAreWithin, NoneStartsPast};
+
+/// No count is above `STUCK`, and a reuse counter has 32 bits.
+pub fn entries_are_within()
+    ensures { EntriesAreWithin }
+{}
+
+/// No object begins past the heap.
+pub fn none_starts_past()
+    ensures { NoneStartsPast }
+{}
 
 /// A heap word outside all objects may be written.
 pub fn outside_keeps_image()

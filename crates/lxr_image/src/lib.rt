@@ -13,8 +13,8 @@ mod space;
 mod tables;
 
 pub use laws::{
-    image_is_read, image_stands_whole, new_keeps_image, outside_keeps_image, put_keeps_image,
-    register_keeps_places, store_keeps_image,
+    entries_are_within, image_is_read, image_stands_whole, new_keeps_image, none_starts_past,
+    outside_keeps_image, put_keeps_image, register_keeps_places, store_keeps_image,
 };
 pub use open::WORLD_STATE;
 pub use space::{Entries, Places, Space, Tally};

@@ -173,3 +173,20 @@ table-take b n (suc m) (w ∷ ws) =
     let len = length-entries b n w in
     let past : n * suc m ≡ length (entries b n w) + n * m = omega arith in
     ap (λ x. entries b n w ++ x) (table-take b n m ws) ∙ sym (take-append-add (entries b n w) (flat_map (entries b n) ws) (n * m)) ∙ ap (λ k. take k (entries b n w ++ flat_map (entries b n) ws)) (sym past)
+
+word_below : (b n w k : ℕ) → slice_index (entries b n w) k < 2 ^ b
+unfolding entries
+word_below b zero w k = pow_pos b
+word_below b (suc n) w zero = mod_below w (2 ^ b) (pow_pos b)
+word_below b (suc n) w (suc k) = word_below b n (w / 2 ^ b) k
+
+joined_below : (m : ℕ) (xs ys : List ℕ) → ((i : ℕ) → slice_index xs i < m) → ((i : ℕ) → slice_index ys i < m) → (k : ℕ) → slice_index (xs ++ ys) k < m
+joined_below m [] ys left right k = right k
+joined_below m (x ∷ xs) ys left right zero = left zero
+joined_below m (x ∷ xs) ys left right (suc k) = joined_below m xs ys (λ i. left (suc i)) right k
+
+-- an entry has its bits and no more
+pub entry_below : (b n k : ℕ) (ws : List ℕ) → slice_index (table b n ws) k < 2 ^ b
+unfolding table
+entry_below b n k [] = pow_pos b
+entry_below b n k (w ∷ ws) = joined_below (2 ^ b) (entries b n w) (flat_map (entries b n) ws) (word_below b n w) (λ i. entry_below b n i ws) k
