@@ -22,10 +22,7 @@ fn words_of<R: Env + AllocGlobal>(rt: &R) -> Result<Vec<String>, AllocError> {
 }
 
 /// The same words as borrowed texts.
-fn texts_of<'a, R: AllocGlobal>(
-    rt: &R,
-    words: &'a [String],
-) -> Result<Vec<&'a str>, AllocError> {
+fn texts_of<'a, R: AllocGlobal>(rt: &R, words: &'a [String]) -> Result<Vec<&'a str>, AllocError> {
     words.iter().map(|word| word.as_str()).collect(rt.alloc())
 }
 

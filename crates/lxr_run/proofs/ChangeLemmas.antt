@@ -114,20 +114,20 @@ pub holds-reference : (words : List ℕ) (m : Mutator) (os : List Object) (regs 
     → Holds (set words (words_before os k + 1 + i) (reference_word os v)) m (set os k (record o { refs = set o.refs i v })) regs
 holds-reference words m os regs k i v o holds there within known =
     let own : (j : ℕ) → IsKnown (length os) (get_or o.refs j None) =
-        λ j. subst (λ z. IsKnown (length os) (get_or (refs_of z) j None)) there (holds.referred k j) in
+    λ j. subst (λ z. IsKnown (length os) (get_or (refs_of z) j None)) there (holds.referred k j) in
     holds-object words (set words (words_before os k + 1 + i) (reference_word os v)) m os regs k o (record o { refs = set o.refs i v }) holds there
-      (ap (λ z. record { refs = z; values = length o.values }) (length-set o.refs i v))
-      (ap (λ z. set z (words_before os k + 1 + i) (reference_word os v)) holds.exact ∙ image-set-reference space_count os k i v o there within)
-      (get_or-set (IsKnown (length os)) o.refs i v own known)
+    (ap (λ z. record { refs = z; values = length o.values }) (length-set o.refs i v))
+    (ap (λ z. set z (words_before os k + 1 + i) (reference_word os v)) holds.exact ∙ image-set-reference space_count os k i v o there within)
+    (get_or-set (IsKnown (length os)) o.refs i v own known)
 
 pub holds-value : (words : List ℕ) (m : Mutator) (os : List Object) (regs : List (Option Name)) (k i v : ℕ) (o : Object) → Holds words m os regs
     → slice_get os k ≡ Some o → i < length o.values
     → Holds (set words (words_before os k + 1 + length o.refs + i) v) m (set os k (record o { values = set o.values i v })) regs
 holds-value words m os regs k i v o holds there within =
     holds-object words (set words (words_before os k + 1 + length o.refs + i) v) m os regs k o (record o { values = set o.values i v }) holds there
-      (ap (λ z. record { refs = length o.refs; values = z }) (length-set o.values i v))
-      (ap (λ z. set z (words_before os k + 1 + length o.refs + i) v) holds.exact ∙ image-set-value space_count os k i v o there within)
-      (λ j. subst (λ z. IsKnown (length os) (get_or (refs_of z) j None)) there (holds.referred k j))
+    (ap (λ z. record { refs = length o.refs; values = z }) (length-set o.values i v))
+    (ap (λ z. set z (words_before os k + 1 + length o.refs + i) v) holds.exact ∙ image-set-value space_count os k i v o there within)
+    (λ j. subst (λ z. IsKnown (length os) (get_or (refs_of z) j None)) there (holds.referred k j))
 
 -- one more object, and a register holds it
 pub holds-push : (words : List ℕ) (m : Mutator) (os : List Object) (regs : List (Option Name)) (r : ℕ) (shape : Shape) (n : Name) (word : ℕ) (p : Place) → Holds words m os regs
@@ -141,10 +141,10 @@ holds-push words m os regs r shape n word p holds fits room named serial header 
     let count : length after ≡ length os + 1 = length_push os o in
     let known : IsKnown (length after) (Some n) = (named ∙ ap name_after (sym serial), omega arith) in
     let begins : words_before after n.serial ≡ m.used =
-        ap (λ z. words_before after z) serial ∙ words_before-push os o (length os) (omega arith) ∙ sym holds.used in
+    ap (λ z. words_before after z) serial ∙ words_before-push os o (length os) (omega arith) ∙ sym holds.used in
     let place_is : p ≡ place_for after (Some n) = ap (λ z. record { 0 = z }) (place ∙ ap (λ z. z / 2 + 1) (sym begins)) in
     let places : map (place_for os) regs ≡ map (place_for after) regs =
-        map-place os after regs (λ i. sym (reference_word-push os o (get_or regs i None) (holds.held i))) in
+    map-place os after regs (λ i. sym (reference_word-push os o (get_or regs i None) (holds.held i))) in
     record {
       world = words_before-push os o 1 (omega (arith, holds.made)) ∙ holds.world;
       fits = omega arith;

@@ -17,11 +17,11 @@ use Rattle.lxr_graph.specs.declared.Reply.{Reply}
 use Rattle.lxr_graph.specs.declared.Reply.TheVariants as reply
 use Rattle.lxr_graph.specs.State.{Graph, Object, State, object_at, refs_of, values_of, register_at, with_register, row_of, index_in_row, shape_of, next_name, with_new}
 use Rattle.lxr_graph.specs.Step.{step, fresh, state_after}
-use Rattle.lxr_run.specs.Flat.{name_after, image_of, objects_of, reference_word, size_of, space_count, words_before, words_made}
+use Rattle.lxr_run.specs.Flat.{found_at, name_after, image_of, objects_of, reference_word, size_of, space_count, words_before, words_made, words_told}
 use Rattle.lxr_run.specs.Mutating.{Does, MayReply, Finds, Holds, IsKnown, Shows, Stands, one_thread, place_for, reference_of}
 use Rattle.lxr_run.specs.declared.mutator.Mutator.{Mutator}
 use Rattle.lxr_run.proofs.PackLemmas.{header_of-header_word}
-use Rattle.lxr_run.proofs.RowLemmas.{fields_in, words_before-even, words_before-fit}
+use Rattle.lxr_run.proofs.RowLemmas.{fields_in, words_before-even, words_before-fit, words_before-more, words_before-zero}
 use Rattle.lxr_run.proofs.PlaceLemmas.{reference_word-set, reference_word-push, words_made-set, words_made-push, words_before-push, two_each}
 use Rattle.lxr_run.proofs.ImageLemmas.{length-image, image-header, image-reference, image-value, image-set-reference, image-set-value, image-push}
 use Rattle.lxr_run.proofs.StateLemmas.{object_at-known, change-known, register_at-one, register_index-one, rows, load-bad, load-range, load-ok, store-bad, store-range, store-ok, put-bad, put-range, put-ok, get-bad, get-range, get-ok}
@@ -35,16 +35,40 @@ thread_small (suc k) = omega arith
 object_known : (os : List Object) (n : Name) → n.serial < length os → (d : Object) → slice_get os n.serial ≡ Some (get_or os n.serial d)
 object_known os n h d = slice_get-get_or os n.serial d h
 
+serial_after : (k : ℕ) → (name_after k).serial ≡ k
+serial_after zero = refl
+serial_after (suc k) = refl
+
+header_at : (words : List ℕ) (m : Mutator) (os : List Object) (regs : List (Option Name)) (k : ℕ) (o : Object) → Holds words m os regs → slice_get os k ≡ Some o
+    → header_of (get_or words (words_before os k) 0) ≡ header.Object (name_after k) (shape_of o)
+header_at words m os regs k o holds there =
+    let within = slice_get_within os k o there in
+    let small : (name_after k).serial < 2 ^ 32 = omega (arith, two_each os, holds.fits, serial_after k) in
+    ap (λ z. header_of (get_or z (words_before os k) 0)) holds.exact
+    ∙ ap header_of (image-header space_count os k o there)
+    ∙ header_of-header_word (name_after k) (shape_of o) (holds.shapes k o there) small (thread_small k)
+
 header_told : (words : List ℕ) (m : Mutator) (os : List Object) (regs : List (Option Name)) (n : Name) (o : Object) → Holds words m os regs → n ≡ name_after n.serial
     → slice_get os n.serial ≡ Some o → header_of (get_or words (words_before os n.serial) 0) ≡ header.Object n (shape_of o)
 header_told words m os regs n o holds named there =
-    let within = slice_get_within os n.serial o there in
-    let small : n.serial < 2 ^ 32 = omega (arith, two_each os, holds.fits) in
-    let few : n.thread < 2 ^ 8 = subst (λ z. z.thread < 2 ^ 8) (sym named) (thread_small n.serial) in
-    ap (λ z. header_of (get_or z (words_before os n.serial) 0)) holds.exact
-        ∙ ap header_of (image-header space_count os n.serial o there)
-        ∙ ap (λ z. header_of (header_word z (shape_of o))) (sym named)
-        ∙ header_of-header_word n (shape_of o) (holds.shapes n.serial o there) small few
+    header_at words m os regs n.serial o holds there ∙ ap (λ z. header.Object z (shape_of o)) (sym named)
+
+some_object : Object
+some_object = record { refs = []; values = [] }
+
+-- headers tell from the front where objects begin
+pub found_holds : (words : List ℕ) (m : Mutator) (os : List Object) (regs : List (Option Name)) → Holds words m os regs → (k : ℕ) → k < length os
+    → found_at words k ≡ words_before os k
+found_holds words m os regs holds zero h = sym (words_before-zero os)
+found_holds words m os regs holds (suc k) h =
+    let before : k < length os = omega arith in
+    let o : Object = get_or os k some_object in
+    let there : slice_get os k ≡ Some o = slice_get-get_or os k some_object before in
+    let at = found_holds words m os regs holds k before in
+    let told : header_of (get_or words (found_at words k) 0) ≡ header.Object (name_after k) (shape_of o) =
+        ap (λ z. header_of (get_or words z 0)) at ∙ header_at words m os regs k o holds there in
+    let size : words_told (header_of (get_or words (found_at words k) 0)) ≡ size_of o = ap words_told told in
+    omega (arith, words_before-more os k o there)
 
 pub shown : (words : List ℕ) (m : Mutator) (os : List Object) (regs : List (Option Name)) (n : Name) (o : Object) → Holds words m os regs → IsKnown (length os) (Some n)
     → slice_get os n.serial ≡ Some o → Shows words (place_for os (Some n)) (Some (n, shape_of o))
@@ -52,10 +76,11 @@ shown words m os regs n o holds known there =
     let fit = words_before-fit os n.serial o there in
     let even = words_before-even os n.serial in
     let begin : first_word (words_before os n.serial / 2 + 1) ≡ words_before os n.serial = omega arith in
-    let long : length words ≡ space_count = ap length holds.exact ∙ length-image space_count os holds.fits in
-    ((omega arith, omega (arith, holds.fits, fields_in o)),
-     omega (arith, holds.fits, fields_in o),
-     ap (λ z. header_of (get_or words z 0)) begin ∙ header_told words m os regs n o holds known.0 there)
+    let long : length words ≡ space_count = ap length holds.exact ∙ length-image space_count os holds.fits in (
+      (omega arith, omega (arith, holds.fits, fields_in o)),
+      omega (arith, holds.fits, fields_in o),
+      ap (λ z. header_of (get_or words z 0)) begin ∙ header_told words m os regs n o holds known.0 there,
+    )
 
 -- what a known reference's place shows is what it names
 
@@ -76,9 +101,6 @@ pub record IsShown (os : List Object) (v : Option Name) (begin : ℕ) (told : Na
   pub begins : begin ≡ words_before os name.serial
   pub shape_is : shape ≡ shape_of object
   pub told_is : told ≡ name
-
-some_object : Object
-some_object = record { refs = []; values = [] }
 
 pub object_shown : (words : List ℕ) (m : Mutator) (os : List Object) (regs : List (Option Name)) (v : Option Name) (told : Name) (shape : Shape) → Holds words m os regs
     → IsKnown (length os) v → Shows words (place_for os v) (Some (told, shape)) → IsShown os v (first_word (place_for os v).0) told shape
@@ -133,7 +155,7 @@ does_by o r words m words' m' plain after f s (w, row, regs, e, holds) =
     let g = f w row regs holds in
     let t : State = one_thread w row regs in
     subst (λ z. MayReply z 1 o r × Stands words' m' (state_after z 1 o r)) (sym e)
-      (plain t (ap (λ p. p.1) g.1), subst (λ z. Stands words' m' z) (sym (after t ∙ ap (λ p. p.0) g.1)) g.2)
+    (plain t (ap (λ p. p.1) g.1), subst (λ z. Stands words' m' z) (sym (after t ∙ ap (λ p. p.0) g.1)) g.2)
 
 -- what a register's place shows, in each state that the words stand for
 
@@ -146,14 +168,14 @@ pub finds_nothing : (words : List ℕ) (m : Mutator) (r q : ℕ) (d : Place) (fo
     → (s : State) → Stands words m s → Finds s r None
 finds_nothing words m r q d found at small shows is s (w, row, regs, e, holds) =
     subst (λ z. Finds z r None) (sym e)
-      (finds-none words m w row regs r d (get_or m.registers q d) holds small (ap (λ z. get_or m.registers z d) at)
-        (subst (λ z. Shows words (get_or m.registers q d) z) is shows))
+    (finds-none words m w row regs r d (get_or m.registers q d) holds small (ap (λ z. get_or m.registers z d) at)
+    (subst (λ z. Shows words (get_or m.registers q d) z) is shows))
 
 pub finds_object : (words : List ℕ) (m : Mutator) (r q begin : ℕ) (d : Place) (found : Option (Name × Shape)) (told : Name) (shape : Shape) → q ≡ r → r < 16
     → Shows words (get_or m.registers q d) found → found ≡ Some (told, shape) → begin ≡ first_word (get_or m.registers q d).0
     → (s : State) → Stands words m s → Finds s r (Some (begin, shape))
 finds_object words m r q begin d found told shape at small shows is begins s (w, row, regs, e, holds) =
     subst (λ z. Finds z r (Some (begin, shape))) (sym e)
-      (subst (λ z. Finds (one_thread w row regs) r (Some (z, shape))) (sym begins)
-        (finds-some words m w row regs r d (get_or m.registers q d) told shape holds small (ap (λ z. get_or m.registers z d) at)
-          (subst (λ z. Shows words (get_or m.registers q d) z) is shows)))
+    (subst (λ z. Finds (one_thread w row regs) r (Some (z, shape))) (sym begins)
+    (finds-some words m w row regs r d (get_or m.registers q d) told shape holds small (ap (λ z. get_or m.registers z d) at)
+    (subst (λ z. Shows words (get_or m.registers q d) z) is shows)))

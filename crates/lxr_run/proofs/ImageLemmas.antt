@@ -17,7 +17,7 @@ pub length-image : (count : ℕ) (os : List Object) → words_made os ≤ count 
 unfolding image_of
 length-image count os fits =
     length-append (row_words (reference_word os) 0 os) (replicate (count - words_made os) 0)
-        ∙ omega (arith, length-row_words (reference_word os) 0 os, length-replicate {A = ℕ} (count - words_made os) 0)
+    ∙ omega (arith, length-row_words (reference_word os) 0 os, length-replicate {A = ℕ} (count - words_made os) 0)
 
 -- word i of the k-th object
 pub image-word : (count : ℕ) (os : List Object) (k i : ℕ) (o : Object) → slice_get os k ≡ Some o → i < size_of o
@@ -25,7 +25,7 @@ pub image-word : (count : ℕ) (os : List Object) (k i : ℕ) (o : Object) → s
 unfolding image_of
 image-word count os k i o e h =
     get_or-row (reference_word os) 0 os (replicate (count - words_made os) 0) k i o e h
-        ∙ ap (λ z. get_or (object_words (reference_word os) (name_after z) o) i 0) (omega arith)
+    ∙ ap (λ z. get_or (object_words (reference_word os) (name_after z) o) i 0) (omega arith)
 
 pub image-header : (count : ℕ) (os : List Object) (k : ℕ) (o : Object) → slice_get os k ≡ Some o → get_or (image_of count os) (words_before os k) 0 ≡ header_word (name_after k) (shape_of o)
 image-header count os k o e =
@@ -40,7 +40,7 @@ pub image-value : (count : ℕ) (os : List Object) (k i : ℕ) (o : Object) → 
     → get_or (image_of count os) (words_before os k + 1 + length o.refs + i) 0 ≡ get_or o.values i 0
 image-value count os k i o e h =
     ap (λ z. get_or (image_of count os) z 0) (omega arith) ∙ image-word count os k (1 + length o.refs + i) o e (omega (arith, fields_in o))
-        ∙ get_or-value (reference_word os) (name_after k) o i h
+    ∙ get_or-value (reference_word os) (name_after k) o i h
 
 -- the k-th object becomes another one of its size
 image-set : (count : ℕ) (os : List Object) (k i v : ℕ) (o o' : Object) → slice_get os k ≡ Some o → size_of o' ≡ size_of o → i < size_of o
@@ -49,26 +49,26 @@ image-set : (count : ℕ) (os : List Object) (k i v : ℕ) (o o' : Object) → s
 unfolding image_of
 image-set count os k i v o o' e same h is =
     set-row (reference_word os) 0 os (replicate (count - words_made os) 0) k i v o o' e h
-        (subst (λ z. set (object_words (reference_word os) (name_after z) o) i v ≡ object_words (reference_word os) (name_after z) o') (omega arith) is)
-        ∙ ap (λ z. z ++ replicate (count - words_made os) 0)
-            (row_words-same (reference_word os) (reference_word (set os k o')) 0 (set os k o') (λ j l. sym (reference_word-set os k o o' (reference_of (set os k o') j l) e same)))
-        ∙ ap (λ z. row_words (reference_word (set os k o')) 0 (set os k o') ++ replicate (count - z) 0) (sym (words_made-set os k o o' e same))
+    (subst (λ z. set (object_words (reference_word os) (name_after z) o) i v ≡ object_words (reference_word os) (name_after z) o') (omega arith) is)
+    ∙ ap (λ z. z ++ replicate (count - words_made os) 0)
+    (row_words-same (reference_word os) (reference_word (set os k o')) 0 (set os k o') (λ j l. sym (reference_word-set os k o o' (reference_of (set os k o') j l) e same)))
+    ∙ ap (λ z. row_words (reference_word (set os k o')) 0 (set os k o') ++ replicate (count - z) 0) (sym (words_made-set os k o o' e same))
 
 pub image-set-reference : (count : ℕ) (os : List Object) (k i : ℕ) (v : Option Name) (o : Object) → slice_get os k ≡ Some o → i < length o.refs
     → set (image_of count os) (words_before os k + 1 + i) (reference_word os v) ≡ image_of count (set os k (record o { refs = set o.refs i v }))
 image-set-reference count os k i v o e h =
     let same : size_of (record o { refs = set o.refs i v }) ≡ size_of o = rw (length-set o.refs i v) refl in
     ap (λ z. set (image_of count os) z (reference_word os v)) (omega arith)
-        ∙ image-set count os k (1 + i) (reference_word os v) o (record o { refs = set o.refs i v }) e same (omega (arith, fields_in o))
-            (set-reference (reference_word os) (name_after k) o i v h)
+    ∙ image-set count os k (1 + i) (reference_word os v) o (record o { refs = set o.refs i v }) e same (omega (arith, fields_in o))
+    (set-reference (reference_word os) (name_after k) o i v h)
 
 pub image-set-value : (count : ℕ) (os : List Object) (k i v : ℕ) (o : Object) → slice_get os k ≡ Some o → i < length o.values
     → set (image_of count os) (words_before os k + 1 + length o.refs + i) v ≡ image_of count (set os k (record o { values = set o.values i v }))
 image-set-value count os k i v o e h =
     let same : size_of (record o { values = set o.values i v }) ≡ size_of o = rw (length-set o.values i v) refl in
     ap (λ z. set (image_of count os) z v) (omega arith)
-        ∙ image-set count os k (1 + length o.refs + i) v o (record o { values = set o.values i v }) e same (omega (arith, fields_in o))
-            (set-value (reference_word os) (name_after k) o i v h)
+    ∙ image-set count os k (1 + length o.refs + i) v o (record o { values = set o.values i v }) e same (omega (arith, fields_in o))
+    (set-value (reference_word os) (name_after k) o i v h)
 
 -- a new object's words are its header and zeros
 
@@ -91,7 +91,7 @@ fresh-words os n shape =
     let refs : length (replicate {A = Option Name} shape.refs None) ≡ shape.refs = length-replicate {A = Option Name} shape.refs None in
     let values : length (zeros shape.values) ≡ shape.values = length-replicate {A = ℕ} shape.values 0 in
     rw (refs, values, map-none (reference_word os) shape.refs refl, zeros_join)
-      (ap (λ z. header_word n shape ∷ replicate z 0) (omega (arith, fields_fit shape.refs shape.values)))
+    (ap (λ z. header_word n shape ∷ replicate z 0) (omega (arith, fields_fit shape.refs shape.values)))
 
 -- one more object behind the others, in place of zeros
 
@@ -115,12 +115,12 @@ image-push count os shape room known =
     let some : 1 ≤ word_count shape = omega (arith, fields_fit shape.refs shape.values) in
     let made : words_made after ≡ words_made os + word_count shape = words_made-push os (fresh shape) ∙ ap (λ z. words_made os + z) (size_fresh shape) in
     let same : row_words (reference_word after) 0 os ≡ row =
-        row_words-same (reference_word after) (reference_word os) 0 os (λ k i. reference_word-push os (fresh shape) (reference_of os k i) (known k i)) in
+    row_words-same (reference_word after) (reference_word os) 0 os (λ k i. reference_word-push os (fresh shape) (reference_of os k i) (known k i)) in
     let words : row_words (reference_word after) 0 after ≡ row ++ (header_word n shape ∷ zeros (word_count shape - 1)) =
-        row_words-push (reference_word after) 0 os (fresh shape)
-            ∙ ap (λ z. z ++ object_words (reference_word after) (name_after (0 + length os)) (fresh shape)) same
-            ∙ ap (λ z. row ++ object_words (reference_word after) (name_after z) (fresh shape)) (omega arith)
-            ∙ ap (λ z. row ++ z) (fresh-words after n shape) in
+    row_words-push (reference_word after) 0 os (fresh shape)
+    ∙ ap (λ z. z ++ object_words (reference_word after) (name_after (0 + length os)) (fresh shape)) same
+    ∙ ap (λ z. row ++ object_words (reference_word after) (name_after z) (fresh shape)) (omega arith)
+    ∙ ap (λ z. row ++ z) (fresh-words after n shape) in
     header_first row (words_made os) (count - words_made os) (header_word n shape) (length-row_words (reference_word os) 0 os) (omega arith)
-        ∙ sym (same_row row (word_count shape - 1) (count - words_made after) (count - words_made os - 1) (header_word n shape) (omega arith))
-        ∙ ap (λ z. z ++ zeros (count - words_made after)) (sym words)
+    ∙ sym (same_row row (word_count shape - 1) (count - words_made after) (count - words_made os - 1) (header_word n shape) (omega arith))
+    ∙ ap (λ z. z ++ zeros (count - words_made after)) (sym words)

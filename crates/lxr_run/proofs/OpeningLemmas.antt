@@ -7,7 +7,7 @@ use Rattle.lxr_layout.specs.declared.Shape.{Shape}
 use Rattle.lxr_layout.specs.declared.Place.{Place}
 use Rattle.lxr_layout.specs.Objects.{header_word, word_count, FitsShape}
 use Rattle.lxr_graph.specs.State.{Object, State, opening, shape_of, world, world_name}
-use Rattle.lxr_run.specs.Flat.{IsImage, image_of, reference_word, row_words, object_words, words_made, space_count}
+use Rattle.lxr_run.specs.Flat.{IsImage, found_at, image_of, space_count, words_before}
 use Rattle.lxr_run.specs.Mutating.{Holds, IsKnown, Stands, one_thread, place_for, reference_of}
 use Rattle.lxr_run.specs.declared.mutator.Mutator.{Mutator}
 use Rattle.lxr_run.proofs.ImageLemmas.{header_first, same_row, zeros}
@@ -36,17 +36,29 @@ shape_world (suc k) o e = absurd (cc)
 pub opening_stands : (words : List ℕ) (m : Mutator) → IsImage words (opening 1).graph
     → m ≡ record { registers = opening_row_places; used = 66; made = 0 } → Stands words m (opening 1)
 opening_stands words m image is =
-    subst (λ z. Stands words z (opening 1)) (sym is)
-      (world, [], Some world_name ∷ replicate 15 None, refl,
-       record {
-         world = refl;
-         fits = image.fits;
-         exact = image.exact;
-         shapes = shape_world;
-         sixteen = refl;
-         registers = refl;
-         used = refl;
-         made = refl;
-         held = known_opening;
-         referred = known_world;
-       })
+    subst (λ z. Stands words z (opening 1)) (sym is) (
+      world,
+      [],
+      Some world_name ∷ replicate 15 None,
+      refl,
+      record {
+        world = refl;
+        fits = image.fits;
+        exact = image.exact;
+        shapes = shape_world;
+        sixteen = refl;
+        registers = refl;
+        used = refl;
+        made = refl;
+        held = known_opening;
+        referred = known_world;
+      },
+    )
+
+opening_found : (words : List ℕ) (k : ℕ) → k < 1 → found_at words k ≡ words_before (world ∷ []) k
+opening_found words zero h = refl
+opening_found words (suc k) h = absurd (omega arith)
+
+pub opening_image : (words : List ℕ) → words ≡ image_of space_count (world ∷ []) → IsImage words (opening 1).graph
+opening_image words exact =
+    record { fits = omega arith; exact = exact; found = opening_found words }

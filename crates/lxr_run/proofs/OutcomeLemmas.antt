@@ -13,7 +13,8 @@ use Rattle.lxr_lists.specs.Roomy.{Roomy, pushed}
 use Rattle.lxr_script.specs.Limits.{IsThread}
 use Rattle.lxr_script.specs.Reading.{lists_in, reading_of}
 use Rattle.lxr_stream.specs.Streams.{Appends, AppendsFront, IsAtEnd, Takes}
-use Rattle.lxr_text.specs.Replies.{calls_text, call_text, heading_text, replies_text, thread_text}
+use Rattle.lxr_text.specs.Replies.{replies_text, thread_text}
+use Rattle.lxr_text.proofs.HistoryLemmas.{is_of_its_operations}
 use Rattle.lxr_run.specs.Outcome.{IsCutOff, IsDone, WasJudged, judged_part}
 use Rattle.lxr_run.specs.Run.{IsHistoryOf, IsRun}
 use Rattle.lxr_run.specs.Script.{IsNoScript, IsScriptOf}
@@ -25,19 +26,19 @@ use Rattle.lxr_run.specs.declared.space.Space.{Space}
 pub last_thread : (lists rest : Roomy (Roomy Op)) (operations : Roomy Op) → lists ≡ pushed rest operations → All IsThread (lists_in lists) → IsThread operations.items
 last_thread lists rest operations is each =
     let items : lists_in lists ≡ lists_in rest ++ operations.items ∷ [] =
-        ap (λ z. lists_in z) is ∙ map_push (λ (l : Roomy Op). l.items) rest.items operations in
+    ap (λ z. lists_in z) is ∙ map_push (λ (l : Roomy Op). l.items) rest.items operations in
     let each' : All IsThread (lists_in rest ++ operations.items ∷ []) = subst (All IsThread) items each in
     subst IsThread (get_or_push (lists_in rest) operations.items [] (length (lists_in rest)) refl)
-      (All-get_or IsThread (lists_in rest ++ operations.items ∷ []) (length (lists_in rest)) [] (omega (arith, length_push (lists_in rest) operations.items)) each')
+    (All-get_or IsThread (lists_in rest ++ operations.items ∷ []) (length (lists_in rest)) [] (omega (arith, length_push (lists_in rest) operations.items)) each')
 
 -- the part of the input that is judged is what was read
 
 front_is : (n : ℕ) (read rest : List ℕ) → (length read ≤ n → rest ≡ []) → length read ≤ n + 1 → take (n + 1) (read ++ rest) ≡ read
 front_is n read rest end limited =
     ⊎_elim
-      (λ (more : n < length read). take_at read rest (n + 1) (omega arith))
-      (λ (short : length read ≤ n). ap (λ z. take (n + 1) (read ++ z)) (end short) ∙ ap (take (n + 1)) (append-nil read) ∙ take_all (n + 1) read (omega arith))
-      (cases_lt n (length read))
+    (λ (more : n < length read). take_at read rest (n + 1) (omega arith))
+    (λ (short : length read ≤ n). ap (λ z. take (n + 1) (read ++ z)) (end short) ∙ ap (take (n + 1)) (append-nil read) ∙ take_all (n + 1) read (omega arith))
+    (cases_lt n (length read))
 
 judged_front : (n : ℕ) (left left' : Option (List ℕ)) (read : List ℕ) → Takes left left' read → (length read ≤ n → IsAtEnd left') → length read ≤ n + 1
     → IfSome left (λ bytes. take (n + 1) bytes ≡ read)
@@ -72,21 +73,14 @@ read_whole left (Some rest) read operations takes end accepted =
     let whole : read ++ rest ≡ read = ap (λ z. read ++ z) none ∙ append-nil read in
     (none, subst (λ z. IfSome z (λ bytes. IsScriptOf bytes operations)) (sym takes) (subst (λ z. IsScriptOf z operations) (sym whole) accepted))
 
--- the end prints nothing
-
-calls_text-end : (os : List Op) (rs : List Reply) (r : Reply) → length rs ≡ length os → calls_text (os ++ op.End ∷ []) (rs ++ r ∷ []) ≡ calls_text os rs
-calls_text-end [] [] r e = refl
-calls_text-end [] (p ∷ rs) r e = absurd (omega arith)
-calls_text-end (o ∷ os) [] r e = absurd (omega arith)
-calls_text-end (o ∷ os) (p ∷ rs) r e = ap (λ z. call_text o p ++ z) (calls_text-end os rs r (omega arith))
-
+-- the text of a run's history is that of its operations and of the replies that were kept
 pub text_of_run : (operations : List Op) (h : List Item) (kept : List Reply) (space : Space) → IsRun operations h kept space
     → replies_text 1 operations kept ≡ thread_text 1 h
 text_of_run operations h kept space run =
-    ap (λ z. heading_text 1 ++ z)
-      (sym (calls_text-end operations kept reply.Ended run.as_many)
-        ∙ ap (λ z. calls_text z (kept ++ reply.Ended ∷ [])) (sym run.history.calls)
-        ∙ ap (λ z. calls_text (calls_of 1 h) z) (sym run.replies))
+    let front : take (length operations) (replies_of 1 h) ≡ take (length operations) kept =
+    ap (take (length operations)) run.replies ∙ take_at kept (reply.Ended ∷ []) (length operations) run.as_many
+    ∙ sym (take_all (length operations) kept (omega (arith, run.as_many))) in
+    sym (is_of_its_operations 1 h operations kept run.history.calls front)
 
 -- what is judged, at each status
 
@@ -94,15 +88,15 @@ pub refused_input : (left left' : Option (List ℕ)) (read : List ℕ) → Takes
     → IfSome left (λ bytes. WasJudged status.Script → ((status.Script ≡ status.Script) ↔ IsNoScript (judged_part bytes)))
 refused_input left left' read takes end limited refused =
     if_some-weaker left (λ bytes. judged_part bytes ≡ read) (λ bytes. WasJudged status.Script → ((status.Script ≡ status.Script) ↔ IsNoScript (judged_part bytes)))
-      (judged_is left left' read takes end limited) (λ bytes is judged. (λ e. subst IsNoScript (sym is) refused, λ no. refl))
+    (judged_is left left' read takes end limited) (λ bytes is judged. (λ e. subst IsNoScript (sym is) refused, λ no. refl))
 
 pub accepted_input : (ended : Status) (left left' : Option (List ℕ)) (read : List ℕ) (operations : List Op) → ended ≢ status.Script → Takes left left' read
     → (length read ≤ 67108864 → IsAtEnd left') → length read ≤ 67108864 + 1 → IsScriptOf read operations
     → IfSome left (λ bytes. WasJudged ended → ((ended ≡ status.Script) ↔ IsNoScript (judged_part bytes)))
 accepted_input ended left left' read operations other takes end limited accepted =
     if_some-weaker left (λ bytes. judged_part bytes ≡ read) (λ bytes. WasJudged ended → ((ended ≡ status.Script) ↔ IsNoScript (judged_part bytes)))
-      (judged_is left left' read takes end limited)
-      (λ bytes is judged. (λ e. absurd (other e), λ no. absurd (no operations (subst (λ z. IsScriptOf z operations) (sym is) accepted))))
+    (judged_is left left' read takes end limited)
+    (λ bytes is judged. (λ e. absurd (other e), λ no. absurd (no operations (subst (λ z. IsScriptOf z operations) (sym is) accepted))))
 
 -- what is left by a run whose text was printed, whole or in part
 

@@ -66,11 +66,11 @@ pub row_words-same : (f g : Option Name → ℕ) (m : ℕ) (os : List Object) �
 row_words-same f g m [] same = refl
 row_words-same f g m (o ∷ os) same =
     ap (λ z. z ++ row_words f (suc m) os) (object_words-same f g (name_after m) o (λ i. same 0 i))
-        ∙ ap (λ z. object_words g (name_after m) o ++ z) (row_words-same f g (suc m) os (λ k i. same (suc k) i))
+    ∙ ap (λ z. object_words g (name_after m) o ++ z) (row_words-same f g (suc m) os (λ k i. same (suc k) i))
 
 pub row_words-push : (f : Option Name → ℕ) (m : ℕ) (os : List Object) (o : Object) → row_words f m (os ++ o ∷ []) ≡ row_words f m os ++ object_words f (name_after (m + length os)) o
 row_words-push f m [] o =
     append-nil (object_words f (name_after m) o) ∙ ap (λ z. object_words f (name_after z) o) (omega arith)
 row_words-push f m (p ∷ os) o =
     ap (λ z. object_words f (name_after m) p ++ z) (row_words-push f (suc m) os o ∙ ap (λ z. row_words f (suc m) os ++ object_words f (name_after z) o) (omega arith))
-        ∙ sym (append_assoc (object_words f (name_after m) p) (row_words f (suc m) os) (object_words f (name_after (m + length (p ∷ os))) o))
+    ∙ sym (append_assoc (object_words f (name_after m) p) (row_words f (suc m) os) (object_words f (name_after (m + length (p ∷ os))) o))

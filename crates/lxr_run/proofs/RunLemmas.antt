@@ -27,7 +27,9 @@ use Rattle.lxr_run.specs.Tally.{counted, no_tally, tally_of}
 use Rattle.lxr_run.specs.declared.mutator.Mutator.{Mutator}
 use Rattle.lxr_run.specs.declared.space.Space.{Space}
 use Rattle.lxr_run.specs.declared.tally.Tally.{Tally}
+use Rattle.lxr_run.proofs.RowLemmas.{words_before-more, words_before-zero}
 use Rattle.lxr_run.proofs.ImageLemmas.{length-image}
+use Rattle.lxr_run.proofs.HoldsLemmas.{found_holds}
 use Rattle.lxr_run.proofs.StateLemmas.{object_at-known, rows}
 
 -- the names of the first k objects of the thread, newest first
@@ -37,18 +39,8 @@ names_to (suc k) = name_after (suc k) ∷ names_to k
 
 -- their words
 
-words_before-more : (os : List Object) (k : ℕ) (o : Object) → slice_get os k ≡ Some o → words_before os (suc k) ≡ words_before os k + size_of o
-words_before-more [] k o e = absurd (cc)
-words_before-more (p ∷ []) zero o e = let same : size_of p ≡ size_of o = ap size_of (cc) in omega arith
-words_before-more (p ∷ q ∷ os) zero o e = let same : size_of p ≡ size_of o = ap size_of (cc) in omega arith
-words_before-more (p ∷ os) (suc k) o e = omega (arith, words_before-more os k o e)
-
 some_object : Object
 some_object = record { refs = []; values = [] }
-
-words_before-zero : (os : List Object) → words_before os 0 ≡ 0
-words_before-zero [] = refl
-words_before-zero (o ∷ os) = refl
 
 words_of_names : (w : Object) (row : List Object) (k : ℕ) → k ≤ length row → sum_by (words_at (rows w row)) (names_to k) ≡ words_before row k
 words_of_names w row zero h = sym (words_before-zero row)
@@ -65,7 +57,7 @@ flat_words-all : (w : Object) (row : List Object) (h : List Item) (k : ℕ) → 
     → flat_words (rows w row) h ≡ words_made (w ∷ row)
 flat_words-all w row h k world names count =
     let sum : sum_by (words_at (rows w row)) (names_made h) ≡ words_before row (length row) =
-        ap (λ z. sum_by (words_at (rows w row)) z) (names ∙ ap names_to count) ∙ words_of_names w row (length row) (omega arith) in
+    ap (λ z. sum_by (words_at (rows w row)) z) (names ∙ ap names_to count) ∙ words_of_names w row (length row) (omega arith) in
     omega arith
 
 -- the run so far: its history, the operations that it has, and what stands for it
@@ -119,13 +111,17 @@ so_far-more operations h words words' m m' tally tally' kept o r far formed does
     let done = does (moment 1 h).state far.stands in
     let more = tally_few tally r in
     let few : tally'.news + tally'.loads + tally'.stores ≤ tally.news + tally.loads + tally.stores + 1 =
-        subst (λ z. z.news + z.loads + z.stores ≤ tally.news + tally.loads + tally.stores + 1) (sym count) more in
+    subst (λ z. z.news + z.loads + z.stores ≤ tally.news + tally.loads + tally.stores + 1) (sym count) more in
     record {
-      legal = (far.legal, promise_kept h (Call 1 o r) far.no_pause, record {
-        thread = (omega arith, omega arith);
-        operation = formed;
-        reply = replies_in h o r (words_known words m h far.stands far.names) done.0;
-      });
+      legal = (
+        far.legal,
+        promise_kept h (Call 1 o r) far.no_pause,
+        record {
+          thread = (omega arith, omega arith);
+          operation = formed;
+          reply = replies_in h o r (words_known words m h far.stands far.names) done.0;
+        },
+      );
       no_pause = far.no_pause;
       calls = ap (λ z. z ++ o ∷ []) far.calls;
       replies = ap (λ z. z ++ r ∷ []) far.replies;
@@ -167,14 +163,14 @@ pub so_far-next : (operations : List Op) (i : ℕ) (d : Op) (h : List Item) (wor
     → IsSoFar (take (i + 1) operations) (Call 1 (get_or operations i d) r ∷ h) words' m' tally' (kept ++ r ∷ [])
 so_far-next operations i d h words words' m m' tally tally' kept r within far formed does made unended count =
     rw (take_more operations i d within)
-      (so_far-more (take i operations) h words words' m m' tally tally' kept (get_or operations i d) r far formed does made unended count)
+    (so_far-more (take i operations) h words words' m m' tally tally' kept (get_or operations i d) r far formed does made unended count)
 
 pub length-stands : (words : List ℕ) (m : Mutator) (s : State) → Stands words m s → length words ≡ space_count
 length-stands words m s (w, row, regs, e, holds) = ap length holds.exact ∙ length-image space_count (w ∷ row) holds.fits
 
 pub image-stands : (words : List ℕ) (m : Mutator) (s : State) → Stands words m s → IsImage words s.graph
 image-stands words m s (w, row, regs, e, holds) =
-    subst (λ z. IsImage words z.graph) (sym e) (record { fits = holds.fits; exact = holds.exact })
+    subst (λ z. IsImage words z.graph) (sym e) (record { fits = holds.fits; exact = holds.exact; found = found_holds words m (w ∷ row) regs holds })
 
 -- all operations and then the end
 pub so_far-whole : (operations : List Op) (h : List Item) (words words' : List ℕ) (m m' : Mutator) (kept : List Reply) (r : Reply) (space space' : Space)
@@ -182,21 +178,23 @@ pub so_far-whole : (operations : List Op) (h : List Item) (words words' : List �
     → (h' : List Item) × IsRun operations h' kept space'
 so_far-whole operations h words words' m m' kept r space space' far does written same =
     let done = does (moment 1 h).state far.stands in
-    let ended : r ≡ reply.Ended = sym done.0 in
-    (Call 1 op.End r ∷ h, record {
-      history = record {
-        legal = ((far.legal, promise_kept h (Call 1 op.End r) far.no_pause, record { thread = (omega arith, omega arith); operation = tt; reply = done.0 }), tt);
-        no_pause = far.no_pause;
-        calls = ap (λ z. z ++ op.End ∷ []) far.calls;
-      };
-      replies = ap (λ z. z ++ r ∷ []) far.replies ∙ ap (λ z. kept ++ z ∷ []) ended;
-      as_many = far.as_many;
-      none_ended = far.none_ended;
-      left = record {
-        image = subst (λ z. IsImage z (moment 1 (Call 1 op.End r ∷ h)).state.graph) (sym written) (image-stands words' m' (state_after (moment 1 h).state 1 op.End r) done.1);
-        tally = same ∙ far.counts ∙ sym (ap (counted (tally_of h)) ended);
-      };
-    })
+    let ended : r ≡ reply.Ended = sym done.0 in (
+      Call 1 op.End r ∷ h,
+      record {
+        history = record {
+          legal = ((far.legal, promise_kept h (Call 1 op.End r) far.no_pause, record { thread = (omega arith, omega arith); operation = tt; reply = done.0 }), tt);
+          no_pause = far.no_pause;
+          calls = ap (λ z. z ++ op.End ∷ []) far.calls;
+        };
+        replies = ap (λ z. z ++ r ∷ []) far.replies ∙ ap (λ z. kept ++ z ∷ []) ended;
+        as_many = far.as_many;
+        none_ended = far.none_ended;
+        left = record {
+          image = subst (λ z. IsImage z (moment 1 (Call 1 op.End r ∷ h)).state.graph) (sym written) (image-stands words' m' (state_after (moment 1 h).state 1 op.End r) done.1);
+          tally = same ∙ far.counts ∙ sym (ap (counted (tally_of h)) ended);
+        };
+      },
+    )
 
 -- operations on objects aren't the end
 pub no_end : (o : Op) → IsOnObject o → o ≢ op.End

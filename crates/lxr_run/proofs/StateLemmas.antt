@@ -38,13 +38,13 @@ object_at-known world row n e = ap (λ z. object_at (rows world row) z) e ∙ ob
 -- the graph with another object under a name
 change-name : (world : Object) (row : List Object) (k : ℕ) (o : Object)
     → (world' : Object) × (row' : List Object) × (set (world ∷ row) k o ≡ world' ∷ row')
-        × (set (rows world row) (name_after k).thread (set (row_of (rows world row) (name_after k).thread) (index_in_row (name_after k)) o) ≡ rows world' row')
+    × (set (rows world row) (name_after k).thread (set (row_of (rows world row) (name_after k).thread) (index_in_row (name_after k)) o) ≡ rows world' row')
 change-name world row zero o = (o, row, refl, refl)
 change-name world row (suc k) o = (world, set row k o, refl, let e : suc k - 1 ≡ k = omega arith in rw e refl)
 
 pub change-known : (world : Object) (row : List Object) (n : Name) (o : Object) → n ≡ name_after n.serial
     → (world' : Object) × (row' : List Object) × (set (world ∷ row) n.serial o ≡ world' ∷ row')
-        × (set (rows world row) n.thread (set (row_of (rows world row) n.thread) (index_in_row n) o) ≡ rows world' row')
+    × (set (rows world row) n.thread (set (row_of (rows world row) n.thread) (index_in_row n) o) ≡ rows world' row')
 change-known world row n o e =
     let found = change-name world row n.serial o in
     (found.0, found.1, found.2, subst (λ z. set (rows world row) z.thread (set (row_of (rows world row) z.thread) (index_in_row z) o) ≡ rows found.0 found.1) (sym e) found.3)
@@ -63,7 +63,7 @@ pub load-ok : (s : State) (dest base i : ℕ) (n : Name) (o : Object) → regist
     → step s 1 (op.Load dest base i) ≡ (record s { registers = set s.registers dest (get_or o.refs i None) }, reply.Loaded (get_or o.refs i None))
 load-ok s dest base i n o held there within =
     ap (load_from s 1 dest i) held ∙ ap (λ z. loaded s 1 dest (slice_get (refs_of z) i)) there ∙ ap (loaded s 1 dest) (slice_get-get_or o.refs i None within)
-        ∙ ap (λ z. (z, reply.Loaded (get_or o.refs i None))) (with_register-one s dest (get_or o.refs i None))
+    ∙ ap (λ z. (z, reply.Loaded (get_or o.refs i None))) (with_register-one s dest (get_or o.refs i None))
 
 pub store-bad : (s : State) (base i source : ℕ) → register_at s 1 base ≡ None → step s 1 (op.Store base i source) ≡ (s, reply.Bad)
 store-bad s base i source e = ap (store_to s i (register_at s 1 source)) e
@@ -76,12 +76,12 @@ store-range s base i source n o held there past =
 
 pub store-ok : (s : State) (base i source : ℕ) (n : Name) (o : Object) → register_at s 1 base ≡ Some n → object_at s.graph n ≡ Some o → i < length o.refs
     → step s 1 (op.Store base i source)
-        ≡ (record s { graph = set s.graph n.thread (set (row_of s.graph n.thread) (index_in_row n) (record o { refs = set o.refs i (get_or s.registers source None) })) }, reply.Stored)
+    ≡ (record s { graph = set s.graph n.thread (set (row_of s.graph n.thread) (index_in_row n) (record o { refs = set o.refs i (get_or s.registers source None) })) }, reply.Stored)
 store-ok s base i source n o held there within =
     let v : Option Name = register_at s 1 source in
     ap (store_to s i v) held ∙ ap (λ z. stored s n i v (slice_get (refs_of z) i)) there ∙ ap (stored s n i v) (slice_get-get_or o.refs i None within)
-        ∙ ap (λ z. (record s { graph = with_reference s.graph n i v z }, reply.Stored)) there
-        ∙ ap (λ z. (record s { graph = set s.graph n.thread (set (row_of s.graph n.thread) (index_in_row n) (record o { refs = set o.refs i z })) }, reply.Stored)) (register_at-one s source)
+    ∙ ap (λ z. (record s { graph = with_reference s.graph n i v z }, reply.Stored)) there
+    ∙ ap (λ z. (record s { graph = set s.graph n.thread (set (row_of s.graph n.thread) (index_in_row n) (record o { refs = set o.refs i z })) }, reply.Stored)) (register_at-one s source)
 
 pub put-bad : (s : State) (base i v : ℕ) → register_at s 1 base ≡ None → step s 1 (op.Put base i v) ≡ (s, reply.Bad)
 put-bad s base i v e = ap (put_to s i v) e
@@ -93,10 +93,10 @@ put-range s base i v n o held there past =
 
 pub put-ok : (s : State) (base i v : ℕ) (n : Name) (o : Object) → register_at s 1 base ≡ Some n → object_at s.graph n ≡ Some o → i < length o.values
     → step s 1 (op.Put base i v)
-        ≡ (record s { graph = set s.graph n.thread (set (row_of s.graph n.thread) (index_in_row n) (record o { values = set o.values i v })) }, reply.Put)
+    ≡ (record s { graph = set s.graph n.thread (set (row_of s.graph n.thread) (index_in_row n) (record o { values = set o.values i v })) }, reply.Put)
 put-ok s base i v n o held there within =
     ap (put_to s i v) held ∙ ap (λ z. put_at s n i v (slice_get (values_of z) i)) there ∙ ap (put_at s n i v) (slice_get-get_or o.values i 0 within)
-        ∙ ap (λ z. (record s { graph = with_value s.graph n i v z }, reply.Put)) there
+    ∙ ap (λ z. (record s { graph = with_value s.graph n i v z }, reply.Put)) there
 
 pub get-bad : (s : State) (base i : ℕ) → register_at s 1 base ≡ None → step s 1 (op.Get base i) ≡ (s, reply.Bad)
 get-bad s base i e = ap (get_from s i) e

@@ -1,8 +1,10 @@
 -- The flat space: objects in one row of words, the world first and each new object right behind the last one.
-use Rattle.std.specs.Prelude.{◌≡◌, ℕ, zero, suc, ◌+◌, ◌-◌, ◌/◌, ◌<◌, ◌≤◌, Option, Some, None, List, [], ◌∷◌, ◌++◌, length, map, replicate}
+use Rattle.std.specs.Prelude.{◌≡◌, ℕ, zero, suc, ◌+◌, ◌-◌, ◌/◌, ◌<◌, ◌≤◌, Option, Some, None, List, [], ◌∷◌, ◌++◌, length, map, replicate, slice_index}
 use Rattle.lxr_layout.specs.declared.Name.{Name}
 use Rattle.lxr_layout.specs.declared.Shape.{Shape}
-use Rattle.lxr_layout.specs.Objects.{header_word, word_count}
+use Rattle.lxr_layout.specs.declared.Header.{Header}
+use Rattle.lxr_layout.specs.declared.Header.TheVariants as header
+use Rattle.lxr_layout.specs.Objects.{header_of, header_word, word_count}
 use Rattle.lxr_graph.specs.State.{Graph, Object, row_of, shape_of, world_name}
 
 -- the words of the flat space
@@ -32,9 +34,8 @@ words_before (o ∷ os) (suc k) = size_of o + words_before os k
 abbrev pub words_made : List Object → ℕ
 words_made os = words_before os (length os)
 
--- A reference as a word: the place of its object among these, which is the number from 1 of the granule of two words
--- at which it begins; nil is 0. Since an object's size stands in its header, places can be read off the words from
--- the front.
+-- a reference as a word: the place of its object among these, which is the number from 1 of the granule of two words
+-- at which it begins; nil is 0
 abbrev pub reference_word : List Object → Option Name → ℕ
 reference_word os None = 0
 reference_word os (Some n) = words_before os n.serial / 2 + 1
@@ -54,11 +55,22 @@ row_words word_for k (o ∷ os) = object_words word_for (name_after k) o ++ row_
 unfoldable pub image_of : ℕ → List Object → List ℕ
 image_of count os = row_words (reference_word os) 0 os ++ replicate (count - words_made os) 0
 
+-- how many words the object takes whose header this is
+abbrev pub words_told : Header → ℕ
+words_told (header.Object n shape) = word_count shape
+words_told (header.Moved p) = 0
+
+-- where the object begins that stands behind k others, as the headers tell from the front
+abbrev pub found_at : List ℕ → ℕ → ℕ
+found_at words zero = 0
+found_at words (suc k) = found_at words k + words_told (header_of (slice_index words (found_at words k)))
+
 -- The words of a flat space are the image of a graph, which fits into them: each of its objects stands there once, in
--- its order, with places for references, and zeros follow.
+-- its order, with places for references, and zeros follow. The places can be read off the words from the front.
 pub record IsImage (words : List ℕ) (g : Graph) : Type 0 where
   pub fits : words_made (objects_of g) ≤ space_count
   pub exact : words ≡ image_of space_count (objects_of g)
+  pub found : (k : ℕ) → k < length (objects_of g) → found_at words k ≡ words_before (objects_of g) k
 
 -- the flat space has room for one more object of this shape behind all that were made
 abbrev pub HasRoom : Graph → Shape → Type 0

@@ -61,7 +61,7 @@ abbrev pub Finds : State → ℕ → Option (ℕ × Shape) → Type 0
 Finds s r None = register_at s 1 r ≡ None
 Finds s r (Some (begin, shape)) =
     (n : Name) × (o : Object) × (register_at s 1 r ≡ Some n) × (slice_get (objects_of s.graph) n.serial ≡ Some o)
-        × (begin ≡ words_before (objects_of s.graph) n.serial) × (shape ≡ shape_of o)
+    × (begin ≡ words_before (objects_of s.graph) n.serial) × (shape ≡ shape_of o)
 
 -- The reply that an operation may have in a state: `new full` exactly where the flat space has no room, and else that of
 -- one step of the model.

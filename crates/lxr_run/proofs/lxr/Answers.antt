@@ -9,35 +9,35 @@ use Rattle.lxr_run.proofs.lxr.Goals as goal
 pub returns-in-Err-Script-clause-script : goal.returns-in-Err-Script-clause-script
 returns-in-Err-Script-clause-script g c =
     refused_input _ _ c.in-Ok.bytes.items c.in-Ok.ensures.taken c.in-Ok.ensures.end c.in-Ok.ensures.limited
-      (subst IsNoScript c.deref.ensures.value (c.in-Err-Script.ensures.refused (ap Err c.in-Err-Script.field-0-is)))
+    (subst IsNoScript c.deref.ensures.value (c.in-Err-Script.ensures.refused (ap Err c.in-Err-Script.field-0-is)))
 
 pub returns-in-Ok-print_replies-clause-script : goal.returns-in-Ok-print_replies-clause-script
 returns-in-Ok-print_replies-clause-script g c =
     accepted_input status.Done _ _ c.in-Ok.bytes.items c.in-Ok-read_operations.operations.items (λ e. cc) c.in-Ok.ensures.taken c.in-Ok.ensures.end c.in-Ok.ensures.limited
-      (subst (λ z. IsScriptOf z c.in-Ok-read_operations.operations.items) c.deref.ensures.value c.in-Ok-read_operations.ensures.script)
+    (subst (λ z. IsScriptOf z c.in-Ok-read_operations.operations.items) c.deref.ensures.value c.in-Ok-read_operations.ensures.script)
 
 pub returns-in-Ok-print_replies-clause-done : goal.returns-in-Ok-print_replies-clause-done
 returns-in-Ok-print_replies-clause-done g c = λ e.
     printed_whole _ _ _ _ c.in-Ok.bytes.items c.in-Ok-read_operations.operations.items c.run_thread.new.replies.items c.run_thread.new.space c.in-Ok.ensures.taken c.in-Ok.ensures.end
-      (subst (λ z. IsScriptOf z c.in-Ok-read_operations.operations.items) c.deref.ensures.value c.in-Ok-read_operations.ensures.script)
-      (subst (λ z. (h : List Item) × IsRun z h c.run_thread.new.replies.items c.run_thread.new.space) c.as_slice.ensures c.run_thread.ensures)
-      c.in-Ok-print_replies.ensures.ok
+    (subst (λ z. IsScriptOf z c.in-Ok-read_operations.operations.items) c.deref.ensures.value c.in-Ok-read_operations.ensures.script)
+    (subst (λ z. (h : List Item) × IsRun z h c.run_thread.new.replies.items c.run_thread.new.space) c.as_slice.ensures c.run_thread.ensures)
+    c.in-Ok-print_replies.ensures.ok
 
 pub returns-in-Err-Fault-print_replies-clause-script : goal.returns-in-Err-Fault-print_replies-clause-script
 returns-in-Err-Fault-print_replies-clause-script g c =
     accepted_input status.WriteFault _ _ c.in-Ok.bytes.items c.in-Ok-read_operations.operations.items (λ e. cc) c.in-Ok.ensures.taken c.in-Ok.ensures.end c.in-Ok.ensures.limited
-      (subst (λ z. IsScriptOf z c.in-Ok-read_operations.operations.items) c.deref.ensures.value c.in-Ok-read_operations.ensures.script)
+    (subst (λ z. IsScriptOf z c.in-Ok-read_operations.operations.items) c.deref.ensures.value c.in-Ok-read_operations.ensures.script)
 
 pub returns-in-Err-Fault-print_replies-clause-cut_off : goal.returns-in-Err-Fault-print_replies-clause-cut_off
 returns-in-Err-Fault-print_replies-clause-cut_off g c = λ e.
     printed_front _ _ _ _ c.in-Ok.bytes.items c.in-Ok-read_operations.operations.items c.run_thread.new.replies.items c.run_thread.new.space c.in-Ok.ensures.taken c.in-Ok.ensures.end
-      (subst (λ z. IsScriptOf z c.in-Ok-read_operations.operations.items) c.deref.ensures.value c.in-Ok-read_operations.ensures.script)
-      (subst (λ z. (h : List Item) × IsRun z h c.run_thread.new.replies.items c.run_thread.new.space) c.as_slice.ensures c.run_thread.ensures)
-      c.in-Err-Fault-print_replies.ensures.err
+    (subst (λ z. IsScriptOf z c.in-Ok-read_operations.operations.items) c.deref.ensures.value c.in-Ok-read_operations.ensures.script)
+    (subst (λ z. (h : List Item) × IsRun z h c.run_thread.new.replies.items c.run_thread.new.space) c.as_slice.ensures c.run_thread.ensures)
+    c.in-Err-Fault-print_replies.ensures.err
 
 pub returns-clause-memory : goal.returns-clause-memory
 returns-clause-memory g c = λ e.
     inl (printed_front _ _ _ _ c.in-Ok.bytes.items c.in-Ok-read_operations.operations.items c.run_thread.new.replies.items c.run_thread.new.space c.in-Ok.ensures.taken c.in-Ok.ensures.end
-      (subst (λ z. IsScriptOf z c.in-Ok-read_operations.operations.items) c.deref.ensures.value c.in-Ok-read_operations.ensures.script)
-      (subst (λ z. (h : List Item) × IsRun z h c.run_thread.new.replies.items c.run_thread.new.space) c.as_slice.ensures c.run_thread.ensures)
-      c.in-Err-Memory-print_replies.ensures.err)
+    (subst (λ z. IsScriptOf z c.in-Ok-read_operations.operations.items) c.deref.ensures.value c.in-Ok-read_operations.ensures.script)
+    (subst (λ z. (h : List Item) × IsRun z h c.run_thread.new.replies.items c.run_thread.new.space) c.as_slice.ensures c.run_thread.ensures)
+    c.in-Err-Memory-print_replies.ensures.err)

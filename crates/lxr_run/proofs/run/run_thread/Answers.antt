@@ -14,8 +14,11 @@ use Rattle.lxr_run.proofs.run.run_thread.Goals as goal
 pub loop-number-init : goal.loop-number-init
 loop-number-init g c =
     record {
-      run = ([], so_far-none c.args.space.now.words.items c.new-mutator.result c.args.space.now.tally c.args.replies.now.items
-        (c.new-mutator.ensures c.args.space.now.words.items c.requires.image) c.requires.tally c.requires.none);
+      run = (
+        [],
+        so_far-none c.args.space.now.words.items c.new-mutator.result c.args.space.now.tally c.args.replies.now.items
+            (c.new-mutator.ensures c.args.space.now.words.items c.requires.image) c.requires.tally c.requires.none,
+      );
       room = refl;
     }
 
@@ -32,18 +35,21 @@ loop-number-preserved g c =
     let does = subst (λ z. Does o c.apply-reply.result z c.loop-number.mutator c.apply-reply.new.words c.apply-reply.new.self) c.deref_mut.ensures.value c.apply-reply.ensures.does in
     let after = (does (moment 1 h).state far.stands).1 in
     let len : length c.apply-reply.new.words ≡ c.loop-number.space.words.len =
-        length-stands c.apply-reply.new.words c.apply-reply.new.self _ after ∙ sym (length-stands c.loop-number.space.words.items c.loop-number.mutator _ far.stands)
-            ∙ ap length (sym c.deref_mut.ensures.value) ∙ c.deref_mut.ensures.len in
+    length-stands c.apply-reply.new.words c.apply-reply.new.self _ after ∙ sym (length-stands c.loop-number.space.words.items c.loop-number.mutator _ far.stands)
+    ∙ ap length (sym c.deref_mut.ensures.value) ∙ c.deref_mut.ensures.len in
     let back = with_items_is c.loop-number.space.words c.apply-reply.new.words len in
     let next = so_far-next c.args.operations.now c.loop-number.number d h c.loop-number.space.words.items c.apply-reply.new.words c.loop-number.mutator c.apply-reply.new.self
-        c.loop-number.space.tally c.count.new.self c.loop-number.replies.items c.apply-reply.result c.loop-number-test.true far
-        (All-get_or IsWellFormed c.args.operations.now c.loop-number.number d c.loop-number-test.true c.requires.formed) does c.apply-reply.ensures.made
-        (c.apply-reply.ensures.unended (no_end o (All-get_or IsOnObject c.args.operations.now c.loop-number.number d c.loop-number-test.true c.requires.on_objects))) c.count.ensures in
+    c.loop-number.space.tally c.count.new.self c.loop-number.replies.items c.apply-reply.result c.loop-number-test.true far
+    (All-get_or IsWellFormed c.args.operations.now c.loop-number.number d c.loop-number-test.true c.requires.formed) does c.apply-reply.ensures.made
+    (c.apply-reply.ensures.unended (no_end o (All-get_or IsOnObject c.args.operations.now c.loop-number.number d c.loop-number-test.true c.requires.on_objects))) c.count.ensures in
     let run = Call 1 o c.apply-reply.result ∷ h in
     record {
-      run = (run, subst (λ z. IsSoFar (take (c.loop-number.number + 1) c.args.operations.now) run z c.apply-reply.new.self c.count.new.self c.push.new.self.items) (sym back)
-          (subst (λ z. IsSoFar (take (c.loop-number.number + 1) c.args.operations.now) run c.apply-reply.new.words c.apply-reply.new.self c.count.new.self z)
-            (sym (ap (λ z. z.items) c.push.ensures)) next));
+      run = (
+        run,
+        subst (λ z. IsSoFar (take (c.loop-number.number + 1) c.args.operations.now) run z c.apply-reply.new.self c.count.new.self c.push.new.self.items) (sym back)
+            (subst (λ z. IsSoFar (take (c.loop-number.number + 1) c.args.operations.now) run c.apply-reply.new.words c.apply-reply.new.self c.count.new.self z)
+            (sym (ap (λ z. z.items) c.push.ensures)) next),
+      );
       room = ap (λ z. z.room) c.push.ensures ∙ c.loop-number.invariant.room;
     }
 
@@ -58,9 +64,9 @@ returns g c =
     let does = subst (λ z. Does op.End c.apply.result z c.loop-number.mutator c.apply.new.words c.apply.new.self) c.deref_mut-2.ensures.value c.apply.ensures.does in
     let after = (does (moment 1 h).state far.stands).1 in
     let len : length c.apply.new.words ≡ c.loop-number.space.words.len =
-        length-stands c.apply.new.words c.apply.new.self _ after ∙ sym (length-stands c.loop-number.space.words.items c.loop-number.mutator _ far.stands)
-            ∙ ap length (sym c.deref_mut-2.ensures.value) ∙ c.deref_mut-2.ensures.len in
+    length-stands c.apply.new.words c.apply.new.self _ after ∙ sym (length-stands c.loop-number.space.words.items c.loop-number.mutator _ far.stands)
+    ∙ ap length (sym c.deref_mut-2.ensures.value) ∙ c.deref_mut-2.ensures.len in
     let back = with_items_is c.loop-number.space.words c.apply.new.words len in
     let all : take c.loop-number.number c.args.operations.now ≡ c.args.operations.now = take_all c.loop-number.number c.args.operations.now c.loop-number-test.false in
     so_far-whole c.args.operations.now h c.loop-number.space.words.items c.apply.new.words c.loop-number.mutator c.apply.new.self c.loop-number.replies.items c.apply.result
-      c.loop-number.space _ (subst (λ z. IsSoFar z h c.loop-number.space.words.items c.loop-number.mutator c.loop-number.space.tally c.loop-number.replies.items) all far) does back refl
+    c.loop-number.space _ (subst (λ z. IsSoFar z h c.loop-number.space.words.items c.loop-number.mutator c.loop-number.space.tally c.loop-number.replies.items) all far) does back refl

@@ -16,4 +16,4 @@ returns-in-Some-clause-found c =
 pub returns-in-Some-clause-within : goal.returns-in-Some-clause-within
 returns-in-Some-clause-within c =
     object_within c.args.words.now c.args.self.now c.args.register c.word_of.result c.in-Some.shape c.requires.stands
-      (finds_object c.args.words.now c.args.self.now c.args.register c.from.result c.word_of.result _ c.object_at.result _ _ c.from.ensures c.requires.register c.object_at.ensures c.in-Some.is c.word_of.ensures)
+    (finds_object c.args.words.now c.args.self.now c.args.register c.from.result c.word_of.result _ c.object_at.result _ _ c.from.ensures c.requires.register c.object_at.ensures c.in-Some.is c.word_of.ensures)

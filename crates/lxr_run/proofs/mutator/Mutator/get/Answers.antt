@@ -13,4 +13,4 @@ returns-then-index-shape-clause-does c =
 pub returns-clause-does : goal.returns-clause-does
 returns-clause-does c =
     does-get c.args.words.now c.args.self.now c.args.base c.args.index c.in-Some.begin _ _ c.in-Some.shape (subst (FindsEach c.args.words.now c.args.self.now c.args.base) c.in-Some.is c.find.ensures.found)
-      c.if-index-shape.false c.from.ensures c.from-2.ensures
+    c.if-index-shape.false c.from.ensures c.from-2.ensures

@@ -12,4 +12,4 @@ bounds-words-self c =
 pub returns-clause-does : goal.returns-clause-does
 returns-clause-does c =
     does-new c.args.words.now c.args.self.now c.args.dest c.from.result c.words_of-size.result c.args.shape c.pack.result _ _ c.requires.shape c.words_of-size.ensures
-      c.if-self-size-gt-SPACE_WORDS.false refl c.pack.ensures.word refl c.from.ensures
+    c.if-self-size-gt-SPACE_WORDS.false refl c.pack.ensures.word refl c.from.ensures

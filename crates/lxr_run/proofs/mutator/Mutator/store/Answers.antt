@@ -13,4 +13,4 @@ returns-then-index-shape-clause-does c =
 pub returns-clause-does : goal.returns-clause-does
 returns-clause-does c =
     does-store c.args.words.now c.args.self.now c.args.base c.args.index c.args.source c.in-Some.begin _ _ _ _ c.in-Some.shape (subst (FindsEach c.args.words.now c.args.self.now c.args.base) c.in-Some.is c.find.ensures.found)
-      c.if-index-shape.false c.requires.registers.1 c.from-3.ensures c.from.ensures c.from-2.ensures
+    c.if-index-shape.false c.requires.registers.1 c.from-3.ensures c.from.ensures c.from-2.ensures
