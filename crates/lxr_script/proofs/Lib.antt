@@ -2,4 +2,5 @@ mod Cutting
 mod Items
 mod Digits
 mod Loops
+mod Spelled
 mod Accepted
