@@ -3,4 +3,6 @@ mod Items
 mod Digits
 mod Loops
 mod Spelled
+mod Plain
+mod Canonical
 mod Accepted
