@@ -1,5 +1,5 @@
 -- The canonical spelling of a script is in the grammar, and its words are plain.
-use Rattle.std.proofs.Common.{◌≡◌, ℕ, zero, suc, ◌+◌, ◌<◌, ◌≤◌, ◌^◌, true, false, ◌&&◌, List, [], ◌∷◌, length, Ok, refl, sym, ap, ◌∙◌, arith, codes}
+use Rattle.std.proofs.Common.{◌≡◌, ℕ, ◌+◌, ◌<◌, ◌≤◌, ◌^◌, true, List, [], ◌∷◌, length, Ok, refl, arith}
 use Rattle.std.specs.List.{AllByRecursion}
 use Rattle.std.specs.Fmt.{decimal}
 use Rattle.std.specs.Str.{all_ascii_digits}
@@ -10,7 +10,7 @@ use Rattle.std.proofs.lemmas.Str.Parse.{IsNumeralModel, numerals_by_value, tells
 use Rattle.std.proofs.lemmas.List.Elements.{recursion_from_All}
 use Rattle.lxr_graph.specs.declared.Op.{Op}
 use Rattle.lxr_graph.specs.declared.Op.TheVariants as op
-use Rattle.lxr_script.specs.Lines.{Text, items_from, texts}
+use Rattle.lxr_script.specs.Lines.{Text}
 use Rattle.lxr_script.specs.Reading.{reading_of}
 use Rattle.lxr_script.specs.Spelling.{operation_words, operations_before, register, script_lines, spelling_of, thread_lines}
 use Rattle.lxr_script.specs.Grammar.{IsNumber, IsRegister, IsSize, SpellsOperation, new, load, store, put, get, move, nil, same, pause, collect, SpellsOperations, ended, operation, SpellsThreads, over, thread, Spells, script}

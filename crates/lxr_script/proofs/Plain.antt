@@ -1,6 +1,6 @@
 -- Plain words: they aren't empty, and their bytes are above '#' and so above blanks and the ends of lines. Lines of
 -- plain words are read as they are written.
-use Rattle.std.proofs.Common.{◌≡◌, ℕ, suc, ◌+◌, ◌-◌, ◌<◌, ◌≤◌, Bool, true, false, not, ◌&&◌, ◌||◌, cond, List, [], ◌∷◌, ◌++◌, length, get_or, refl, sym, ap, ◌∙◌, arith, ltb, leb, eqb, filter, lit<}
+use Rattle.std.proofs.Common.{◌≡◌, ℕ, ◌+◌, ◌-◌, ◌<◌, Bool, true, false, not, ◌&&◌, List, [], ◌∷◌, ◌++◌, length, get_or, refl, ap, ◌∙◌, arith, ltb, leb, eqb, filter, lit<}
 use Rattle.std.specs.List.{AllByRecursion, slice_split}
 use Rattle.std.specs.Char.{is_ascii_digit}
 use Rattle.std.specs.Str.{all_ascii_digits}
@@ -8,7 +8,7 @@ use Rattle.std.specs.Str.Lines.{lines, lines_of_parts, strip_carriage_return}
 use Rattle.std.proofs.lemmas.Bool.{and_parts, and_from, or_from, ne_eqb, ltb-true, lt-ltb, leb-true, cond-false, not_from_false}
 use Rattle.std.proofs.lemmas.List.Elements.{All-from_recursion}
 use Rattle.std.proofs.lemmas.List.Splits.{slice_split_at, slice_split_none}
-use Rattle.lxr_script.specs.Lines.{Text, Line, has_item, is_blank, is_word, items_from, texts, words_of}
+use Rattle.lxr_script.specs.Lines.{Text, has_item, is_blank, is_word, items_from, texts, words_of}
 use Rattle.lxr_script.specs.Spelling.{joined, text_of}
 use Rattle.lxr_script.proofs.Cutting.{lines_cut}
 use Rattle.lxr_script.proofs.Items.{taken}

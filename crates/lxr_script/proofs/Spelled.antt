@@ -1,17 +1,15 @@
 -- What is spelled in the grammar, within the limits, is accepted as what it spells.
-use Rattle.std.proofs.Common.{◌≡◌, ℕ, zero, suc, ◌+◌, ◌<◌, ◌≤◌, ◌^◌, true, false, ◌&&◌, cond, List, [], ◌∷◌, length, Option, Some, None, Ok, refl, sym, ap, ◌∙◌, arith, ltb, leb, eqb, codes}
+use Rattle.std.proofs.Common.{◌≡◌, ℕ, ◌+◌, ◌<◌, ◌≤◌, false, List, [], ◌∷◌, length, Some, Ok, refl, ◌∙◌, arith, codes}
 use Rattle.std.proofs.lemmas.Bool.{lt-ltb, le-leb, eq-eqb}
 use Rattle.std.specs.List.{AllByRecursion}
-use Rattle.std.specs.Str.Parse.{digits_value}
 use Rattle.std.proofs.lemmas.List.Elements.{recursion_from_All}
 use Rattle.lxr_graph.specs.declared.Op.{Op}
-use Rattle.lxr_graph.specs.declared.Op.TheVariants as op
 use Rattle.lxr_script.specs.Lines.{Text, Line, end_from, items_from, texts}
-use Rattle.lxr_script.specs.Numbers.{at_most_15, number_of, register_of}
-use Rattle.lxr_script.specs.Operations.{◌>>=◌, or_fault, number_at, register_at, size_at, index_at, new_of, load_of, store_of, put_of, get_of, move_of, nil_of, same_of, alone, operation_of}
-use Rattle.lxr_script.specs.Reading.{are, bodies_of, header_of, is_opening, next_operation, nothing_after, number_after, opening_of, operations_of, reading_of, script_of, thread_count, threads_of}
+use Rattle.lxr_script.specs.Numbers.{number_of, register_of}
+use Rattle.lxr_script.specs.Operations.{◌>>=◌, number_at, register_at, size_at, index_at, new_of, load_of, store_of, put_of, get_of, move_of, nil_of, same_of, alone, operation_of}
+use Rattle.lxr_script.specs.Reading.{are, bodies_of, header_of, next_operation, nothing_after, number_after, opening_of, operations_of, reading_of, script_of, threads_of}
 use Rattle.lxr_script.specs.Grammar.{IsNumber, IsRegister, IsSize, SpellsOperation, new, load, store, put, get, move, nil, same, pause, collect, SpellsOperations, ended, operation, SpellsThreads, over, thread, Spells, script}
-use Rattle.lxr_script.specs.Limits.{IsOperation, IsThread, IsScript}
+use Rattle.lxr_script.specs.Limits.{IsThread, IsScript}
 use Rattle.lxr_script.proofs.Accepted.{within}
 
 number_is : {word : Text} {n : ℕ} → IsNumber word n → number_of word ≡ Some n

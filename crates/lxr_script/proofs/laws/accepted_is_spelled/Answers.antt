@@ -1,4 +1,3 @@
-use Rattle.std.proofs.Common.{◌≡◌}
 use Rattle.lxr_script.proofs.Accepted.{text_read}
 use Rattle.lxr_script.proofs.laws.accepted_is_spelled.Goals as goal
 
