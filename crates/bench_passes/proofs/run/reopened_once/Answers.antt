@@ -1,4 +1,4 @@
-use Rattle.std.proofs.Common.{◌≡◌, List, [], length, map, All, ap, sym, ◌∙◌, subst}
+use Rattle.std.proofs.Common.{◌≡◌, List, length, map, All, ap, sym, ◌∙◌, subst}
 use Rattle.lxr_actor.specs.declared.Core.{Core}
 use Rattle.lxr_actor.proofs.Runs.{run-lengths}
 use Rattle.lxr_passes.specs.Passing.{Passing, dealt}
