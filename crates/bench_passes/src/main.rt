@@ -35,9 +35,10 @@ fn main(rt: HostRuntime) -> io::Result<()> {
     }
     for count in [72_000_usize, 290_000, 4_600_000] {
         let words = PlainWords::new(rt.alloc(), count)?;
+        let times = if timed { 20 } else { 1 };
         let start = Instant::now(&rt)?;
-        let _words = reopened(rt.alloc(), words)?;
-        let micros = start.elapsed(&rt)?.as_micros();
+        let _words = reopened(rt.alloc(), words, times)?;
+        let micros = start.elapsed(&rt)?.as_micros() / u128::from(times);
         if timed {
             println!(rt; "{count} words in and out: {micros} microseconds")?;
         }

@@ -1,5 +1,5 @@
 //! One epoch of walkers.
-ghost use Rattle.std.specs.Prelude.{◌+◌, ◌<◌, length};
+ghost use Rattle.std.specs.Prelude.{◌≡◌, ◌+◌, ◌<◌, length, IfOk};
 
 use crate::walker::Walker;
 use lxr_passes::{close_passes, open_passes};
@@ -36,9 +36,20 @@ pub fn in_threads<R: Threads + Sync>(
     Ok(words)
 }
 
-/// Opens an epoch over so many words with no actor, and closes it: each word is copied in and out.
-pub fn reopened(alloc: Global, words: PlainWords) -> Result<PlainWords, AllocError>
+/// Opens an epoch over the words and closes it, so many times: each time all words are copied in and out.
+pub fn reopened(alloc: Global, words: PlainWords, times: u32) -> Result<PlainWords, AllocError>
     requires { 8192 < length words + 1 }
+{
+    let mut words = words;
+    for _time in 0..times {
+        words = reopened_once(alloc, words)?;
+    }
+    Ok(words)
+}
+
+fn reopened_once(alloc: Global, words: PlainWords) -> Result<PlainWords, AllocError>
+    requires { 8192 < length words + 1 }
+    ensures { IfOk result (λ w. length w ≡ length words) }
 {
     let walkers: Vec<Walker> = Vec::new(alloc);
     let (epoch, passes) = open_passes(alloc, words, walkers)?;
