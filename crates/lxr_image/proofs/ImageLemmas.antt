@@ -1,13 +1,12 @@
 -- A heap word that is written changes at most the one object that it belongs to.
-use Rattle.std.proofs.Common.{◌≡◌, ◌≢◌, ℕ, ◌+◌, ◌-◌, ◌*◌, ◌/◌, ◌<◌, ◌≤◌, refl, sym, ap, subst, ◌∙◌, inl, inr, ◌⊎◌, arith, true, false, cond, List, ◌∷◌, length, nat_eq}
-use Rattle.std.specs.Prelude.{Option, Some, None, IsTrue, slice_get, slice_set, map}
+use Rattle.std.proofs.Common.{◌≡◌, ◌≢◌, ℕ, ◌+◌, ◌*◌, ◌/◌, ◌<◌, ◌≤◌, refl, sym, ap, subst, ◌∙◌, inl, inr, ◌⊎◌, arith, true, false, cond, List, length, nat_eq}
+use Rattle.std.specs.Prelude.{Option, Some, IsTrue, slice_get, slice_set, map}
 use Rattle.std.proofs.Math.ListN.{length-set}
 use Rattle.std.proofs.lemmas.List.{map-set}
 use Rattle.std.proofs.lemmas.Option.{slice_get_within}
 use Rattle.std.proofs.lemmas.Bool.Decides.{eqb_tells}
 use Rattle.lxr_layout.specs.declared.Name.{Name}
 use Rattle.lxr_layout.specs.declared.Place.{Place}
-use Rattle.lxr_layout.specs.declared.Shape.{Shape}
 use Rattle.lxr_layout.specs.Objects.{word_count}
 use Rattle.lxr_layout.specs.Places.{first_word}
 use Rattle.lxr_graph.specs.State.{Object, Graph, object_at, shape_of, with_reference, with_value}
@@ -16,7 +15,7 @@ use Rattle.lxr_graph.proofs.RowLemmas.{object_at-with_reference, object_at-with_
 use Rattle.lxr_graph.proofs.NameSets.{same_names}
 use Rattle.lxr_image.specs.Tables.{Tables, changed}
 use Rattle.lxr_image.specs.Reads.{StandsWhole, granule_of}
-use Rattle.lxr_image.specs.Image.{ArePlacesOf, AreApart, IsImage, Stands, granules_of, place_word}
+use Rattle.lxr_image.specs.Image.{AreApart, IsImage, Stands, granules_of, place_word}
 use Rattle.lxr_image.specs.ImageLaws.{ImageStandsWhole, OutsideKeepsImage, PutKeepsImage, RegisterKeepsPlaces, StoreKeepsImage, with_heap}
 
 -- ---- one word

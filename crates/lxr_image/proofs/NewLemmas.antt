@@ -1,5 +1,5 @@
 -- A new object that is written on free room stands there, and all members stand as they did.
-use Rattle.std.proofs.Common.{◌≡◌, ◌≢◌, ℕ, zero, suc, ◌+◌, ◌-◌, ◌*◌, ◌/◌, ◌<◌, ◌≤◌, refl, sym, ap, subst, ◌∙◌, inl, inr, ◌⊎◌, arith, true, false, cond, List, ◌∷◌, length, replicate}
+use Rattle.std.proofs.Common.{◌≡◌, ℕ, zero, suc, ◌+◌, ◌-◌, ◌*◌, ◌/◌, ◌<◌, ◌≤◌, refl, sym, ap, subst, ◌∙◌, inl, inr, ◌⊎◌, arith, true, false, cond, List, ◌∷◌, length, replicate}
 use Rattle.std.specs.Prelude.{◌||◌, Option, Some, None, IsTrue, slice_get}
 use Rattle.std.proofs.lemmas.List.{length-replicate}
 use Rattle.std.proofs.lemmas.Option.{slice_get_within}
@@ -14,9 +14,9 @@ use Rattle.lxr_graph.proofs.RowLemmas.{object_at-with_new}
 use Rattle.lxr_graph.proofs.NameSets.{same_itself, same_names}
 use Rattle.lxr_image.specs.Tables.{Tables}
 use Rattle.lxr_image.specs.Reads.{IsName, StandsWhole, granule_of}
-use Rattle.lxr_image.specs.Image.{AreApart, IsImage, Stands, granules_of, place_word}
-use Rattle.lxr_image.specs.ImageLaws.{IsRoom, IsUnheld, NewKeepsImage, WritesNew, placed}
-use Rattle.lxr_image.proofs.ImageLemmas.{Rewrites, rewrites, stands_on, words_cover, words_even}
+use Rattle.lxr_image.specs.Image.{AreApart, Stands, granules_of, place_word}
+use Rattle.lxr_image.specs.ImageLaws.{IsUnheld, NewKeepsImage, WritesNew, placed}
+use Rattle.lxr_image.proofs.ImageLemmas.{Rewrites, rewrites, stands_on, words_even}
 
 -- what a list of one value has
 pub same_value : {X : Type 0} (n : ℕ) (x y : X) (i : ℕ) → slice_get (replicate n x) i ≡ Some y → y ≡ x

@@ -1,11 +1,11 @@
 -- The tables on the way to an opened space.
-use Rattle.std.proofs.Common.{◌≡◌, ℕ, zero, suc, ◌+◌, ◌-◌, ◌*◌, ◌/◌, ◌%◌, ◌^◌, ◌<◌, ◌≤◌, refl, sym, ap, subst, ◌∙◌, arith, nat_eq, Bool, true, false, nat_le, nat_lt, List, [], ◌∷◌, ◌++◌, take, drop, length, replicate}
+use Rattle.std.proofs.Common.{◌≡◌, ℕ, zero, suc, ◌+◌, ◌*◌, ◌/◌, ◌%◌, ◌^◌, refl, sym, ap, subst, ◌∙◌, arith, nat_eq, true, nat_le, nat_lt, List, [], ◌∷◌, ◌++◌, take, drop, replicate}
 use Rattle.std.specs.Prelude.{◌&&◌, if◌then◌else◌, slice_index, slice_index_or}
 use Rattle.std.specs.List.{flat_map}
 use Rattle.std.proofs.lemmas.List.{length-replicate}
 use Rattle.std.proofs.lemmas.Nat.{div-mul-add, mod-mul-add, pow_pos}
 use Rattle.lxr_layout.specs.declared.limits.Limits.{Limits}
-use Rattle.lxr_layout.specs.Spaces.{region_begin, region_sizes}
+use Rattle.lxr_layout.specs.Spaces.{region_sizes}
 use Rattle.lxr_tables.specs.Entries.{entries, table}
 use Rattle.lxr_image.specs.Tables.{Tables, cut, tables_in}
 use Rattle.lxr_image.specs.Opened.{cleared_tables}

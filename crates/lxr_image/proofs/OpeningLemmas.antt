@@ -1,12 +1,12 @@
 -- An opened space is the image of the opening state.
-use Rattle.std.proofs.Common.{◌≡◌, ℕ, zero, suc, ◌+◌, ◌*◌, ◌/◌, ◌<◌, ◌≤◌, refl, sym, ap, subst, ◌∙◌, inl, inr, arith, true, false, cond, List, [], ◌∷◌, lit<, lit≤, replicate}
-use Rattle.std.specs.Prelude.{Option, Some, None, IsTrue, map, slice_get}
+use Rattle.std.proofs.Common.{◌≡◌, ◌+◌, refl, sym, ap, subst, ◌∙◌, inl, inr, arith, true, false, cond, List, [], ◌∷◌, lit<, lit≤}
+use Rattle.std.specs.Prelude.{Option, Some, None, map}
 use Rattle.std.proofs.lemmas.Bool.Decides.{eqb_tells}
 use Rattle.lxr_layout.specs.declared.limits.Limits.{Limits}
 use Rattle.lxr_layout.specs.declared.Name.{Name}
 use Rattle.lxr_layout.specs.Spaces.{AreLimits, region_begin}
-use Rattle.lxr_graph.specs.State.{Object, object_at, opening, opening_registers, shape_of, world, world_name}
-use Rattle.lxr_graph.specs.Names.{has, same_name}
+use Rattle.lxr_graph.specs.State.{object_at, opening, opening_registers, world, world_name}
+use Rattle.lxr_graph.specs.Names.{same_name}
 use Rattle.lxr_graph.proofs.NameSets.{has_one, same_itself}
 use Rattle.lxr_image.specs.declared.space.Space.{Space}
 use Rattle.lxr_image.specs.Tables.{Tables}

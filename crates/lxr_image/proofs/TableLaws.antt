@@ -1,5 +1,5 @@
 -- One bit, count, half or word that is written in its region changes one entry of one table.
-use Rattle.std.proofs.Common.{◌≡◌, ◌≢◌, ℕ, ◌+◌, ◌*◌, ◌/◌, ◌%◌, ◌^◌, ◌<◌, ◌≤◌, refl, sym, ap, subst, ◌∙◌, inl, inr, ◌⊎◌, arith, Bool, true, false, cond, List, [], length, drop, nat_eq, lit<, eq-eqb}
+use Rattle.std.proofs.Common.{◌≡◌, ℕ, ◌+◌, ◌*◌, ◌/◌, ◌%◌, ◌^◌, ◌<◌, ◌≤◌, refl, sym, ap, subst, ◌∙◌, inl, inr, arith, Bool, true, false, cond, List, [], length, drop, lit<, eq-eqb}
 use Rattle.std.specs.Prelude.{◌==◌, ◌↔◌, IsTrue, slice_index, slice_index_or, slice_set}
 use Rattle.std.proofs.lemmas.Bool.Decides.{eqb_tells}
 use Rattle.std.proofs.lemmas.List.{get_or-set_same, get_or-set_other}
@@ -12,7 +12,7 @@ use Rattle.lxr_image.specs.declared.tables.BitTable.{BitTable}
 use Rattle.lxr_image.specs.declared.tables.BitTable.TheVariants.{Starts, Marks, Grays, Dones, Unlogged, Outs}
 use Rattle.lxr_image.specs.declared.tables.WordTable.{WordTable}
 use Rattle.lxr_image.specs.declared.tables.WordTable.TheVariants.{Heap, States, Runs, Frees, Decrements, Remembered, Cursors}
-use Rattle.lxr_image.specs.Tables.{Tables, cut, tables_in, tables_from, changed, bits_in, counts_in, halves_in, words_in}
+use Rattle.lxr_image.specs.Tables.{cut, tables_in, tables_from, changed, bits_in, counts_in, halves_in, words_in}
 use Rattle.lxr_image.specs.Spaces.{bit_region, word_region, bit_table, word_table, with_bit, with_word}
 use Rattle.lxr_image.proofs.RegionLemmas.{length_region, length_region_table, region_entry_written, region_read, region_within, region_word, region_word_written, region_written}
 

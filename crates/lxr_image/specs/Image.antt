@@ -4,7 +4,7 @@ use Rattle.lxr_layout.specs.declared.Name.{Name}
 use Rattle.lxr_layout.specs.declared.Place.{Place}
 use Rattle.lxr_layout.specs.Objects.{word_count}
 use Rattle.lxr_layout.specs.Places.{first_word}
-use Rattle.lxr_graph.specs.State.{Object, Graph, State, object_at, opening, shape_of, world_name}
+use Rattle.lxr_graph.specs.State.{Object, Graph, object_at, opening, shape_of, world_name}
 use Rattle.lxr_graph.specs.Names.{has, same_name}
 use Rattle.lxr_image.specs.declared.space.Space.{Space}
 use Rattle.lxr_image.specs.Tables.{Tables}

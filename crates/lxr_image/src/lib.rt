@@ -1,7 +1,8 @@
 //! The space of a collector: one list of words with all its tables, and the lists beside it.
 //!
 //! A space holds the heap, the side tables of the heap's granules, lines and blocks, and the lists that threads and
-//! pauses share. Contracts see its words as a record of tables, and say for each call which entry of which table it
+//! pauses share: those of LXR (Zhao, Blackburn and McKinley, 2022) over the blocks and lines of Immix (Blackburn and
+//! McKinley, 2008). Contracts see its words as a record of tables, and say for each call which entry of which table it
 //! changes. The layers above reason on that record alone, and on what it says of an object graph: that the space is
 //! an image of the graph.
 #![tactic(auto)]

@@ -85,6 +85,7 @@ impl Space {
         ensures report { IsBlank result.report }
         ensures tally { result.tally ≡ no_tally }
         ensures pauses { (result.pauses ≡ 0) × (result.trace ≡ None) }
+        ensures rest { (result.rest_next ≡ 0) × (result.rest_end ≡ 0) }
     {
         Space {
             words: PlainWords::empty(alloc),

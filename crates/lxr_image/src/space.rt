@@ -48,7 +48,8 @@ pub struct Space {
     pub pauses: u32,
     /// The pause at which the running trace began, where one runs.
     pub trace: Option<u32>,
-    /// The granules that are left of the lines from which a pause placed last; from `rest_next` to below `rest_end`.
+    /// The granules that are left of the lines from which a pause placed last: from `rest_next` to below `rest_end`.
+    /// The two are equal where there are none.
     pub rest_next: u32,
     pub rest_end: u32,
 }

@@ -143,7 +143,8 @@ impl Space {
     pub fn set_start(&mut self, granule: u32)
         requires space { IsSpace self.old }
         requires granule { granule < 2048 * self.old.limits.blocks }
-        ensures { Turns self.old self.new (record (tables_of self.old) { starts = changed (tables_of self.old).starts granule true }) }
+        ensures { let t = tables_of self.old in
+            Turns self.old self.new (record t { starts = changed t.starts granule true }) }
     {
         self.set_bit_in(BitTable::Starts, granule as usize);
     }
@@ -153,7 +154,8 @@ impl Space {
     pub fn clear_start(&mut self, granule: u32)
         requires space { IsSpace self.old }
         requires granule { granule < 2048 * self.old.limits.blocks }
-        ensures { Turns self.old self.new (record (tables_of self.old) { starts = changed (tables_of self.old).starts granule false }) }
+        ensures { let t = tables_of self.old in
+            Turns self.old self.new (record t { starts = changed t.starts granule false }) }
     {
         self.clear_bit_in(BitTable::Starts, granule as usize);
     }
@@ -173,7 +175,8 @@ impl Space {
     pub fn set_mark(&mut self, granule: u32)
         requires space { IsSpace self.old }
         requires granule { granule < 2048 * self.old.limits.blocks }
-        ensures { Turns self.old self.new (record (tables_of self.old) { marks = changed (tables_of self.old).marks granule true }) }
+        ensures { let t = tables_of self.old in
+            Turns self.old self.new (record t { marks = changed t.marks granule true }) }
     {
         self.set_bit_in(BitTable::Marks, granule as usize);
     }
@@ -183,7 +186,8 @@ impl Space {
     pub fn clear_mark(&mut self, granule: u32)
         requires space { IsSpace self.old }
         requires granule { granule < 2048 * self.old.limits.blocks }
-        ensures { Turns self.old self.new (record (tables_of self.old) { marks = changed (tables_of self.old).marks granule false }) }
+        ensures { let t = tables_of self.old in
+            Turns self.old self.new (record t { marks = changed t.marks granule false }) }
     {
         self.clear_bit_in(BitTable::Marks, granule as usize);
     }
@@ -203,7 +207,8 @@ impl Space {
     pub fn set_gray(&mut self, granule: u32)
         requires space { IsSpace self.old }
         requires granule { granule < 2048 * self.old.limits.blocks }
-        ensures { Turns self.old self.new (record (tables_of self.old) { grays = changed (tables_of self.old).grays granule true }) }
+        ensures { let t = tables_of self.old in
+            Turns self.old self.new (record t { grays = changed t.grays granule true }) }
     {
         self.set_bit_in(BitTable::Grays, granule as usize);
     }
@@ -213,7 +218,8 @@ impl Space {
     pub fn clear_gray(&mut self, granule: u32)
         requires space { IsSpace self.old }
         requires granule { granule < 2048 * self.old.limits.blocks }
-        ensures { Turns self.old self.new (record (tables_of self.old) { grays = changed (tables_of self.old).grays granule false }) }
+        ensures { let t = tables_of self.old in
+            Turns self.old self.new (record t { grays = changed t.grays granule false }) }
     {
         self.clear_bit_in(BitTable::Grays, granule as usize);
     }
@@ -233,7 +239,8 @@ impl Space {
     pub fn set_done(&mut self, granule: u32)
         requires space { IsSpace self.old }
         requires granule { granule < 2048 * self.old.limits.blocks }
-        ensures { Turns self.old self.new (record (tables_of self.old) { dones = changed (tables_of self.old).dones granule true }) }
+        ensures { let t = tables_of self.old in
+            Turns self.old self.new (record t { dones = changed t.dones granule true }) }
     {
         self.set_bit_in(BitTable::Dones, granule as usize);
     }
@@ -243,7 +250,8 @@ impl Space {
     pub fn clear_done(&mut self, granule: u32)
         requires space { IsSpace self.old }
         requires granule { granule < 2048 * self.old.limits.blocks }
-        ensures { Turns self.old self.new (record (tables_of self.old) { dones = changed (tables_of self.old).dones granule false }) }
+        ensures { let t = tables_of self.old in
+            Turns self.old self.new (record t { dones = changed t.dones granule false }) }
     {
         self.clear_bit_in(BitTable::Dones, granule as usize);
     }
@@ -263,7 +271,8 @@ impl Space {
     pub fn set_unlogged(&mut self, at: u32)
         requires space { IsSpace self.old }
         requires at { at < 4096 * self.old.limits.blocks }
-        ensures { Turns self.old self.new (record (tables_of self.old) { unlogged = changed (tables_of self.old).unlogged at true }) }
+        ensures { let t = tables_of self.old in
+            Turns self.old self.new (record t { unlogged = changed t.unlogged at true }) }
     {
         self.set_bit_in(BitTable::Unlogged, at as usize);
     }
@@ -273,7 +282,8 @@ impl Space {
     pub fn clear_unlogged(&mut self, at: u32)
         requires space { IsSpace self.old }
         requires at { at < 4096 * self.old.limits.blocks }
-        ensures { Turns self.old self.new (record (tables_of self.old) { unlogged = changed (tables_of self.old).unlogged at false }) }
+        ensures { let t = tables_of self.old in
+            Turns self.old self.new (record t { unlogged = changed t.unlogged at false }) }
     {
         self.clear_bit_in(BitTable::Unlogged, at as usize);
     }
@@ -293,7 +303,8 @@ impl Space {
     pub fn set_out(&mut self, line: u32)
         requires space { IsSpace self.old }
         requires line { line < 128 * self.old.limits.blocks }
-        ensures { Turns self.old self.new (record (tables_of self.old) { outs = changed (tables_of self.old).outs line true }) }
+        ensures { let t = tables_of self.old in
+            Turns self.old self.new (record t { outs = changed t.outs line true }) }
     {
         self.set_bit_in(BitTable::Outs, line as usize);
     }
@@ -303,7 +314,8 @@ impl Space {
     pub fn clear_out(&mut self, line: u32)
         requires space { IsSpace self.old }
         requires line { line < 128 * self.old.limits.blocks }
-        ensures { Turns self.old self.new (record (tables_of self.old) { outs = changed (tables_of self.old).outs line false }) }
+        ensures { let t = tables_of self.old in
+            Turns self.old self.new (record t { outs = changed t.outs line false }) }
     {
         self.clear_bit_in(BitTable::Outs, line as usize);
     }
@@ -323,7 +335,8 @@ impl Space {
     pub fn put_heap(&mut self, at: u32, value: u64)
         requires space { IsSpace self.old }
         requires at { at < 4096 * self.old.limits.blocks }
-        ensures { Turns self.old self.new (record (tables_of self.old) { heap = changed (tables_of self.old).heap at value }) }
+        ensures { let t = tables_of self.old in
+            Turns self.old self.new (record t { heap = changed t.heap at value }) }
     {
         self.put_word_in(WordTable::Heap, at as usize, value);
     }
@@ -343,7 +356,8 @@ impl Space {
     pub fn put_state(&mut self, block: u32, value: u64)
         requires space { IsSpace self.old }
         requires block { block < self.old.limits.blocks }
-        ensures { Turns self.old self.new (record (tables_of self.old) { states = changed (tables_of self.old).states block value }) }
+        ensures { let t = tables_of self.old in
+            Turns self.old self.new (record t { states = changed t.states block value }) }
     {
         self.put_word_in(WordTable::States, block as usize, value);
     }
@@ -363,7 +377,8 @@ impl Space {
     pub fn put_run(&mut self, at: u32, value: u64)
         requires space { IsSpace self.old }
         requires at { at < 64 * self.old.limits.blocks }
-        ensures { Turns self.old self.new (record (tables_of self.old) { runs = changed (tables_of self.old).runs at value }) }
+        ensures { let t = tables_of self.old in
+            Turns self.old self.new (record t { runs = changed t.runs at value }) }
     {
         self.put_word_in(WordTable::Runs, at as usize, value);
     }
@@ -383,7 +398,8 @@ impl Space {
     pub fn put_free(&mut self, at: u32, value: u64)
         requires space { IsSpace self.old }
         requires at { at < self.old.limits.blocks }
-        ensures { Turns self.old self.new (record (tables_of self.old) { frees = changed (tables_of self.old).frees at value }) }
+        ensures { let t = tables_of self.old in
+            Turns self.old self.new (record t { frees = changed t.frees at value }) }
     {
         self.put_word_in(WordTable::Frees, at as usize, value);
     }
@@ -403,7 +419,8 @@ impl Space {
     pub fn put_decrement(&mut self, at: u32, value: u64)
         requires space { IsSpace self.old }
         requires at { at < self.old.limits.threads * (self.old.limits.log + 16) }
-        ensures { Turns self.old self.new (record (tables_of self.old) { decs = changed (tables_of self.old).decs at value }) }
+        ensures { let t = tables_of self.old in
+            Turns self.old self.new (record t { decs = changed t.decs at value }) }
     {
         self.put_word_in(WordTable::Decrements, at as usize, value);
     }
@@ -423,7 +440,8 @@ impl Space {
     pub fn put_remembered(&mut self, at: u32, value: u64)
         requires space { IsSpace self.old }
         requires at { at < self.old.limits.remember }
-        ensures { Turns self.old self.new (record (tables_of self.old) { remembered = changed (tables_of self.old).remembered at value }) }
+        ensures { let t = tables_of self.old in
+            Turns self.old self.new (record t { remembered = changed t.remembered at value }) }
     {
         self.put_word_in(WordTable::Remembered, at as usize, value);
     }
@@ -443,7 +461,8 @@ impl Space {
     pub fn put_cursor(&mut self, number: u32, value: u64)
         requires space { IsSpace self.old }
         requires number { number < 16 }
-        ensures { Turns self.old self.new (record (tables_of self.old) { cursors = changed (tables_of self.old).cursors number value }) }
+        ensures { let t = tables_of self.old in
+            Turns self.old self.new (record t { cursors = changed t.cursors number value }) }
     {
         self.put_word_in(WordTable::Cursors, number as usize, value);
     }
@@ -466,7 +485,8 @@ impl Space {
         requires space { IsSpace self.old }
         requires granule { granule < 2048 * self.old.limits.blocks }
         requires count { count ≤ STUCK }
-        ensures { Turns self.old self.new (record (tables_of self.old) { counts = changed (tables_of self.old).counts granule count }) }
+        ensures { let t = tables_of self.old in
+            Turns self.old self.new (record t { counts = changed t.counts granule count }) }
     {
         let base = self.counts_begin();
         set_two(&mut self.words, base, granule as usize, count);
@@ -479,7 +499,8 @@ impl Space {
         requires granule { granule < 2048 * self.old.limits.blocks }
         ensures old { result.old ≡ (tables_of self.old).counts granule }
         ensures now { result.now ≡ raised_count result.old }
-        ensures tables { Turns self.old self.new (record (tables_of self.old) { counts = changed (tables_of self.old).counts granule result.now }) }
+        ensures tables { let t = tables_of self.old in
+            Turns self.old self.new (record t { counts = changed t.counts granule result.now }) }
     {
         let base = self.counts_begin();
         raise_two(&mut self.words, base, granule as usize)
@@ -492,7 +513,8 @@ impl Space {
         requires granule { granule < 2048 * self.old.limits.blocks }
         requires counted { (tables_of self.old).counts granule ≢ 0 }
         ensures answer { result ≡ lowered_of ((tables_of self.old).counts granule) }
-        ensures tables { Turns self.old self.new (record (tables_of self.old) { counts = changed (tables_of self.old).counts granule (lowered_count ((tables_of self.old).counts granule)) }) }
+        ensures tables { let t = tables_of self.old in
+            Turns self.old self.new (record t { counts = changed t.counts granule (lowered_count (t.counts granule)) }) }
     {
         let base = self.counts_begin();
         lower_two(&mut self.words, base, granule as usize)
@@ -523,7 +545,8 @@ impl Space {
     pub fn raise_reuse(&mut self, line: u32)
         requires space { IsSpace self.old }
         requires line { line < 128 * self.old.limits.blocks }
-        ensures { Turns self.old self.new (record (tables_of self.old) { reuse = changed (tables_of self.old).reuse line (((tables_of self.old).reuse line + 1) % 2 ^ 32) }) }
+        ensures { let t = tables_of self.old in
+            Turns self.old self.new (record t { reuse = changed t.reuse line ((t.reuse line + 1) % 2 ^ 32) }) }
     {
         let at = self.reuse_word(line);
         let old = self.reuse(line);

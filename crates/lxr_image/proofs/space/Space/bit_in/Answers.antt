@@ -1,4 +1,4 @@
-use Rattle.std.proofs.Common.{◌≡◌, ◌+◌, ◌/◌, ◌<◌, ◌∙◌, ap, subst, sym, length, drop}
+use Rattle.std.proofs.Common.{◌+◌, ◌/◌, ◌<◌, ◌∙◌, ap, subst, sym, length, drop}
 use Rattle.std.specs.Prelude.{◌==◌, slice_index}
 use Rattle.lxr_tables.specs.Entries.{table}
 use Rattle.lxr_image.proofs.TableLaws.{bit_read, bit_within, test_of}

@@ -1,1 +1,0 @@
-use Rattle.lxr_image.proofs.space.Space.datum.Goals as goal

@@ -1,1 +1,0 @@
-use Rattle.lxr_image.proofs.space.Space.field.Goals as goal

@@ -1,4 +1,4 @@
-use Rattle.std.proofs.Common.{◌≡◌, ◌≢◌, ◌+◌, ◌/◌, ◌<◌, ◌∙◌, ap, subst, sym, refl, length, drop}
+use Rattle.std.proofs.Common.{◌≡◌, ◌+◌, ◌/◌, ◌<◌, ◌∙◌, ap, subst, sym, refl, length, drop}
 use Rattle.std.specs.Prelude.{slice_index, slice_set}
 use Rattle.lxr_tables.specs.Counts.{lowered_count, lowered_of}
 use Rattle.lxr_tables.specs.Entries.{OthersStay, table}

@@ -1,5 +1,4 @@
-use Rattle.std.proofs.Common.{◌≡◌, ℕ, ◌+◌, ◌-◌, ◌*◌, ◌/◌, ◌%◌, ◌^◌, ◌<◌, ◌≤◌, ◌∙◌, ap, subst, sym, refl, arith, length}
-use Rattle.lxr_tables.proofs.EntryLemmas.{IsWritten}
+use Rattle.std.proofs.Common.{◌≡◌, ◌+◌, ◌-◌, ◌*◌, ◌%◌, ◌^◌, ◌<◌, ◌∙◌, ap, subst, sym, refl, arith, length}
 use Rattle.lxr_image.specs.Tables.{changed}
 use Rattle.lxr_image.specs.Spaces.{tables_of}
 use Rattle.lxr_image.proofs.HalfLemmas.{half_written, put_fits, taken_fits}

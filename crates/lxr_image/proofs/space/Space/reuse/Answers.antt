@@ -1,4 +1,4 @@
-use Rattle.std.proofs.Common.{◌+◌, ◌*◌, ◌/◌, ◌%◌, ◌^◌, ◌<◌, ◌∙◌, subst, sym, length}
+use Rattle.std.proofs.Common.{◌*◌, ◌/◌, ◌%◌, ◌^◌, ◌<◌, ◌∙◌, subst, sym, length}
 use Rattle.std.proofs.lemmas.Nat.{and_mask}
 use Rattle.lxr_image.proofs.TableLaws.{half_is, reuse_within}
 use Rattle.lxr_image.proofs.space.Space.reuse.Goals as goal
