@@ -5,6 +5,7 @@ use Rattle.std.specs.List.{AllByRecursion}
 use Rattle.std.specs.List.Sorted.{IsStrictlySortedBy}
 use Rattle.std.specs.Ordering.{is_lt}
 use Rattle.std.specs.declared.cmp.Ordering.TheVariants.{Less}
+use Rattle.std.proofs.lemmas.Bool.{and_parts, and_from, not-true, not_from_false, or_cases, or_left, or_right, false_from_ne_true}
 use Rattle.std.proofs.lemmas.List.Kept.{IsStrictlySortedBy-filter}
 use Rattle.std.proofs.lemmas.Bool.Decides.{nat_tests}
 use Rattle.lxr_layout.specs.declared.Name.{Name}
@@ -14,22 +15,6 @@ use Rattle.lxr_graph.specs.Names.{same_name, has, without, insert_name, union, n
 
 pub not_both : {P : Type 0} (b : Bool) → IsTrue b → b ≡ false → P
 not_both b h e = cc
-
-pub not_true : (b : Bool) → (IsTrue b → ⊥) → b ≡ false
-not_true true h = absurd (h refl)
-not_true false h = refl
-
-pub or_cases : (a b : Bool) → IsTrue (a || b) → IsTrue a ⊎ IsTrue b
-or_cases true b h = inl refl
-or_cases false b h = inr h
-
-pub or_left : (a b : Bool) → IsTrue a → IsTrue (a || b)
-or_left true b h = refl
-or_left false b h = absurd (cc)
-
-pub or_right : (a b : Bool) → IsTrue b → IsTrue (a || b)
-or_right true b h = refl
-or_right false b h = h
 
 or_swap : (a b c : Bool) → (a || (b || c)) ≡ (b || (a || c))
 or_swap true true c = refl
@@ -130,21 +115,21 @@ has-without (x ∷ ns) out q =
     ∙ ap (λ r. cond (not (has out x)) (same_name q x || r) r) (has-without ns out q)
     ∙ kept_test (same_name q x) (has out x) (has out q) (has ns q) (λ e. ap (has out) (same_names q x e))
 
-and_parts : (a b : Bool) → IsTrue (a && not b) → IsTrue a × (b ≡ false)
-and_parts true true h = absurd (cc)
-and_parts true false h = (refl, refl)
-and_parts false b h = absurd (cc)
-
-and_both : (a b : Bool) → IsTrue a → b ≡ false → IsTrue (a && not b)
-and_both a b h e = cc
-
 pub without_parts : (ns out : List Name) (q : Name) → IsTrue (has (without ns out) q) → IsTrue (has ns q) × (has out q ≡ false)
-without_parts ns out q h = and_parts (has ns q) (has out q) (sym (has-without ns out q) ∙ h)
+without_parts ns out q h = let both = and_parts (has ns q) (not (has out q)) (sym (has-without ns out q) ∙ h) in (both.0, not-true (has out q) both.1)
 
 pub in_without : (ns out : List Name) (q : Name) → IsTrue (has ns q) → (IsTrue (has out q) → ⊥) → IsTrue (has (without ns out) q)
-in_without ns out q h k = has-without ns out q ∙ and_both (has ns q) (has out q) h (not_true (has out q) k)
+in_without ns out q h k = has-without ns out q ∙ and_from (has ns q) (not (has out q)) h (not_from_false (has out q) (false_from_ne_true (has out q) k))
 
 -- ---- order
+
+pub in_order-none : AreInOrder []
+unfolding IsStrictlySortedBy
+in_order-none = tt
+
+pub in_order-one : (n : Name) → AreInOrder (n ∷ [])
+unfolding IsStrictlySortedBy
+in_order-one n = (tt, tt)
 
 all_insert : (P : Name → Type 0) (n : Name) (ms : List Name) → P n → AllByRecursion P ms → AllByRecursion P (insert_name n ms)
 all_insert P n [] p a = (p, tt)

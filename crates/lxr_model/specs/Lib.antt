@@ -8,3 +8,5 @@ pub mod Kinds
 pub mod Full
 pub mod Legal
 pub mod Belongs
+pub mod Laws
+pub mod HistoryLaws

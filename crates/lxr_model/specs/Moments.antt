@@ -12,6 +12,7 @@ use Rattle.lxr_graph.specs.Names.{same_name, has, without, insert_name, union}
 use Rattle.lxr_graph.specs.State.{State, opening, world_name, register_at}
 use Rattle.lxr_graph.specs.Step.{state_after}
 use Rattle.lxr_graph.specs.History.{PauseReport, Item, Call, Pause}
+use Rattle.lxr_model.specs.Terms.{Terms}
 
 -- a reference as a place in the graph: an object's name and an index
 abbrev pub Field : Type 0
@@ -111,3 +112,16 @@ abbrev pub moment : ℕ → List Item → Moment
 moment threads [] = opening_moment threads
 moment threads (Call t o r ∷ h) = after_call (moment threads h) t o r
 moment threads (Pause report ∷ h) = after_pause (moment threads h) report
+
+-- the state that a history under these terms leads to, with the unreclaimed and the stuck names and the running trace
+abbrev pub state_at : Terms → List Item → State
+state_at terms h = (moment terms.threads h).state
+
+abbrev pub unreclaimed_at : Terms → List Item → List Name
+unreclaimed_at terms h = (moment terms.threads h).unreclaimed
+
+abbrev pub stuck_at : Terms → List Item → List Name
+stuck_at terms h = (moment terms.threads h).stuck
+
+abbrev pub trace_at : Terms → List Item → Option Trace
+trace_at terms h = (moment terms.threads h).trace

@@ -72,12 +72,12 @@ abbrev pub IsSweptAtEnd : List Name → Option Trace → Type 0
 IsSweptAtEnd swept None = ⊥
 IsSweptAtEnd swept (Some trace) = IsSetOf swept (λ o. IsTrue (has trace.unreclaimed o) × ¬ Reachable trace.state o)
 
--- what a pause sweeps, by its kind; `kept` are the kept names without the second dead
+-- what a pause sweeps, by its kind; `left` are the kept names without the second dead
 abbrev pub IsSwept : Moment → List Name → List Name → Kind → Type 0
-IsSwept m kept swept kind.Plain = swept ≡ []
-IsSwept m kept swept kind.Begin = swept ≡ []
-IsSwept m kept swept (kind.End j) = IsSweptAtEnd swept m.trace
-IsSwept m kept swept kind.Collect = IsSetOf swept (λ o. IsTrue (has kept o) × ¬ Reachable m.state o)
+IsSwept m left swept kind.Plain = swept ≡ []
+IsSwept m left swept kind.Begin = swept ≡ []
+IsSwept m left swept (kind.End j) = IsSweptAtEnd swept m.trace
+IsSwept m left swept kind.Collect = IsSetOf swept (λ o. IsTrue (has left o) × ¬ Reachable m.state o)
 
 -- a name with its references counted afresh, or none where it is stuck
 abbrev pub count_entry : State → List Name → List Name → Name → Count

@@ -7,3 +7,16 @@
 //! project's own choice within it. The functions of this crate do nothing: their contracts are the laws that the
 //! definitions obey.
 #![tactic(auto)]
+
+mod history_laws;
+mod laws;
+
+pub use history_laws::{
+    collecting_keeps_the_reachable, counts_are_exact, draining_leaves_no_zero,
+    last_unreclaimed_are_reachable, made_are_young, reachable_are_kept, reachable_are_old_or_made,
+    reclaimed_are_unreachable, rows_are_threads,
+};
+pub use laws::{
+    dead_are_unreachable, dead_is_least, promoted_is_least, reachable_is_least, step_keeps_objects,
+    step_reaches_new_name, step_stores_the_reachable, unreachable_stays,
+};

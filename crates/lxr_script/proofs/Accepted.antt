@@ -1,5 +1,5 @@
 -- What is read is within the limits of a script.
-use Rattle.std.proofs.Common.{◌≡◌, ℕ, zero, suc, ◌+◌, ◌<◌, ◌≤◌, ◌^◌, Bool, true, false, ◌&&◌, cond, List, [], ◌∷◌, length, Option, Some, None, Result, Ok, Err, refl, sym, ap, arith, ltb, leb, codes, IfOk, eqb, map, nat_eq, subst, lit≤}
+use Rattle.std.proofs.Common.{◌≡◌, ℕ, zero, suc, ◌+◌, ◌<◌, ◌≤◌, ◌^◌, Bool, true, false, ◌&&◌, cond, List, [], ◌∷◌, length, Option, Some, None, Result, Ok, Err, refl, sym, ap, arith, ltb, leb, codes, IfOk, eqb, nat_eq, subst, lit≤}
 use Rattle.std.proofs.lemmas.Bool.{and_parts, false≢true, eqb-true, ltb-true, leb-true, le-leb}
 use Rattle.std.specs.Bool.{⊤}
 use Rattle.std.specs.Option.{MatchOption, option_and_then, option_map_or}
@@ -13,7 +13,7 @@ use Rattle.lxr_graph.specs.declared.Op.TheVariants as op
 use Rattle.lxr_script.specs.declared.Script.{Script}
 use Rattle.lxr_script.specs.declared.fault.ScriptError.{ScriptError}
 use Rattle.lxr_script.specs.declared.fault.ScriptFault.{ScriptFault}
-use Rattle.lxr_script.specs.Lines.{Text, Line, end_from, items_from}
+use Rattle.lxr_script.specs.Lines.{Text, Line, end_from, items_from, texts}
 use Rattle.lxr_script.specs.Numbers.{at_most_15, number_of, register_of}
 use Rattle.lxr_script.specs.Operations.{Read, ◌>>=◌, or_fault, number_at, register_at, size_at, index_at, new_of, load_of, store_of, put_of, get_of, move_of, nil_of, same_of, alone, operation_of}
 use Rattle.lxr_script.specs.Reading.{Gives, are, bodies_of, header_of, is_opening, next_operation, nothing_after, number_after, opening_of, operations_of, reading_of, script_of, thread_count, threads_in, threads_of}
@@ -189,10 +189,6 @@ operation_read n (word ∷ words) =
     named word (codes "same") words _ _ (same_read n words) (
     named word (codes "pause") words _ _ (pause_read n words) (
     named word (codes "collect") words _ _ (collect_read n words) tt)))))))))
-
--- the words of lines
-abbrev pub texts : List Line → List (List Text)
-texts lines = map (λ line. line.words) lines
 
 next_read : (before : ℕ) (line : Line) → IfOk (next_operation before line) (λ o. (before < 1048576) × SpellsOperation line.words o)
 unfolding next_operation

@@ -42,7 +42,7 @@ part_first x [] line = refl
 part_first x (part ∷ parts) line = refl
 
 -- a line that is cut off is the first
-lines_cut : (p : ℕ → Bool) (line rest : Text) → lines_of_parts (line ∷ slice_split p rest) ≡ strip_carriage_return line ∷ lines_of_parts (slice_split p rest)
+pub lines_cut : (p : ℕ → Bool) (line rest : Text) → lines_of_parts (line ∷ slice_split p rest) ≡ strip_carriage_return line ∷ lines_of_parts (slice_split p rest)
 lines_cut p line [] = refl
 lines_cut p line (x ∷ xs) = elim (p x) as (λ v. lines_of_parts (line ∷ cond v ([] ∷ slice_split p xs) (onto_first x (slice_split p xs))) ≡ strip_carriage_return line ∷ lines_of_parts (cond v ([] ∷ slice_split p xs) (onto_first x (slice_split p xs)))) [
   | true ↦ refl

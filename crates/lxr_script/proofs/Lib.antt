@@ -2,4 +2,7 @@ mod Cutting
 mod Items
 mod Digits
 mod Loops
+mod Spelled
+mod Plain
+mod Canonical
 mod Accepted

@@ -4,5 +4,6 @@ pub mod Operations
 pub mod Reading
 pub mod Limits
 pub mod Grammar
+pub mod Spelling
 pub mod Faults
 pub mod Scanner

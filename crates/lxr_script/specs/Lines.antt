@@ -1,6 +1,6 @@
 -- A text as numbered lines of words. What a line is, is said by std's `lines`: lines end at a line feed, one carriage
 -- return before it is dropped, a last line needs no line feed, and an empty rest after the last line feed is no line.
-use Rattle.std.specs.Prelude.{ℕ, ◌+◌, Bool, true, false, not, ◌||◌, ◌==◌, List, [], ◌∷◌, length, slice_index, filter}
+use Rattle.std.specs.Prelude.{ℕ, ◌+◌, Bool, true, false, not, ◌||◌, ◌==◌, List, [], ◌∷◌, length, slice_index, filter, map}
 use Rattle.std.specs.List.{slice_split}
 use Rattle.std.specs.Str.Lines.{lines}
 
@@ -44,6 +44,10 @@ has_item (word ∷ words) = not (slice_index word 0 == 35)
 -- skipped, and counted
 unfoldable pub items_from : ℕ → Text → List Line
 items_from n text = filter (λ line. has_item line.words) (numbered n (lines text))
+
+-- the words of lines
+abbrev pub texts : List Line → List (List Text)
+texts lines = map (λ line. line.words) lines
 
 -- the number after that of the last line
 abbrev pub end_from : ℕ → Text → ℕ

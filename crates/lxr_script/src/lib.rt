@@ -6,12 +6,14 @@
 #![tactic(auto)]
 
 mod fault;
+mod laws;
 mod lines;
 mod numbers;
 mod operations;
 mod reading;
 
 pub use fault::{ScriptError, ScriptFault, error_line};
+pub use laws::{accepted_is_spelled, spelled_is_accepted, spelling_is_read_again};
 use lxr_graph::Operations;
 use lxr_lists::Listed;
 pub use reading::read_script;

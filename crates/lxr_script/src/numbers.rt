@@ -42,8 +42,11 @@ fn at_most_15(number: u64) -> Option<u8>
 pub(crate) fn register_of(word: &[u8]) -> Option<u8>
     ensures { result ≡ value.register_of word.now }
 {
-    match word {
-        [b'r', digits @ ..] => at_most_15(number_of(digits)?),
-        _ => None,
+    if word.is_empty() {
+        return None;
     }
+    if word[0] != b'r' {
+        return None;
+    }
+    at_most_15(number_of(&word[1..])?)
 }

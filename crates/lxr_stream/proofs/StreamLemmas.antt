@@ -1,10 +1,10 @@
 -- Bytes that are taken or written one piece after another are taken or written together.
-use Rattle.std.proofs.Common.{inl, inr, ◌≡◌, ℕ, ◌+◌, ◌-◌, refl, sym, ap, ◌∙◌, List, [], ◌++◌, length, take, drop, arith, append_assoc, length-drop}
+use Rattle.std.proofs.Common.{inl, inr, ◌≡◌, ℕ, ◌+◌, ◌-◌, refl, sym, ap, List, [], ◌++◌, length, take, drop, arith, append_assoc, length-drop}
 use Rattle.std.proofs.Math.Seq.{take-add, take-append-add}
 use Rattle.std.proofs.lemmas.List.{append-nil, take-append-le, take_all, take_at}
 use Rattle.std.proofs.lemmas.Bool.{cases_lt}
 use Rattle.std.proofs.lemmas.Simd.{chunk-drop}
-use Rattle.std.specs.Prelude.{Option, Some, None, option_map, IfSome}
+use Rattle.std.specs.Prelude.{Option, Some, None, IfSome}
 use Rattle.lxr_stream.specs.Streams.{Takes, Appends, AppendsFront, IsAtEnd}
 
 pub Appends-nil : (w : Option (List ℕ)) → Appends w w []

@@ -1,10 +1,11 @@
 -- A word from which an entry's old value is taken away and to which its new value is added, both at the entry's
 -- bits, is cut into the same entries but for that one. So the table of such words is the old one with one entry set.
-use Rattle.std.proofs.Common.{◌≡◌, ℕ, zero, suc, ◌+◌, ◌-◌, ◌*◌, ◌/◌, ◌%◌, ◌^◌, ◌<◌, ◌≤◌, refl, sym, ap, subst, ◌∙◌, arith, List, [], ◌∷◌, ◌++◌, length, drop, length-append, length-drop}
+use Rattle.std.proofs.Common.{◌≡◌, ℕ, zero, suc, ◌+◌, ◌-◌, ◌*◌, ◌/◌, ◌%◌, ◌^◌, ◌<◌, ◌≤◌, refl, sym, ap, subst, ◌∙◌, arith, List, [], ◌∷◌, ◌++◌, length, take, drop, length-append, length-drop}
 use Rattle.std.specs.Prelude.{slice_index, slice_set}
 use Rattle.std.specs.List.{flat_map}
 use Rattle.std.proofs.lemmas.Nat.{div-mul-add, mod-mul-add, div-add-mod', mod_below, mul-le, pow_pos, shr-shr, pow-add}
 use Rattle.std.proofs.lemmas.List.{set-append_left, set-append_right, drop-set-add, get_or_append_left, get_or-append-add, get_or-drop, get_or-set_same}
+use Rattle.std.proofs.Math.Seq.{take-append-add, take-nil}
 use Rattle.lxr_tables.specs.Entries.{OthersStay, entries, table}
 
 pub length-entries : (b n w : ℕ) → length (entries b n w) ≡ n
@@ -162,3 +163,30 @@ written_at b n base index ws vs at w v e pos within fits at_is w_is vs_is writte
     let word : w ≡ slice_index ws (base + index / n) = w_is ∙ ap (slice_index ws) at_is in
     ap (λ x. table b n (drop base x)) (vs_is ∙ ap (λ x. slice_set ws x v) at_is)
     ∙ entry_written b n base index ws v e pos within fits (subst (λ x. IsWritten b x v (index % n) e) word written)
+
+-- the table of the first words is the front of the table
+pub table-take : (b n m : ℕ) (ws : List ℕ) → table b n (take m ws) ≡ take (n * m) (table b n ws)
+unfolding table
+table-take b n m [] = ap (flat_map (entries b n)) (take-nil m) ∙ sym (take-nil (n * m))
+table-take b n zero (w ∷ ws) = let z : n * 0 ≡ 0 = omega arith in ap (λ k. take k (entries b n w ++ flat_map (entries b n) ws)) (sym z)
+table-take b n (suc m) (w ∷ ws) =
+    let len = length-entries b n w in
+    let past : n * suc m ≡ length (entries b n w) + n * m = omega arith in
+    ap (λ x. entries b n w ++ x) (table-take b n m ws) ∙ sym (take-append-add (entries b n w) (flat_map (entries b n) ws) (n * m)) ∙ ap (λ k. take k (entries b n w ++ flat_map (entries b n) ws)) (sym past)
+
+word_below : (b n w k : ℕ) → slice_index (entries b n w) k < 2 ^ b
+unfolding entries
+word_below b zero w k = pow_pos b
+word_below b (suc n) w zero = mod_below w (2 ^ b) (pow_pos b)
+word_below b (suc n) w (suc k) = word_below b n (w / 2 ^ b) k
+
+joined_below : (m : ℕ) (xs ys : List ℕ) → ((i : ℕ) → slice_index xs i < m) → ((i : ℕ) → slice_index ys i < m) → (k : ℕ) → slice_index (xs ++ ys) k < m
+joined_below m [] ys left right k = right k
+joined_below m (x ∷ xs) ys left right zero = left zero
+joined_below m (x ∷ xs) ys left right (suc k) = joined_below m xs ys (λ i. left (suc i)) right k
+
+-- an entry has its bits and no more
+pub entry_below : (b n k : ℕ) (ws : List ℕ) → slice_index (table b n ws) k < 2 ^ b
+unfolding table
+entry_below b n k [] = pow_pos b
+entry_below b n k (w ∷ ws) = joined_below (2 ^ b) (entries b n w) (flat_map (entries b n) ws) (word_below b n w) (λ i. entry_below b n i ws) k

@@ -56,6 +56,13 @@ impl PlainWords {
         let items = vec![in alloc; 0_u64; count]?;
         Ok(PlainWords { items })
     }
+
+    /// All words, to be read.
+    pub fn as_slice(&self) -> &[u64]
+        ensures { result.now ≡ self.now }
+    {
+        self.items.as_slice()
+    }
 }
 
 /// The word so many words behind another, of those that there are.

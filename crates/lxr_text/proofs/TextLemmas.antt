@@ -1,5 +1,5 @@
 -- The texts in the order in which they are pushed: lists of names and of lines, item by item.
-use Rattle.std.proofs.Common.{◌≡◌, ℕ, ◌+◌, ◌<◌, ◌≤◌, refl, sym, ap, ◌∙◌, List, [], ◌∷◌, ◌++◌, length, get_or, take, drop, append_assoc, arith, codes, decimal}
+use Rattle.std.proofs.Common.{◌≡◌, ℕ, ◌+◌, ◌<◌, ◌≤◌, sym, ap, ◌∙◌, List, [], ◌∷◌, ◌++◌, length, get_or, take, drop, append_assoc, arith, codes, decimal}
 use Rattle.std.specs.Prelude.{flat_map, map}
 use Rattle.std.specs.List.{join_with_byte, zip}
 use Rattle.std.proofs.lemmas.Slice.Zip.{get_or-zip, length-zip}

@@ -1,5 +1,5 @@
 -- Lines of text: words with one space between them, and a line feed at the end.
-use Rattle.std.specs.Prelude.{ℕ, List, [], ◌∷◌, ◌++◌, codes, decimal}
+use Rattle.std.specs.Prelude.{ℕ, List, ◌++◌, codes, decimal}
 use Rattle.std.specs.List.{join_with_byte}
 use Rattle.lxr_layout.specs.declared.Name.{Name}
 

@@ -1,5 +1,5 @@
 -- The text of a thread's replies: the line `thread T`, and a line for each operation but the end.
-use Rattle.std.specs.Prelude.{◌≡◌, ◌≢◌, ℕ, ◌≤◌, Bool, true, false, Option, Some, None, List, [], ◌∷◌, ◌++◌, All, length, take, flat_map, codes, decimal}
+use Rattle.std.specs.Prelude.{◌≢◌, ℕ, ◌≤◌, true, false, Some, None, List, [], ◌∷◌, ◌++◌, All, length, take, flat_map, codes, decimal}
 use Rattle.std.specs.List.{zip}
 use Rattle.lxr_graph.specs.declared.Op.{Op}
 use Rattle.lxr_graph.specs.declared.Op.TheVariants as op

@@ -1,5 +1,5 @@
 //! The replies of a thread: the line `thread T`, and then a line for each operation, its word and its reply's.
-ghost use Rattle.std.specs.Prelude.{◌≡◌, ◌≢◌, ◌+◌, ◌≤◌, ◌++◌, OnErr, OnOk, length};
+ghost use Rattle.std.specs.Prelude.{◌≡◌, ◌≢◌, ◌+◌, ◌≤◌, ◌++◌, OnErr, OnOk, codes, length};
 ghost use Rattle.lxr_stream.specs.Streams.{Appends, AppendsFront, Rose};
 ghost use Rattle.lxr_text.specs.Replies.{ArePrintable, answer_of, call_text, heading_text, replies_text, word_of};
 
@@ -49,34 +49,36 @@ fn push_call(page: &mut Page, op: Op, reply: Reply)
     requires no_end { op ≢ Op.End }
     ensures { page.new ≡ page.old ++ call_text op reply }
 {
-    page.push(word(op).as_bytes());
-    page.push(b" ");
+    push_word(page, op);
     push_answer(page, reply);
     page.push(b"\n");
 }
 
-/// The word of an operation.
-fn word(op: Op) -> &'static str
-    requires { op ≢ Op.End }
-    ensures word { result.now ≡ word_of op }
-    ensures short { length result.now ≤ 7 }
+/// Adds the word of an operation and a space.
+#[inline(always)]
+fn push_word(page: &mut Page, op: Op)
+    requires room { length page.old + 8 ≤ PAGE }
+    requires no_end { op ≢ Op.End }
+    ensures text { page.new ≡ page.old ++ (word_of op ++ codes " ") }
+    ensures short { length page.new ≤ length page.old + 8 }
 {
     match op {
-        Op::New { .. } => "new",
-        Op::Load { .. } => "load",
-        Op::Store { .. } => "store",
-        Op::Put { .. } => "put",
-        Op::Get { .. } => "get",
-        Op::Move { .. } => "move",
-        Op::Nil { .. } => "nil",
-        Op::Same { .. } => "same",
-        Op::Pause => "pause",
-        Op::Collect => "collect",
+        Op::New { .. } => page.push(b"new "),
+        Op::Load { .. } => page.push(b"load "),
+        Op::Store { .. } => page.push(b"store "),
+        Op::Put { .. } => page.push(b"put "),
+        Op::Get { .. } => page.push(b"get "),
+        Op::Move { .. } => page.push(b"move "),
+        Op::Nil { .. } => page.push(b"nil "),
+        Op::Same { .. } => page.push(b"same "),
+        Op::Pause => page.push(b"pause "),
+        Op::Collect => page.push(b"collect "),
         Op::End => unreachable!(),
     }
 }
 
 /// Adds the word of a reply.
+#[inline(always)]
 fn push_answer(page: &mut Page, reply: Reply)
     requires { length page.old + 41 ≤ PAGE }
     ensures text { page.new ≡ page.old ++ answer_of reply }

@@ -1,4 +1,4 @@
-use Rattle.std.proofs.Common.{◌≡◌, ◌+◌, ◌≤◌, ◌++◌, take, drop, length, arith, length-drop}
+use Rattle.std.proofs.Common.{take, drop, arith, length-drop}
 use Rattle.lxr_stream.proofs.StreamLemmas.{Appends-append, take_take, slice_tail}
 use Rattle.lxr_stream.proofs.transfer.put_all.Goals as goal
 

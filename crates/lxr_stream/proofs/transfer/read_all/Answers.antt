@@ -1,4 +1,4 @@
-use Rattle.std.proofs.Common.{◌≡◌, ◌+◌, ◌≤◌, ◌++◌, ◌∙◌, ap, take, drop, length, arith, length-drop}
+use Rattle.std.proofs.Common.{◌≡◌, ◌++◌, ◌∙◌, ap, take, drop, length, arith, length-drop}
 use Rattle.std.proofs.lemmas.List.{take_at}
 use Rattle.lxr_stream.proofs.StreamLemmas.{Takes-append, take_take}
 use Rattle.lxr_stream.proofs.transfer.read_all.Goals as goal

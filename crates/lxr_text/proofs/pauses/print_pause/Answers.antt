@@ -1,5 +1,5 @@
 -- Each call moves one piece of the report more; where one stops, the pieces behind it are the rest of the text.
-use Rattle.std.proofs.Common.{◌≡◌, ◌++◌, ◌∙◌, [], ◌∷◌, ap, codes}
+use Rattle.std.proofs.Common.{[], ◌∷◌, codes}
 use Rattle.std.proofs.lemmas.Result.{on_err_weaker, on_ok_weaker}
 use Rattle.lxr_graph.specs.History.{report_of}
 use Rattle.lxr_text.specs.Reports.{counts_text, names_text, pause_text}

@@ -1,8 +1,8 @@
-use Rattle.std.proofs.Common.{◌≡◌, ◌<◌, ◌≤◌, ◌++◌, codes, ap, sym, ◌∙◌, refl, take, drop, length, arith, append_assoc}
+use Rattle.std.proofs.Common.{◌++◌, codes, ap, length, arith, append_assoc}
 use Rattle.std.specs.Prelude.{flat_map}
 use Rattle.lxr_text.specs.Lines.{spaced_name}
 use Rattle.lxr_text.specs.Reports.{names_text}
-use Rattle.lxr_text.proofs.PageLemmas.{AppendsFront-part, AppendsFront-moved, Moves-push, OnErr-always}
+use Rattle.lxr_text.proofs.PageLemmas.{AppendsFront-part, Moves-push, OnErr-always}
 use Rattle.lxr_text.proofs.TextLemmas.{AppendsFront-items, Moves-item, Moves-items, names_front, names_text-is}
 use Rattle.lxr_stream.proofs.StreamLemmas.{AppendsFront-before}
 use Rattle.lxr_text.proofs.pauses.put_names.Goals as goal

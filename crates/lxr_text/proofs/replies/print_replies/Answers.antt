@@ -1,4 +1,4 @@
-use Rattle.std.proofs.Common.{◌≡◌, ◌++◌, ap, length, arith}
+use Rattle.std.proofs.Common.{arith}
 use Rattle.std.specs.List.{zip}
 use Rattle.std.proofs.lemmas.Result.{on_err_weaker, on_ok_weaker}
 use Rattle.std.proofs.lemmas.Slice.Zip.{length-zip}

@@ -1,4 +1,4 @@
-use Rattle.std.proofs.Common.{◌≡◌, ◌+◌, ◌≤◌, ◌++◌, Some, length, take, drop, arith, ap, length-drop, ◌∙◌, sym}
+use Rattle.std.proofs.Common.{◌≡◌, ◌+◌, ◌++◌, Some, drop, arith, ap, length-drop, ◌∙◌, sym}
 use Rattle.lxr_stream.proofs.StreamLemmas.{slice_tail, take_drop}
 use Rattle.lxr_stream.proofs.planned.BytesSource.read.Goals as goal
 

@@ -1,0 +1,6 @@
+pub mod BitLemmas
+pub mod ViewLemmas
+pub mod UnloggedLemmas
+pub mod StorerLemmas
+pub mod ScheduleLemmas
+pub mod OwnLemmas

@@ -1,0 +1,201 @@
+//! The store machine: one store of a reference, one atomic step at a time.
+ghost use Rattle.std.specs.Prelude.{◌≡◌, ◌<◌, ◌≤◌, ◌/◌, ◌+◌, ◌^◌, ◌↔◌, IsSome, IsTrue, Some, if◌then◌else◌, length};
+ghost use Rattle.std.specs.Option.{ForSome};
+ghost use Rattle.lxr_layout.specs.Places.{IsPlace};
+ghost use Rattle.lxr_layout.specs.declared.Place.{Place};
+ghost use Rattle.lxr_actor.specs.declared.Kindred.TheVariants.{And};
+ghost use Rattle.lxr_barrier.specs.declared.machines.Phase.TheVariants.{Begun};
+ghost use Rattle.lxr_barrier.specs.declared.machines.StoreEnd.TheVariants.{LogFull};
+ghost use Rattle.lxr_barrier.specs.Storing.{all_but, begun, bit_number, bit_word, end_of, entry_of, is_set, log_after, next_action, place_in, reference_word, store_after, target};
+ghost use Rattle.lxr_barrier.specs.Storers.{rests_in};
+
+use crate::logs::Log;
+use lxr_actor::{Action, Kindred};
+use lxr_layout::{LogEntry, Place, Regions, word_of};
+use std::marker::Model;
+
+/// How a store ended.
+#[derive(Clone, Copy, Debug, PartialEq, Eq)]
+pub enum StoreEnd {
+    /// The reference is stored.
+    Stored,
+    /// The reference's bit was set and the log had no room: nothing was changed.
+    LogFull,
+}
+
+/// How far a store is, with what it has loaded.
+#[derive(Clone, Copy, Debug, PartialEq, Eq)]
+pub enum Phase {
+    /// It loads the word with the unlogged bit next.
+    Begun,
+    /// The bit was set and there is room in the log: it loads the reference next.
+    Unlogged,
+    /// It clears the bit next, and records the loaded reference if it is the first to do so.
+    Loaded { old: Place },
+    /// The bit is clear: it stores next.
+    Logged,
+    /// It is through.
+    Ended(StoreEnd),
+}
+
+/// One store of a reference. It is driven from outside: `next` says which atomic step is due, and `take` tells what
+/// the step's word was.
+#[derive(Drop)]
+pub struct StoreMachine {
+    unlogged: u32,
+    place: Place,
+    index: u16,
+    value: Place,
+    phase: Phase,
+}
+
+impl Model for StoreMachine {
+    ghost use Rattle.std.specs.Prelude.{◌+◌, ◌/◌, ◌^◌, ◌<◌, ◌≤◌};
+    ghost use Rattle.lxr_layout.specs.Places.{IsPlace};
+    ghost use Rattle.lxr_barrier.specs.Storing.{Storing, reference_word};
+
+    ghost Value = { Storing };
+
+    ghost view = { λ m. record { unlogged = m.unlogged; place = m.place; index = m.index; value = m.value; phase = m.phase } };
+
+    ghost invariant = { λ m. IsPlace m.place × (m.index < 2 ^ 16) × (m.unlogged + reference_word m.place m.index / 64 < 2 ^ 32) };
+}
+
+impl StoreMachine {
+    /// A store of `value` to reference `index` of the object at `place`, in a space of these regions. It has taken no
+    /// step.
+    pub fn new(regions: Regions, place: Place, index: u16, value: Place) -> StoreMachine
+        requires regions { regions.unlogged + regions.counts / 64 < 2 ^ 32 }
+        requires place { IsPlace place }
+        requires reference { reference_word place index < regions.counts }
+        ensures { result ≡ begun regions place index value }
+    {
+        StoreMachine {
+            unlogged: regions.unlogged,
+            place,
+            index,
+            value,
+            phase: Phase::Begun,
+        }
+    }
+
+    /// The atomic step that is due; none where the store is through.
+    #[inline(always)]
+    #[tactic(auto, using(crate::proofs::BitLemmas::mask))]
+    pub fn next(&self) -> Option<Action>
+        ensures { result ≡ next_action self.now }
+    {
+        match self.phase {
+            Phase::Begun => Some(load(self.bit_word())),
+            Phase::Unlogged => Some(load(self.target())),
+            Phase::Loaded { old: _ } => Some(Action {
+                kind: Kindred::And,
+                word: self.bit_word(),
+                operand: !(1_u64 << (self.target() % 64)),
+            }),
+            Phase::Logged => Some(Action {
+                kind: Kindred::Store,
+                word: self.target(),
+                operand: u64::from(self.value.0),
+            }),
+            Phase::Ended(_) => None,
+        }
+    }
+
+    /// Goes on after the due step was done on a word that was `old`. The one who cleared the bit records what it
+    /// loaded, for which the log has room; the one who found it cleared records nothing.
+    #[inline(always)]
+    pub fn take(&mut self, old: u64, log: &mut Log)
+        requires next { IsSome (next_action self.old) }
+        requires room { ForSome (next_action self.old) (λ act. act.kind ≡ And → length log.old.items < log.old.room) }
+        ensures machine { self.new ≡ store_after self.old log.old old }
+        ensures log { log.new ≡ log_after self.old log.old old }
+        // A store ends for want of room exactly where its bit was loaded as set and the log was full.
+        ensures full { (end_of self.new ≡ Some LogFull) ↔ ((self.old.phase ≡ Begun) × IsTrue (is_set old (bit_number self.old)) × (log.old.room ≤ length log.old.items)) }
+    {
+        let was_set = old >> (self.target() % 64) & 1 == 1;
+        self.phase = match self.phase {
+            Phase::Begun => after_look(was_set, log.is_full()),
+            Phase::Unlogged => Phase::Loaded {
+                old: Place((old & 0xffff_ffff) as u32),
+            },
+            Phase::Loaded { old: first } => {
+                if was_set {
+                    log.push(self.entry(first));
+                }
+                Phase::Logged
+            }
+            Phase::Logged => Phase::Ended(StoreEnd::Stored),
+            Phase::Ended(end) => Phase::Ended(end),
+        };
+    }
+
+    /// How the store ended; none until it is through.
+    pub fn end(&self) -> Option<StoreEnd>
+        ensures { result ≡ end_of self.now }
+    {
+        match self.phase {
+            Phase::Ended(end) => Some(end),
+            _ => None,
+        }
+    }
+
+    /// Whether the store has not begun, or is through.
+    #[inline(always)]
+    pub(crate) fn is_resting(&self) -> bool
+        ensures { result ≡ rests_in self.now.phase }
+    {
+        matches!(self.phase, Phase::Begun | Phase::Ended(_))
+    }
+
+    /// The heap word that is stored to.
+    #[inline(always)]
+    fn target(&self) -> u32
+        ensures { result ≡ target self.now }
+    {
+        word_of(self.place) + 1 + u32::from(self.index)
+    }
+
+    /// The word with its unlogged bit.
+    #[inline(always)]
+    fn bit_word(&self) -> u32
+        ensures { result ≡ bit_word self.now }
+    {
+        self.unlogged + self.target() / 64
+    }
+
+    /// The log entry of its reference.
+    fn entry(&self, old: Place) -> LogEntry
+        ensures { result ≡ entry_of self.now old }
+    {
+        LogEntry {
+            place: self.place,
+            index: self.index,
+            old,
+        }
+    }
+}
+
+/// A load of a word.
+#[inline(always)]
+fn load(word: u32) -> Action
+    ensures { result ≡ record { kind = Kindred.Load; word = word; operand = 0 } }
+{
+    Action {
+        kind: Kindred::Load,
+        word,
+        operand: 0,
+    }
+}
+
+/// How far a store is once it has seen its unlogged bit.
+#[inline(always)]
+fn after_look(was_set: bool, is_full: bool) -> Phase
+    ensures { result ≡ (if was_set then (if is_full then Phase.Ended StoreEnd.LogFull else Phase.Unlogged) else Phase.Logged) }
+{
+    match (was_set, is_full) {
+        (false, _) => Phase::Logged,
+        (true, false) => Phase::Unlogged,
+        (true, true) => Phase::Ended(StoreEnd::LogFull),
+    }
+}

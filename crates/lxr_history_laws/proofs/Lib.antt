@@ -1,0 +1,4 @@
+pub mod ReportLemmas
+pub mod TraceLemmas
+pub mod OnceLemmas
+pub mod ClosedLemmas

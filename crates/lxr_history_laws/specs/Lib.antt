@@ -1,0 +1,3 @@
+pub mod OnceLaws
+pub mod ReportLaws
+pub mod UnreclaimedLaws

@@ -1,0 +1,1 @@
+use Rattle.lxr_image.proofs.space.Space.datum.Goals as goal

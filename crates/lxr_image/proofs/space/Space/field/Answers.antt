@@ -1,0 +1,1 @@
+use Rattle.lxr_image.proofs.space.Space.field.Goals as goal

@@ -1,0 +1,27 @@
+use Rattle.std.proofs.Common.{◌*◌, ap, refl, replicate, ◌∙◌}
+use Rattle.lxr_layout.specs.Spaces.{region_begin}
+use Rattle.lxr_image.specs.Tables.{tables_in}
+use Rattle.lxr_image.proofs.OpenLemmas.{tables_cleared}
+use Rattle.lxr_image.proofs.space.Space.with_room.Goals as goal
+
+pub returns : goal.returns
+returns c = record {
+  limits = refl;
+  tables = ap (tables_in c.args.limits) (c.in_ok-new.ensures ∙ ap (λ n. replicate n 0) (ap (λ r. r.total) c.regions.ensures)) ∙ tables_cleared c.args.limits (region_begin c.args.limits 15);
+  registers = c.in_ok-opening_places.ensures.items;
+  deferred = c.in_ok-opening_places-2.ensures.items;
+  logged = c.in_ok-with_room.ensures.empty;
+  work = c.in_ok-with_room-2.ensures.empty;
+  report = c.in_ok-blank_report.ensures.blank;
+  tally = refl;
+  pauses = refl;
+  trace = refl;
+  rest = (refl, refl);
+  room = record {
+    registers = c.in_ok-opening_places.ensures.room;
+    deferred = c.in_ok-opening_places-2.ensures.room;
+    logged = c.in_ok-with_room.ensures.room ∙ ap (λ n. n * c.args.limits.log) c.from.ensures;
+    work = c.in_ok-with_room-2.ensures.room;
+    report = c.in_ok-blank_report.ensures.room;
+  };
+}

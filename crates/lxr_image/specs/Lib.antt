@@ -1,0 +1,6 @@
+pub mod Tables
+pub mod Spaces
+pub mod Opened
+pub mod Reads
+pub mod Image
+pub mod ImageLaws

@@ -1,0 +1,91 @@
+-- What a space is, and how a call on its words changes it.
+use Rattle.std.specs.Prelude.{◌≡◌, ℕ, ◌*◌, ◌^◌, ◌<◌, ◌≤◌, Bool, false}
+use Rattle.lxr_layout.specs.declared.TheConstants.{STUCK}
+use Rattle.lxr_layout.specs.Spaces.{AreLimits, region_begin}
+use Rattle.lxr_image.specs.declared.space.Space.{Space}
+use Rattle.lxr_image.specs.declared.tables.BitTable.{BitTable}
+use Rattle.lxr_image.specs.declared.tables.BitTable.TheVariants as bit
+use Rattle.lxr_image.specs.declared.tables.WordTable.{WordTable}
+use Rattle.lxr_image.specs.declared.tables.WordTable.TheVariants as word
+use Rattle.lxr_image.specs.Tables.{Tables, changed, tables_in}
+
+-- the tables of a space
+abbrev pub tables_of : Space → Tables
+tables_of s = tables_in s.limits s.words
+
+-- an open space: its limits are allowed ones, and it has as many words as they ask for
+pub record IsSpace (s : Space) : Type 0 where
+  pub limits : AreLimits s.limits
+  pub size : (tables_of s).size ≡ region_begin s.limits 15
+
+-- the tables are these now, and nothing but the words has changed
+pub record Turns (before after : Space) (t : Tables) : Type 0 where
+  pub tables : tables_of after ≡ t
+  pub rest : after ≡ record before { words = after.words }
+
+-- no count is above STUCK, and a reuse counter has 32 bits
+pub record AreWithin (t : Tables) : Type 0 where
+  pub counts : (g : ℕ) → t.counts g ≤ STUCK
+  pub reuse : (n : ℕ) → t.reuse n < 2 ^ 32
+
+-- so it is in every space
+abbrev pub EntriesAreWithin : Type 0
+EntriesAreWithin = (s : Space) → AreWithin (tables_of s)
+
+-- past the heap's last granule no object begins
+abbrev pub NoneStartsPast : Type 0
+NoneStartsPast = (s : Space) (g : ℕ) → IsSpace s → 2048 * s.limits.blocks ≤ g → (tables_of s).starts g ≡ false
+
+-- the region of a table of bits, and of a table of words
+abbrev pub bit_region : BitTable → ℕ
+bit_region bit.Starts = 2
+bit_region bit.Marks = 3
+bit_region bit.Grays = 4
+bit_region bit.Dones = 5
+bit_region bit.Unlogged = 6
+bit_region bit.Outs = 8
+
+abbrev pub word_region : WordTable → ℕ
+word_region word.Heap = 0
+word_region word.States = 9
+word_region word.Runs = 10
+word_region word.Frees = 11
+word_region word.Decrements = 12
+word_region word.Remembered = 13
+word_region word.Cursors = 14
+
+-- the table of that name
+abbrev pub bit_table : Tables → BitTable → ℕ → Bool
+bit_table t bit.Starts = t.starts
+bit_table t bit.Marks = t.marks
+bit_table t bit.Grays = t.grays
+bit_table t bit.Dones = t.dones
+bit_table t bit.Unlogged = t.unlogged
+bit_table t bit.Outs = t.outs
+
+abbrev pub word_table : Tables → WordTable → ℕ → ℕ
+word_table t word.Heap = t.heap
+word_table t word.States = t.states
+word_table t word.Runs = t.runs
+word_table t word.Frees = t.frees
+word_table t word.Decrements = t.decs
+word_table t word.Remembered = t.remembered
+word_table t word.Cursors = t.cursors
+
+-- the tables with one entry of that table changed
+abbrev pub with_bit : Tables → BitTable → ℕ → Bool → Tables
+with_bit t bit.Starts k b = record t { starts = changed t.starts k b }
+with_bit t bit.Marks k b = record t { marks = changed t.marks k b }
+with_bit t bit.Grays k b = record t { grays = changed t.grays k b }
+with_bit t bit.Dones k b = record t { dones = changed t.dones k b }
+with_bit t bit.Unlogged k b = record t { unlogged = changed t.unlogged k b }
+with_bit t bit.Outs k b = record t { outs = changed t.outs k b }
+
+abbrev pub with_word : Tables → WordTable → ℕ → ℕ → Tables
+with_word t word.Heap k v = record t { heap = changed t.heap k v }
+with_word t word.States k v = record t { states = changed t.states k v }
+with_word t word.Runs k v = record t { runs = changed t.runs k v }
+with_word t word.Frees k v = record t { frees = changed t.frees k v }
+with_word t word.Decrements k v = record t { decs = changed t.decs k v }
+with_word t word.Remembered k v = record t { remembered = changed t.remembered k v }
+with_word t word.Cursors k v = record t { cursors = changed t.cursors k v }

@@ -1,0 +1,66 @@
+//! Objects as they are read by their places.
+ghost use Rattle.std.specs.Prelude.{◌≡◌, ◌*◌, ◌≤◌, ◌&&◌, IsTrue, nat_le};
+ghost use Rattle.lxr_image.specs.Reads.{StartsStandWhole, datum_at, field_at, granule_of, header_at};
+ghost use Rattle.lxr_image.specs.Spaces.{IsSpace, tables_of};
+
+use crate::Space;
+use lxr_layout::{Header, Place, unpack, word_of};
+
+impl Space {
+    /// Whether an unreclaimed object begins at a place.
+    fn begins(&self, place: Place) -> bool
+        requires { IsSpace self.now }
+        ensures begins { result ≡ (nat_le 1 place.0 && (tables_of self.now).starts (granule_of place.0)) }
+        ensures in_heap { IsTrue result → (1 ≤ place.0) × (place.0 ≤ 2048 * self.now.limits.blocks) }
+    {
+        if place.0 == 0 {
+            return false;
+        }
+        if 2048 * self.limits.blocks < place.0 {
+            return false;
+        }
+        self.has_start(place.0 - 1)
+    }
+
+    /// What the header of the unreclaimed object at a place says. None where no start bit stands at a place of the
+    /// heap.
+    pub fn object(&self, place: Place) -> Option<Header>
+        requires { IsSpace self.now }
+        ensures { result ≡ header_at (tables_of self.now) place.0 }
+    {
+        if !self.begins(place) {
+            return None;
+        }
+        Some(unpack(self.heap_word(word_of(place))))
+    }
+
+    /// The word of a reference of the unreclaimed object at a place: the place that it holds, and 0 for nil. None
+    /// where there is no object, or where it has no such reference.
+    pub fn field(&self, place: Place, index: u16) -> Option<u64>
+        requires space { IsSpace self.now }
+        requires starts { StartsStandWhole (tables_of self.now) self.now.limits.blocks }
+        ensures { result ≡ field_at (tables_of self.now) place.0 index }
+    {
+        match self.object(place)? {
+            Header::Object(_, shape) if index < shape.refs => {
+                Some(self.heap_word(word_of(place) + 1 + u32::from(index)))
+            }
+            _ => None,
+        }
+    }
+
+    /// A data word of the unreclaimed object at a place. None where there is no object, or where it has no such data
+    /// word.
+    pub fn datum(&self, place: Place, index: u16) -> Option<u64>
+        requires space { IsSpace self.now }
+        requires starts { StartsStandWhole (tables_of self.now) self.now.limits.blocks }
+        ensures { result ≡ datum_at (tables_of self.now) place.0 index }
+    {
+        match self.object(place)? {
+            Header::Object(_, shape) if index < shape.values => {
+                Some(self.heap_word(word_of(place) + 1 + u32::from(shape.refs) + u32::from(index)))
+            }
+            _ => None,
+        }
+    }
+}

@@ -1,0 +1,212 @@
+//! Empty spaces, and how a space is opened.
+//!
+//! A space takes all its memory when it is opened: its words, each written once by their allocation, and the room of
+//! its lists. Then the world is placed and the blocks are listed.
+ghost use Rattle.std.specs.Prelude.{◌≡◌, ◌+◌, ◌*◌, ◌^◌, ◌≤◌, ◌++◌, ◌↔◌, [], IfOk, IsTrue, OnErr, OnOk, length, map};
+ghost use Rattle.lxr_graph.specs.State.{opening_registers, opening_row};
+ghost use Rattle.lxr_image.specs.Image.{IsOpeningImage};
+ghost use Rattle.lxr_image.specs.Opened.{HasReportRoom, IsBlank, IsNew, IsOpened, cleared_tables, no_tally, opening_place, with_blocks, with_world};
+ghost use Rattle.lxr_image.specs.Reads.{StartsStandWhole};
+ghost use Rattle.lxr_image.specs.Spaces.{IsSpace, Turns, tables_of};
+ghost use Rattle.lxr_layout.specs.Spaces.{AreLimits, region_begin};
+
+use crate::{Places, Space, Tally};
+use lxr_graph::{Kind, Report};
+use lxr_layout::{Limits, Name, Place, Run, STUCK, Shape, pack, regions, run_word};
+use lxr_lists::Listed;
+use lxr_tables::{PlainWords, Words};
+use std::alloc::{AllocError, Global};
+
+/// The state of the block in which the world lies.
+pub const WORLD_STATE: u64 = 4;
+
+const NIL: Place = Place(0);
+
+/// Where the world stands, in every space and for good.
+const WORLD: Place = Place(1);
+
+const NO_TALLY: Tally = Tally {
+    news: 0,
+    loads: 0,
+    stores: 0,
+    logs: 0,
+    pauses: 0,
+    moved: 0,
+    kept: 0,
+};
+
+/// Adds what the registers of one thread hold at the opening.
+fn push_opening_row(places: &mut Places)
+    requires { length places.old.items + 16 ≤ places.old.room }
+    ensures { places.new ≡ record places.old { items = places.old.items ++ map opening_place opening_row } }
+{
+    let mut row = [NIL; 16];
+    row[0] = WORLD;
+    for place in row {
+        places.push(place);
+    }
+}
+
+/// What the registers of so many threads hold at the opening.
+fn opening_places(alloc: Global, threads: u8) -> Result<Places, AllocError>
+    ensures items { IfOk result (λ places. places.items ≡ map opening_place (opening_registers threads)) }
+    ensures room { IfOk result (λ places. places.room ≡ 16 * threads) }
+{
+    let mut places = Listed::with_room(alloc, 16 * usize::from(threads))?;
+    for _ in 0..threads {
+        push_opening_row(&mut places);
+    }
+    Ok(places)
+}
+
+/// The report of no pause, with room for what a pause of so many granules can report.
+fn blank_report(alloc: Global, granules: usize) -> Result<Report, AllocError>
+    requires { granules ≤ 2 ^ 21 }
+    ensures blank { IfOk result (λ report. IsBlank report) }
+    ensures room { IfOk result (λ report. HasReportRoom report granules) }
+{
+    Ok(Report {
+        number: 0,
+        kind: Kind::Plain,
+        promoted: Listed::with_room(alloc, granules)?,
+        dead: Listed::with_room(alloc, 2 * granules)?,
+        stuck: Listed::with_room(alloc, granules)?,
+        swept: Listed::with_room(alloc, granules)?,
+        counts: Listed::with_room(alloc, granules)?,
+    })
+}
+
+impl Space {
+    /// A space with no words. It takes no memory.
+    pub fn empty(alloc: Global) -> Space
+        ensures words { result.words ≡ [] }
+        ensures registers { (result.registers.items ≡ []) × (result.deferred.items ≡ []) }
+        ensures lists { (result.logged.items ≡ []) × (result.work.items ≡ []) }
+        ensures report { IsBlank result.report }
+        ensures tally { result.tally ≡ no_tally }
+        ensures pauses { (result.pauses ≡ 0) × (result.trace ≡ None) }
+    {
+        Space {
+            words: PlainWords::empty(alloc),
+            limits: Limits {
+                blocks: 0,
+                threads: 0,
+                log: 0,
+                remember: 0,
+            },
+            registers: Listed::new(alloc),
+            deferred: Listed::new(alloc),
+            logged: Listed::new(alloc),
+            work: Listed::new(alloc),
+            report: Report {
+                number: 0,
+                kind: Kind::Plain,
+                promoted: Listed::new(alloc),
+                dead: Listed::new(alloc),
+                stuck: Listed::new(alloc),
+                swept: Listed::new(alloc),
+                counts: Listed::new(alloc),
+            },
+            tally: NO_TALLY,
+            pauses: 0,
+            trace: None,
+            rest_next: 0,
+            rest_end: 0,
+        }
+    }
+
+    /// Whether there are no words.
+    pub fn is_empty(&self) -> bool
+        ensures { IsTrue result ↔ (self.now.words ≡ []) }
+    {
+        self.words.count() == 0
+    }
+
+    /// What was done since the space was opened.
+    pub fn tally(&self) -> Tally
+        ensures { result ≡ self.now.tally }
+    {
+        self.tally
+    }
+
+    /// Takes the memory of a space of these limits: the image of the graph with the world alone, with r0 of each
+    /// thread holding the world. Where there is no memory, the space stays empty.
+    pub fn open(&mut self, alloc: Global, limits: Limits) -> Result<(), AllocError>
+        requires empty { self.old.words ≡ [] }
+        requires limits { AreLimits limits }
+        ensures opened { OnOk result (IsOpened self.new limits) }
+        ensures space { OnOk result (IsSpace self.new) }
+        ensures image { OnOk result (IsOpeningImage self.new) }
+        ensures starts { OnOk result (StartsStandWhole (tables_of self.new) self.new.limits.blocks) }
+        ensures refused { OnErr result (self.new.words ≡ []) }
+    {
+        *self = Space::with_room(alloc, limits)?;
+        self.place_world();
+        self.list_blocks();
+        Ok(())
+    }
+
+    /// A space of these limits in which all words are 0.
+    fn with_room(alloc: Global, limits: Limits) -> Result<Space, AllocError>
+        requires { AreLimits limits }
+        ensures { IfOk result (λ space. IsNew space limits (cleared_tables (region_begin limits 15))) }
+    {
+        let granules = 2048 * limits.blocks as usize;
+        Ok(Space {
+            words: PlainWords::new(alloc, regions(limits).total as usize)?,
+            limits,
+            registers: opening_places(alloc, limits.threads)?,
+            deferred: opening_places(alloc, limits.threads)?,
+            logged: Listed::with_room(alloc, usize::from(limits.threads) * limits.log as usize)?,
+            work: Listed::with_room(alloc, granules)?,
+            report: blank_report(alloc, granules)?,
+            tally: NO_TALLY,
+            pauses: 0,
+            trace: None,
+            rest_next: 0,
+            rest_end: 0,
+        })
+    }
+
+    /// Puts the world on the first three lines of the heap.
+    fn place_world(&mut self)
+        requires { IsSpace self.old }
+        ensures { Turns self.old self.new (with_world (tables_of self.old)) }
+    {
+        let name = Name {
+            thread: 0,
+            serial: 0,
+        };
+        let shape = Shape {
+            refs: 64,
+            values: 0,
+        };
+        self.put_heap(0, pack(name, shape));
+        self.set_start(0);
+        self.set_count(0, STUCK);
+        self.set_count(16, STUCK);
+        self.set_count(32, STUCK);
+        for at in 1..65 {
+            self.set_unlogged(at);
+        }
+    }
+
+    /// Lists what the world's block has free, and the other blocks.
+    fn list_blocks(&mut self)
+        requires { IsSpace self.old }
+        ensures { Turns self.old self.new (with_blocks self.old.limits.blocks (tables_of self.old)) }
+    {
+        let run = Run {
+            block: 0,
+            line: 3,
+            lines: 125,
+        };
+        self.put_state(0, WORLD_STATE);
+        self.put_run(0, run_word(run));
+        for block in 1..self.limits.blocks {
+            self.put_free(block - 1, u64::from(block));
+        }
+        self.put_cursor(2, 1);
+        self.put_cursor(4, u64::from(self.limits.blocks - 1));
+    }
+}

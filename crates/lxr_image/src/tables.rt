@@ -1,0 +1,546 @@
+//! One call for each table and kind of access.
+//!
+//! Each call says which entry of which table it reads or writes, as an equation of the tables; the places of the
+//! regions among the words are known here alone. A granule, line, block or heap word is given by its number in the
+//! heap, from 0.
+ghost use Rattle.std.specs.Prelude.{◌≡◌, ◌≢◌, ◌+◌, ◌*◌, ◌/◌, ◌%◌, ◌^◌, ◌<◌, ◌≤◌, false, slice_index, true};
+ghost use Rattle.lxr_image.specs.Spaces.{IsSpace, Turns, bit_region, bit_table, tables_of, with_bit, with_word, word_region, word_table};
+ghost use Rattle.lxr_image.specs.Tables.{changed};
+ghost use Rattle.lxr_layout.specs.Spaces.{AreLimits, region_begin, region_sizes};
+ghost use Rattle.lxr_tables.specs.Counts.{lowered_count, lowered_of, raised_count};
+
+use crate::Space;
+use lxr_layout::{Limits, STUCK, regions};
+use lxr_tables::{
+    Lowered, Raised, Words, bit, clear_bit, lower_two, raise_two, set_bit, set_two, two,
+};
+
+/// A table of bits.
+#[derive(Clone, Copy)]
+pub(crate) enum BitTable {
+    Starts,
+    Marks,
+    Grays,
+    Dones,
+    Unlogged,
+    Outs,
+}
+
+impl BitTable {
+    /// The first word of the table's region.
+    #[inline(always)]
+    fn begin(self, limits: Limits) -> usize
+        requires { AreLimits limits }
+        ensures { result ≡ region_begin limits (bit_region self) }
+    {
+        let regions = regions(limits);
+        let begin = match self {
+            BitTable::Starts => regions.starts,
+            BitTable::Marks => regions.marks,
+            BitTable::Grays => regions.grays,
+            BitTable::Dones => regions.dones,
+            BitTable::Unlogged => regions.unlogged,
+            BitTable::Outs => regions.outs,
+        };
+        begin as usize
+    }
+}
+
+/// A table of whole words.
+#[derive(Clone, Copy)]
+pub(crate) enum WordTable {
+    Heap,
+    States,
+    Runs,
+    Frees,
+    Decrements,
+    Remembered,
+    Cursors,
+}
+
+impl WordTable {
+    /// The first word of the table's region.
+    #[inline(always)]
+    fn begin(self, limits: Limits) -> usize
+        requires { AreLimits limits }
+        ensures { result ≡ region_begin limits (word_region self) }
+    {
+        let regions = regions(limits);
+        let begin = match self {
+            WordTable::Heap => regions.heap,
+            WordTable::States => regions.states,
+            WordTable::Runs => regions.runs,
+            WordTable::Frees => regions.frees,
+            WordTable::Decrements => regions.decs,
+            WordTable::Remembered => regions.remembered,
+            WordTable::Cursors => regions.cursors,
+        };
+        begin as usize
+    }
+}
+
+impl Space {
+    #[inline(always)]
+    fn bit_in(&self, table: BitTable, index: usize) -> bool
+        requires space { IsSpace self.now }
+        requires index { index < 64 * slice_index (region_sizes self.now.limits) (bit_region table) }
+        ensures { result ≡ bit_table (tables_of self.now) table index }
+    {
+        bit(&self.words, table.begin(self.limits), index)
+    }
+
+    #[inline(always)]
+    fn set_bit_in(&mut self, table: BitTable, index: usize)
+        requires space { IsSpace self.old }
+        requires index { index < 64 * slice_index (region_sizes self.old.limits) (bit_region table) }
+        ensures { Turns self.old self.new (with_bit (tables_of self.old) table index true) }
+    {
+        let base = table.begin(self.limits);
+        set_bit(&mut self.words, base, index);
+    }
+
+    #[inline(always)]
+    fn clear_bit_in(&mut self, table: BitTable, index: usize)
+        requires space { IsSpace self.old }
+        requires index { index < 64 * slice_index (region_sizes self.old.limits) (bit_region table) }
+        ensures { Turns self.old self.new (with_bit (tables_of self.old) table index false) }
+    {
+        let base = table.begin(self.limits);
+        clear_bit(&mut self.words, base, index);
+    }
+
+    #[inline(always)]
+    fn word_in(&self, table: WordTable, index: usize) -> u64
+        requires space { IsSpace self.now }
+        requires index { index < slice_index (region_sizes self.now.limits) (word_region table) }
+        ensures { result ≡ word_table (tables_of self.now) table index }
+    {
+        self.words.get(table.begin(self.limits) + index)
+    }
+
+    #[inline(always)]
+    fn put_word_in(&mut self, table: WordTable, index: usize, value: u64)
+        requires space { IsSpace self.old }
+        requires index { index < slice_index (region_sizes self.old.limits) (word_region table) }
+        ensures { Turns self.old self.new (with_word (tables_of self.old) table index value) }
+    {
+        let base = table.begin(self.limits);
+        self.words.set(base + index, value);
+    }
+
+    /// Whether an object that was promoted and isn't reclaimed begins at the granule.
+    #[inline(always)]
+    pub fn has_start(&self, granule: u32) -> bool
+        requires space { IsSpace self.now }
+        requires granule { granule < 2048 * self.now.limits.blocks }
+        ensures { result ≡ (tables_of self.now).starts granule }
+    {
+        self.bit_in(BitTable::Starts, granule as usize)
+    }
+
+    /// An object begins at the granule from now on.
+    #[inline(always)]
+    pub fn set_start(&mut self, granule: u32)
+        requires space { IsSpace self.old }
+        requires granule { granule < 2048 * self.old.limits.blocks }
+        ensures { Turns self.old self.new (record (tables_of self.old) { starts = changed (tables_of self.old).starts granule true }) }
+    {
+        self.set_bit_in(BitTable::Starts, granule as usize);
+    }
+
+    /// No object begins at the granule from now on.
+    #[inline(always)]
+    pub fn clear_start(&mut self, granule: u32)
+        requires space { IsSpace self.old }
+        requires granule { granule < 2048 * self.old.limits.blocks }
+        ensures { Turns self.old self.new (record (tables_of self.old) { starts = changed (tables_of self.old).starts granule false }) }
+    {
+        self.clear_bit_in(BitTable::Starts, granule as usize);
+    }
+
+    /// Whether the tracer has marked the object at the granule.
+    #[inline(always)]
+    pub fn has_mark(&self, granule: u32) -> bool
+        requires space { IsSpace self.now }
+        requires granule { granule < 2048 * self.now.limits.blocks }
+        ensures { result ≡ (tables_of self.now).marks granule }
+    {
+        self.bit_in(BitTable::Marks, granule as usize)
+    }
+
+    /// Marks the object at the granule.
+    #[inline(always)]
+    pub fn set_mark(&mut self, granule: u32)
+        requires space { IsSpace self.old }
+        requires granule { granule < 2048 * self.old.limits.blocks }
+        ensures { Turns self.old self.new (record (tables_of self.old) { marks = changed (tables_of self.old).marks granule true }) }
+    {
+        self.set_bit_in(BitTable::Marks, granule as usize);
+    }
+
+    /// Takes the mark of the object at the granule away.
+    #[inline(always)]
+    pub fn clear_mark(&mut self, granule: u32)
+        requires space { IsSpace self.old }
+        requires granule { granule < 2048 * self.old.limits.blocks }
+        ensures { Turns self.old self.new (record (tables_of self.old) { marks = changed (tables_of self.old).marks granule false }) }
+    {
+        self.clear_bit_in(BitTable::Marks, granule as usize);
+    }
+
+    /// Whether the tracer has found the object at the granule.
+    #[inline(always)]
+    pub fn has_gray(&self, granule: u32) -> bool
+        requires space { IsSpace self.now }
+        requires granule { granule < 2048 * self.now.limits.blocks }
+        ensures { result ≡ (tables_of self.now).grays granule }
+    {
+        self.bit_in(BitTable::Grays, granule as usize)
+    }
+
+    /// Notes that the tracer has found the object at the granule.
+    #[inline(always)]
+    pub fn set_gray(&mut self, granule: u32)
+        requires space { IsSpace self.old }
+        requires granule { granule < 2048 * self.old.limits.blocks }
+        ensures { Turns self.old self.new (record (tables_of self.old) { grays = changed (tables_of self.old).grays granule true }) }
+    {
+        self.set_bit_in(BitTable::Grays, granule as usize);
+    }
+
+    /// Forgets that the tracer has found the object at the granule.
+    #[inline(always)]
+    pub fn clear_gray(&mut self, granule: u32)
+        requires space { IsSpace self.old }
+        requires granule { granule < 2048 * self.old.limits.blocks }
+        ensures { Turns self.old self.new (record (tables_of self.old) { grays = changed (tables_of self.old).grays granule false }) }
+    {
+        self.clear_bit_in(BitTable::Grays, granule as usize);
+    }
+
+    /// Whether the dead object at the granule is claimed for handling.
+    #[inline(always)]
+    pub fn has_done(&self, granule: u32) -> bool
+        requires space { IsSpace self.now }
+        requires granule { granule < 2048 * self.now.limits.blocks }
+        ensures { result ≡ (tables_of self.now).dones granule }
+    {
+        self.bit_in(BitTable::Dones, granule as usize)
+    }
+
+    /// Claims the dead object at the granule for handling.
+    #[inline(always)]
+    pub fn set_done(&mut self, granule: u32)
+        requires space { IsSpace self.old }
+        requires granule { granule < 2048 * self.old.limits.blocks }
+        ensures { Turns self.old self.new (record (tables_of self.old) { dones = changed (tables_of self.old).dones granule true }) }
+    {
+        self.set_bit_in(BitTable::Dones, granule as usize);
+    }
+
+    /// Gives up the claim on the object at the granule.
+    #[inline(always)]
+    pub fn clear_done(&mut self, granule: u32)
+        requires space { IsSpace self.old }
+        requires granule { granule < 2048 * self.old.limits.blocks }
+        ensures { Turns self.old self.new (record (tables_of self.old) { dones = changed (tables_of self.old).dones granule false }) }
+    {
+        self.clear_bit_in(BitTable::Dones, granule as usize);
+    }
+
+    /// Whether the reference at the heap word hasn't been stored to since the last pause.
+    #[inline(always)]
+    pub fn has_unlogged(&self, at: u32) -> bool
+        requires space { IsSpace self.now }
+        requires at { at < 4096 * self.now.limits.blocks }
+        ensures { result ≡ (tables_of self.now).unlogged at }
+    {
+        self.bit_in(BitTable::Unlogged, at as usize)
+    }
+
+    /// The next store to the heap word is to be logged.
+    #[inline(always)]
+    pub fn set_unlogged(&mut self, at: u32)
+        requires space { IsSpace self.old }
+        requires at { at < 4096 * self.old.limits.blocks }
+        ensures { Turns self.old self.new (record (tables_of self.old) { unlogged = changed (tables_of self.old).unlogged at true }) }
+    {
+        self.set_bit_in(BitTable::Unlogged, at as usize);
+    }
+
+    /// The next store to the heap word isn't logged.
+    #[inline(always)]
+    pub fn clear_unlogged(&mut self, at: u32)
+        requires space { IsSpace self.old }
+        requires at { at < 4096 * self.old.limits.blocks }
+        ensures { Turns self.old self.new (record (tables_of self.old) { unlogged = changed (tables_of self.old).unlogged at false }) }
+    {
+        self.clear_bit_in(BitTable::Unlogged, at as usize);
+    }
+
+    /// Whether the line was handed out since the last promotion.
+    #[inline(always)]
+    pub fn has_out(&self, line: u32) -> bool
+        requires space { IsSpace self.now }
+        requires line { line < 128 * self.now.limits.blocks }
+        ensures { result ≡ (tables_of self.now).outs line }
+    {
+        self.bit_in(BitTable::Outs, line as usize)
+    }
+
+    /// Notes that the line is handed out.
+    #[inline(always)]
+    pub fn set_out(&mut self, line: u32)
+        requires space { IsSpace self.old }
+        requires line { line < 128 * self.old.limits.blocks }
+        ensures { Turns self.old self.new (record (tables_of self.old) { outs = changed (tables_of self.old).outs line true }) }
+    {
+        self.set_bit_in(BitTable::Outs, line as usize);
+    }
+
+    /// Forgets that the line was handed out.
+    #[inline(always)]
+    pub fn clear_out(&mut self, line: u32)
+        requires space { IsSpace self.old }
+        requires line { line < 128 * self.old.limits.blocks }
+        ensures { Turns self.old self.new (record (tables_of self.old) { outs = changed (tables_of self.old).outs line false }) }
+    {
+        self.clear_bit_in(BitTable::Outs, line as usize);
+    }
+
+    /// A word of the heap.
+    #[inline(always)]
+    pub fn heap_word(&self, at: u32) -> u64
+        requires space { IsSpace self.now }
+        requires at { at < 4096 * self.now.limits.blocks }
+        ensures { result ≡ (tables_of self.now).heap at }
+    {
+        self.word_in(WordTable::Heap, at as usize)
+    }
+
+    /// Writes a word of the heap.
+    #[inline(always)]
+    pub fn put_heap(&mut self, at: u32, value: u64)
+        requires space { IsSpace self.old }
+        requires at { at < 4096 * self.old.limits.blocks }
+        ensures { Turns self.old self.new (record (tables_of self.old) { heap = changed (tables_of self.old).heap at value }) }
+    {
+        self.put_word_in(WordTable::Heap, at as usize, value);
+    }
+
+    /// The state of a block, as a number.
+    #[inline(always)]
+    pub fn state_word(&self, block: u32) -> u64
+        requires space { IsSpace self.now }
+        requires block { block < self.now.limits.blocks }
+        ensures { result ≡ (tables_of self.now).states block }
+    {
+        self.word_in(WordTable::States, block as usize)
+    }
+
+    /// Writes the state of a block.
+    #[inline(always)]
+    pub fn put_state(&mut self, block: u32, value: u64)
+        requires space { IsSpace self.old }
+        requires block { block < self.old.limits.blocks }
+        ensures { Turns self.old self.new (record (tables_of self.old) { states = changed (tables_of self.old).states block value }) }
+    {
+        self.put_word_in(WordTable::States, block as usize, value);
+    }
+
+    /// The word of a run of the run table.
+    #[inline(always)]
+    pub fn run_at(&self, at: u32) -> u64
+        requires space { IsSpace self.now }
+        requires at { at < 64 * self.now.limits.blocks }
+        ensures { result ≡ (tables_of self.now).runs at }
+    {
+        self.word_in(WordTable::Runs, at as usize)
+    }
+
+    /// Writes the word of a run to the run table.
+    #[inline(always)]
+    pub fn put_run(&mut self, at: u32, value: u64)
+        requires space { IsSpace self.old }
+        requires at { at < 64 * self.old.limits.blocks }
+        ensures { Turns self.old self.new (record (tables_of self.old) { runs = changed (tables_of self.old).runs at value }) }
+    {
+        self.put_word_in(WordTable::Runs, at as usize, value);
+    }
+
+    /// A block number of the table of free blocks.
+    #[inline(always)]
+    pub fn free_at(&self, at: u32) -> u64
+        requires space { IsSpace self.now }
+        requires at { at < self.now.limits.blocks }
+        ensures { result ≡ (tables_of self.now).frees at }
+    {
+        self.word_in(WordTable::Frees, at as usize)
+    }
+
+    /// Writes a block number to the table of free blocks.
+    #[inline(always)]
+    pub fn put_free(&mut self, at: u32, value: u64)
+        requires space { IsSpace self.old }
+        requires at { at < self.old.limits.blocks }
+        ensures { Turns self.old self.new (record (tables_of self.old) { frees = changed (tables_of self.old).frees at value }) }
+    {
+        self.put_word_in(WordTable::Frees, at as usize, value);
+    }
+
+    /// A place of the table of decrements.
+    #[inline(always)]
+    pub fn decrement_at(&self, at: u32) -> u64
+        requires space { IsSpace self.now }
+        requires at { at < self.now.limits.threads * (self.now.limits.log + 16) }
+        ensures { result ≡ (tables_of self.now).decs at }
+    {
+        self.word_in(WordTable::Decrements, at as usize)
+    }
+
+    /// Writes a place to the table of decrements.
+    #[inline(always)]
+    pub fn put_decrement(&mut self, at: u32, value: u64)
+        requires space { IsSpace self.old }
+        requires at { at < self.old.limits.threads * (self.old.limits.log + 16) }
+        ensures { Turns self.old self.new (record (tables_of self.old) { decs = changed (tables_of self.old).decs at value }) }
+    {
+        self.put_word_in(WordTable::Decrements, at as usize, value);
+    }
+
+    /// The word of a remembered entry.
+    #[inline(always)]
+    pub fn remembered_at(&self, at: u32) -> u64
+        requires space { IsSpace self.now }
+        requires at { at < self.now.limits.remember }
+        ensures { result ≡ (tables_of self.now).remembered at }
+    {
+        self.word_in(WordTable::Remembered, at as usize)
+    }
+
+    /// Writes the word of a remembered entry.
+    #[inline(always)]
+    pub fn put_remembered(&mut self, at: u32, value: u64)
+        requires space { IsSpace self.old }
+        requires at { at < self.old.limits.remember }
+        ensures { Turns self.old self.new (record (tables_of self.old) { remembered = changed (tables_of self.old).remembered at value }) }
+    {
+        self.put_word_in(WordTable::Remembered, at as usize, value);
+    }
+
+    /// A cursor, by its number.
+    #[inline(always)]
+    pub fn cursor(&self, number: u32) -> u64
+        requires space { IsSpace self.now }
+        requires number { number < 16 }
+        ensures { result ≡ (tables_of self.now).cursors number }
+    {
+        self.word_in(WordTable::Cursors, number as usize)
+    }
+
+    /// Writes a cursor.
+    #[inline(always)]
+    pub fn put_cursor(&mut self, number: u32, value: u64)
+        requires space { IsSpace self.old }
+        requires number { number < 16 }
+        ensures { Turns self.old self.new (record (tables_of self.old) { cursors = changed (tables_of self.old).cursors number value }) }
+    {
+        self.put_word_in(WordTable::Cursors, number as usize, value);
+    }
+
+    /// The reference count of the object at the granule, or the line mark there.
+    #[inline(always)]
+    pub fn count(&self, granule: u32) -> u8
+        requires space { IsSpace self.now }
+        requires granule { granule < 2048 * self.now.limits.blocks }
+        ensures value { result ≡ (tables_of self.now).counts granule }
+        ensures within { result ≤ STUCK }
+    {
+        let base = self.counts_begin();
+        two(&self.words, base, granule as usize)
+    }
+
+    /// Writes the reference count at the granule.
+    #[inline(always)]
+    pub fn set_count(&mut self, granule: u32, count: u8)
+        requires space { IsSpace self.old }
+        requires granule { granule < 2048 * self.old.limits.blocks }
+        requires count { count ≤ STUCK }
+        ensures { Turns self.old self.new (record (tables_of self.old) { counts = changed (tables_of self.old).counts granule count }) }
+    {
+        let base = self.counts_begin();
+        set_two(&mut self.words, base, granule as usize, count);
+    }
+
+    /// Raises the reference count at the granule by one, but not beyond `STUCK`.
+    #[inline(always)]
+    pub fn raise_count(&mut self, granule: u32) -> Raised
+        requires space { IsSpace self.old }
+        requires granule { granule < 2048 * self.old.limits.blocks }
+        ensures old { result.old ≡ (tables_of self.old).counts granule }
+        ensures now { result.now ≡ raised_count result.old }
+        ensures tables { Turns self.old self.new (record (tables_of self.old) { counts = changed (tables_of self.old).counts granule result.now }) }
+    {
+        let base = self.counts_begin();
+        raise_two(&mut self.words, base, granule as usize)
+    }
+
+    /// Lowers the reference count at the granule, which isn't 0, by one; a stuck count stays.
+    #[inline(always)]
+    pub fn lower_count(&mut self, granule: u32) -> Lowered
+        requires space { IsSpace self.old }
+        requires granule { granule < 2048 * self.old.limits.blocks }
+        requires counted { (tables_of self.old).counts granule ≢ 0 }
+        ensures answer { result ≡ lowered_of ((tables_of self.old).counts granule) }
+        ensures tables { Turns self.old self.new (record (tables_of self.old) { counts = changed (tables_of self.old).counts granule (lowered_count ((tables_of self.old).counts granule)) }) }
+    {
+        let base = self.counts_begin();
+        lower_two(&mut self.words, base, granule as usize)
+    }
+
+    /// The first word of the reference counts.
+    #[inline(always)]
+    fn counts_begin(&self) -> usize
+        requires { AreLimits self.now.limits }
+        ensures { result ≡ region_begin self.now.limits 1 }
+    {
+        regions(self.limits).counts as usize
+    }
+
+    /// How often the line was handed out, modulo 2^32.
+    #[inline(always)]
+    pub fn reuse(&self, line: u32) -> u32
+        requires space { IsSpace self.now }
+        requires line { line < 128 * self.now.limits.blocks }
+        ensures { result ≡ (tables_of self.now).reuse line }
+    {
+        let word = self.words.get(self.reuse_word(line));
+        (word >> (32 * (line % 2)) & 0xffff_ffff) as u32
+    }
+
+    /// Counts one more time that the line is handed out, modulo 2^32.
+    #[inline(always)]
+    pub fn raise_reuse(&mut self, line: u32)
+        requires space { IsSpace self.old }
+        requires line { line < 128 * self.old.limits.blocks }
+        ensures { Turns self.old self.new (record (tables_of self.old) { reuse = changed (tables_of self.old).reuse line (((tables_of self.old).reuse line + 1) % 2 ^ 32) }) }
+    {
+        let at = self.reuse_word(line);
+        let old = self.reuse(line);
+        let shift = 32 * (line % 2);
+        let word = self.words.get(at);
+        let cleared = word - (u64::from(old) << shift);
+        self.words
+            .set(at, cleared + (u64::from(old.wrapping_add(1)) << shift));
+    }
+
+    /// The word of a line's reuse counter.
+    #[inline(always)]
+    fn reuse_word(&self, line: u32) -> usize
+        requires space { IsSpace self.now }
+        requires line { line < 128 * self.now.limits.blocks }
+        ensures { result ≡ region_begin self.now.limits 7 + line / 2 }
+    {
+        regions(self.limits).reuse as usize + line as usize / 2
+    }
+}

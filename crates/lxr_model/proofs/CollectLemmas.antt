@@ -1,0 +1,50 @@
+-- After a collecting pause what is unreclaimed is reachable: a kept name that isn't would have been swept. The last pause
+-- of a history that belongs to a script collects, since all threads have ended.
+use Rattle.std.proofs.Common.{◌≡◌, refl, subst, inl, inr, List, [], ◌∷◌, IsTrue}
+use Rattle.std.specs.Prelude.{ℕ, ◌≢◌}
+use Rattle.lxr_layout.specs.declared.Name.{Name}
+use Rattle.lxr_graph.specs.declared.report.Kind.{Kind}
+use Rattle.lxr_graph.specs.declared.report.Kind.TheVariants as kind
+use Rattle.lxr_graph.specs.Names.{has, without}
+use Rattle.lxr_graph.specs.History.{PauseReport, Item, Call, Pause}
+use Rattle.lxr_graph.proofs.NameSets.{not_both, without_parts}
+use Rattle.lxr_model.specs.Reachable.{Reachable}
+use Rattle.lxr_model.specs.Terms.{Terms, OnlyPlain}
+use Rattle.lxr_model.specs.Moments.{Moment, moment, unreclaimed_after}
+use Rattle.lxr_model.specs.Reports.{PauseParts, IsReportWith, IsSwept, kept_names}
+use Rattle.lxr_model.specs.Kinds.{MustCollect, MayStand}
+use Rattle.lxr_model.specs.HistoryLaws.{CollectingKeepsTheReachable, LastUnreclaimedAreReachable}
+use Rattle.lxr_model.proofs.HistoryLemmas.{GoodAt, good_history, reachable_kept, reachable_are_kept}
+use Rattle.lxr_model.proofs.DrainLemmas.{left_remain}
+use Rattle.lxr_model.proofs.DecideLemmas.{decide_reachable}
+
+pub collected_reachable : (threads : ℕ) (m : Moment) (report : PauseReport) (parts : PauseParts) → IsReportWith m parts report → GoodAt threads m → report.kind ≡ kind.Collect
+    → (n : Name) → IsTrue (has (unreclaimed_after m report) n) → Reachable m.state n
+collected_reachable threads m report parts is good collects n k =
+    let swept : IsSwept m (without (kept_names m parts report) parts.second_dead) report.swept kind.Collect =
+    subst (IsSwept m (without (kept_names m parts report) parts.second_dead) report.swept) collects is.swept in
+    let a = without_parts (without (kept_names m parts report) parts.second_dead) report.swept n (left_remain threads m report parts is good n k) in
+    elim (decide_reachable m.state (kept_names m parts report) (reachable_kept threads m report parts is good) n) [
+      | inl r ↦ r
+      | inr u ↦ not_both (has report.swept n) ((swept.members n).1 (a.0, u)) a.1
+    ]
+
+pub collecting_keeps : CollectingKeepsTheReachable
+collecting_keeps terms h report legal collects n = (
+  collected_reachable terms.threads (moment terms.threads h) report legal.2.reports.0 legal.2.reports.1 (good_history terms h legal.0) collects n,
+  reachable_are_kept terms h report legal n,
+)
+
+-- where a pause must collect and not all are plain, it does
+must_collect : (terms : Terms) (h : List Item) (m : Moment) (k : ℕ) (kd : Kind) → terms.kinds ≢ OnlyPlain → MustCollect terms h → MayStand terms h m k kd → kd ≡ kind.Collect
+must_collect terms h m k kind.Collect traces must stands = refl
+must_collect terms h m k (kind.End j) traces must stands = absurd (stands.1 must)
+must_collect terms h m k kind.Begin traces must stands = absurd (stands.1 must)
+must_collect terms h m k kind.Plain traces must stands = elim stands [ inl e ↦ absurd (traces e) | inr both ↦ absurd (both.0 must) ]
+
+pub last_reachable : LastUnreclaimedAreReachable
+last_reachable terms script [] traces legal belongs n = absurd belongs.last
+last_reachable terms script (Call t o r ∷ h) traces legal belongs n = absurd belongs.last
+last_reachable terms script (Pause report ∷ h) traces legal belongs n =
+    collecting_keeps terms h report legal.0
+    (must_collect terms h (moment terms.threads h) report.number report.kind traces (inr belongs.last.0) legal.0.2.stands) n

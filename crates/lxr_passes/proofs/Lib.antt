@@ -1,0 +1,4 @@
+pub mod Places
+pub mod Keeps
+pub mod Turns
+pub mod Ends

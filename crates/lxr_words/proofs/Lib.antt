@@ -1,0 +1,9 @@
+pub mod Accepted
+pub mod Alike
+pub mod CommandLines
+pub mod Lists
+pub mod Matches
+pub mod Meaning
+pub mod Rules
+pub mod Spellings
+pub mod Walks

@@ -1,0 +1,128 @@
+-- What the words of a command line say: the command, and its options by the table of options.
+use Rattle.std.specs.Prelude.{◌≡◌, ⊤, List, [], ◌∷◌, ℕ, Bool, true, false, Option, Some, None, filter, map}
+use Rattle.std.specs.Prelude.{Result, Ok, Err, option_map, if◌then◌else◌, codes}
+use Rattle.std.specs.Option.{option_map_or}
+use Rattle.std.specs.Str.{bytes_eq}
+use Rattle.lxr_words.specs.Number.{Text, is_number, value_of}
+use Rattle.lxr_words.specs.Settings.{KnownOption, Settings, Table, is_accepted, is_set, settings_in, text_of}
+use Rattle.lxr_words.specs.declared.Command.{Command}
+use Rattle.lxr_words.specs.declared.Command.TheVariants.{Load, Map, Run}
+use Rattle.lxr_words.specs.declared.Options.{Options}
+use Rattle.lxr_words.specs.declared.WordError.{WordError}
+use Rattle.lxr_words.specs.declared.WordError.TheVariants.{Fault, Memory}
+use Rattle.lxr_words.specs.declared.WordFault.{WordFault}
+use Rattle.lxr_words.specs.declared.WordFault.TheVariants as fault
+
+-- ---- the table of options
+
+-- a row of the table: an option, and whether a command has it
+pub record OptionRow : Type 0 where
+  pub option : KnownOption
+  pub is_of : Command → Bool
+
+-- the commands that have an option: all of them
+abbrev pub all_commands : Command → Bool
+all_commands command = true
+
+-- the commands that take a script
+abbrev pub script_commands : Command → Bool
+script_commands Run = true
+script_commands Map = true
+script_commands (Load seed) = false
+
+-- the command `load` alone
+abbrev pub load_command : Command → Bool
+load_command Run = false
+load_command Map = false
+load_command (Load seed) = true
+
+-- a row of an option with a number
+abbrev pub number_row : Text → ℕ → ℕ → (Command → Bool) → OptionRow
+number_row name least greatest is_of = record {
+  option = record { name = name; range = Some (least, greatest) };
+  is_of = is_of;
+}
+
+-- a row of a flag
+abbrev pub flag_row : Text → (Command → Bool) → OptionRow
+flag_row name is_of = record { option = record { name = name; range = None }; is_of = is_of }
+
+-- the table: name, least and greatest value, commands
+abbrev pub option_rows : List OptionRow
+option_rows = number_row (codes "blocks") 1 1024 all_commands
+    ∷ number_row (codes "workers") 1 8 all_commands
+    ∷ number_row (codes "every") 1 1048576 all_commands
+    ∷ number_row (codes "log") 1 65536 all_commands
+    ∷ number_row (codes "trace") 1 1000000 all_commands
+    ∷ number_row (codes "within") 1 1000000 all_commands
+    ∷ number_row (codes "remember") 1 1048576 all_commands
+    ∷ number_row (codes "replay") 0 18446744073709551615 all_commands
+    ∷ flag_row (codes "counts") script_commands
+    ∷ number_row (codes "threads") 1 16 load_command
+    ∷ number_row (codes "rounds") 1 100000 load_command
+    ∷ []
+
+-- the options that a command has
+abbrev pub table_of : Command → Table
+table_of command = map (λ row. row.option) (filter (λ row. row.is_of command) option_rows)
+
+-- ---- the values of the options
+
+-- the number that the text writes, or the default where there is no text
+abbrev pub number_or : ℕ → Option Text → ℕ
+number_or default text = option_map_or value_of text default
+
+-- the options by the texts that they are set to, each with its default where there is none
+abbrev pub options_by : (Text → Option Text) → Bool → Command → Options
+options_by text counts command = record {
+  command = command;
+  blocks = number_or 64 (text (codes "blocks"));
+  workers = number_or 2 (text (codes "workers"));
+  every = number_or 1024 (text (codes "every"));
+  log = number_or 1024 (text (codes "log"));
+  trace = number_or 8 (text (codes "trace"));
+  within = number_or 4 (text (codes "within"));
+  remember = number_or 4096 (text (codes "remember"));
+  counts = counts;
+  replay = option_map value_of (text (codes "replay"));
+  threads = number_or 4 (text (codes "threads"));
+  rounds = number_or 1000 (text (codes "rounds"));
+}
+
+-- the options of the command by the settings
+abbrev pub options_from : Command → Settings → Options
+options_from command settings =
+    options_by (λ name. text_of name settings) (is_set (codes "counts") settings) command
+
+-- ---- the words
+
+-- the options by the settings, if there are any and they are accepted
+abbrev pub accepted : Command → Option Settings → Result Options WordFault
+accepted command None = Err fault.Options
+accepted command (Some settings) =
+    if is_accepted (table_of command) settings then Ok (options_from command settings)
+    else Err fault.Options
+
+-- the words after the command and its seed
+abbrev pub options_in : Command → List Text → Result Options WordFault
+options_in command words = accepted command (settings_in (table_of command) words None)
+
+-- the words after `load`
+abbrev pub load_in : List Text → Result Options WordFault
+load_in [] = Err fault.Seed
+load_in (seed ∷ words) =
+    if is_number seed then options_in (Load (value_of seed)) words else Err fault.Seed
+
+-- what the words of a command line say, or what is wrong with them
+abbrev pub reading_of : List Text → Result Options WordFault
+reading_of [] = Err fault.Command
+reading_of (word ∷ words) =
+    if bytes_eq word (codes "run") then options_in Run words
+    else (if bytes_eq word (codes "map") then options_in Map words
+    else (if bytes_eq word (codes "load") then load_in words else Err fault.Command))
+
+-- the answer is that reading, unless memory ran out
+abbrev pub Answers : Result Options WordFault → Result Options WordError → Type 0
+Answers reading (Ok options) = reading ≡ Ok options
+Answers reading (Err (Fault wrong)) = reading ≡ Err wrong
+Answers reading (Err Memory) = ⊤
