@@ -7,16 +7,21 @@ use lxr_stream::{Faults, Out, Standard};
 use std::alloc::AllocError;
 use std::env;
 use std::env::Env;
+use std::io::ErrorKind;
 use std::process::ExitCode;
 
 /// The words of the command line behind the program's name. Where they can't be read as texts there are none, which no
 /// command accepts.
 fn words_of<R: Env + AllocGlobal>(rt: &R) -> Result<Vec<String>, AllocError> {
     let mut words = Vec::new(rt.alloc());
-    if let Ok(args) = env::args(rt) {
-        for word in args.skip(1) {
-            words.push(word)?;
+    match env::args(rt) {
+        Ok(args) => {
+            for word in args.skip(1) {
+                words.push(word)?;
+            }
         }
+        Err(error) if error.kind() == ErrorKind::OutOfMemory => return Err(AllocError),
+        Err(_) => {}
     }
     Ok(words)
 }

@@ -1,14 +1,13 @@
 -- Words and a mutator go on standing for a state when a register, a field or the row of objects changes.
-use Rattle.std.proofs.Common.{◌≡◌, ◌≢◌, ℕ, zero, suc, ◌+◌, ◌-◌, ◌*◌, ◌/◌, ◌^◌, ◌<◌, ◌≤◌, refl, sym, ap, subst, ◌∙◌, List, [], ◌∷◌, ◌++◌, length, arith, map, get_or, drop, length-append}
-use Rattle.std.specs.Prelude.{Option, Some, None, slice_get, slice_set, slice_index_or, replicate}
+use Rattle.std.proofs.Common.{◌≡◌, ℕ, zero, suc, ◌+◌, ◌/◌, ◌<◌, ◌≤◌, refl, sym, ap, subst, ◌∙◌, List, [], ◌∷◌, ◌++◌, length, arith, map, get_or}
+use Rattle.std.specs.Prelude.{Option, Some, None, slice_get, replicate}
 use Rattle.std.proofs.Math.ListN.{set}
-use Rattle.std.proofs.lemmas.List.{length-map, length-replicate, length-set, length_push, map-set, get_or-map, drop_all, append-nil}
-use Rattle.std.proofs.lemmas.Option.{slice_get-get_or, slice_get_within, get_or_from_slice_get}
+use Rattle.std.proofs.lemmas.List.{length-replicate, length-set, length_push, map-set}
 use Rattle.lxr_layout.specs.declared.Name.{Name}
 use Rattle.lxr_layout.specs.declared.Place.{Place}
 use Rattle.lxr_layout.specs.declared.Shape.{Shape}
 use Rattle.lxr_layout.specs.Objects.{FitsShape, header_word, word_count}
-use Rattle.lxr_graph.specs.State.{Graph, Object, State, refs_of, shape_of}
+use Rattle.lxr_graph.specs.State.{Object, refs_of, shape_of}
 use Rattle.lxr_graph.specs.Step.{fresh}
 use Rattle.lxr_run.specs.Flat.{name_after, image_of, reference_word, size_of, space_count, words_before, words_made}
 use Rattle.lxr_run.specs.Mutating.{Holds, IsKnown, place_for, reference_of}

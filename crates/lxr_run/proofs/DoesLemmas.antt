@@ -1,20 +1,18 @@
 -- Each operation on the words does a step of the model.
-use Rattle.std.proofs.Common.{◌≡◌, ◌≢◌, ℕ, zero, suc, ◌+◌, ◌-◌, ◌*◌, ◌/◌, ◌^◌, ◌<◌, ◌≤◌, refl, sym, ap, subst, ◌∙◌, List, [], ◌∷◌, ◌++◌, length, arith, map, get_or, drop}
+use Rattle.std.proofs.Common.{◌≡◌, ℕ, ◌+◌, ◌/◌, ◌^◌, ◌<◌, ◌≤◌, refl, sym, ap, subst, ◌∙◌, List, [], ◌∷◌, ◌++◌, length, arith, get_or}
 use Rattle.std.specs.Prelude.{Option, Some, None, slice_get, replicate}
 use Rattle.std.proofs.Math.ListN.{set}
-use Rattle.std.proofs.lemmas.List.{drop_all, append-nil}
+use Rattle.std.proofs.lemmas.List.{drop_all}
 use Rattle.lxr_layout.specs.declared.Name.{Name}
 use Rattle.lxr_layout.specs.declared.Place.{Place}
 use Rattle.lxr_layout.specs.declared.Shape.{Shape}
 use Rattle.lxr_layout.specs.Objects.{FitsShape, header_word, word_count}
-use Rattle.lxr_graph.specs.declared.Op.{Op}
 use Rattle.lxr_graph.specs.declared.Op.TheVariants as op
-use Rattle.lxr_graph.specs.declared.Reply.{Reply}
 use Rattle.lxr_graph.specs.declared.Reply.TheVariants as reply
 use Rattle.lxr_graph.specs.State.{Object, State, object_at, refs_of, register_at, shape_of}
 use Rattle.lxr_graph.specs.Step.{step, cleared, fresh}
-use Rattle.lxr_run.specs.Flat.{name_after, reference_word, size_of, space_count, words_before, words_made}
-use Rattle.lxr_run.specs.Mutating.{Does, MayReply, Finds, Holds, IsKnown, Shows, Stands, one_thread, place_for, reference_of}
+use Rattle.lxr_run.specs.Flat.{name_after, reference_word, space_count, words_before, words_made}
+use Rattle.lxr_run.specs.Mutating.{Does, MayReply, Finds, Holds, IsKnown, Shows, Stands, one_thread, place_for}
 use Rattle.lxr_run.specs.declared.mutator.Mutator.{Mutator}
 use Rattle.lxr_run.proofs.PlaceLemmas.{words_before-most, two_each}
 use Rattle.lxr_run.proofs.RowLemmas.{fields_in, words_before-fit}

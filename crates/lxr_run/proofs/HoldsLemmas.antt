@@ -1,30 +1,26 @@
 -- What the words show where they stand for a state, and that each operation keeps them so.
-use Rattle.std.proofs.Common.{◌≡◌, ◌≢◌, ℕ, zero, suc, ◌+◌, ◌-◌, ◌*◌, ◌/◌, ◌^◌, ◌<◌, ◌≤◌, refl, sym, ap, subst, ◌∙◌, List, [], ◌∷◌, ◌++◌, length, arith, map, get_or, drop, length-append}
-use Rattle.std.specs.Prelude.{Option, Some, None, slice_get, slice_set, slice_index_or, replicate}
-use Rattle.std.proofs.Math.ListN.{set}
-use Rattle.std.proofs.lemmas.List.{length-map, length-replicate, length-set, map-set, get_or-map, drop_all}
-use Rattle.std.proofs.lemmas.Option.{slice_get-get_or, slice_get_within, get_or_from_slice_get}
+use Rattle.std.proofs.Common.{◌≡◌, ℕ, zero, suc, ◌+◌, ◌/◌, ◌^◌, ◌<◌, refl, sym, ap, subst, ◌∙◌, List, [], ◌∷◌, length, arith, get_or}
+use Rattle.std.specs.Prelude.{Option, Some, None, slice_get}
+use Rattle.std.proofs.lemmas.List.{get_or-map}
+use Rattle.std.proofs.lemmas.Option.{slice_get-get_or, slice_get_within}
 use Rattle.lxr_layout.specs.declared.Name.{Name}
 use Rattle.lxr_layout.specs.declared.Place.{Place}
 use Rattle.lxr_layout.specs.declared.Shape.{Shape}
-use Rattle.lxr_layout.specs.declared.Header.{Header}
 use Rattle.lxr_layout.specs.declared.Header.TheVariants as header
-use Rattle.lxr_layout.specs.Objects.{FitsShape, header_of, header_word, word_count}
-use Rattle.lxr_layout.specs.Places.{IsPlace, first_word}
+use Rattle.lxr_layout.specs.Objects.{header_of}
+use Rattle.lxr_layout.specs.Places.{first_word}
 use Rattle.lxr_graph.specs.declared.Op.{Op}
-use Rattle.lxr_graph.specs.declared.Op.TheVariants as op
 use Rattle.lxr_graph.specs.declared.Reply.{Reply}
-use Rattle.lxr_graph.specs.declared.Reply.TheVariants as reply
-use Rattle.lxr_graph.specs.State.{Graph, Object, State, object_at, refs_of, values_of, register_at, with_register, row_of, index_in_row, shape_of, next_name, with_new}
-use Rattle.lxr_graph.specs.Step.{step, fresh, state_after}
-use Rattle.lxr_run.specs.Flat.{found_at, name_after, image_of, objects_of, reference_word, size_of, space_count, words_before, words_made, words_told}
-use Rattle.lxr_run.specs.Mutating.{Does, MayReply, Finds, Holds, IsKnown, Shows, Stands, one_thread, place_for, reference_of}
+use Rattle.lxr_graph.specs.State.{Object, State, shape_of}
+use Rattle.lxr_graph.specs.Step.{step, state_after}
+use Rattle.lxr_run.specs.Flat.{found_at, name_after, size_of, space_count, words_before, words_told}
+use Rattle.lxr_run.specs.Mutating.{Does, MayReply, Finds, Holds, IsKnown, Shows, Stands, one_thread, place_for}
 use Rattle.lxr_run.specs.declared.mutator.Mutator.{Mutator}
 use Rattle.lxr_run.proofs.PackLemmas.{header_of-header_word}
 use Rattle.lxr_run.proofs.RowLemmas.{fields_in, words_before-even, words_before-fit, words_before-more, words_before-zero}
-use Rattle.lxr_run.proofs.PlaceLemmas.{reference_word-set, reference_word-push, words_made-set, words_made-push, words_before-push, two_each}
-use Rattle.lxr_run.proofs.ImageLemmas.{length-image, image-header, image-reference, image-value, image-set-reference, image-set-value, image-push}
-use Rattle.lxr_run.proofs.StateLemmas.{object_at-known, change-known, register_at-one, register_index-one, rows, load-bad, load-range, load-ok, store-bad, store-range, store-ok, put-bad, put-range, put-ok, get-bad, get-range, get-ok}
+use Rattle.lxr_run.proofs.PlaceLemmas.{two_each}
+use Rattle.lxr_run.proofs.ImageLemmas.{length-image, image-header}
+use Rattle.lxr_run.proofs.StateLemmas.{register_at-one}
 
 -- the words show each object that a name is known of, at its place
 
@@ -66,7 +62,7 @@ found_holds words m os regs holds (suc k) h =
     let there : slice_get os k ≡ Some o = slice_get-get_or os k some_object before in
     let at = found_holds words m os regs holds k before in
     let told : header_of (get_or words (found_at words k) 0) ≡ header.Object (name_after k) (shape_of o) =
-        ap (λ z. header_of (get_or words z 0)) at ∙ header_at words m os regs k o holds there in
+    ap (λ z. header_of (get_or words z 0)) at ∙ header_at words m os regs k o holds there in
     let size : words_told (header_of (get_or words (found_at words k) 0)) ≡ size_of o = ap words_told told in
     omega (arith, words_before-more os k o there)
 

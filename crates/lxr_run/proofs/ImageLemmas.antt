@@ -1,12 +1,12 @@
 -- What stands in the image of a graph, and how it changes with the graph.
-use Rattle.std.proofs.Common.{◌≡◌, ℕ, zero, suc, ◌+◌, ◌-◌, ◌*◌, ◌/◌, ◌<◌, ◌≤◌, refl, sym, ap, subst, ◌∙◌, List, [], ◌∷◌, ◌++◌, length, arith, map, get_or, append_assoc, length-append}
+use Rattle.std.proofs.Common.{◌≡◌, ℕ, zero, suc, ◌+◌, ◌-◌, ◌<◌, ◌≤◌, refl, sym, ap, subst, ◌∙◌, List, [], ◌∷◌, ◌++◌, length, arith, map, get_or, append_assoc, length-append}
 use Rattle.std.specs.Prelude.{Option, Some, None, slice_get, replicate}
 use Rattle.std.proofs.Math.ListN.{set}
-use Rattle.std.proofs.lemmas.List.{append-nil, length-replicate, length-set, set-append_right, replicate-append-replicate, length-map}
+use Rattle.std.proofs.lemmas.List.{length-replicate, length-set, set-append_right, replicate-append-replicate}
 use Rattle.lxr_layout.specs.declared.Name.{Name}
 use Rattle.lxr_layout.specs.declared.Shape.{Shape}
 use Rattle.lxr_layout.specs.Objects.{header_word, word_count}
-use Rattle.lxr_graph.specs.State.{Object, refs_of, shape_of}
+use Rattle.lxr_graph.specs.State.{Object, shape_of}
 use Rattle.lxr_graph.specs.Step.{fresh}
 use Rattle.lxr_run.specs.Flat.{name_after, object_words, row_words, size_of, words_before, words_made, reference_word, image_of}
 use Rattle.lxr_run.specs.Mutating.{IsKnown, reference_of}

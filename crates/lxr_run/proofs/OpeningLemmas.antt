@@ -1,14 +1,12 @@
 -- The opened space: the world alone.
-use Rattle.std.proofs.Common.{◌≡◌, ℕ, zero, suc, ◌+◌, ◌-◌, ◌*◌, ◌/◌, ◌^◌, ◌<◌, ◌≤◌, refl, sym, ap, subst, ◌∙◌, List, [], ◌∷◌, ◌++◌, length, arith, map, get_or}
-use Rattle.std.specs.Prelude.{Option, Some, None, slice_get, replicate}
+use Rattle.std.proofs.Common.{◌≡◌, ℕ, zero, suc, ◌-◌, ◌<◌, ◌≤◌, refl, sym, subst, ◌∙◌, List, [], ◌∷◌, arith, get_or}
+use Rattle.std.specs.Prelude.{Some, None, slice_get, replicate}
 use Rattle.std.proofs.Math.ListN.{set}
-use Rattle.lxr_layout.specs.declared.Name.{Name}
-use Rattle.lxr_layout.specs.declared.Shape.{Shape}
 use Rattle.lxr_layout.specs.declared.Place.{Place}
-use Rattle.lxr_layout.specs.Objects.{header_word, word_count, FitsShape}
-use Rattle.lxr_graph.specs.State.{Object, State, opening, shape_of, world, world_name}
+use Rattle.lxr_layout.specs.Objects.{header_word, FitsShape}
+use Rattle.lxr_graph.specs.State.{Object, opening, shape_of, world, world_name}
 use Rattle.lxr_run.specs.Flat.{IsImage, found_at, image_of, space_count, words_before}
-use Rattle.lxr_run.specs.Mutating.{Holds, IsKnown, Stands, one_thread, place_for, reference_of}
+use Rattle.lxr_run.specs.Mutating.{IsKnown, Stands, reference_of}
 use Rattle.lxr_run.specs.declared.mutator.Mutator.{Mutator}
 use Rattle.lxr_run.proofs.ImageLemmas.{header_first, same_row, zeros}
 use Rattle.lxr_run.proofs.ChangeLemmas.{get_or-none}

@@ -1,14 +1,13 @@
 -- What the ways in which a run ends have in common: the part of the input that was judged, and the text of a history.
-use Rattle.std.proofs.Common.{⊎_elim, ◌≡◌, ◌≢◌, ℕ, zero, suc, ◌+◌, ◌<◌, ◌≤◌, ◌↔◌, refl, sym, ap, subst, ◌∙◌, List, [], ◌∷◌, ◌++◌, length, take, arith, map, get_or, Bool, true, false}
+use Rattle.std.proofs.Common.{⊎_elim, ◌≡◌, ◌≢◌, ℕ, ◌+◌, ◌<◌, ◌≤◌, ◌↔◌, refl, sym, ap, subst, ◌∙◌, List, [], ◌∷◌, ◌++◌, length, take, arith, Bool, true, false}
 use Rattle.std.specs.Prelude.{All, Option, Some, None, IfSome, Ok, Err, Result, nat_le, if◌then◌else◌}
-use Rattle.std.proofs.lemmas.List.{append-nil, length_push, map_push, get_or_push, take_at, take_all, length-map}
+use Rattle.std.proofs.lemmas.List.{append-nil, length_push, map_push, get_or_push, take_at, take_all}
 use Rattle.std.proofs.lemmas.List.Elements.{All-get_or}
 use Rattle.std.proofs.lemmas.Bool.{cases_lt, leb-true}
 use Rattle.lxr_graph.specs.declared.Op.{Op}
-use Rattle.lxr_graph.specs.declared.Op.TheVariants as op
 use Rattle.lxr_graph.specs.declared.Reply.{Reply}
 use Rattle.lxr_graph.specs.declared.Reply.TheVariants as reply
-use Rattle.lxr_graph.specs.History.{Item, calls_of, replies_of}
+use Rattle.lxr_graph.specs.History.{Item, replies_of}
 use Rattle.lxr_lists.specs.Roomy.{Roomy, pushed}
 use Rattle.lxr_script.specs.Limits.{IsThread}
 use Rattle.lxr_script.specs.Reading.{lists_in, reading_of}
@@ -16,7 +15,7 @@ use Rattle.lxr_stream.specs.Streams.{Appends, AppendsFront, IsAtEnd, Takes}
 use Rattle.lxr_text.specs.Replies.{replies_text, thread_text}
 use Rattle.lxr_text.proofs.HistoryLemmas.{is_of_its_operations}
 use Rattle.lxr_run.specs.Outcome.{IsCutOff, IsDone, WasJudged, judged_part}
-use Rattle.lxr_run.specs.Run.{IsHistoryOf, IsRun}
+use Rattle.lxr_run.specs.Run.{IsRun}
 use Rattle.lxr_run.specs.Script.{IsNoScript, IsScriptOf}
 use Rattle.lxr_run.specs.declared.Status.{Status}
 use Rattle.lxr_run.specs.declared.Status.TheVariants as status

@@ -1,9 +1,8 @@
 -- A header word says the name and the shape that it was made of.
-use Rattle.std.proofs.Common.{◌≡◌, ℕ, ◌+◌, ◌*◌, ◌/◌, ◌%◌, ◌^◌, ◌<◌, ◌≤◌, refl, sym, ap, ◌∙◌, arith, Bool, true, false, cond, if◌then◌else◌}
+use Rattle.std.proofs.Common.{◌≡◌, ℕ, ◌+◌, ◌*◌, ◌/◌, ◌%◌, ◌^◌, ◌<◌, refl, arith, false}
 use Rattle.std.specs.Prelude.{nat_le}
 use Rattle.lxr_layout.specs.declared.Name.{Name}
 use Rattle.lxr_layout.specs.declared.Shape.{Shape}
-use Rattle.lxr_layout.specs.declared.Header.{Header}
 use Rattle.lxr_layout.specs.declared.Header.TheVariants as header
 use Rattle.lxr_layout.specs.Objects.{FitsShape, header_of, header_word}
 

@@ -1,11 +1,11 @@
 -- Where objects begin when others change or are added, and what that does to the words of references.
-use Rattle.std.proofs.Common.{◌≡◌, ℕ, zero, suc, ◌+◌, ◌-◌, ◌*◌, ◌/◌, ◌<◌, ◌≤◌, refl, sym, ap, subst, ◌∙◌, List, [], ◌∷◌, ◌++◌, length, take, drop, arith, map, get_or, append_assoc, length-append}
+use Rattle.std.proofs.Common.{◌≡◌, ℕ, zero, suc, ◌+◌, ◌-◌, ◌*◌, ◌/◌, ◌≤◌, refl, sym, ap, ◌∙◌, List, [], ◌∷◌, ◌++◌, length, arith, map, get_or, append_assoc}
 use Rattle.std.specs.Prelude.{Option, Some, None, slice_get, replicate}
 use Rattle.std.proofs.Math.ListN.{set}
-use Rattle.std.proofs.lemmas.List.{append-nil, length-map, length-set, map-append}
+use Rattle.std.proofs.lemmas.List.{append-nil, length-set}
 use Rattle.lxr_layout.specs.declared.Name.{Name}
 use Rattle.lxr_layout.specs.Objects.{header_word}
-use Rattle.lxr_graph.specs.State.{Object, refs_of, shape_of}
+use Rattle.lxr_graph.specs.State.{Object, shape_of}
 use Rattle.lxr_run.specs.Flat.{name_after, object_words, row_words, size_of, words_before, words_made, reference_word}
 use Rattle.lxr_run.specs.Mutating.{IsKnown, reference_of}
 

@@ -1,13 +1,12 @@
 -- How a history grows by a call, and what stands for it.
-use Rattle.std.proofs.Common.{rules, ◌≡◌, ◌≢◌, ℕ, zero, suc, ◌+◌, ◌-◌, ◌*◌, ◌/◌, ◌^◌, ◌<◌, ◌≤◌, refl, sym, ap, subst, ◌∙◌, List, [], ◌∷◌, ◌++◌, length, arith, map, get_or, take}
-use Rattle.std.specs.Prelude.{All, Option, Some, None, slice_get, sum_by}
+use Rattle.std.proofs.Common.{rules, ◌≡◌, ◌≢◌, ℕ, zero, suc, ◌+◌, ◌<◌, ◌≤◌, refl, sym, ap, subst, ◌∙◌, List, [], ◌∷◌, ◌++◌, length, arith, get_or, take}
+use Rattle.std.specs.Prelude.{All, Some, slice_get, sum_by}
 use Rattle.std.proofs.lemmas.List.{length_push, take_more}
 use Rattle.std.proofs.lemmas.List.Sums.{sum_by-cons}
 use Rattle.std.proofs.lemmas.List.Elements.{All-push}
 use Rattle.std.specs.Option.{option_map_or}
 use Rattle.std.proofs.lemmas.Option.{slice_get-get_or}
 use Rattle.lxr_layout.specs.declared.Name.{Name}
-use Rattle.lxr_layout.specs.declared.Shape.{Shape}
 use Rattle.lxr_layout.specs.Objects.{word_count}
 use Rattle.lxr_graph.specs.declared.Op.{Op}
 use Rattle.lxr_graph.specs.declared.Op.TheVariants as op
@@ -17,11 +16,11 @@ use Rattle.lxr_graph.specs.History.{Item, Call, Pause, calls_of, replies_of}
 use Rattle.lxr_graph.specs.State.{Object, State, object_at, opening, shape_of, world}
 use Rattle.lxr_graph.specs.Step.{IsWellFormed, state_after}
 use Rattle.lxr_model.specs.Full.{flat_words, names_made, words_at}
-use Rattle.lxr_model.specs.Legal.{IsCall, IsLegalSoFar, KeepsPromise, Replies}
+use Rattle.lxr_model.specs.Legal.{IsLegalSoFar, KeepsPromise, Replies}
 use Rattle.lxr_model.specs.Moments.{moment}
 use Rattle.lxr_run.specs.Flat.{IsImage, name_after, objects_of, size_of, space_count, words_before, words_made}
-use Rattle.lxr_run.specs.Mutating.{Does, Holds, Makes, MayReply, Stands, one_thread}
-use Rattle.lxr_run.specs.Run.{HasNoPause, IsHistoryOf, IsLeftBy, IsRun, flat_terms}
+use Rattle.lxr_run.specs.Mutating.{Does, Makes, MayReply, Stands}
+use Rattle.lxr_run.specs.Run.{HasNoPause, IsRun, flat_terms}
 use Rattle.lxr_run.specs.Script.{IsOnObject}
 use Rattle.lxr_run.specs.Tally.{counted, no_tally, tally_of}
 use Rattle.lxr_run.specs.declared.mutator.Mutator.{Mutator}

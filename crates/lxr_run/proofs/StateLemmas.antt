@@ -1,16 +1,14 @@
 -- One step of the model at a state of one thread, by what its registers and objects are.
-use Rattle.std.proofs.Common.{◌≡◌, ℕ, zero, suc, ◌+◌, ◌-◌, ◌*◌, ◌/◌, ◌<◌, ◌≤◌, refl, sym, ap, subst, ◌∙◌, List, [], ◌∷◌, ◌++◌, length, arith, map, get_or}
-use Rattle.std.specs.Prelude.{Option, Some, None, slice_get, slice_set, slice_index_or, replicate, nat_le, true}
+use Rattle.std.proofs.Common.{◌≡◌, ℕ, zero, suc, ◌-◌, ◌<◌, ◌≤◌, refl, sym, ap, subst, ◌∙◌, List, [], ◌∷◌, length, arith, get_or}
+use Rattle.std.specs.Prelude.{Option, Some, None, slice_get, nat_le, true}
 use Rattle.std.proofs.Math.ListN.{set}
 use Rattle.std.proofs.lemmas.Option.{slice_get-get_or, slice_get_past}
 use Rattle.lxr_layout.specs.declared.Name.{Name}
 use Rattle.lxr_graph.specs.declared.Op.TheVariants as op
-use Rattle.lxr_graph.specs.declared.Reply.{Reply}
 use Rattle.lxr_graph.specs.declared.Reply.TheVariants as reply
 use Rattle.lxr_graph.specs.State.{Graph, Object, State, object_at, refs_of, values_of, register_at, register_index, with_register, with_reference, with_value, row_of, index_in_row}
 use Rattle.lxr_graph.specs.Step.{step, load_from, loaded, store_to, stored, put_to, put_at, get_from, got}
 use Rattle.lxr_run.specs.Flat.{name_after}
-use Rattle.lxr_run.specs.Mutating.{IsKnown, one_thread}
 
 pub register_index-one : (r : ℕ) → register_index 1 r ≡ r
 register_index-one r = omega arith

@@ -34,7 +34,9 @@ reference_of os k i = slice_index_or (refs_of (slice_get os k)) i None
 abbrev pub place_for : List Object → Option Name → Place
 place_for os v = record { 0 = reference_word os v }
 
--- words and a mutator hold these objects and registers of one thread
+-- Words and a mutator hold these objects and registers of one thread: the words are the objects' image, the mutator has
+-- the places of what the sixteen registers hold, and it knows how many words are used and how many objects are made.
+-- The world takes 66 words, each shape fits, and what registers and references hold is nil or one of the objects.
 pub record Holds (words : List ℕ) (m : Mutator) (os : List Object) (regs : List (Option Name)) : Type 0 where
   pub world : words_before os 1 ≡ 66
   pub fits : words_made os ≤ space_count
@@ -56,7 +58,7 @@ abbrev pub Stands : List ℕ → Mutator → State → Type 0
 Stands words m s =
     (world : Object) × (row : List Object) × (regs : List (Option Name)) × (s ≡ one_thread world row regs) × Holds words m (world ∷ row) regs
 
--- What was found of the object that a register holds: nothing where it is nil, and else its first word and its shape.
+-- what was found of the object that a register holds: nothing where it is nil, and else its first word and its shape
 abbrev pub Finds : State → ℕ → Option (ℕ × Shape) → Type 0
 Finds s r None = register_at s 1 r ≡ None
 Finds s r (Some (begin, shape)) =

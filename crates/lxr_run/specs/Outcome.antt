@@ -1,11 +1,11 @@
 -- What a caller is promised of each way in which a run ends.
-use Rattle.std.specs.Prelude.{◌≡◌, ℕ, ◌⊎◌, Option, List, [], ◌∷◌, IfSome, take, codes}
+use Rattle.std.specs.Prelude.{◌≡◌, ℕ, Option, List, [], ◌∷◌, IfSome, take, codes}
 use Rattle.lxr_graph.specs.declared.Op.{Op}
 use Rattle.lxr_graph.specs.History.{Item}
 use Rattle.lxr_stream.specs.Streams.{Appends, AppendsFront, IsAtEnd}
 use Rattle.lxr_text.specs.Replies.{thread_text}
 use Rattle.lxr_run.specs.Run.{IsHistoryOf, IsLeftBy}
-use Rattle.lxr_run.specs.Script.{IsNoScript, IsScriptOf}
+use Rattle.lxr_run.specs.Script.{IsScriptOf}
 use Rattle.lxr_run.specs.declared.Status.{Status}
 use Rattle.lxr_run.specs.declared.Status.TheVariants as status
 use Rattle.lxr_run.specs.declared.space.Space.{Space}

@@ -18,10 +18,10 @@ IsOnObject op.Pause = ⊥
 IsOnObject op.Collect = ⊥
 IsOnObject op.End = ⊥
 
--- what is done on the words directly: operations on objects, and the end
-abbrev pub IsDoneHere : Op → Type 0
-IsDoneHere op.End = Unit {0}
-IsDoneHere o = IsOnObject o
+-- what a mutator does on the words of the flat space: operations on objects, and the end
+abbrev pub IsFlatOperation : Op → Type 0
+IsFlatOperation op.End = Unit {0}
+IsFlatOperation o = IsOnObject o
 
 -- bytes are a script of one thread with these operations, which are all on objects
 pub record IsScriptOf (bytes : List ℕ) (operations : List Op) : Type 0 where

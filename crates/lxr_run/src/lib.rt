@@ -5,7 +5,7 @@
 //! is that of one legal history, and the words are the image of that history's last graph.
 #![tactic(auto)]
 
-ghost use Rattle.std.specs.Prelude.{◌≡◌, ◌≢◌, ℕ, ◌≤◌, ◌⊎◌, ◌↔◌, ◌∷◌, [], IfOk, IfSome, IsTrue, OnErr, OnOk, length, map};
+ghost use Rattle.std.specs.Prelude.{◌≡◌, ◌≤◌, ◌⊎◌, ◌↔◌, ◌∷◌, [], IfOk, IfSome, IsTrue, OnErr, OnOk, length, map};
 ghost use Rattle.lxr_graph.specs.State.{opening};
 ghost use Rattle.lxr_stream.specs.Streams.{Rose, TakesSome};
 ghost use Rattle.lxr_run.specs.Flat.{IsImage};

@@ -48,7 +48,7 @@ impl Mutator {
     ghost use Rattle.lxr_graph.specs.Step.{IsWellFormed};
     ghost use Rattle.lxr_run.specs.Flat.{IsImage};
     ghost use Rattle.lxr_run.specs.Mutating.{Does, Finds, Makes, Stands};
-    ghost use Rattle.lxr_run.specs.Script.{IsDoneHere};
+    ghost use Rattle.lxr_run.specs.Script.{IsFlatOperation};
 
     /// The thread in a space that was just opened.
     pub fn new() -> Mutator
@@ -184,7 +184,7 @@ impl Mutator {
     pub fn apply(&mut self, words: &mut [u64], op: Op) -> Reply
         requires stands { (s : State) × Stands words.old self.old s }
         requires formed { IsWellFormed op }
-        requires done_here { IsDoneHere op }
+        requires flat { IsFlatOperation op }
         ensures does { Does op result words.old self.old words.new self.new }
         ensures made { Makes self.old.made result self.new.made }
         ensures unended { op ≢ Op.End → result ≢ Reply.Ended }

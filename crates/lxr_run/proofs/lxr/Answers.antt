@@ -1,4 +1,4 @@
-use Rattle.std.proofs.Common.{◌≡◌, ap, subst, inl, List, Err}
+use Rattle.std.proofs.Common.{ap, subst, inl, List, Err}
 use Rattle.lxr_graph.specs.History.{Item}
 use Rattle.lxr_run.specs.Run.{IsRun}
 use Rattle.lxr_run.specs.Script.{IsNoScript, IsScriptOf}
