@@ -13,12 +13,13 @@ use Rattle.lxr_graph.specs.declared.Op.TheVariants as op
 use Rattle.lxr_script.specs.declared.Script.{Script}
 use Rattle.lxr_script.specs.declared.fault.ScriptError.{ScriptError}
 use Rattle.lxr_script.specs.declared.fault.ScriptFault.{ScriptFault}
+use Rattle.lxr_script.specs.declared.fault.ScriptFault.TheVariants as fault
 use Rattle.lxr_script.specs.Lines.{Text, Line, end_from, items_from, texts}
 use Rattle.lxr_script.specs.Numbers.{at_most_15, number_of, register_of}
 use Rattle.lxr_script.specs.Operations.{Read, ◌>>=◌, or_fault, number_at, register_at, size_at, index_at, new_of, load_of, store_of, put_of, get_of, move_of, nil_of, same_of, alone, operation_of}
 use Rattle.lxr_script.specs.Reading.{Gives, are, bodies_of, header_of, is_opening, next_operation, nothing_after, number_after, opening_of, operations_of, reading_of, script_of, thread_count, threads_in, threads_of}
 use Rattle.lxr_script.specs.Grammar.{IsNumber, IsRegister, IsSize, SpellsOperation, new, load, store, put, get, move, nil, same, pause, collect, SpellsOperations, ended, operation, SpellsThreads, over, thread, Spells, script}
-use Rattle.lxr_script.specs.Limits.{IsOperation, IsThread, IsScript}
+use Rattle.lxr_script.specs.Limits.{IsOperation, IsThread, IsScript, most_bytes}
 
 -- what holds of each value that a part gives, and from there of what is read after it, holds of the whole
 pub then_fits : {A B : Type 0} (Q : A → Type 0) (P : B → Type 0) (r : Read A) (next : A → Read B) → IfOk r Q → ((x : A) → Q x → IfOk (next x) P) → IfOk (r >>= next) P
@@ -28,11 +29,6 @@ then_fits Q P (Err f) next first more = tt
 any : {A : Type 0} (r : Read A) → IfOk r (λ _. ⊤)
 any (Ok x) = tt
 any (Err f) = tt
-
--- a choice between two readings
-chosen : {A : Type 0} (P : A → Type 0) (b : Bool) (x y : Read A) → IfOk x P → IfOk y P → IfOk (cond b x y) P
-chosen P true x y px py = px
-chosen P false x y px py = py
 
 -- a test of what was read
 tested : {A : Type 0} (P : A → Type 0) (b : Bool) (f : ScriptFault) (x : A) → (b ≡ true → P x) → IfOk (cond b (Ok x) (Err f)) P
@@ -340,14 +336,21 @@ script_read end lines =
       },
     )))))
 
--- what is accepted has a spelling in the grammar, and is within the limits
-pub text_read : (text : Text) → IfOk (reading_of text) (λ threads. Spells (texts (items_from 1 text)) threads × IsScript threads)
+also : (F : Type 0) (words : List (List Text)) (r : Read (List (List Op))) → F → IfOk r (λ threads. Spells words threads × IsScript threads) → IfOk r (λ threads. F × Spells words threads × IsScript threads)
+also F words (Ok threads) f p = (f, p.0, p.1)
+also F words (Err e) f p = tt
+
+-- what is accepted isn't too long, has a spelling in the grammar, and is within the limits
+pub text_read : (text : Text) → IfOk (reading_of text) (λ threads. (length text ≤ most_bytes) × Spells (texts (items_from 1 text)) threads × IsScript threads)
 unfolding reading_of
-text_read text = chosen _ (leb (length text) 67108864) _ _ (script_read (end_from 1 text) (items_from 1 text)) tt
+text_read text = elim (leb (length text) most_bytes) as (λ v. leb (length text) most_bytes ≡ v → IfOk (cond v (script_of (end_from 1 text) (items_from 1 text)) (Err fault.TooLong)) (λ threads. (length text ≤ most_bytes) × Spells (texts (items_from 1 text)) threads × IsScript threads)) [
+  | true ↦ λ e. also _ _ (script_of (end_from 1 text) (items_from 1 text)) (leb-true (length text) most_bytes e) (script_read (end_from 1 text) (items_from 1 text))
+  | false ↦ λ e. tt
+] refl
 
 -- and so is an answer that is what was read
 pub answer_fits : (result : Result Script ScriptError) (text : Text) → Gives threads_in result (reading_of text) → IfOk result (λ script. IsScript (threads_in script))
-answer_fits (Ok whole) text is = let read = rw is at (text_read text) in read.1
+answer_fits (Ok whole) text is = let read = rw is at (text_read text) in read.2
 answer_fits (Err e) text is = tt
 
 pub within : (text : Text) → length text ≤ 67108864 → reading_of text ≡ script_of (end_from 1 text) (items_from 1 text)

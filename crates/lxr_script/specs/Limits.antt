@@ -1,8 +1,16 @@
 -- The limits of a script: what its operations and threads may be.
-use Rattle.std.specs.Prelude.{◌^◌, ◌<◌, ◌≤◌, List, length, All}
+use Rattle.std.specs.Prelude.{ℕ, ◌^◌, ◌<◌, ◌≤◌, List, length, All}
 use Rattle.lxr_graph.specs.declared.Op.{Op}
 use Rattle.lxr_graph.specs.declared.Op.TheVariants as op
 use Rattle.lxr_graph.specs.Step.{IsWellFormed}
+
+-- a script has at most so many bytes
+abbrev pub most_bytes : ℕ
+most_bytes = 67108864
+
+-- a thread has at most so many operations
+abbrev pub most_operations : ℕ
+most_operations = 1048576
 
 -- indices are at most 1,023 and values below 2^64; the end of a thread is no operation of a script
 abbrev pub IsWritten : Op → Type 0
@@ -23,9 +31,9 @@ pub record IsOperation (o : Op) : Type 0 where
   pub well_formed : IsWellFormed o
   pub written : IsWritten o
 
--- a thread has at most 1,048,576 operations
+-- what a thread does
 pub record IsThread (operations : List Op) : Type 0 where
-  pub count : length operations ≤ 1048576
+  pub count : length operations ≤ most_operations
   pub each : All IsOperation operations
 
 -- a script has 1 to 16 threads

@@ -26,44 +26,51 @@ or_fault f (Some x) = Ok x
 
 -- In the following, n is the number of the line.
 
+-- a word in a number's place
 abbrev pub number_at : ℕ → Text → Read ℕ
 number_at n word = or_fault (fault.Number n) (number_of word)
 
+-- a word in a register's place
 abbrev pub register_at : ℕ → Text → Read ℕ
 register_at n word = or_fault (fault.Register n) (register_of word)
 
--- so many references, or so many data words
+-- how many references or data words a new object has: a number of at most 1,023
 unfoldable pub size_at : ℕ → Text → Read ℕ
 size_at n word = do
   size ← number_at n word
   if nat_le size 1023 then Ok size else Err (fault.Shape n)
 
--- the index of a reference or a data word
+-- the index of a reference or a data word: a number of at most 1,023
 unfoldable pub index_at : ℕ → Text → Read ℕ
 index_at n word = do
   index ← number_at n word
   if nat_le index 1023 then Ok index else Err (fault.Field n)
 
--- exactly so many words
+-- The number of words after an operation's word is its own.
 
+-- no word
 abbrev pub no_words : ℕ → List Text → Read (Unit {0})
 no_words n [] = Ok tt
 no_words n words = Err (fault.Operation n)
 
+-- exactly one word
 abbrev pub one_word : ℕ → List Text → Read Text
 one_word n (a ∷ []) = Ok a
 one_word n words = Err (fault.Operation n)
 
+-- exactly two words
 abbrev pub two_words : ℕ → List Text → Read (Text × Text)
 two_words n (a ∷ b ∷ []) = Ok (a, b)
 two_words n words = Err (fault.Operation n)
 
+-- exactly three words
 abbrev pub three_words : ℕ → List Text → Read (Text × Text × Text)
 three_words n (a ∷ b ∷ c ∷ []) = Ok (a, b, c)
 three_words n words = Err (fault.Operation n)
 
--- the operations by the words after their own
+-- The operations, by the words after their own.
 
+-- `new DEST REFS VALUES`
 unfoldable pub new_of : ℕ → List Text → Read Op
 new_of n words = do
   w ← three_words n words
@@ -72,6 +79,7 @@ new_of n words = do
   values ← size_at n w.2
   Ok (op.New dest (record { refs = refs; values = values }))
 
+-- `load DEST BASE INDEX`
 unfoldable pub load_of : ℕ → List Text → Read Op
 load_of n words = do
   w ← three_words n words
@@ -80,6 +88,7 @@ load_of n words = do
   index ← index_at n w.2
   Ok (op.Load dest base index)
 
+-- `store BASE INDEX SOURCE`
 unfoldable pub store_of : ℕ → List Text → Read Op
 store_of n words = do
   w ← three_words n words
@@ -88,6 +97,7 @@ store_of n words = do
   source ← register_at n w.2
   Ok (op.Store base index source)
 
+-- `put BASE INDEX VALUE`
 unfoldable pub put_of : ℕ → List Text → Read Op
 put_of n words = do
   w ← three_words n words
@@ -96,6 +106,7 @@ put_of n words = do
   value ← number_at n w.2
   Ok (op.Put base index value)
 
+-- `get BASE INDEX`
 unfoldable pub get_of : ℕ → List Text → Read Op
 get_of n words = do
   w ← two_words n words
@@ -103,6 +114,7 @@ get_of n words = do
   index ← index_at n w.1
   Ok (op.Get base index)
 
+-- `move DEST SOURCE`
 unfoldable pub move_of : ℕ → List Text → Read Op
 move_of n words = do
   w ← two_words n words
@@ -110,12 +122,14 @@ move_of n words = do
   source ← register_at n w.1
   Ok (op.Move dest source)
 
+-- `nil DEST`
 unfoldable pub nil_of : ℕ → List Text → Read Op
 nil_of n words = do
   w ← one_word n words
   dest ← register_at n w
   Ok (op.Nil dest)
 
+-- `same LEFT RIGHT`
 unfoldable pub same_of : ℕ → List Text → Read Op
 same_of n words = do
   w ← two_words n words
@@ -123,6 +137,7 @@ same_of n words = do
   right ← register_at n w.1
   Ok (op.Same left right)
 
+-- `pause` and `collect`
 unfoldable pub alone : Op → ℕ → List Text → Read Op
 alone o n words = do
   none ← no_words n words

@@ -15,6 +15,7 @@ use Rattle.lxr_script.specs.declared.fault.ScriptError.{ScriptError}
 use Rattle.lxr_script.specs.declared.fault.ScriptError.TheVariants as error
 use Rattle.lxr_script.specs.declared.Script.{Script}
 use Rattle.lxr_script.specs.Lines.{Text, Line, items_from, end_from}
+use Rattle.lxr_script.specs.Limits.{most_bytes, most_operations}
 use Rattle.lxr_script.specs.Numbers.{number_of}
 use Rattle.lxr_script.specs.Operations.{Read, ◌>>=◌, or_fault, operation_of}
 
@@ -58,11 +59,11 @@ opening_of end t [] = Err (fault.NoEnd end)
 opening_of end t (line ∷ others) =
     if is_opening t line.words then Ok others else Err (fault.Threads line.number)
 
--- the operation of a line; a thread has at most 1,048,576 of them, and so many stand before it
+-- the operation of a line, where so many of its thread stand before it
 unfoldable pub next_operation : ℕ → Line → Read Op
 next_operation before line = do
   o ← operation_of line.number line.words
-  if nat_lt before 1048576 then Ok o else Err (fault.TooManyOperations line.number)
+  if nat_lt before most_operations then Ok o else Err (fault.TooManyOperations line.number)
 
 -- the operations of a thread up to its `end`, where so many of its operations stand before them
 unfoldable pub operations_of : ℕ → ℕ → List Line → Read (List Op × List Line)
@@ -97,10 +98,10 @@ script_of end items = do
   none ← nothing_after bodies.1
   Ok bodies.0
 
--- the operations of the threads by the bytes, of which there are at most 67,108,864
+-- the operations of the threads by the bytes, of which there aren't too many
 unfoldable pub reading_of : Text → Read (List (List Op))
 reading_of bytes =
-    if nat_le (length bytes) 67108864 then script_of (end_from 1 bytes) (items_from 1 bytes)
+    if nat_le (length bytes) most_bytes then script_of (end_from 1 bytes) (items_from 1 bytes)
     else Err fault.TooLong
 
 -- the operations in lists of them, whatever their room

@@ -89,6 +89,7 @@ pub fn error_line(alloc: Global, error: &ScriptError) -> Result<String, AllocErr
     }
 }
 
+/// The line of a fault.
 fn fault_line(alloc: Global, fault: ScriptFault) -> Result<String, AllocError>
     ensures { IfOk result (λ line. string_bytes line ≡ fault_text fault) }
 {
@@ -107,6 +108,7 @@ fn fault_line(alloc: Global, fault: ScriptFault) -> Result<String, AllocError>
     }
 }
 
+/// The line of a fault on a line of the script.
 fn of_line(alloc: Global, line: u32, what: &str) -> Result<String, AllocError>
     ensures { IfOk result (λ text. string_bytes text ≡ of_line line what.now) }
 {

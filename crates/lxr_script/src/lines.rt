@@ -22,12 +22,14 @@ pub(crate) struct Scanner<'a> {
     pub rest: &'a [u8],
 }
 
+/// Whether a byte is a space or a tab.
 fn is_blank(byte: u8) -> bool
     ensures { result ≡ text.is_blank byte }
 {
     byte == b' ' || byte == b'\t'
 }
 
+/// A line without the one carriage return at its end, if it has one.
 fn without_carriage_return(line: &[u8]) -> &[u8]
     ensures { result.now ≡ strip_carriage_return line.now }
 {

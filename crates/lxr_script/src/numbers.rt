@@ -28,6 +28,7 @@ pub(crate) fn number_of(word: &[u8]) -> Option<u64>
     Some(value)
 }
 
+/// A number of at most 15.
 fn at_most_15(number: u64) -> Option<u8>
     ensures { result ≡ value.at_most_15 number }
 {

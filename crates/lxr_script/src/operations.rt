@@ -10,18 +10,21 @@ use crate::numbers::{number_of, register_of};
 use lxr_graph::Op;
 use lxr_layout::Shape;
 
+/// A word in a number's place.
 fn number_at(line: u32, word: &[u8]) -> Result<u64, ScriptFault>
     ensures { result ≡ read.number_at line word.now }
 {
     number_of(word).ok_or(ScriptFault::Number { line })
 }
 
+/// A word in a register's place.
 fn register_at(line: u32, word: &[u8]) -> Result<u8, ScriptFault>
     ensures { result ≡ read.register_at line word.now }
 {
     register_of(word).ok_or(ScriptFault::Register { line })
 }
 
+/// How many references or data words a new object has.
 #[tactic(auto, unfolding(crate::specs::Operations::size_at))]
 fn size_at(line: u32, word: &[u8]) -> Result<u16, ScriptFault>
     ensures { result ≡ read.size_at line word.now }
@@ -34,6 +37,7 @@ fn size_at(line: u32, word: &[u8]) -> Result<u16, ScriptFault>
     }
 }
 
+/// The index of a reference or a data word.
 #[tactic(auto, unfolding(crate::specs::Operations::index_at))]
 fn index_at(line: u32, word: &[u8]) -> Result<u16, ScriptFault>
     ensures { result ≡ read.index_at line word.now }
