@@ -37,11 +37,9 @@ zero_ends counts g k (suc n) within here =
     ]
 
 pub free_if : (t : Tables) (n : ℕ) (out zeros : Bool) → out ≡ t.outs n → out ≡ false → zeros ≡ are_zero t.counts (16 * n) 16 → zeros ≡ is_free t n
-unfolding is_free
 free_if t n out zeros is not_out zeros_is = zeros_is ∙ ap (λ b. not b && are_zero t.counts (16 * n) 16) (sym not_out ∙ is)
 
 pub taken_if : (t : Tables) (n : ℕ) (out : Bool) → out ≡ t.outs n → out ≡ true → not out ≡ is_free t n
-unfolding is_free
 taken_if t n out is is_out = ap not is_out ∙ ap (λ b. not b && are_zero t.counts (16 * n) 16) (sym is_out ∙ is)
 
 -- ---- runs

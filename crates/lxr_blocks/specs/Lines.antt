@@ -9,7 +9,7 @@ are_zero counts g zero = true
 are_zero counts g (suc k) = are_zero counts g k && (counts (g + k) == 0)
 
 -- a line, counted over the whole heap, is free where it isn't handed out and the counts of its 16 granules are all 0
-unfoldable pub is_free : Tables → ℕ → Bool
+abbrev pub is_free : Tables → ℕ → Bool
 is_free t n = not (t.outs n) && are_zero t.counts (16 * n) 16
 
 -- whether line i of a block is free; a block has 128 lines

@@ -25,15 +25,30 @@ lists_block Whole = false
 lists_block Chosen = false
 lists_block World = false
 
--- the words of the runs of the first blocks, in order
-unfoldable pub listed_runs : Tables → ℕ → List ℕ
-listed_runs t zero = []
-listed_runs t (suc b) = listed_runs t b ++ (if lists_runs (state_in t b) then (map word_of_run (runs_below (free_in t b) b 128)) else [])
+-- what the blocks before one have, block after block
+unfoldable pub joined : (ℕ → List ℕ) → ℕ → List ℕ
+joined f zero = []
+joined f (suc b) = joined f b ++ f b
 
--- which of the first blocks are Free, in order
-unfoldable pub listed_frees : Tables → ℕ → List ℕ
-listed_frees t zero = []
-listed_frees t (suc b) = listed_frees t b ++ (if lists_block (state_in t b) then (b ∷ []) else [])
+-- the words of a block's runs, in order
+abbrev pub run_words : Tables → ℕ → List ℕ
+run_words t b = map word_of_run (runs_below (free_in t b) b 128)
+
+-- the same, where the block's runs are listed
+abbrev pub block_runs : Tables → ℕ → List ℕ
+block_runs t b = if lists_runs (state_in t b) then (run_words t b) else []
+
+-- the number of a block, where it is listed whole
+abbrev pub block_frees : Tables → ℕ → List ℕ
+block_frees t b = if lists_block (state_in t b) then (b ∷ []) else []
+
+-- the words of all listed runs, in order of blocks and lines
+abbrev pub listed_runs : Tables → ℕ → List ℕ
+listed_runs t blocks = joined (block_runs t) blocks
+
+-- the numbers of all Free blocks, in order
+abbrev pub listed_frees : Tables → ℕ → List ℕ
+listed_frees t blocks = joined (block_frees t) blocks
 
 -- a table with numbers written from an index on
 abbrev pub written : (ℕ → ℕ) → ℕ → List ℕ → ℕ → ℕ
@@ -46,6 +61,13 @@ with_lists t runs frees = record t {
   frees = written t.frees 0 frees;
   cursors = changed (changed (changed (changed t.cursors 1 0) 2 (length runs)) 3 0) 4 (length frees);
 }
+
+-- the tables with words written to the run table from an index on, and with numbers to the table of free blocks
+abbrev pub with_runs : Tables → ℕ → List ℕ → Tables
+with_runs t at words = record t { runs = written t.runs at words }
+
+abbrev pub with_frees : Tables → ℕ → List ℕ → Tables
+with_frees t at numbers = record t { frees = written t.frees at numbers }
 
 -- the tables are these now, the rest is this, and nothing else has changed
 pub record TurnsWithRest (before after : Space) (t : Tables) (next end : ℕ) : Type 0 where

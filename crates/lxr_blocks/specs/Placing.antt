@@ -77,7 +77,7 @@ pub record IsPlacedOn (r : Run) (before after : Space) (n : Name) (s : Shape) (p
 
 -- an object is placed
 abbrev pub IsPlaced : Space → Space → Name → Shape → Place → Type 0
-IsPlaced before after n s p = IsPlacedInRest before after n s p ⊎ (r : Run) × IsPlacedOn r before after n s p
+IsPlaced before after n s p = IsPlacedInRest before after n s p ⊎ ((r : Run) × IsPlacedOn r before after n s p)
 
 -- neither the rest nor free lines outside Chosen blocks fit the shape
 pub record IsFull (space : Space) (s : Shape) : Type 0 where

@@ -8,9 +8,11 @@
 
 mod handing;
 mod lines;
+mod listing;
 mod placing;
 mod states;
 
 pub use handing::hand_out;
+pub use listing::list_runs;
 pub use placing::place_now;
 pub use states::{BlockState, longest, state};
