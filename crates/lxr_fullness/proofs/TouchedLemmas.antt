@@ -12,6 +12,7 @@ use Rattle.lxr_blocks.specs.Lines.{IsFreeRun, are_zero, free_in, is_free}
 use Rattle.lxr_blocks.specs.Handing.{first_line, handed_out, is_between}
 use Rattle.lxr_model.specs.Full.{slots_in, slots_touched}
 use Rattle.lxr_fullness.specs.Touched.{are_free, is_touched, slots_begin, slots_of, touched_in, touched_slots}
+use Rattle.lxr_fullness.specs.TouchedLaws.{HandingOutTouchesFew, NoRunTouchesAll, OpenedTouchesNone, TouchedReadsLines}
 use Rattle.lxr_fullness.proofs.SlotLemmas.{IsInWindow, counts_all, counts_in_window, counts_none, counts_same, row_has_free, row_is_free, same_row, slot_in_window, slot_within}
 
 pub begins_early : (b : ℕ) → slots_begin b ≤ 3
@@ -28,8 +29,7 @@ same_block t u k b same =
     (λ j h. ap not (same_row (free_in t b) (free_in u b) (slots_begin b + j * k) k
     (λ m in_slot. same (slots_begin b + j * k + m) (let within = slot_within (slots_begin b) k j (omega (arith, early)) h in omega (arith, within, in_slot)))))
 
-pub touched_reads_lines : (t u : Tables) (blocks k : ℕ) → ((n : ℕ) → t.outs n ≡ u.outs n) → ((g : ℕ) → t.counts g ≡ u.counts g)
-    → touched_slots t blocks k ≡ touched_slots u blocks k
+pub touched_reads_lines : TouchedReadsLines
 unfolding touched_slots
 touched_reads_lines t u zero k outs counts = refl
 touched_reads_lines t u (suc b) k outs counts =
@@ -72,7 +72,7 @@ unfolding touched_slots
 opened_blocks limits zero k = refl
 opened_blocks limits (suc b) k = let before = opened_blocks limits b k in let here = opened_block limits k b in omega (arith, before, here)
 
-pub opened_touches_none : (limits : Limits) (k : ℕ) → touched_slots (opened_tables limits) limits.blocks k ≡ 0
+pub opened_touches_none : OpenedTouchesNone
 opened_touches_none limits k = opened_blocks limits limits.blocks k
 
 -- ---- a run that is handed out
@@ -145,8 +145,7 @@ blocks_behind t r (suc b) k some within h = elim (eqb_tells b r.block) [
       let here = other_block t r k b within ne in omega (arith, before, here)
 ]
 
-pub handing_out_touches_few : (t : Tables) (blocks k : ℕ) (r : Run) → 1 ≤ k → IsFreeRun t blocks r
-    → touched_slots (handed_out t r) blocks k ≤ touched_slots t blocks k + slots_touched k r.lines
+pub handing_out_touches_few : HandingOutTouchesFew
 handing_out_touches_few t blocks k r some is = blocks_behind t r blocks k some is.within is.block
 
 -- ---- no run is left
@@ -185,7 +184,7 @@ full_blocks t blocks k (suc n) none h =
     let here = full_block t blocks k (suc n) none h in
     omega (arith, before, here)
 
-pub no_run_touches_all : (t : Tables) (blocks k : ℕ) → 1 ≤ blocks → NoRun t blocks k → slots_in k (blocks - 1) ≤ touched_slots t blocks k
+pub no_run_touches_all : NoRunTouchesAll
 no_run_touches_all t zero k some none = absurd (omega arith)
 no_run_touches_all t (suc n) k some none =
     let all = full_blocks t (suc n) k n none (omega arith) in let less : suc n - 1 ≡ n = omega arith in
