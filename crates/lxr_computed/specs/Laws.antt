@@ -1,11 +1,15 @@
 -- What is computed is what the model defines, each the contract of a function with an empty body.
 use Rattle.std.specs.Prelude.{List}
 use Rattle.lxr_layout.specs.declared.Name.{Name}
+use Rattle.lxr_graph.specs.declared.report.Kind.{Kind}
 use Rattle.lxr_graph.specs.Names.{IsSetOf}
 use Rattle.lxr_graph.specs.State.{State}
 use Rattle.lxr_model.specs.Reachable.{Reachable}
 use Rattle.lxr_model.specs.Dead.{Dead, Promoted}
+use Rattle.lxr_model.specs.Moments.{Moment}
+use Rattle.lxr_model.specs.Reports.{IsReport}
 use Rattle.lxr_computed.specs.Sets.{reachable_names, dead_names, promoted_names}
+use Rattle.lxr_computed.specs.Reports.{report_at, CanBe}
 
 -- ---- least sets
 
@@ -17,3 +21,9 @@ DeadNamesAreRight = (s : State) (us stuck : List Name) → IsSetOf (dead_names s
 
 abbrev pub PromotedNamesAreRight : Type 0
 PromotedNamesAreRight = (s : State) (kept made : List Name) → IsSetOf (promoted_names s kept made) (Promoted s kept made)
+
+-- ---- reports
+
+-- what is computed from a moment and a kind is a report of that kind
+abbrev pub ReportsAreRight : Type 0
+ReportsAreRight = (m : Moment) (k : Kind) → CanBe m k → IsReport m (report_at m k)

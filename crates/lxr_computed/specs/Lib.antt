@@ -1,3 +1,4 @@
 pub mod Growing
 pub mod Sets
+pub mod Reports
 pub mod Laws

@@ -1,9 +1,11 @@
-//! The model computed: what is reachable, dead or promoted as lists.
+//! The model computed: what is reachable, dead or promoted as lists, and the report of a pause.
 //!
 //! The functions of this crate do nothing: the contract of each says that what a definition of `specs/` computes is what
 //! the definitions of `lxr_model` mean.
 #![tactic(auto)]
 
+mod reports;
 mod sets;
 
+pub use reports::report_at;
 pub use sets::{dead_names, promoted_names, reachable_names};
