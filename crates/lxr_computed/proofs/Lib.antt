@@ -1,3 +1,4 @@
 mod GrowLemmas
 mod SetLemmas
 mod PartLemmas
+mod LegalityLemmas

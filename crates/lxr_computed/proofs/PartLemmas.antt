@@ -58,7 +58,7 @@ unreachable_set s us = record {
 
 -- ---- the parts
 
-le_from_test : (a b : ℕ) → IsTrue (nat_le a b) → a ≤ b
+pub le_from_test : (a b : ℕ) → IsTrue (nat_le a b) → a ≤ b
 le_from_test a b h = grind arith
 
 test_from_le : (a b : ℕ) → a ≤ b → IsTrue (nat_le a b)

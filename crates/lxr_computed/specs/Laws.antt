@@ -1,15 +1,19 @@
 -- What is computed is what the model defines, each the contract of a function with an empty body.
-use Rattle.std.specs.Prelude.{List}
+use Rattle.std.specs.Prelude.{◌≡◌, List, IsTrue}
 use Rattle.lxr_layout.specs.declared.Name.{Name}
 use Rattle.lxr_graph.specs.declared.report.Kind.{Kind}
 use Rattle.lxr_graph.specs.Names.{IsSetOf}
 use Rattle.lxr_graph.specs.State.{State}
+use Rattle.lxr_graph.specs.History.{Item}
+use Rattle.lxr_model.specs.Terms.{Terms}
 use Rattle.lxr_model.specs.Reachable.{Reachable}
 use Rattle.lxr_model.specs.Dead.{Dead, Promoted}
 use Rattle.lxr_model.specs.Moments.{Moment}
 use Rattle.lxr_model.specs.Reports.{IsReport}
+use Rattle.lxr_model.specs.Legal.{IsLegal}
 use Rattle.lxr_computed.specs.Sets.{reachable_names, dead_names, promoted_names}
 use Rattle.lxr_computed.specs.Reports.{report_at, CanBe}
+use Rattle.lxr_computed.specs.Legality.{all_may_stand, owes_no_call, again}
 
 -- ---- least sets
 
@@ -27,3 +31,11 @@ PromotedNamesAreRight = (s : State) (kept made : List Name) → IsSetOf (promote
 -- what is computed from a moment and a kind is a report of that kind
 abbrev pub ReportsAreRight : Type 0
 ReportsAreRight = (m : Moment) (k : Kind) → CanBe m k → IsReport m (report_at m k)
+
+-- ---- legality
+
+-- a history is legal where its items may stand and its replies and reports are those computed again
+abbrev pub LegalityIsComputed : Type 0
+LegalityIsComputed =
+    (terms : Terms) (h : List Item) → IsTrue (all_may_stand terms h) → IsTrue (owes_no_call terms h) → again terms h ≡ h
+    → IsLegal terms h

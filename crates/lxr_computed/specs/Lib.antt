@@ -1,4 +1,5 @@
 pub mod Growing
 pub mod Sets
 pub mod Reports
+pub mod Legality
 pub mod Laws

@@ -1,4 +1,5 @@
-//! The model computed: what is reachable, dead or promoted as lists, and the report of a pause.
+//! The model computed: what is reachable, dead or promoted as lists, the report of a pause, and
+//! whether a history is legal.
 //!
 //! The functions of this crate do nothing: the contract of each says that what a definition of `specs/` computes is what
 //! the definitions of `lxr_model` mean.
@@ -7,5 +8,5 @@
 mod reports;
 mod sets;
 
-pub use reports::report_at;
+pub use reports::{legality, report_at};
 pub use sets::{dead_names, promoted_names, reachable_names};
