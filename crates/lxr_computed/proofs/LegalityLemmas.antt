@@ -32,16 +32,16 @@ use Rattle.lxr_computed.proofs.PartLemmas.{reports_right, le_from_test}
 
 -- ---- numbers
 
-lt_from_test : (a b : ℕ) → IsTrue (nat_lt a b) → a < b
+pub lt_from_test : (a b : ℕ) → IsTrue (nat_lt a b) → a < b
 lt_from_test a b h = grind arith
 
-eq_from_test : (a b : ℕ) → IsTrue (nat_eq a b) → a ≡ b
+pub eq_from_test : (a b : ℕ) → IsTrue (nat_eq a b) → a ≡ b
 eq_from_test a b h = grind arith
 
 ne_from_test : (a b : ℕ) → IsTrue (not (nat_eq a b)) → a ≢ b
 ne_from_test a b h e = grind arith
 
-test_from_eq : (a b : ℕ) → a ≡ b → IsTrue (nat_eq a b)
+pub test_from_eq : (a b : ℕ) → a ≡ b → IsTrue (nat_eq a b)
 test_from_eq a b h = grind arith
 
 -- ---- where a kind may stand

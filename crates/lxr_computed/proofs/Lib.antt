@@ -1,4 +1,5 @@
-mod GrowLemmas
-mod SetLemmas
-mod PartLemmas
-mod LegalityLemmas
+pub mod GrowLemmas
+pub mod SetLemmas
+pub mod PartLemmas
+pub mod LegalityLemmas
+pub mod BelongingLemmas

@@ -11,9 +11,11 @@ use Rattle.lxr_model.specs.Dead.{Dead, Promoted}
 use Rattle.lxr_model.specs.Moments.{Moment}
 use Rattle.lxr_model.specs.Reports.{IsReport}
 use Rattle.lxr_model.specs.Legal.{IsLegal}
+use Rattle.lxr_model.specs.Belongs.{Script, Belongs}
 use Rattle.lxr_computed.specs.Sets.{reachable_names, dead_names, promoted_names}
 use Rattle.lxr_computed.specs.Reports.{report_at, CanBe}
 use Rattle.lxr_computed.specs.Legality.{all_may_stand, owes_no_call, again}
+use Rattle.lxr_computed.specs.Belonging.{calls_by_thread, operations_by_thread, pauses_belong}
 
 -- ---- least sets
 
@@ -39,3 +41,10 @@ abbrev pub LegalityIsComputed : Type 0
 LegalityIsComputed =
     (terms : Terms) (h : List Item) → IsTrue (all_may_stand terms h) → IsTrue (owes_no_call terms h) → again terms h ≡ h
     → IsLegal terms h
+
+-- a history belongs to a script where its calls are the script's operations thread by thread, and its pauses belong
+abbrev pub BelongingIsComputed : Type 0
+BelongingIsComputed =
+    (terms : Terms) (script : Script) (h : List Item)
+    → calls_by_thread terms.threads h ≡ operations_by_thread terms.threads script → IsTrue (pauses_belong terms script h)
+    → Belongs terms script h

@@ -1,12 +1,7 @@
-//! The report of a pause is computed from the moment before it and its kind, and so is whether a history is legal.
-ghost use Rattle.lxr_computed.specs.Laws.{LegalityIsComputed, ReportsAreRight};
+//! The report of a pause is computed from the moment before it and its kind.
+ghost use Rattle.lxr_computed.specs.Laws.{ReportsAreRight};
 
-/// The computed report of a kind is a report of the moment, wherever a trace runs or none is to be ended.
+/// The computed report of a kind is a report of the moment, but where it would end a trace and none runs.
 pub fn report_at()
     ensures { ReportsAreRight }
-{}
-
-/// A history is legal where each item may stand by its tests, and computing its replies and reports again gives it back.
-pub fn legality()
-    ensures { LegalityIsComputed }
 {}
