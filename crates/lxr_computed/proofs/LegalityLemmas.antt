@@ -243,7 +243,7 @@ follow_right terms h (Pause report) e same =
       reports = subst (IsReport (moment terms.threads h)) (same_report same) (reports_right (moment terms.threads h) report.kind a.1);
     }
 
-legal_so_far : (terms : Terms) (h : List Item) → IsTrue (all_may_stand terms h) → again terms h ≡ h → IsLegalSoFar terms h
+pub legal_so_far : (terms : Terms) (h : List Item) → IsTrue (all_may_stand terms h) → again terms h ≡ h → IsLegalSoFar terms h
 legal_so_far terms [] e same = tt
 legal_so_far terms (x ∷ h) e same =
     let a = and_parts (all_may_stand terms h) (keeps_promise terms h x && may_follow terms h (moment terms.threads h) x) e in
