@@ -1,0 +1,5 @@
+pub mod GrowLemmas
+pub mod SetLemmas
+pub mod PartLemmas
+pub mod LegalityLemmas
+pub mod BelongingLemmas

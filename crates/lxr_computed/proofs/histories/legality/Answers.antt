@@ -1,0 +1,5 @@
+use Rattle.lxr_computed.proofs.LegalityLemmas.{legality_right}
+use Rattle.lxr_computed.proofs.histories.legality.Goals as goal
+
+pub returns : goal.returns
+returns c = legality_right

@@ -1,0 +1,7 @@
+use Rattle.std.proofs.Common.{refl}
+use Rattle.lxr_examples.specs.Histories.{cycle, cycle_run}
+use Rattle.lxr_examples.proofs.RunLemmas.{is_run}
+use Rattle.lxr_examples.proofs.runs.cycle_is_swept.Goals as goal
+
+pub returns : goal.returns
+returns c = is_run cycle cycle_run refl refl refl refl refl

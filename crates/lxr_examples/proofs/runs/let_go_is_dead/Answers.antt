@@ -1,0 +1,7 @@
+use Rattle.std.proofs.Common.{refl}
+use Rattle.lxr_examples.specs.Histories.{letting_go, letting_go_run}
+use Rattle.lxr_examples.proofs.RunLemmas.{is_run}
+use Rattle.lxr_examples.proofs.runs.let_go_is_dead.Goals as goal
+
+pub returns : goal.returns
+returns c = is_run letting_go letting_go_run refl refl refl refl refl

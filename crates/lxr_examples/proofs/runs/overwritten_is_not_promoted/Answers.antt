@@ -1,0 +1,7 @@
+use Rattle.std.proofs.Common.{refl}
+use Rattle.lxr_examples.specs.Histories.{overwriting, overwriting_run}
+use Rattle.lxr_examples.proofs.RunLemmas.{is_run}
+use Rattle.lxr_examples.proofs.runs.overwritten_is_not_promoted.Goals as goal
+
+pub returns : goal.returns
+returns c = is_run overwriting overwriting_run refl refl refl refl refl

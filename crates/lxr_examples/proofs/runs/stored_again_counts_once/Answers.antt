@@ -1,0 +1,7 @@
+use Rattle.std.proofs.Common.{refl}
+use Rattle.lxr_examples.specs.Histories.{storing_again, storing_again_run}
+use Rattle.lxr_examples.proofs.RunLemmas.{is_run}
+use Rattle.lxr_examples.proofs.runs.stored_again_counts_once.Goals as goal
+
+pub returns : goal.returns
+returns c = is_run storing_again storing_again_run refl refl refl refl refl

@@ -1,0 +1,7 @@
+use Rattle.std.proofs.Common.{refl}
+use Rattle.lxr_examples.specs.Histories.{sticking, sticking_run}
+use Rattle.lxr_examples.proofs.RunLemmas.{is_run}
+use Rattle.lxr_examples.proofs.runs.stuck_is_swept.Goals as goal
+
+pub returns : goal.returns
+returns c = is_run sticking sticking_run refl refl refl refl refl

@@ -1,0 +1,3 @@
+pub mod Words
+pub mod Histories
+pub mod NearMisses

@@ -1,0 +1,14 @@
+//! Small histories written out whole, and what the model says of them: five runs that are legal and belong to their
+//! scripts, and three that miss it by one report.
+//!
+//! The functions of this crate do nothing: the contract of each is what is said of one history.
+#![tactic(auto)]
+
+mod near_misses;
+mod runs;
+
+pub use near_misses::{cycle_is_not_dead, reachable_is_not_dead, unasked_collect_is_refused};
+pub use runs::{
+    cycle_is_swept, let_go_is_dead, overwritten_is_not_promoted, stored_again_counts_once,
+    stuck_is_swept,
+};

@@ -1,0 +1,17 @@
+//! Histories that aren't legal, however they go on.
+ghost use Rattle.lxr_examples.specs.NearMisses.{CycleIsNotDead, ReachableIsNotDead, UnaskedCollectIsRefused};
+
+/// No pause reports an object as dead to which the world refers.
+pub fn reachable_is_not_dead()
+    ensures { ReachableIsNotDead }
+{}
+
+/// No plain pause reports a cycle of garbage as dead.
+pub fn cycle_is_not_dead()
+    ensures { CycleIsNotDead }
+{}
+
+/// No pause collects where no thread asked for it, not all have ended, and no `new` waits.
+pub fn unasked_collect_is_refused()
+    ensures { UnaskedCollectIsRefused }
+{}
