@@ -1,0 +1,215 @@
+-- Counts that are 0, and free lines in a row.
+use Rattle.std.proofs.Common.{◌≡◌, ◌≢◌, ℕ, zero, suc, ◌+◌, ◌-◌, ◌*◌, ◌<◌, ◌≤◌, refl, sym, ap, subst, ◌∙◌, inl, inr, ◌⊎◌, arith, add-one, Bool, true, false}
+use Rattle.std.specs.Prelude.{◌==◌, ◌&&◌, IsTrue, max, not, if◌then◌else◌}
+use Rattle.std.proofs.Common.{nat_cmp}
+use Rattle.std.specs.Ordering.{ord_max}
+use Rattle.std.proofs.lemmas.Bool.Decides.{eqb_tells, leb_tells, nat_tests}
+use Rattle.lxr_layout.specs.declared.runs.Run.{Run}
+use Rattle.lxr_image.specs.Tables.{Tables}
+use Rattle.lxr_blocks.specs.declared.states.BlockState.{BlockState}
+use Rattle.lxr_blocks.specs.declared.states.BlockState.TheVariants.{Chosen, Free, Partly, Whole}
+use Rattle.lxr_blocks.specs.Lines.{IsFirstLine, IsFreeRun, IsNextRun, are_zero, free_count, free_in, is_free}
+use Rattle.lxr_blocks.specs.States.{IsOpenRun, state_by_lines, state_in}
+
+-- ---- the test of a line
+
+-- no count is none that isn't 0
+pub zero_none : (counts : ℕ → ℕ) (g : ℕ) → are_zero counts g 0 ≡ true
+unfolding are_zero
+zero_none counts g = refl
+
+-- one count more is 0
+pub zero_more : (counts : ℕ → ℕ) (g k : ℕ) → are_zero counts g k ≡ true → counts (g + k) ≡ 0 → are_zero counts g (k + 1) ≡ true
+unfolding are_zero
+zero_more counts g k before here = rw add-one (ap (λ b. b && (counts (g + k) == 0)) before ∙ ap (λ n. n == 0) here)
+
+-- a count that isn't 0
+pub zero_ends : (counts : ℕ → ℕ) (g k n : ℕ) → k < n → counts (g + k) ≢ 0 → are_zero counts g n ≡ false
+unfolding are_zero
+zero_ends counts g k zero within here = absurd (omega arith)
+zero_ends counts g k (suc n) within here =
+    elim (eqb_tells k n) [
+      | inl same ↦ elim (eqb_tells (counts (g + n)) 0) [
+        | inl z ↦ absurd (here (ap (λ x. counts (g + x)) same.1 ∙ z.1))
+        | inr z ↦ ap (λ x. are_zero counts g n && x) z.0 ∙ elim (are_zero counts g n) as (λ b. (b && false) ≡ false) [ true ↦ refl | false ↦ refl ]
+      ]
+      | inr other ↦ let ne = other.1 in ap (λ b. b && (counts (g + n) == 0)) (zero_ends counts g k n (omega arith) here)
+    ]
+
+pub free_if : (t : Tables) (n : ℕ) (out zeros : Bool) → out ≡ t.outs n → out ≡ false → zeros ≡ are_zero t.counts (16 * n) 16 → zeros ≡ is_free t n
+free_if t n out zeros is not_out zeros_is = zeros_is ∙ ap (λ b. not b && are_zero t.counts (16 * n) 16) (sym not_out ∙ is)
+
+pub taken_if : (t : Tables) (n : ℕ) (out : Bool) → out ≡ t.outs n → out ≡ true → not out ≡ is_free t n
+taken_if t n out is is_out = ap not is_out ∙ ap (λ b. not b && are_zero t.counts (16 * n) 16) (sym is_out ∙ is)
+
+-- ---- runs
+
+-- free lines that stand in a row
+abbrev pub AreFree : (ℕ → Bool) → ℕ → ℕ → Type 0
+AreFree free a n = (i : ℕ) → a ≤ i → i < a + n → IsTrue (free i)
+
+-- the lines of a run, by its block
+pub free_lines : (t : Tables) (blocks b : ℕ) (q : Run) → IsFreeRun t blocks q → q.block ≡ b → AreFree (free_in t b) q.line q.lines
+free_lines t blocks b q is same = subst (λ x. AreFree (free_in t x) q.line q.lines) same is.free
+
+-- free lines behind `from` begin no earlier than the next run
+pub behind_front : (free : ℕ → Bool) (b from : ℕ) (r : Run) (a n : ℕ) → IsNextRun free b from r → from ≤ a → 1 ≤ n → AreFree free a n → r.line ≤ a
+behind_front free b from r a n is after some all = elim (leb_tells r.line a) [
+  | inl k ↦ k.1
+  | inr k ↦ let before = k.1 in let taken = is.passed.passed a after before in let there = all a (omega arith) (omega arith) in cc
+]
+
+-- free lines behind `from` that begin before the next run ends lie within it
+pub within_end : (free : ℕ → Bool) (b from : ℕ) (r : Run) (a n : ℕ) → IsNextRun free b from r → a < r.line + r.lines → a + n ≤ 128 → AreFree free a n → a + n ≤ r.line + r.lines
+within_end free b from r a n is before within all = elim (leb_tells (a + n) (r.line + r.lines)) [
+  | inl k ↦ k.1
+  | inr k ↦ let past = k.1 in let taken = is.ends.there (omega arith) in let there = all (r.line + r.lines) (omega arith) past in cc
+]
+
+-- so they are not more than it has
+pub not_longer : (free : ℕ → Bool) (b from : ℕ) (r : Run) (a n : ℕ) → IsNextRun free b from r → from ≤ a → a < r.line + r.lines → a + n ≤ 128 → AreFree free a n → n ≤ r.lines
+not_longer free b from r a zero is after before within all = omega arith
+not_longer free b from r a (suc n) is after before within all =
+    let front = behind_front free b from r a (suc n) is after (omega arith) all in
+    let end = within_end free b from r a (suc n) is before within all in
+    omega arith
+
+-- no free line stands behind `from`
+pub none_behind : (free : ℕ → Bool) (from a n : ℕ) → IsFirstLine free true from 128 → from ≤ a → a + n ≤ 128 → AreFree free a n → n ≡ 0
+none_behind free from a zero is after within all = refl
+none_behind free from a (suc n) is after within all =
+    let taken = is.passed a after (omega arith) in let there = all a (omega arith) (omega arith) in cc
+
+-- the next run is a run
+pub next_is_run : (t : Tables) (blocks b from : ℕ) (r : Run) → b < blocks → IsNextRun (free_in t b) b from r → IsFreeRun t blocks r
+next_is_run t blocks b from r within is = record {
+  block = subst (λ x. x < blocks) (sym is.block) within;
+  within = is.ends.within;
+  free = subst (λ x. AreFree (free_in t x) r.line r.lines) (sym is.block) is.ends.passed;
+}
+
+-- ---- the longest run of a block
+
+-- no run that begins below a line is longer
+abbrev pub NoneLonger : Tables → ℕ → ℕ → ℕ → ℕ → Type 0
+NoneLonger t blocks b line best = (q : Run) → IsFreeRun t blocks q → q.block ≡ b → q.line < line → q.lines ≤ best
+
+pub longer_none : (t : Tables) (blocks b best : ℕ) → NoneLonger t blocks b 0 best
+longer_none t blocks b best q is same before = absurd (omega arith)
+
+pub longer_more : (t : Tables) (blocks b from best : ℕ) (r : Run) → IsNextRun (free_in t b) b from r → NoneLonger t blocks b from best → NoneLonger t blocks b (r.line + r.lines) (max best r.lines)
+longer_more t blocks b from best r next before q is same here = elim (leb_tells from q.line) [
+  | inl k ↦ let within = is.within in let short = not_longer (free_in t b) b from r q.line q.lines next k.1 here within (free_lines t blocks b q is same) in omega arith
+  | inr k ↦ let short = before q is same k.1 in omega arith
+]
+
+pub longer_end : (t : Tables) (blocks b from best : ℕ) → IsFirstLine (free_in t b) true from 128 → NoneLonger t blocks b from best → (q : Run) → IsFreeRun t blocks q → q.block ≡ b → q.lines ≤ best
+longer_end t blocks b from best none before q is same = elim (leb_tells from q.line) [
+  | inl k ↦ let no_lines = none_behind (free_in t b) from q.line q.lines none k.1 is.within (free_lines t blocks b q is same) in omega arith
+  | inr k ↦ before q is same k.1
+]
+
+-- a run of so many lines in a block
+abbrev pub HasRunOf : Tables → ℕ → ℕ → ℕ → Type 0
+HasRunOf t blocks b n = (q : Run) × IsFreeRun t blocks q × (q.block ≡ b) × (q.lines ≡ n)
+
+pub has_none : (t : Tables) (blocks b : ℕ) → b < blocks → HasRunOf t blocks b 0
+has_none t blocks b within = (record { block = b; line = 0; lines = 0 }, record { block = within; within = omega arith; free = λ i _ no. absurd (omega (arith, no)) }, refl, refl)
+
+pub has_longer : (t : Tables) (blocks b from best : ℕ) (r : Run) → b < blocks → IsNextRun (free_in t b) b from r → HasRunOf t blocks b best → HasRunOf t blocks b (max best r.lines)
+has_longer t blocks b from best r within next has = elim (leb_tells best r.lines) [
+  | inl k ↦ let above = k.1 in (r, next_is_run t blocks b from r within next, next.block, omega arith)
+  | inr k ↦ let below = k.1 in let is = has.3 in (has.0, has.1, has.2, omega arith)
+]
+
+-- ---- the first lines of a block that fit
+
+-- all runs that begin below a line are too short
+abbrev pub AreShort : Tables → ℕ → ℕ → ℕ → ℕ → Type 0
+AreShort t blocks b line n = (q : Run) → IsFreeRun t blocks q → q.block ≡ b → q.line < line → q.lines < n
+
+pub short_more : (t : Tables) (blocks b from n : ℕ) (r : Run) → IsNextRun (free_in t b) b from r → r.lines < n → AreShort t blocks b from n → AreShort t blocks b (r.line + r.lines) n
+short_more t blocks b from n r next less before q is same here = elim (leb_tells from q.line) [
+  | inl k ↦ let within = is.within in let short = not_longer (free_in t b) b from r q.line q.lines next k.1 here within (free_lines t blocks b q is same) in omega arith
+  | inr k ↦ before q is same k.1
+]
+
+pub first_that_fits : (t : Tables) (blocks b from n : ℕ) (r : Run) → IsNextRun (free_in t b) b from r → 1 ≤ n → AreShort t blocks b from n
+    → (q : Run) → IsFreeRun t blocks q → q.block ≡ b → q.lines ≡ n → r.line ≤ q.line
+first_that_fits t blocks b from n r next some before q is same long = elim (leb_tells from q.line) [
+  | inl k ↦ behind_front (free_in t b) b from r q.line q.lines next k.1 (omega arith) (free_lines t blocks b q is same)
+  | inr k ↦ let short = before q is same k.1 in absurd (omega arith)
+]
+
+pub greater_is : (a b : ℕ) → ord_max nat_cmp a b ≡ max a b
+greater_is a b = grind (arith, nat_tests)
+
+-- a run of a block that isn't Chosen
+pub open_of : (t : Tables) (blocks b : ℕ) (q : Run) → state_in t b ≢ Chosen → IsFreeRun t blocks q → q.block ≡ b → IsOpenRun t blocks q
+open_of t blocks b q outside is same = record { run = is; outside = subst (λ x. state_in t x ≢ Chosen) (sym same) outside }
+
+-- ---- the state by lines
+
+count_all : (free : ℕ → Bool) (n : ℕ) → ((i : ℕ) → i < n → free i ≡ true) → free_count free n ≡ n
+unfolding free_count
+count_all free zero all = refl
+count_all free (suc n) all =
+    let before = count_all free n (λ i h. all i (omega (arith, h))) in
+    let here = ap (λ b. free_count free n + (if b then 1 else 0)) (all n (omega arith)) in omega arith
+
+count_none : (free : ℕ → Bool) (n : ℕ) → ((i : ℕ) → i < n → free i ≡ false) → free_count free n ≡ 0
+unfolding free_count
+count_none free zero all = refl
+count_none free (suc n) all =
+    let before = count_none free n (λ i h. all i (omega (arith, h))) in
+    let here = ap (λ b. free_count free n + (if b then 1 else 0)) (all n (omega arith)) in omega arith
+
+one_at_most : (b : Bool) → (if b then 1 else 0) ≤ 1
+one_at_most true = omega arith
+one_at_most false = omega arith
+
+count_within : (free : ℕ → Bool) (n : ℕ) → free_count free n ≤ n
+unfolding free_count
+count_within free zero = omega arith
+count_within free (suc n) = let before = count_within free n in let here = one_at_most (free n) in omega arith
+
+count_some : (free : ℕ → Bool) (i n : ℕ) → i < n → free i ≡ true → 1 ≤ free_count free n
+unfolding free_count
+count_some free i zero within is = absurd (omega arith)
+count_some free i (suc n) within is = elim (eqb_tells i n) [
+  | inl k ↦ let here = ap (λ b. free_count free n + (if b then 1 else 0)) (sym (ap free k.1) ∙ is) in omega arith
+  | inr k ↦ let ne = k.1 in let before = count_some free i n (omega arith) is in omega arith
+]
+
+count_less : (free : ℕ → Bool) (i n : ℕ) → i < n → free i ≡ false → free_count free n < n
+unfolding free_count
+count_less free i zero within is = absurd (omega arith)
+count_less free i (suc n) within is = elim (eqb_tells i n) [
+  | inl k ↦ let here = ap (λ b. free_count free n + (if b then 1 else 0)) (sym (ap free k.1) ∙ is) in let before = count_within free n in omega arith
+  | inr k ↦ let ne = k.1 in let before = count_less free i n (omega arith) is in let here = one_at_most (free n) in omega arith
+]
+
+abbrev by_count : ℕ → BlockState
+by_count n = if n == 128 then Free else (if n == 0 then Whole else Partly)
+
+partly_by_count : (n : ℕ) → 1 ≤ n → n < 128 → Partly ≡ by_count n
+partly_by_count n some less = elim (eqb_tells n 128) [
+  | inl k ↦ let is = k.1 in absurd (omega arith)
+  | inr k ↦ elim (eqb_tells n 0) [
+    | inl z ↦ let is = z.1 in absurd (omega arith)
+    | inr z ↦ sym (ap (λ b. if b then Free else (if n == 0 then Whole else Partly)) k.0 ∙ ap (λ b. if b then Whole else Partly) z.0)
+  ]
+]
+
+pub is_all_free : (t : Tables) (b at : ℕ) → IsFirstLine (free_in t b) false 0 at → at ≡ 128 → Free ≡ state_by_lines t b
+is_all_free t b at none is = sym (ap by_count (count_all (free_in t b) 128 (λ i h. none.passed i (omega arith) (subst (λ n. i < n) (sym is) h))))
+
+pub is_whole : (t : Tables) (b at : ℕ) → IsFirstLine (free_in t b) true 0 at → at ≡ 128 → Whole ≡ state_by_lines t b
+is_whole t b at none is = sym (ap by_count (count_none (free_in t b) 128 (λ i h. none.passed i (omega arith) (subst (λ n. i < n) (sym is) h))))
+
+pub is_partly : (t : Tables) (b taken free : ℕ) → IsFirstLine (free_in t b) false 0 taken → taken ≢ 128 → IsFirstLine (free_in t b) true 0 free → free ≢ 128 → Partly ≡ state_by_lines t b
+is_partly t b taken free some_taken is some_free is_too =
+    let taken_within = some_taken.within in let free_within = some_free.within in
+    partly_by_count (free_count (free_in t b) 128)
+    (count_some (free_in t b) free 128 (omega arith) (some_free.there (omega arith)))
+    (count_less (free_in t b) taken 128 (omega arith) (some_taken.there (omega arith)))

@@ -1,0 +1,12 @@
+use Rattle.std.proofs.Common.{◌≡◌, ◌*◌, ◌≤◌, length}
+use Rattle.lxr_image.specs.Spaces.{IsSpace, Turns, tables_of}
+use Rattle.lxr_blocks.specs.Listing.{block_runs, joined, with_runs}
+use Rattle.lxr_blocks.proofs.listing.list_all_runs.Given as goal
+
+abbrev pub invariant-loop-block : goal.invariant-loop-block
+invariant-loop-block l = record {
+  space : IsSpace l.space;
+  turns : Turns l.initial.space l.space (with_runs (tables_of l.initial.space) 0 (joined (block_runs (tables_of l.initial.space)) l.block));
+  count : l.count ≡ length (joined (block_runs (tables_of l.initial.space)) l.block);
+  room : l.count ≤ 64 * l.block;
+}

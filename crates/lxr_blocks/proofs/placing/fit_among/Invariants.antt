@@ -1,0 +1,8 @@
+use Rattle.std.proofs.Common.{◌≡◌, ℕ, ◌<◌, ◌≤◌}
+use Rattle.lxr_layout.specs.declared.runs.Run.{Run}
+use Rattle.lxr_image.specs.Spaces.{tables_of}
+use Rattle.lxr_blocks.specs.States.{IsOpenRun}
+use Rattle.lxr_blocks.proofs.placing.fit_among.Given as goal
+
+abbrev pub invariant-loop-block : goal.invariant-loop-block
+invariant-loop-block l = (q : Run) → IsOpenRun (tables_of l.space) l.space.limits.blocks q → l.from ≤ q.block → q.block < l.block → q.lines < l.lines

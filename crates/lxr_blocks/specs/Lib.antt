@@ -1,0 +1,5 @@
+pub mod Lines
+pub mod States
+pub mod Handing
+pub mod Listing
+pub mod Placing

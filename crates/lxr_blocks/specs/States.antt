@@ -1,0 +1,43 @@
+-- States of blocks, as numbers and by their free lines.
+use Rattle.std.specs.Prelude.{◌≡◌, ◌≢◌, ℕ, ◌==◌, Bool, true, false, if◌then◌else◌}
+use Rattle.lxr_layout.specs.declared.runs.Run.{Run}
+use Rattle.lxr_image.specs.Tables.{Tables, changed}
+use Rattle.lxr_blocks.specs.declared.states.BlockState.{BlockState}
+use Rattle.lxr_blocks.specs.declared.states.BlockState.TheVariants.{Free, Partly, Whole, Chosen, World}
+use Rattle.lxr_blocks.specs.Lines.{IsFreeRun, free_count, free_in}
+
+-- the number of a state in the table of states
+abbrev pub state_number : BlockState → ℕ
+state_number Free = 0
+state_number Partly = 1
+state_number Whole = 2
+state_number Chosen = 3
+state_number World = 4
+
+-- the state that a number says; no call writes a number beyond 4, and it is read as that of the world's block
+abbrev pub state_of : ℕ → BlockState
+state_of n = if n == 0 then Free else (if n == 1 then Partly else (if n == 2 then Whole else (if n == 3 then Chosen else World)))
+
+abbrev pub state_in : Tables → ℕ → BlockState
+state_in t b = state_of (t.states b)
+
+-- a block that is neither Chosen nor World is Free where all its lines are free, Whole where none is, and else Partly
+abbrev pub state_by_lines : Tables → ℕ → BlockState
+state_by_lines t b = if free_count (free_in t b) 128 == 128 then Free else (if free_count (free_in t b) 128 == 0 then Whole else Partly)
+
+-- a state that stays whatever lines are free
+abbrev pub is_fixed : BlockState → Bool
+is_fixed Free = false
+is_fixed Partly = false
+is_fixed Whole = false
+is_fixed Chosen = true
+is_fixed World = true
+
+-- the block has the state of its lines, unless it is Chosen or World
+abbrev pub with_state_by_lines : Tables → ℕ → Tables
+with_state_by_lines t b = record t { states = if is_fixed (state_in t b) then t.states else (changed t.states b (state_number (state_by_lines t b))) }
+
+-- free lines in a row outside Chosen blocks
+pub record IsOpenRun (t : Tables) (blocks : ℕ) (r : Run) : Type 0 where
+  pub run : IsFreeRun t blocks r
+  pub outside : state_in t r.block ≢ Chosen

@@ -1,0 +1,18 @@
+//! Blocks, their free lines, and how lines are handed out.
+//!
+//! A block has 128 lines. A line is free where it wasn't handed out since the last promotion and no object that is
+//! counted, and no line mark, lies on it. Between pauses threads draw runs of free lines, and whole free blocks,
+//! from tables that a pause lists; in a pause objects are placed one at a time. Blocks and lines are those of Immix
+//! (Blackburn and McKinley, 2008), kept by reference counts as in LXR (Zhao, Blackburn and McKinley, 2022).
+#![tactic(auto)]
+
+mod handing;
+mod lines;
+mod listing;
+mod placing;
+mod states;
+
+pub use handing::hand_out;
+pub use listing::list_runs;
+pub use placing::place_now;
+pub use states::{BlockState, longest, state};

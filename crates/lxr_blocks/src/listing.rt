@@ -1,0 +1,107 @@
+//! Listing the free lines and the free blocks, for threads to draw from.
+ghost use Rattle.std.specs.Prelude.{◌≡◌, ◌+◌, ◌*◌, ◌<◌, ◌≤◌, length};
+ghost use Rattle.lxr_image.specs.Spaces.{IsSpace, Turns, tables_of};
+ghost use Rattle.lxr_blocks.specs.Lines.{free_in, runs_below};
+ghost use Rattle.lxr_blocks.specs.Listing.{TurnsWithRest, block_frees, block_runs, listed_frees, listed_runs, run_words, with_frees, with_lists, with_runs};
+
+use crate::lines::next_run;
+use crate::states::{BlockState, state};
+use lxr_image::Space;
+use lxr_layout::run_word;
+
+/// Writes the runs of a block to the run table from an index on, and answers the index behind them.
+fn list_lines(space: &mut Space, block: u32, first: u32) -> u32
+    requires space { IsSpace space.old }
+    requires block { block < space.old.limits.blocks }
+    requires first { first ≤ 64 * block }
+    ensures runs { Turns space.old space.new (with_runs (tables_of space.old) first (run_words (tables_of space.old) block)) }
+    ensures count { result ≡ first + length (run_words (tables_of space.old) block) }
+    ensures room { result ≤ 64 * (block + 1) }
+{
+    let mut at = first;
+    let mut line = 0;
+    while let Some(run) = next_run(space, block, line) {
+        space.put_run(at, run_word(run));
+        at += 1;
+        line = u32::from(run.line) + u32::from(run.lines);
+    }
+    at
+}
+
+/// Writes the runs of a block that has the state for it.
+fn list_block(space: &mut Space, block: u32, first: u32) -> u32
+    requires space { IsSpace space.old }
+    requires block { block < space.old.limits.blocks }
+    requires first { first ≤ 64 * block }
+    ensures runs { Turns space.old space.new (with_runs (tables_of space.old) first (block_runs (tables_of space.old) block)) }
+    ensures count { result ≡ first + length (block_runs (tables_of space.old) block) }
+    ensures room { result ≤ 64 * (block + 1) }
+{
+    match state(space, block) {
+        BlockState::Partly | BlockState::World => list_lines(space, block, first),
+        BlockState::Free | BlockState::Whole | BlockState::Chosen => first,
+    }
+}
+
+/// Writes the number of a block that is Free.
+fn list_free(space: &mut Space, block: u32, first: u32) -> u32
+    requires space { IsSpace space.old }
+    requires block { block < space.old.limits.blocks }
+    requires first { first ≤ block }
+    ensures frees { Turns space.old space.new (with_frees (tables_of space.old) first (block_frees (tables_of space.old) block)) }
+    ensures count { result ≡ first + length (block_frees (tables_of space.old) block) }
+    ensures room { result ≤ block + 1 }
+{
+    match state(space, block) {
+        BlockState::Free => {
+            space.put_free(first, u64::from(block));
+            first + 1
+        }
+        _ => first,
+    }
+}
+
+/// Writes the runs of all blocks, and answers how many there are.
+fn list_all_runs(space: &mut Space) -> u32
+    requires { IsSpace space.old }
+    ensures runs { Turns space.old space.new (with_runs (tables_of space.old) 0 (listed_runs (tables_of space.old) space.old.limits.blocks)) }
+    ensures count { result ≡ length (listed_runs (tables_of space.old) space.old.limits.blocks) }
+{
+    let mut count = 0;
+    for block in 0..space.limits.blocks {
+        count = list_block(space, block, count);
+    }
+    count
+}
+
+/// Writes the numbers of all Free blocks, and answers how many there are.
+fn list_all_frees(space: &mut Space) -> u32
+    requires { IsSpace space.old }
+    ensures frees { Turns space.old space.new (with_frees (tables_of space.old) 0 (listed_frees (tables_of space.old) space.old.limits.blocks)) }
+    ensures count { result ≡ length (listed_frees (tables_of space.old) space.old.limits.blocks) }
+{
+    let mut count = 0;
+    for block in 0..space.limits.blocks {
+        count = list_free(space, block, count);
+    }
+    count
+}
+
+/// Lists the runs of all Partly and World blocks, and all Free blocks, in order, and answers how many runs there
+/// are. Nothing is drawn of either table yet, and no lines are left from which an object was placed last.
+pub fn list_runs(space: &mut Space) -> u32
+    requires { IsSpace space.old }
+    ensures lists { TurnsWithRest space.old space.new (with_lists (tables_of space.old) (listed_runs (tables_of space.old) space.old.limits.blocks) (listed_frees (tables_of space.old) space.old.limits.blocks)) 0 0 }
+    ensures count { result ≡ length (listed_runs (tables_of space.old) space.old.limits.blocks) }
+    ensures space { IsSpace space.new }
+{
+    let runs = list_all_runs(space);
+    let frees = list_all_frees(space);
+    space.put_cursor(1, 0);
+    space.put_cursor(2, u64::from(runs));
+    space.put_cursor(3, 0);
+    space.put_cursor(4, u64::from(frees));
+    space.rest_next = 0;
+    space.rest_end = 0;
+    runs
+}

@@ -1,0 +1,162 @@
+//! Placing an object in a pause, one at a time.
+ghost use Rattle.std.specs.Prelude.{◌≡◌, ◌≢◌, ℕ, ◌+◌, ◌*◌, ◌<◌, ◌≤◌, ◌↔◌, IfNone, IfSome, IsNone};
+ghost use Rattle.lxr_layout.specs.declared.runs.Run.{Run};
+ghost use Rattle.lxr_layout.specs.Objects.{FitsShape, line_count, word_count};
+ghost use Rattle.lxr_image.specs.Spaces.{IsSpace, Turns, tables_of};
+ghost use Rattle.lxr_blocks.specs.Lines.{IsFreeRun};
+ghost use Rattle.lxr_blocks.specs.Listing.{TurnsWithRest};
+ghost use Rattle.lxr_blocks.specs.Handing.{handed_out};
+ghost use Rattle.lxr_blocks.specs.Placing.{IsFirstFit, IsFull, IsPlaced, IsRest, first_granule, granule_count, place_at, search_begin, with_object};
+ghost use Rattle.lxr_blocks.specs.States.{IsOpenRun};
+
+use crate::handing::hand_out;
+use crate::lines::next_run;
+use crate::states::{BlockState, state};
+use lxr_image::Space;
+use lxr_layout::{Name, Place, Run, Shape, lines_of, pack, words_of};
+
+/// The first so many free lines in a row of a block.
+fn fit_in(space: &Space, block: u32, lines: u8) -> Option<Run>
+    requires space { IsSpace space.now }
+    requires block { block < space.now.limits.blocks }
+    requires lines { 1 ≤ lines }
+    ensures none { IfNone result ((q : Run) → IsFreeRun (tables_of space.now) space.now.limits.blocks q → q.block ≡ block → q.lines < lines) }
+    ensures run { IfSome result (λ run. IsFreeRun (tables_of space.now) space.now.limits.blocks run × (run.block ≡ block) × (run.lines ≡ lines)) }
+    ensures first { IfSome result (λ run. (q : Run) → IsFreeRun (tables_of space.now) space.now.limits.blocks q → q.block ≡ block → q.lines ≡ lines → run.line ≤ q.line) }
+{
+    let mut line = 0;
+    while let Some(run) = next_run(space, block, line) {
+        if lines <= run.lines {
+            return Some(Run {
+                block,
+                line: run.line,
+                lines,
+            });
+        }
+        line = u32::from(run.line) + u32::from(run.lines);
+    }
+    None
+}
+
+/// The first so many free lines in a row of a block that isn't Chosen.
+fn fit_outside(space: &Space, block: u32, lines: u8) -> Option<Run>
+    requires space { IsSpace space.now }
+    requires block { block < space.now.limits.blocks }
+    requires lines { 1 ≤ lines }
+    ensures none { IfNone result ((q : Run) → IsOpenRun (tables_of space.now) space.now.limits.blocks q → q.block ≡ block → q.lines < lines) }
+    ensures run { IfSome result (λ run. IsOpenRun (tables_of space.now) space.now.limits.blocks run × (run.block ≡ block) × (run.lines ≡ lines)) }
+    ensures first { IfSome result (λ run. (q : Run) → IsOpenRun (tables_of space.now) space.now.limits.blocks q → q.block ≡ block → q.lines ≡ lines → run.line ≤ q.line) }
+{
+    match state(space, block) {
+        BlockState::Chosen => None,
+        _ => fit_in(space, block, lines),
+    }
+}
+
+/// The first so many free lines in a row of these blocks, outside Chosen ones.
+fn fit_among(space: &Space, from: u32, end: u32, lines: u8) -> Option<Run>
+    requires space { IsSpace space.now }
+    requires blocks { (from ≤ end) × (end ≤ space.now.limits.blocks) }
+    requires lines { 1 ≤ lines }
+    ensures none { IfNone result ((q : Run) → IsOpenRun (tables_of space.now) space.now.limits.blocks q → from ≤ q.block → q.block < end → q.lines < lines) }
+    ensures run { IfSome result (λ run. IsOpenRun (tables_of space.now) space.now.limits.blocks run × (from ≤ run.block) × (run.block < end) × (run.lines ≡ lines)) }
+    ensures before { IfSome result (λ run. (q : Run) → IsOpenRun (tables_of space.now) space.now.limits.blocks q → from ≤ q.block → q.block < run.block → q.lines < lines) }
+    ensures first { IfSome result (λ run. (q : Run) → IsOpenRun (tables_of space.now) space.now.limits.blocks q → q.block ≡ run.block → q.lines ≡ lines → run.line ≤ q.line) }
+{
+    for block in from..end {
+        if let Some(run) = fit_outside(space, block, lines) {
+            return Some(run);
+        }
+    }
+    None
+}
+
+/// The first so many free lines in a row outside Chosen blocks, on the way round the heap from a block.
+fn first_fit(space: &Space, from: u32, lines: u8) -> Option<Run>
+    requires space { IsSpace space.now }
+    requires block { from < space.now.limits.blocks }
+    requires lines { 1 ≤ lines }
+    ensures none { IfNone result ((q : Run) → IsOpenRun (tables_of space.now) space.now.limits.blocks q → q.lines < lines) }
+    ensures run { IfSome result (λ run. IsFirstFit (tables_of space.now) space.now.limits.blocks from lines run) }
+{
+    if let Some(run) = fit_among(space, from, space.limits.blocks, lines) {
+        return Some(run);
+    }
+    fit_among(space, 0, from, lines)
+}
+
+/// The block in which an object was placed last, or the first one.
+fn search_from(space: &Space) -> u32
+    requires { IsSpace space.now }
+    ensures from { result ≡ search_begin space.now }
+    ensures block { result < space.now.limits.blocks }
+{
+    let last = space.rest_next / 2048;
+    if last < space.limits.blocks { last } else { 0 }
+}
+
+/// Writes a new object at a granule: its header, and zeros in its further words.
+fn write_object(space: &mut Space, granule: u32, name: Name, shape: Shape)
+    requires space { IsSpace space.old }
+    requires shape { FitsShape shape }
+    requires granule { granule + granule_count shape ≤ 2048 * space.old.limits.blocks }
+    ensures { Turns space.old space.new (with_object (tables_of space.old) granule name shape) }
+{
+    let first = 2 * granule;
+    for at in first + 1..first + words_of(shape) {
+        space.put_heap(at, 0);
+    }
+    space.put_heap(first, pack(name, shape));
+}
+
+/// Places an object at the front of the rest, which it fits.
+fn place_in_rest(space: &mut Space, name: Name, shape: Shape) -> Place
+    requires space { IsSpace space.old }
+    requires shape { FitsShape shape }
+    requires fits { space.old.rest_next + granule_count shape ≤ space.old.rest_end }
+    requires in_heap { space.old.rest_end ≤ 2048 * space.old.limits.blocks }
+    ensures place { result ≡ place_at space.old.rest_next }
+    ensures changes { TurnsWithRest space.old space.new (with_object (tables_of space.old) space.old.rest_next name shape) (space.old.rest_next + granule_count shape) space.old.rest_end }
+{
+    let granule = space.rest_next;
+    write_object(space, granule, name, shape);
+    space.rest_next = granule + words_of(shape) / 2;
+    Place(granule + 1)
+}
+
+/// Hands out a run of free lines, which become the rest.
+fn open_rest(space: &mut Space, run: Run)
+    requires space { IsSpace space.old }
+    requires run { IsFreeRun (tables_of space.old) space.old.limits.blocks run }
+    ensures { TurnsWithRest space.old space.new (handed_out (tables_of space.old) run) (first_granule run) (first_granule run + 16 * run.lines) }
+{
+    hand_out(space, run);
+    space.rest_next = 16 * (128 * run.block + u32::from(run.line));
+    space.rest_end = space.rest_next + 16 * u32::from(run.lines);
+}
+
+/// Places a new object, with zeros for its references and data; only in a pause, when no thread has a part of the
+/// heap of its own. It takes the front of the rest of the lines from which the last object was placed, where that is
+/// long enough. Else it takes the first free lines that it fits, on the way round the heap from the block in which the
+/// last object was placed: they are handed out, and what is left of their last line is the rest from then on.
+/// None exactly where neither the rest nor free lines outside Chosen blocks are long enough; then nothing changes.
+///
+/// It looks at each block at most once: it tests up to 128 lines of a block, a line that is out or whose first
+/// object is counted by one or two loads, and else by 17. Where all objects are short, it finds lines in the block in
+/// which it placed last, or in the next that has any, so that filling a heap takes time in proportion to its lines.
+pub fn place_now(space: &mut Space, name: Name, shape: Shape) -> Option<Place>
+    requires space { IsSpace space.old }
+    requires shape { FitsShape shape }
+    requires rest { IsRest space.old }
+    ensures none { IsNone result ↔ IsFull space.old shape }
+    ensures unchanged { IfNone result (space.new ≡ space.old) }
+    ensures placed { IfSome result (λ place. IsPlaced space.old space.new name shape place) }
+    ensures rest { IsRest space.new }
+    ensures space { IsSpace space.new }
+{
+    if space.rest_end - space.rest_next < words_of(shape) / 2 {
+        let run = first_fit(space, search_from(space), lines_of(shape) as u8)?;
+        open_rest(space, run);
+    }
+    Some(place_in_rest(space, name, shape))
+}

@@ -1,0 +1,133 @@
+//! States of blocks.
+ghost use Rattle.std.specs.Prelude.{◌≡◌, ◌<◌, ◌≤◌, ℕ};
+ghost use Rattle.lxr_layout.specs.declared.runs.Run.{Run};
+ghost use Rattle.lxr_image.specs.Spaces.{IsSpace, Turns, tables_of};
+ghost use Rattle.lxr_blocks.specs.Lines.{IsFreeRun};
+ghost use Rattle.lxr_blocks.specs.States.{IsOpenRun, state_by_lines, state_in, state_number, state_of, with_state_by_lines};
+
+use crate::lines::{first_line, next_run};
+use lxr_image::Space;
+
+/// What a block is to be used for.
+#[derive(Clone, Copy, Debug, PartialEq, Eq)]
+pub enum BlockState {
+    /// All its lines are free.
+    Free,
+    /// Some of its lines are free.
+    Partly,
+    /// None of its lines is free.
+    Whole,
+    /// Its objects are to be moved away; nothing is placed in it.
+    Chosen,
+    /// The world lies in it.
+    World,
+}
+
+impl BlockState {
+    /// The number of the state in the table of states.
+    pub fn number(self) -> u64
+        ensures { result ≡ state_number self }
+    {
+        match self {
+            BlockState::Free => 0,
+            BlockState::Partly => 1,
+            BlockState::Whole => 2,
+            BlockState::Chosen => 3,
+            BlockState::World => 4,
+        }
+    }
+
+    /// The state that a number of the table of states says.
+    pub fn of_number(number: u64) -> BlockState
+        ensures { result ≡ state_of number }
+    {
+        match number {
+            0 => BlockState::Free,
+            1 => BlockState::Partly,
+            2 => BlockState::Whole,
+            3 => BlockState::Chosen,
+            _ => BlockState::World,
+        }
+    }
+}
+
+/// The state of a block.
+pub fn state(space: &Space, block: u32) -> BlockState
+    requires space { IsSpace space.now }
+    requires block { block < space.now.limits.blocks }
+    ensures { result ≡ state_in (tables_of space.now) block }
+{
+    BlockState::of_number(space.state_word(block))
+}
+
+/// The state that a block has by its free lines alone.
+fn state_of_lines(space: &Space, block: u32) -> BlockState
+    requires space { IsSpace space.now }
+    requires block { block < space.now.limits.blocks }
+    ensures { result ≡ state_by_lines (tables_of space.now) block }
+{
+    if first_line(space, block, 0, false) == 128 {
+        return BlockState::Free;
+    }
+    if first_line(space, block, 0, true) == 128 {
+        return BlockState::Whole;
+    }
+    BlockState::Partly
+}
+
+/// Gives a block the state of its free lines, unless it is Chosen or World.
+pub(crate) fn renew_state(space: &mut Space, block: u32)
+    requires space { IsSpace space.old }
+    requires block { block < space.old.limits.blocks }
+    ensures { Turns space.old space.new (with_state_by_lines (tables_of space.old) block) }
+{
+    match state(space, block) {
+        BlockState::Chosen | BlockState::World => {}
+        BlockState::Free | BlockState::Partly | BlockState::Whole => {
+            let state = state_of_lines(space, block);
+            space.put_state(block, state.number());
+        }
+    }
+}
+
+/// The lines of the longest run of a block.
+fn longest_in(space: &Space, block: u32) -> u8
+    requires space { IsSpace space.now }
+    requires block { block < space.now.limits.blocks }
+    ensures bound { (q : Run) → IsFreeRun (tables_of space.now) space.now.limits.blocks q → q.block ≡ block → q.lines ≤ result }
+    ensures reached { (q : Run) × IsFreeRun (tables_of space.now) space.now.limits.blocks q × (q.block ≡ block) × (q.lines ≡ result) }
+{
+    let mut best = 0;
+    let mut line = 0;
+    while let Some(run) = next_run(space, block, line) {
+        best = best.max(run.lines);
+        line = u32::from(run.line) + u32::from(run.lines);
+    }
+    best
+}
+
+/// The lines of the longest run of a block, and 0 where it is Chosen.
+fn longest_outside(space: &Space, block: u32) -> u8
+    requires space { IsSpace space.now }
+    requires block { block < space.now.limits.blocks }
+    ensures bound { (q : Run) → IsOpenRun (tables_of space.now) space.now.limits.blocks q → q.block ≡ block → q.lines ≤ result }
+    ensures reached { 0 < result → (q : Run) × IsOpenRun (tables_of space.now) space.now.limits.blocks q × (q.lines ≡ result) }
+{
+    match state(space, block) {
+        BlockState::Chosen => 0,
+        _ => longest_in(space, block),
+    }
+}
+
+/// How many lines the longest run outside Chosen blocks has; 0 where there is none.
+pub fn longest(space: &Space) -> u8
+    requires { IsSpace space.now }
+    ensures bound { (q : Run) → IsOpenRun (tables_of space.now) space.now.limits.blocks q → q.lines ≤ result }
+    ensures reached { 0 < result → (q : Run) × IsOpenRun (tables_of space.now) space.now.limits.blocks q × (q.lines ≡ result) }
+{
+    let mut best = 0;
+    for block in 0..space.limits.blocks {
+        best = best.max(longest_outside(space, block));
+    }
+    best
+}
