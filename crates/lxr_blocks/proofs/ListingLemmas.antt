@@ -23,8 +23,8 @@ none_begin free b from zero after none = let is : from ≡ 0 = omega arith in ap
 none_begin free b from (suc k) after none = elim (eqb_tells from (suc k)) [
   | inl e ↦ ap (runs_below free b) (sym e.1)
   | inr e ↦ let ne = e.1 in
-    ap (λ x. runs_below free b k ++ (if x then (record { block = b; line = k; lines = free_from free k (128 - k) } ∷ []) else [])) (none k (omega arith) (omega arith))
-    ∙ append-nil (runs_below free b k) ∙ none_begin free b from k (omega arith) (λ i h below. none i h (omega (arith, below)))
+      ap (λ x. runs_below free b k ++ (if x then (record { block = b; line = k; lines = free_from free k (128 - k) } ∷ []) else [])) (none k (omega arith) (omega arith))
+      ∙ append-nil (runs_below free b k) ∙ none_begin free b from k (omega arith) (λ i h below. none i h (omega (arith, below)))
 ]
 
 -- a line at which a run begins adds it
@@ -183,14 +183,14 @@ written_none f at = λ j i. none_at f at i j
 one_at : (f : ℕ → ℕ) (at x i : ℕ) → changed f at x i ≡ written f at (x ∷ []) i
 one_at f at x i = elim (eqb_tells i at) [
   | inl e ↦ let is = e.1 in
-    ap (λ b. if b then x else f i) e.0
-    ∙ sym (inside f at (x ∷ []) i (omega arith) (omega arith) ∙ ap (slice_index (x ∷ [])) (let z : i - at ≡ 0 = omega arith in z))
+      ap (λ b. if b then x else f i) e.0
+      ∙ sym (inside f at (x ∷ []) i (omega arith) (omega arith) ∙ ap (slice_index (x ∷ [])) (let z : i - at ≡ 0 = omega arith in z))
   | inr e ↦ let ne = e.1 in
-    ap (λ b. if b then x else f i) e.0
-    ∙ elim (leb_tells at i) [
-      | inl k ↦ let after = k.1 in sym (past f at (x ∷ []) i (omega arith))
-      | inr k ↦ sym (ahead f at (x ∷ []) i k.1)
-    ]
+      ap (λ b. if b then x else f i) e.0
+      ∙ elim (leb_tells at i) [
+        | inl k ↦ let after = k.1 in sym (past f at (x ∷ []) i (omega arith))
+        | inr k ↦ sym (ahead f at (x ∷ []) i k.1)
+      ]
 ]
 
 pub written_one : (f : ℕ → ℕ) (at x : ℕ) → changed f at x ≡ written f at (x ∷ [])
@@ -203,15 +203,15 @@ more_at f at xs ys i =
       | inr k ↦ let before = k.1 in ahead (written f at xs) (at + length xs) ys i (omega arith) ∙ ahead f at xs i before ∙ sym (ahead f at (xs ++ ys) i before)
       | inl k ↦ let after = k.1 in elim (leb_tells (at + length xs) i) [
         | inr m ↦ let low = m.1 in
-          ahead (written f at xs) (at + length xs) ys i low ∙ inside f at xs i after low
-          ∙ sym (inside f at (xs ++ ys) i after (omega arith) ∙ get_or-append xs ys 0 (i - at) (omega arith))
+            ahead (written f at xs) (at + length xs) ys i low ∙ inside f at xs i after low
+            ∙ sym (inside f at (xs ++ ys) i after (omega arith) ∙ get_or-append xs ys 0 (i - at) (omega arith))
         | inl m ↦ let high = m.1 in elim (leb_tells (at + length xs + length ys) i) [
           | inl e ↦ let end = e.1 in
-            past (written f at xs) (at + length xs) ys i end ∙ past f at xs i high ∙ sym (past f at (xs ++ ys) i (omega arith))
+              past (written f at xs) (at + length xs) ys i end ∙ past f at xs i high ∙ sym (past f at (xs ++ ys) i (omega arith))
           | inr e ↦ let low = e.1 in
-            inside (written f at xs) (at + length xs) ys i high low
-            ∙ ap (slice_index ys) (let z : i - (at + length xs) ≡ i - at - length xs = omega arith in z)
-            ∙ sym (inside f at (xs ++ ys) i after (omega arith) ∙ get_or-append_right xs ys (i - at) 0 (omega arith))
+              inside (written f at xs) (at + length xs) ys i high low
+              ∙ ap (slice_index ys) (let z : i - (at + length xs) ≡ i - at - length xs = omega arith in z)
+              ∙ sym (inside f at (xs ++ ys) i after (omega arith) ∙ get_or-append_right xs ys (i - at) 0 (omega arith))
         ]
       ]
     ]

@@ -16,3 +16,6 @@ pub use handing::hand_out;
 pub use listing::list_runs;
 pub use placing::place_now;
 pub use states::{BlockState, longest, state};
+
+#[cfg(test)]
+mod tests;
