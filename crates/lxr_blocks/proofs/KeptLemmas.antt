@@ -1,7 +1,7 @@
 -- An object that is placed stands on lines that no other object keeps.
-use Rattle.std.proofs.Common.{◌≡◌, ◌≢◌, ℕ, zero, suc, ◌+◌, ◌-◌, ◌*◌, ◌/◌, ◌<◌, ◌≤◌, refl, sym, ap, subst, ◌∙◌, inl, inr, ◌⊎◌, arith, Bool, true, false, List, [], ◌∷◌, length}
+use Rattle.std.proofs.Common.{◌≡◌, ◌≢◌, ℕ, zero, suc, ◌+◌, ◌-◌, ◌*◌, ◌/◌, ◌<◌, ◌≤◌, refl, sym, ap, subst, ◌∙◌, inl, inr, ◌⊎◌, arith, Bool, true, false, List, ◌∷◌, length}
 use Rattle.std.proofs.lemmas.List.{length-replicate}
-use Rattle.std.specs.Prelude.{◌==◌, ◌&&◌, ◌||◌, IsTrue, Option, Some, None, not, nat_eq, nat_le, nat_lt, if◌then◌else◌}
+use Rattle.std.specs.Prelude.{◌==◌, ◌&&◌, ◌||◌, IsTrue, Option, Some, None, not, nat_eq, if◌then◌else◌}
 use Rattle.std.proofs.lemmas.Bool.Decides.{eqb_tells, leb_tells, nat_tests}
 use Rattle.lxr_layout.specs.declared.runs.Run.{Run}
 use Rattle.lxr_layout.specs.declared.limits.Limits.{Limits}
@@ -23,10 +23,10 @@ use Rattle.lxr_image.specs.Reads.{granule_of}
 use Rattle.lxr_image.specs.Image.{granules_of}
 use Rattle.lxr_image.specs.ImageLaws.{IsRoom, WritesNew, placed}
 use Rattle.lxr_image.proofs.ImageLemmas.{Rewrites, rewrites}
-use Rattle.lxr_blocks.specs.Lines.{IsFreeRun, are_zero, free_in, is_free}
-use Rattle.lxr_blocks.specs.Handing.{first_line, handed_out, is_between}
-use Rattle.lxr_blocks.specs.Placing.{HasRest, IsPlaced, IsPlacedInRest, IsPlacedOn, IsRest, first_granule, granule_count, place_at, with_object}
-use Rattle.lxr_blocks.specs.Kept.{AreKept, FreeLineIsTold, IsFreeLine, IsPlacedApart, KeepsLines, KeptLineIsTaken, OpenedIsKept, PlacedIsApart}
+use Rattle.lxr_blocks.specs.Lines.{IsFreeRun, are_zero, is_free}
+use Rattle.lxr_blocks.specs.Handing.{first_line, is_between}
+use Rattle.lxr_blocks.specs.Placing.{IsPlaced, IsPlacedInRest, IsPlacedOn, IsRest, first_granule, granule_count, with_object}
+use Rattle.lxr_blocks.specs.Kept.{AreKept, FreeLineIsTold, IsFreeLine, KeepsLines, KeptLineIsTaken, OpenedIsKept, PlacedIsApart}
 use Rattle.lxr_blocks.proofs.LineLemmas.{zero_ends}
 
 -- ---- free lines
