@@ -1,5 +1,5 @@
 -- A new object is written word by word.
-use Rattle.std.proofs.Common.{◌≡◌, ℕ, ◌+◌, ◌*◌, refl}
+use Rattle.std.proofs.Common.{ℕ}
 use Rattle.std.specs.Prelude.{if◌then◌else◌}
 use Rattle.lxr_image.specs.Tables.{Tables}
 use Rattle.lxr_blocks.specs.Handing.{is_between}

@@ -1,3 +1,4 @@
 pub mod LineLemmas
-pub mod HandingLemmas
 pub mod ListingLemmas
+pub mod KeptLemmas
+pub mod HandingLemmas

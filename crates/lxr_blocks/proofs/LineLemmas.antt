@@ -1,5 +1,5 @@
 -- Counts that are 0, and free lines in a row.
-use Rattle.std.proofs.Common.{◌≡◌, ◌≢◌, ℕ, zero, suc, ◌+◌, ◌-◌, ◌*◌, ◌<◌, ◌≤◌, refl, sym, ap, subst, ◌∙◌, inl, inr, ◌⊎◌, arith, add-one, Bool, true, false}
+use Rattle.std.proofs.Common.{◌≡◌, ◌≢◌, ℕ, zero, suc, ◌+◌, ◌*◌, ◌<◌, ◌≤◌, refl, sym, ap, subst, ◌∙◌, inl, inr, arith, add-one, Bool, true, false}
 use Rattle.std.specs.Prelude.{◌==◌, ◌&&◌, IsTrue, max, not, if◌then◌else◌}
 use Rattle.std.proofs.Common.{nat_cmp}
 use Rattle.std.specs.Ordering.{ord_max}

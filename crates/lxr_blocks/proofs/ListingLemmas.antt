@@ -1,9 +1,9 @@
 -- Runs that are found one after another are the runs of a block, and what is written entry after entry is a list.
-use Rattle.std.proofs.Common.{◌≡◌, ◌≢◌, ℕ, zero, suc, ◌+◌, ◌-◌, ◌*◌, ◌<◌, ◌≤◌, refl, sym, ap, subst, ◌∙◌, inl, inr, ◌⊎◌, arith, add-one, Bool, true, false, List, [], ◌∷◌, ◌++◌, length, length-append, zero-add}
+use Rattle.std.proofs.Common.{◌≡◌, ℕ, zero, suc, ◌+◌, ◌-◌, ◌*◌, ◌<◌, ◌≤◌, refl, sym, ap, subst, ◌∙◌, inl, inr, ◌⊎◌, arith, add-one, Bool, true, false, List, [], ◌∷◌, ◌++◌, length, length-append, zero-add}
 use Rattle.std.proofs.lemmas.List.{append-nil, map-append}
 use Rattle.std.proofs.Math.ListN.{get_or-append}
 use Rattle.std.proofs.Math.Seq.{get_or-append_right}
-use Rattle.std.specs.Prelude.{◌==◌, ◌&&◌, IsTrue, map, nat_le, nat_lt, nat_eq, not, slice_index, if◌then◌else◌}
+use Rattle.std.specs.Prelude.{◌&&◌, map, nat_le, nat_lt, not, slice_index, if◌then◌else◌}
 use Rattle.std.proofs.lemmas.Bool.Decides.{eqb_tells, leb_tells, nat_tests}
 use Rattle.lxr_layout.specs.declared.runs.Run.{Run}
 use Rattle.lxr_layout.specs.Runs.{word_of_run}

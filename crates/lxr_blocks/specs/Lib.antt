@@ -3,3 +3,4 @@ pub mod States
 pub mod Handing
 pub mod Listing
 pub mod Placing
+pub mod Kept

@@ -1,7 +1,7 @@
-use Rattle.std.proofs.Common.{◌≡◌, ◌+◌, ◌∙◌, ap, arith, length, refl, sym}
+use Rattle.std.proofs.Common.{◌+◌, ◌∙◌, ap, arith, length, refl, sym}
 use Rattle.lxr_image.specs.Spaces.{tables_of}
 use Rattle.lxr_image.proofs.SpaceLemmas.{still_space}
-use Rattle.lxr_blocks.specs.Listing.{block_frees, joined, with_frees}
+use Rattle.lxr_blocks.specs.Listing.{block_frees, with_frees}
 use Rattle.lxr_blocks.proofs.ListingLemmas.{count_more, joined_none, frees_more, frees_none}
 use Rattle.lxr_blocks.proofs.listing.list_all_frees.Goals as goal
 

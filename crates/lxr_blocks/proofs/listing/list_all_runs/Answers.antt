@@ -1,4 +1,4 @@
-use Rattle.std.proofs.Common.{◌≡◌, ◌+◌, ◌∙◌, ap, arith, length, refl, sym}
+use Rattle.std.proofs.Common.{◌+◌, ◌∙◌, ap, arith, length, refl, sym}
 use Rattle.lxr_image.specs.Spaces.{tables_of}
 use Rattle.lxr_image.proofs.SpaceLemmas.{still_space}
 use Rattle.lxr_blocks.specs.Listing.{block_runs, joined, with_runs}

@@ -1,4 +1,4 @@
-use Rattle.std.proofs.Common.{◌+◌, ◌*◌}
+use Rattle.std.proofs.Common.{◌+◌}
 use Rattle.lxr_image.specs.Spaces.{IsSpace, Turns, tables_of}
 use Rattle.lxr_blocks.proofs.HandingLemmas.{zeroed}
 use Rattle.lxr_blocks.proofs.placing.write_object.Given as goal

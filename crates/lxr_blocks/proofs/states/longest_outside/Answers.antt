@@ -1,4 +1,4 @@
-use Rattle.std.proofs.Common.{◌∙◌, sym}
+use Rattle.std.proofs.Common.{◌∙◌}
 use Rattle.lxr_image.specs.Spaces.{tables_of}
 use Rattle.lxr_blocks.proofs.LineLemmas.{open_of}
 use Rattle.lxr_blocks.proofs.states.longest_outside.Goals as goal
