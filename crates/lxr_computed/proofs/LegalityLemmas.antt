@@ -22,11 +22,10 @@ use Rattle.lxr_model.specs.Moments.{Trace, Moment, moment}
 use Rattle.lxr_model.specs.Kinds.{collect_called, ends, MustCollect, MayCollect, OnlyNewsSincePause, IsRunning, NeedsNoTrace, MayStand}
 use Rattle.lxr_model.specs.Reports.{IsReport}
 use Rattle.lxr_model.specs.Full.{LeaveNoRun, names_made, IsRightAfterPause, MayBeFull, MayBePlaced, slots_in, slots_taken, flat_words}
-use Rattle.lxr_model.specs.Legal.{Replies, StandsForWaiting, IsWaitedFor, KeepsPromise, MayFollow, IsLegalSoFar, OwesNoCall}
+use Rattle.lxr_model.specs.Legal.{Replies, StandsForWaiting, IsWaitedFor, KeepsPromise, MayFollow, IsLegalSoFar, IsLegal, OwesNoCall}
 use Rattle.lxr_computed.specs.Sets.{reachable_names}
 use Rattle.lxr_computed.specs.Reports.{CanBe}
-use Rattle.lxr_computed.specs.Legality.{must_collect, only_news_since_pause, may_collect, has_traces, is_running, may_begin, needs_no_trace, may_stand, fits_shape, is_well_formed, is_collect, leave_no_run, is_right_after_pause, may_be_full, may_be_placed, may_reply, stands_for_waiting, is_waited_for, keeps_promise, owes_no_call, may_follow, all_may_stand, reply_again, item_again, again}
-use Rattle.lxr_computed.specs.Laws.{LegalityIsComputed}
+use Rattle.lxr_computed.specs.Legality.{must_collect, only_news_since_pause, may_collect, has_traces, is_running, may_begin, needs_no_trace, may_stand, fits_shape, is_well_formed, is_collect, leave_no_run, is_right_after_pause, may_be_full, may_be_placed, may_reply, stands_for_waiting, is_waited_for, keeps_promise, owes_no_call, may_follow, all_may_stand, reply_again, item_again, again, IsFoundLegal}
 use Rattle.lxr_computed.proofs.SetLemmas.{reachable_right}
 use Rattle.lxr_computed.proofs.PartLemmas.{reports_right, le_from_test}
 
@@ -46,7 +45,7 @@ test_from_eq a b h = grind arith
 
 -- ---- where a kind may stand
 
-must_right : (terms : Terms) (h : List Item) → IsTrue (must_collect terms h) → MustCollect terms h
+pub must_right : (terms : Terms) (h : List Item) → IsTrue (must_collect terms h) → MustCollect terms h
 must_right terms h e = elim (or_cases (collect_called h) (nat_eq (ends h) terms.threads) e) [
   | inl k ↦ inl k
   | inr k ↦ inr (eq_from_test (ends h) terms.threads k)
@@ -132,7 +131,7 @@ formed_right op.Pause e = tt
 formed_right op.Collect e = tt
 formed_right op.End e = tt
 
-collect_kind : (k : Kind) → IsTrue (is_collect k) → k ≡ kind.Collect
+pub collect_kind : (k : Kind) → IsTrue (is_collect k) → k ≡ kind.Collect
 collect_kind kind.Collect e = refl
 collect_kind kind.Plain e = absurd (cc)
 collect_kind kind.Begin e = absurd (cc)
@@ -145,7 +144,7 @@ right_after collecting P f (Pause report ∷ h) e = f report e
 right_after collecting P f (Call t (op.New dest shape) reply.Full ∷ h) e = right_after collecting P f h e
 right_after collecting P f (Call t _ _ ∷ h) e = absurd (cc)
 
-others_reachable : (s : State) → IsSetOf (without (reachable_names s) (world_name ∷ [])) (λ o. Reachable s o × (o ≢ world_name))
+pub others_reachable : (s : State) → IsSetOf (without (reachable_names s) (world_name ∷ [])) (λ o. Reachable s o × (o ≢ world_name))
 others_reachable s = record {
   in_order = in_order-without (reachable_names s) (world_name ∷ []) (reachable_right s).in_order;
   members = λ o. (
@@ -250,5 +249,5 @@ legal_so_far terms (x ∷ h) e same =
     let b = and_parts (keeps_promise terms h x) (may_follow terms h (moment terms.threads h) x) a.1 in
     (legal_so_far terms h a.0 (same_rest same), promise_right terms h x b.0, follow_right terms h x b.1 (same_item same))
 
-pub legality_right : LegalityIsComputed
-legality_right terms h stand owes same = (legal_so_far terms h stand same, owes_right terms h owes)
+pub legal_by_tests : (terms : Terms) (h : List Item) → IsFoundLegal terms h → IsLegal terms h
+legal_by_tests terms h found = (legal_so_far terms h found.stand found.same, owes_right terms h found.owes)

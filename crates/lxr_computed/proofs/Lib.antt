@@ -3,3 +3,4 @@ pub mod SetLemmas
 pub mod PartLemmas
 pub mod LegalityLemmas
 pub mod BelongingLemmas
+pub mod TestLemmas

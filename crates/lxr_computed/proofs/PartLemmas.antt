@@ -61,7 +61,7 @@ unreachable_set s us = record {
 pub le_from_test : (a b : ℕ) → IsTrue (nat_le a b) → a ≤ b
 le_from_test a b h = grind arith
 
-test_from_le : (a b : ℕ) → a ≤ b → IsTrue (nat_le a b)
+pub test_from_le : (a b : ℕ) → a ≤ b → IsTrue (nat_le a b)
 test_from_le a b h = grind arith
 
 stuck_right : (m : Moment) (first promoted kept : List Name) → IsSetOf (stuck_names m first promoted kept) (λ o. IsTrue (has kept o) × (has m.stuck o ≡ false)

@@ -22,15 +22,18 @@ any_refers g ms n = list_any (refers g n) ms
 
 -- ---- all names that a state has anywhere
 
+-- the names that registers or references hold
 abbrev pub names_in : List (Option Name) → List Name
 names_in [] = []
 names_in (None ∷ rs) = names_in rs
 names_in (Some n ∷ rs) = n ∷ names_in rs
 
+-- the names that the objects of a row refer to
 abbrev pub names_in_row : List Object → List Name
 names_in_row [] = []
 names_in_row (o ∷ row) = names_in o.refs ++ names_in_row row
 
+-- the names that the objects of a graph refer to
 abbrev pub names_in_graph : Graph → List Name
 names_in_graph [] = []
 names_in_graph (row ∷ g) = names_in_row row ++ names_in_graph g

@@ -1,4 +1,4 @@
-use Rattle.lxr_computed.proofs.LegalityLemmas.{legality_right}
+use Rattle.lxr_computed.proofs.TestLemmas.{legality_right}
 use Rattle.lxr_computed.proofs.histories.legality.Goals as goal
 
 pub returns : goal.returns

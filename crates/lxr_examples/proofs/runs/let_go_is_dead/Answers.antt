@@ -4,4 +4,4 @@ use Rattle.lxr_examples.proofs.RunLemmas.{is_run}
 use Rattle.lxr_examples.proofs.runs.let_go_is_dead.Goals as goal
 
 pub returns : goal.returns
-returns c = is_run letting_go letting_go_run refl refl refl refl refl
+returns c = is_run letting_go letting_go_run (record { stand = refl; owes = refl; same = refl }) (record { calls = refl; pauses = refl })

@@ -4,4 +4,4 @@ use Rattle.lxr_examples.proofs.RunLemmas.{is_run}
 use Rattle.lxr_examples.proofs.runs.overwritten_is_not_promoted.Goals as goal
 
 pub returns : goal.returns
-returns c = is_run overwriting overwriting_run refl refl refl refl refl
+returns c = is_run overwriting overwriting_run (record { stand = refl; owes = refl; same = refl }) (record { calls = refl; pauses = refl })

@@ -4,4 +4,4 @@ use Rattle.lxr_examples.proofs.RunLemmas.{is_run}
 use Rattle.lxr_examples.proofs.runs.stored_again_counts_once.Goals as goal
 
 pub returns : goal.returns
-returns c = is_run storing_again storing_again_run refl refl refl refl refl
+returns c = is_run storing_again storing_again_run (record { stand = refl; owes = refl; same = refl }) (record { calls = refl; pauses = refl })
