@@ -3,15 +3,16 @@ use Rattle.std.proofs.Common.{List, [], ◌∷◌}
 use Rattle.std.specs.Prelude.{reverse}
 use Rattle.lxr_graph.specs.declared.Op.{Op}
 use Rattle.lxr_graph.specs.History.{Item}
+use Rattle.lxr_model.specs.Terms.{Terms}
 use Rattle.lxr_computed.specs.Legality.{IsFoundLegal}
 use Rattle.lxr_computed.specs.Belonging.{IsFoundBelonging}
 use Rattle.lxr_computed.proofs.LegalityLemmas.{legal_by_tests}
 use Rattle.lxr_computed.proofs.BelongingLemmas.{belongs_by_tests}
-use Rattle.lxr_examples.specs.Words.{usual_terms, IsRunOf}
+use Rattle.lxr_examples.specs.Words.{IsRunOf}
 
-pub is_run : (operations : List Op) (items : List Item)
-    → IsFoundLegal usual_terms (reverse items) → IsFoundBelonging usual_terms (operations ∷ []) (reverse items) → IsRunOf operations items
-is_run operations items legal belongs = record {
-  legal = legal_by_tests usual_terms (reverse items) legal;
-  belongs = belongs_by_tests usual_terms (operations ∷ []) (reverse items) belongs;
+pub is_run : (terms : Terms) (operations : List Op) (items : List Item)
+    → IsFoundLegal terms (reverse items) → IsFoundBelonging terms (operations ∷ []) (reverse items) → IsRunOf terms operations items
+is_run terms operations items legal belongs = record {
+  legal = legal_by_tests terms (reverse items) legal;
+  belongs = belongs_by_tests terms (operations ∷ []) (reverse items) belongs;
 }

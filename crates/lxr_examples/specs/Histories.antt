@@ -1,10 +1,12 @@
 -- Whole histories, oldest item first: every call with its reply, every pause with its report.
-use Rattle.std.specs.Prelude.{List, [], ◌∷◌}
+use Rattle.std.specs.Prelude.{ℕ, true, List, [], ◌∷◌}
 use Rattle.lxr_graph.specs.declared.Op.{Op}
 use Rattle.lxr_graph.specs.declared.Op.TheVariants as op
+use Rattle.lxr_graph.specs.declared.Reply.TheVariants as reply
 use Rattle.lxr_graph.specs.declared.report.Kind.TheVariants as kind
 use Rattle.lxr_graph.specs.History.{Item, Pause}
-use Rattle.lxr_examples.specs.Words.{made, new, store, load, clear, makes, stores, loads, clears, asks, collects, ends, quiet, world_count, counted, IsRunOf}
+use Rattle.lxr_model.specs.Terms.{Terms}
+use Rattle.lxr_examples.specs.Words.{usual_terms, made, new, store, load, clear, does, makes, stores, loads, clears, asks, collects, ends, quiet, world_count, counted, IsRunOf}
 
 -- ---- an object is overwritten before it was promoted
 
@@ -27,7 +29,7 @@ overwriting_run =
     ∷ []
 
 abbrev pub OverwrittenIsNotPromoted : Type 0
-OverwrittenIsNotPromoted = IsRunOf overwriting overwriting_run
+OverwrittenIsNotPromoted = IsRunOf usual_terms overwriting overwriting_run
 
 -- ---- a reference is stored again where it was
 
@@ -49,7 +51,7 @@ storing_again_run =
     ∷ []
 
 abbrev pub StoredAgainCountsOnce : Type 0
-StoredAgainCountsOnce = IsRunOf storing_again storing_again_run
+StoredAgainCountsOnce = IsRunOf usual_terms storing_again storing_again_run
 
 -- ---- a cycle of garbage
 
@@ -76,7 +78,64 @@ cycle_run =
     ∷ []
 
 abbrev pub CycleIsSwept : Type 0
-CycleIsSwept = IsRunOf cycle cycle_run
+CycleIsSwept = IsRunOf usual_terms cycle cycle_run
+
+-- ---- a cycle of garbage and a trace
+
+-- a trace begins at each second pause at which none runs, and ends at the next
+abbrev pub traced_terms : Terms
+traced_terms = record usual_terms { trace = 2; within = 1 }
+
+-- the same, but no thread asks for a collecting pause
+abbrev pub traced_cycle : List Op
+traced_cycle =
+    new 1 1 ∷ new 2 1 ∷ store 1 0 2 ∷ store 2 0 1 ∷ op.Pause
+    ∷ clear 1 ∷ clear 2 ∷ op.Pause ∷ op.Pause
+    ∷ []
+
+-- the trace that finds them unreachable when it begins sweeps them when it ends
+abbrev pub traced_cycle_run : List Item
+traced_cycle_run =
+    makes 1 1 1 ∷ makes 2 1 2 ∷ stores 1 0 2 ∷ stores 2 0 1 ∷ asks
+    ∷ Pause (record (quiet 1 kind.Plain []) { promoted = made 1 ∷ made 2 ∷ [] })
+    ∷ clears 1 ∷ clears 2 ∷ asks
+    ∷ Pause (quiet 2 kind.Begin (world_count ∷ counted 1 1 ∷ counted 2 1 ∷ []))
+    ∷ asks
+    ∷ Pause (record (quiet 3 (kind.End 2) (world_count ∷ [])) { swept = made 1 ∷ made 2 ∷ [] })
+    ∷ ends
+    ∷ Pause (quiet 4 kind.Collect (world_count ∷ []))
+    ∷ []
+
+abbrev pub TraceSweepsCycle : Type 0
+TraceSweepsCycle = IsRunOf traced_terms traced_cycle traced_cycle_run
+
+-- ---- a full heap
+
+-- one block, of which an object of the largest shape leaves no run for a second one
+abbrev pub one_block : Terms
+one_block = record usual_terms { blocks = 1 }
+
+abbrev pub largest : ℕ → Op
+largest dest = op.New dest (record { refs = 1023; values = 1023 })
+
+abbrev pub filling : List Op
+filling = largest 1 ∷ largest 2 ∷ op.Same 2 3 ∷ []
+
+-- each `new` waits for pauses, the second for a collecting one, behind which it is told that the heap is full
+abbrev pub filling_run : List Item
+filling_run =
+    Pause (quiet 1 kind.Plain [])
+    ∷ does (largest 1) (reply.New (made 1))
+    ∷ Pause (record (quiet 2 kind.Plain []) { promoted = made 1 ∷ [] })
+    ∷ Pause (quiet 3 kind.Collect (world_count ∷ counted 1 1 ∷ []))
+    ∷ does (largest 2) reply.Full
+    ∷ does (op.Same 2 3) (reply.Same true)
+    ∷ ends
+    ∷ Pause (record (quiet 4 kind.Collect (world_count ∷ [])) { dead = made 1 ∷ [] })
+    ∷ []
+
+abbrev pub FullAfterCollecting : Type 0
+FullAfterCollecting = IsRunOf one_block filling filling_run
 
 -- ---- a stuck count
 
@@ -103,7 +162,7 @@ sticking_run =
     ∷ []
 
 abbrev pub StuckIsSwept : Type 0
-StuckIsSwept = IsRunOf sticking sticking_run
+StuckIsSwept = IsRunOf usual_terms sticking sticking_run
 
 -- ---- a count that falls to zero
 
@@ -128,4 +187,4 @@ letting_go_run =
     ∷ []
 
 abbrev pub LetGoIsDead : Type 0
-LetGoIsDead = IsRunOf letting_go letting_go_run
+LetGoIsDead = IsRunOf usual_terms letting_go letting_go_run

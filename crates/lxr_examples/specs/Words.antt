@@ -80,7 +80,7 @@ counted serial count = record { name = made serial; count = Some count }
 
 -- ---- the claim
 
--- this history, oldest item first, is legal and belongs to the script with these operations of thread 1
-pub record IsRunOf (operations : List Op) (items : List Item) : Type 0 where
-  pub legal : IsLegal usual_terms (reverse items)
-  pub belongs : Belongs usual_terms (operations ∷ []) (reverse items)
+-- under these terms this history, oldest item first, is legal and belongs to the script with these operations of thread 1
+pub record IsRunOf (terms : Terms) (operations : List Op) (items : List Item) : Type 0 where
+  pub legal : IsLegal terms (reverse items)
+  pub belongs : Belongs terms (operations ∷ []) (reverse items)

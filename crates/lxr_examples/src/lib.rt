@@ -1,4 +1,4 @@
-//! Small histories written out whole, and what the model says of them: five runs that are legal and belong to their
+//! Small histories written out whole, and what the model says of them: seven runs that are legal and belong to their
 //! scripts, and three that miss it by one report.
 //!
 //! The functions of this crate do nothing: the contract of each is what is said of one history.
@@ -9,6 +9,6 @@ mod runs;
 
 pub use near_misses::{cycle_is_not_dead, reachable_is_not_dead, unasked_collect_is_refused};
 pub use runs::{
-    cycle_is_swept, let_go_is_dead, overwritten_is_not_promoted, stored_again_counts_once,
-    stuck_is_swept,
+    cycle_is_swept, full_after_collecting, let_go_is_dead, overwritten_is_not_promoted,
+    stored_again_counts_once, stuck_is_swept, trace_sweeps_cycle,
 };

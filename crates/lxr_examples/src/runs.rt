@@ -1,5 +1,5 @@
 //! Histories that are legal and belong to their scripts.
-ghost use Rattle.lxr_examples.specs.Histories.{CycleIsSwept, LetGoIsDead, OverwrittenIsNotPromoted, StoredAgainCountsOnce, StuckIsSwept};
+ghost use Rattle.lxr_examples.specs.Histories.{CycleIsSwept, FullAfterCollecting, LetGoIsDead, OverwrittenIsNotPromoted, StoredAgainCountsOnce, StuckIsSwept, TraceSweepsCycle};
 
 /// Of two objects that are stored to one field between two pauses, the first is never promoted.
 pub fn overwritten_is_not_promoted()
@@ -14,6 +14,17 @@ pub fn stored_again_counts_once()
 /// Two objects that refer to each other alone stay through plain pauses, and a collecting pause sweeps them.
 pub fn cycle_is_swept()
     ensures { CycleIsSwept }
+{}
+
+/// A trace that begins at one pause and ends at the next sweeps them too.
+pub fn trace_sweeps_cycle()
+    ensures { TraceSweepsCycle }
+{}
+
+/// Where one object leaves no run for a second of its shape, the second is told `full` behind a pause that collects for
+/// it.
+pub fn full_after_collecting()
+    ensures { FullAfterCollecting }
 {}
 
 /// An object with three references at a pause is stuck, and only a sweep reclaims it.
