@@ -1,7 +1,5 @@
-use Rattle.std.proofs.Common.{◌≡◌, ◌∙◌, ◌++◌, ◌∷◌, [], map, sym, ap}
+use Rattle.std.proofs.Common.{◌≡◌, ◌++◌, ◌∷◌, [], map}
 use Rattle.std.proofs.lemmas.List.{map_push}
-use Rattle.lxr_script.specs.Limits.{IsScript}
-use Rattle.lxr_load.specs.Load.{load}
 use Rattle.lxr_load.proofs.Rounds.{thread_more, threads_done, load_fits}
 use Rattle.lxr_load.proofs.make_load.Goals as goal
 

@@ -1,4 +1,4 @@
-use Rattle.std.proofs.Common.{◌≡◌, ◌∙◌, ℕ, ◌+◌, ◌%◌, ◌^◌, sym, ap}
+use Rattle.std.proofs.Common.{◌∙◌, ℕ, ◌+◌, ◌%◌, ◌^◌, ap}
 use Rattle.lxr_load.specs.Load.{rounds}
 use Rattle.lxr_load.proofs.Rounds.{goes_on, is_done}
 use Rattle.lxr_load.proofs.make_thread.Goals as goal
