@@ -4,7 +4,7 @@
 //! room, and contracts see, beside the items, how many items a list can hold without taking memory.
 #![tactic(auto)]
 
-ghost use Rattle.std.specs.Prelude.{◌≡◌, ◌<◌, ◌↔◌, [], IfOk, IsTrue, MatchOption, OnErr, OnOk, length, slice_get};
+ghost use Rattle.std.specs.Prelude.{◌≡◌, ◌<◌, ◌↔◌, [], IfOk, IsTrue, MatchOption, OnErr, OnOk, length, slice_get, slice_set};
 ghost use Rattle.lxr_lists.specs.Roomy.{emptied, pushed};
 
 use std::alloc::{AllocError, Global};
@@ -112,6 +112,16 @@ impl<T> Listed<T> {
         ensures { result ≡ slice_get self.now.items at }
     {
         self.items.get(at).copied()
+    }
+
+    /// Puts an item in place of the one at an index.
+    pub fn set(&mut self, at: usize, item: T)
+    where
+        T: Drop,
+        requires { at < length self.old.items }
+        ensures { self.new ≡ record self.old { items = slice_set self.old.items at item } }
+    {
+        self.items[at] = item;
     }
 
     /// Takes all items out; the room stays.
