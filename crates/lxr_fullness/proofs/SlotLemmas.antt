@@ -62,6 +62,20 @@ counts_same p q (suc n) same =
     ap (λ c. c + (if p n then 1 else 0)) (counts_same p q n (λ j h. same j (omega (arith, h))))
     ∙ ap (λ b. count_passing q n + (if b then 1 else 0)) (same n (omega arith))
 
+-- a test that fails wherever another one fails counts no more than that
+pub counts_more : (p q : ℕ → Bool) (n : ℕ) → ((j : ℕ) → j < n → q j ≡ false → p j ≡ false) → count_passing p n ≤ count_passing q n
+unfolding count_passing
+counts_more p q zero fails = omega arith
+counts_more p q (suc n) fails =
+    let before = counts_more p q n (λ j h. fails j (omega (arith, h))) in
+    let one = one_at_most (p n) in
+    elim (cases_Bool (q n)) [
+      | inl passes ↦ let here = ap (λ b. count_passing q n + (if b then 1 else 0)) passes in omega arith
+      | inr fails_too ↦
+          let here = ap (λ b. count_passing q n + (if b then 1 else 0)) fails_too in
+          let too = ap (λ b. count_passing p n + (if b then 1 else 0)) (fails n (omega arith) fails_too) in omega arith
+    ]
+
 -- a number is one of the m from a on
 abbrev pub IsInWindow : ℕ → ℕ → ℕ → Type 0
 IsInWindow a m j = (a ≤ j) × (j < a + m)
@@ -86,8 +100,8 @@ pub slot_within : (begin k j : ℕ) → begin ≤ 128 → j < (128 - begin) / k 
 slot_within begin k j low is =
     let up = mul-le-mul_right k is in let all = div-mul-le_self (128 - begin) k in omega (arith, up, all)
 
--- the slots that lines in a row overlap are few, and stand in a row too
-pub slot_in_window : (begin line lines k j : ℕ) → 1 ≤ k → line < begin + j * k + k → begin + j * k < line + lines
+-- the slots that so many lines in a row and one more overlap are few, and stand in a row too
+pub slot_in_window : (begin line lines k j : ℕ) → 1 ≤ k → line < begin + j * k + k → begin + j * k ≤ line + lines
     → IsInWindow ((line - begin) / k) (slots_touched k lines) j
 slot_in_window begin line lines k j some behind before =
     let first = (line - begin) / k in

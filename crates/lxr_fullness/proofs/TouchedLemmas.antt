@@ -1,8 +1,9 @@
--- What touches slots: nothing at the opening, a run that is handed out few, and all are touched where no run is left.
+-- What touches slots: nothing at the opening, a row of lines few, such as a run that is handed out, and all are touched
+-- where no run is left.
 use Rattle.std.proofs.Common.{◌≡◌, ◌≢◌, ℕ, zero, suc, ◌+◌, ◌-◌, ◌*◌, ◌/◌, ◌<◌, ◌≤◌, refl, sym, ap, subst, ◌∙◌, inl, inr, ◌⊎◌, arith, true, false}
 use Rattle.std.specs.Prelude.{◌&&◌, ◌==◌, not, if◌then◌else◌}
 use Rattle.std.proofs.Math.Path.{fun_ext}
-use Rattle.std.proofs.lemmas.Bool.{cases_Bool}
+use Rattle.std.proofs.lemmas.Bool.{cases_Bool, not-false}
 use Rattle.std.proofs.lemmas.Bool.Decides.{eqb_tells, leb_tells, nat_tests}
 use Rattle.lxr_layout.specs.declared.limits.Limits.{Limits}
 use Rattle.lxr_layout.specs.declared.runs.Run.{Run}
@@ -13,7 +14,7 @@ use Rattle.lxr_blocks.specs.Handing.{first_line, handed_out, is_between}
 use Rattle.lxr_model.specs.Full.{slots_in, slots_touched}
 use Rattle.lxr_fullness.specs.Touched.{are_free, is_touched, slots_begin, slots_of, touched_in, touched_slots}
 use Rattle.lxr_fullness.specs.TouchedLaws.{HandingOutTouchesFew, NoRunTouchesAll, OpenedTouchesNone, TouchedReadsLines}
-use Rattle.lxr_fullness.proofs.SlotLemmas.{IsInWindow, counts_all, counts_in_window, counts_none, counts_same, row_has_free, row_is_free, same_row, slot_in_window, slot_within}
+use Rattle.lxr_fullness.proofs.SlotLemmas.{IsInWindow, counts_all, counts_in_window, counts_more, counts_none, counts_same, row_has_free, row_is_free, same_row, slot_in_window, slot_within}
 
 pub begins_early : (b : ℕ) → slots_begin b ≤ 3
 begins_early zero = omega arith
@@ -42,7 +43,7 @@ touched_reads_lines t u (suc b) k outs counts =
 -- ---- the opening
 
 -- so many counts from one on are 0 where each is
-zeros : (counts : ℕ → ℕ) (g k : ℕ) → ((m : ℕ) → m < k → counts (g + m) ≡ 0) → are_zero counts g k ≡ true
+pub zeros : (counts : ℕ → ℕ) (g k : ℕ) → ((m : ℕ) → m < k → counts (g + m) ≡ 0) → are_zero counts g k ≡ true
 unfolding are_zero
 zeros counts g zero all = refl
 zeros counts g (suc k) all =
@@ -61,19 +62,115 @@ behind_world : (b i : ℕ) → slots_begin b ≤ i → 3 ≤ 128 * b + i
 behind_world zero i from = omega (arith, from)
 behind_world (suc b) i from = omega arith
 
-opened_block : (limits : Limits) (k b : ℕ) → touched_in (opened_tables limits) k b ≡ 0
-opened_block limits k b =
-    counts_none (is_touched (free_in (opened_tables limits) b) k (slots_begin b)) (slots_of k b)
-    (λ j h. ap not (row_is_free (free_in (opened_tables limits) b) (slots_begin b + j * k) k
-    (λ m in_slot. opened_line limits (128 * b + (slots_begin b + j * k + m)) (behind_world b (slots_begin b + j * k + m) (omega arith)))))
+-- where all lines behind the world are free, no slot is touched
+abbrev pub IsAllFree : Tables → Type 0
+IsAllFree t = (n : ℕ) → 3 ≤ n → is_free t n ≡ true
 
-opened_blocks : (limits : Limits) (blocks k : ℕ) → touched_slots (opened_tables limits) blocks k ≡ 0
+free_block : (t : Tables) (k b : ℕ) → IsAllFree t → touched_in t k b ≡ 0
+free_block t k b free =
+    counts_none (is_touched (free_in t b) k (slots_begin b)) (slots_of k b)
+    (λ j h. ap not (row_is_free (free_in t b) (slots_begin b + j * k) k
+    (λ m in_slot. free (128 * b + (slots_begin b + j * k + m)) (behind_world b (slots_begin b + j * k + m) (omega arith)))))
+
+pub free_blocks : (t : Tables) (blocks k : ℕ) → IsAllFree t → touched_slots t blocks k ≡ 0
 unfolding touched_slots
-opened_blocks limits zero k = refl
-opened_blocks limits (suc b) k = let before = opened_blocks limits b k in let here = opened_block limits k b in omega (arith, before, here)
+free_blocks t zero k free = refl
+free_blocks t (suc b) k free = let before = free_blocks t b k free in let here = free_block t k b free in omega (arith, before, here)
 
 pub opened_touches_none : OpenedTouchesNone
-opened_touches_none limits k = opened_blocks limits limits.blocks k
+opened_touches_none limits k = free_blocks (opened_tables limits) limits.blocks k (opened_line limits)
+
+-- ---- more lines that aren't free
+
+-- a heap has no more slots touched than another in which each of its lines that aren't free isn't free either
+more_in_block : (t u : Tables) (k b : ℕ) → ((i : ℕ) → slots_begin b ≤ i → i < 128 → free_in t b i ≡ false → free_in u b i ≡ false)
+    → touched_in t k b ≤ touched_in u k b
+more_in_block t u k b still =
+    let early = begins_early b in
+    counts_more (is_touched (free_in t b) k (slots_begin b)) (is_touched (free_in u b) k (slots_begin b)) (slots_of k b)
+    (λ j h untouched. let within = slot_within (slots_begin b) k j (omega (arith, early)) h in
+    let begin = slots_begin b + j * k in
+    ap not (row_is_free (free_in t b) begin k (λ m in_slot. elim (cases_Bool (free_in t b (begin + m))) [
+      | inl free ↦ free
+      | inr taken ↦
+          let row : are_free (free_in u b) begin k ≡ true = not-false _ untouched in
+          let is = row_has_free (free_in u b) begin k m in_slot row in
+          let no = still (begin + m) (omega arith) (omega (arith, within, in_slot)) taken in absurd (cc)
+    ])))
+
+pub more_touched : (t u : Tables) (n k : ℕ) → ((line : ℕ) → 3 ≤ line → line < 128 * n → is_free t line ≡ false → is_free u line ≡ false)
+    → touched_slots t n k ≤ touched_slots u n k
+unfolding touched_slots
+more_touched t u zero k still = omega arith
+more_touched t u (suc b) k still =
+    let before = more_touched t u b k (λ line past in_heap. still line past (omega (arith, in_heap))) in
+    let here = more_in_block t u k b (λ i from h. still (128 * b + i) (behind_world b i from) (omega (arith, h))) in
+    omega (arith, before, here)
+
+-- ---- lines in a row
+
+-- the same lines are free, but for some in a row of one block
+pub record DifferInRow (t u : Tables) (b first end : ℕ) : Type 0 where
+  pub begins : 128 * b ≤ first
+  pub within : end ≤ 128 * b + 128
+  pub alike : (n : ℕ) → (n < first) ⊎ (end ≤ n) → is_free t n ≡ is_free u n
+
+module _ (t u : Tables) (b first end lines k : ℕ) (some : 1 ≤ k) (short : end ≤ first + lines + 1) (differ : DifferInRow t u b first end) where
+  -- a line of another block is outside the row
+  in_other_block : (c i : ℕ) → c ≢ b → i < 128 → (128 * c + i < first) ⊎ (end ≤ 128 * c + i)
+  in_other_block c i ne h =
+      let begins = differ.begins in let within = differ.within in
+      elim (leb_tells c b) [
+        | inl before ↦ let low = before.1 in inl (omega (arith, low, begins))
+        | inr behind ↦ let high = behind.1 in inr (omega (arith, high, within))
+      ]
+
+  other_block : (c : ℕ) → c ≢ b → touched_in t k c ≡ touched_in u k c
+  other_block c ne = same_block t u k c (λ i h. differ.alike (128 * c + i) (in_other_block c i ne h))
+
+  -- a slot of the row's block is touched in both, or the row overlaps it
+  own_slot : (j : ℕ) → (is_touched (free_in t b) k (slots_begin b) j ≡ is_touched (free_in u b) k (slots_begin b) j)
+      ⊎ IsInWindow ((first - 128 * b - slots_begin b) / k) (slots_touched k lines) j
+  own_slot j =
+      let begin = slots_begin b + j * k in
+      let begins = differ.begins in
+      let same : ((m : ℕ) → m < k → (128 * b + (begin + m) < first) ⊎ (end ≤ 128 * b + (begin + m)))
+      → is_touched (free_in t b) k (slots_begin b) j ≡ is_touched (free_in u b) k (slots_begin b) j
+      = λ outside. ap not (same_row (free_in t b) (free_in u b) begin k (λ m h. differ.alike (128 * b + (begin + m)) (outside m h))) in
+      elim (leb_tells (128 * b + (begin + k)) first) [
+        | inl before ↦ let low = before.1 in inl (same (λ m h. inl (omega (arith, h, low))))
+        | inr not_before ↦ elim (leb_tells end (128 * b + begin)) [
+          | inl behind ↦ let high = behind.1 in inl (same (λ m h. inr (omega (arith, high))))
+          | inr not_behind ↦
+              let low = not_before.1 in let high = not_behind.1 in
+              inr (slot_in_window (slots_begin b) (first - 128 * b) lines k j some (omega (arith, low, begins)) (omega (arith, high, begins, short)))
+        ]
+      ]
+
+  own_block : touched_in t k b ≤ touched_in u k b + slots_touched k lines
+  own_block =
+      (counts_in_window (is_touched (free_in t b) k (slots_begin b)) (is_touched (free_in u b) k (slots_begin b))
+      ((first - 128 * b - slots_begin b) / k) (slots_touched k lines) (slots_of k b) (λ j h. own_slot j)).1
+
+  -- the blocks before the row's
+  blocks_before : (n : ℕ) → n ≤ b → touched_slots t n k ≡ touched_slots u n k
+  unfolding touched_slots
+  blocks_before zero low = refl
+  blocks_before (suc c) low =
+      let before = blocks_before c (omega (arith, low)) in
+      let here = other_block c (λ is. omega (arith, is, low)) in omega (arith, before, here)
+
+  -- so many lines in a row and one more touch no more slots than so many lines may
+  pub row_touches_few : (n : ℕ) → touched_slots t n k ≤ touched_slots u n k + slots_touched k lines
+  unfolding touched_slots
+  row_touches_few zero = omega arith
+  row_touches_few (suc c) = elim (eqb_tells c b) [
+    | inl own ↦
+        let is = own.1 in let before = blocks_before c (omega (arith, is)) in
+        let here = subst (λ x. touched_in t k x ≤ touched_in u k x + slots_touched k lines) (sym is) own_block in
+        omega (arith, before, here)
+    | inr other ↦ let before = row_touches_few c in let here = other_block c other.1 in omega (arith, before, here)
+  ]
 
 -- ---- a run that is handed out
 
@@ -82,71 +179,14 @@ not_between : (first end n : ℕ) → (n < first) ⊎ (end ≤ n) → is_between
 not_between first end n outside = grind (arith, nat_tests)
 
 -- a line outside the run is as free as it was
-other_line : (t : Tables) (r : Run) (b i : ℕ) → (128 * b + i < first_line r) ⊎ (first_line r + r.lines ≤ 128 * b + i)
-    → free_in (handed_out t r) b i ≡ free_in t b i
-other_line t r b i outside =
-    ap (λ x. not (if x then true else t.outs (128 * b + i)) && are_zero t.counts (16 * (128 * b + i)) 16)
-    (not_between (first_line r) (first_line r + r.lines) (128 * b + i) outside)
-
--- a line of another block is outside the run
-in_other_block : (r : Run) (b i : ℕ) → r.line + r.lines ≤ 128 → b ≢ r.block → i < 128
-    → (128 * b + i < first_line r) ⊎ (first_line r + r.lines ≤ 128 * b + i)
-in_other_block r b i within ne h = elim (leb_tells b r.block) [
-  | inl k ↦ let low = k.1 in inl (omega (arith, low))
-  | inr k ↦ let high = k.1 in inr (omega (arith, high, within))
-]
-
-other_block : (t : Tables) (r : Run) (k b : ℕ) → r.line + r.lines ≤ 128 → b ≢ r.block → touched_in (handed_out t r) k b ≡ touched_in t k b
-other_block t r k b within ne = same_block (handed_out t r) t k b (λ i h. other_line t r b i (in_other_block r b i within ne h))
-
--- a slot of the run's block is touched as it was, or the run overlaps it
-own_slot : (t : Tables) (r : Run) (k j : ℕ) → 1 ≤ k
-    → (is_touched (free_in (handed_out t r) r.block) k (slots_begin r.block) j ≡ is_touched (free_in t r.block) k (slots_begin r.block) j)
-    ⊎ IsInWindow ((r.line - slots_begin r.block) / k) (slots_touched k r.lines) j
-own_slot t r k j some =
-    let begin = slots_begin r.block + j * k in
-    let same : ((m : ℕ) → m < k → (begin + m < r.line) ⊎ (r.line + r.lines ≤ begin + m))
-    → is_touched (free_in (handed_out t r) r.block) k (slots_begin r.block) j ≡ is_touched (free_in t r.block) k (slots_begin r.block) j
-    = λ outside. ap not (same_row (free_in (handed_out t r) r.block) (free_in t r.block) begin k
-    (λ m h. other_line t r r.block (begin + m) (elim (outside m h) [ inl low ↦ inl (omega (arith, low)) | inr high ↦ inr (omega (arith, high)) ]))) in
-    elim (leb_tells (begin + k) r.line) [
-      | inl before ↦ let low = before.1 in inl (same (λ m h. inl (omega (arith, h, low))))
-      | inr not_before ↦ elim (leb_tells (r.line + r.lines) begin) [
-        | inl behind ↦ let high = behind.1 in inl (same (λ m h. inr (omega (arith, high))))
-        | inr not_behind ↦ inr (slot_in_window (slots_begin r.block) r.line r.lines k j some not_before.1 not_behind.1)
-      ]
-    ]
-
-own_block : (t : Tables) (r : Run) (k : ℕ) → 1 ≤ k → touched_in (handed_out t r) k r.block ≤ touched_in t k r.block + slots_touched k r.lines
-own_block t r k some =
-    (counts_in_window (is_touched (free_in (handed_out t r) r.block) k (slots_begin r.block)) (is_touched (free_in t r.block) k (slots_begin r.block))
-    ((r.line - slots_begin r.block) / k) (slots_touched k r.lines) (slots_of k r.block) (λ j h. own_slot t r k j some)).1
-
--- the blocks before the run's
-blocks_before : (t : Tables) (r : Run) (n k : ℕ) → r.line + r.lines ≤ 128 → n ≤ r.block → touched_slots (handed_out t r) n k ≡ touched_slots t n k
-unfolding touched_slots
-blocks_before t r zero k within low = refl
-blocks_before t r (suc b) k within low =
-    let before = blocks_before t r b k within (omega (arith, low)) in
-    let here = other_block t r k b within (λ is. omega (arith, is, low)) in omega (arith, before, here)
-
--- and those behind it
-blocks_behind : (t : Tables) (r : Run) (n k : ℕ) → 1 ≤ k → r.line + r.lines ≤ 128 → r.block < n
-    → touched_slots (handed_out t r) n k ≤ touched_slots t n k + slots_touched k r.lines
-unfolding touched_slots
-blocks_behind t r zero k some within h = absurd (omega arith)
-blocks_behind t r (suc b) k some within h = elim (eqb_tells b r.block) [
-  | inl own ↦
-      let is = own.1 in let before = blocks_before t r b k within (omega (arith, is)) in
-      let here = subst (λ x. touched_in (handed_out t r) k x ≤ touched_in t k x + slots_touched k r.lines) (sym is) (own_block t r k some) in
-      omega (arith, before, here)
-  | inr other ↦
-      let ne = other.1 in let before = blocks_behind t r b k some within (omega (arith, h, ne)) in
-      let here = other_block t r k b within ne in omega (arith, before, here)
-]
+other_line : (t : Tables) (r : Run) (n : ℕ) → (n < first_line r) ⊎ (first_line r + r.lines ≤ n) → is_free (handed_out t r) n ≡ is_free t n
+other_line t r n outside =
+    ap (λ x. not (if x then true else t.outs n) && are_zero t.counts (16 * n) 16) (not_between (first_line r) (first_line r + r.lines) n outside)
 
 pub handing_out_touches_few : HandingOutTouchesFew
-handing_out_touches_few t blocks k r some is = blocks_behind t r blocks k some is.within is.block
+handing_out_touches_few t blocks k r some is =
+    row_touches_few (handed_out t r) t r.block (first_line r) (first_line r + r.lines) r.lines k some (omega arith)
+    (record { begins = omega arith; within = let h = is.within in omega (arith, h); alike = other_line t r }) blocks
 
 -- ---- no run is left
 
