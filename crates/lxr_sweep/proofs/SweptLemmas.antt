@@ -1,5 +1,5 @@
 -- Blocks swept one after another are swept all.
-use Rattle.std.proofs.Common.{◌≡◌, ◌≢◌, ℕ, ◌+◌, ◌<◌, ◌≤◌, refl, sym, ap, subst, ◌∙◌, inl, inr, ◌⊎◌, arith, Bool, true, false}
+use Rattle.std.proofs.Common.{◌≡◌, ◌≢◌, ℕ, ◌+◌, ◌<◌, ◌≤◌, refl, sym, ap, subst, ◌∙◌, inl, inr, arith, Bool, true, false}
 use Rattle.std.specs.Prelude.{nat_eq, nat_lt, not, ◌&&◌, if◌then◌else◌}
 use Rattle.std.proofs.lemmas.Bool.Decides.{eqb_tells, nat_tests}
 use Rattle.lxr_image.specs.declared.space.Space.{Space}
@@ -9,7 +9,7 @@ use Rattle.lxr_image.proofs.SpaceLemmas.{turns_then}
 use Rattle.lxr_blocks.specs.declared.states.BlockState.{BlockState}
 use Rattle.lxr_blocks.specs.declared.states.BlockState.TheVariants.{Free, Partly, Whole, Chosen, World}
 use Rattle.lxr_blocks.specs.States.{is_fixed, state_by_lines, state_in, state_number, state_of, with_state_by_lines}
-use Rattle.lxr_sweep.specs.Swept.{AreSwept, SweptIsByLines, with_states_by_lines}
+use Rattle.lxr_sweep.specs.Swept.{SweptIsByLines, with_states_by_lines}
 
 -- the state of a block, where a test says whether it is renewed
 abbrev chosen_state : Tables → ℕ → Bool → ℕ
