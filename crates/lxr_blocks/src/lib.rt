@@ -17,7 +17,7 @@ pub use handing::hand_out;
 pub use laws::{free_line_is_told, kept_line_is_taken, opened_is_kept, placed_is_apart};
 pub use listing::list_runs;
 pub use placing::place_now;
-pub use states::{BlockState, longest, state};
+pub use states::{BlockState, longest, renew_state, state};
 
 #[cfg(test)]
 mod tests;

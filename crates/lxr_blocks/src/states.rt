@@ -75,8 +75,9 @@ fn state_of_lines(space: &Space, block: u32) -> BlockState
     BlockState::Partly
 }
 
-/// Gives a block the state of its free lines, unless it is Chosen or World.
-pub(crate) fn renew_state(space: &mut Space, block: u32)
+/// Gives a block the state of its free lines, unless it is Chosen or World. It is for after a change of counts or of
+/// lines that are handed out, as in a sweep over all blocks: no state changes by itself when lines become free.
+pub fn renew_state(space: &mut Space, block: u32)
     requires space { IsSpace space.old }
     requires block { block < space.old.limits.blocks }
     ensures { Turns space.old space.new (with_state_by_lines (tables_of space.old) block) }

@@ -5,9 +5,11 @@
 #![tactic(auto)]
 
 ghost use Rattle.std.specs.Prelude.{◌≡◌, ◌<◌, ◌↔◌, [], IfOk, IsTrue, MatchOption, OnErr, OnOk, length, slice_get, slice_set};
+ghost use Rattle.std.specs.List.Sorted.{IsPermutation, IsSortedByClosure};
 ghost use Rattle.lxr_lists.specs.Roomy.{emptied, pushed};
 
 use std::alloc::{AllocError, Global};
+use std::cmp::Ordering;
 use std::marker::Model;
 
 /// A list with its room.
@@ -122,6 +124,17 @@ impl<T> Listed<T> {
         ensures { self.new ≡ record self.old { items = slice_set self.old.items at item } }
     {
         self.items[at] = item;
+    }
+
+    /// Puts the items into the order that a comparison says, in place; items that tie may change places among each
+    /// other. It takes no memory, and the room stays.
+    pub fn sort_unstable_by<F: FnMut(&T, &T) -> Ordering>(&mut self, compare: F)
+        requires { F.IsAlwaysCallable compare }
+        ensures permutation { IsPermutation self.old.items self.new.items }
+        ensures sorted { IsSortedByClosure F.FnMut compare self.new.items }
+        ensures room { self.new.room ≡ self.old.room }
+    {
+        self.items.sort_unstable_by(compare);
     }
 
     /// Takes all items out; the room stays.
