@@ -1,5 +1,6 @@
 //! Whole runs with what they write and leave. The expected texts were worked out by hand from the rules of the graph.
-use lxr_run::{Gate, Open, Space, Status, Unseen, lxr};
+use lxr_image::Space;
+use lxr_run::{Gate, Open, Status, Unseen, lxr};
 use lxr_stream::{Bytes, Kept, Plenty, Whole};
 use std::alloc::{AllocError, Global};
 use std::sync::atomic::{AtomicU32, Ordering};
