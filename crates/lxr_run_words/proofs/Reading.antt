@@ -5,7 +5,6 @@ use Rattle.std.specs.Str.{bytes_eq}
 use Rattle.std.specs.Borrow.{Bor}
 use Rattle.std.proofs.lemmas.List.{append-nil, take_all}
 use Rattle.std.proofs.lemmas.Bool.{leb-true}
-
 use Rattle.std.proofs.lemmas.Slice.Eq.{bytes_eq-Decides}
 use Rattle.lxr_script.specs.Numbers.{number_of}
 use Rattle.lxr_run_words.specs.declared.NumberOption.{NumberOption}
@@ -88,25 +87,25 @@ read_is_spelled before (name ∷ value ∷ words) numbers after spells e =
 accepted_line : (words : List Text) (numbers : Numbers) (o : RunOptions) → numbers_in words ≡ Some numbers
     → (Some (options_from numbers) ≡ Some o) ↔ IsCommandLine (codes "run" ∷ words) o
 accepted_line words numbers o read = (
-    λ e. record { settings = words; numbers = numbers; command = refl; spelled = read_is_spelled [] words none_given numbers nothing read; asked = cc },
-    λ line.
-        let same : words ≡ line.settings = ap_tail line.command in
-        let also : numbers_in words ≡ Some line.numbers = ap numbers_in same ∙ spelled_is_read line.settings line.numbers line.spelled in
-        let numbers_same : numbers ≡ line.numbers = cc in
-        ap Some (ap options_from numbers_same ∙ sym line.asked),
-  )
+  λ e. record { settings = words; numbers = numbers; command = refl; spelled = read_is_spelled [] words none_given numbers nothing read; asked = cc },
+  λ line.
+      let same : words ≡ line.settings = ap_tail line.command in
+      let also : numbers_in words ≡ Some line.numbers = ap numbers_in same ∙ spelled_is_read line.settings line.numbers line.spelled in
+      let numbers_same : numbers ≡ line.numbers = cc in
+      ap Some (ap options_from numbers_same ∙ sym line.asked),
+)
   where
     ap_tail : {x y : Text} {xs ys : List Text} → x ∷ xs ≡ y ∷ ys → xs ≡ ys
     ap_tail e = cc
 
 refused_settings : (words : List Text) (o : RunOptions) → numbers_in words ≡ None → (None ≡ Some o) ↔ IsCommandLine (codes "run" ∷ words) o
 refused_settings words o read = (
-    λ e. absurd (cc),
-    λ line.
-        let same : words ≡ line.settings = ap_tail line.command in
-        let also : numbers_in words ≡ Some line.numbers = ap numbers_in same ∙ spelled_is_read line.settings line.numbers line.spelled in
-        absurd (cc),
-  )
+  λ e. absurd (cc),
+  λ line.
+      let same : words ≡ line.settings = ap_tail line.command in
+      let also : numbers_in words ≡ Some line.numbers = ap numbers_in same ∙ spelled_is_read line.settings line.numbers line.spelled in
+      absurd (cc),
+)
   where
     ap_tail : {x y : Text} {xs ys : List Text} → x ∷ xs ≡ y ∷ ys → xs ≡ ys
     ap_tail e = cc
@@ -151,9 +150,9 @@ numbers_between _ _ index least greatest default ranges fits none (setting words
     changed_or_same numbers option.index index (Some n) (λ z. IsBetween least greatest (unwrap_or z default))
     (numbers_between words numbers index least greatest default ranges fits none spells)
     (λ same.
-        let range = ranges name option named same in
-        let within = number_within option value n number in
-        (omega arith, omega arith))
+    let range = ranges name option named same in
+    let within = number_within option value n number in
+    (omega arith, omega arith))
 
 blocks_range : HasRange 0 1 1024
 blocks_range name option e same = go (bytes_eq name (codes "--blocks")) e
