@@ -2,7 +2,8 @@
 //! and ends with its status.
 #![tactic(auto)]
 
-use lxr_run::{Open, Space, Status, Unseen, lxr};
+use lxr_image::Space;
+use lxr_run::{Open, Status, Unseen, lxr};
 use lxr_stream::{Faults, Out, Standard};
 use std::alloc::AllocError;
 use std::env;

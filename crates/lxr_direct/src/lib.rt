@@ -13,3 +13,6 @@ mod operations;
 pub use making::{make, opened_stands};
 pub use objects::{end, get, load, move_register, nil, put, same, store};
 pub use operations::apply;
+
+#[cfg(test)]
+mod tests;

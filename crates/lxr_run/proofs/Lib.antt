@@ -1,12 +1,2 @@
-pub mod PackLemmas
-pub mod RowLemmas
-pub mod PlaceLemmas
-pub mod ImageLemmas
-pub mod StateLemmas
-pub mod HoldsLemmas
-pub mod ChangeLemmas
-pub mod DoesLemmas
-pub mod OpeningLemmas
 pub mod RunLemmas
-pub mod WordLemmas
 pub mod OutcomeLemmas

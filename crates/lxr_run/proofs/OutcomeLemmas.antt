@@ -2,9 +2,10 @@
 use Rattle.std.proofs.Common.{⊎_elim, ◌≡◌, ◌≢◌, ℕ, ◌+◌, ◌<◌, ◌≤◌, ◌↔◌, refl, sym, ap, subst, ◌∙◌, List, [], ◌∷◌, ◌++◌, length, take, arith, Bool, true, false}
 use Rattle.std.specs.Prelude.{All, Option, Some, None, IfSome, Ok, Err, Result, nat_le, if◌then◌else◌}
 use Rattle.std.proofs.lemmas.List.{append-nil, length_push, map_push, get_or_push, take_at, take_all}
-use Rattle.std.proofs.lemmas.List.Elements.{All-get_or}
+use Rattle.std.proofs.lemmas.List.Elements.{All-get_or, All-weaker}
 use Rattle.std.proofs.lemmas.Bool.{cases_lt, leb-true}
 use Rattle.lxr_graph.specs.declared.Op.{Op}
+use Rattle.lxr_graph.specs.declared.Op.TheVariants as op
 use Rattle.lxr_graph.specs.declared.Reply.{Reply}
 use Rattle.lxr_graph.specs.declared.Reply.TheVariants as reply
 use Rattle.lxr_graph.specs.History.{Item, replies_of}
@@ -12,14 +13,17 @@ use Rattle.lxr_lists.specs.Roomy.{Roomy, pushed}
 use Rattle.lxr_script.specs.Limits.{IsThread}
 use Rattle.lxr_script.specs.Reading.{lists_in, reading_of}
 use Rattle.lxr_stream.specs.Streams.{Appends, AppendsFront, IsAtEnd, Takes}
-use Rattle.lxr_text.specs.Replies.{replies_text, thread_text}
+use Rattle.lxr_text.specs.Replies.{ArePrintable, replies_text, thread_text}
 use Rattle.lxr_text.proofs.HistoryLemmas.{is_of_its_operations}
-use Rattle.lxr_run.specs.Outcome.{IsCutOff, IsDone, WasJudged, judged_part}
+use Rattle.lxr_run.specs.Outcome.{IsCutOff, IsDone, IsRunCommand, WasJudged, judged_part}
 use Rattle.lxr_run.specs.Run.{IsRun}
-use Rattle.lxr_run.specs.Script.{IsNoScript, IsScriptOf}
+use Rattle.lxr_run.specs.Script.{IsNoScript, IsOnGraph, IsScriptOf}
+use Rattle.lxr_run.proofs.RunLemmas.{no_end}
 use Rattle.lxr_run.specs.declared.Status.{Status}
 use Rattle.lxr_run.specs.declared.Status.TheVariants as status
-use Rattle.lxr_run.specs.declared.space.Space.{Space}
+use Rattle.lxr_image.specs.declared.space.Space.{Space}
+use Rattle.lxr_run_words.specs.declared.RunOptions.{RunOptions}
+use Rattle.lxr_run_words.specs.CommandLines.{IsCommandLine}
 
 -- the last of the lists that were read is a thread within the limits
 pub last_thread : (lists rest : Roomy (Roomy Op)) (operations : Roomy Op) → lists ≡ pushed rest operations → All IsThread (lists_in lists) → IsThread operations.items
@@ -73,13 +77,30 @@ read_whole left (Some rest) read operations takes end accepted =
     (none, subst (λ z. IfSome z (λ bytes. IsScriptOf bytes operations)) (sym takes) (subst (λ z. IsScriptOf z operations) (sym whole) accepted))
 
 -- the text of a run's history is that of its operations and of the replies that were kept
-pub text_of_run : (operations : List Op) (h : List Item) (kept : List Reply) (space : Space) → IsRun operations h kept space
+pub text_of_run : (blocks : ℕ) (operations : List Op) (h : List Item) (kept : List Reply) (space : Space) → IsRun blocks operations h kept space
     → replies_text 1 operations kept ≡ thread_text 1 h
-text_of_run operations h kept space run =
+text_of_run blocks operations h kept space run =
     let front : take (length operations) (replies_of 1 h) ≡ take (length operations) kept =
     ap (take (length operations)) run.replies ∙ take_at kept (reply.Ended ∷ []) (length operations) run.as_many
     ∙ sym (take_all (length operations) kept (omega (arith, run.as_many))) in
     sym (is_of_its_operations 1 h operations kept run.history.calls front)
+
+-- their text can be printed
+pub printable : (blocks : ℕ) (operations : List Op) (kept : List Reply) (space : Space) → All IsOnGraph operations → (h : List Item) × IsRun blocks operations h kept space → ArePrintable operations kept
+printable blocks operations kept space on (h, run) =
+    record {
+      replied = omega (arith, run.as_many);
+      no_end = All-weaker IsOnGraph (λ o. o ≢ op.End) no_end operations on;
+      none_ended = subst (All (λ r. r ≢ reply.Ended)) (sym (take_all (length operations) kept (omega (arith, run.as_many)))) run.none_ended;
+    }
+
+-- the words of the command line, at each status
+
+pub words_taken : (ended : Status) (words : List (List ℕ)) (options : RunOptions) → ended ≢ status.Words → IsCommandLine words options → (ended ≡ status.Words) ↔ ¬ IsRunCommand words
+words_taken ended words options other line = (λ e. absurd (other e), λ no. absurd (no (options, line)))
+
+pub words_refused : (words : List (List ℕ)) → ((options : RunOptions) → IsCommandLine words options → ⊥) → (status.Words ≡ status.Words) ↔ ¬ IsRunCommand words
+words_refused words none = (λ e. λ (options, line). none options line, λ no. refl)
 
 -- what is judged, at each status
 
@@ -99,32 +120,36 @@ accepted_input ended left left' read operations other takes end limited accepted
 
 -- what is left by a run whose text was printed, whole or in part
 
-pub printed_whole : (left left' written written' : Option (List ℕ)) (read : List ℕ) (operations : List Op) (kept : List Reply) (space : Space) → Takes left left' read
-    → (length read ≤ 67108864 → IsAtEnd left') → IsScriptOf read operations → (h : List Item) × IsRun operations h kept space
-    → Appends written written' (replies_text 1 operations kept) → IsDone left left' written written' space
-printed_whole left left' written written' read operations kept space takes end accepted (h, run) text =
+pub printed_whole : (words : List (List ℕ)) (options : RunOptions) → IsCommandLine words options → (left left' written written' : Option (List ℕ)) (read : List ℕ) (operations : List Op) (kept : List Reply) (space : Space) → Takes left left' read
+    → (length read ≤ 67108864 → IsAtEnd left') → IsScriptOf read operations → (h : List Item) × IsRun options.blocks operations h kept space
+    → Appends written written' (replies_text 1 operations kept) → IsDone words left left' written written' space
+printed_whole words options line left left' written written' read operations kept space takes end accepted (h, run) text =
     let whole = read_whole left left' read operations takes end accepted in
     record {
+      options = options;
       operations = operations;
       history = h;
+      accepted = line;
       script = whole.1;
       read = whole.0;
       run = run.history;
-      text = subst (λ z. Appends written written' z) (text_of_run operations h kept space run) text;
+      text = subst (λ z. Appends written written' z) (text_of_run options.blocks operations h kept space run) text;
       space_left = run.left;
     }
 
-pub printed_front : (left left' written written' : Option (List ℕ)) (read : List ℕ) (operations : List Op) (kept : List Reply) (space : Space) → Takes left left' read
-    → (length read ≤ 67108864 → IsAtEnd left') → IsScriptOf read operations → (h : List Item) × IsRun operations h kept space
-    → AppendsFront written written' (replies_text 1 operations kept) → IsCutOff left left' written written' space
-printed_front left left' written written' read operations kept space takes end accepted (h, run) text =
+pub printed_front : (words : List (List ℕ)) (options : RunOptions) → IsCommandLine words options → (left left' written written' : Option (List ℕ)) (read : List ℕ) (operations : List Op) (kept : List Reply) (space : Space) → Takes left left' read
+    → (length read ≤ 67108864 → IsAtEnd left') → IsScriptOf read operations → (h : List Item) × IsRun options.blocks operations h kept space
+    → AppendsFront written written' (replies_text 1 operations kept) → IsCutOff words left left' written written' space
+printed_front words options line left left' written written' read operations kept space takes end accepted (h, run) text =
     let whole = read_whole left left' read operations takes end accepted in
     record {
+      options = options;
       operations = operations;
       history = h;
+      accepted = line;
       script = whole.1;
       read = whole.0;
       run = run.history;
-      text_front = subst (λ z. AppendsFront written written' z) (text_of_run operations h kept space run) text;
+      text_front = subst (λ z. AppendsFront written written' z) (text_of_run options.blocks operations h kept space run) text;
       space_left = run.left;
     }

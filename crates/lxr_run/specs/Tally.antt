@@ -3,11 +3,8 @@ use Rattle.std.specs.Prelude.{◌+◌, List, [], ◌∷◌}
 use Rattle.lxr_graph.specs.declared.Reply.{Reply}
 use Rattle.lxr_graph.specs.declared.Reply.TheVariants as reply
 use Rattle.lxr_graph.specs.History.{Item, Call, Pause}
-use Rattle.lxr_run.specs.declared.tally.Tally.{Tally}
-
--- nothing counted
-abbrev pub no_tally : Tally
-no_tally = record { news = 0; loads = 0; stores = 0; logs = 0; pauses = 0; moved = 0; kept = 0 }
+use Rattle.lxr_image.specs.declared.space.Tally.{Tally}
+use Rattle.lxr_image.specs.Opened.{no_tally}
 
 -- a new object, a loaded reference and a store that was done are counted, each in its own number
 abbrev pub counted : Tally → Reply → Tally

@@ -2,7 +2,7 @@
 ghost use Rattle.std.specs.Prelude.{◌≡◌, ℕ, List, Option, None};
 ghost use Rattle.lxr_run.specs.Watch.{Looks, Sight, sight_of};
 
-use crate::Space;
+use lxr_image::Space;
 
 /// A gate stands before each operation of a thread, and before its end.
 pub trait Gate: Sync {

@@ -1,48 +1,51 @@
 //! The top call: from the words of a command line and the bytes of a script to the replies of its thread.
 //!
-//! At this stage one loop does the operations of one thread directly on a flat space: a row of words in which each new
-//! object stands right behind the last one. The contract of [`lxr`] speaks of the model alone: the text that was written
-//! is that of one legal history, and the words are the image of that history's last graph.
+//! One loop does the operations of one thread directly on a space of blocks and lines, in which nothing is reclaimed. The
+//! contract of [`lxr`] speaks of the model alone: the text that was written is that of one legal history, and the space is
+//! the image of that history's last graph, with all names.
 #![tactic(auto)]
 
-ghost use Rattle.std.specs.Prelude.{◌≡◌, ◌≤◌, ◌⊎◌, ◌↔◌, ◌∷◌, [], IfOk, IfSome, IsTrue, OnErr, OnOk, length, map};
+ghost use Rattle.std.specs.Prelude.{◌≡◌, ◌≤◌, ◌⊎◌, ◌↔◌, [], IfOk, IfSome, OnErr, OnOk, map};
 ghost use Rattle.lxr_graph.specs.State.{opening};
+ghost use Rattle.lxr_image.specs.Opened.{no_tally};
+ghost use Rattle.lxr_direct.specs.Standing.{StandsFor};
 ghost use Rattle.lxr_stream.specs.Streams.{Rose, TakesSome};
-ghost use Rattle.lxr_run.specs.Flat.{IsImage};
+ghost use Rattle.lxr_run_words.specs.CommandLines.{AreInRange};
 ghost use Rattle.lxr_run.specs.Outcome.{IsCutOff, IsDone, IsRefusal, IsRunCommand, WasJudged, judged_part};
 ghost use Rattle.lxr_run.specs.Script.{IsNoScript};
-ghost use Rattle.lxr_run.specs.Tally.{no_tally};
 
 mod edges;
-mod mutator;
 mod run;
 mod script;
-mod space;
 mod tally;
 
 pub use edges::{Gate, Open, Unseen, Watch};
-use lxr_graph::{Operations, Replies};
+use lxr_direct::opened_stands;
+use lxr_graph::Replies;
+use lxr_image::Space;
+use lxr_layout::Limits;
+use lxr_run_words::{RunOptions, read_options};
 use lxr_stream::{ReadError, Sink, Source, WriteError, read_all};
 use lxr_text::print_replies;
 use run::run_thread;
 use script::{NoOperations, read_operations};
-pub use space::Space;
 use std::alloc::{AllocError, Global};
 use std::thread::Threads;
-pub use tally::Tally;
-
-/// The words of the flat space.
-pub const SPACE_WORDS: u32 = 262_144;
 
 /// A script has at most so many bytes.
 const MOST_BYTES: usize = 67_108_864;
+
+/// The entries of a log, and of the remembered set. Nothing is entered yet.
+const LOG: u32 = 1024;
+
+const REMEMBER: u32 = 4096;
 
 /// How a run ended. Its number is the program's exit status.
 #[derive(Clone, Copy, Debug, PartialEq, Eq)]
 pub enum Status {
     /// The text was written whole.
     Done = 0,
-    /// The words of the command line aren't the one word `run`.
+    /// The words of the command line aren't `run` with options that there are.
     Words = 1,
     /// The input is no script.
     Script = 2,
@@ -54,27 +57,31 @@ pub enum Status {
     Memory = 5,
 }
 
-/// Whether the words of the command line are the one word `run`.
-fn is_run(words: &[&str]) -> bool
-    ensures { IsTrue result ↔ IsRunCommand (map (λ word. word.now) words.now) }
-{
-    match words {
-        [word] => *word == "run",
-        _ => false,
-    }
-}
-
-/// Opens the space, with room for so many replies.
-fn open(alloc: Global, space: &mut Space, replies: usize) -> Result<Replies, AllocError>
-    requires { space.old.words.items ≡ [] }
-    ensures image { OnOk result (IsImage space.new.words.items (opening 1).graph) }
+/// Opens the space for one thread, with room for so many replies.
+fn open(
+    alloc: Global,
+    space: &mut Space,
+    options: RunOptions,
+    replies: usize,
+) -> Result<Replies, AllocError>
+    requires empty { space.old.words ≡ [] }
+    requires options { AreInRange options }
+    ensures stands { OnOk result (StandsFor space.new [] (opening 1)) }
     ensures tally { OnOk result (space.new.tally ≡ no_tally) }
+    ensures as_many { OnOk result (space.new.limits.blocks ≡ options.blocks) }
     ensures none { IfOk result (λ kept. kept.items ≡ []) }
     ensures room { IfOk result (λ kept. replies ≤ kept.room) }
-    ensures err { OnErr result (space.new.words.items ≡ []) }
+    ensures err { OnErr result (space.new.words ≡ []) }
 {
     let kept = Replies::with_room(alloc, replies)?;
-    space.open(alloc)?;
+    let limits = Limits {
+        blocks: options.blocks,
+        threads: 1,
+        log: LOG,
+        remember: REMEMBER,
+    };
+    space.open(alloc, limits)?;
+    opened_stands();
     Ok(kept)
 }
 
@@ -94,26 +101,26 @@ pub fn lxr<R: Threads + Sync, I: Source, O: Sink, E: Sink, G: Gate, W: Watch>(
     watch: &mut W,
     space: &mut Space,
 ) -> Status
-    requires { space.old.words.items ≡ [] }
+    requires { space.old.words ≡ [] }
     ensures words { (result ≡ Status.Words) ↔ ¬ IsRunCommand (map (λ word. word.now) words.now) }
     ensures script { IfSome (I.left input.old) (λ bytes. WasJudged result → ((result ≡ Status.Script) ↔ IsNoScript (judged_part bytes))) }
     ensures read_fault { result ≡ Status.ReadFault → Rose (I.faults input.old) (I.faults input.new) }
     ensures write_fault { result ≡ Status.WriteFault → Rose (O.faults output.old) (O.faults output.new) }
 
     // What each outcome leaves.
-    ensures done { result ≡ Status.Done → IsDone (I.left input.old) (I.left input.new) (O.written output.old) (O.written output.new) space.new }
-    ensures cut_off { result ≡ Status.WriteFault → IsCutOff (I.left input.old) (I.left input.new) (O.written output.old) (O.written output.new) space.new }
-    ensures memory { result ≡ Status.Memory → IsCutOff (I.left input.old) (I.left input.new) (O.written output.old) (O.written output.new) space.new ⊎ ((output.new ≡ output.old) × (space.new.words.items ≡ [])) }
-    ensures refusal { IsRefusal result → (output.new ≡ output.old) × (space.new.words.items ≡ []) }
+    ensures done { result ≡ Status.Done → IsDone (map (λ word. word.now) words.now) (I.left input.old) (I.left input.new) (O.written output.old) (O.written output.new) space.new }
+    ensures cut_off { result ≡ Status.WriteFault → IsCutOff (map (λ word. word.now) words.now) (I.left input.old) (I.left input.new) (O.written output.old) (O.written output.new) space.new }
+    ensures memory { result ≡ Status.Memory → IsCutOff (map (λ word. word.now) words.now) (I.left input.old) (I.left input.new) (O.written output.old) (O.written output.new) space.new ⊎ ((output.new ≡ output.old) × (space.new.words ≡ [])) }
+    ensures refusal { IsRefusal result → (output.new ≡ output.old) × (space.new.words ≡ []) }
 
     // What is read is read from the front, and nothing where the words are refused.
     ensures taken { TakesSome (I.left input.old) (I.left input.new) }
     ensures unread { result ≡ Status.Words → input.new ≡ input.old }
     ensures unused { (errors.new ≡ errors.old) × (watch.new ≡ watch.old) }
 {
-    if !is_run(words) {
+    let Some(options) = read_options(words) else {
         return Status::Words;
-    }
+    };
     let bytes = match read_all(alloc, input, MOST_BYTES) {
         Ok(bytes) => bytes,
         Err(ReadError::Fault) => return Status::ReadFault,
@@ -124,7 +131,7 @@ pub fn lxr<R: Threads + Sync, I: Source, O: Sink, E: Sink, G: Gate, W: Watch>(
         Err(NoOperations::Script) => return Status::Script,
         Err(NoOperations::Memory) => return Status::Memory,
     };
-    let mut replies = match open(alloc, space, operations.len()) {
+    let mut replies = match open(alloc, space, options, operations.len()) {
         Ok(replies) => replies,
         Err(_) => return Status::Memory,
     };

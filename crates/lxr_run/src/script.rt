@@ -1,7 +1,7 @@
 //! The operations of a script that this stage accepts.
 ghost use Rattle.std.specs.Prelude.{◌≡◌, ◌↔◌, IfOk, IsTrue};
 ghost use Rattle.lxr_script.specs.Limits.{IsThread};
-ghost use Rattle.lxr_run.specs.Script.{IsNoScript, IsOnObject, IsScriptOf};
+ghost use Rattle.lxr_run.specs.Script.{IsNoScript, IsOnGraph, IsScriptOf};
 
 use lxr_graph::{Op, Operations};
 use lxr_script::{ScriptError, read_script};
@@ -10,23 +10,20 @@ use std::alloc::Global;
 /// Why there are no operations.
 #[derive(Clone, Copy, Debug)]
 pub(crate) enum NoOperations {
-    /// The bytes are no script of one thread with operations on objects alone.
+    /// The bytes are no script of one thread without `pause` and `collect`.
     Script,
     /// Memory ran out.
     Memory,
 }
 
-/// Whether an operation is one on an object.
-fn is_on_object(op: Op) -> bool
-    ensures { IsTrue result ↔ IsOnObject op }
+/// Whether an operation is one on registers and objects.
+fn is_on_graph(op: Op) -> bool
+    ensures { IsTrue result ↔ IsOnGraph op }
 {
-    matches!(
-        op,
-        Op::New { .. } | Op::Load { .. } | Op::Store { .. } | Op::Put { .. } | Op::Get { .. }
-    )
+    !matches!(op, Op::Pause | Op::Collect | Op::End)
 }
 
-/// Reads the operations of a script of one thread that has operations on objects alone.
+/// Reads the operations of a script of one thread that asks for no pause.
 pub(crate) fn read_operations(alloc: Global, bytes: &[u8]) -> Result<Operations, NoOperations>
     ensures script { IfOk result (λ operations. IsScriptOf bytes.now operations.items) }
     ensures limits { IfOk result (λ operations. IsThread operations.items) }
@@ -42,7 +39,7 @@ pub(crate) fn read_operations(alloc: Global, bytes: &[u8]) -> Result<Operations,
     }
     let mut threads = script.operations;
     match threads.pop() {
-        Some(operations) if operations.as_slice().iter().all(|op| is_on_object(*op)) => {
+        Some(operations) if operations.as_slice().iter().all(|op| is_on_graph(*op)) => {
             Ok(operations)
         }
         _ => Err(NoOperations::Script),

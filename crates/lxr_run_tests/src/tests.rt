@@ -1,5 +1,6 @@
 //! Whole runs with what they write and leave. The expected texts were worked out by hand from the rules of the graph.
-use lxr_run::{Gate, Open, Space, Status, Unseen, lxr};
+use lxr_image::Space;
+use lxr_run::{Gate, Open, Status, Unseen, lxr};
 use lxr_stream::{Bytes, Kept, Plenty, Whole};
 use std::alloc::{AllocError, Global};
 use std::sync::atomic::{AtomicU32, Ordering};
@@ -16,7 +17,7 @@ struct Row {
     status: Status,
 }
 
-fn rows() -> [Row; 9] {
+fn rows() -> [Row; 22] {
     [
         Row {
             words: &["run"],
@@ -61,6 +62,42 @@ fn rows() -> [Row; 9] {
             status: Status::Script,
         },
         Row {
+            words: &["run", "--blocks", "1"],
+            script: "lxr 1\nthreads 1\nthread 1\nnew r1 1023 1023\nnew r2 1023 1023\nsame r2 r3\nnew r2 0 31\nend\n",
+            output: "thread 1\nnew 1.1\nnew full\nsame yes\nnew 1.2\n",
+            status: Status::Done,
+        },
+        Row {
+            words: &["run"],
+            script: "lxr 1\nthreads 1\nthread 1\nmove r1 r0\nload r1 r2 0\nload r1 r0 64\nsame r1 r0\nend\n",
+            output: "thread 1\nmove ok\nload bad\nload range\nsame yes\n",
+            status: Status::Done,
+        },
+        Row {
+            words: &["run"],
+            script: "lxr 1\nthreads 1\nthread 1\nnew r1 0 0\nnil r1\nsame r1 r0\nget r1 0\nend\n",
+            output: "thread 1\nnew 1.1\nnil ok\nsame no\nget bad\n",
+            status: Status::Done,
+        },
+        Row {
+            words: &["run"],
+            script: "lxr 1\nthreads 1\nthread 1\ncollect\nend\n",
+            output: "",
+            status: Status::Script,
+        },
+        Row {
+            words: &["run", "--blocks", "1024"],
+            script: FIRST,
+            output: "thread 1\nnew 1.1\nput ok\nget 77\n",
+            status: Status::Done,
+        },
+        Row {
+            words: &["run", "--blocks", "00001"],
+            script: FIRST,
+            output: "thread 1\nnew 1.1\nput ok\nget 77\n",
+            status: Status::Done,
+        },
+        Row {
             words: &[],
             script: FIRST,
             output: "",
@@ -68,6 +105,48 @@ fn rows() -> [Row; 9] {
         },
         Row {
             words: &["run", "run"],
+            script: FIRST,
+            output: "",
+            status: Status::Words,
+        },
+        Row {
+            words: &["map"],
+            script: FIRST,
+            output: "",
+            status: Status::Words,
+        },
+        Row {
+            words: &["run", "--blocks"],
+            script: FIRST,
+            output: "",
+            status: Status::Words,
+        },
+        Row {
+            words: &["run", "--blocks=2"],
+            script: FIRST,
+            output: "",
+            status: Status::Words,
+        },
+        Row {
+            words: &["run", "--blocks", "0"],
+            script: FIRST,
+            output: "",
+            status: Status::Words,
+        },
+        Row {
+            words: &["run", "--blocks", "1025"],
+            script: FIRST,
+            output: "",
+            status: Status::Words,
+        },
+        Row {
+            words: &["run", "--blocks", "+2"],
+            script: FIRST,
+            output: "",
+            status: Status::Words,
+        },
+        Row {
+            words: &["run", "--blocks", "2", "--blocks", "2"],
             script: FIRST,
             output: "",
             status: Status::Words,
@@ -126,12 +205,13 @@ fn words_and_tally(rt: HostRuntime) {
     assert_eq!(rt; status, Status::Done);
     // Three operations and the end.
     assert_eq!(rt; gate.0.load(Ordering::SeqCst), 4);
-    assert_eq!(rt; space.words.len(), 262_144);
-    // The world's header, and behind its 66 words the object 1.1: its header, a nil reference, its data word.
-    assert_eq!(rt; space.words[0], 65_536);
-    assert_eq!(rt; space.words[66], 0x0010_0000_0010_0401);
-    assert_eq!(rt; space.words[67], 0);
-    assert_eq!(rt; space.words[68], 77);
+    // The world, and behind its three lines the object 1.1: its header, a nil reference, its data word.
+    assert_eq!(rt; space.limits.blocks, 64);
+    assert_eq!(rt; space.heap_word(0), 65_536);
+    assert_eq!(rt; space.heap_word(96), 0x0010_0000_0010_0401);
+    assert_eq!(rt; space.heap_word(97), 0);
+    assert_eq!(rt; space.heap_word(98), 77);
+    assert!(rt; space.has_start(48));
     let tally = space.tally();
     assert_eq!(rt; tally.news, 1);
     assert_eq!(rt; tally.loads, 0);
@@ -180,32 +260,35 @@ fn first_write_fails(rt: HostRuntime) -> Result<(), Fail> {
     assert_eq!(rt; status, Status::WriteFault);
     assert!(rt; output.written().is_empty());
     assert!(rt; errors.written().is_empty());
-    assert_eq!(rt; space.words.len(), 262_144);
+    assert!(rt; !space.is_empty());
+    assert_eq!(rt; space.tally().news, 1);
     Ok(())
 }
 
-/// A script that fills the flat space: 127 of the largest objects leave 1,982 words.
+/// A script of 300 objects that take a line each. One block has 125 lines behind the world.
 fn filling(alloc: Global) -> Result<String, AllocError> {
     let mut script = String::from_str(alloc, "lxr 1\nthreads 1\nthread 1\n")?;
-    for _ in 0..128 {
-        script.push_str("new r1 1023 1023\n")?;
+    for _ in 0..300 {
+        script.push_str("new r1 0 31\n")?;
     }
-    script.push_str("new r1 1023 956\nnew r1 0 1\nnew r1 0 0\nend\n")?;
+    script.push_str("end\n")?;
     Ok(script)
 }
 
 fn filled(alloc: Global) -> Result<String, AllocError> {
     let mut text = String::from_str(alloc, "thread 1\n")?;
-    for serial in 1..128 {
+    for serial in 1..126 {
         text.push_str("new 1.")?;
         text.push_str(format!(in alloc; "{serial}\n")?.as_str())?;
     }
-    text.push_str("new full\nnew 1.128\nnew 1.129\nnew full\n")?;
+    for _ in 126..301 {
+        text.push_str("new full\n")?;
+    }
     Ok(text)
 }
 
 #[test]
-fn full_exactly_where_no_words_are_left(rt: HostRuntime) -> Result<(), Fail> {
+fn full_where_no_line_is_left(rt: HostRuntime) -> Result<(), Fail> {
     let script = filling(rt.alloc())?;
     let text = filled(rt.alloc())?;
     let mut output = Plenty::new(rt.alloc());
@@ -213,7 +296,7 @@ fn full_exactly_where_no_words_are_left(rt: HostRuntime) -> Result<(), Fail> {
     let status = lxr(
         &rt,
         rt.alloc(),
-        &["run"],
+        &["run", "--blocks", "1"],
         &mut Whole::new(script.as_bytes()),
         &mut output,
         &mut Plenty::new(rt.alloc()),
@@ -223,6 +306,6 @@ fn full_exactly_where_no_words_are_left(rt: HostRuntime) -> Result<(), Fail> {
     );
     assert_eq!(rt; status, Status::Done);
     assert!(rt; output.written() == text.as_bytes());
-    assert_eq!(rt; space.tally().news, 129);
+    assert_eq!(rt; space.tally().news, 125);
     Ok(())
 }

@@ -16,6 +16,7 @@ pub use fault::{ScriptError, ScriptFault, error_line};
 pub use laws::{accepted_is_spelled, spelled_is_accepted, spelling_is_read_again};
 use lxr_graph::Operations;
 use lxr_lists::Listed;
+pub use numbers::number_of;
 pub use reading::read_script;
 
 /// The operations of each thread, the first thread's first.

@@ -15,7 +15,7 @@ fn with_digit(value: u64, byte: u8) -> Option<u64>
 }
 
 /// The value of a number: one or more decimal digits, below 2^64.
-pub(crate) fn number_of(word: &[u8]) -> Option<u64>
+pub fn number_of(word: &[u8]) -> Option<u64>
     ensures { result ≡ value.number_of word.now }
 {
     if word.is_empty() {

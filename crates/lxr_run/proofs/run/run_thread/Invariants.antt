@@ -6,6 +6,6 @@ use Rattle.lxr_run.proofs.run.run_thread.Given as goal
 abbrev pub invariant-loop-number : goal.invariant-loop-number
 invariant-loop-number g l =
     record {
-      run : (h : List Item) × IsSoFar (take l.number l.operations) h l.space.words.items l.mutator l.space.tally l.replies.items;
+      run : (h : List Item) × IsSoFar l.fn.space.limits.blocks (take l.number l.operations) h l.space l.replies.items;
       room : l.replies.room ≡ l.fn.replies.room;
     }

@@ -1,0 +1,215 @@
+-- What is read from the front is what is spelled.
+use Rattle.std.proofs.Common.{◌≡◌, ℕ, zero, suc, ◌<◌, ◌≤◌, ◌↔◌, ◌-◌, refl, sym, ap, subst, ◌∙◌, List, [], ◌∷◌, ◌++◌, map, length, take, drop, get_or, Bool, true, false, append_assoc, arith}
+use Rattle.std.specs.Prelude.{◌&&◌, Option, Some, None, option_and_then, codes, nat_le, slice_get, slice_index_or, slice_set, unwrap_or, ◌==◌, not, if◌then◌else◌}
+use Rattle.std.specs.Str.{bytes_eq}
+use Rattle.std.specs.Borrow.{Bor}
+use Rattle.std.proofs.lemmas.List.{append-nil, take_all}
+use Rattle.std.proofs.lemmas.Bool.{leb-true}
+use Rattle.std.proofs.lemmas.Slice.Eq.{bytes_eq-Decides}
+use Rattle.lxr_script.specs.Numbers.{number_of}
+use Rattle.lxr_run_words.specs.declared.NumberOption.{NumberOption}
+use Rattle.lxr_run_words.specs.declared.RunOptions.{RunOptions}
+use Rattle.lxr_run_words.specs.CommandLines.{AreInRange, IsCommandLine, Numbers, Spells, Text, in_range, none_given, nothing, number_in, number_or, numbers_in, numbers_with, option_named, options_from, set_named, set_number, set_option, setting}
+
+pub no_numbers : (words : List Text) → numbers_with words None ≡ None
+unfolding numbers_with
+no_numbers [] = refl
+no_numbers (w ∷ []) = refl
+no_numbers (w ∷ v ∷ words) = refl
+
+pub one_word : (w : Text) (numbers : Numbers) → numbers_with (w ∷ []) (Some numbers) ≡ None
+unfolding numbers_with
+one_word w numbers = refl
+
+pub no_words : (numbers : Numbers) → numbers_with [] (Some numbers) ≡ Some numbers
+unfolding numbers_with
+no_words numbers = refl
+
+pub two_words : (name value : Text) (words : List Text) (numbers : Numbers) → numbers_with (name ∷ value ∷ words) (Some numbers) ≡ numbers_with words (set_number numbers name value)
+unfolding numbers_with
+two_words name value words numbers = refl
+
+-- ---- what is spelled is read
+
+numbers_with-append : (xs ys : List Text) (a : Option Numbers) (b : Numbers) → numbers_with xs a ≡ Some b → numbers_with (xs ++ ys) a ≡ numbers_with ys (Some b)
+numbers_with-append xs ys None b e = let none = no_numbers xs in absurd (cc)
+numbers_with-append [] ys (Some a) b e = ap (numbers_with ys) (sym (no_words a) ∙ e)
+numbers_with-append (x ∷ []) ys (Some a) b e = let none = one_word x a in absurd (cc)
+numbers_with-append (x ∷ y ∷ xs) ys (Some a) b e =
+    two_words x y (xs ++ ys) a ∙ numbers_with-append xs ys (set_number a x y) b (sym (two_words x y xs a) ∙ e)
+
+set_is : (numbers : Numbers) (name value : Text) (option : NumberOption) (n : ℕ) → option_named name ≡ Some option → slice_get numbers option.index ≡ Some None → number_in option value ≡ Some n
+    → set_number numbers name value ≡ Some (slice_set numbers option.index (Some n))
+set_is numbers name value option n named free number =
+    ap (set_named numbers value) named ∙ ap (λ z. set_option numbers option z (number_in option value)) free ∙ ap (set_option numbers option (Some None)) number
+
+spelled_is_read : (words : List Text) (numbers : Numbers) → Spells words numbers → numbers_in words ≡ Some numbers
+spelled_is_read _ _ nothing = no_words none_given
+spelled_is_read _ _ (setting words numbers name value option n spells named free number) =
+    numbers_with-append words (name ∷ value ∷ []) (Some none_given) numbers (spelled_is_read words numbers spells)
+    ∙ two_words name value [] numbers ∙ ap (numbers_with []) (set_is numbers name value option n named free number) ∙ no_words (slice_set numbers option.index (Some n))
+
+-- ---- what is read is spelled
+
+spells_more : (before : List Text) (numbers after : Numbers) (name value : Text) (o : Option NumberOption) → Spells before numbers → option_named name ≡ o
+    → set_named numbers value o ≡ Some after → Spells (before ++ name ∷ value ∷ []) after
+spells_more before numbers after name value None spells named e = absurd (cc)
+spells_more before numbers after name value (Some option) spells named e = go (slice_get numbers option.index) (number_in option value) refl refl e
+  where
+    go : (given : Option (Option ℕ)) (number : Option ℕ) → slice_get numbers option.index ≡ given → number_in option value ≡ number → set_option numbers option given number ≡ Some after
+        → Spells (before ++ name ∷ value ∷ []) after
+    go None number free is e = absurd (cc)
+    go (Some (Some m)) number free is e = absurd (cc)
+    go (Some None) None free is e = absurd (cc)
+    go (Some None) (Some n) free is e =
+        let same : slice_set numbers option.index (Some n) ≡ after = cc in
+        subst (Spells (before ++ name ∷ value ∷ [])) same (setting before numbers name value option n spells named free is)
+
+read_is_spelled : (before words : List Text) (numbers after : Numbers) → Spells before numbers → numbers_with words (Some numbers) ≡ Some after → Spells (before ++ words) after
+read_is_spelled before [] numbers after spells e =
+    let first = no_words numbers in
+    let same : numbers ≡ after = cc in
+    subst (λ z. Spells z after) (sym (append-nil before)) (subst (Spells before) same spells)
+read_is_spelled before (w ∷ []) numbers after spells e = let none = one_word w numbers in absurd (cc)
+read_is_spelled before (name ∷ value ∷ words) numbers after spells e =
+    go (set_number numbers name value) refl (sym (two_words name value words numbers) ∙ e) (λ more is f. read_is_spelled (before ++ name ∷ value ∷ []) words more after is f)
+  where
+    go : (o : Option Numbers) → set_number numbers name value ≡ o → numbers_with words o ≡ Some after
+        → ((more : Numbers) → Spells (before ++ name ∷ value ∷ []) more → numbers_with words (Some more) ≡ Some after → Spells ((before ++ name ∷ value ∷ []) ++ words) after)
+        → Spells (before ++ name ∷ value ∷ words) after
+    go None is e again = let none = no_numbers words in absurd (cc)
+    go (Some more) is e again =
+        subst (λ z. Spells z after) (append_assoc before (name ∷ value ∷ []) words)
+        (again more (spells_more before numbers more name value (option_named name) spells refl is) e)
+
+-- ---- command lines
+
+accepted_line : (words : List Text) (numbers : Numbers) (o : RunOptions) → numbers_in words ≡ Some numbers
+    → (Some (options_from numbers) ≡ Some o) ↔ IsCommandLine (codes "run" ∷ words) o
+accepted_line words numbers o read = (
+  λ e. record { settings = words; numbers = numbers; command = refl; spelled = read_is_spelled [] words none_given numbers nothing read; asked = cc },
+  λ line.
+      let same : words ≡ line.settings = ap_tail line.command in
+      let also : numbers_in words ≡ Some line.numbers = ap numbers_in same ∙ spelled_is_read line.settings line.numbers line.spelled in
+      let numbers_same : numbers ≡ line.numbers = cc in
+      ap Some (ap options_from numbers_same ∙ sym line.asked),
+)
+  where
+    ap_tail : {x y : Text} {xs ys : List Text} → x ∷ xs ≡ y ∷ ys → xs ≡ ys
+    ap_tail e = cc
+
+refused_settings : (words : List Text) (o : RunOptions) → numbers_in words ≡ None → (None ≡ Some o) ↔ IsCommandLine (codes "run" ∷ words) o
+refused_settings words o read = (
+  λ e. absurd (cc),
+  λ line.
+      let same : words ≡ line.settings = ap_tail line.command in
+      let also : numbers_in words ≡ Some line.numbers = ap numbers_in same ∙ spelled_is_read line.settings line.numbers line.spelled in
+      absurd (cc),
+)
+  where
+    ap_tail : {x y : Text} {xs ys : List Text} → x ∷ xs ≡ y ∷ ys → xs ≡ ys
+    ap_tail e = cc
+
+-- ---- ranges
+
+abbrev pub IsBetween : ℕ → ℕ → ℕ → Type 0
+IsBetween least greatest n = (least ≤ n) × (n ≤ greatest)
+
+-- each option of an index has this range
+abbrev pub HasRange : ℕ → ℕ → ℕ → Type 0
+HasRange index least greatest = (name : Text) (option : NumberOption) → option_named name ≡ Some option → option.index ≡ index → (option.least ≡ least) × (option.greatest ≡ greatest)
+
+within_range : (option : NumberOption) (m n : ℕ) → in_range option m ≡ Some n → IsBetween option.least option.greatest n
+within_range option m n e = go (nat_le option.least m) refl (nat_le m option.greatest) refl e
+  where
+    go : (a : Bool) → nat_le option.least m ≡ a → (b : Bool) → nat_le m option.greatest ≡ b → (if a && b then Some m else None) ≡ Some n → IsBetween option.least option.greatest n
+    go true p true q e =
+        let same : m ≡ n = cc in
+        subst (IsBetween option.least option.greatest) same (leb-true option.least m p, leb-true m option.greatest q)
+    go true p false q e = absurd (cc)
+    go false p b q e = absurd (cc)
+
+number_within : (option : NumberOption) (value : Text) (n : ℕ) → number_in option value ≡ Some n → IsBetween option.least option.greatest n
+number_within option value n e = go (number_of value) e
+  where
+    go : (o : Option ℕ) → option_and_then (in_range option) o ≡ Some n → IsBetween option.least option.greatest n
+    go None e = absurd (cc)
+    go (Some m) e = within_range option m n e
+
+changed_or_same : (numbers : Numbers) (i k : ℕ) (v : Option ℕ) (P : Option ℕ → Type 0) → P (slice_index_or numbers k None) → (i ≡ k → P v) → P (slice_index_or (slice_set numbers i v) k None)
+changed_or_same [] i k v P same changed = same
+changed_or_same (x ∷ xs) zero zero v P same changed = changed refl
+changed_or_same (x ∷ xs) zero (suc k) v P same changed = same
+changed_or_same (x ∷ xs) (suc i) zero v P same changed = same
+changed_or_same (x ∷ xs) (suc i) (suc k) v P same changed = changed_or_same xs i k v P same (λ e. changed (ap suc e))
+
+pub numbers_between : (words : List Text) (numbers : Numbers) (index least greatest default : ℕ) → HasRange index least greatest → IsBetween least greatest default
+    → slice_index_or none_given index None ≡ None → Spells words numbers → IsBetween least greatest (number_or index default numbers)
+numbers_between _ _ index least greatest default ranges fits none nothing = subst (λ z. IsBetween least greatest (unwrap_or z default)) (sym none) fits
+numbers_between _ _ index least greatest default ranges fits none (setting words numbers name value option n spells named free number) =
+    changed_or_same numbers option.index index (Some n) (λ z. IsBetween least greatest (unwrap_or z default))
+    (numbers_between words numbers index least greatest default ranges fits none spells)
+    (λ same.
+    let range = ranges name option named same in
+    let within = number_within option value n number in
+    (omega arith, omega arith))
+
+blocks_range : HasRange 0 1 1024
+blocks_range name option e same = go (bytes_eq name (codes "--blocks")) e
+  where
+    go : (b : Bool) → (if b then Some (record { index = 0; least = 1; greatest = 1024 }) else None) ≡ Some option → (option.least ≡ 1) × (option.greatest ≡ 1024)
+    go true e = (cc, cc)
+    go false e = absurd (cc)
+
+pub options_in_range : (words : List Text) (numbers : Numbers) → Spells words numbers → AreInRange (options_from numbers)
+options_in_range words numbers spells =
+    record { blocks = numbers_between words numbers 0 1 1024 64 blocks_range (omega arith, omega arith) refl spells }
+
+pub read_in_range : (words : List Text) (numbers : Numbers) → numbers_in words ≡ Some numbers → AreInRange (options_from numbers)
+read_in_range words numbers read = options_in_range words numbers (read_is_spelled [] words none_given numbers nothing read)
+
+-- ---- the loop
+
+pub next_words : (ws : List (Bor Text)) (d : Bor Text) (numbers : Numbers) (all : Option Numbers) → 2 ≤ length ws → numbers_with (map (λ w. w.now) ws) (Some numbers) ≡ all
+    → numbers_with (map (λ w. w.now) (take (length ws - 2) (drop 2 ws))) (set_number numbers (get_or ws 0 d).now (get_or ws 1 d).now) ≡ all
+next_words [] d numbers all long e = absurd (omega arith)
+next_words (w ∷ []) d numbers all long e = absurd (omega arith)
+next_words (w ∷ v ∷ ws) d numbers all long e =
+    let whole : take (length (w ∷ v ∷ ws) - 2) (drop 2 (w ∷ v ∷ ws)) ≡ ws = ap (λ z. take z ws) (omega arith) ∙ take_all (length ws) ws (omega arith) in
+    subst (λ z. numbers_with (map (λ w. w.now) z) (set_number numbers w.now v.now) ≡ all) (sym whole) (sym (two_words w.now v.now (map (λ w. w.now) ws) numbers) ∙ e)
+
+pub last_words : (ws : List (Bor Text)) (numbers : Numbers) (all : Option Numbers) → length ws < 2 → (length ws == 0) ≡ true → numbers_with (map (λ w. w.now) ws) (Some numbers) ≡ all → Some numbers ≡ all
+last_words [] numbers all short none e = sym (no_words numbers) ∙ e
+last_words (w ∷ []) numbers all short none e = absurd (cc)
+last_words (w ∷ v ∷ ws) numbers all short none e = absurd (omega arith)
+
+pub odd_words : (ws : List (Bor Text)) (numbers : Numbers) (all : Option Numbers) → length ws < 2 → (length ws == 0) ≡ false → numbers_with (map (λ w. w.now) ws) (Some numbers) ≡ all → None ≡ all
+odd_words [] numbers all short some e = absurd (cc)
+odd_words (w ∷ []) numbers all short some e = sym (one_word w.now numbers) ∙ e
+odd_words (w ∷ v ∷ ws) numbers all short some e = absurd (omega arith)
+
+-- ---- the whole line
+
+-- the words of a line behind its first
+abbrev pub words_behind : List (Bor Text) → List Text
+words_behind ws = map (λ w. w.now) (take (length ws - 1) (drop 1 ws))
+
+run_first : (ws : List (Bor Text)) (d : Bor Text) → 1 ≤ length ws → not (bytes_eq (get_or ws 0 d).now (codes "run")) ≡ false → map (λ w. w.now) ws ≡ codes "run" ∷ words_behind ws
+run_first [] d some run = absurd (omega arith)
+run_first (w ∷ ws) d some run =
+    let whole : take (length (w ∷ ws) - 1) (drop 1 (w ∷ ws)) ≡ ws = ap (λ z. take z ws) (omega arith) ∙ take_all (length ws) ws (omega arith) in
+    ap (λ z. z ∷ map (λ v. v.now) ws) (is_run (bytes_eq w.now (codes "run")) refl run) ∙ ap (λ z. codes "run" ∷ map (λ v. v.now) z) (sym whole)
+  where
+    is_run : (b : Bool) → bytes_eq w.now (codes "run") ≡ b → not b ≡ false → w.now ≡ codes "run"
+    is_run true e h = (bytes_eq-Decides w.now (codes "run")).0 e
+    is_run false e h = absurd (cc)
+
+pub line_accepted : (ws : List (Bor Text)) (d : Bor Text) (numbers : Numbers) → 1 ≤ length ws → not (bytes_eq (get_or ws 0 d).now (codes "run")) ≡ false → numbers_in (words_behind ws) ≡ Some numbers
+    → (o : RunOptions) → (Some (options_from numbers) ≡ Some o) ↔ IsCommandLine (map (λ w. w.now) ws) o
+line_accepted ws d numbers some run read o =
+    subst (λ z. (Some (options_from numbers) ≡ Some o) ↔ IsCommandLine z o) (sym (run_first ws d some run)) (accepted_line (words_behind ws) numbers o read)
+
+pub line_refused : (ws : List (Bor Text)) (d : Bor Text) → 1 ≤ length ws → not (bytes_eq (get_or ws 0 d).now (codes "run")) ≡ false → numbers_in (words_behind ws) ≡ None
+    → (o : RunOptions) → (None ≡ Some o) ↔ IsCommandLine (map (λ w. w.now) ws) o
+line_refused ws d some run read o =
+    subst (λ z. (None ≡ Some o) ↔ IsCommandLine z o) (sym (run_first ws d some run)) (refused_settings (words_behind ws) o read)
