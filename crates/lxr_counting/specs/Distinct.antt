@@ -1,14 +1,8 @@
--- Lists of names and of fields in which nothing stands twice.
+-- Lists of fields in which nothing stands twice; lists of names have the word in `lxr_names`.
 use Rattle.std.specs.Prelude.{◌≡◌, Bool, false, List, [], ◌∷◌}
 use Rattle.std.specs.List.{list_any}
-use Rattle.lxr_layout.specs.declared.Name.{Name}
-use Rattle.lxr_graph.specs.Names.{has}
+pub use Rattle.lxr_names.specs.Distinct.{IsDistinct}
 use Rattle.lxr_model.specs.Moments.{Field, same_field}
-
--- no name twice
-abbrev pub IsDistinct : List Name → Type 0
-IsDistinct [] = Unit {0}
-IsDistinct (n ∷ ns) = (has ns n ≡ false) × IsDistinct ns
 
 -- a list of fields has one
 abbrev pub has_field : List Field → Field → Bool

@@ -1,0 +1,10 @@
+pub mod StepLemmas
+pub mod RunningLemmas
+pub mod KeepingLemmas
+pub mod StoreLemmas
+pub mod DoesLemmas
+pub mod PlacingLemmas
+pub mod MakingLemmas
+pub mod NewLemmas
+pub mod OpeningLemmas
+pub mod CountedLemmas

@@ -1,0 +1,9 @@
+pub mod Meaning
+pub mod Standing
+pub mod Counting
+pub mod Lines
+pub mod Tracing
+pub mod Between
+pub mod Listed
+pub mod Raised
+pub mod Running

@@ -1,0 +1,4 @@
+pub mod Steps
+pub mod Settling
+pub mod Pausing
+pub mod Opened

@@ -1,0 +1,6 @@
+pub mod AppendingLemmas
+pub mod SettledLemmas
+pub mod QueuedLemmas
+pub mod PlaceLemmas
+pub mod RaisedLemmas
+pub mod HoldsLemmas

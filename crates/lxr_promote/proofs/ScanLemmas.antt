@@ -1,0 +1,284 @@
+-- What is read while references are raised: words of an object, and the worklist.
+use Rattle.std.proofs.Common.{◌≡◌, ◌≢◌, ℕ, ◌+◌, ◌-◌, ◌*◌, ◌^◌, ◌<◌, ◌≤◌, refl, sym, ap, subst, ◌∙◌, inl, inr, arith, true, false, cond, List, [], ◌∷◌, ◌++◌, IsTrue, length, length-append}
+use Rattle.std.specs.Prelude.{Option, None, Some, map, slice_get, slice_index_or}
+use Rattle.std.proofs.lemmas.Option.{slice_get-get_or}
+use Rattle.lxr_layout.specs.declared.Name.{Name}
+use Rattle.lxr_layout.specs.declared.Place.{Place}
+use Rattle.lxr_layout.specs.declared.Header.TheVariants.{Object}
+use Rattle.lxr_layout.specs.Objects.{header_of}
+use Rattle.lxr_layout.specs.Places.{IsPlace, first_word}
+use Rattle.lxr_lists.specs.Roomy.{Roomy, pushed}
+use Rattle.lxr_graph.specs.Names.{has}
+use Rattle.lxr_graph.specs.State as state
+use Rattle.lxr_graph.specs.State.{object_at, refs_of, shape_of}
+use Rattle.lxr_image.specs.declared.space.Space.{Space}
+use Rattle.lxr_image.specs.Spaces.{tables_of}
+use Rattle.lxr_image.proofs.ReadLemmas.{header_unpacked}
+use Rattle.lxr_model.specs.Moments.{Moment}
+use Rattle.lxr_counting.specs.Following.{FollowsPause, IsLive}
+use Rattle.lxr_counting.specs.Distinct.{IsDistinct}
+use Rattle.lxr_counting.proofs.DistinctLemmas.{later_has}
+use Rattle.lxr_counting.proofs.RaisingLemmas.{growth_made}
+use Rattle.lxr_between.specs.Meaning.{members}
+use Rattle.lxr_between.specs.Counting.{passing}
+use Rattle.lxr_promote.specs.Rising.{IsRising, MayRise, RaisingLeaves, Stage, is_unpromoted, left, place_of}
+use Rattle.lxr_promote.specs.Accounted.{IsAccounted, IsHolder, IsScanning, MayRiseHeld, Reaches, Settles, occurrences_from, references_at, risen_held}
+use Rattle.lxr_promote.proofs.RaiseLemmas.{has_last}
+use Rattle.lxr_promote.proofs.StageLemmas.{made_member, unreclaimed_member}
+use Rattle.lxr_promote.proofs.OrderLemmas.{accounts_held, accounts_popped, accounts_same, distinct_last, from_end, from_step, has_before}
+
+-- ---- names that are raised
+
+-- what is live stands in the heap
+pub live_member : (m : Moment) (n : Name) → FollowsPause m → IsLive m n → IsTrue (has (members m) n)
+live_member m n follows (inl r) = unreclaimed_member m n (follows.kept n r)
+live_member m n follows (inr h) = made_member m n h
+
+pub holder_member : (s : Space) (m : Moment) (at : Name → ℕ) (st : Stage) (u : Name) (p : ℕ) → IsRising s m at st → IsHolder m at st u p → IsTrue (has (members m) u)
+holder_member s m at st u p rising holder = live_member m u rising.follows holder.live
+
+-- a promoted object is one whose references are raised
+pub promoted_holder : (s : Space) (m : Moment) (at : Name → ℕ) (st : Stage) (u : Name) (p : ℕ) → IsRising s m at st → IsTrue (has st.promoted u) → p ≡ at u → IsHolder m at st u p
+promoted_holder s m at st u p rising promoted stands = record {
+  live = inr (growth_made m.state m.unreclaimed m.made st.promoted rising.growth u promoted);
+  known = inr promoted;
+  stands = stands;
+}
+
+-- ---- an object's words
+
+-- a member's place is one of the heap
+pub member_place : (s : Space) (m : Moment) (at : Name → ℕ) (st : Stage) (n : Name) → IsRising s m at st → IsTrue (has (members m) n) → (1 ≤ at n) × (at n ≤ 2 ^ 21) × (2 * at n ≤ 4096 * s.limits.blocks)
+member_place s m at st n rising h =
+    let a = rising.image.image.stands n h in
+    let placed = a.2.placed in
+    let fits = a.2.whole.in_heap in
+    let blocks = rising.space.limits.blocks in
+    (placed, omega (arith, placed, fits, blocks.1), omega (arith, placed, fits))
+
+pub holder_place : (s : Space) (m : Moment) (at : Name → ℕ) (st : Stage) (u : Name) (p : Place) → IsRising s m at st → IsHolder m at st u p.0 → IsPlace p × (first_word p.0 < 4096 * s.limits.blocks)
+holder_place s m at st u p rising holder =
+    let a = member_place s m at st u rising (holder_member s m at st u p.0 rising holder) in
+    let e = holder.stands in
+    ((omega (arith, a.0, e), omega (arith, a.1, e)), omega (arith, a.0, a.2, e))
+
+-- what the header of such an object says
+pub holder_header : (s : Space) (m : Moment) (at : Name → ℕ) (st : Stage) (u : Name) (p : Place) → IsRising s m at st → IsHolder m at st u p.0
+    → (o : state.Object) × (header_of ((tables_of s).heap (first_word p.0)) ≡ Object u (shape_of o)) × (length o.refs ≡ length (references_at m u))
+holder_header s m at st u p rising holder =
+    let a = rising.image.image.stands u (holder_member s m at st u p.0 rising holder) in
+    let whole = a.2.whole in (
+      a.0,
+      ap (λ x. header_of ((tables_of s).heap (first_word x))) holder.stands ∙ ap header_of whole.header ∙ header_unpacked u (shape_of a.0) whole.name whole.shape,
+      sym (ap (λ x. length (refs_of x)) a.1),
+    )
+
+-- the words of its references lie in the heap
+pub field_place : (s : Space) (m : Moment) (at : Name → ℕ) (st : Stage) (u : Name) (p : Place) (i : ℕ) → IsRising s m at st → IsHolder m at st u p.0 → i < length (references_at m u)
+    → first_word p.0 + 1 + i < 4096 * s.limits.blocks
+field_place s m at st u p i rising holder within =
+    let a = rising.image.image.stands u (holder_member s m at st u p.0 rising holder) in
+    let placed = a.2.placed in
+    let fits = a.2.whole.in_heap in
+    let e = holder.stands in
+    let n : length (references_at m u) ≡ length a.0.refs = ap (λ x. length (refs_of x)) a.1 in
+    omega (arith, placed, fits, e, n, within)
+
+-- what a reference of it holds may be raised, and its word is the place of that
+pub field_rises : (s : Space) (m : Moment) (at : Name → ℕ) (st : Stage) (u : Name) (p : Place) (i begin j w : ℕ) → IsRising s m at st → IsHolder m at st u p.0 → i < length (references_at m u)
+    → begin ≡ first_word p.0 → j ≡ i → w ≡ (tables_of s).heap (begin + 1 + j) → MayRiseHeld m at st (slice_index_or (references_at m u) i None) w
+field_rises s m at st u p i begin j w rising holder within first same word =
+    let a = rising.image.image.stands u (holder_member s m at st u p.0 rising holder) in
+    let r : Option Name = slice_index_or (references_at m u) i None in
+    let got : slice_get (references_at m u) i ≡ Some r = slice_get-get_or (references_at m u) i None within in
+    let there : slice_get a.0.refs i ≡ Some r = ap (λ x. slice_get (refs_of x) i) (sym a.1) ∙ got in
+    record {
+      word = word ∙ ap (λ x. (tables_of s).heap (x + 1 + j)) first ∙ ap (λ x. (tables_of s).heap (first_word p.0 + 1 + x)) same ∙ ap (λ x. (tables_of s).heap (first_word x + 1 + i)) holder.stands ∙ a.2.refs i r there;
+      member = λ o e. live_member m o rising.follows (rising.follows.referred u o holder.live (i, got ∙ ap Some e));
+      held_up = λ o e. elim holder.known [
+        | inl k ↦ inr (inl (u, k, (i, got ∙ ap Some e)))
+        | inr k ↦ inr (inr (u, k, (i, got ∙ ap Some e)))
+      ];
+    }
+
+-- ---- what is held
+
+-- a word that may be raised is small
+pub held_small : (s : Space) (m : Moment) (at : Name → ℕ) (st : Stage) (held : Option Name) (w : ℕ) → IsRising s m at st → MayRiseHeld m at st held w → w ≤ 2 ^ 21
+held_small s m at st None w rising may = let e = may.word in omega (arith, e)
+held_small s m at st (Some o) w rising may = let e = may.word in let a = member_place s m at st o rising (may.member o refl) in omega (arith, e, a.1)
+
+-- nil raises nothing
+pub held_none : (s : Space) (m : Moment) (at : Name → ℕ) (st : Stage) (held : Option Name) (w : ℕ) → IsRising s m at st → MayRiseHeld m at st held w → w ≡ 0 → IsRising s m at (risen_held m st held)
+held_none s m at st None w rising may none = rising
+held_none s m at st (Some o) w rising may none = let e = may.word in let a = member_place s m at st o rising (may.member o refl) in absurd (omega (arith, e, a.0, none))
+
+-- what else is held is raised
+pub held_some : (m : Moment) (at : Name → ℕ) (st : Stage) (held : Option Name) (w : ℕ) → MayRiseHeld m at st held w → w ≢ 0 → (o : Name) × (held ≡ Some o) × MayRise m at st o w
+held_some m at st None w may some = absurd (some may.word)
+held_some m at st (Some o) w may some = (o, refl, record { member = may.member o refl; held_up = may.held_up o refl; stands = may.word })
+
+-- ---- what raising leaves
+
+pub leaves_none : (s : Space) → RaisingLeaves s s
+leaves_none s = record { space = refl; heap = refl }
+
+pub leaves_both : (a b c : Space) → RaisingLeaves a b → RaisingLeaves b c → RaisingLeaves a c
+leaves_both a b c x y = record {
+  space = y.space ∙ ap {A = Space} (λ s. record s {
+    words = c.words;
+    work = record s.work { items = c.work.items };
+    report = record s.report {
+      promoted = record s.report.promoted { items = c.report.promoted.items };
+      stuck = record s.report.stuck { items = c.report.stuck.items };
+    };
+  }) x.space;
+  heap = y.heap ∙ x.heap;
+}
+
+-- ---- references of one object
+
+-- what is promoted stays so
+pub still_promoted : (m : Moment) (st : Stage) (held : Option Name) (u : Name) → IsTrue (has st.promoted u) → IsTrue (has (risen_held m st held).promoted u)
+still_promoted m st None u h = h
+still_promoted m st (Some o) u h = elim (is_unpromoted m st o) as (λ b. IsTrue (has (cond b (o ∷ st.promoted) st.promoted) u)) [
+  | true ↦ later_has o st.promoted u h
+  | false ↦ h
+]
+
+-- a reference was raised: the next is to be
+pub scanned_more : (s now : Space) (p i : ℕ) (m : Moment) (at : Name → ℕ) (st : Stage) (u : Name) (base : Name → ℕ) → IsScanning s p i m at st u base → i < length (references_at m u)
+    → IsRising now m at (risen_held m st (slice_index_or (references_at m u) i None)) → IsScanning now p (i + 1) m at (risen_held m st (slice_index_or (references_at m u) i None)) u base
+scanned_more s now p i m at st u base is within rising = record {
+  accounted = record {
+    rising = rising;
+    accounts = accounts_held m st (slice_index_or (references_at m u) i None) base (occurrences_from (references_at m u) i) base (occurrences_from (references_at m u) (i + 1)) is.accounted.accounts
+        (λ o. let k = from_step (references_at m u) i o within in omega (arith, k));
+  };
+  promoted = still_promoted m st (slice_index_or (references_at m u) i None) u is.promoted;
+  stands = is.stands;
+}
+
+-- all are raised
+pub scanned_all : (s : Space) (p i : ℕ) (m : Moment) (at : Name → ℕ) (st : Stage) (u : Name) (base : Name → ℕ) → i ≡ length (references_at m u) → IsScanning s p i m at st u base → Reaches s m at base
+scanned_all s p i m at st u base end is = (
+  st,
+  record {
+    rising = is.accounted.rising;
+    accounts = accounts_same m st base (occurrences_from (references_at m u) i) base (λ o. 0) (λ o. refl)
+        (λ o. sym (ap (λ z. occurrences_from (references_at m u) z o) end ∙ from_end (references_at m u) o)) is.accounted.accounts;
+  },
+)
+
+-- ---- the worklist
+
+split_last : {A B : Type 0} (f : A → B) (ns : List A) (xs : List B) (p : B) → xs ++ p ∷ [] ≡ map f ns → (ms : List A) × (r : A) × (ns ≡ ms ++ r ∷ []) × (xs ≡ map f ms) × (p ≡ f r)
+split_last f [] [] p e = absurd (cc)
+split_last f [] (x ∷ xs) p e = absurd (cc)
+split_last f (n ∷ []) [] p e = ([], n, refl, refl, cc)
+split_last f (n ∷ m ∷ ns) [] p e = absurd (cc)
+split_last f (n ∷ ns) (x ∷ xs) p e =
+    let head : x ≡ f n = cc in
+    let tail : xs ++ p ∷ [] ≡ map f ns = cc in
+    let s = split_last f ns xs p tail in
+    (n ∷ s.0, s.1, ap (λ z. n ∷ z) s.2, (let k = s.3 in cc), s.4)
+
+map_empty : {A B : Type 0} (f : A → B) (ns : List A) → [] ≡ map f ns → ns ≡ []
+map_empty f [] e = refl
+map_empty f (n ∷ ns) e = absurd (cc)
+
+-- the stage with the last of the worklist taken out
+popped_rising : (s : Space) (w : Roomy Place) (m : Moment) (at : Name → ℕ) (st : Stage) (ws : List Name) (u : Name) → w.room ≡ s.work.room → length w.items ≤ length s.work.items
+    → w.items ≡ map (place_of at) ws → st.work ≡ ws ++ u ∷ [] → IsRising s m at st → IsRising (record s { work = w }) m at (record st { work = ws })
+popped_rising s w m at st ws u room fewer items is r = record {
+  space = record { limits = r.space.limits; size = r.space.size };
+  room = record { registers = r.room.registers; deferred = r.room.deferred; logged = r.room.logged; work = room ∙ r.room.work; report = r.room.report };
+  as_many = r.as_many;
+  follows = r.follows;
+  image = record { image = r.image.image; registers = r.image.registers; deferred = r.image.deferred; world = r.image.world };
+  growth = r.growth;
+  once_promoted = r.once_promoted;
+  work_promoted = λ n h. r.work_promoted n (ap (λ z. has z n) is ∙ has_before ws u n h);
+  once_work = (distinct_last ws u (subst (λ z. IsDistinct z) is r.once_work)).0;
+  bits = r.bits;
+  marks = r.marks;
+  counts = record {
+    stuck = r.counts.stuck;
+    exact = r.counts.exact;
+    positive = r.counts.positive;
+    unraised = r.counts.unraised;
+    reported = λ n. (
+      λ h. let full = (r.counts.reported n).0 h in record { member = full.member; unstuck = full.unstuck; reaches = full.reaches },
+      λ full. (r.counts.reported n).1 (record { member = full.member; unstuck = full.unstuck; reaches = full.reaches }),
+    );
+    reported_once = r.counts.reported_once;
+  };
+  logs = r.logs;
+  few_logs = r.few_logs;
+  none_done = r.none_done;
+  blocks = r.blocks;
+  decrements = r.decrements;
+  reported = r.reported;
+  worklist = items;
+  lists = record { promoted = r.lists.promoted; work = let a = r.lists.work in omega (arith, a, fewer); stuck = r.lists.stuck };
+}
+
+-- the last of the worklist is taken out: its references are to be raised
+pub popped : (s now : Space) (p : Place) (m : Moment) (at : Name → ℕ) (st : Stage) (base : Name → ℕ) → IsAccounted s m at st base (λ o. 0) → s.work ≡ pushed now.work p → now ≡ record s { work = now.work }
+    → (ws : List Name) × (u : Name) × IsScanning now p.0 0 m at (record st { work = ws }) u base
+popped s now p m at st base is work rest =
+    let items : s.work.items ≡ now.work.items ++ p ∷ [] = ap (λ z. z.items) work in
+    let x = split_last (place_of at) st.work now.work.items p (sym items ∙ is.rising.worklist) in
+    let room : now.work.room ≡ s.work.room = sym (ap (λ z. z.room) work) in
+    let longer : length s.work.items ≡ length now.work.items + 1 = ap length items ∙ length-append now.work.items (p ∷ []) in
+    let in_work : IsTrue (has st.work x.1) = ap (λ z. has z x.1) x.2 ∙ has_last x.0 x.1 in
+    let promoted : IsTrue (has st.promoted x.1) = is.rising.work_promoted x.1 in_work in
+    let absent : has x.0 x.1 ≡ false = (distinct_last x.0 x.1 (subst (λ z. IsDistinct z) x.2 is.rising.once_work)).1 in (
+      x.0,
+      x.1,
+      record {
+        accounted = record {
+          rising = subst (λ z. IsRising z m at (record st { work = x.0 })) (sym rest) (popped_rising s now.work m at st x.0 x.1 room (omega (arith, longer)) x.3 x.2 is.rising);
+          accounts = accounts_popped m st x.0 x.1 base x.2 is.rising.once_promoted promoted absent is.accounts;
+        };
+        promoted = promoted;
+        stands = ap (λ z. z.0) x.4;
+      },
+    )
+
+-- what is left to do is one less then
+pub popped_left : (s now : Space) (p : Place) → s.work ≡ pushed now.work p → now ≡ record s { work = now.work } → left now + 1 ≡ left s
+popped_left s now p work rest =
+    let items : s.work.items ≡ now.work.items ++ p ∷ [] = ap (λ z. z.items) work in
+    let longer : length s.work.items ≡ length now.work.items + 1 = ap length items ∙ length-append now.work.items (p ∷ []) in
+    let same : 2048 * now.limits.blocks - passing (tables_of now).starts (2048 * now.limits.blocks) ≡ 2048 * s.limits.blocks - passing (tables_of s).starts (2048 * s.limits.blocks) =
+    ap {A = Space} (λ z. 2048 * z.limits.blocks - passing (tables_of z).starts (2048 * z.limits.blocks)) rest in
+    omega (arith, longer, same)
+
+pub popped_leaves : (s now : Space) (p : Place) → s.work ≡ pushed now.work p → now ≡ record s { work = now.work } → RaisingLeaves s now
+popped_leaves s now p work rest =
+    let kept : now.work ≡ record s.work { items = now.work.items } = sym (ap {A = Roomy Place} (λ w. record w { items = now.work.items }) work) in
+    record {
+      space = rest ∙ (λ i. record s { work = kept i }) ∙ ap {A = Space} (λ x. record s {
+        words = x.words;
+        work = record s.work { items = x.work.items };
+        report = record s.report {
+          promoted = record s.report.promoted { items = x.report.promoted.items };
+          stuck = record s.report.stuck { items = x.report.stuck.items };
+        };
+      }) (sym rest);
+      heap = ap {A = Space} (λ x. (tables_of x).heap) rest;
+    }
+
+-- an empty worklist, as `pop` leaves it
+pub emptied : (s : Space) (w : Roomy Place) (m : Moment) (at : Name → ℕ) (st : Stage) (base : Name → ℕ) → s.work.items ≡ [] → w ≡ s.work → IsAccounted s m at st base (λ o. 0) → Settles (record s { work = w }) m at base
+emptied s w m at st base empty same is = (
+  st,
+  record {
+    accounted = subst (λ x. IsAccounted (record s { work = x }) m at st base (λ o. 0)) (sym same) is;
+    no_work = map_empty (place_of at) st.work (sym empty ∙ is.rising.worklist);
+  },
+)
+
+pub emptied_leaves : (s : Space) (w : Roomy Place) → w ≡ s.work → RaisingLeaves s (record s { work = w })
+emptied_leaves s w same = subst (λ x. RaisingLeaves s (record s { work = x })) (sym same) (leaves_none s)

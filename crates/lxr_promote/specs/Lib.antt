@@ -1,0 +1,4 @@
+pub mod Rising
+pub mod Accounted
+pub mod Raising
+pub mod Promotion

@@ -1,0 +1,7 @@
+pub mod WipeLemmas
+pub mod FrameLemmas
+pub mod SinkingLemmas
+pub mod SpaceLemmas
+pub mod DrainLemmas
+pub mod BridgeLemmas
+pub mod OpenedLemmas

@@ -1,0 +1,12 @@
+use Rattle.std.proofs.Common.{◌≡◌, ℕ, ◌+◌}
+use Rattle.lxr_layout.specs.declared.Name.{Name}
+use Rattle.lxr_reclaim.specs.Sinking.{Stage, Releasing, Reaches, Keeps, held_by, occurrences_from, to_do}
+use Rattle.lxr_reclaim.proofs.finish.release.Given as goal
+
+abbrev pub invariant-loop-i : goal.invariant-loop-i
+invariant-loop-i l =
+    record {
+      reaches : (st : Stage) (r : Name) (rest : Name → ℕ) → Releasing l.fn.space l.place.0 st r rest → Reaches l.space st (λ o. rest o + occurrences_from (held_by st r) l.i o);
+      same : to_do l.space ≡ to_do l.fn.space;
+      keeps : Keeps l.fn.space l.space;
+    }

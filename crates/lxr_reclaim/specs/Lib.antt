@@ -1,0 +1,4 @@
+pub mod Wipe
+pub mod Sinking
+pub mod Finishing
+pub mod Opened

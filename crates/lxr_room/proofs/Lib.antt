@@ -1,0 +1,3 @@
+pub mod TakenLines
+pub mod RoomLemmas
+pub mod WorldLemmas
