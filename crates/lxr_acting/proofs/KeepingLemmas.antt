@@ -1,7 +1,7 @@
 -- How a space goes on standing for a meaning where objects keep their places and shapes: registers, words of objects,
 -- unlogged bits and the log change.
-use Rattle.std.proofs.Common.{◌≡◌, ◌≢◌, ℕ, zero, suc, ◌+◌, ◌-◌, ◌*◌, ◌/◌, ◌<◌, ◌≤◌, refl, sym, ap, subst, ◌∙◌, inl, inr, arith, Bool, List, length}
-use Rattle.std.specs.Prelude.{Option, Some, None, IsTrue, ◌↔◌, if◌then◌else◌}
+use Rattle.std.proofs.Common.{◌≡◌, ℕ, ◌+◌, ◌*◌, ◌/◌, ◌<◌, ◌≤◌, refl, sym, ap, subst, ◌∙◌, inl, inr, arith, Bool, List, length}
+use Rattle.std.specs.Prelude.{Option, Some, None, IsTrue, ◌↔◌}
 use Rattle.std.specs.Option.{option_map}
 use Rattle.std.proofs.lemmas.List.{length-map}
 use Rattle.lxr_layout.specs.declared.LogEntry.{LogEntry}
@@ -16,20 +16,18 @@ use Rattle.lxr_image.specs.Tables.{Tables, tables_in}
 use Rattle.lxr_image.specs.Spaces.{tables_of}
 use Rattle.lxr_image.specs.Reads.{granule_of}
 use Rattle.lxr_image.specs.Image.{ArePlacesOf, IsImage, granules_of, place_word}
-use Rattle.lxr_image.proofs.ImageLemmas.{Rewrites, stands_on}
-use Rattle.lxr_blocks.specs.declared.states.BlockState.TheVariants.{Chosen}
-use Rattle.lxr_blocks.specs.States.{state_in, state_of}
-use Rattle.lxr_blocks.specs.Placing.{IsRest}
+use Rattle.lxr_image.proofs.ImageLemmas.{Rewrites}
 use Rattle.lxr_model.specs.Moments.{Field, Moment, Trace}
 use Rattle.lxr_counting.specs.Following.{FollowsPause}
 use Rattle.lxr_between.specs.Meaning.{Meaning, members}
 use Rattle.lxr_between.specs.Standing.{AreLogged, HasBits, IsUnwritten}
 use Rattle.lxr_between.specs.Counting.{HasCounts, HasDecrements, IsUndecremented}
-use Rattle.lxr_between.specs.Lines.{AvoidChosen, ChosenNeedTrace, Covers, HasBlocks, HasMarks, LinesAreOut, OutsAreTaken, chosen_count, is_chosen}
+use Rattle.lxr_between.specs.Lines.{AvoidChosen, Covers, HasBlocks, HasMarks, LinesAreOut, OutsAreTaken}
 use Rattle.lxr_between.specs.Tracing.{IsTracedBy}
 use Rattle.lxr_between.specs.Between.{HoldsMoment}
 use Rattle.lxr_between.specs.Running.{IsRunning}
-use Rattle.lxr_acting.proofs.RunningLemmas.{in_left, in_right}
+use Rattle.lxr_between.proofs.NameLemmas.{in_first, in_second}
+use Rattle.lxr_between.proofs.FrameLemmas.{blocks_still, rest_still}
 
 -- ---- shapes
 
@@ -75,25 +73,6 @@ granules_same a b e = ap (λ z. word_count z / 2) e
 abbrev pub with_words : Tables → (ℕ → ℕ) → (ℕ → Bool) → Tables
 with_words t heap unlogged = record t { heap = heap; unlogged = unlogged }
 
--- an image reads heap words alone
-pub image_on : (t u : Tables) (blocks : ℕ) (at : Name → ℕ) (g : Graph) (ms : List Name) → ((k : ℕ) → u.heap k ≡ t.heap k) → IsImage t blocks at g ms → IsImage u blocks at g ms
-image_on t u blocks at g ms same image = record {
-  stands = λ n member.
-      let a = image.stands n member in
-      (a.0, a.1, stands_on t u blocks at at n a.0 (λ i h. same _) refl (λ i r h. refl) a.2);
-  apart = image.apart;
-}
-
-pub chosen_same : (t u : Tables) → ((b : ℕ) → is_chosen (state_in u b) ≡ is_chosen (state_in t b)) → (n : ℕ) → chosen_count u n ≡ chosen_count t n
-chosen_same t u same zero = refl
-chosen_same t u same (suc b) =
-    ap (λ c. (if c then 1 else 0) + chosen_count u b) (same b)
-    ∙ ap (λ z. (if is_chosen (state_in t b) then 1 else 0) + z) (chosen_same t u same b)
-
-pub chosen_needs : (t u : Tables) (blocks : ℕ) (trace : Option Trace) → chosen_count u blocks ≡ chosen_count t blocks → ChosenNeedTrace t blocks trace → ChosenNeedTrace u blocks trace
-chosen_needs t u blocks None same h = same ∙ h
-chosen_needs t u blocks (Some trace) same h = h
-
 marks_on : (t : Tables) (heap : ℕ → ℕ) (unlogged : ℕ → Bool) (g h : Graph) (at : Name → ℕ) (us : List Name) → SameShapes us g h → HasMarks t g at us → HasMarks (with_words t heap unlogged) h at us
 marks_on t heap unlogged g h at us same is = record {
   marked = λ n o k member there mark.
@@ -120,33 +99,6 @@ outs_on t heap unlogged g h at ms same is = record {
       (k.0, c.0, k.2, k.3, c.1, k.5);
   outside = is.outside;
 }
-
-blocks_on : (t : Tables) (heap : ℕ → ℕ) (unlogged : ℕ → Bool) (blocks : ℕ) (trace : Option Trace) → HasBlocks t blocks trace → HasBlocks (with_words t heap unlogged) blocks trace
-blocks_on t heap unlogged blocks trace is =
-    let u : Tables = with_words t heap unlogged in
-    let same = chosen_same t u (λ b. refl) blocks in
-    record {
-      world = is.world;
-      others = is.others;
-      few = subst (λ z. z ≤ blocks / 8) (sym same) is.few;
-      chosen = chosen_needs t u blocks trace same is.chosen;
-      tracing = is.tracing;
-    }
-
--- ---- the rest
-
-pub rest_on : (a b : Space) → (tables_of b).outs ≡ (tables_of a).outs → (tables_of b).states ≡ (tables_of a).states → b.limits ≡ a.limits → b.rest_next ≡ a.rest_next → b.rest_end ≡ a.rest_end
-    → IsRest a → IsRest b
-rest_on a b outs states limits next end is = elim is [
-  | inl e ↦ inl (next ∙ e ∙ sym end)
-  | inr h ↦ inr (record {
-    some = let k = h.some in omega (arith, next, end, k);
-    in_heap = let k = h.in_heap in let l = ap (λ z. z.blocks) limits in omega (arith, end, k, l);
-    in_line = ap (λ z. z / 16) next ∙ h.in_line ∙ ap (λ z. (z - 1) / 16) (sym end);
-    out = subst (λ f. IsTrue (f (b.rest_next / 16))) (sym outs) (subst (λ z. IsTrue ((tables_of a).outs (z / 16))) (sym next) h.out);
-    outside = subst (λ f. state_of (f (b.rest_next / 2048)) ≢ Chosen) (sym states) (subst (λ z. state_in (tables_of a) (z / 2048) ≢ Chosen) (sym next) h.outside);
-  })
-]
 
 -- ---- the whole
 
@@ -192,8 +144,8 @@ changed_moment s words heap unlogged places entries g st ws is tables follows c 
     let n : Moment = turned m st ws in
     let h : Graph = st.graph in
     let d = is.door.holds in
-    let of_members : SameShapes m.unreclaimed m.state.graph h = λ q k. c.shapes q (in_left m.unreclaimed m.made q k) in
-    let of_made : SameShapes m.made m.state.graph h = λ q k. c.shapes q (in_right m.unreclaimed m.made q k) in
+    let of_members : SameShapes m.unreclaimed m.state.graph h = λ q k. c.shapes q (in_first m.unreclaimed m.made q k) in
+    let of_made : SameShapes m.made m.state.graph h = λ q k. c.shapes q (in_second m.unreclaimed m.made q k) in
     record {
       space = record { limits = d.space.limits; size = ap (λ z. z.size) tables ∙ d.space.size };
       room = record { registers = d.room.registers; deferred = d.room.deferred; logged = d.room.logged; work = d.room.work; report = d.room.report };
@@ -220,9 +172,9 @@ changed_moment s words heap unlogged places entries g st ws is tables follows c 
       lines = subst (λ z. LinesAreOut z h at m.made) (sym tables) (λ q o k member covers.
           let old = covers_on m.made m.state.graph h at q o k of_made member covers in d.lines q old.0 k member old.1);
       unchosen = subst (λ z. AvoidChosen z at m.made) (sym tables) d.unchosen;
-      blocks = subst (λ z. HasBlocks z s.limits.blocks m.trace) (sym tables) (blocks_on t heap unlogged s.limits.blocks m.trace d.blocks);
+      blocks = subst (λ z. HasBlocks z s.limits.blocks m.trace) (sym tables) (blocks_still t (with_words t heap unlogged) s.limits.blocks m.trace refl refl d.blocks);
       rest = record {
-        rest = rest_on s b (ap (λ z. z.outs) tables) (ap (λ z. z.states) tables) refl refl refl d.rest.rest;
+        rest = rest_still s b refl refl refl (ap (λ z. z.outs) tables) (ap (λ z. z.states) tables) d.rest.rest;
         apart = λ q o k member covers. let old = covers_on (members m) m.state.graph h at q o k c.shapes member covers in d.rest.apart q old.0 k member old.1;
       };
       no_work = d.no_work;

@@ -1,5 +1,5 @@
 -- How a space stands for the next meaning once an object is made.
-use Rattle.std.proofs.Common.{◌≡◌, ◌≢◌, ℕ, zero, suc, ◌+◌, ◌-◌, ◌*◌, ◌/◌, ◌%◌, ◌<◌, ◌≤◌, refl, sym, ap, subst, ◌∙◌, inl, inr, ◌⊎◌, arith, cond, Bool, true, false, List, [], ◌∷◌, ◌++◌, length, map, nat_eq}
+use Rattle.std.proofs.Common.{◌≡◌, ◌≢◌, ℕ, zero, suc, ◌+◌, ◌-◌, ◌*◌, ◌/◌, ◌<◌, ◌≤◌, refl, sym, ap, subst, ◌∙◌, inl, inr, ◌⊎◌, arith, cond, Bool, true, false, List, [], ◌∷◌, ◌++◌, length, map, nat_eq}
 use Rattle.std.specs.Prelude.{Option, Some, None, IsTrue, slice_get, slice_set, ◌&&◌, not, filter, slice_index_or}
 use Rattle.std.specs.List.Sorted.{IsPermutation}
 use Rattle.std.proofs.lemmas.List.{length-replicate, length-set}
@@ -39,14 +39,13 @@ use Rattle.lxr_between.specs.Counting.{HasCounts, HasDecrements, IsUndecremented
 use Rattle.lxr_between.specs.Lines.{AvoidChosen, Covers, HasBlocks, HasMarks, KeepLines, LinesAreOut, OutsAreTaken, is_chosen}
 use Rattle.lxr_between.specs.Between.{HoldsMoment}
 use Rattle.lxr_between.specs.Running.{IsRunning}
-use Rattle.lxr_acting.proofs.RunningLemmas.{in_either, in_left, in_right, live_member, member_refers}
-use Rattle.lxr_acting.proofs.KeepingLemmas.{chosen_needs, chosen_same, untraced}
-use Rattle.lxr_acting.proofs.PlacingLemmas.{KeepsState, Makes, out_taken}
+use Rattle.lxr_between.proofs.NameLemmas.{in_either, in_first, in_second, live_member}
+use Rattle.lxr_between.proofs.FrameLemmas.{chosen_same, need_same}
+use Rattle.lxr_acting.proofs.RunningLemmas.{member_refers}
+use Rattle.lxr_acting.proofs.KeepingLemmas.{untraced}
+use Rattle.lxr_acting.proofs.PlacingLemmas.{KeepsState, Makes, line_back, out_taken}
 
 -- ---- members keep their lines
-
-line_back : (line : ℕ) → 16 * line % 16 ≡ 0
-line_back line = omega arith
 
 line_of : (g c k : ℕ) → g ≤ k → k < g + c → (g < 16 * (k / 16) + 16) × (16 * (k / 16) < g + c)
 line_of g c k low high = (omega arith, omega arith)
@@ -62,7 +61,7 @@ members_keep_lines space g is n o k member covers = elim (in_either g.moment.unr
       let keeps : KeepsLines t (granule_of (g.at n)) (granules_of o) = record {
         first = inl (is.undecremented.positive n kept);
         further = λ line low high. inl (λ e. some_stuck
-            (sym (is.door.holds.marks.marked n o (16 * line) kept covers.object (record { begins = line_back line; behind = low; within = high })) ∙ e));
+            (sym (is.door.holds.marks.marked n o (16 * line) kept covers.object (record { begins = omega arith; behind = low; within = high })) ∙ e));
       } in
       let line = line_of (granule_of (g.at n)) (granules_of o) k covers.first covers.behind in
       kept_line_is_taken t (granule_of (g.at n)) (granules_of o) (k / 16) keeps line.0 line.1
@@ -176,14 +175,14 @@ is_beside space g shape p dest is =
       old_object = λ q h. elim (which q) [ inl e ↦ absurd (unlike q h e.0) | inr e ↦ e.1 ];
       own_object = elim (which n) [ inl e ↦ e.1 | inr e ↦ absurd (let k : true ≡ false = sym (same_itself n) ∙ e.0 in cc) ];
       member = λ q h. elim (in_either m.unreclaimed (insert_name n m.made) q h) [
-        | inl k ↦ inr (in_left m.unreclaimed m.made q k)
-        | inr k ↦ elim (insert_cases n m.made q k) [ inl e ↦ inl e | inr a ↦ inr (in_right m.unreclaimed m.made q a) ]
+        | inl k ↦ inr (in_first m.unreclaimed m.made q k)
+        | inr k ↦ elim (insert_cases n m.made q k) [ inl e ↦ inl e | inr a ↦ inr (in_second m.unreclaimed m.made q a) ]
       ];
       old_member = λ q h. elim (in_either m.unreclaimed m.made q h) [
-        | inl k ↦ in_left m.unreclaimed (insert_name n m.made) q k
-        | inr k ↦ in_right m.unreclaimed (insert_name n m.made) q (insert_old n m.made q k)
+        | inl k ↦ in_first m.unreclaimed (insert_name n m.made) q k
+        | inr k ↦ in_second m.unreclaimed (insert_name n m.made) q (insert_old n m.made q k)
       ];
-      own_member = in_right m.unreclaimed (insert_name n m.made) n (insert_new n m.made);
+      own_member = in_second m.unreclaimed (insert_name n m.made) n (insert_new n m.made);
     }
 
 pub kept_place : (space : Space) (g : Meaning) (shape : Shape) (p dest : ℕ) (m : Name) → IsRunning space g → IsTrue (has (members g.moment) m) → placed g.at (next_name g.moment.state.graph 1) p m ≡ g.at m
@@ -222,7 +221,7 @@ lines_made : (space : Space) (g : Meaning) (shape : Shape) (p dest blocks next e
     → LinesAreOut u (with_new g.moment.state.graph 1 (fresh shape)) (placed g.at (next_name g.moment.state.graph 1) p) (made_moment g.moment dest shape).made
 lines_made space g shape p dest blocks next end u is beside makes m o k member covers = elim (insert_cases (next_name g.moment.state.graph 1) g.moment.made m member) [
   | inl e ↦ let own = own_covers g shape p dest m o k beside e covers in makes.own k own.0 own.1
-  | inr h ↦ makes.stays (k / 16) (is.door.holds.lines m o k h (covers_before g shape p dest m o k beside (in_right g.moment.unreclaimed g.moment.made m h) covers))
+  | inr h ↦ makes.stays (k / 16) (is.door.holds.lines m o k h (covers_before g shape p dest m o k beside (in_second g.moment.unreclaimed g.moment.made m h) covers))
 ]
 
 image_made : (space : Space) (g : Meaning) (shape : Shape) (p dest next end : ℕ) (u : Tables) → IsRunning space g → IsBeside g shape p dest → FitsShape shape → IsName (next_name g.moment.state.graph 1)
@@ -247,7 +246,7 @@ marks_made : (space : Space) (g : Meaning) (shape : Shape) (p dest : ℕ) (heap 
     → HasMarks (with_placed (tables_of space) heap outs reuse states) (with_new g.moment.state.graph 1 (fresh shape)) (placed g.at (next_name g.moment.state.graph 1) p) g.moment.unreclaimed
 marks_made space g shape p dest heap outs reuse states is beside =
     let m : Moment = g.moment in
-    let is_member : (q : Name) → IsTrue (has m.unreclaimed q) → IsTrue (has (members m) q) = λ q h. in_left m.unreclaimed m.made q h in
+    let is_member : (q : Name) → IsTrue (has m.unreclaimed q) → IsTrue (has (members m) q) = λ q h. in_first m.unreclaimed m.made q h in
     record {
       marked = λ q o k h there mark. is.door.holds.marks.marked q o k h (sym (beside.old_object q (is_member q h)) ∙ there) (record {
         begins = mark.begins;
@@ -274,7 +273,7 @@ counts_made space g shape p dest heap outs reuse states is beside =
     let m : Moment = g.moment in
     let t : Tables = tables_of space in
     let to : Name → ℕ = placed g.at (next_name m.state.graph 1) p in
-    let same : (q : Name) → IsTrue (has m.unreclaimed q) → to q ≡ g.at q = λ q h. beside.old_at q (in_left m.unreclaimed m.made q h) in
+    let same : (q : Name) → IsTrue (has m.unreclaimed q) → to q ≡ g.at q = λ q h. beside.old_at q (in_first m.unreclaimed m.made q h) in
     let old = is.door.holds.counts in
     record {
       stuck = λ q h stuck. ap (λ z. t.counts (granule_of z)) (same q h) ∙ old.stuck q h stuck;
@@ -290,7 +289,7 @@ bits_made : (space : Space) (g : Meaning) (shape : Shape) (p dest : ℕ) (heap :
 bits_made space g shape p dest heap outs reuse states is beside =
     let m : Moment = g.moment in
     let t : Tables = tables_of space in
-    let is_member : (q : Name) → IsTrue (has m.unreclaimed q) → IsTrue (has (members m) q) = λ q h. in_left m.unreclaimed m.made q h in
+    let is_member : (q : Name) → IsTrue (has m.unreclaimed q) → IsTrue (has (members m) q) = λ q h. in_first m.unreclaimed m.made q h in
     let bits = is.door.holds.bits in
     record {
       starts = record {
@@ -344,7 +343,7 @@ outs_made space g shape p dest next end u is beside makes =
             first = subst (λ z. granule_of z ≤ 16 * line) (sym here) own.0;
             behind = subst (λ z. 16 * line < granule_of z + granules_of (fresh shape)) (sym here) (subst (λ z. 16 * line < granule_of p + z) (sym (size_fresh shape)) own.1);
           },
-          front_line line,
+          line_back line,
         )
       ];
       outside = λ line out. elim (makes.outs line out) [
@@ -354,20 +353,17 @@ outs_made space g shape p dest next end u is beside makes =
       ];
     }
   where
-    front_line : (line : ℕ) → 16 * line / 16 ≡ line
-    front_line line = omega arith
-
     block_of_line : (a c line : ℕ) → a / 2048 ≡ (a + c - 1) / 2048 → a ≤ 16 * line → 16 * line < a + c → a / 2048 ≡ line / 128
     block_of_line a c line same low high = omega arith
 
 blocks_made : (t u : Tables) (blocks : ℕ) (trace : Option Trace) → ((b : ℕ) → KeepsState t u b) → u.cursors 8 ≡ t.cursors 8 → HasBlocks t blocks trace → HasBlocks u blocks trace
 blocks_made t u blocks trace states cursor is =
-    let same = chosen_same t u (λ b. still_chosen t u b (states b)) blocks in
+    let same = chosen_same t u blocks (λ b low. still_chosen t u b (states b)) in
     record {
       world = still_world t u (states 0) is.world;
       others = λ b low high. still_not t u b World refl (states b) (is.others b low high);
       few = subst (λ z. z ≤ blocks / 8) (sym same) is.few;
-      chosen = chosen_needs t u blocks trace same is.chosen;
+      chosen = need_same t u blocks trace same is.chosen;
       tracing = cursor ∙ is.tracing;
     }
 
@@ -377,7 +373,7 @@ logs_made space g shape p dest is beside =
     let m : Moment = g.moment in
     let to : Name → ℕ = placed g.at (next_name m.state.graph 1) p in
     let follows = is.door.holds.follows in
-    let is_member : (q : Name) → IsTrue (has m.unreclaimed q) → IsTrue (has (members m) q) = λ q h. in_left m.unreclaimed m.made q h in
+    let is_member : (q : Name) → IsTrue (has m.unreclaimed q) → IsTrue (has (members m) q) = λ q h. in_first m.unreclaimed m.made q h in
     subst (λ z. IsPermutation z space.logged.items) (entries_still m (made_moment m dest shape) g.at to m.written (λ n i h.
     let field = follows.written n i h in
     ap (λ z. record { place = record { 0 = z }; index = i; old = record { 0 = place_word to (slice_index_or (refs_of (object_at m.last.graph n)) i None) } }) (beside.old_at n (is_member n field.0))
@@ -406,7 +402,7 @@ made_holds space g shape p dest next end words places heap outs reuse states is 
     let k : Moment = made_moment m dest shape in
     let d = is.door.holds in
     let beside = is_beside space g shape p dest is in
-    let is_member : (q : Name) → IsTrue (has m.unreclaimed q) → IsTrue (has (members m) q) = λ q h. in_left m.unreclaimed m.made q h in
+    let is_member : (q : Name) → IsTrue (has m.unreclaimed q) → IsTrue (has (members m) q) = λ q h. in_first m.unreclaimed m.made q h in
     record {
       space = record { limits = d.space.limits; size = ap (λ z. z.size) tables ∙ d.space.size };
       room = record { registers = d.room.registers; deferred = d.room.deferred; logged = d.room.logged; work = d.room.work; report = d.room.report };
@@ -430,7 +426,7 @@ made_holds space g shape p dest next end words places heap outs reuse states is 
       lines = subst (λ z. LinesAreOut z h to k.made) (sym tables) (lines_made space g shape p dest space.limits.blocks next end u is beside makes);
       unchosen = subst (λ z. AvoidChosen z to k.made) (sym tables) (λ q member. elim (insert_cases n m.made q member) [
         | inl e ↦ subst (λ z. state_in u (granule_of z / 2048) ≢ Chosen) (sym (ap to e ∙ placed_here g.at n p)) (still_not t u (granule_of p / 2048) Chosen refl (makes.states (granule_of p / 2048)) makes.block)
-        | inr was ↦ subst (λ z. state_in u (granule_of z / 2048) ≢ Chosen) (sym (beside.old_at q (in_right m.unreclaimed m.made q was)))
+        | inr was ↦ subst (λ z. state_in u (granule_of z / 2048) ≢ Chosen) (sym (beside.old_at q (in_second m.unreclaimed m.made q was)))
             (still_not t u (granule_of (g.at q) / 2048) Chosen refl (makes.states (granule_of (g.at q) / 2048)) (d.unchosen q was))
       ]);
       blocks = subst (λ z. HasBlocks z space.limits.blocks m.trace) (sym tables) (blocks_made t u space.limits.blocks m.trace makes.states refl d.blocks);
@@ -474,7 +470,7 @@ made_running space g shape p dest next end words place heap outs reuse states is
       undecremented = subst (λ z. IsUndecremented z k to) (sym tables) (record {
         none_done = is.undecremented.none_done;
         none_drawn = is.undecremented.none_drawn;
-        positive = λ q h e. positive q h (ap (λ z. (tables_of space).counts (granule_of z)) (sym (beside.old_at q (in_left m.unreclaimed m.made q h))) ∙ e);
+        positive = λ q h e. positive q h (ap (λ z. (tables_of space).counts (granule_of z)) (sym (beside.old_at q (in_first m.unreclaimed m.made q h))) ∙ e);
       });
       outs = subst (λ z. OutsAreTaken z (with_new m.state.graph 1 (fresh shape)) to (members k)) (sym tables) (outs_made space g shape p dest next end u is beside makes);
       no_trace = is.no_trace;

@@ -21,10 +21,10 @@ use Rattle.lxr_counting.specs.Following.{FollowsPause}
 use Rattle.lxr_counting.proofs.FollowingLemmas.{call_follows}
 use Rattle.lxr_between.specs.Meaning.{Meaning, members}
 use Rattle.lxr_between.specs.Running.{IsRunning}
+use Rattle.lxr_between.proofs.FrameLemmas.{rest_still}
 use Rattle.lxr_acting.specs.Acting.{ActsAfter, IsCallOf}
 use Rattle.lxr_acting.specs.declared.acting.Acted.TheVariants as acted
 use Rattle.lxr_acting.proofs.StepLemmas.{with_register-one}
-use Rattle.lxr_acting.proofs.KeepingLemmas.{rest_on}
 use Rattle.lxr_acting.proofs.PlacingLemmas.{Makes, made_in_rest, made_on_run, some_granule}
 use Rattle.lxr_acting.proofs.MakingLemmas.{kept_place, made_meaning, made_moment, made_running, members_keep_lines, with_placed, with_rest}
 use Rattle.lxr_acting.proofs.DoesLemmas.{second_row, with_places}
@@ -52,7 +52,7 @@ runs_placed before after g shape dest q next end p heap outs reuse states is sma
     let tables : tables_in before.limits after.words ≡ with_placed (tables_of before) heap outs reuse states = ap tables_of (sym changes.rest) ∙ changes.tables in
     let follows = subst FollowsPause (moment_made m dest shape) (call_follows m 1 (op.New dest shape) (reply.New n) is.door.holds.follows (small, fits) (refl, second_row before g is, lit≤ tt)) in
     let running = made_running before g shape q dest next end after.words p heap outs reuse states is fits name follows makes tables
-    (rest_on mid last refl refl refl refl refl (subst IsRest changes.rest rest)) place in
+    (rest_still mid last refl refl refl refl refl (subst IsRest changes.rest rest)) place in
     let same : last ≡ with_places after (slice_set after.registers.items dest p) = sym (ap (λ z. with_places z (slice_set z.registers.items dest p)) changes.rest) in (
       made_meaning g dest shape q,
       record { moment = sym (moment_made m dest shape); at = λ k member. kept_place before g shape q dest k is member; reported = refl; rememberable = refl },

@@ -19,6 +19,7 @@ use Rattle.lxr_blocks.specs.States.{is_fixed, state_by_lines, state_in, state_nu
 use Rattle.lxr_blocks.specs.Handing.{first_line, handed_out, is_between, with_lines_out}
 use Rattle.lxr_blocks.specs.Placing.{first_granule, granule_count, with_object}
 use Rattle.lxr_between.specs.Lines.{Covers, KeepLines}
+use Rattle.lxr_between.proofs.EntryLemmas.{equal_numbers}
 
 -- ---- the words of a new object
 
@@ -69,7 +70,7 @@ one_block a b x same low high = omega arith
 one_line : (a b x : ℕ) → a / 16 ≡ b / 16 → a ≤ x → x ≤ b → x / 16 ≡ a / 16
 one_line a b x same low high = omega arith
 
-line_back : (l : ℕ) → 16 * l / 16 ≡ l
+pub line_back : (l : ℕ) → 16 * l / 16 ≡ l
 line_back l = omega arith
 
 pub some_granule : (s : Shape) → 1 ≤ granule_count s
@@ -160,12 +161,9 @@ handing_keeps_states t r b =
       | false ↦ λ e. elim (nat_eq b r.block) as (λ c. nat_eq b r.block ≡ c
           → (state_of (cond c new (t.states b)) ≡ state_in t b) ⊎ ((is_fixed (state_in t b) ≡ false) × (is_fixed (state_of (cond c new (t.states b))) ≡ false))) [
             | false ↦ λ f. inl refl
-            | true ↦ λ f. inr (ap (λ z. is_fixed (state_in t z)) (one_number b r.block f) ∙ e, by_lines (free_count (free_in v r.block) 128 == 128) (free_count (free_in v r.block) 128 == 0))
+            | true ↦ λ f. inr (ap (λ z. is_fixed (state_in t z)) (equal_numbers b r.block f) ∙ e, by_lines (free_count (free_in v r.block) 128 == 128) (free_count (free_in v r.block) 128 == 0))
           ] refl
     ] refl
-  where
-    one_number : (a b : ℕ) → nat_eq a b ≡ true → a ≡ b
-    one_number a b e = grind arith
 
 -- ---- an object is made
 

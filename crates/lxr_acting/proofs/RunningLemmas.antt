@@ -1,8 +1,7 @@
 -- What is read of a space that stands for a meaning.
-use Rattle.std.proofs.Common.{◌≡◌, ◌≢◌, ℕ, ◌*◌, ◌<◌, ◌≤◌, refl, sym, ap, subst, ◌∙◌, inl, inr, ◌⊎◌, arith, true, false, List, [], ◌∷◌, ◌++◌, length, get_or, nat_eq}
+use Rattle.std.proofs.Common.{◌≡◌, ◌≢◌, ℕ, ◌*◌, ◌<◌, ◌≤◌, refl, sym, ap, subst, ◌∙◌, inl, inr, arith, true, false, List, length, get_or, nat_eq}
 use Rattle.std.specs.Prelude.{Option, Some, None, IsTrue, slice_get, if◌then◌else◌}
 use Rattle.std.specs.Option.{option_map}
-use Rattle.std.proofs.lemmas.Bool.{or_left, or_right, or_cases}
 use Rattle.std.proofs.lemmas.Option.{slice_get-map, slice_get-get_or}
 use Rattle.lxr_layout.specs.declared.Name.{Name}
 use Rattle.lxr_layout.specs.declared.Place.{Place}
@@ -22,35 +21,15 @@ use Rattle.lxr_model.specs.Reachable.{Refers}
 use Rattle.lxr_model.specs.Moments.{Moment}
 use Rattle.lxr_model.proofs.StepLemmas.{register_held}
 use Rattle.lxr_counting.specs.Distinct.{has_field}
-use Rattle.lxr_counting.specs.Following.{FollowsPause, IsLive}
+use Rattle.lxr_counting.specs.Following.{FollowsPause}
 use Rattle.lxr_between.specs.Meaning.{Meaning, members}
 use Rattle.lxr_between.specs.Running.{IsRunning}
+use Rattle.lxr_between.proofs.NameLemmas.{in_either, in_first, live_member}
+use Rattle.lxr_between.proofs.EntryLemmas.{same_number, unlike_number}
 use Rattle.lxr_acting.specs.Telling.{IsMember, told, told_at}
 use Rattle.lxr_acting.proofs.StepLemmas.{register_at-one}
 
 -- ---- members
-
-pub in_left : (ns ms : List Name) (q : Name) → IsTrue (has ns q) → IsTrue (has (ns ++ ms) q)
-in_left [] ms q h = absurd (cc)
-in_left (n ∷ ns) ms q h = elim (or_cases (same_name q n) (has ns q) h) [
-  | inl k ↦ or_left (same_name q n) (has (ns ++ ms) q) k
-  | inr k ↦ or_right (same_name q n) (has (ns ++ ms) q) (in_left ns ms q k)
-]
-
-pub in_right : (ns ms : List Name) (q : Name) → IsTrue (has ms q) → IsTrue (has (ns ++ ms) q)
-in_right [] ms q h = h
-in_right (n ∷ ns) ms q h = or_right (same_name q n) (has (ns ++ ms) q) (in_right ns ms q h)
-
-pub in_either : (ns ms : List Name) (q : Name) → IsTrue (has (ns ++ ms) q) → IsTrue (has ns q) ⊎ IsTrue (has ms q)
-in_either [] ms q h = inr h
-in_either (n ∷ ns) ms q h = elim (or_cases (same_name q n) (has (ns ++ ms) q) h) [
-  | inl k ↦ inl (or_left (same_name q n) (has ns q) k)
-  | inr k ↦ elim (in_either ns ms q k) [ inl a ↦ inl (or_right (same_name q n) (has ns q) a) | inr a ↦ inr a ]
-]
-
-pub live_member : (m : Moment) (n : Name) → FollowsPause m → IsLive m n → IsTrue (has (members m) n)
-live_member m n follows (inl reached) = in_left m.unreclaimed m.made n (follows.kept n reached)
-live_member m n follows (inr made) = in_right m.unreclaimed m.made n made
 
 -- nil, or a member
 abbrev pub IsHeld : Moment → Option Name → Type 0
@@ -72,7 +51,7 @@ member_refers m u n o i follows member there read = elim (in_either m.unreclaime
     | false ↦ λ e.
         let same = follows.unwritten u i kept e in
         let now = ap (λ z. slice_get (refs_of z) i) there ∙ read in
-        in_left m.unreclaimed m.made n (follows.closed u n kept (i, sym same ∙ now))
+        in_first m.unreclaimed m.made n (follows.closed u n kept (i, sym same ∙ now))
   ] refl
 ]
 
@@ -109,12 +88,6 @@ register_place space g r p is small read =
     word ∙ ap (place_word g.at) (sym (register_at-one s r))
 
 -- ---- what stands at a place
-
-pub same_number : (p q : ℕ) → p ≡ q → nat_eq p q ≡ true
-same_number p q e = grind arith
-
-pub unlike_number : (p q : ℕ) → p ≢ q → nat_eq p q ≡ false
-unlike_number p q ne = grind arith
 
 nothing_below : (p : ℕ) → 1 ≤ p → p ≢ 0
 nothing_below p some e = omega arith

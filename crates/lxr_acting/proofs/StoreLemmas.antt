@@ -23,9 +23,12 @@ use Rattle.lxr_counting.specs.Distinct.{has_field}
 use Rattle.lxr_between.specs.Meaning.{Meaning, members}
 use Rattle.lxr_between.specs.Standing.{IsUnwritten, entry_of, field_word}
 use Rattle.lxr_between.specs.Running.{IsRunning}
+use Rattle.lxr_between.proofs.NameLemmas.{in_first}
+use Rattle.lxr_between.proofs.EntryLemmas.{equal_numbers, same_number}
+use Rattle.lxr_between.proofs.FrameLemmas.{image_still}
 use Rattle.lxr_acting.specs.Telling.{IsMember, entry_at}
-use Rattle.lxr_acting.proofs.RunningLemmas.{in_left, member_stands, same_number}
-use Rattle.lxr_acting.proofs.KeepingLemmas.{Changes, SameShapes, image_on, rewritten_shapes, same_length, turned, unwritten_same, with_words}
+use Rattle.lxr_acting.proofs.RunningLemmas.{member_stands}
+use Rattle.lxr_acting.proofs.KeepingLemmas.{Changes, SameShapes, rewritten_shapes, same_length, turned, unwritten_same, with_words}
 
 -- ---- the fields of members are apart
 
@@ -82,9 +85,9 @@ pub set_bit_says : (space : Space) (g : Meaning) (n : Name) (o : Object) (i : �
 set_bit_says space g n o i is member within bit =
     let u = (is.door.holds.bits.unlogged (field_word g.at n i)).0 bit in
     let m : Name = u.0 in let j : ℕ = u.1 in let at = u.2 in
-    let there = is.door.holds.image.image.stands m (in_left g.moment.unreclaimed g.moment.made m at.member) in
+    let there = is.door.holds.image.image.stands m (in_first g.moment.unreclaimed g.moment.made m at.member) in
     let b : Object = there.0 in
-    let in_m : IsMember g m b = record { member = in_left g.moment.unreclaimed g.moment.made m at.member; object = there.1 } in
+    let in_m : IsMember g m b = record { member = in_first g.moment.unreclaimed g.moment.made m at.member; object = there.1 } in
     let jb : j < length b.refs = subst (λ z. j < length (refs_of z)) there.1 at.index in
     let one = one_field space g n m o b i j is member in_m within jb at.word in (
       subst (λ z. IsTrue (has g.moment.unreclaimed z)) (sym one.0) at.member,
@@ -132,7 +135,7 @@ put_shapes g n o i v member =
 pub bits_stay : (space : Space) (g : Meaning) (st : State) → IsRunning space g → SameShapes (members g.moment) g.moment.state.graph st.graph
     → (w : ℕ) → IsTrue ((tables_of space).unlogged w) ↔ IsUnwritten (turned g.moment st g.moment.written) g.at g.moment.unreclaimed w
 bits_stay space g st is shapes w =
-    let same = unwritten_same g.moment st g.at w (λ n k. shapes n (in_left g.moment.unreclaimed g.moment.made n k)) in
+    let same = unwritten_same g.moment st g.at w (λ n k. shapes n (in_first g.moment.unreclaimed g.moment.made n k)) in
     let bits = is.door.holds.bits.unlogged w in
     (λ h. same.0 (bits.0 h), λ h. bits.1 (same.1 h))
 
@@ -178,7 +181,7 @@ logged_bits space g n o i v is member within kept w =
     let m : Moment = g.moment in
     let k : ℕ = field_word g.at n i in
     elim (nat_eq w k) as (λ c. nat_eq w k ≡ c → IsTrue (cond c false ((tables_of space).unlogged w)) ↔ IsUnwritten (turned m (stored_in g n i v o) ((n, i) ∷ m.written)) g.at m.unreclaimed w) [
-      | true ↦ λ e. (λ bit. absurd (let z : false ≡ true = bit in cc), λ u. absurd (own_written space g n o i v is member within w (told_equal w k e) u))
+      | true ↦ λ e. (λ bit. absurd (let z : false ≡ true = bit in cc), λ u. absurd (own_written space g n o i v is member within w (equal_numbers w k e) u))
       | false ↦ λ e. (
         λ bit. let u = stay.0 bit in (
           u.0,
@@ -194,15 +197,12 @@ logged_bits space g n o i v is member within kept w =
       )
     ] refl
   where
-    told_equal : (a b : ℕ) → nat_eq a b ≡ true → a ≡ b
-    told_equal a b e = grind arith
-
     own_written : (space : Space) (g : Meaning) (n : Name) (o : Object) (i : ℕ) (v : Option Name) → IsRunning space g → IsMember g n o → i < length o.refs → (w : ℕ) → w ≡ field_word g.at n i
         → IsUnwritten (turned g.moment (stored_in g n i v o) ((n, i) ∷ g.moment.written)) g.at g.moment.unreclaimed w → ⊥
     own_written space g n o i v is member within w here (m, j, at) =
-        let there = is.door.holds.image.image.stands m (in_left g.moment.unreclaimed g.moment.made m at.member) in
+        let there = is.door.holds.image.image.stands m (in_first g.moment.unreclaimed g.moment.made m at.member) in
         let b : Object = there.0 in
-        let in_m : IsMember g m b = record { member = in_left g.moment.unreclaimed g.moment.made m at.member; object = there.1 } in
+        let in_m : IsMember g m b = record { member = in_first g.moment.unreclaimed g.moment.made m at.member; object = there.1 } in
         let shapes = stored_shapes g n o i v member in
         let long = same_length (object_at (stored_in g n i v o).graph m) (object_at g.moment.state.graph m) (shapes m in_m.member) in
         let jb : j < length b.refs = subst (λ z. j < length (refs_of z)) there.1 (subst (λ z. j < z) long at.index) in
@@ -216,7 +216,7 @@ logged_bits space g n o i v is member within kept w =
       | false ↦ λ e. none
       | true ↦ λ e. elim (nat_eq j i) as (λ c. nat_eq j i ≡ c → (c || has_field ws (m, j)) ≡ false) [
         | false ↦ λ f. none
-        | true ↦ λ f. absurd (differ (same_names m n e) (told_equal j i f))
+        | true ↦ λ f. absurd (differ (same_names m n e) (equal_numbers j i f))
       ] refl
     ] refl
 
@@ -253,9 +253,9 @@ log_changes space g n o i v p is member within kept unwritten place few =
     let entry : LogEntry = entry_at (tables_of space) p i (field_word g.at n i) in
     record {
       shapes = plain.shapes;
-      image = image_on (with_words (tables_of space) (changed (tables_of space).heap (field_word g.at n i) (place_word g.at v)) (tables_of space).unlogged)
+      image = image_still (with_words (tables_of space) (changed (tables_of space).heap (field_word g.at n i) (place_word g.at v)) (tables_of space).unlogged)
           (with_words (tables_of space) (changed (tables_of space).heap (field_word g.at n i) (place_word g.at v)) (changed (tables_of space).unlogged (field_word g.at n i) false))
-          space.limits.blocks g.at (stored_in g n i v o).graph (members g.moment) (λ k. refl) plain.image;
+          space.limits.blocks g.at (stored_in g n i v o).graph (members g.moment) (members g.moment) refl (λ q k. k) plain.image;
       registers = plain.registers;
       unlogged_are = logged_bits space g n o i v is member within kept;
       logs = more_logged (map (entry_of g.moment g.at) g.moment.written) space.logged.items (entry_of g.moment g.at (n, i)) entry is.door.holds.logs

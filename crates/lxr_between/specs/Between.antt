@@ -1,5 +1,5 @@
 -- What holds of a space at a pause's door, and what holds of it between epochs.
-use Rattle.std.specs.Prelude.{◌≡◌, ℕ, ◌*◌, ◌≤◌, [], List, length}
+use Rattle.std.specs.Prelude.{◌≡◌, ℕ, ◌*◌, ◌≤◌, [], length}
 use Rattle.std.specs.Option.{option_map}
 use Rattle.lxr_layout.specs.declared.Name.{Name}
 use Rattle.lxr_graph.specs.History.{report_of}

@@ -1,18 +1,24 @@
 -- Reference counts, and the decrements that wait.
-use Rattle.std.specs.Prelude.{◌≡◌, ◌≢◌, ℕ, zero, suc, ◌+◌, ◌*◌, ◌<◌, ◌≤◌, ◌==◌, ◌&&◌, nat_le, not, Bool, false, List, IsTrue, filter, if◌then◌else◌}
+use Rattle.std.specs.Prelude.{◌≡◌, ◌≢◌, ℕ, zero, suc, ◌+◌, ◌*◌, ◌<◌, ◌≤◌, ◌==◌, ◌&&◌, nat_le, not, Bool, false, Option, List, [], ◌∷◌, IsTrue, filter, if◌then◌else◌}
 use Rattle.lxr_layout.specs.declared.limits.Limits.{Limits}
 use Rattle.lxr_layout.specs.declared.Name.{Name}
 use Rattle.lxr_layout.specs.declared.TheConstants.{STUCK}
 use Rattle.lxr_graph.specs.Names.{has}
 use Rattle.lxr_image.specs.Tables.{Tables}
 use Rattle.lxr_image.specs.Reads.{granule_of}
-use Rattle.lxr_model.specs.References.{references}
+use Rattle.lxr_model.specs.References.{occurrences, references}
 use Rattle.lxr_model.specs.Moments.{Moment}
 
 -- how many of the numbers below one pass a test
 abbrev pub passing : (ℕ → Bool) → ℕ → ℕ
 passing test zero = 0
 passing test (suc k) = passing test k + (if test k then 1 else 0)
+
+-- how often o stands among these references, from number i on
+abbrev pub occurrences_from : List (Option Name) → ℕ → Name → ℕ
+occurrences_from rs zero o = occurrences rs o
+occurrences_from [] (suc i) o = 0
+occurrences_from (r ∷ rs) (suc i) o = occurrences_from rs i o
 
 -- what the table of counts says of an object
 abbrev pub count_at : Tables → (Name → ℕ) → Name → ℕ

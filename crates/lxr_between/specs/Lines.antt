@@ -1,12 +1,11 @@
 -- Line marks, and which lines objects keep.
-use Rattle.std.specs.Prelude.{◌≡◌, ◌≢◌, ℕ, zero, suc, ◌+◌, ◌*◌, ◌/◌, ◌%◌, ◌<◌, ◌≤◌, ◌⊎◌, ⊤, Bool, false, true, Option, Some, None, List, IsTrue, if◌then◌else◌}
+use Rattle.std.specs.Prelude.{◌≡◌, ◌≢◌, ℕ, zero, suc, ◌+◌, ◌-◌, ◌/◌, ◌%◌, ◌<◌, ◌≤◌, ◌⊎◌, ⊤, Bool, false, true, Option, Some, None, List, IsTrue, if◌then◌else◌}
 use Rattle.lxr_layout.specs.declared.Name.{Name}
 use Rattle.lxr_layout.specs.declared.TheConstants.{STUCK}
 use Rattle.lxr_graph.specs.Names.{has}
 use Rattle.lxr_graph.specs.State.{Graph, Object, object_at}
 use Rattle.lxr_image.specs.declared.space.Space.{Space}
 use Rattle.lxr_image.specs.Tables.{Tables}
-use Rattle.lxr_image.specs.Spaces.{IsSpace, tables_of}
 use Rattle.lxr_image.specs.Reads.{granule_of}
 use Rattle.lxr_image.specs.Image.{granules_of}
 use Rattle.lxr_blocks.specs.declared.states.BlockState.{BlockState}
@@ -16,6 +15,13 @@ use Rattle.lxr_blocks.specs.States.{is_fixed, state_by_lines, state_in}
 use Rattle.lxr_blocks.specs.Placing.{IsRest}
 use Rattle.lxr_model.specs.Moments.{Moment, Trace}
 use Rattle.lxr_between.specs.Meaning.{members}
+
+-- the first further line of an object that begins at a granule, and the line behind its last one
+abbrev pub next_line : ℕ → ℕ
+next_line granule = granule / 16 + 1
+
+abbrev pub line_behind : ℕ → ℕ → ℕ
+line_behind granule granules = (granule + granules - 1) / 16 + 1
 
 -- a granule begins a further line that an object at a place reaches into
 pub record IsMarkOf (at : Name → ℕ) (n : Name) (o : Object) (k : ℕ) : Type 0 where

@@ -1,9 +1,9 @@
 -- The middle of a pause: all increments are done, and the decrements of old values aren't queued yet.
-use Rattle.std.specs.Prelude.{◌≡◌, ◌≢◌, ℕ, ◌+◌, ◌*◌, ◌<◌, ◌≤◌, ◌↔◌, ◌||◌, false, List, [], IsTrue, length, if◌then◌else◌}
+use Rattle.std.specs.Prelude.{◌≡◌, ◌≢◌, ℕ, ◌+◌, ◌*◌, ◌≤◌, ◌↔◌, false, List, [], IsTrue, length, if◌then◌else◌}
 use Rattle.lxr_layout.specs.declared.Name.{Name}
 use Rattle.lxr_layout.specs.declared.TheConstants.{STUCK}
 use Rattle.lxr_graph.specs.Names.{has, union}
-use Rattle.lxr_graph.specs.State.{State, world_name}
+use Rattle.lxr_graph.specs.State.{world_name}
 use Rattle.lxr_image.specs.declared.space.Space.{Space}
 use Rattle.lxr_image.specs.Tables.{Tables}
 use Rattle.lxr_image.specs.Spaces.{IsSpace, tables_of}
@@ -15,7 +15,7 @@ use Rattle.lxr_model.specs.Moments.{Moment}
 use Rattle.lxr_model.specs.Reports.{raised}
 use Rattle.lxr_counting.specs.Distinct.{IsDistinct}
 use Rattle.lxr_counting.specs.Following.{FollowsPause}
-use Rattle.lxr_between.specs.Standing.{AreLogged, HasBits, IsImaged}
+use Rattle.lxr_between.specs.Standing.{AreLogged, HasBits}
 use Rattle.lxr_between.specs.Counting.{count_at}
 use Rattle.lxr_between.specs.Lines.{HasBlocks, HasMarks}
 

@@ -1,5 +1,5 @@
 -- What holds of a space of one thread while its operations are done directly on it.
-use Rattle.std.specs.Prelude.{◌≡◌, ℕ, None, length}
+use Rattle.std.specs.Prelude.{◌≡◌, None, length}
 use Rattle.lxr_image.specs.declared.space.Space.{Space}
 use Rattle.lxr_image.specs.Spaces.{tables_of}
 use Rattle.lxr_between.specs.Meaning.{Meaning, members}

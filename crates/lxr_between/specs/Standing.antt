@@ -3,6 +3,7 @@ use Rattle.std.specs.Prelude.{◌≡◌, ℕ, ◌+◌, ◌<◌, ◌↔◌, false
 use Rattle.std.specs.List.Sorted.{IsPermutation}
 use Rattle.lxr_layout.specs.declared.Name.{Name}
 use Rattle.lxr_layout.specs.declared.LogEntry.{LogEntry}
+use Rattle.lxr_layout.specs.declared.Place.{Place}
 use Rattle.lxr_layout.specs.Places.{first_word}
 use Rattle.lxr_graph.specs.Names.{has}
 use Rattle.lxr_graph.specs.State.{object_at, refs_of, world_name}
@@ -13,6 +14,10 @@ use Rattle.lxr_image.specs.Image.{ArePlacesOf, IsImage, StartsAre, place_word}
 use Rattle.lxr_model.specs.Moments.{Field, Moment}
 use Rattle.lxr_counting.specs.Distinct.{has_field}
 use Rattle.lxr_between.specs.Meaning.{members}
+
+-- the place of a name's object
+abbrev pub place_of : (Name → ℕ) → Name → Place
+place_of at n = record { 0 = at n }
 
 -- The heap is the image of the state now with all members. Registers hold the places of what they hold now, deferred
 -- registers those of what they held at the last pause. The world stands at the first place.

@@ -1,6 +1,6 @@
 -- What holds of marks, grays and remembered entries at a pause's door while a trace runs. A marked object counts as
 -- scanned, and one that is done as handled.
-use Rattle.std.specs.Prelude.{◌≡◌, ◌≢◌, ℕ, ◌+◌, ◌*◌, ◌/◌, ◌^◌, ◌<◌, ◌≤◌, ◌⊎◌, ⊤, false, true, Option, Some, None, List, IsTrue, slice_get}
+use Rattle.std.specs.Prelude.{◌≡◌, ℕ, ◌+◌, ◌*◌, ◌/◌, ◌^◌, ◌<◌, ◌≤◌, ◌⊎◌, ⊤, false, Option, Some, None, List, IsTrue, slice_get}
 use Rattle.lxr_layout.specs.declared.limits.Limits.{Limits}
 use Rattle.lxr_layout.specs.declared.Name.{Name}
 use Rattle.lxr_layout.specs.declared.LogEntry.{LogEntry}
@@ -8,7 +8,7 @@ use Rattle.lxr_layout.specs.declared.Place.{Place}
 use Rattle.lxr_layout.specs.Places.{first_word}
 use Rattle.lxr_layout.specs.Runs.{IsEntry, word_of_entry}
 use Rattle.lxr_graph.specs.Names.{has}
-use Rattle.lxr_graph.specs.State.{HasObject, State, object_at, refs_of, world_name}
+use Rattle.lxr_graph.specs.State.{HasObject, object_at, refs_of, world_name}
 use Rattle.lxr_image.specs.Tables.{Tables}
 use Rattle.lxr_image.specs.Reads.{granule_of}
 use Rattle.lxr_blocks.specs.declared.states.BlockState.TheVariants.{Chosen}

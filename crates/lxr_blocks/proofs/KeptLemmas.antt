@@ -1,8 +1,8 @@
 -- An object that is placed stands on lines that no other object keeps.
 use Rattle.std.proofs.Common.{◌≡◌, ◌≢◌, ℕ, zero, suc, ◌+◌, ◌-◌, ◌*◌, ◌/◌, ◌<◌, ◌≤◌, refl, sym, ap, subst, ◌∙◌, inl, inr, ◌⊎◌, arith, Bool, true, false, List, ◌∷◌, length}
 use Rattle.std.proofs.lemmas.List.{length-replicate}
-use Rattle.std.specs.Prelude.{◌==◌, ◌&&◌, ◌||◌, IsTrue, Option, Some, None, not, nat_eq, if◌then◌else◌}
-use Rattle.std.proofs.lemmas.Bool.Decides.{eqb_tells, leb_tells, nat_tests}
+use Rattle.std.specs.Prelude.{◌&&◌, ◌||◌, IsTrue, Option, Some, None, not, nat_eq, if◌then◌else◌}
+use Rattle.std.proofs.lemmas.Bool.Decides.{leb_tells, nat_tests}
 use Rattle.lxr_layout.specs.declared.runs.Run.{Run}
 use Rattle.lxr_layout.specs.declared.limits.Limits.{Limits}
 use Rattle.lxr_layout.specs.declared.Name.{Name}
@@ -27,7 +27,7 @@ use Rattle.lxr_blocks.specs.Lines.{IsFreeRun, are_zero, is_free}
 use Rattle.lxr_blocks.specs.Handing.{first_line, is_between}
 use Rattle.lxr_blocks.specs.Placing.{IsPlaced, IsPlacedInRest, IsPlacedOn, IsRest, first_granule, granule_count, with_object}
 use Rattle.lxr_blocks.specs.Kept.{AreKept, FreeLineIsTold, IsFreeLine, KeepsLines, KeptLineIsTaken, OpenedIsKept, PlacedIsApart}
-use Rattle.lxr_blocks.proofs.LineLemmas.{zero_ends}
+use Rattle.lxr_blocks.proofs.LineLemmas.{all_zero, zero_each, zero_ends}
 
 -- ---- free lines
 
@@ -42,18 +42,6 @@ count_keeps t n i within here = ap (λ z. not (t.outs n) && z) (zero_ends t.coun
 -- and so does its out bit
 out_keeps : (t : Tables) (n : ℕ) → IsTrue (t.outs n) → is_free t n ≡ false
 out_keeps t n out = ap (λ b. not b && are_zero t.counts (16 * n) 16) out
-
-all_zero : (counts : ℕ → ℕ) (g k : ℕ) → ((i : ℕ) → i < k → counts (g + i) ≡ 0) → are_zero counts g k ≡ true
-unfolding are_zero
-all_zero counts g zero all = refl
-all_zero counts g (suc k) all =
-    ap (λ b. b && (counts (g + k) == 0)) (all_zero counts g k (λ i h. all i (omega (arith, h)))) ∙ ap (λ n. n == 0) (all k (omega arith))
-
-zero_each : (counts : ℕ → ℕ) (g k : ℕ) → are_zero counts g k ≡ true → (i : ℕ) → i < k → counts (g + i) ≡ 0
-zero_each counts g k all i within = elim (eqb_tells (counts (g + i)) 0) [
-  | inl z ↦ z.1
-  | inr z ↦ let no = zero_ends counts g i k within z.1 in cc
-]
 
 told_free : (t : Tables) (n : ℕ) (out : Bool) → t.outs n ≡ out → (not out && are_zero t.counts (16 * n) 16) ≡ true → IsFreeLine t n
 told_free t n true is free = let no : false ≡ true = free in cc

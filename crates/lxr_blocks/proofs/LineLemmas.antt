@@ -1,8 +1,9 @@
 -- Counts that are 0, and free lines in a row.
-use Rattle.std.proofs.Common.{◌≡◌, ◌≢◌, ℕ, zero, suc, ◌+◌, ◌*◌, ◌<◌, ◌≤◌, refl, sym, ap, subst, ◌∙◌, inl, inr, arith, add-one, Bool, true, false}
-use Rattle.std.specs.Prelude.{◌==◌, ◌&&◌, IsTrue, max, not, if◌then◌else◌}
+use Rattle.std.proofs.Common.{◌≡◌, ◌≢◌, ℕ, zero, suc, ◌+◌, ◌*◌, ◌<◌, ◌≤◌, refl, sym, ap, subst, ◌∙◌, inl, inr, arith, Bool, true, false}
+use Rattle.std.specs.Prelude.{◌==◌, ◌&&◌, ◌↔◌, IsTrue, max, not, if◌then◌else◌}
 use Rattle.std.proofs.Common.{nat_cmp}
 use Rattle.std.specs.Ordering.{ord_max}
+use Rattle.std.proofs.lemmas.Bool.{false_from_ne_true}
 use Rattle.std.proofs.lemmas.Bool.Decides.{eqb_tells, leb_tells, nat_tests}
 use Rattle.lxr_layout.specs.declared.runs.Run.{Run}
 use Rattle.lxr_image.specs.Tables.{Tables}
@@ -12,16 +13,6 @@ use Rattle.lxr_blocks.specs.Lines.{IsFirstLine, IsFreeRun, IsNextRun, are_zero, 
 use Rattle.lxr_blocks.specs.States.{IsOpenRun, state_by_lines, state_in}
 
 -- ---- the test of a line
-
--- no count is none that isn't 0
-pub zero_none : (counts : ℕ → ℕ) (g : ℕ) → are_zero counts g 0 ≡ true
-unfolding are_zero
-zero_none counts g = refl
-
--- one count more is 0
-pub zero_more : (counts : ℕ → ℕ) (g k : ℕ) → are_zero counts g k ≡ true → counts (g + k) ≡ 0 → are_zero counts g (k + 1) ≡ true
-unfolding are_zero
-zero_more counts g k before here = rw add-one (ap (λ b. b && (counts (g + k) == 0)) before ∙ ap (λ n. n == 0) here)
 
 -- a count that isn't 0
 pub zero_ends : (counts : ℕ → ℕ) (g k n : ℕ) → k < n → counts (g + k) ≢ 0 → are_zero counts g n ≡ false
@@ -35,6 +26,25 @@ zero_ends counts g k (suc n) within here =
       ]
       | inr other ↦ let ne = other.1 in ap (λ b. b && (counts (g + n) == 0)) (zero_ends counts g k n (omega arith) here)
     ]
+
+-- so many counts are 0 where each is
+pub all_zero : (counts : ℕ → ℕ) (g k : ℕ) → ((i : ℕ) → i < k → counts (g + i) ≡ 0) → are_zero counts g k ≡ true
+unfolding are_zero
+all_zero counts g zero all = refl
+all_zero counts g (suc k) all =
+    ap (λ b. b && (counts (g + k) == 0)) (all_zero counts g k (λ i h. all i (omega (arith, h)))) ∙ ap (λ n. n == 0) (all k (omega arith))
+
+-- and each is 0 where they are
+pub zero_each : (counts : ℕ → ℕ) (g k : ℕ) → are_zero counts g k ≡ true → (i : ℕ) → i < k → counts (g + i) ≡ 0
+zero_each counts g k all i within = elim (eqb_tells (counts (g + i)) 0) [
+  | inl z ↦ z.1
+  | inr z ↦ let no = zero_ends counts g i k within z.1 in cc
+]
+
+-- a test that tells whether each count is 0
+pub zeros_told : (counts : ℕ → ℕ) (g k : ℕ) (zeros : Bool) → (IsTrue zeros ↔ ((i : ℕ) → i < k → counts (g + i) ≡ 0)) → zeros ≡ are_zero counts g k
+zeros_told counts g k true told = sym (all_zero counts g k (told.0 refl))
+zeros_told counts g k false told = sym (false_from_ne_true (are_zero counts g k) (λ yes. let no : false ≡ true = told.1 (zero_each counts g k yes) in cc))
 
 pub free_if : (t : Tables) (n : ℕ) (out zeros : Bool) → out ≡ t.outs n → out ≡ false → zeros ≡ are_zero t.counts (16 * n) 16 → zeros ≡ is_free t n
 free_if t n out zeros is not_out zeros_is = zeros_is ∙ ap (λ b. not b && are_zero t.counts (16 * n) 16) (sym not_out ∙ is)

@@ -1,24 +1,10 @@
 //! The test of a line, and the search for free lines in a block.
 ghost use Rattle.std.specs.Prelude.{◌≡◌, ℕ, ◌+◌, ◌*◌, ◌<◌, ◌≤◌, IfSome, IfNone, false, true};
 ghost use Rattle.lxr_image.specs.Spaces.{IsSpace, tables_of};
-ghost use Rattle.lxr_blocks.specs.Lines.{IsFirstLine, IsNextRun, are_zero, free_in, is_free};
+ghost use Rattle.lxr_blocks.specs.Lines.{IsFirstLine, IsNextRun, free_in, is_free};
 
 use lxr_image::Space;
 use lxr_layout::Run;
-
-/// Whether the counts of a line's granules, the first of which is given, are all 0.
-fn has_no_counts(space: &Space, granule: u32) -> bool
-    requires space { IsSpace space.now }
-    requires granule { granule + 16 ≤ 2048 * space.now.limits.blocks }
-    ensures { result ≡ are_zero (tables_of space.now).counts granule 16 }
-{
-    for k in 0..16_u32 {
-        if space.count(granule + k) != 0 {
-            return false;
-        }
-    }
-    true
-}
 
 /// Whether a line, counted over the whole heap, is free.
 fn is_line_free(space: &Space, line: u32) -> bool
@@ -26,7 +12,7 @@ fn is_line_free(space: &Space, line: u32) -> bool
     requires line { line < 128 * space.now.limits.blocks }
     ensures { result ≡ is_free (tables_of space.now) line }
 {
-    !space.has_out(line) && has_no_counts(space, 16 * line)
+    !space.has_out(line) && space.has_no_counts(line)
 }
 
 /// The first line of a block, from one on, that is free, or that isn't; 128 where there is none.

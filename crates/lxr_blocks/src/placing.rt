@@ -141,9 +141,9 @@ fn open_rest(space: &mut Space, run: Run)
 /// last object was placed: they are handed out, and what is left of their last line is the rest from then on.
 /// None exactly where neither the rest nor free lines outside Chosen blocks are long enough; then nothing changes.
 ///
-/// It looks at each block at most once: it tests up to 128 lines of a block, a line that is out or whose first
-/// object is counted by one or two loads, and else by 17. Where all objects are short, it finds lines in the block in
-/// which it placed last, or in the next that has any, so that filling a heap takes time in proportion to its lines.
+/// It looks at each block at most once: it tests up to 128 lines of a block, a line that is out by one load, and any
+/// other by two. Where all objects are short, it finds lines in the block in which it placed last, or in the next that
+/// has any, so that filling a heap takes time in proportion to its lines.
 pub fn place_now(space: &mut Space, name: Name, shape: Shape) -> Option<Place>
     requires space { IsSpace space.old }
     requires shape { FitsShape shape }

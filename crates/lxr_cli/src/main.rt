@@ -3,8 +3,9 @@
 #![tactic(auto)]
 
 use lxr_image::Space;
-use lxr_run::{Open, Status, Unseen, lxr};
+use lxr_run::{Open, Status, lxr};
 use lxr_stream::{Faults, Out, Standard};
+use lxr_watch::Unseen;
 use std::alloc::AllocError;
 use std::env;
 use std::env::Env;

@@ -16,10 +16,11 @@ use Rattle.lxr_image.specs.Tables.{Tables}
 use Rattle.lxr_image.specs.Reads.{granule_of}
 use Rattle.lxr_image.specs.Image.{granules_of}
 use Rattle.lxr_blocks.specs.Lines.{are_zero, is_free}
+use Rattle.lxr_blocks.proofs.LineLemmas.{all_zero}
 use Rattle.lxr_model.specs.Full.{lines_at, slots_taken, slots_touched}
 use Rattle.lxr_fullness.specs.Touched.{touched_slots}
 use Rattle.lxr_fullness.specs.Taken.{IsOverlapped, TakeAllLines, TakenLeavesNoRun, TakenTouchesFew}
-use Rattle.lxr_fullness.proofs.TouchedLemmas.{DifferInRow, free_blocks, more_touched, no_run_touches_all, row_touches_few, zeros}
+use Rattle.lxr_fullness.proofs.TouchedLemmas.{DifferInRow, free_blocks, more_touched, no_run_touches_all, row_touches_few}
 
 -- ---- which lines objects overlap
 
@@ -96,7 +97,7 @@ LieInBlocks at g ns = (n : Name) → IsTrue (has ns n) → (o : Object) × (obje
 few_taken : (t : Tables) (blocks : ℕ) (at : Name → ℕ) (g : Graph) (ns : List Name) (k : ℕ) → 1 ≤ k → LieInBlocks at g ns
     → touched_slots (taken_by t at g ns) blocks k ≤ slots_taken g k ns
 few_taken t blocks at g [] k some lie =
-    let none = free_blocks (taken_by t at g []) blocks k (λ line past. zeros (λ granule. 0) (16 * line) 16 (λ m h. refl)) in omega (arith, none)
+    let none = free_blocks (taken_by t at g []) blocks k (λ line past. all_zero (λ granule. 0) (16 * line) 16 (λ m h. refl)) in omega (arith, none)
 few_taken t blocks at g (n ∷ ns) k some lie =
     let own = lie n (or_left (same_name n n) (has ns n) (same_itself n)) in
     let o = own.0 in

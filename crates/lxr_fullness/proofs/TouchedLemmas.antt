@@ -1,7 +1,7 @@
 -- What touches slots: nothing at the opening, a row of lines few, such as a run that is handed out, and all are touched
 -- where no run is left.
 use Rattle.std.proofs.Common.{◌≡◌, ◌≢◌, ℕ, zero, suc, ◌+◌, ◌-◌, ◌*◌, ◌/◌, ◌<◌, ◌≤◌, refl, sym, ap, subst, ◌∙◌, inl, inr, ◌⊎◌, arith, true, false}
-use Rattle.std.specs.Prelude.{◌&&◌, ◌==◌, not, if◌then◌else◌}
+use Rattle.std.specs.Prelude.{◌&&◌, not, if◌then◌else◌}
 use Rattle.std.proofs.Math.Path.{fun_ext}
 use Rattle.std.proofs.lemmas.Bool.{cases_Bool, not-false}
 use Rattle.std.proofs.lemmas.Bool.Decides.{eqb_tells, leb_tells, nat_tests}
@@ -11,6 +11,7 @@ use Rattle.lxr_image.specs.Tables.{Tables}
 use Rattle.lxr_image.specs.Opened.{opened_tables}
 use Rattle.lxr_blocks.specs.Lines.{IsFreeRun, are_zero, free_in, is_free}
 use Rattle.lxr_blocks.specs.Handing.{first_line, handed_out, is_between}
+use Rattle.lxr_blocks.proofs.LineLemmas.{all_zero}
 use Rattle.lxr_model.specs.Full.{slots_in, slots_touched}
 use Rattle.lxr_fullness.specs.Touched.{are_free, is_touched, slots_begin, slots_of, touched_in, touched_slots}
 use Rattle.lxr_fullness.specs.TouchedLaws.{HandingOutTouchesFew, NoRunTouchesAll, OpenedTouchesNone, TouchedReadsLines}
@@ -42,20 +43,13 @@ touched_reads_lines t u (suc b) k outs counts =
 
 -- ---- the opening
 
--- so many counts from one on are 0 where each is
-pub zeros : (counts : ℕ → ℕ) (g k : ℕ) → ((m : ℕ) → m < k → counts (g + m) ≡ 0) → are_zero counts g k ≡ true
-unfolding are_zero
-zeros counts g zero all = refl
-zeros counts g (suc k) all =
-    ap (λ b. b && (counts (g + k) == 0)) (zeros counts g k (λ m h. all m (omega (arith, h)))) ∙ ap (λ n. n == 0) (all k (omega arith))
-
 -- the world reaches over the first three lines only
 opened_count : (limits : Limits) (g : ℕ) → 48 ≤ g → (opened_tables limits).counts g ≡ 0
 opened_count limits g past = grind (arith, nat_tests)
 
 opened_line : (limits : Limits) (n : ℕ) → 3 ≤ n → is_free (opened_tables limits) n ≡ true
 opened_line limits n past =
-    zeros (opened_tables limits).counts (16 * n) 16 (λ m h. opened_count limits (16 * n + m) (omega (arith, past)))
+    all_zero (opened_tables limits).counts (16 * n) 16 (λ m h. opened_count limits (16 * n + m) (omega (arith, past)))
 
 -- lines from where slots begin are behind the world
 behind_world : (b i : ℕ) → slots_begin b ≤ i → 3 ≤ 128 * b + i

@@ -3,7 +3,7 @@
 //! Each call says which entry of which table it reads or writes, as an equation of the tables; the places of the
 //! regions among the words are known here alone. A granule, line, block or heap word is given by its number in the
 //! heap, from 0.
-ghost use Rattle.std.specs.Prelude.{◌≡◌, ◌≢◌, ◌+◌, ◌*◌, ◌/◌, ◌%◌, ◌^◌, ◌<◌, ◌≤◌, false, slice_index, true};
+ghost use Rattle.std.specs.Prelude.{◌≡◌, ◌≢◌, ℕ, ◌+◌, ◌*◌, ◌/◌, ◌%◌, ◌^◌, ◌<◌, ◌≤◌, ◌↔◌, IsTrue, false, slice_index, true};
 ghost use Rattle.lxr_image.specs.Spaces.{IsSpace, Turns, bit_region, bit_table, tables_of, with_bit, with_word, word_region, word_table};
 ghost use Rattle.lxr_image.specs.Tables.{changed};
 ghost use Rattle.lxr_layout.specs.Spaces.{AreLimits, region_begin, region_sizes};
@@ -518,6 +518,17 @@ impl Space {
     {
         let base = self.counts_begin();
         lower_two(&mut self.words, base, granule as usize)
+    }
+
+    /// Whether the counts of all sixteen granules of the line are 0. They are one half of a word, which is read once.
+    #[inline(always)]
+    pub fn has_no_counts(&self, line: u32) -> bool
+        requires space { IsSpace self.now }
+        requires line { line < 128 * self.now.limits.blocks }
+        ensures { IsTrue result ↔ ((k : ℕ) → k < 16 → (tables_of self.now).counts (16 * line + k) ≡ 0) }
+    {
+        let word = self.words.get(self.counts_begin() + line as usize / 2);
+        word >> (32 * (line % 2)) & 0xffff_ffff == 0
     }
 
     /// The first word of the reference counts.

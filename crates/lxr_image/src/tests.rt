@@ -34,6 +34,16 @@ fn the_world_stands(rt: HostRuntime) {
     for (granule, count) in [(0, 3), (1, 0), (16, 3), (31, 0), (32, 3), (33, 0)] {
         assert_eq!(rt; space.count(granule), count);
     }
+    for (line, none) in [
+        (0, false),
+        (1, false),
+        (2, false),
+        (3, true),
+        (4, true),
+        (255, true),
+    ] {
+        assert_eq!(rt; space.has_no_counts(line), none);
+    }
     for (at, unlogged) in [(0, false), (1, true), (64, true), (65, false)] {
         assert_eq!(rt; space.has_unlogged(at), unlogged);
     }

@@ -7,7 +7,7 @@ use Rattle.lxr_image.specs.declared.space.Tally.{Tally}
 use Rattle.lxr_image.specs.Opened.{HasReportRoom}
 use Rattle.lxr_model.specs.Moments.{Moment}
 use Rattle.lxr_between.specs.Between.{HoldsMoment}
-use Rattle.lxr_reclaim.proofs.FrameLemmas.{rest_still}
+use Rattle.lxr_between.proofs.FrameLemmas.{rest_still}
 use Rattle.lxr_one_pause.specs.Steps.{begun, with_names_in_order}
 
 -- the space with another report, tally and number of pauses

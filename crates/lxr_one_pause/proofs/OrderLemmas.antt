@@ -1,6 +1,6 @@
 -- Names put in order are the same names, each once.
-use Rattle.std.proofs.Common.{◌≡◌, refl, sym, ap, ◌∙◌, arith, Bool, true, false, List, [], IsTrue}
-use Rattle.std.specs.Prelude.{◌↔◌, ◌||◌}
+use Rattle.std.proofs.Common.{◌≡◌, refl, sym, ap, ◌∙◌, arith, List, [], IsTrue}
+use Rattle.std.specs.Prelude.{◌↔◌}
 use Rattle.lxr_layout.specs.declared.Name.{Name}
 use Rattle.lxr_lists.specs.Roomy.{Roomy}
 use Rattle.lxr_graph.specs.Names.{AreInOrder, IsSetOf, has, union}
@@ -9,14 +9,11 @@ use Rattle.lxr_graph.proofs.NameSets.{has-union, in_order-none, in_order-union, 
 use Rattle.lxr_model.specs.References.{references_from}
 use Rattle.lxr_counting.specs.Distinct.{IsDistinct}
 use Rattle.lxr_counting.proofs.BalanceLemmas.{references_union}
+use Rattle.lxr_between.proofs.NameLemmas.{or_nothing}
 use Rattle.lxr_one_pause.specs.Steps.{in_order}
 
-or_none : (b : Bool) → (b || false) ≡ b
-or_none true = refl
-or_none false = refl
-
 pub has_in_order : (ns : List Name) (n : Name) → has (union ns []) n ≡ has ns n
-has_in_order ns n = has-union ns [] n ∙ or_none (has ns n)
+has_in_order ns n = has-union ns [] n ∙ or_nothing (has ns n)
 
 pub are_in_order : (ns : List Name) → AreInOrder (union ns [])
 are_in_order ns = in_order-union ns [] in_order-none

@@ -1,7 +1,7 @@
 -- A sweep of all blocks changes states alone, so the space goes on holding its moment; and each block then has the state of
 -- its lines. The moment after the pause differs in its number and in the order of its stuck names.
-use Rattle.std.proofs.Common.{◌≡◌, ◌≢◌, ℕ, zero, suc, ◌+◌, ◌*◌, ◌/◌, ◌<◌, ◌≤◌, refl, sym, ap, subst, ◌∙◌, inl, inr, ◌⊎◌, arith, Bool, true, false, cond, List, [], IsTrue}
-use Rattle.std.specs.Prelude.{Option, Some, None, ◌==◌}
+use Rattle.std.proofs.Common.{◌≡◌, ◌≢◌, ℕ, ◌*◌, ◌/◌, ◌<◌, ◌≤◌, refl, sym, ap, subst, ◌∙◌, inl, inr, ◌⊎◌, arith, Bool, true, false, cond, List, [], IsTrue}
+use Rattle.std.specs.Prelude.{Option, ◌==◌}
 use Rattle.lxr_layout.specs.declared.Name.{Name}
 use Rattle.lxr_layout.specs.declared.TheConstants.{STUCK}
 use Rattle.lxr_graph.specs.Names.{has}
@@ -24,9 +24,9 @@ use Rattle.lxr_sweep.proofs.SweptLemmas.{swept_is_by_lines}
 use Rattle.lxr_between.specs.Meaning.{members}
 use Rattle.lxr_between.specs.Standing.{HasBits, IsUnwritten}
 use Rattle.lxr_between.specs.Counting.{HasCounts, HasDecrements, IsUndecremented, count_at}
-use Rattle.lxr_between.specs.Lines.{ChosenNeedTrace, HasBlocks, HasMarks, HasStates, KeepLines, chosen_count, is_chosen}
+use Rattle.lxr_between.specs.Lines.{HasBlocks, HasMarks, HasStates, KeepLines, chosen_count, is_chosen}
 use Rattle.lxr_between.specs.Between.{HoldsMoment}
-use Rattle.lxr_reclaim.proofs.FrameLemmas.{image_still, marks_still}
+use Rattle.lxr_between.proofs.FrameLemmas.{chosen_same, image_still, marks_still, need_same}
 
 -- ---- states
 
@@ -67,8 +67,8 @@ module _ (t : Tables) (blocks : ℕ) where
       let is = are_swept.by_lines b within other.0 other.1 in
       ((λ e. (by_lines_open swept b).0 (sym is ∙ e)), (λ e. (by_lines_open swept b).1 (sym is ∙ e)))
 
-  chosen_same : (b : ℕ) → b < blocks → is_chosen (state_in swept b) ≡ is_chosen (state_in t b)
-  chosen_same b within = elim (which_state (state_in t b)) [
+  same_chosen : (b : ℕ) → b < blocks → is_chosen (state_in swept b) ≡ is_chosen (state_in t b)
+  same_chosen b within = elim (which_state (state_in t b)) [
     | inl c ↦ ap is_chosen (are_swept.chosen b c ∙ sym c)
     | inr q ↦ elim q [
       | inl w ↦ ap is_chosen (are_swept.world b w ∙ sym w)
@@ -85,22 +85,15 @@ module _ (t : Tables) (blocks : ℕ) where
     ]
   ]
 
-  count_same : (k : ℕ) → k ≤ blocks → chosen_count swept k ≡ chosen_count t k
-  count_same zero within = refl
-  count_same (suc k) within =
-      ap (λ b. cond b 1 0 + chosen_count swept k) (chosen_same k (omega arith))
-      ∙ ap (λ n. cond (is_chosen (state_in t k)) 1 0 + n) (count_same k (omega arith))
-
-  need_same : (trace : Option Trace) → ChosenNeedTrace t blocks trace → ChosenNeedTrace swept blocks trace
-  need_same None h = count_same blocks (omega arith) ∙ h
-  need_same (Some trace) h = h
+  as_many_chosen : chosen_count swept blocks ≡ chosen_count t blocks
+  as_many_chosen = chosen_same t swept blocks same_chosen
 
   pub swept_blocks : (trace : Option Trace) → HasBlocks t blocks trace → HasBlocks swept blocks trace
   swept_blocks trace h = record {
     world = are_swept.world 0 h.world;
     others = λ b from within. world_same b within (h.others b from within);
-    few = subst (λ n. n ≤ blocks / 8) (sym (count_same blocks (omega arith))) h.few;
-    chosen = need_same trace h.chosen;
+    few = subst (λ n. n ≤ blocks / 8) (sym as_many_chosen) h.few;
+    chosen = need_same t swept blocks trace as_many_chosen h.chosen;
     tracing = h.tracing;
   }
 

@@ -1,7 +1,6 @@
 -- Once all is queued, the space holds the moment that follows.
-use Rattle.std.proofs.Common.{◌≡◌, ℕ, zero, suc, ◌+◌, ◌<◌, ◌≤◌, refl, sym, ap, subst, ◌∙◌, ◌⊎◌, inl, inr, arith, Bool, true, false, cond, List, [], ◌∷◌, IsTrue}
-use Rattle.std.specs.Prelude.{Option, None, Some, not, nat_le}
-use Rattle.std.proofs.lemmas.Bool.Decides.{nat_tests}
+use Rattle.std.proofs.Common.{◌≡◌, ℕ, ◌+◌, ◌<◌, refl, sym, ap, subst, ◌∙◌, inl, inr, arith, Bool, false, List, [], IsTrue}
+use Rattle.std.proofs.lemmas.Bool.{cases_lt}
 use Rattle.std.proofs.lemmas.List.{append-nil}
 use Rattle.std.proofs.lemmas.List.Sorted.{IsPermutation-refl}
 use Rattle.lxr_layout.specs.declared.Name.{Name}
@@ -9,7 +8,6 @@ use Rattle.lxr_layout.specs.declared.LogEntry.{LogEntry}
 use Rattle.lxr_layout.specs.declared.TheConstants.{STUCK}
 use Rattle.lxr_lists.specs.Roomy.{Roomy, emptied}
 use Rattle.lxr_graph.specs.Names.{has, union}
-use Rattle.lxr_graph.specs.State.{Graph}
 use Rattle.lxr_graph.proofs.NameSets.{has-union}
 use Rattle.lxr_image.specs.declared.space.Space.{Space}
 use Rattle.lxr_image.specs.Tables.{Tables, tables_in}
@@ -17,19 +15,19 @@ use Rattle.lxr_image.specs.Spaces.{IsSpace, Turns, tables_of}
 use Rattle.lxr_image.specs.Opened.{HasRoom}
 use Rattle.lxr_image.specs.Image.{IsImage}
 use Rattle.lxr_image.specs.Reads.{granule_of}
-use Rattle.lxr_image.proofs.ImageLemmas.{stands_on}
 use Rattle.lxr_image.proofs.SpaceLemmas.{turns_then}
-use Rattle.lxr_blocks.specs.States.{state_of}
 use Rattle.lxr_model.specs.References.{references}
-use Rattle.lxr_model.specs.Moments.{Moment, Trace}
+use Rattle.lxr_model.specs.Moments.{Moment}
 use Rattle.lxr_counting.specs.Balance.{lowered}
-use Rattle.lxr_counting.proofs.DistinctLemmas.{or_false, tested}
+use Rattle.lxr_counting.proofs.DistinctLemmas.{or_false}
 use Rattle.lxr_between.specs.Meaning.{members}
 use Rattle.lxr_between.specs.Standing.{HasBits}
-use Rattle.lxr_between.specs.Counting.{HasCounts, HasDecrements, IsUndecremented, count_at, entries_between, undone, waiting_at}
-use Rattle.lxr_between.specs.Lines.{ChosenNeedTrace, HasBlocks, HasMarks, KeepsRest, chosen_count, is_chosen}
+use Rattle.lxr_between.specs.Counting.{HasCounts, HasDecrements, IsUndecremented, count_at, entries_between, waiting_at}
+use Rattle.lxr_between.specs.Lines.{HasBlocks, HasMarks, KeepsRest}
 use Rattle.lxr_between.specs.Between.{HoldsMoment}
 use Rattle.lxr_between.specs.Raised.{IsRaised, count_raised, settled, with_promoted}
+use Rattle.lxr_between.proofs.NameLemmas.{no_member}
+use Rattle.lxr_between.proofs.FrameLemmas.{blocks_still, image_still, marks_still, none_undone}
 use Rattle.lxr_pause.specs.Appending.{with_entries, with_registers}
 use Rattle.lxr_pause.specs.Queueing.{Queues, with_roots_deferred}
 use Rattle.lxr_pause.proofs.SettledLemmas.{raised_balance, settled_follows}
@@ -40,47 +38,6 @@ use Rattle.lxr_pause.proofs.RaisedLemmas.{AreQueued, all_queued, are_queued}
 
 abbrev appended : Tables → (ℕ → ℕ) → (ℕ → ℕ) → (ℕ → Bool) → Tables
 appended t d c l = record t { decs = d; cursors = c; unlogged = l }
-
-same_image : (t : Tables) (d c : ℕ → ℕ) (l : ℕ → Bool) (blocks : ℕ) (at : Name → ℕ) (g : Graph) (us : List Name) → IsImage t blocks at g us → IsImage (appended t d c l) blocks at g us
-same_image t d c l blocks at g us image = record {
-  stands = λ n h. let x = image.stands n h in (x.0, x.1, stands_on t (appended t d c l) blocks at at n x.0 (λ i k. refl) refl (λ i r e. refl) x.2);
-  apart = image.apart;
-}
-
-same_chosen : (t : Tables) (d c : ℕ → ℕ) (l : ℕ → Bool) (b : ℕ) → chosen_count (appended t d c l) b ≡ chosen_count t b
-same_chosen t d c l zero = refl
-same_chosen t d c l (suc b) = ap (λ k. cond (is_chosen (state_of (t.states b))) 1 0 + k) (same_chosen t d c l b)
-
-same_need : (t : Tables) (d c : ℕ → ℕ) (l : ℕ → Bool) (blocks : ℕ) (trace : Option Trace) → ChosenNeedTrace t blocks trace → ChosenNeedTrace (appended t d c l) blocks trace
-same_need t d c l blocks None none = same_chosen t d c l blocks ∙ none
-same_need t d c l blocks (Some trace) some = some
-
-same_blocks : (t : Tables) (d c : ℕ → ℕ) (l : ℕ → Bool) (blocks : ℕ) (trace : Option Trace) → c 8 ≡ t.cursors 8 → HasBlocks t blocks trace → HasBlocks (appended t d c l) blocks trace
-same_blocks t d c l blocks trace tracing is = record {
-  world = is.world;
-  others = is.others;
-  few = let few = is.few in let same = same_chosen t d c l blocks in omega (arith, few, same);
-  chosen = same_need t d c l blocks trace is.chosen;
-  tracing = tracing ∙ is.tracing;
-}
-
-same_marks : (t : Tables) (d c : ℕ → ℕ) (l : ℕ → Bool) (g : Graph) (at : Name → ℕ) (us : List Name) → HasMarks t g at us → HasMarks (appended t d c l) g at us
-same_marks t d c l g at us is = record { marked = is.marked; elsewhere = is.elsewhere }
-
--- ---- counts
-
-less_or : (a b : ℕ) → (a < b) ⊎ (b ≤ a)
-less_or a b = elim (tested (nat_le b a)) [
-  | inl h ↦ inr (grind (arith, nat_tests))
-  | inr e ↦ inl (grind (arith, nat_tests))
-]
-
--- where nothing is done all names are undone
-all_undone : (t : Tables) (at : Name → ℕ) (us : List Name) → ((k : ℕ) → t.dones k ≡ false) → us ≡ undone t at us
-all_undone t at [] none = refl
-all_undone t at (u ∷ us) none =
-    ap (λ x. u ∷ x) (all_undone t at us none)
-    ∙ sym (ap (λ b. cond (not b) (u ∷ undone t at us) (undone t at us)) (none (granule_of (at u))))
 
 -- ---- the moment
 
@@ -102,7 +59,7 @@ module _ (s : Space) (m : Moment) (at : Name → ℕ) (promoted stuck : List Nam
   counts_below n h unstuck =
       let exact = is.counts.exact n h unstuck in
       let neither = or_false (has stuck n) (has m.stuck n) (sym (has-union stuck m.stuck n) ∙ unstuck) in
-      elim (less_or (count_raised m promoted n) STUCK) [
+      elim (cases_lt (count_raised m promoted n) STUCK) [
         | inl below ↦ subst (λ x. x < STUCK) (sym exact) below
         | inr reaches ↦
             let becomes : IsTrue (has stuck n) = (is.raised.stuck_are n).1 (record { member = h; unstuck = neither.1; reaches = reaches }) in
@@ -115,7 +72,7 @@ module _ (s : Space) (m : Moment) (at : Name → ℕ) (promoted stuck : List Nam
     below = counts_below;
     exact = λ n h unstuck.
         is.counts.exact n h unstuck ∙ raised_balance m promoted stuck n is.follows is.raised
-        ∙ (λ j. references m.state (all_undone u at us is.none_done j) n + sym (waits_lowered n h) j);
+        ∙ (λ j. references m.state (sym (none_undone u at us is.none_done) j) n + sym (waits_lowered n h) j);
     done = λ n h done. let none = is.none_done (granule_of (at n)) in absurd (cc);
   }
 
@@ -134,9 +91,6 @@ module _ (s : Space) (m : Moment) (at : Name → ℕ) (promoted stuck : List Nam
   pub undecremented : IsUndecremented u then at
   undecremented = record { none_done = is.none_done; none_drawn = queued.drawn; positive = is.positive }
 
-  none_made : {P : Type 0} (n : Name) → IsTrue (has [] n) → P
-  none_made n h = absurd (let no : false ≡ true = h in cc)
-
   -- the space with these words, whose logs are empty and whose roots are deferred
   module _ (words : List ℕ) (are : tables_in s.limits words ≡ u) where
     abbrev pub after : Space
@@ -154,12 +108,12 @@ module _ (s : Space) (m : Moment) (at : Name → ℕ) (promoted stuck : List Nam
     image_then : IsImage (tables_of final) s.limits.blocks at m.state.graph (members then)
     image_then =
         subst (λ t. IsImage t s.limits.blocks at m.state.graph (members then)) (sym are)
-        (subst (IsImage u s.limits.blocks at m.state.graph) (sym (append-nil us)) (same_image (tables_of s) d c l s.limits.blocks at m.state.graph us is.image))
+        (subst (IsImage u s.limits.blocks at m.state.graph) (sym (append-nil us)) (image_still (tables_of s) u s.limits.blocks at m.state.graph us us refl (λ n h. h) is.image))
 
     rest_then : KeepsRest final then at
     rest_then = record {
       rest = inl is.no_rest;
-      apart = λ n o k h covers. let empty = is.no_rest in elim (less_or k s.rest_next) [ inl below ↦ inl below | inr above ↦ inr (omega (arith, empty, above)) ];
+      apart = λ n o k h covers. let empty = is.no_rest in elim (cases_lt k s.rest_next) [ inl below ↦ inl below | inr above ↦ inr (omega (arith, empty, above)) ];
     }
 
     pub holds_then : HoldsMoment final then at
@@ -174,10 +128,10 @@ module _ (s : Space) (m : Moment) (at : Name → ℕ) (promoted stuck : List Nam
       few_logs = omega arith;
       counts = subst (λ t. HasCounts t then at) (sym are) has_counts;
       decrements = subst (λ t. HasDecrements s.limits t then at) (sym are) has_decrements;
-      marks = subst (λ t. HasMarks t m.state.graph at us) (sym are) (same_marks (tables_of s) d c l m.state.graph at us is.marks);
-      lines = λ n o k h. none_made n h;
-      unchosen = λ n h. none_made n h;
-      blocks = subst (λ t. HasBlocks t s.limits.blocks m.trace) (sym are) (same_blocks (tables_of s) d c l s.limits.blocks m.trace queued.tracing is.blocks);
+      marks = subst (λ t. HasMarks t m.state.graph at us) (sym are) (marks_still (tables_of s) u m.state.graph at us refl is.marks);
+      lines = λ n o k h. no_member n h;
+      unchosen = λ n h. no_member n h;
+      blocks = subst (λ t. HasBlocks t s.limits.blocks m.trace) (sym are) (blocks_still (tables_of s) u s.limits.blocks m.trace refl queued.tracing is.blocks);
       rest = rest_then;
       no_work = is.no_work;
     }

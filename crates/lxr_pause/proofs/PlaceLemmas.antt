@@ -8,37 +8,29 @@ use Rattle.lxr_layout.specs.declared.Name.{Name}
 use Rattle.lxr_layout.specs.declared.LogEntry.{LogEntry}
 use Rattle.lxr_layout.specs.declared.Place.{Place}
 use Rattle.lxr_graph.specs.Names.{has, same_held, same_name}
-use Rattle.lxr_graph.specs.State.{Graph, Object, object_at, refs_of}
+use Rattle.lxr_graph.specs.State.{Graph, object_at, refs_of}
 use Rattle.lxr_graph.proofs.NameSets.{same_names}
 use Rattle.lxr_image.specs.Tables.{Tables}
-use Rattle.lxr_image.specs.Image.{AreApart, ArePlacesOf, IsImage, place_word}
+use Rattle.lxr_image.specs.Image.{ArePlacesOf, IsImage, place_word}
 use Rattle.lxr_image.specs.Reads.{granule_of}
-use Rattle.lxr_image.proofs.ImageLemmas.{words_cover, words_even}
 use Rattle.lxr_model.specs.Moments.{Field, Moment}
 use Rattle.lxr_model.specs.Reports.{field_holds}
 use Rattle.lxr_counting.specs.Balance.{newly_dropped}
 use Rattle.lxr_counting.specs.Distinct.{has_field}
-use Rattle.lxr_counting.proofs.BalanceLemmas.{count_permuted}
+use Rattle.lxr_counting.proofs.BalanceLemmas.{count_mapped}
 use Rattle.lxr_counting.proofs.DistinctLemmas.{first_field, later_field, tested}
 use Rattle.lxr_between.specs.Standing.{AreLogged, entry_of}
+use Rattle.lxr_between.proofs.PlaceLemmas.{granules_differ}
 use Rattle.lxr_pause.specs.Appending.{dropped}
 use Rattle.lxr_pause.proofs.QueuedLemmas.{dropped_at}
 
 -- ---- one name at a place
 
 -- members of an image with one place are one
-not_apart : (at : Name → ℕ) (n o : Name) (a b : Object) → at n ≡ at o → AreApart at n a o b → ⊥
-not_apart at n o a b e apart =
-    let granule : granule_of (at n) ≡ granule_of (at o) = ap granule_of e in
-    let some_a = words_cover a in let even_a = words_even a in let some_b = words_cover b in let even_b = words_even b in
-    elim apart [ inl h ↦ omega (arith, granule, some_a, even_a, h) | inr h ↦ omega (arith, granule, some_b, even_b, h) ]
-
 pub one_name : (t : Tables) (blocks : ℕ) (at : Name → ℕ) (g : Graph) (us : List Name) → IsImage t blocks at g us → (n o : Name) → IsTrue (has us n) → IsTrue (has us o) → at n ≡ at o → same_name n o ≡ true
 one_name t blocks at g us image n o hn ho e = elim (tested (same_name n o)) [
   | inl same ↦ same
-  | inr differ ↦
-      let a = image.stands n hn in let b = image.stands o ho in
-      absurd (not_apart at n o a.0 b.0 e (image.apart n o a.0 b.0 hn ho differ a.1 b.1))
+  | inr differ ↦ absurd (granules_differ t blocks at g us image n o hn ho differ (ap granule_of e))
 ]
 
 -- what is held, if it is a name, is one of these
@@ -74,11 +66,11 @@ pub each_mapped : {X Y : Type 0} (f : X → Y) (P : Y → Type 0) (xs : List X) 
 each_mapped f P [] h = tt
 each_mapped f P (x ∷ xs) h = (h.0, each_mapped f P xs h.1)
 
-count_mapped : {X Y : Type 0} (f : X → Y) (p : Y → Bool) (q : X → Bool) (xs : List X) → AllByRecursion (λ x. p (f x) ≡ q x) xs → count_by p (map f xs) ≡ count_by q xs
-count_mapped f p q [] h = refl
-count_mapped f p q (x ∷ xs) h =
-    sum_by-cons (λ y. cond (p y) 1 0) (f x) (map f xs)
-    ∙ (λ j. cond (h.0 j) 1 0 + count_mapped f p q xs h.1 j)
+count_same : {X : Type 0} (p q : X → Bool) (xs : List X) → AllByRecursion (λ x. p x ≡ q x) xs → count_by p xs ≡ count_by q xs
+count_same p q [] h = refl
+count_same p q (x ∷ xs) h =
+    sum_by-cons (λ y. cond (p y) 1 0) x xs
+    ∙ (λ j. cond (h.0 j) 1 0 + count_same p q xs h.1 j)
     ∙ sym (sum_by-cons (λ y. cond (q y) 1 0) x xs)
 
 pub any_mapped : {X Y : Type 0} (f : X → Y) (p : Y → Bool) (xs : List X) → list_any p (map f xs) ≡ list_any (λ x. p (f x)) xs
@@ -94,8 +86,8 @@ pub entries_count : (t : Tables) (blocks : ℕ) (m : Moment) (at : Name → ℕ)
     → ((w : Field) → IsTrue (has_field m.written w) → IsOf us (old_value m w)) → (o : Name) → IsTrue (has us o)
     → count_by (λ e. nat_eq e.old.0 (at o)) entries ≡ count_by (field_holds m.last.graph o) m.written
 entries_count t blocks m at g us entries image logged of o ho =
-    count_permuted (λ (e : LogEntry). nat_eq e.old.0 (at o)) (map (entry_of m at) m.written) entries logged
-    ∙ count_mapped (entry_of m at) (λ (e : LogEntry). nat_eq e.old.0 (at o)) (field_holds m.last.graph o) m.written
+    count_mapped (entry_of m at) (λ (e : LogEntry). nat_eq e.old.0 (at o)) m.written entries logged
+    ∙ count_same (λ w. nat_eq (place_word at (old_value m w)) (at o)) (field_holds m.last.graph o) m.written
     (each_field (λ w. nat_eq (place_word at (old_value m w)) (at o) ≡ field_holds m.last.graph o w) m.written (λ w h. same_place t blocks at g us image o (old_value m w) ho (of w h)))
 
 -- ---- registers

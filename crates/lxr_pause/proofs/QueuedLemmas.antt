@@ -9,11 +9,9 @@ use Rattle.lxr_layout.specs.declared.LogEntry.{LogEntry}
 use Rattle.lxr_layout.specs.declared.Place.{Place}
 use Rattle.lxr_image.specs.Tables.{Tables, changed}
 use Rattle.lxr_between.specs.Counting.{entries_between}
+use Rattle.lxr_between.proofs.EntryLemmas.{one_if}
 use Rattle.lxr_pause.specs.Appending.{dropped, with_entries, with_entry, with_old, with_registers, word_of_field}
 use Rattle.lxr_pause.proofs.AppendingLemmas.{old_few}
-
-abbrev one_if : Bool → ℕ
-one_if b = cond b 1 0
 
 -- ---- what stays
 

@@ -4,7 +4,6 @@ use Rattle.std.proofs.Common.{◌≡◌, ◌≢◌, ℕ, ◌+◌, ◌*◌, ◌-�
 use Rattle.std.specs.Prelude.{◌||◌, ◌↔◌, Option, None, Some}
 use Rattle.std.specs.List.{All, AllByRecursion, list_any}
 use Rattle.std.proofs.lemmas.Bool.{or_cases, or_left, or_right}
-use Rattle.std.proofs.lemmas.Bool.Decides.{nat_tests}
 use Rattle.std.proofs.lemmas.List.Elements.{All-from_recursion, recursion_from_All}
 use Rattle.std.proofs.lemmas.List.Sorted.{All-permutation, list_any-IsPermutation}
 use Rattle.lxr_layout.specs.declared.Name.{Name}
@@ -27,6 +26,7 @@ use Rattle.lxr_counting.proofs.DistinctLemmas.{field_split, first_field, later_f
 use Rattle.lxr_between.specs.Standing.{IsUnwritten, entry_of, field_word}
 use Rattle.lxr_between.specs.Counting.{entries_between}
 use Rattle.lxr_between.specs.Raised.{IsRaised, settled, with_promoted}
+use Rattle.lxr_between.proofs.EntryLemmas.{equal_numbers, same_number}
 use Rattle.lxr_pause.specs.Appending.{IsInHeap, with_entries, with_registers, word_of_field}
 use Rattle.lxr_pause.proofs.SettledLemmas.{settled_follows}
 use Rattle.lxr_pause.proofs.QueuedLemmas.{entries_cursors, entries_each, entries_few, entries_unlogged, entries_wait, registers_cursors, registers_each, registers_few, registers_unlogged, registers_wait}
@@ -57,12 +57,6 @@ field_any p (w ∷ ws) v h is = elim (field_split w ws v h) [
 ]
 
 -- ---- numbers
-
-same_word : (w v : ℕ) → w ≡ v → nat_eq w v ≡ true
-same_word w v e = grind (arith, nat_tests)
-
-word_same : (w v : ℕ) → nat_eq w v ≡ true → w ≡ v
-word_same w v e = grind (arith, nat_tests)
 
 in_words : (p i words blocks refs : ℕ) → i < refs → 1 + refs ≤ words → words ≡ 2 * (words / 2) → p - 1 + words / 2 ≤ 2048 * blocks → 1 ≤ p → 2 * (p - 1) + 1 + i < 4096 * blocks
 in_words p i words blocks refs below cover even in_heap placed = omega arith
@@ -169,7 +163,7 @@ module _ (s : Space) (m : Moment) (at : Name → ℕ) (promoted stuck : List Nam
           member = old_member f.0 wrote.0;
           index = omega (arith, size, below);
           unwritten = refl;
-          word = word_same w (field_word at f.0 f.1) e;
+          word = equal_numbers w (field_word at f.0 f.1) e;
         },
       )
 
@@ -182,7 +176,7 @@ module _ (s : Space) (m : Moment) (at : Name → ℕ) (promoted stuck : List Nam
   then_unlogged : (w : ℕ) → IsUnwritten (settled m promoted stuck) at us w → IsTrue (list_any (is_at w) m.written || t.unlogged w)
   then_unlogged w (n, i, x) =
       elim (tested (has_field m.written (n, i))) [
-        | inl wrote ↦ or_left (list_any (is_at w) m.written) (t.unlogged w) (field_any (is_at w) m.written (n, i) wrote (same_word w (field_word at n i) x.word))
+        | inl wrote ↦ or_left (list_any (is_at w) m.written) (t.unlogged w) (field_any (is_at w) m.written (n, i) wrote (same_number w (field_word at n i) x.word))
         | inr unwritten ↦ or_right (list_any (is_at w) m.written) (t.unlogged w) ((is.bits.unlogged w).1 (n, i, record { member = x.member; index = x.index; unwritten = unwritten; word = x.word }))
       ]
 

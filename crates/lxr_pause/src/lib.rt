@@ -1,6 +1,4 @@
-//! One pause: finishing decrements, increments, queueing the next decrements, and the report.
-//!
-//! The order of a pause's steps is that of LXR (Zhao, Blackburn and McKinley, 2022).
+//! What a pause leaves for the next one: the decrements of old values, queued, and the registers, deferred.
 #![tactic(auto)]
 
 mod queueing;

@@ -12,8 +12,9 @@ use Rattle.lxr_image.specs.Reads.{granule_of}
 use Rattle.lxr_model.specs.Moments.{Moment}
 use Rattle.lxr_counting.specs.Distinct.{has_field}
 use Rattle.lxr_between.specs.Standing.{HasBits, IsUnwritten}
+use Rattle.lxr_between.proofs.EntryLemmas.{changed_cases, changed_here}
 use Rattle.lxr_promote.specs.Promotion.{with_promotion, with_raised}
-use Rattle.lxr_promote.proofs.RangeLemmas.{changed_cases, changed_here, set_cases}
+use Rattle.lxr_promote.proofs.RangeLemmas.{set_cases}
 
 -- counts are no bits
 pub bits_raised : (t : Tables) (m : Moment) (at : Name → ℕ) (us : List Name) (k : ℕ) → HasBits t m at us → HasBits (with_raised t k) m at us

@@ -1,20 +1,15 @@
 -- What raising counts and promoting objects leave as it was.
-use Rattle.std.proofs.Common.{◌≡◌, ℕ, zero, suc, ◌+◌, ◌/◌, ◌≤◌, refl, sym, ap, subst, ◌∙◌, cond, List}
-use Rattle.std.specs.Prelude.{Option, Some, None}
+use Rattle.std.proofs.Common.{◌≡◌, ℕ, sym, ap, subst}
 use Rattle.lxr_layout.specs.declared.Name.{Name}
-use Rattle.lxr_layout.specs.Places.{first_word}
-use Rattle.lxr_graph.specs.State.{Graph}
 use Rattle.lxr_image.specs.declared.space.Space.{Space}
 use Rattle.lxr_image.specs.Tables.{Tables}
 use Rattle.lxr_image.specs.Spaces.{IsSpace, tables_of}
 use Rattle.lxr_image.specs.Opened.{HasRoom}
 use Rattle.lxr_image.specs.Image.{ArePlacesOf, IsImage}
-use Rattle.lxr_image.proofs.ImageLemmas.{stands_on}
-use Rattle.lxr_blocks.specs.States.{state_of}
-use Rattle.lxr_model.specs.Moments.{Moment, Trace}
+use Rattle.lxr_model.specs.Moments.{Moment}
 use Rattle.lxr_between.specs.Meaning.{members}
 use Rattle.lxr_between.specs.Standing.{IsImaged}
-use Rattle.lxr_between.specs.Lines.{ChosenNeedTrace, HasBlocks, chosen_count, is_chosen}
+use Rattle.lxr_between.proofs.FrameLemmas.{image_still}
 use Rattle.lxr_promote.specs.Rising.{RaisingLeaves}
 use Rattle.lxr_promote.proofs.TableLemmas.{space_with}
 
@@ -25,29 +20,6 @@ pub record LeavesTables (t u : Tables) : Type 0 where
   pub dones : u.dones ≡ t.dones
   pub states : u.states ≡ t.states
   pub cursors : u.cursors ≡ t.cursors
-
-pub image_stays : (t u : Tables) (blocks : ℕ) (at : Name → ℕ) (g : Graph) (ms : List Name) → u.heap ≡ t.heap → IsImage t blocks at g ms → IsImage u blocks at g ms
-image_stays t u blocks at g ms same is = record {
-  stands = λ n member. let a = is.stands n member in (a.0, a.1, stands_on t u blocks at at n a.0 (λ i h. ap (λ f. f (first_word (at n) + i)) same) refl (λ i r e. refl) a.2);
-  apart = is.apart;
-}
-
-chosen_same : (t u : Tables) (n : ℕ) → u.states ≡ t.states → chosen_count u n ≡ chosen_count t n
-chosen_same t u zero e = refl
-chosen_same t u (suc b) e = λ i. cond (is_chosen (state_of (e i b))) 1 0 + chosen_same t u b e i
-
-chosen_need : (t u : Tables) (blocks : ℕ) (trace : Option Trace) → u.states ≡ t.states → ChosenNeedTrace t blocks trace → ChosenNeedTrace u blocks trace
-chosen_need t u blocks None e h = chosen_same t u blocks e ∙ h
-chosen_need t u blocks (Some x) e h = h
-
-pub blocks_stay : (t u : Tables) (blocks : ℕ) (trace : Option Trace) → u.states ≡ t.states → u.cursors ≡ t.cursors → HasBlocks t blocks trace → HasBlocks u blocks trace
-blocks_stay t u blocks trace e c has = record {
-  world = ap (λ f. state_of (f 0)) e ∙ has.world;
-  others = λ b one few q. has.others b one few (sym (ap (λ f. state_of (f b)) e) ∙ q);
-  few = subst (λ z. z ≤ blocks / 8) (sym (chosen_same t u blocks e)) has.few;
-  chosen = chosen_need t u blocks trace e has.chosen;
-  tracing = ap (λ f. f 8) c ∙ has.tracing;
-}
 
 -- ---- spaces
 
@@ -87,7 +59,7 @@ room_stays a c leaves has =
 
 pub imaged_stays : (a c : Space) (m : Moment) (at : Name → ℕ) → RaisingLeaves a c → LeavesTables (tables_of a) (tables_of c) → IsImaged a m at → IsImaged c m at
 imaged_stays a c m at leaves tables is = record {
-  image = subst (λ z. IsImage (tables_of c) z at m.state.graph (members m)) (sym (same_blocks a c leaves)) (image_stays (tables_of a) (tables_of c) a.limits.blocks at m.state.graph (members m) tables.heap is.image);
+  image = subst (λ z. IsImage (tables_of c) z at m.state.graph (members m)) (sym (same_blocks a c leaves)) (image_still (tables_of a) (tables_of c) a.limits.blocks at m.state.graph (members m) (members m) tables.heap (λ n h. h) is.image);
   registers = subst (λ (s : Space). ArePlacesOf at s.registers.items m.state.registers) (sym leaves.space) is.registers;
   deferred = subst (λ (s : Space). ArePlacesOf at s.deferred.items m.last.registers) (sym leaves.space) is.deferred;
   world = is.world;

@@ -18,8 +18,8 @@ use Rattle.lxr_counting.specs.Distinct.{has_field}
 use Rattle.lxr_counting.specs.Following.{FollowsPause}
 use Rattle.lxr_counting.specs.Raising.{IsGrown}
 use Rattle.lxr_counting.proofs.DistinctLemmas.{field_split, tested}
+use Rattle.lxr_between.proofs.EntryLemmas.{one_if}
 use Rattle.lxr_promote.specs.Rising.{Stage}
-use Rattle.lxr_promote.proofs.OrderLemmas.{one_if}
 
 none_counted : (b : Bool) (k n : ℕ) → n ≡ one_if b + k → n ≡ 0 → (b ≡ false) × (k ≡ 0)
 none_counted true k n e z = absurd (omega arith)

@@ -1,5 +1,5 @@
 -- The accounts of the increments: each step of the order takes as much from what is pending as it raises.
-use Rattle.std.proofs.Common.{◌≡◌, ℕ, zero, suc, ◌+◌, ◌<◌, refl, sym, ap, subst, ◌∙◌, inl, inr, arith, Bool, true, false, cond, List, [], ◌∷◌, ◌++◌, IsTrue, length}
+use Rattle.std.proofs.Common.{◌≡◌, ℕ, zero, suc, ◌+◌, refl, sym, ap, subst, ◌∙◌, inl, inr, arith, Bool, true, false, cond, List, [], ◌∷◌, ◌++◌, IsTrue}
 use Rattle.std.specs.Prelude.{not, ◌||◌, Option, None, Some, count_by, map, slice_get, slice_index_or, slice_set, take}
 use Rattle.std.specs.List.{swap, zip}
 use Rattle.std.specs.List.Sorted.{IsPermutation, SwapsInRange, apply_swaps}
@@ -16,13 +16,10 @@ use Rattle.lxr_model.specs.References.{occurrences, references_from}
 use Rattle.lxr_model.specs.Moments.{Moment}
 use Rattle.lxr_counting.specs.Distinct.{IsDistinct}
 use Rattle.lxr_counting.proofs.DistinctLemmas.{or_false, same_flip, tested}
-use Rattle.lxr_promote.specs.Accounted.{occurrences_from, risen_held}
+use Rattle.lxr_between.proofs.NameLemmas.{has_last, has_more}
+use Rattle.lxr_between.proofs.EntryLemmas.{one_if}
+use Rattle.lxr_promote.specs.Accounted.{risen_held}
 use Rattle.lxr_promote.specs.Rising.{Accounts, Stage, is_unpromoted, risen}
-use Rattle.lxr_promote.proofs.RaiseLemmas.{has_last, has_more}
-
--- 1 for a test that holds, and else 0
-abbrev pub one_if : Bool → ℕ
-one_if b = cond b 1 0
 
 -- ---- names behind a list
 
@@ -56,11 +53,6 @@ without_behind (p ∷ ps) ws o e =
 without_pushed : (ps ws : List Name) (o : Name) → has ps o ≡ false → without (o ∷ ps) (ws ++ o ∷ []) ≡ without ps ws
 without_pushed ps ws o e =
     ap (λ b. cond (not b) (o ∷ without ps (ws ++ o ∷ [])) (without ps (ws ++ o ∷ []))) (has_last ws o) ∙ without_behind ps ws o e
-
--- with none in the worklist, all are out of it
-pub without_none : (ps : List Name) → without ps [] ≡ ps
-without_none [] = refl
-without_none (p ∷ ps) = ap (λ xs. p ∷ xs) (without_none ps)
 
 -- one that leaves the worklist adds its references
 pub references_popped : (g : Graph) (ps ws : List Name) (u o : Name) → IsDistinct ps → IsTrue (has ps u) → has ws u ≡ false
@@ -130,20 +122,6 @@ accounts_popped m st ws u base is d promoted absent accounts o =
     let b = references_popped m.state.graph st.promoted ws u o d promoted absent in
     let c : references_from m.state.graph (without st.promoted st.work) o ≡ references_from m.state.graph (without st.promoted (ws ++ u ∷ [])) o = ap (λ x. references_from m.state.graph (without st.promoted x) o) is in
     omega (arith, a, b, c)
-
--- ---- references from a number on
-
-pub from_end : (rs : List (Option Name)) (o : Name) → occurrences_from rs (length rs) o ≡ 0
-from_end [] o = refl
-from_end (r ∷ rs) o = from_end rs o
-
-from_suc : (rs : List (Option Name)) (i : ℕ) (o : Name) → i < length rs → occurrences_from rs i o ≡ cond (same_held (Some o) (slice_index_or rs i None)) 1 0 + occurrences_from rs (suc i) o
-from_suc [] i o h = absurd (omega arith)
-from_suc (r ∷ rs) zero o h = refl
-from_suc (r ∷ rs) (suc i) o h = from_suc rs i o (omega arith)
-
-pub from_step : (rs : List (Option Name)) (i : ℕ) (o : Name) → i < length rs → occurrences_from rs i o ≡ cond (same_held (Some o) (slice_index_or rs i None)) 1 0 + occurrences_from rs (i + 1) o
-from_step rs i o h = let k : suc i ≡ i + 1 = omega arith in from_suc rs i o h ∙ ap (λ z. cond (same_held (Some o) (slice_index_or rs i None)) 1 0 + occurrences_from rs z o) k
 
 -- ---- the first of a list
 

@@ -1,49 +1,25 @@
 -- One name's count is raised, and the counts are those of the next stage.
-use Rattle.std.proofs.Common.{◌≡◌, ◌≢◌, ℕ, ◌+◌, ◌<◌, ◌≤◌, refl, sym, ap, subst, ◌∙◌, inl, inr, arith, Bool, true, false, cond, List, [], ◌∷◌, ◌++◌}
+use Rattle.std.proofs.Common.{◌≡◌, ◌≢◌, ℕ, ◌+◌, ◌<◌, ◌≤◌, sym, ap, subst, ◌∙◌, inl, inr, arith, true, false, cond, List, [], ◌∷◌, ◌++◌}
 use Rattle.std.specs.Prelude.{◌||◌, ◌↔◌, IsTrue, min}
-use Rattle.std.proofs.lemmas.Bool.{or_right}
 use Rattle.lxr_layout.specs.declared.Name.{Name}
 use Rattle.lxr_layout.specs.declared.TheConstants.{STUCK}
 use Rattle.lxr_graph.specs.Names.{has, same_name}
-use Rattle.lxr_graph.proofs.NameSets.{same_itself, same_names}
+use Rattle.lxr_graph.proofs.NameSets.{same_names}
 use Rattle.lxr_tables.specs.Counts.{raised_count}
 use Rattle.lxr_image.specs.declared.space.Space.{Space}
 use Rattle.lxr_image.specs.Spaces.{tables_of}
 use Rattle.lxr_model.specs.Moments.{Moment}
 use Rattle.lxr_counting.specs.Distinct.{IsDistinct}
-use Rattle.lxr_counting.proofs.DistinctLemmas.{or_false, same_flip, tested}
+use Rattle.lxr_counting.proofs.DistinctLemmas.{tested}
 use Rattle.lxr_between.specs.Meaning.{members}
 use Rattle.lxr_between.specs.Counting.{count_at}
 use Rattle.lxr_between.specs.Raised.{with_promoted}
+use Rattle.lxr_between.proofs.NameLemmas.{distinct_more, has_last, has_more, or_nothing}
 use Rattle.lxr_promote.specs.Rising.{HasRisenCounts, IsFull, Stage, risen_count}
 use Rattle.lxr_promote.specs.Promotion.{fills, stuck_with}
 use Rattle.lxr_promote.proofs.RangeLemmas.{fill_cases, raised_some}
 
 -- ---- lists
-
-pub has_append : (xs ys : List Name) (n : Name) → has (xs ++ ys) n ≡ (has xs n || has ys n)
-has_append [] ys n = refl
-has_append (x ∷ xs) ys n = ap (λ b. same_name n x || b) (has_append xs ys n) ∙ or_group (same_name n x) (has xs n) (has ys n)
-  where
-    or_group : (a b c : Bool) → (a || (b || c)) ≡ ((a || b) || c)
-    or_group true b c = refl
-    or_group false b c = refl
-
-or_nothing : (b : Bool) → (b || false) ≡ b
-or_nothing true = refl
-or_nothing false = refl
-
-pub has_more : (ns : List Name) (o n : Name) → has (ns ++ o ∷ []) n ≡ (has ns n || same_name n o)
-has_more ns o n = has_append ns (o ∷ []) n ∙ ap (λ b. has ns n || b) (or_nothing (same_name n o))
-
-pub has_last : (ns : List Name) (o : Name) → IsTrue (has (ns ++ o ∷ []) o)
-has_last ns o = has_more ns o o ∙ or_right (has ns o) (same_name o o) (same_itself o)
-
-pub distinct_more : (ns : List Name) (o : Name) → IsDistinct ns → has ns o ≡ false → IsDistinct (ns ++ o ∷ [])
-distinct_more [] o once new = (refl, tt)
-distinct_more (x ∷ ns) o once new =
-    let parts = or_false (same_name o x) (has ns o) new in
-    (has_more ns o x ∙ (λ i. once.0 i || same_flip o x parts.0 i), distinct_more ns o once.1 parts.1)
 
 pub reported_more : (ns : List Name) (count : ℕ) (o : Name) → fills count ≡ true → stuck_with ns count o ≡ ns ++ o ∷ []
 reported_more ns count o e = ap (λ b. cond b (ns ++ o ∷ []) ns) e

@@ -20,20 +20,19 @@ use Rattle.lxr_counting.specs.Distinct.{IsDistinct}
 use Rattle.lxr_counting.specs.Raising.{IsGrown}
 use Rattle.lxr_counting.proofs.BalanceLemmas.{has_permuted, references_permuted}
 use Rattle.lxr_counting.proofs.DistinctLemmas.{distinct_permuted, or_false, union_same}
+use Rattle.lxr_counting.proofs.LoweringLemmas.{without_none}
 use Rattle.lxr_counting.proofs.RaisingLemmas.{growth_is_promoted}
 use Rattle.lxr_between.specs.Meaning.{members}
-use Rattle.lxr_between.specs.Standing.{HasBits}
+use Rattle.lxr_between.specs.Standing.{HasBits, place_of}
 use Rattle.lxr_between.specs.Counting.{count_at, entries_between, undone, waiting_at}
 use Rattle.lxr_between.specs.Lines.{HasMarks}
 use Rattle.lxr_between.specs.Raised.{AreRaised, CountsAreRaised, IsRaised, count_found, count_raised, with_promoted}
-use Rattle.lxr_promote.specs.Rising.{IsRising, RaisingLeaves, Stage, place_of, risen_count}
+use Rattle.lxr_between.proofs.FrameLemmas.{bits_still, blocks_still, image_still, marks_still, none_undone}
+use Rattle.lxr_promote.specs.Rising.{IsRising, RaisingLeaves, Stage, risen_count}
 use Rattle.lxr_promote.specs.Accounted.{IsSettled, roots_held}
 use Rattle.lxr_promote.specs.Raising.{CanRaise, Raises}
-use Rattle.lxr_promote.proofs.OrderLemmas.{without_none}
 use Rattle.lxr_promote.proofs.GrownLemmas.{grown}
-use Rattle.lxr_promote.proofs.FrameLemmas.{blocks_stay, image_stays}
 use Rattle.lxr_promote.proofs.StageLemmas.{promoted_within}
-use Rattle.lxr_promote.proofs.StillLemmas.{bits_still, marks_still, none_undone}
 
 -- ---- the first stage
 
@@ -195,9 +194,9 @@ ended s w m at st tables is =
     let rising = is.accounted.rising in
     let last = last_stage s m at st is in
     let t : Tables = tables_in s.limits w in
-    let image = image_stays (tables_of s) t s.limits.blocks at m.state.graph (members m) (ap (λ x. x.heap) tables) rising.image.image in
     let names : (n : Name) → has (with_promoted m s.report.promoted.items) n ≡ has (with_promoted m st.promoted) n = λ n. ap (λ ns. has ns n) last.all in
     let within : (n : Name) → IsTrue (has (with_promoted m s.report.promoted.items) n) → IsTrue (has (members m) n) = λ n h. promoted_within m st.promoted rising.growth n (sym (names n) ∙ h) in
+    let image = image_still (tables_of s) t s.limits.blocks at m.state.graph (members m) (with_promoted m s.report.promoted.items) (ap (λ x. x.heap) tables) within rising.image.image in
     let counts : t.counts ≡ (tables_of s).counts = ap (λ x. x.counts) tables in
     record {
       space = record { limits = rising.space.limits; size = ap (λ x. x.size) tables ∙ rising.space.size };
@@ -205,7 +204,7 @@ ended s w m at st tables is =
       as_many = rising.as_many;
       follows = rising.follows;
       raised = are_raised s m at st rising last;
-      image = record { stands = λ n h. image.stands n (within n h); apart = λ n q a b in_n in_q. image.apart n q a b (within n in_n) (within q in_q) };
+      image = image;
       registers = rising.image.registers;
       deferred = rising.image.deferred;
       world = rising.image.world;
@@ -218,7 +217,7 @@ ended s w m at st tables is =
       marks = marks_still (tables_of s) t m.state.graph at (with_promoted m s.report.promoted.items) counts (subst (HasMarks (tables_of s) m.state.graph at) (sym last.all) rising.marks);
       none_done = λ k. ap (λ x. x.dones k) tables ∙ rising.none_done k;
       none_out = λ line. ap (λ x. x.outs line) tables;
-      blocks = blocks_stay (tables_of s) t s.limits.blocks m.trace (ap (λ x. x.states) tables) (ap (λ x. x.cursors) tables) rising.blocks;
+      blocks = blocks_still (tables_of s) t s.limits.blocks m.trace (ap (λ x. x.states) tables) (ap (λ x. x.cursors 8) tables) rising.blocks;
       decrements = (ap (λ x. x.cursors 5) tables ∙ rising.decrements.0, ap (λ x. x.cursors 6) tables ∙ rising.decrements.1);
       no_rest = refl;
       no_work = rising.worklist ∙ ap (map (place_of at)) is.no_work;

@@ -25,17 +25,21 @@ use Rattle.lxr_counting.specs.Raising.{IsGrowth, IsHeldUp}
 use Rattle.lxr_counting.proofs.DistinctLemmas.{or_false, tested}
 use Rattle.lxr_counting.proofs.LoweringLemmas.{once_other}
 use Rattle.lxr_between.specs.Meaning.{members}
-use Rattle.lxr_between.specs.Standing.{AreLogged, HasBits}
+use Rattle.lxr_between.specs.Standing.{AreLogged, HasBits, place_of}
 use Rattle.lxr_between.specs.Counting.{count_at, passing}
-use Rattle.lxr_between.specs.Lines.{HasBlocks, HasMarks}
+use Rattle.lxr_between.specs.Lines.{HasBlocks, HasMarks, line_behind, next_line}
 use Rattle.lxr_between.specs.Raised.{with_promoted}
-use Rattle.lxr_promote.specs.Rising.{HasRisenCounts, HasRoomToRise, IsRising, MayRise, RaisingLeaves, Stage, is_unpromoted, left, place_of, risen, risen_count}
-use Rattle.lxr_promote.specs.Promotion.{RaisesAt, TakesIn, fills, line_behind, next_line, stuck_with, with_promotion, with_raised}
-use Rattle.lxr_promote.proofs.RangeLemmas.{changed_cases, changed_here, changed_other, fill_cases, marked_cases, passing_changed, passing_few, passing_more, passing_one_more, raised_full}
-use Rattle.lxr_promote.proofs.FrameLemmas.{LeavesTables, blocks_stay, imaged_stays, room_stays, same_blocks, space_stays}
-use Rattle.lxr_promote.proofs.MarkLemmas.{granules_differ, line_mark, mark_apart, marks_promoted, marks_raised}
+use Rattle.lxr_between.proofs.NameLemmas.{distinct_more, has_more}
+use Rattle.lxr_between.proofs.EntryLemmas.{changed_cases, changed_here, changed_other, passing_few, passing_more, passing_one_more, passing_set}
+use Rattle.lxr_between.proofs.PlaceLemmas.{granules_differ, line_mark, mark_apart}
+use Rattle.lxr_between.proofs.FrameLemmas.{blocks_still}
+use Rattle.lxr_promote.specs.Rising.{HasRisenCounts, HasRoomToRise, IsRising, MayRise, RaisingLeaves, Stage, is_unpromoted, left, risen, risen_count}
+use Rattle.lxr_promote.specs.Promotion.{RaisesAt, TakesIn, fills, stuck_with, with_promotion, with_raised}
+use Rattle.lxr_promote.proofs.RangeLemmas.{fill_cases, marked_cases, raised_full}
+use Rattle.lxr_promote.proofs.FrameLemmas.{LeavesTables, imaged_stays, room_stays, same_blocks, space_stays}
+use Rattle.lxr_promote.proofs.MarkLemmas.{marks_promoted, marks_raised}
 use Rattle.lxr_promote.proofs.BitLemmas.{bits_promoted, bits_raised}
-use Rattle.lxr_promote.proofs.RaiseLemmas.{RaisesOnce, counts_risen, distinct_more, has_more, reported_more, reported_same}
+use Rattle.lxr_promote.proofs.RaiseLemmas.{RaisesOnce, counts_risen, reported_more, reported_same}
 use Rattle.lxr_promote.proofs.StageLemmas.{IsFound, again_here, again_other, clear_unknown, first_here, first_joined, first_other, known_promoted, made_unwritten, new_uncounted, promoted_within, raised_again, raised_first, raised_object, risen_again, risen_first, started_known, stuck_within, unknown_found}
 
 -- ---- what is left as it was
@@ -123,7 +127,7 @@ rising_with a c m at st after leaves tables is rises = record {
   logs = subst (λ (s : Space). AreLogged m at s.logged.items) (sym leaves.space) is.logs;
   few_logs = subst (λ (s : Space). length s.logged.items ≤ s.limits.threads * s.limits.log) (sym leaves.space) is.few_logs;
   none_done = λ k. ap (λ f. f k) tables.dones ∙ is.none_done k;
-  blocks = subst (λ z. HasBlocks (tables_of c) z m.trace) (sym (same_blocks a c leaves)) (blocks_stay (tables_of a) (tables_of c) a.limits.blocks m.trace tables.states tables.cursors is.blocks);
+  blocks = subst (λ z. HasBlocks (tables_of c) z m.trace) (sym (same_blocks a c leaves)) (blocks_still (tables_of a) (tables_of c) a.limits.blocks m.trace tables.states (ap (λ f. f 8) tables.cursors) is.blocks);
   decrements = (ap (λ f. f 5) tables.cursors ∙ is.decrements.0, ap (λ f. f 6) tables.cursors ∙ is.decrements.1);
   reported = rises.reported;
   worklist = rises.worklist;
@@ -312,7 +316,7 @@ first_rises a c m at st o b is member unknown has_o held clear within taken =
     let growth : IsGrowth m.state m.unreclaimed m.made (o ∷ st.promoted) = (is.growth, found.made, held) in
     let starts = starts_of a c u taken.leaves taken.tables in
     let fulls = fulls_of a c u taken.leaves taken.tables in
-    let one_more = passing_changed t.starts gr (granules a) within clear in
+    let one_more = passing_set t.starts gr (granules a) within clear in
     let promoted = ap length taken.promoted ∙ length-append a.report.promoted.items (o ∷ []) in
     let work = ap length taken.work ∙ length-append a.work.items (place_of at o ∷ []) in
     let stuck = ap length taken.stuck in
@@ -408,7 +412,7 @@ left_first a b c m at st o p is may raised bit taken =
     let gr : ℕ = granule_of (at o) in
     let size = same_granules a c all.leaves in
     let starts = starts_of a c (with_first (tables_of a) (at o) (shape_of there.object)) all.leaves all.tables in
-    let one_more = passing_changed (tables_of a).starts gr (granules a) (granule_within a m at st o p.0 is may) clear in
+    let one_more = passing_set (tables_of a).starts gr (granules a) (granule_within a m at st o p.0 is may) clear in
     let few = passing_few (changed (tables_of a).starts gr true) (granules a) in
     let work = ap length all.work ∙ length-append a.work.items (place_of at o ∷ []) in
     omega (arith, size, starts, one_more, few, work)

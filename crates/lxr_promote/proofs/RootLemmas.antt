@@ -22,10 +22,11 @@ use Rattle.lxr_counting.proofs.BalanceLemmas.{count_permuted, has_field_permuted
 use Rattle.lxr_counting.proofs.DistinctLemmas.{first_field, later_field, tested}
 use Rattle.lxr_between.specs.Meaning.{members}
 use Rattle.lxr_between.specs.Standing.{entry_of}
+use Rattle.lxr_between.proofs.EntryLemmas.{one_if}
+use Rattle.lxr_between.proofs.NameLemmas.{live_member}
 use Rattle.lxr_promote.specs.Rising.{IsRising, RaisingLeaves, Stage}
 use Rattle.lxr_promote.specs.Accounted.{IsAccounted, IsHolder, IsLogOrder, IsSettled, MayRiseHeld, fields_held, references_at, risen_held, roots_held}
-use Rattle.lxr_promote.proofs.OrderLemmas.{accounts_held, accounts_same, counted_more, one_if, unmapped, zip_got, zip_taken}
-use Rattle.lxr_promote.proofs.ScanLemmas.{live_member}
+use Rattle.lxr_promote.proofs.OrderLemmas.{accounts_held, accounts_same, counted_more, unmapped, zip_got, zip_taken}
 
 -- ---- logged references
 

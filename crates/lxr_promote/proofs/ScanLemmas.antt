@@ -15,24 +15,18 @@ use Rattle.lxr_image.specs.declared.space.Space.{Space}
 use Rattle.lxr_image.specs.Spaces.{tables_of}
 use Rattle.lxr_image.proofs.ReadLemmas.{header_unpacked}
 use Rattle.lxr_model.specs.Moments.{Moment}
-use Rattle.lxr_counting.specs.Following.{FollowsPause, IsLive}
 use Rattle.lxr_counting.specs.Distinct.{IsDistinct}
 use Rattle.lxr_counting.proofs.DistinctLemmas.{later_has}
 use Rattle.lxr_counting.proofs.RaisingLemmas.{growth_made}
 use Rattle.lxr_between.specs.Meaning.{members}
-use Rattle.lxr_between.specs.Counting.{passing}
-use Rattle.lxr_promote.specs.Rising.{IsRising, MayRise, RaisingLeaves, Stage, is_unpromoted, left, place_of}
-use Rattle.lxr_promote.specs.Accounted.{IsAccounted, IsHolder, IsScanning, MayRiseHeld, Reaches, Settles, occurrences_from, references_at, risen_held}
-use Rattle.lxr_promote.proofs.RaiseLemmas.{has_last}
-use Rattle.lxr_promote.proofs.StageLemmas.{made_member, unreclaimed_member}
-use Rattle.lxr_promote.proofs.OrderLemmas.{accounts_held, accounts_popped, accounts_same, distinct_last, from_end, from_step, has_before}
+use Rattle.lxr_between.specs.Counting.{occurrences_from, passing}
+use Rattle.lxr_between.specs.Standing.{place_of}
+use Rattle.lxr_between.proofs.NameLemmas.{has_last, live_member, map_empty, occurrences_end, occurrences_step, split_last}
+use Rattle.lxr_promote.specs.Rising.{IsRising, MayRise, RaisingLeaves, Stage, is_unpromoted, left}
+use Rattle.lxr_promote.specs.Accounted.{IsAccounted, IsHolder, IsScanning, MayRiseHeld, Reaches, Settles, references_at, risen_held}
+use Rattle.lxr_promote.proofs.OrderLemmas.{accounts_held, accounts_popped, accounts_same, distinct_last, has_before}
 
 -- ---- names that are raised
-
--- what is live stands in the heap
-pub live_member : (m : Moment) (n : Name) → FollowsPause m → IsLive m n → IsTrue (has (members m) n)
-live_member m n follows (inl r) = unreclaimed_member m n (follows.kept n r)
-live_member m n follows (inr h) = made_member m n h
 
 pub holder_member : (s : Space) (m : Moment) (at : Name → ℕ) (st : Stage) (u : Name) (p : ℕ) → IsRising s m at st → IsHolder m at st u p → IsTrue (has (members m) u)
 holder_member s m at st u p rising holder = live_member m u rising.follows holder.live
@@ -153,7 +147,7 @@ scanned_more s now p i m at st u base is within rising = record {
   accounted = record {
     rising = rising;
     accounts = accounts_held m st (slice_index_or (references_at m u) i None) base (occurrences_from (references_at m u) i) base (occurrences_from (references_at m u) (i + 1)) is.accounted.accounts
-        (λ o. let k = from_step (references_at m u) i o within in omega (arith, k));
+        (λ o. let k = occurrences_step (references_at m u) i (slice_index_or (references_at m u) i None) o (slice_get-get_or (references_at m u) i None within) in omega (arith, k));
   };
   promoted = still_promoted m st (slice_index_or (references_at m u) i None) u is.promoted;
   stands = is.stands;
@@ -166,26 +160,11 @@ scanned_all s p i m at st u base end is = (
   record {
     rising = is.accounted.rising;
     accounts = accounts_same m st base (occurrences_from (references_at m u) i) base (λ o. 0) (λ o. refl)
-        (λ o. sym (ap (λ z. occurrences_from (references_at m u) z o) end ∙ from_end (references_at m u) o)) is.accounted.accounts;
+        (λ o. sym (ap (λ z. occurrences_from (references_at m u) z o) end ∙ occurrences_end (references_at m u) o)) is.accounted.accounts;
   },
 )
 
 -- ---- the worklist
-
-split_last : {A B : Type 0} (f : A → B) (ns : List A) (xs : List B) (p : B) → xs ++ p ∷ [] ≡ map f ns → (ms : List A) × (r : A) × (ns ≡ ms ++ r ∷ []) × (xs ≡ map f ms) × (p ≡ f r)
-split_last f [] [] p e = absurd (cc)
-split_last f [] (x ∷ xs) p e = absurd (cc)
-split_last f (n ∷ []) [] p e = ([], n, refl, refl, cc)
-split_last f (n ∷ m ∷ ns) [] p e = absurd (cc)
-split_last f (n ∷ ns) (x ∷ xs) p e =
-    let head : x ≡ f n = cc in
-    let tail : xs ++ p ∷ [] ≡ map f ns = cc in
-    let s = split_last f ns xs p tail in
-    (n ∷ s.0, s.1, ap (λ z. n ∷ z) s.2, (let k = s.3 in cc), s.4)
-
-map_empty : {A B : Type 0} (f : A → B) (ns : List A) → [] ≡ map f ns → ns ≡ []
-map_empty f [] e = refl
-map_empty f (n ∷ ns) e = absurd (cc)
 
 -- the stage with the last of the worklist taken out
 popped_rising : (s : Space) (w : Roomy Place) (m : Moment) (at : Name → ℕ) (st : Stage) (ws : List Name) (u : Name) → w.room ≡ s.work.room → length w.items ≤ length s.work.items

@@ -1,7 +1,6 @@
 -- What is known of a name that is raised: where its object stands, whether it is promoted already, and the next stage.
-use Rattle.std.proofs.Common.{◌≡◌, ℕ, ◌+◌, ◌≤◌, refl, sym, ap, subst, ◌∙◌, inl, inr, ◌⊎◌, arith, Bool, true, false, cond, List, [], ◌∷◌, ◌++◌}
+use Rattle.std.proofs.Common.{◌≡◌, ℕ, ◌+◌, ◌≤◌, refl, sym, ap, subst, ◌∙◌, inl, inr, arith, Bool, true, false, cond, List, [], ◌∷◌, ◌++◌}
 use Rattle.std.specs.Prelude.{◌||◌, ◌&&◌, not, Some, IsTrue}
-use Rattle.std.proofs.lemmas.Bool.{or_cases, or_left, or_right}
 use Rattle.lxr_layout.specs.declared.Name.{Name}
 use Rattle.lxr_layout.specs.declared.Place.{Place}
 use Rattle.lxr_graph.specs.Names.{has, same_name}
@@ -22,30 +21,21 @@ use Rattle.lxr_counting.proofs.RaisingLemmas.{growth_made}
 use Rattle.lxr_between.specs.Meaning.{members}
 use Rattle.lxr_between.specs.Counting.{count_at}
 use Rattle.lxr_between.specs.Raised.{with_promoted}
+use Rattle.lxr_between.proofs.NameLemmas.{in_either, in_first, in_second}
+use Rattle.lxr_between.proofs.PlaceLemmas.{granules_differ, mark_apart}
 use Rattle.lxr_promote.specs.Rising.{IsRising, MayRise, Stage, is_unpromoted, risen, risen_count}
 use Rattle.lxr_promote.specs.Promotion.{StandsAt}
-use Rattle.lxr_promote.proofs.MarkLemmas.{granules_differ, mark_apart}
-use Rattle.lxr_promote.proofs.RaiseLemmas.{has_append}
 
 -- ---- members
 
-pub unreclaimed_member : (m : Moment) (n : Name) → IsTrue (has m.unreclaimed n) → IsTrue (has (members m) n)
-unreclaimed_member m n h = has_append m.unreclaimed m.made n ∙ or_left (has m.unreclaimed n) (has m.made n) h
-
-pub made_member : (m : Moment) (n : Name) → IsTrue (has m.made n) → IsTrue (has (members m) n)
-made_member m n h = has_append m.unreclaimed m.made n ∙ or_right (has m.unreclaimed n) (has m.made n) h
-
-pub member_cases : (m : Moment) (n : Name) → IsTrue (has (members m) n) → IsTrue (has m.unreclaimed n) ⊎ IsTrue (has m.made n)
-member_cases m n h = or_cases (has m.unreclaimed n) (has m.made n) (sym (has_append m.unreclaimed m.made n) ∙ h)
-
 pub promoted_within : (m : Moment) (promoted : List Name) → IsGrowth m.state m.unreclaimed m.made promoted → (n : Name) → IsTrue (has (with_promoted m promoted) n) → IsTrue (has (members m) n)
 promoted_within m promoted growth n h = elim (union_cases promoted m.unreclaimed n h) [
-  | inl k ↦ made_member m n (growth_made m.state m.unreclaimed m.made promoted growth n k)
-  | inr k ↦ unreclaimed_member m n k
+  | inl k ↦ in_second m.unreclaimed m.made n (growth_made m.state m.unreclaimed m.made promoted growth n k)
+  | inr k ↦ in_first m.unreclaimed m.made n k
 ]
 
 pub stuck_within : (m : Moment) → FollowsPause m → (n : Name) → IsTrue (has m.stuck n) → IsTrue (has (members m) n)
-stuck_within m follows n h = unreclaimed_member m n (follows.stuck n h)
+stuck_within m follows n h = in_first m.unreclaimed m.made n (follows.stuck n h)
 
 -- nothing was stored to a reference of a new object that counts
 pub made_unwritten : (m : Moment) → FollowsPause m → (o : Name) → IsTrue (has m.made o) → (i : ℕ) → has_field m.written (o, i) ≡ false
@@ -118,7 +108,7 @@ pub record IsFound (m : Moment) (st : Stage) (o : Name) : Type 0 where
 pub unknown_found : (m : Moment) (st : Stage) (o : Name) → IsTrue (has (members m) o) → has (with_promoted m st.promoted) o ≡ false → IsFound m st o
 unknown_found m st o member unknown =
     let parts = or_false (has st.promoted o) (has m.unreclaimed o) (sym (has-union st.promoted m.unreclaimed o) ∙ unknown) in
-    elim (member_cases m o member) [
+    elim (in_either m.unreclaimed m.made o member) [
       | inl k ↦ absurd (let a = parts.1 in cc)
       | inr k ↦ record { made = k; unpromoted = parts.0; test = (λ i. k i && not (parts.0 i)) }
     ]

@@ -1,45 +1,15 @@
--- Which tables each part of a stage reads: where those stay, so does the part.
-use Rattle.std.proofs.Common.{◌≡◌, ℕ, ◌+◌, ◌*◌, ◌≤◌, refl, sym, ap, ◌∙◌, arith, lit<, Bool, true, false, cond, List, [], ◌∷◌}
-use Rattle.std.specs.Prelude.{not, ◌==◌, if◌then◌else◌, nat_lt, slice_index, slice_index_or}
+-- The lines that are out are cleared one after another.
+use Rattle.std.proofs.Common.{◌≡◌, ℕ, ◌+◌, ◌*◌, ◌≤◌, refl, sym, ap, ◌∙◌, arith, lit<, Bool, true, false, cond, List, []}
+use Rattle.std.specs.Prelude.{◌==◌, if◌then◌else◌, nat_lt, slice_index, slice_index_or}
 use Rattle.std.proofs.Math.ListN.{get_or-eq_default}
 use Rattle.std.proofs.lemmas.Bool.Decides.{nat_tests}
-use Rattle.lxr_layout.specs.declared.Name.{Name}
 use Rattle.lxr_layout.specs.declared.limits.Limits.{Limits}
 use Rattle.lxr_layout.specs.Spaces.{region_begin, region_sizes}
 use Rattle.lxr_tables.specs.Entries.{table}
-use Rattle.lxr_graph.specs.State.{Graph}
 use Rattle.lxr_image.specs.declared.space.Space.{Space}
 use Rattle.lxr_image.specs.Spaces.{IsSpace, Turns, tables_of}
 use Rattle.lxr_image.specs.Tables.{Tables, changed, cut, tables_in}
-use Rattle.lxr_image.specs.Reads.{granule_of}
 use Rattle.lxr_image.proofs.RegionLemmas.{length_region_table}
-use Rattle.lxr_model.specs.Moments.{Moment}
-use Rattle.lxr_between.specs.Standing.{HasBits}
-use Rattle.lxr_between.specs.Counting.{undone}
-use Rattle.lxr_between.specs.Lines.{HasMarks}
-
--- ---- bits and marks
-
-pub bits_still : (t u : Tables) (m : Moment) (at : Name → ℕ) (us : List Name) → u.starts ≡ t.starts → u.marks ≡ t.marks → u.grays ≡ t.grays → u.dones ≡ t.dones → u.unlogged ≡ t.unlogged
-    → HasBits t m at us → HasBits u m at us
-bits_still t u m at us starts marks grays dones unlogged is = record {
-  starts = record {
-    each = λ n h. ap (λ f. f (granule_of (at n))) starts ∙ is.starts.each n h;
-    only = λ g h. is.starts.only g (sym (ap (λ f. f g) starts) ∙ h);
-  };
-  marks = λ k h. ap (λ f. f k) starts ∙ is.marks k (sym (ap (λ f. f k) marks) ∙ h);
-  grays = λ k h. ap (λ f. f k) starts ∙ is.grays k (sym (ap (λ f. f k) grays) ∙ h);
-  dones = λ k h. ap (λ f. f k) starts ∙ is.dones k (sym (ap (λ f. f k) dones) ∙ h);
-  unlogged = λ w. (λ h. (is.unlogged w).0 (sym (ap (λ f. f w) unlogged) ∙ h), λ h. ap (λ f. f w) unlogged ∙ (is.unlogged w).1 h);
-}
-
-pub marks_still : (t u : Tables) (g : Graph) (at : Name → ℕ) (us : List Name) → u.counts ≡ t.counts → HasMarks t g at us → HasMarks u g at us
-marks_still t u g at us counts is = record {
-  marked = λ n o k h e mark. ap (λ f. f k) counts ∙ is.marked n o k h e mark;
-  elsewhere = λ k nobody nothing. ap (λ f. f k) counts ∙ is.elsewhere k nobody nothing;
-}
-
--- ---- lines that are out
 
 -- past the heap's last line none is out
 pub no_out_past : (l : Limits) (ws : List ℕ) (line : ℕ) → (tables_in l ws).size ≡ region_begin l 15 → 128 * l.blocks ≤ line → (tables_in l ws).outs line ≡ false
@@ -78,11 +48,3 @@ outs_end s b k space end turns = record { tables = turns.tables ∙ (λ i. recor
       | true ↦ λ e. refl
       | false ↦ λ e. no_out_past s.limits s.words line space.size (let h : k ≤ line = grind (arith, nat_tests, e) in omega (arith, h, end))
     ] refl
-
--- ---- counts
-
--- where nothing is done, all names count
-pub none_undone : (t : Tables) (at : Name → ℕ) (us : List Name) → ((k : ℕ) → t.dones k ≡ false) → undone t at us ≡ us
-none_undone t at [] none = refl
-none_undone t at (u ∷ us) none =
-    ap (λ b. cond (not b) (u ∷ undone t at us) (undone t at us)) (none (granule_of (at u))) ∙ ap (λ xs. u ∷ xs) (none_undone t at us none)

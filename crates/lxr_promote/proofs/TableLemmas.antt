@@ -16,9 +16,6 @@ use Rattle.lxr_promote.specs.Promotion.{RaisesAt, StandsAt, with_marks, with_pro
 
 -- ---- spaces
 
-pub turned_limits : (a b : Space) (t : Tables) → Turns a b t → b.limits ≡ a.limits
-turned_limits a b t turns = ap (λ s. s.limits) turns.rest
-
 pub turned_blocks : (a b : Space) (t : Tables) → Turns a b t → b.limits.blocks ≡ a.limits.blocks
 turned_blocks a b t turns = ap (λ s. s.limits.blocks) turns.rest
 

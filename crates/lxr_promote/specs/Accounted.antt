@@ -1,5 +1,5 @@
 -- The steps between two stages of the increments, and what they have raised so far.
-use Rattle.std.specs.Prelude.{◌≡◌, ℕ, zero, suc, ◌+◌, ◌⊎◌, None, Option, Some, List, [], ◌∷◌, IsTrue, count_by, map, take}
+use Rattle.std.specs.Prelude.{◌≡◌, ℕ, ◌+◌, ◌⊎◌, None, Option, Some, List, [], IsTrue, count_by, map, take}
 use Rattle.std.specs.List.Sorted.{IsPermutation}
 use Rattle.lxr_layout.specs.declared.Name.{Name}
 use Rattle.lxr_layout.specs.declared.LogEntry.{LogEntry}
@@ -7,13 +7,13 @@ use Rattle.lxr_graph.specs.Names.{has}
 use Rattle.lxr_graph.specs.State.{object_at, refs_of}
 use Rattle.lxr_image.specs.declared.space.Space.{Space}
 use Rattle.lxr_image.specs.Image.{place_word}
-use Rattle.lxr_model.specs.References.{occurrences}
 use Rattle.lxr_model.specs.Moments.{Field, Moment}
 use Rattle.lxr_model.specs.Reports.{field_holds, newly_held}
 use Rattle.lxr_counting.specs.Following.{IsLive}
 use Rattle.lxr_counting.specs.Raising.{IsHeldUp}
 use Rattle.lxr_between.specs.Meaning.{members}
 use Rattle.lxr_between.specs.Standing.{entry_of}
+use Rattle.lxr_between.specs.Counting.{occurrences_from}
 use Rattle.lxr_promote.specs.Rising.{Accounts, IsRising, Stage, risen}
 
 -- what an object refers to now
@@ -53,12 +53,6 @@ pub record IsSettled (s : Space) (m : Moment) (at : Name → ℕ) (st : Stage) (
 
 abbrev pub Settles : Space → Moment → (Name → ℕ) → (Name → ℕ) → Type 0
 Settles s m at base = (st : Stage) × IsSettled s m at st base
-
--- how many of these references hold o, from number i on
-abbrev pub occurrences_from : List (Option Name) → ℕ → Name → ℕ
-occurrences_from rs zero o = occurrences rs o
-occurrences_from [] (suc i) o = 0
-occurrences_from (r ∷ rs) (suc i) o = occurrences_from rs i o
 
 -- a promoted object out of the worklist, whose references are still to be raised from number i on
 pub record IsScanning (s : Space) (place i : ℕ) (m : Moment) (at : Name → ℕ) (st : Stage) (u : Name) (base : Name → ℕ) : Type 0 where

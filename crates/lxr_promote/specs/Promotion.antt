@@ -1,5 +1,5 @@
 -- One count raised, and one object promoted, on the tables.
-use Rattle.std.specs.Prelude.{◌≡◌, ℕ, ◌+◌, ◌-◌, ◌/◌, ◌%◌, ◌≤◌, ◌==◌, ◌&&◌, nat_eq, not, Bool, true, List, [], ◌∷◌, ◌++◌, if◌then◌else◌}
+use Rattle.std.specs.Prelude.{◌≡◌, ℕ, ◌+◌, ◌/◌, ◌%◌, ◌≤◌, ◌==◌, ◌&&◌, nat_eq, not, Bool, true, List, [], ◌∷◌, ◌++◌, if◌then◌else◌}
 use Rattle.lxr_layout.specs.declared.Name.{Name}
 use Rattle.lxr_layout.specs.declared.Place.{Place}
 use Rattle.lxr_layout.specs.declared.Shape.{Shape}
@@ -13,6 +13,7 @@ use Rattle.lxr_image.specs.Tables.{Tables, changed}
 use Rattle.lxr_image.specs.Spaces.{IsSpace, tables_of}
 use Rattle.lxr_image.specs.Reads.{StandsWhole, granule_of}
 use Rattle.lxr_blocks.specs.Handing.{is_between}
+use Rattle.lxr_between.specs.Lines.{line_behind, next_line}
 
 -- an object of this name and shape stands at a place
 pub record StandsAt (s : Space) (p : Place) (n : Name) (shape : Shape) : Type 0 where
@@ -27,13 +28,6 @@ set_between f first end k = if is_between first end k then true else f k
 -- the count is STUCK at the first granule of each line from one on and below another
 abbrev pub marked_between : (ℕ → ℕ) → ℕ → ℕ → ℕ → ℕ
 marked_between f first end k = if nat_eq (k % 16) 0 && is_between first end (k / 16) then STUCK else f k
-
--- the first further line of an object that begins at a granule, and the line behind its last one
-abbrev pub next_line : ℕ → ℕ
-next_line granule = granule / 16 + 1
-
-abbrev pub line_behind : ℕ → ℕ → ℕ
-line_behind granule granules = (granule + granules - 1) / 16 + 1
 
 -- the tables with the further lines of an object marked
 abbrev pub with_marks : Tables → ℕ → ℕ → Tables

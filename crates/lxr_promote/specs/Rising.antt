@@ -1,7 +1,6 @@
 -- What holds while counts are raised one after another and objects are promoted.
 use Rattle.std.specs.Prelude.{◌≡◌, ◌≢◌, ℕ, ◌+◌, ◌-◌, ◌*◌, ◌≤◌, ◌↔◌, ◌==◌, ◌&&◌, not, Bool, false, List, [], ◌∷◌, ◌++◌, IsTrue, length, map, min, reverse, if◌then◌else◌}
 use Rattle.lxr_layout.specs.declared.Name.{Name}
-use Rattle.lxr_layout.specs.declared.Place.{Place}
 use Rattle.lxr_layout.specs.declared.TheConstants.{STUCK}
 use Rattle.lxr_graph.specs.Names.{has, without}
 use Rattle.lxr_image.specs.declared.space.Space.{Space}
@@ -14,7 +13,7 @@ use Rattle.lxr_counting.specs.Following.{FollowsPause}
 use Rattle.lxr_counting.specs.Lowering.{once}
 use Rattle.lxr_counting.specs.Raising.{IsGrowth, IsHeldUp}
 use Rattle.lxr_between.specs.Meaning.{members}
-use Rattle.lxr_between.specs.Standing.{AreLogged, HasBits, IsImaged}
+use Rattle.lxr_between.specs.Standing.{AreLogged, HasBits, IsImaged, place_of}
 use Rattle.lxr_between.specs.Counting.{count_at, passing}
 use Rattle.lxr_between.specs.Lines.{HasBlocks, HasMarks}
 use Rattle.lxr_between.specs.Raised.{count_found, with_promoted}
@@ -27,10 +26,6 @@ pub record Stage : Type 0 where
   pub work : List Name
   -- how often each name was raised so far
   pub added : Name → ℕ
-
--- the place of a name's object
-abbrev pub place_of : (Name → ℕ) → Name → Place
-place_of at n = record { 0 = at n }
 
 -- the count of a name as it would be without a largest value
 abbrev pub risen_count : Moment → Stage → Name → ℕ

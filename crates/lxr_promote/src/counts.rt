@@ -6,7 +6,8 @@ ghost use Rattle.lxr_lists.specs.Roomy.{pushed};
 ghost use Rattle.lxr_image.specs.Reads.{granule_of};
 ghost use Rattle.lxr_image.specs.Spaces.{IsSpace, Turns, tables_of};
 ghost use Rattle.lxr_model.specs.Moments.{Moment};
-ghost use Rattle.lxr_promote.specs.Promotion.{RaisesAt, StandsAt, TakesIn, fills, line_behind, next_line, with_marks, with_promotion, with_unlogged};
+ghost use Rattle.lxr_between.specs.Lines.{line_behind, next_line};
+ghost use Rattle.lxr_promote.specs.Promotion.{RaisesAt, StandsAt, TakesIn, fills, with_marks, with_promotion, with_unlogged};
 ghost use Rattle.lxr_promote.specs.Rising.{IsRising, MayRise, RaisingLeaves, Stage, left, risen};
 
 use lxr_image::Space;

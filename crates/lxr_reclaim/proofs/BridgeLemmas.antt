@@ -1,5 +1,5 @@
 -- What holds of a moment is what the decrements need, and what they leave.
-use Rattle.std.proofs.Common.{◌≡◌, ℕ, zero, suc, ◌*◌, ◌≤◌, refl, sym, ap, subst, ◌∙◌, inl, inr, arith, Bool, true, false, List, [], ◌∷◌, ◌++◌, IsTrue, length}
+use Rattle.std.proofs.Common.{◌≡◌, ℕ, ◌*◌, ◌≤◌, refl, sym, ap, subst, ◌∙◌, inl, inr, arith, false, List, [], ◌∷◌, ◌++◌, IsTrue, length}
 use Rattle.std.specs.Prelude.{not, filter, slice_get}
 use Rattle.lxr_layout.specs.declared.Name.{Name}
 use Rattle.lxr_lists.specs.Roomy.{Roomy}
@@ -26,9 +26,11 @@ use Rattle.lxr_between.specs.Standing.{AreLogged, HasBits, IsUnwritten}
 use Rattle.lxr_between.specs.Counting.{HasCounts, IsUndecremented, count_at, is_done}
 use Rattle.lxr_between.specs.Lines.{HasBlocks, HasMarks}
 use Rattle.lxr_between.specs.Between.{HoldsMoment}
+use Rattle.lxr_between.proofs.NameLemmas.{in_first}
+use Rattle.lxr_between.proofs.EntryLemmas.{passing_few}
+use Rattle.lxr_between.proofs.FrameLemmas.{AreAsMany, blocks_still, imaged_left, none_undone, out_still, rest_left, unchosen_still}
 use Rattle.lxr_reclaim.specs.Finishing.{CanFinish, Finishes}
-use Rattle.lxr_reclaim.specs.Sinking.{Ground, IsFinished, IsOpening, Leaves, Stage, later, ones, turned, waits, with_lists}
-use Rattle.lxr_reclaim.proofs.FrameLemmas.{AreAsMany, blocks_still, imaged_left, in_first, none_undone, one_if, out_still, rest_left, unchosen_still}
+use Rattle.lxr_reclaim.specs.Sinking.{Ground, IsFinished, IsOpening, Leaves, Stage, later, turned, waits, with_lists}
 use Rattle.lxr_reclaim.proofs.SinkingLemmas.{has_turned}
 
 -- ---- into the decrements
@@ -36,14 +38,6 @@ use Rattle.lxr_reclaim.proofs.SinkingLemmas.{has_turned}
 -- the stage at which the decrements begin
 abbrev pub first_stage : Space → Moment → (Name → ℕ) → Stage
 first_stage s m at = record { moment = m; at = at; before = s.report.dead.items; gone = []; work = []; extra = λ o. 0 }
-
-ones_most : (f : ℕ → Bool) (n : ℕ) → ones f n ≤ n
-ones_most f zero = omega arith
-ones_most f (suc n) = let a = ones_most f n in let b = one_most (f n) in omega (arith, a, b)
-  where
-    one_most : (b : Bool) → one_if b ≤ 1
-    one_most true = omega arith
-    one_most false = omega arith
 
 append_nothing : {A : Type 0} (xs : List A) → xs ≡ xs ++ []
 append_nothing [] = refl
@@ -106,8 +100,8 @@ opening s m at can =
           work = empty;
           work_gone = λ n h. absurd (cc);
           reported = append_nothing s.report.dead.items;
-          work_room = let k = ones_most t.starts (2048 * s.limits.blocks) in let r = is.room.work in let e : length s.work.items ≡ 0 = ap length empty in omega (arith, k, r, e);
-          dead_room = let k = ones_most t.starts (2048 * s.limits.blocks) in let r = can.room in omega (arith, k, r);
+          work_room = let k = passing_few t.starts (2048 * s.limits.blocks) in let r = is.room.work in let e : length s.work.items ≡ 0 = ap length empty in omega (arith, k, r, e);
+          dead_room = let k = passing_few t.starts (2048 * s.limits.blocks) in let r = can.room in omega (arith, k, r);
         };
       };
       work = refl;

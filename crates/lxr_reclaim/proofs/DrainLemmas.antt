@@ -1,13 +1,13 @@
 -- The loops of the decrements: references of one object, the worklist, the list.
 use Rattle.std.proofs.Common.{◌≡◌, ◌≢◌, ℕ, zero, suc, ◌+◌, ◌-◌, ◌*◌, ◌<◌, ◌≤◌, refl, sym, ap, subst, ◌∙◌, inl, inr, ◌^◌, arith, Bool, cond, List, [], ◌∷◌, ◌++◌, IsTrue, length, length-append, nat_eq, nat_le, true}
-use Rattle.std.specs.Prelude.{◌&&◌, map, Option, Some, None, slice_get}
+use Rattle.std.specs.Prelude.{◌&&◌, Option, Some, None, slice_get}
 use Rattle.std.proofs.lemmas.Bool.{or_left, or_right}
 use Rattle.lxr_layout.specs.declared.Name.{Name}
 use Rattle.lxr_layout.specs.declared.Place.{Place}
 use Rattle.lxr_layout.specs.declared.Shape.{Shape}
 use Rattle.lxr_layout.specs.Spaces.{AreLimits, region_begin}
 use Rattle.lxr_lists.specs.Roomy.{pushed}
-use Rattle.lxr_graph.specs.Names.{has, same_held, same_name}
+use Rattle.lxr_graph.specs.Names.{has, same_name}
 use Rattle.lxr_graph.specs.State.{State, shape_of}
 use Rattle.lxr_graph.proofs.NameSets.{same_itself, same_names}
 use Rattle.lxr_image.specs.declared.space.Space.{Space}
@@ -23,29 +23,16 @@ use Rattle.lxr_counting.specs.Lowering.{IsLowered, once}
 use Rattle.lxr_counting.proofs.DistinctLemmas.{tested}
 use Rattle.lxr_counting.proofs.LoweringLemmas.{gone_members, once_other, once_same, over}
 use Rattle.lxr_counting.proofs.DeathLemmas.{cascade_dead}
-use Rattle.lxr_between.specs.Counting.{count_at, entries_between, waiting_at}
-use Rattle.lxr_reclaim.specs.Sinking.{Stage, Sinking, IsAt, Waiting, Reaches, Releasing, FieldWaits, Drains, IsOpening, IsFinished, IsHeader, Leaves, held_by, kept, later, occurrences_from, ones, place_of, to_do, waits, with_lists}
-use Rattle.lxr_reclaim.proofs.FrameLemmas.{bits_still, marks_still}
-use Rattle.lxr_reclaim.proofs.SinkingLemmas.{eq_not, eq_self, granules_differ, has_more, in_heap, just_at, not_at, refs_more, same_parts}
+use Rattle.lxr_between.specs.Counting.{count_at, entries_between, occurrences_from, passing, waiting_at}
+use Rattle.lxr_between.specs.Standing.{place_of}
+use Rattle.lxr_between.proofs.NameLemmas.{has_more, map_empty, occurrences_end, occurrences_step, split_last}
+use Rattle.lxr_between.proofs.EntryLemmas.{changed_here, changed_other, same_number, unlike_number}
+use Rattle.lxr_between.proofs.FrameLemmas.{bits_still, marks_still}
+use Rattle.lxr_reclaim.specs.Sinking.{Stage, Sinking, IsAt, Waiting, Reaches, Releasing, FieldWaits, Drains, IsOpening, IsFinished, IsHeader, Leaves, held_by, kept, later, to_do, waits, with_lists}
+use Rattle.lxr_reclaim.proofs.SinkingLemmas.{granules_differ, in_heap, refs_more, same_parts}
 use Rattle.lxr_reclaim.proofs.SpaceLemmas.{leaves_by, turned_leaves}
 
 -- ---- references from a number on
-
-occurrences_end : (rs : List (Option Name)) (o : Name) → occurrences_from rs (length rs) o ≡ 0
-occurrences_end [] o = refl
-occurrences_end (r ∷ rs) o = occurrences_end rs o
-
--- 1 for a reference that holds o, and else 0
-abbrev one_held : Name → Option Name → ℕ
-one_held o ref = cond (same_held (Some o) ref) 1 0
-
-occurrences_suc : (rs : List (Option Name)) (i : ℕ) (ref : Option Name) (o : Name) → slice_get rs i ≡ Some ref → occurrences_from rs i o ≡ one_held o ref + occurrences_from rs (suc i) o
-occurrences_suc [] i ref o e = absurd (cc)
-occurrences_suc (r ∷ rs) zero ref o e = let k : r ≡ ref = cc in ap (λ z. one_held o z + occurrences rs o) k
-occurrences_suc (r ∷ rs) (suc i) ref o e = occurrences_suc rs i ref o e
-
-occurrences_step : (rs : List (Option Name)) (i : ℕ) (ref : Option Name) (o : Name) → slice_get rs i ≡ Some ref → occurrences_from rs i o ≡ one_held o ref + occurrences_from rs (i + 1) o
-occurrences_step rs i ref o e = let k : suc i ≡ i + 1 = omega arith in occurrences_suc rs i ref o e ∙ ap (λ z. one_held o ref + occurrences_from rs z o) k
 
 got : (rs : List (Option Name)) (i : ℕ) → i < length rs → (ref : Option Name) × (slice_get rs i ≡ Some ref)
 got [] i h = absurd (omega arith)
@@ -155,21 +142,6 @@ ends now i st r rest e reaches = extra_same now st _ rest (λ o. let k = occurre
 
 -- ---- the worklist
 
-split_last : {A B : Type 0} (f : A → B) (ns : List A) (xs : List B) (p : B) → xs ++ p ∷ [] ≡ map f ns → (ms : List A) × (r : A) × (ns ≡ ms ++ r ∷ []) × (xs ≡ map f ms) × (p ≡ f r)
-split_last f [] [] p e = absurd (cc)
-split_last f [] (x ∷ xs) p e = absurd (cc)
-split_last f (n ∷ []) [] p e = ([], n, refl, refl, cc)
-split_last f (n ∷ m ∷ ns) [] p e = absurd (cc)
-split_last f (n ∷ ns) (x ∷ xs) p e =
-    let head : x ≡ f n = cc in
-    let tail : xs ++ p ∷ [] ≡ map f ns = cc in
-    let s = split_last f ns xs p tail in
-    (n ∷ s.0, s.1, ap (λ z. n ∷ z) s.2, (let k = s.3 in cc), s.4)
-
-map_empty : {A B : Type 0} (f : A → B) (ns : List A) → [] ≡ map f ns → ns ≡ []
-map_empty f [] e = refl
-map_empty f (n ∷ ns) e = absurd (cc)
-
 -- another name for what waits
 repended : (s : State) (us stuck gone : List Name) (count f g : Name → ℕ) → ((o : Name) → IsTrue (has us o) → g o ≡ f o) → IsLowered s us stuck gone count f → IsLowered s us stuck gone count g
 repended s us stuck gone count f g e is = record {
@@ -237,7 +209,7 @@ pub popped_to_do : (s now : Space) (p : Place) → s.work ≡ pushed now.work p 
 popped_to_do s now p work rest =
     let items : s.work.items ≡ now.work.items ++ p ∷ [] = ap (λ z. z.items) work in
     let longer : length s.work.items ≡ length now.work.items + 1 = ap length items ∙ length-append now.work.items (p ∷ []) in
-    let same : ones (tables_of now).starts (2048 * now.limits.blocks) ≡ ones (tables_of s).starts (2048 * s.limits.blocks) = ap (λ z. ones (tables_of z).starts (2048 * z.limits.blocks)) rest in
+    let same : passing (tables_of now).starts (2048 * now.limits.blocks) ≡ passing (tables_of s).starts (2048 * s.limits.blocks) = ap (λ z. passing (tables_of z).starts (2048 * z.limits.blocks)) rest in
     omega (arith, longer, same)
 
 pub popped_leaves : (s now : Space) (p : Place) → s.work ≡ pushed now.work p → now ≡ record s { work = now.work } → Leaves s now
@@ -274,8 +246,8 @@ waiting_more t n p undrawn some =
     let from : entries_between t.decs (t.cursors 5) (t.cursors 6) p ≡ entries_between t.decs 0 (suc n) p = ap (λ z. entries_between t.decs z (t.cursors 6) p) undrawn ∙ ap (λ z. entries_between t.decs 0 z p) some in
     let here : nat_le 0 n ≡ true = grind arith in
     let head : entries_between t.decs 0 (suc n) p ≡ cond (nat_eq (t.decs n) p) 1 0 + entries_between t.decs 0 n p = ap (λ b. cond (b && nat_eq (t.decs n) p) 1 0 + entries_between t.decs 0 n p) here in
-    let drawn : changed t.cursors 6 n 5 ≡ 0 = not_at t.cursors 6 n 5 (λ e. omega arith) ∙ undrawn in
-    let long : changed t.cursors 6 n 6 ≡ n = just_at t.cursors 6 n in
+    let drawn : changed t.cursors 6 n 5 ≡ 0 = changed_other t.cursors 6 n 5 (λ e. omega arith) ∙ undrawn in
+    let long : changed t.cursors 6 n 6 ≡ n = changed_here t.cursors 6 n 6 refl in
     let tail : waiting_at (with_length t n) p ≡ entries_between t.decs 0 n p = ap (λ z. entries_between t.decs z (changed t.cursors 6 n 6) p) drawn ∙ ap (λ z. entries_between t.decs 0 z p) long in
     from ∙ head ∙ ap (λ z. cond (nat_eq (t.decs n) p) 1 0 + z) (sym tail)
 
@@ -290,16 +262,16 @@ last_taken s now st n at some turns =
     let st2 : Stage = later st st.gone st.work (λ o. st.extra o + once o x.0) in
     let t2 : Tables = with_length t n in
     let number : Bool → ℕ = λ b. cond b 1 0 in
-    let shorter : t2.cursors 6 ≡ n = just_at t.cursors 6 n in
+    let shorter : t2.cursors 6 ≡ n = changed_here t.cursors 6 n 6 refl in
     let one : (o : Name) → IsTrue (has m.unreclaimed o) → number (nat_eq (t.decs n) (st.at o)) ≡ once o x.0 =
     λ o in_o. elim (tested (same_name o x.0)) [
       | inl k ↦
           let e : t.decs n ≡ st.at o = x.2 ∙ sym (ap st.at (same_names o x.0 k)) in
-          ap number (ap (λ z. nat_eq z (st.at o)) e ∙ eq_self (st.at o)) ∙ sym (once_same o x.0 k)
+          ap number (ap (λ z. nat_eq z (st.at o)) e ∙ same_number (st.at o) (st.at o) refl) ∙ sym (once_same o x.0 k)
       | inr k ↦
           let ne = granules_differ t.heap s.limits.blocks m st.at is.ground o x.0 in_o x.1 k in
           let e = x.2 in
-          ap number (eq_not (t.decs n) (st.at o) (λ q. ne (ap granule_of (sym q ∙ e)))) ∙ sym (once_other o x.0 k)
+          ap number (unlike_number (t.decs n) (st.at o) (λ q. ne (ap granule_of (sym q ∙ e)))) ∙ sym (once_other o x.0 k)
     ] in
     let sinking : Sinking s.limits t2 s.work s.report.dead st2 = record {
       ground = is.ground;
@@ -313,7 +285,7 @@ last_taken s now st n at some turns =
       bits = bits_still t t2 m st.at (kept st) refl refl refl refl refl is.bits;
       marks = marks_still t t2 m.state.graph st.at (kept st) refl is.marks;
       none_done = is.none_done;
-      none_drawn = not_at t.cursors 6 n 5 (λ e. omega arith) ∙ is.none_drawn;
+      none_drawn = changed_other t.cursors 6 n 5 (λ e. omega arith) ∙ is.none_drawn;
       decrements = record {
         fits = let d = is.decrements.fits in omega (arith, d, some, shorter);
         places = λ k h. is.decrements.places k (omega (arith, h, some, shorter));
@@ -359,10 +331,10 @@ list_fits s st at =
 
 pub taken_leaves : (s now : Space) (n : ℕ) → Turns s now (with_length (tables_of s) n) → Leaves s now
 taken_leaves s now n turns = turned_leaves s now (with_length (tables_of s) n) turns
-    (record { heap = refl; dones = refl; outs = refl; states = refl; cursors = λ k ne. not_at (tables_of s).cursors 6 n k ne })
+    (record { heap = refl; dones = refl; outs = refl; states = refl; cursors = λ k ne. changed_other (tables_of s).cursors 6 n k ne })
 
 pub taken_length : (s now : Space) (n : ℕ) → Turns s now (with_length (tables_of s) n) → (tables_of now).cursors 6 ≡ n
-taken_length s now n turns = ap (λ t. t.cursors 6) turns.tables ∙ just_at (tables_of s).cursors 6 n
+taken_length s now n turns = ap (λ t. t.cursors 6) turns.tables ∙ changed_here (tables_of s).cursors 6 n 6 refl
 
 -- ---- the beginning and the end
 

@@ -1,5 +1,4 @@
 pub mod WipeLemmas
-pub mod FrameLemmas
 pub mod SinkingLemmas
 pub mod SpaceLemmas
 pub mod DrainLemmas

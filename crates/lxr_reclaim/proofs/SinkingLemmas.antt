@@ -1,5 +1,5 @@
 -- One lowering on the tables is one lowering of the names.
-use Rattle.std.proofs.Common.{◌≡◌, ◌≢◌, ℕ, zero, suc, ◌+◌, ◌-◌, ◌*◌, ◌<◌, ◌≤◌, refl, sym, ap, subst, ◌∙◌, inl, inr, ◌⊎◌, arith, Bool, true, false, cond, List, [], ◌∷◌, ◌++◌, IsTrue, length, length-append, nat_eq}
+use Rattle.std.proofs.Common.{◌≡◌, ◌≢◌, ℕ, ◌+◌, ◌-◌, ◌*◌, ◌<◌, ◌≤◌, refl, sym, ap, subst, ◌∙◌, inl, inr, ◌⊎◌, arith, Bool, true, false, cond, List, [], ◌∷◌, ◌++◌, IsTrue, length, length-append, nat_eq}
 use Rattle.std.specs.Prelude.{◌||◌, map, Some}
 use Rattle.std.proofs.lemmas.Bool.{or_cases, or_left, or_right}
 use Rattle.std.proofs.lemmas.Bool.Decides.{eqb_tells}
@@ -19,17 +19,18 @@ use Rattle.lxr_image.specs.Reads.{granule_of}
 use Rattle.lxr_image.specs.Image.{granules_of}
 use Rattle.lxr_model.specs.Moments.{Moment}
 use Rattle.lxr_model.specs.References.{occurrences, references_from}
-use Rattle.lxr_counting.specs.Distinct.{IsDistinct}
 use Rattle.lxr_counting.specs.Lowering.{TakenFrom, LoweredAt}
 use Rattle.lxr_counting.proofs.DistinctLemmas.{tested, or_false}
 use Rattle.lxr_counting.proofs.LoweringLemmas.{once_same, once_other, stays, stuck_stays, dies, gone_members}
 use Rattle.lxr_between.specs.Counting.{count_at}
-use Rattle.lxr_between.specs.Lines.{HasMarks, IsMarkOf}
-use Rattle.lxr_between.specs.Standing.{HasBits, IsUnwritten, field_word}
-use Rattle.lxr_reclaim.specs.Wipe.{next_line, line_behind}
-use Rattle.lxr_reclaim.specs.Sinking.{Stage, Ground, Sinking, without_object, ones, place_of, turned, kept, waits, later}
-use Rattle.lxr_reclaim.proofs.FrameLemmas.{bits_still, one_if}
-use Rattle.lxr_reclaim.proofs.WipeLemmas.{InWipe, wiped_in, wiped_out, wipe_cases, cleared_in, cleared_out, range_cases}
+use Rattle.lxr_between.specs.Lines.{HasMarks, IsMarkOf, line_behind, next_line}
+use Rattle.lxr_between.specs.Standing.{HasBits, IsUnwritten, field_word, place_of}
+use Rattle.lxr_between.proofs.NameLemmas.{distinct_more, has_more}
+use Rattle.lxr_between.proofs.EntryLemmas.{changed_here, changed_other, passing_cleared, unlike_number}
+use Rattle.lxr_between.proofs.PlaceLemmas.{line_mark, mark_line, same_object}
+use Rattle.lxr_between.proofs.FrameLemmas.{bits_still}
+use Rattle.lxr_reclaim.specs.Sinking.{Stage, Ground, Sinking, without_object, turned, kept, waits, later}
+use Rattle.lxr_reclaim.proofs.WipeLemmas.{wiped_in, wiped_out, wipe_cases, cleared_in, cleared_out, range_cases}
 
 -- ---- places
 
@@ -44,51 +45,17 @@ granules_differ heap blocks m at ground o r in_o in_r ne e =
       | inr h ↦ absurd (omega (arith, h, e))
     ]
 
-pub eq_self : (n : ℕ) → nat_eq n n ≡ true
-eq_self n = grind arith
-
-pub eq_not : (a b : ℕ) → a ≢ b → nat_eq a b ≡ false
-eq_not a b ne = grind arith
-
--- an entry is written: what is read elsewhere, and what is read there
-pub not_at : {A : Type 0} (f : ℕ → A) (k : ℕ) (v : A) (j : ℕ) → j ≢ k → changed f k v j ≡ f j
-not_at f k v j ne = ap (λ b. cond b v (f j)) (eq_not j k ne)
-
-pub just_at : {A : Type 0} (f : ℕ → A) (k : ℕ) (v : A) → changed f k v k ≡ v
-just_at f k v = ap (λ b. cond b v (f k)) (eq_self k)
-
 -- an entry of r is written: what another member reads, and what r reads
 pub written_other : {A : Type 0} (heap : ℕ → ℕ) (blocks : ℕ) (m : Moment) (at : Name → ℕ) → Ground heap blocks m at → (f : ℕ → A) (v : A) (o r : Name) → IsTrue (has m.unreclaimed o)
     → IsTrue (has m.unreclaimed r) → same_name o r ≡ false → changed f (granule_of (at r)) v (granule_of (at o)) ≡ f (granule_of (at o))
-written_other heap blocks m at ground f v o r in_o in_r ne = not_at f (granule_of (at r)) v (granule_of (at o)) (granules_differ heap blocks m at ground o r in_o in_r ne)
+written_other heap blocks m at ground f v o r in_o in_r ne = changed_other f (granule_of (at r)) v (granule_of (at o)) (granules_differ heap blocks m at ground o r in_o in_r ne)
 
 pub written_same : {A : Type 0} (at : Name → ℕ) (f : ℕ → A) (v : A) (o r : Name) → same_name o r ≡ true → changed f (granule_of (at r)) v (granule_of (at o)) ≡ v
 written_same at f v o r e =
     let k : granule_of (at o) ≡ granule_of (at r) = ap (λ z. granule_of (at z)) (same_names o r e) in
-    ap (λ z. changed f (granule_of (at r)) v z) k ∙ just_at f (granule_of (at r)) v
+    ap (λ z. changed f (granule_of (at r)) v z) k ∙ changed_here f (granule_of (at r)) v (granule_of (at r)) refl
 
 -- ---- lists
-
-ones_same : (f : ℕ → Bool) (g n : ℕ) → n ≤ g → ones (changed f g false) n ≡ ones f n
-ones_same f g zero h = refl
-ones_same f g (suc n) h =
-    let a : one_if (changed f g false n) ≡ one_if (f n) = ap one_if (not_at f g false n (λ q. omega arith)) in
-    let c = ones_same f g n (omega arith) in
-    omega (arith, a, c)
-
-pub ones_cleared : (f : ℕ → Bool) (g n : ℕ) → f g ≡ true → g < n → ones (changed f g false) n + 1 ≡ ones f n
-ones_cleared f g zero is h = absurd (omega arith)
-ones_cleared f g (suc n) is h = elim (eqb_tells n g) [
-  | inl q ↦
-      let a : one_if (changed f g false n) ≡ 0 = ap one_if (ap (λ b. cond b false (f n)) q.0) in
-      let c : one_if (f n) ≡ 1 = ap one_if (ap f q.1 ∙ is) in
-      let d = ones_same f g n (omega (arith, q.1)) in
-      omega (arith, a, c, d)
-  | inr q ↦
-      let a : one_if (changed f g false n) ≡ one_if (f n) = ap one_if (ap (λ b. cond b false (f n)) q.0) in
-      let c = ones_cleared f g n is (let ne = q.1 in omega arith) in
-      omega (arith, a, c)
-]
 
 pub refs_more : (g : Graph) (ns : List Name) (r o : Name) → references_from g (ns ++ r ∷ []) o ≡ references_from g ns o + occurrences (refs_of (object_at g r)) o
 refs_more g [] r o = omega arith
@@ -102,18 +69,6 @@ pub append_group : {A : Type 0} (xs ys zs : List A) → xs ++ (ys ++ zs) ≡ (xs
 append_group [] ys zs = refl
 append_group (x ∷ xs) ys zs = ap (λ r. x ∷ r) (append_group xs ys zs)
 
-pub has_more : (ns : List Name) (r n : Name) → has (ns ++ r ∷ []) n ≡ (has ns n || same_name n r)
-has_more [] r n = or_nothing (same_name n r)
-  where
-    or_nothing : (b : Bool) → (b || false) ≡ b
-    or_nothing true = refl
-    or_nothing false = refl
-has_more (x ∷ ns) r n = ap (λ b. same_name n x || b) (has_more ns r n) ∙ or_group (same_name n x) (has ns n) (same_name n r)
-  where
-    or_group : (a b c : Bool) → (a || (b || c)) ≡ ((a || b) || c)
-    or_group true b c = refl
-    or_group false b c = refl
-
 or_flip : (a b : Bool) → (a || b) ≡ (b || a)
 or_flip true true = refl
 or_flip true false = refl
@@ -124,22 +79,6 @@ or_flip false false = refl
 pub has_turned : (ns : List Name) (n : Name) → has (turned ns) n ≡ has ns n
 has_turned [] n = refl
 has_turned (x ∷ ns) n = has_more (turned ns) x n ∙ ap (λ b. b || same_name n x) (has_turned ns n) ∙ or_flip (has ns n) (same_name n x)
-
--- a further name at the end, which isn't there yet
-distinct_more : (ns : List Name) (r : Name) → IsDistinct ns → has ns r ≡ false → IsDistinct (ns ++ r ∷ [])
-distinct_more [] r d h = (refl, tt)
-distinct_more (x ∷ ns) r d h =
-    let parts = or_false (same_name r x) (has ns r) h in (
-      has_more ns r x ∙ both_false (has ns x) (same_name x r) d.0 (elim (tested (same_name x r)) [
-        | inl k ↦ not_both (same_name r x) (ap (λ z. same_name z x) (sym (same_names x r k)) ∙ same_itself x) parts.0
-        | inr k ↦ k
-      ]),
-      distinct_more ns r d.1 parts.1,
-    )
-  where
-    both_false : (a b : Bool) → a ≡ false → b ≡ false → (a || b) ≡ false
-    both_false true b h k = absurd (cc)
-    both_false false b h k = k
 
 -- ---- what is left
 
@@ -214,9 +153,6 @@ stuck_other heap blocks m at ground t v r in_r unstuck before n in_n is_stuck = 
   | inr k ↦ written_other heap blocks m at ground t.counts v n r in_n in_r k ∙ before n in_n is_stuck
 ]
 
-same_object : (g : Graph) (n : Name) (a b : Object) → object_at g n ≡ Some a → object_at g n ≡ Some b → a ≡ b
-same_object g n a b e f = let q : Some a ≡ Some b = sym e ∙ f in cc
-
 -- no object begins at another's mark, nor at its own
 mark_apart : (heap : ℕ → ℕ) (blocks : ℕ) (m : Moment) (at : Name → ℕ) → Ground heap blocks m at → (n r : Name) (o : Object) (g : ℕ) → IsTrue (has m.unreclaimed n) → IsTrue (has m.unreclaimed r)
     → object_at m.state.graph n ≡ Some o → IsMarkOf at n o g → granule_of (at r) ≢ g
@@ -236,21 +172,14 @@ marks_apart heap blocks m at ground n r o q g in_n in_r ne has_o has_q a b =
     let a1 = a.behind in let a2 = a.within in let b1 = b.behind in let b2 = b.within in
     elim (ground.apart n r o q in_n in_r ne has_o has_q) [ inl h ↦ omega (arith, h, a2, b1) | inr h ↦ omega (arith, h, b2, a1) ]
 
--- the wiped granules are exactly the marks
-wipe_mark : (at : Name → ℕ) (r : Name) (o : Object) (k : ℕ) → InWipe (next_line (granule_of (at r))) (line_behind (granule_of (at r)) (granules_of o)) k → IsMarkOf at r o k
-wipe_mark at r o k is = let a = is.line in let b = is.from in let c = is.below in record { begins = a; behind = omega (arith, a, b); within = omega (arith, a, c) }
-
-mark_wipe : (at : Name → ℕ) (r : Name) (o : Object) (k : ℕ) → IsMarkOf at r o k → InWipe (next_line (granule_of (at r))) (line_behind (granule_of (at r)) (granules_of o)) k
-mark_wipe at r o k is = let a = is.begins in let b = is.behind in let c = is.within in record { line = a; from = omega (arith, a, b); below = omega (arith, a, c) }
-
 -- marks stay where the count of a member that is left is written
 marks_other : (heap : ℕ → ℕ) (blocks : ℕ) (m : Moment) (at : Name → ℕ) → Ground heap blocks m at → (t : Tables) (v : ℕ) (r : Name) (gone : List Name) → IsTrue (has m.unreclaimed r)
     → IsTrue (has (without m.unreclaimed gone) r) → HasMarks t m.state.graph at (without m.unreclaimed gone)
     → HasMarks (record t { counts = changed t.counts (granule_of (at r)) v }) m.state.graph at (without m.unreclaimed gone)
 marks_other heap blocks m at ground t v r gone in_r left_r is = record {
   marked = λ n o g left_n has_o mark.
-      not_at t.counts (granule_of (at r)) v g (λ e. mark_apart heap blocks m at ground n r o g (without_parts m.unreclaimed gone n left_n).0 in_r has_o mark (sym e)) ∙ is.marked n o g left_n has_o mark;
-  elsewhere = λ g nobody nothing. not_at t.counts (granule_of (at r)) v g (λ e. nobody r left_r (sym e)) ∙ is.elsewhere g nobody nothing;
+      changed_other t.counts (granule_of (at r)) v g (λ e. mark_apart heap blocks m at ground n r o g (without_parts m.unreclaimed gone n left_n).0 in_r has_o mark (sym e)) ∙ is.marked n o g left_n has_o mark;
+  elsewhere = λ g nobody nothing. changed_other t.counts (granule_of (at r)) v g (λ e. nobody r left_r (sym e)) ∙ is.elsewhere g nobody nothing;
 }
 
 -- a count that stays above zero
@@ -382,8 +311,8 @@ marks_fall heap blocks m at ground t r gone ro in_r has_ro is =
     record {
       marked = λ n o h left_n has_o mark.
           let l = still_left m.unreclaimed gone r n left_n in
-          wiped_out lows a b h (λ k. marks_apart heap blocks m at ground n r o ro h l.member in_r l.other has_o has_ro mark (wipe_mark at r ro h k))
-          ∙ not_at t.counts g 0 h (λ e. mark_apart heap blocks m at ground n r o h l.member in_r has_o mark (sym e)) ∙ is.marked n o h l.before has_o mark;
+          wiped_out lows a b h (λ k. marks_apart heap blocks m at ground n r o ro h l.member in_r l.other has_o has_ro mark (line_mark at r ro h k))
+          ∙ changed_other t.counts g 0 h (λ e. mark_apart heap blocks m at ground n r o h l.member in_r has_o mark (sym e)) ∙ is.marked n o h l.before has_o mark;
       elsewhere = λ h nobody nothing. elim (wipe_cases a b h) [
         | inl k ↦ wiped_in lows a b h k
         | inr k ↦ wiped_out lows a b h k ∙ (elim (eqb_tells h g) [
@@ -397,7 +326,7 @@ marks_fall heap blocks m at ground t r gone ro in_r has_ro is =
                 | inl z ↦
                     let n_is : n ≡ r = same_names n r z in
                     let o_is : o ≡ ro = same_object m.state.graph r o ro (sym (ap (object_at m.state.graph) n_is) ∙ has_o) has_ro in
-                    k (mark_wipe at r ro h (subst (λ y. IsMarkOf at y ro h) n_is (subst (λ y. IsMarkOf at n y h) o_is mark)))
+                    k (mark_line at r ro h (subst (λ y. IsMarkOf at y ro h) n_is (subst (λ y. IsMarkOf at n y h) o_is mark)))
                 | inr z ↦ nothing n o (left_still m.unreclaimed gone r n left_n z) has_o mark
               ])
         ])
@@ -417,9 +346,9 @@ falls l t w d st r rest ro is in_r taken unstuck one has_ro =
     let t2 : Tables = bare t st.at r ro in
     let within = in_heap t.heap l.blocks m st.at is.ground r in_r in
     let left_r = counted_left l t w d st r is in_r (omega (arith, one)) in
-    let fewer = ones_cleared t.starts g (2048 * l.blocks) (is.bits.starts.each r left_r.1) within.1 in
+    let fewer = passing_cleared t.starts g (2048 * l.blocks) (is.bits.starts.each r left_r.1) within.1 in
     let unwiped : (n : Name) → IsTrue (has m.unreclaimed n) → count_at t2 st.at n ≡ lows (granule_of (st.at n)) =
-    λ n in_n. wiped_out lows a b (granule_of (st.at n)) (λ k. mark_apart t.heap l.blocks m st.at is.ground r n ro (granule_of (st.at n)) in_r in_n has_ro (wipe_mark st.at r ro (granule_of (st.at n)) k) refl) in
+    λ n in_n. wiped_out lows a b (granule_of (st.at n)) (λ k. mark_apart t.heap l.blocks m st.at is.ground r n ro (granule_of (st.at n)) in_r in_n has_ro (line_mark st.at r ro (granule_of (st.at n)) k) refl) in
     record {
       ground = is.ground;
       lowered = dies m.last m.unreclaimed m.stuck st.gone (count_at t st.at) (waits t st)
@@ -488,7 +417,7 @@ not_zero_means : (n : ℕ) → (lowered_of n ≡ Zero → ⊥) → n ≢ 1
 not_zero_means n h e = h (ap lowered_of e)
 
 to_less : (n : ℕ) → n < STUCK → lowered_count n ≡ n - 1
-to_less n h = ap (λ b. cond b STUCK (n - 1)) (eq_not n STUCK (λ e. omega arith))
+to_less n h = ap (λ b. cond b STUCK (n - 1)) (unlike_number n STUCK (λ e. omega arith))
 
 pub goes_on : (l : Limits) (t : Tables) (w : Roomy Place) (d : Roomy Name) (st : Stage) (r : Name) (rest : Name → ℕ) → Sinking l t w d st → IsTrue (has st.moment.unreclaimed r)
     → TakenFrom st.extra r rest → (lowered_of (count_at t st.at r) ≡ Zero → ⊥)

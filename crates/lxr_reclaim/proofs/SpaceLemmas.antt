@@ -15,9 +15,11 @@ use Rattle.lxr_image.specs.Tables.{Tables, changed}
 use Rattle.lxr_image.specs.Spaces.{IsSpace, Turns, tables_of}
 use Rattle.lxr_image.specs.Reads.{granule_of}
 use Rattle.lxr_image.proofs.SpaceLemmas.{same_limits, still_space}
-use Rattle.lxr_between.specs.Counting.{count_at}
-use Rattle.lxr_reclaim.specs.Sinking.{Keeps, Leaves, TablesStay, Stage, without_object, with_lists, Waiting, Reaches, Reclaims, IsHeader, ones, to_do, later, place_of}
-use Rattle.lxr_reclaim.proofs.SinkingLemmas.{bare, falls, goes_on, same_parts, zero_means, last_unstuck, in_heap, counted, counted_left, ones_cleared}
+use Rattle.lxr_between.specs.Counting.{count_at, passing}
+use Rattle.lxr_between.specs.Standing.{place_of}
+use Rattle.lxr_between.proofs.EntryLemmas.{passing_cleared}
+use Rattle.lxr_reclaim.specs.Sinking.{Keeps, Leaves, TablesStay, Stage, without_object, with_lists, Waiting, Reaches, Reclaims, IsHeader, to_do, later}
+use Rattle.lxr_reclaim.proofs.SinkingLemmas.{bare, falls, goes_on, same_parts, zero_means, last_unstuck, in_heap, counted, counted_left}
 
 -- ---- what is left as it was
 
@@ -175,13 +177,13 @@ went_on a b p st r rest w more turns =
 
 -- the start bit that goes is one of those that were counted
 fewer_starts : (a : Space) (p : Place) (st : Stage) (r : Name) (rest : Name → ℕ) → Waiting a p.0 st r rest → Zero ≡ lowered_of ((tables_of a).counts (granule_of p.0))
-    → ones (changed (tables_of a).starts (granule_of p.0) false) (2048 * a.limits.blocks) + 1 ≡ ones (tables_of a).starts (2048 * a.limits.blocks)
+    → passing (changed (tables_of a).starts (granule_of p.0) false) (2048 * a.limits.blocks) + 1 ≡ passing (tables_of a).starts (2048 * a.limits.blocks)
 fewer_starts a p st r rest w zero =
     let t : Tables = tables_of a in
     let one = was_one a p st r rest w zero in
     let left_r = counted_left a.limits t a.work a.report.dead st r w.stage.sinking w.member (omega (arith, one)) in
     let started : t.starts (granule_of p.0) ≡ true = ap (λ z. t.starts (granule_of z)) w.stands ∙ w.stage.sinking.bits.starts.each r left_r.1 in
-    ones_cleared t.starts (granule_of p.0) (2048 * a.limits.blocks) started (at_place a p st r rest w).1
+    passing_cleared t.starts (granule_of p.0) (2048 * a.limits.blocks) started (at_place a p st r rest w).1
 
 -- what is left to do is as much as before: one object fewer to reclaim, one more in the worklist
 pub fell_to_do : (a b e : Space) (p : Place) (st : Stage) (r : Name) (rest : Name → ℕ) → (w : Waiting a p.0 st r rest) → Zero ≡ lowered_of ((tables_of a).counts (granule_of p.0))
@@ -192,8 +194,8 @@ fell_to_do a b e p st r rest w zero turns re =
     let fewer = fewer_starts a p st r rest w zero in
     let starts : (tables_of e).starts ≡ changed t.starts (granule_of p.0) false =
     ap (λ z. z.starts) re.tables ∙ ap (λ z. changed z.starts (granule_of p.0) false) turns.tables in
-    let n : ones (tables_of e).starts (2048 * e.limits.blocks) ≡ ones (changed t.starts (granule_of p.0) false) (2048 * a.limits.blocks) =
-    ap (λ z. ones (tables_of e).starts (2048 * z.blocks)) l ∙ ap (λ z. ones z (2048 * a.limits.blocks)) starts in
+    let n : passing (tables_of e).starts (2048 * e.limits.blocks) ≡ passing (changed t.starts (granule_of p.0) false) (2048 * a.limits.blocks) =
+    ap (λ z. passing (tables_of e).starts (2048 * z.blocks)) l ∙ ap (λ z. passing z (2048 * a.limits.blocks)) starts in
     let work : e.work.items ≡ a.work.items ++ p ∷ [] = ap (λ s. s.work.items) re.rest ∙ ap (λ s. s.work.items ++ p ∷ []) turns.rest in
     let m : length e.work.items ≡ length a.work.items + 1 = ap length work ∙ length-append a.work.items (p ∷ []) in
     omega (arith, n, m, fewer)
@@ -201,8 +203,8 @@ fell_to_do a b e p st r rest w zero turns re =
 pub went_to_do : (a b : Space) (g : ℕ) → Turns a b (with_lowered (tables_of a) g) → to_do b ≡ to_do a
 went_to_do a b g turns =
     let l = same_limits a b _ turns in
-    let n : ones (tables_of b).starts (2048 * b.limits.blocks) ≡ ones (tables_of a).starts (2048 * a.limits.blocks) =
-    ap (λ z. ones (tables_of b).starts (2048 * z.blocks)) l ∙ ap (λ z. ones z.starts (2048 * a.limits.blocks)) turns.tables in
+    let n : passing (tables_of b).starts (2048 * b.limits.blocks) ≡ passing (tables_of a).starts (2048 * a.limits.blocks) =
+    ap (λ z. passing (tables_of b).starts (2048 * z.blocks)) l ∙ ap (λ z. passing z.starts (2048 * a.limits.blocks)) turns.tables in
     let m : length b.work.items ≡ length a.work.items = ap (λ s. length s.work.items) turns.rest in
     omega (arith, n, m)
 

@@ -3,15 +3,11 @@ use Rattle.std.proofs.Common.{◌≡◌, ℕ, ◌+◌, ◌*◌, ◌/◌, ◌%◌
 use Rattle.std.specs.Prelude.{◌&&◌}
 use Rattle.std.proofs.lemmas.Bool.Decides.{eqb_tells, leb_tells, nat_tests}
 use Rattle.lxr_image.specs.Tables.{changed}
+use Rattle.lxr_between.proofs.PlaceLemmas.{BeginsLine}
 use Rattle.lxr_reclaim.specs.Wipe.{wiped, cleared}
 
-pub record InWipe (a b k : ℕ) : Type 0 where
-  pub line : k % 16 ≡ 0
-  pub from : a ≤ k / 16
-  pub below : k / 16 < b
-
-pub wiped_in : (f : ℕ → ℕ) (a b k : ℕ) → InWipe a b k → wiped f a b k ≡ 0
-wiped_in f a b k is = let l = is.line in let m = is.from in let n = is.below in grind (arith, nat_tests)
+pub wiped_in : (f : ℕ → ℕ) (a b k : ℕ) → BeginsLine a b k → wiped f a b k ≡ 0
+wiped_in f a b k is = let l = is.begins in let m = is.from in let n = is.below in grind (arith, nat_tests)
 
 wiped_before : (f : ℕ → ℕ) (a b k : ℕ) → k / 16 < a → wiped f a b k ≡ f k
 wiped_before f a b k h = grind (arith, nat_tests)
@@ -19,14 +15,14 @@ wiped_before f a b k h = grind (arith, nat_tests)
 wiped_behind : (f : ℕ → ℕ) (a b k : ℕ) → b ≤ k / 16 → wiped f a b k ≡ f k
 wiped_behind f a b k h = grind (arith, nat_tests)
 
-pub wiped_out : (f : ℕ → ℕ) (a b k : ℕ) → (InWipe a b k → ⊥) → wiped f a b k ≡ f k
+pub wiped_out : (f : ℕ → ℕ) (a b k : ℕ) → (BeginsLine a b k → ⊥) → wiped f a b k ≡ f k
 wiped_out f a b k out = elim (eqb_tells (k % 16) 0) [
   | inr q ↦ ap (λ t. cond (t && (nat_le a (k / 16) && nat_lt (k / 16) b)) 0 (f k)) q.0
   | inl q ↦ elim (leb_tells a (k / 16)) [
     | inr p ↦ wiped_before f a b k p.1
     | inl p ↦ elim (leb_tells b (k / 16)) [
       | inl r ↦ wiped_behind f a b k r.1
-      | inr r ↦ absurd (out (record { line = q.1; from = p.1; below = r.1 }))
+      | inr r ↦ absurd (out (record { begins = q.1; from = p.1; below = r.1 }))
     ]
   ]
 ]
@@ -50,14 +46,14 @@ cleared_none f a k = grind (arith, nat_tests)
 pub cleared_more : (f : ℕ → Bool) (a i k : ℕ) → changed (cleared f a (a + i)) (a + i) false k ≡ cleared f a (a + (i + 1)) k
 cleared_more f a i k = grind (arith, nat_tests)
 
-pub wipe_cases : (a b k : ℕ) → InWipe a b k ⊎ (InWipe a b k → ⊥)
+pub wipe_cases : (a b k : ℕ) → BeginsLine a b k ⊎ (BeginsLine a b k → ⊥)
 wipe_cases a b k = elim (eqb_tells (k % 16) 0) [
-  | inr q ↦ inr (λ is. q.1 is.line)
+  | inr q ↦ inr (λ is. q.1 is.begins)
   | inl q ↦ elim (leb_tells a (k / 16)) [
     | inr p ↦ inr (λ is. let f = is.from in let h = p.1 in absurd (omega (arith, f, h)))
     | inl p ↦ elim (leb_tells b (k / 16)) [
       | inl r ↦ inr (λ is. let f = is.below in let h = r.1 in absurd (omega (arith, f, h)))
-      | inr r ↦ inl (record { line = q.1; from = p.1; below = r.1 })
+      | inr r ↦ inl (record { begins = q.1; from = p.1; below = r.1 })
     ]
   ]
 ]

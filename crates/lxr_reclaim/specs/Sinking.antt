@@ -1,5 +1,5 @@
 -- What holds of a space in the middle of its decrements.
-use Rattle.std.specs.Prelude.{◌≡◌, ◌≢◌, ℕ, zero, suc, ◌+◌, ◌*◌, ◌/◌, ◌<◌, ◌≤◌, ◌↔◌, Bool, false, if◌then◌else◌, Option, Some, List, [], ◌∷◌, ◌++◌, IsTrue, length, slice_get, map}
+use Rattle.std.specs.Prelude.{◌≡◌, ◌≢◌, ℕ, ◌+◌, ◌*◌, ◌/◌, ◌<◌, ◌≤◌, ◌↔◌, false, Option, Some, List, [], ◌∷◌, ◌++◌, IsTrue, length, slice_get, map}
 use Rattle.lxr_layout.specs.declared.Name.{Name}
 use Rattle.lxr_layout.specs.declared.Place.{Place}
 use Rattle.lxr_layout.specs.declared.Shape.{Shape}
@@ -21,24 +21,15 @@ use Rattle.lxr_model.specs.Reachable.{Refers}
 use Rattle.lxr_model.specs.References.{occurrences, references_from}
 use Rattle.lxr_counting.specs.Distinct.{IsDistinct}
 use Rattle.lxr_counting.specs.Lowering.{IsLowered, TakenFrom}
-use Rattle.lxr_between.specs.Counting.{HasDecrements, count_at, waiting_at}
-use Rattle.lxr_between.specs.Lines.{HasMarks}
-use Rattle.lxr_between.specs.Standing.{HasBits}
-use Rattle.lxr_reclaim.specs.Wipe.{wiped, cleared, next_line, line_behind}
-
--- how many of the first so many are true
-abbrev pub ones : (ℕ → Bool) → ℕ → ℕ
-ones f zero = 0
-ones f (suc n) = (if f n then 1 else 0) + ones f n
+use Rattle.lxr_between.specs.Counting.{HasDecrements, count_at, occurrences_from, passing, waiting_at}
+use Rattle.lxr_between.specs.Lines.{HasMarks, line_behind, next_line}
+use Rattle.lxr_between.specs.Standing.{HasBits, place_of}
+use Rattle.lxr_reclaim.specs.Wipe.{cleared, wiped}
 
 -- names in the other order
 abbrev pub turned : List Name → List Name
 turned [] = []
 turned (n ∷ ns) = turned ns ++ n ∷ []
-
--- the place of a name
-abbrev pub place_of : (Name → ℕ) → Name → Place
-place_of at n = record { 0 = at n }
 
 -- A stage of the decrements; no code holds it.
 pub record Stage : Type 0 where
@@ -96,8 +87,8 @@ pub record Sinking (l : Limits) (t : Tables) (w : Roomy Place) (d : Roomy Name) 
   pub work : w.items ≡ map (place_of st.at) st.work
   pub work_gone : (n : Name) → IsTrue (has st.work n) → IsTrue (has st.gone n)
   pub reported : d.items ≡ st.before ++ turned st.gone
-  pub work_room : length w.items + ones t.starts (2048 * l.blocks) ≤ w.room
-  pub dead_room : length d.items + ones t.starts (2048 * l.blocks) ≤ d.room
+  pub work_room : length w.items + passing t.starts (2048 * l.blocks) ≤ w.room
+  pub dead_room : length d.items + passing t.starts (2048 * l.blocks) ≤ d.room
 
 -- a space at a stage
 pub record IsAt (s : Space) (st : Stage) : Type 0 where
@@ -106,7 +97,7 @@ pub record IsAt (s : Space) (st : Stage) : Type 0 where
 
 -- what is left to do: each object that isn't reclaimed may come into the worklist once
 abbrev pub to_do : Space → ℕ
-to_do s = ones (tables_of s).starts (2048 * s.limits.blocks) + length s.work.items
+to_do s = passing (tables_of s).starts (2048 * s.limits.blocks) + length s.work.items
 
 -- the stage with other names gone and in the worklist, and other names waiting
 abbrev pub later : Stage → List Name → List Name → (Name → ℕ) → Stage
@@ -167,12 +158,6 @@ pub record Leaves (before after : Space) : Type 0 where
 pub record Keeps (before after : Space) : Type 0 where
   pub leaves : Leaves before after
   pub waiting : (tables_of after).cursors 6 ≡ (tables_of before).cursors 6
-
--- how often o stands among the references from number i on
-abbrev pub occurrences_from : List (Option Name) → ℕ → Name → ℕ
-occurrences_from rs zero o = occurrences rs o
-occurrences_from [] (suc i) o = 0
-occurrences_from (r ∷ rs) (suc i) o = occurrences_from rs i o
 
 -- the references that a name's object had at the last pause
 abbrev pub held_by : Stage → Name → List (Option Name)

@@ -6,8 +6,9 @@ ghost use Rattle.lxr_layout.specs.Places.{IsPlace};
 ghost use Rattle.lxr_image.specs.Spaces.{IsSpace, tables_of};
 ghost use Rattle.lxr_model.specs.Moments.{Moment};
 ghost use Rattle.lxr_counting.specs.Lowering.{once};
+ghost use Rattle.lxr_between.specs.Counting.{occurrences_from};
 ghost use Rattle.lxr_reclaim.specs.Finishing.{CanFinish, Finishes};
-ghost use Rattle.lxr_reclaim.specs.Sinking.{Drains, FieldWaits, IsAt, IsFinished, IsHeader, IsOpening, Keeps, Leaves, Reaches, Releasing, Stage, Waiting, held_by, later, occurrences_from, to_do};
+ghost use Rattle.lxr_reclaim.specs.Sinking.{Drains, FieldWaits, IsAt, IsFinished, IsHeader, IsOpening, Keeps, Leaves, Reaches, Releasing, Stage, Waiting, held_by, later, to_do};
 
 use crate::reclaim::reclaim;
 use lxr_image::Space;

@@ -5,8 +5,9 @@ ghost use Rattle.lxr_layout.specs.declared.Shape.{Shape as ShapeOf};
 ghost use Rattle.lxr_layout.specs.Objects.{FitsShape, word_count};
 ghost use Rattle.lxr_layout.specs.Places.{IsPlace};
 ghost use Rattle.lxr_image.specs.Spaces.{IsSpace, Turns, tables_of};
+ghost use Rattle.lxr_between.specs.Lines.{line_behind, next_line};
 ghost use Rattle.lxr_reclaim.specs.Sinking.{IsHeader, Reclaims, without_object};
-ghost use Rattle.lxr_reclaim.specs.Wipe.{cleared, line_behind, next_line, wiped};
+ghost use Rattle.lxr_reclaim.specs.Wipe.{cleared, wiped};
 
 use lxr_image::Space;
 use lxr_layout::{Header, Place, Shape, unpack, word_of, words_of};

@@ -1,2 +1,10 @@
-pub mod RunLemmas
+pub mod HistoryLemmas
+pub mod TallyLemmas
+pub mod SightLemmas
+pub mod SpaceLemmas
+pub mod PauseLemmas
+pub mod CourseLemmas
+pub mod AgainLemmas
+pub mod TurnLemmas
 pub mod OutcomeLemmas
+pub mod OpeningLemmas

@@ -1,38 +1,31 @@
 -- What the ways in which a run ends have in common: the part of the input that was judged, and the text of a history.
-use Rattle.std.proofs.Common.{⊎_elim, ◌≡◌, ◌≢◌, ℕ, ◌+◌, ◌<◌, ◌≤◌, ◌↔◌, refl, sym, ap, subst, ◌∙◌, List, [], ◌∷◌, ◌++◌, length, take, arith, Bool, true, false}
-use Rattle.std.specs.Prelude.{All, Option, Some, None, IfSome, Ok, Err, Result, nat_le, if◌then◌else◌}
-use Rattle.std.proofs.lemmas.List.{append-nil, length_push, map_push, get_or_push, take_at, take_all}
-use Rattle.std.proofs.lemmas.List.Elements.{All-get_or, All-weaker}
+use Rattle.std.proofs.Common.{⊎_elim, inl, inr, ◌≡◌, ◌≢◌, ℕ, ◌+◌, ◌<◌, ◌≤◌, ◌↔◌, refl, sym, ap, subst, ◌∙◌, List, [], ◌∷◌, ◌++◌, length, take, arith, Bool, true, false}
+use Rattle.std.specs.Prelude.{All, Option, Some, None, IfSome, Ok, Err, Result, OnOk, OnErr, nat_le, if◌then◌else◌}
+use Rattle.std.proofs.lemmas.List.{append-nil, take_at, take_all}
+use Rattle.std.proofs.lemmas.List.Elements.{All-weaker}
 use Rattle.std.proofs.lemmas.Bool.{cases_lt, leb-true}
 use Rattle.lxr_graph.specs.declared.Op.{Op}
 use Rattle.lxr_graph.specs.declared.Op.TheVariants as op
 use Rattle.lxr_graph.specs.declared.Reply.{Reply}
 use Rattle.lxr_graph.specs.declared.Reply.TheVariants as reply
-use Rattle.lxr_graph.specs.History.{Item, replies_of}
-use Rattle.lxr_lists.specs.Roomy.{Roomy, pushed}
-use Rattle.lxr_script.specs.Limits.{IsThread}
-use Rattle.lxr_script.specs.Reading.{lists_in, reading_of}
+use Rattle.lxr_graph.specs.Step.{IsWellFormed}
+use Rattle.lxr_graph.specs.History.{Item, calls_of, replies_of}
+use Rattle.lxr_script.specs.Limits.{IsOperation, IsThread, IsWritten}
+use Rattle.lxr_script.specs.Reading.{reading_of}
 use Rattle.lxr_stream.specs.Streams.{Appends, AppendsFront, IsAtEnd, Takes}
-use Rattle.lxr_text.specs.Replies.{ArePrintable, replies_text, thread_text}
+use Rattle.lxr_stream.proofs.StreamLemmas.{Appends-append, AppendsFront-after}
+use Rattle.lxr_text.specs.Replies.{ArePrintable, replies_text}
 use Rattle.lxr_text.proofs.HistoryLemmas.{is_of_its_operations}
-use Rattle.lxr_run.specs.Outcome.{IsCutOff, IsDone, IsRunCommand, WasJudged, judged_part}
-use Rattle.lxr_run.specs.Run.{IsRun}
-use Rattle.lxr_run.specs.Script.{IsNoScript, IsOnGraph, IsScriptOf}
-use Rattle.lxr_run.proofs.RunLemmas.{no_end}
+use Rattle.lxr_watch.specs.Sights.{Sight}
+use Rattle.lxr_run.specs.Course.{HasRun, Task, WasCutOff}
+use Rattle.lxr_run.specs.Outcome.{IsCutOff, IsDone, IsRunCommand, WasAsked, WasJudged, judged_part}
+use Rattle.lxr_run.specs.Run.{IsHistoryOf, history_text, reports_text}
+use Rattle.lxr_run.specs.Script.{IsNoScript, IsScriptOf}
 use Rattle.lxr_run.specs.declared.Status.{Status}
 use Rattle.lxr_run.specs.declared.Status.TheVariants as status
 use Rattle.lxr_image.specs.declared.space.Space.{Space}
 use Rattle.lxr_run_words.specs.declared.RunOptions.{RunOptions}
 use Rattle.lxr_run_words.specs.CommandLines.{IsCommandLine}
-
--- the last of the lists that were read is a thread within the limits
-pub last_thread : (lists rest : Roomy (Roomy Op)) (operations : Roomy Op) → lists ≡ pushed rest operations → All IsThread (lists_in lists) → IsThread operations.items
-last_thread lists rest operations is each =
-    let items : lists_in lists ≡ lists_in rest ++ operations.items ∷ [] =
-    ap (λ z. lists_in z) is ∙ map_push (λ (l : Roomy Op). l.items) rest.items operations in
-    let each' : All IsThread (lists_in rest ++ operations.items ∷ []) = subst (All IsThread) items each in
-    subst IsThread (get_or_push (lists_in rest) operations.items [] (length (lists_in rest)) refl)
-    (All-get_or IsThread (lists_in rest ++ operations.items ∷ []) (length (lists_in rest)) [] (omega (arith, length_push (lists_in rest) operations.items)) each')
 
 -- the part of the input that is judged is what was read
 
@@ -66,7 +59,7 @@ test_passed false x f y e = absurd (cc)
 accepted_short : (bytes : List ℕ) (operations : List Op) → IsScriptOf bytes operations → length bytes ≤ 67108864
 unfolding reading_of
 accepted_short bytes operations accepted =
-    leb-true (length bytes) 67108864 (test_passed (nat_le (length bytes) 67108864) _ _ _ accepted.reading)
+    leb-true (length bytes) 67108864 (test_passed (nat_le (length bytes) 67108864) _ _ _ accepted)
 
 pub read_whole : (left left' : Option (List ℕ)) (read : List ℕ) (operations : List Op) → Takes left left' read → (length read ≤ 67108864 → IsAtEnd left')
     → IsScriptOf read operations → IsAtEnd left' × IfSome left (λ bytes. IsScriptOf bytes operations)
@@ -76,23 +69,80 @@ read_whole left (Some rest) read operations takes end accepted =
     let whole : read ++ rest ≡ read = ap (λ z. read ++ z) none ∙ append-nil read in
     (none, subst (λ z. IfSome z (λ bytes. IsScriptOf bytes operations)) (sym takes) (subst (λ z. IsScriptOf z operations) (sym whole) accepted))
 
--- the text of a run's history is that of its operations and of the replies that were kept
-pub text_of_run : (blocks : ℕ) (operations : List Op) (h : List Item) (kept : List Reply) (space : Space) → IsRun blocks operations h kept space
-    → replies_text 1 operations kept ≡ thread_text 1 h
-text_of_run blocks operations h kept space run =
-    let front : take (length operations) (replies_of 1 h) ≡ take (length operations) kept =
-    ap (take (length operations)) run.replies ∙ take_at kept (reply.Ended ∷ []) (length operations) run.as_many
-    ∙ sym (take_all (length operations) kept (omega (arith, run.as_many))) in
-    sym (is_of_its_operations 1 h operations kept run.history.calls front)
+-- ---- the text of a run
 
--- their text can be printed
-pub printable : (blocks : ℕ) (operations : List Op) (kept : List Reply) (space : Space) → All IsOnGraph operations → (h : List Item) × IsRun blocks operations h kept space → ArePrintable operations kept
-printable blocks operations kept space on (h, run) =
-    record {
-      replied = omega (arith, run.as_many);
-      no_end = All-weaker IsOnGraph (λ o. o ≢ op.End) no_end operations on;
-      none_ended = subst (All (λ r. r ≢ reply.Ended)) (sym (take_all (length operations) kept (omega (arith, run.as_many)))) run.none_ended;
-    }
+-- the text of a whole history is its reports, and behind them that of its operations and of the replies that were kept
+text_of_run : (options : RunOptions) (operations : List Op) (h : List Item) (kept : List Reply) → IsHistoryOf options operations h → replies_of 1 h ≡ kept ++ reply.Ended ∷ []
+    → length kept ≡ length operations → reports_text h ++ replies_text 1 operations kept ≡ history_text h
+text_of_run options operations h kept run replies many =
+    let calls : calls_of 1 h ≡ operations ++ op.End ∷ [] = run.belongs.calls 1 (omega arith) (omega arith) in
+    let front : take (length operations) (replies_of 1 h) ≡ take (length operations) kept =
+    ap (take (length operations)) replies ∙ take_at kept (reply.Ended ∷ []) (length operations) many
+    ∙ sym (take_all (length operations) kept (omega (arith, many))) in
+    ap (λ z. reports_text h ++ z) (sym (is_of_its_operations 1 h operations kept calls front))
+
+-- an operation of a script isn't the end
+no_end : (o : Op) → IsOperation o → o ≢ op.End
+no_end o written e = subst IsWritten e written.written
+
+pub all_formed : (operations ops : List Op) → ops ≡ operations → IsThread operations → All IsWellFormed ops
+all_formed operations ops same thread = subst (All IsWellFormed) (sym same) (All-weaker IsOperation IsWellFormed (λ o operation. operation.well_formed) operations thread.each)
+
+pub none_ends : (operations ops : List Op) → ops ≡ operations → IsThread operations → All (λ o. o ≢ op.End) ops
+none_ends operations ops same thread = subst (All (λ o. o ≢ op.End)) (sym same) (All-weaker IsOperation (λ o. o ≢ op.End) no_end operations thread.each)
+
+-- the replies of a run can be printed
+pub printable : (task : Task) (space : Space) (written : Option (List ℕ)) (seen : Option (List Sight)) (kept : List Reply) → IsThread task.operations → HasRun task space written seen kept
+    → ArePrintable task.operations kept
+printable task space written seen kept thread (h, run) = record {
+  replied = omega (arith, run.as_many);
+  no_end = none_ends task.operations task.operations refl thread;
+  none_ended = subst (All (λ r. r ≢ reply.Ended)) (sym (take_all (length task.operations) kept (omega (arith, run.as_many)))) run.none_ended;
+}
+
+-- a run whose replies were printed is done
+pub printed_whole : (task : Task) (space : Space) (written written' : Option (List ℕ)) (seen : Option (List Sight)) (kept : List Reply) → HasRun task space written seen kept
+    → Appends written written' (replies_text 1 task.operations kept) → (words : List (List ℕ)) (left left' : Option (List ℕ)) → WasAsked words left left' task.options task.operations
+    → IsDone words left left' task.written written' task.seen seen space
+printed_whole task space written written' seen kept (h, run) text words left left' asked = record {
+  options = task.options;
+  operations = task.operations;
+  history = h;
+  asked = asked;
+  run = run.history;
+  text = subst (Appends task.written written') (text_of_run task.options task.operations h kept run.history run.replies run.as_many)
+      (Appends-append task.written written written' (reports_text h) (replies_text 1 task.operations kept) run.text text);
+  space_left = run.left;
+  sights = run.sights;
+}
+
+-- one whose replies were cut off
+pub printed_front : (task : Task) (space : Space) (written written' : Option (List ℕ)) (seen : Option (List Sight)) (kept : List Reply) → HasRun task space written seen kept
+    → AppendsFront written written' (replies_text 1 task.operations kept) → (words : List (List ℕ)) (left left' : Option (List ℕ)) → WasAsked words left left' task.options task.operations
+    → IsCutOff words left left' task.written written' space
+printed_front task space written written' seen kept (h, run) text words left left' asked = inr (record {
+  options = task.options;
+  operations = task.operations;
+  history = h;
+  asked = asked;
+  run = run.history;
+  text_front = subst (AppendsFront task.written written') (text_of_run task.options task.operations h kept run.history run.replies run.as_many)
+      (AppendsFront-after task.written written written' (reports_text h) (replies_text 1 task.operations kept) run.text text);
+  space_left = run.left;
+})
+
+-- one that was cut off at a report
+pub reports_front : (task : Task) (space : Space) (written' : Option (List ℕ)) → WasCutOff task space written' → (words : List (List ℕ)) (left left' : Option (List ℕ)) → WasAsked words left left' task.options task.operations
+    → IsCutOff words left left' task.written written' space
+reports_front task space written' (h, cut) words left left' asked = inl (record {
+  options = task.options;
+  operations = task.operations;
+  history = h;
+  asked = asked;
+  run = cut.history;
+  text_front = cut.text_front;
+  space_left = cut.left;
+})
 
 -- the words of the command line, at each status
 
@@ -118,38 +168,21 @@ accepted_input ended left left' read operations other takes end limited accepted
     (judged_is left left' read takes end limited)
     (λ bytes is judged. (λ e. absurd (other e), λ no. absurd (no operations (subst (λ z. IsScriptOf z operations) (sym is) accepted))))
 
--- what is left by a run whose text was printed, whole or in part
+-- ---- results
 
-pub printed_whole : (words : List (List ℕ)) (options : RunOptions) → IsCommandLine words options → (left left' written written' : Option (List ℕ)) (read : List ℕ) (operations : List Op) (kept : List Reply) (space : Space) → Takes left left' read
-    → (length read ≤ 67108864 → IsAtEnd left') → IsScriptOf read operations → (h : List Item) × IsRun options.blocks operations h kept space
-    → Appends written written' (replies_text 1 operations kept) → IsDone words left left' written written' space
-printed_whole words options line left left' written written' read operations kept space takes end accepted (h, run) text =
-    let whole = read_whole left left' read operations takes end accepted in
-    record {
-      options = options;
-      operations = operations;
-      history = h;
-      accepted = line;
-      script = whole.1;
-      read = whole.0;
-      run = run.history;
-      text = subst (λ z. Appends written written' z) (text_of_run options.blocks operations h kept space run) text;
-      space_left = run.left;
-    }
+pub on_ok : {X E P Q : Type 0} → (P → Q) → (r : Result X E) → OnOk r P → OnOk r Q
+on_ok f (Ok x) p = f p
+on_ok f (Err e) p = tt
 
-pub printed_front : (words : List (List ℕ)) (options : RunOptions) → IsCommandLine words options → (left left' written written' : Option (List ℕ)) (read : List ℕ) (operations : List Op) (kept : List Reply) (space : Space) → Takes left left' read
-    → (length read ≤ 67108864 → IsAtEnd left') → IsScriptOf read operations → (h : List Item) × IsRun options.blocks operations h kept space
-    → AppendsFront written written' (replies_text 1 operations kept) → IsCutOff words left left' written written' space
-printed_front words options line left left' written written' read operations kept space takes end accepted (h, run) text =
+pub on_err : {X E P Q : Type 0} → (P → Q) → (r : Result X E) → OnErr r P → OnErr r Q
+on_err f (Ok x) p = tt
+on_err f (Err e) p = f p
+
+-- ---- what a run was asked
+
+-- the words and the input of a run whose script was read
+pub was_asked : (words : List (List ℕ)) (options : RunOptions) → IsCommandLine words options → (left left' : Option (List ℕ)) (read : List ℕ) (operations : List Op) → Takes left left' read
+    → (length read ≤ 67108864 → IsAtEnd left') → IsScriptOf read operations → WasAsked words left left' options operations
+was_asked words options line left left' read operations takes end accepted =
     let whole = read_whole left left' read operations takes end accepted in
-    record {
-      options = options;
-      operations = operations;
-      history = h;
-      accepted = line;
-      script = whole.1;
-      read = whole.0;
-      run = run.history;
-      text_front = subst (λ z. AppendsFront written written' z) (text_of_run options.blocks operations h kept space run) text;
-      space_left = run.left;
-    }
+    record { accepted = line; script = whole.1; read = whole.0 }

@@ -1,5 +1,7 @@
 pub mod Tally
 pub mod Script
 pub mod Run
-pub mod Watch
+pub mod Sights
+pub mod Again
+pub mod Course
 pub mod Outcome

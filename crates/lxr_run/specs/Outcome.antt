@@ -1,10 +1,12 @@
 -- What a caller is promised of each way in which a run ends.
-use Rattle.std.specs.Prelude.{ℕ, Option, List, IfSome, take}
+use Rattle.std.specs.Prelude.{ℕ, ◌⊎◌, Option, List, IfSome, take}
 use Rattle.lxr_graph.specs.declared.Op.{Op}
 use Rattle.lxr_graph.specs.History.{Item}
 use Rattle.lxr_stream.specs.Streams.{Appends, AppendsFront, IsAtEnd}
-use Rattle.lxr_text.specs.Replies.{thread_text}
-use Rattle.lxr_run.specs.Run.{IsHistoryOf, IsLeftBy}
+use Rattle.lxr_model.specs.Belongs.{IsHistorySoFar}
+use Rattle.lxr_watch.specs.Sights.{Sight}
+use Rattle.lxr_run.specs.Run.{IsHistoryOf, IsLeftBy, history_text, reports_text, run_terms, script_of}
+use Rattle.lxr_run.specs.Sights.{Sees}
 use Rattle.lxr_run.specs.Script.{IsScriptOf}
 use Rattle.lxr_run.specs.declared.Status.{Status}
 use Rattle.lxr_run.specs.declared.Status.TheVariants as status
@@ -38,29 +40,46 @@ IsRefusal status.ReadFault = Unit {0}
 IsRefusal status.WriteFault = ⊥
 IsRefusal status.Memory = ⊥
 
--- In the following, words are those of the command line, left is what is left of an input and written what an output
--- has, each before and after a run, and each where the stream tells it; the space is the one after the run.
+-- In the following, words are those of the command line, left is what is left of an input, written what an output has and
+-- seen what a watch has seen, each before and after a run, and each where it is told; the space is the one after the run.
 
--- a run that is done: the text of one history of the script's thread was written, and the space is left by it
-pub record IsDone (words : List (List ℕ)) (left left' written written' : Option (List ℕ)) (space : Space) : Type 0 where
-  pub options : RunOptions
-  pub operations : List Op
-  pub history : List Item
+-- a run's words and input: what was asked for, and that the input was read to its end
+pub record WasAsked (words : List (List ℕ)) (left left' : Option (List ℕ)) (options : RunOptions) (operations : List Op) : Type 0 where
   pub accepted : IsCommandLine words options
   pub script : IfSome left (λ bytes. IsScriptOf bytes operations)
   pub read : IsAtEnd left'
-  pub run : IsHistoryOf options.blocks operations history
-  pub text : Appends written written' (thread_text 1 history)
-  pub space_left : IsLeftBy options.blocks history space
 
--- a run whose text was cut off: a front of it was written, and the space is left by the whole history
-pub record IsCutOff (words : List (List ℕ)) (left left' written written' : Option (List ℕ)) (space : Space) : Type 0 where
+-- A run that is done: the text of one history of the script's thread was written, the space is left by it, and the watch has
+-- seen its pauses.
+pub record IsDone (words : List (List ℕ)) (left left' written written' : Option (List ℕ)) (seen seen' : Option (List Sight)) (space : Space) : Type 0 where
   pub options : RunOptions
   pub operations : List Op
   pub history : List Item
-  pub accepted : IsCommandLine words options
-  pub script : IfSome left (λ bytes. IsScriptOf bytes operations)
-  pub read : IsAtEnd left'
-  pub run : IsHistoryOf options.blocks operations history
-  pub text_front : AppendsFront written written' (thread_text 1 history)
-  pub space_left : IsLeftBy options.blocks history space
+  pub asked : WasAsked words left left' options operations
+  pub run : IsHistoryOf options operations history
+  pub text : Appends written written' (history_text history)
+  pub space_left : IsLeftBy options history space
+  pub sights : Sees history seen seen'
+
+-- A run that was cut off at a report: a front of the reports of a history so far was written, and the space is left by it.
+pub record IsCutOffEarly (words : List (List ℕ)) (left left' written written' : Option (List ℕ)) (space : Space) : Type 0 where
+  pub options : RunOptions
+  pub operations : List Op
+  pub history : List Item
+  pub asked : WasAsked words left left' options operations
+  pub run : IsHistorySoFar (run_terms options) (script_of operations) history
+  pub text_front : AppendsFront written written' (reports_text history)
+  pub space_left : IsLeftBy options history space
+
+-- A run that was cut off at its replies: a front of the text of a whole history was written, and the space is left by it.
+pub record IsCutOffLate (words : List (List ℕ)) (left left' written written' : Option (List ℕ)) (space : Space) : Type 0 where
+  pub options : RunOptions
+  pub operations : List Op
+  pub history : List Item
+  pub asked : WasAsked words left left' options operations
+  pub run : IsHistoryOf options operations history
+  pub text_front : AppendsFront written written' (history_text history)
+  pub space_left : IsLeftBy options history space
+
+abbrev pub IsCutOff : List (List ℕ) → Option (List ℕ) → Option (List ℕ) → Option (List ℕ) → Option (List ℕ) → Space → Type 0
+IsCutOff words left left' written written' space = IsCutOffEarly words left left' written written' space ⊎ IsCutOffLate words left left' written written' space

@@ -1,29 +1,22 @@
 //! The operations of a script that this stage accepts.
-ghost use Rattle.std.specs.Prelude.{◌≡◌, ◌↔◌, IfOk, IsTrue};
+ghost use Rattle.std.specs.Prelude.{◌≡◌, IfOk};
 ghost use Rattle.lxr_script.specs.Limits.{IsThread};
-ghost use Rattle.lxr_run.specs.Script.{IsNoScript, IsOnGraph, IsScriptOf};
+ghost use Rattle.lxr_run.specs.Script.{IsNoScript, IsScriptOf};
 
-use lxr_graph::{Op, Operations};
+use lxr_graph::Operations;
 use lxr_script::{ScriptError, read_script};
 use std::alloc::Global;
 
 /// Why there are no operations.
 #[derive(Clone, Copy, Debug)]
 pub(crate) enum NoOperations {
-    /// The bytes are no script of one thread without `pause` and `collect`.
+    /// The bytes are no script of one thread.
     Script,
     /// Memory ran out.
     Memory,
 }
 
-/// Whether an operation is one on registers and objects.
-fn is_on_graph(op: Op) -> bool
-    ensures { IsTrue result ↔ IsOnGraph op }
-{
-    !matches!(op, Op::Pause | Op::Collect | Op::End)
-}
-
-/// Reads the operations of a script of one thread that asks for no pause.
+/// Reads the operations of a script of one thread.
 pub(crate) fn read_operations(alloc: Global, bytes: &[u8]) -> Result<Operations, NoOperations>
     ensures script { IfOk result (λ operations. IsScriptOf bytes.now operations.items) }
     ensures limits { IfOk result (λ operations. IsThread operations.items) }
@@ -38,10 +31,5 @@ pub(crate) fn read_operations(alloc: Global, bytes: &[u8]) -> Result<Operations,
         return Err(NoOperations::Script);
     }
     let mut threads = script.operations;
-    match threads.pop() {
-        Some(operations) if operations.as_slice().iter().all(|op| is_on_graph(*op)) => {
-            Ok(operations)
-        }
-        _ => Err(NoOperations::Script),
-    }
+    threads.pop().ok_or(NoOperations::Script)
 }

@@ -18,11 +18,14 @@ Numbers = List (Option ℕ)
 -- the option that a word names
 abbrev pub option_named : Text → Option NumberOption
 option_named word =
-    if bytes_eq word (codes "--blocks") then Some (record { index = 0; least = 1; greatest = 1024 }) else None
+    if bytes_eq word (codes "--blocks") then Some (record { index = 0; least = 1; greatest = 1024 })
+    else if bytes_eq word (codes "--every") then Some (record { index = 1; least = 1; greatest = 1048576 })
+    else if bytes_eq word (codes "--log") then Some (record { index = 2; least = 1; greatest = 65536 })
+    else None
 
 -- no option is given
 abbrev pub none_given : Numbers
-none_given = replicate 1 None
+none_given = replicate 3 None
 
 -- the number of the option at an index, or a default where it isn't given
 abbrev pub number_or : ℕ → ℕ → Numbers → ℕ
@@ -30,7 +33,7 @@ number_or index default numbers = unwrap_or (slice_index_or numbers index None) 
 
 -- what these numbers ask for
 abbrev pub options_from : Numbers → RunOptions
-options_from numbers = record { blocks = number_or 0 64 numbers }
+options_from numbers = record { blocks = number_or 0 64 numbers; every = number_or 1 1024 numbers; log = number_or 2 1024 numbers }
 
 -- ---- the words
 
@@ -62,6 +65,8 @@ pub record IsCommandLine (words : List Text) (options : RunOptions) : Type 0 whe
 -- each option has a number in its range
 pub record AreInRange (options : RunOptions) : Type 0 where
   pub blocks : (1 ≤ options.blocks) × (options.blocks ≤ 1024)
+  pub every : (1 ≤ options.every) × (options.every ≤ 1048576)
+  pub log : (1 ≤ options.log) × (options.log ≤ 65536)
 
 -- ---- the words as they are read, from the front
 

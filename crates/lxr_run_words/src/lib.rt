@@ -10,13 +10,17 @@ ghost use Rattle.lxr_run_words.specs.CommandLines.{AreInRange, IsCommandLine, nu
 use lxr_script::number_of;
 
 /// How many options there are.
-const OPTIONS: usize = 1;
+const OPTIONS: usize = 3;
 
 /// What the words of the command line ask for.
 #[derive(Clone, Copy, Debug, PartialEq, Eq)]
 pub struct RunOptions {
     /// The blocks of the heap, 1 to 1,024.
     pub blocks: u32,
+    /// After how many operations since the last pause the next one is due, 1 to 1,048,576.
+    pub every: u32,
+    /// The entries of a log, 1 to 65,536.
+    pub log: u32,
 }
 
 /// A row of the table of options.
@@ -40,6 +44,16 @@ fn option_of(word: &str) -> Option<NumberOption>
             index: 0,
             least: 1,
             greatest: 1024,
+        }),
+        "--every" => Some(NumberOption {
+            index: 1,
+            least: 1,
+            greatest: 1_048_576,
+        }),
+        "--log" => Some(NumberOption {
+            index: 2,
+            least: 1,
+            greatest: 65_536,
         }),
         _ => None,
     }
@@ -98,5 +112,7 @@ pub fn read_options(words: &[&str]) -> Option<RunOptions>
     let numbers = read_numbers(settings)?;
     Some(RunOptions {
         blocks: numbers[0].unwrap_or(64),
+        every: numbers[1].unwrap_or(1024),
+        log: numbers[2].unwrap_or(1024),
     })
 }

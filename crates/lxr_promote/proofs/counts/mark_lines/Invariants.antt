@@ -1,5 +1,6 @@
 use Rattle.lxr_image.specs.Spaces.{IsSpace, Turns, tables_of}
-use Rattle.lxr_promote.specs.Promotion.{marked_between, next_line}
+use Rattle.lxr_between.specs.Lines.{next_line}
+use Rattle.lxr_promote.specs.Promotion.{marked_between}
 use Rattle.lxr_promote.proofs.counts.mark_lines.Given as goal
 
 abbrev pub invariant-loop-line : goal.invariant-loop-line

@@ -1,6 +1,7 @@
 use Rattle.std.proofs.Common.{◌≡◌, ℕ, ◌+◌}
 use Rattle.lxr_layout.specs.declared.Name.{Name}
-use Rattle.lxr_reclaim.specs.Sinking.{Stage, Releasing, Reaches, Keeps, held_by, occurrences_from, to_do}
+use Rattle.lxr_between.specs.Counting.{occurrences_from}
+use Rattle.lxr_reclaim.specs.Sinking.{Stage, Releasing, Reaches, Keeps, held_by, to_do}
 use Rattle.lxr_reclaim.proofs.finish.release.Given as goal
 
 abbrev pub invariant-loop-i : goal.invariant-loop-i

@@ -1,5 +1,6 @@
 use Rattle.lxr_image.specs.Spaces.{Turns, tables_of}
-use Rattle.lxr_reclaim.specs.Wipe.{wiped, next_line}
+use Rattle.lxr_between.specs.Lines.{next_line}
+use Rattle.lxr_reclaim.specs.Wipe.{wiped}
 use Rattle.lxr_reclaim.proofs.reclaim.clear_line_marks.Given as goal
 
 abbrev pub invariant-loop-line : goal.invariant-loop-line

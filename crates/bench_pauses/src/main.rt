@@ -1,0 +1,168 @@
+//! How long a pause takes, by what there is to do at it.
+//!
+//! A run does work on a list of objects that the world holds, and pauses after each piece of work. `--time` prints the
+//! microseconds of each pause, the least of several runs, for lists of several lengths and heaps of several sizes. With no
+//! word the program does one short run and prints what its pauses found, which is always the same.
+#![tactic(auto)]
+
+mod watch;
+mod work;
+
+use anyhow::{Result, ensure};
+use lxr_image::Space;
+use lxr_run::{Open, Status, lxr};
+use lxr_stream::{Plenty, Whole};
+use std::env;
+use std::rt::Clock;
+use std::thread::Threads;
+use watch::{Clocked, Pause};
+use work::{Work, script_of};
+
+/// How often a run is done when it is timed.
+const ROUNDS: u32 = 5;
+
+/// All kinds of work, each where it finds what the one before it has left.
+const BUSY: [Work; 7] = [
+    Work::Promote,
+    Work::Nothing,
+    Work::Log,
+    Work::Lower,
+    Work::LetGo,
+    Work::Kill,
+    Work::Nothing,
+];
+
+/// A run: so many blocks, and a list of so many objects on which this work is done.
+#[derive(Clone, Copy)]
+struct Run {
+    blocks: &'static str,
+    objects: u32,
+    works: &'static [Work],
+}
+
+/// A run of all kinds of work.
+fn busy(blocks: &'static str, objects: u32) -> Run {
+    Run {
+        blocks,
+        objects,
+        works: &BUSY,
+    }
+}
+
+/// A run of a pause in an empty heap.
+fn idle(blocks: &'static str) -> Run {
+    Run {
+        blocks,
+        objects: 0,
+        works: &[Work::Nothing],
+    }
+}
+
+fn main(rt: HostRuntime) -> Result<()> {
+    let mut timed = false;
+    for word in env::args(&rt)? {
+        timed |= word.as_str() == "--time";
+    }
+    if timed {
+        time_all(&rt)
+    } else {
+        tell(&rt, busy("1", 10))
+    }
+}
+
+/// Times all runs, and prints a table with a line for each pause.
+fn time_all<R: AllocGlobal + Clock + Print + Threads + Sync>(rt: &R) -> Result<()> {
+    println!(rt;
+        "{:<8} {:>6} {:>8} {:>14} {:>16}",
+        "work", "blocks", "objects", "microseconds", "nanoseconds each"
+    )?;
+    for run in [
+        idle("1"),
+        idle("64"),
+        idle("256"),
+        idle("1024"),
+        busy("64", 1_000),
+        busy("64", 10_000),
+        busy("64", 100_000),
+        busy("1024", 100_000),
+    ] {
+        time(rt, run)?;
+    }
+    Ok(())
+}
+
+/// Does a run several times, and prints the least time of each of its pauses.
+fn time<R: AllocGlobal + Clock + Print + Threads + Sync>(rt: &R, run: Run) -> Result<()> {
+    let best = best_of(rt, run)?;
+    for (work, pause) in run.works.iter().zip(&best) {
+        print_time(rt, run, *work, pause.nanos)?;
+    }
+    Ok(())
+}
+
+/// The pauses of a run, each with its least time of several runs.
+fn best_of<R: AllocGlobal + Clock + Threads + Sync>(rt: &R, run: Run) -> Result<Vec<Pause>> {
+    let mut best = pauses_of(rt, run)?;
+    for _ in 1..ROUNDS {
+        let again = pauses_of(rt, run)?;
+        keep_least(&mut best, &again);
+    }
+    Ok(best)
+}
+
+/// Lowers the time of each pause to that of the same pause of another run, where that is less.
+fn keep_least(best: &mut [Pause], again: &[Pause]) {
+    for (pause, other) in best.iter_mut().zip(again) {
+        pause.nanos = pause.nanos.min(other.nanos);
+    }
+}
+
+/// Prints how long a pause took, and how long that is for each unit of its work, where it has units.
+fn print_time(rt: &impl Print, run: Run, work: Work, nanos: u128) -> Result<()> {
+    let name = work.name();
+    let micros = nanos / 1000;
+    let tenths = nanos % 1000 / 100;
+    print!(rt;
+        "{name:<8} {:>6} {:>8} {micros:>12}.{tenths}",
+        run.blocks, run.objects
+    )?;
+    match work.units(run.objects) {
+        0 => println!(rt; "")?,
+        units => println!(rt; " {:>16}", nanos / u128::from(units))?,
+    }
+    Ok(())
+}
+
+/// Does a run, and prints what each of its pauses found.
+fn tell<R: AllocGlobal + Clock + Print + Threads + Sync>(rt: &R, run: Run) -> Result<()> {
+    let pauses = pauses_of(rt, run)?;
+    for (work, pause) in run.works.iter().zip(&pauses) {
+        let name = work.name();
+        println!(rt;
+            "{name}: {} logged, {} promoted, {} dead",
+            pause.logged, pause.promoted, pause.dead
+        )?;
+    }
+    Ok(())
+}
+
+/// Does a run, and answers what was seen of its pauses.
+fn pauses_of<R: AllocGlobal + Clock + Threads + Sync>(rt: &R, run: Run) -> Result<Vec<Pause>> {
+    let script = script_of(rt.alloc(), run.works, run.objects)?;
+    let mut watch = Clocked::new(rt.alloc(), rt, run.works.len())?;
+    let status = lxr(
+        rt,
+        rt.alloc(),
+        &[
+            "run", "--blocks", run.blocks, "--log", "65536", "--every", "1048576",
+        ],
+        &mut Whole::new(script.as_bytes()),
+        &mut Plenty::new(rt.alloc()),
+        &mut Plenty::new(rt.alloc()),
+        &Open,
+        &mut watch,
+        &mut Space::empty(rt.alloc()),
+    );
+    ensure!(status == Status::Done, "the run ended with {status:?}");
+    Ok(watch.pauses(rt.alloc())?)
+}

@@ -1,0 +1,5 @@
+pub mod NameLemmas
+pub mod EntryLemmas
+pub mod PlaceLemmas
+pub mod FrameLemmas
+pub mod OpeningLemmas

@@ -1,7 +1,0 @@
-pub mod StepLemmas
-pub mod StandingLemmas
-pub mod ChangeLemmas
-pub mod PlacingLemmas
-pub mod DoesLemmas
-pub mod MakingLemmas
-pub mod OpeningLemmas
