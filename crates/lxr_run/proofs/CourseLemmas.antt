@@ -24,7 +24,7 @@ use Rattle.lxr_between.specs.Running.{IsRunning}
 use Rattle.lxr_acting.specs.Acting.{IsCallOf, made_by}
 use Rattle.lxr_acting.specs.declared.acting.Acted.TheVariants as acted
 use Rattle.lxr_acting.proofs.CountedLemmas.{calls_counted}
-use Rattle.lxr_acting.proofs.RunningLemmas.{in_left}
+use Rattle.lxr_between.proofs.NameLemmas.{in_first}
 use Rattle.lxr_watch.specs.Sights.{Sight}
 use Rattle.lxr_run.specs.Run.{run_terms}
 use Rattle.lxr_run.specs.Tally.{counted}
@@ -55,7 +55,7 @@ come_by_call task before after written seen h g g' o r come reply call runs limi
   sights = come.sights;
   kept = λ n member.
       let was : IsTrue (has g.moment.unreclaimed n) = subst (λ (m : Moment). IsTrue (has m.unreclaimed n)) call.moment member in
-      call.at n (in_left g.moment.unreclaimed g.moment.made n was) ∙ come.kept n was;
+      call.at n (in_first g.moment.unreclaimed g.moment.made n was) ∙ come.kept n was;
 }
 
 -- a `new` was refused, which changes nothing
