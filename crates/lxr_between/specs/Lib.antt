@@ -6,4 +6,3 @@ pub mod Tracing
 pub mod Between
 pub mod Listed
 pub mod Raised
-pub mod Running

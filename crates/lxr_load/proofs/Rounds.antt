@@ -6,16 +6,8 @@ use Rattle.std.proofs.lemmas.List.Elements.{All-from_recursion}
 use Rattle.std.specs.List.{AllByRecursion}
 use Rattle.lxr_graph.specs.declared.Op.{Op}
 use Rattle.lxr_script.specs.Limits.{IsOperation, IsThread, IsScript}
-use Rattle.lxr_load.specs.Load.{draw, load, round, rounds, step, threads_from}
-
-add_wraps : (a b m : ℕ) → 0 < m → (a % m + b) % m ≡ (a + b) % m
-add_wraps a b m some =
-    let again : a % m % m ≡ a % m = mod-eq_of_lt (mod-lt a some) in
-    add-mod (a % m) b m ∙ ap (λ (r : ℕ). (r + b % m) % m) again ∙ sym (add-mod a b m)
-
-pub step_wraps : (x : ℕ) → (x * 6364136223846793005 % 18446744073709551616 + 1442695040888963407) % 18446744073709551616 ≡ step x
-unfolding step
-step_wraps x = add_wraps (x * 6364136223846793005) 1442695040888963407 18446744073709551616 (lit< tt)
+use Rattle.lxr_draws.specs.Draws.{draw, step}
+use Rattle.lxr_load.specs.Load.{load, round, rounds, threads_from}
 
 -- one more round
 pub goes_on : (front made : List Op) (n done t x d i v : ℕ) (total : List Op) → done < n → d ≡ step x → i ≡ step d → v ≡ step i → made ≡ round t (draw d % 30) (draw i % 4) (draw v)

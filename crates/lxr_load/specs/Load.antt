@@ -1,16 +1,9 @@
--- The script that a seed makes: a generator of numbers, rounds of ten operations, and threads of rounds.
-use Rattle.std.specs.Prelude.{ℕ, zero, suc, ◌+◌, ◌-◌, ◌*◌, ◌/◌, ◌%◌, ◌^◌, List, [], ◌∷◌, ◌++◌}
+-- The script that a seed makes: rounds of ten operations, and threads of rounds.
+use Rattle.std.specs.Prelude.{ℕ, zero, suc, ◌+◌, ◌-◌, ◌*◌, ◌%◌, ◌^◌, List, [], ◌∷◌, ◌++◌}
 use Rattle.lxr_layout.specs.declared.Shape.{Shape}
 use Rattle.lxr_graph.specs.declared.Op.{Op}
 use Rattle.lxr_graph.specs.declared.Op.TheVariants as op
-
--- the generator's step, modulo 2^64
-unfoldable pub step : ℕ → ℕ
-step x = (x * 6364136223846793005 + 1442695040888963407) % 2 ^ 64
-
--- the number that is drawn where a step gave x
-unfoldable pub draw : ℕ → ℕ
-draw x = x / 2 ^ 33
+use Rattle.lxr_draws.specs.Draws.{draw, step}
 
 abbrev pub shape : ℕ → ℕ → Shape
 shape refs values = record { refs = refs; values = values }

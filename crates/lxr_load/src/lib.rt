@@ -8,31 +8,27 @@
 ghost use Rattle.std.specs.Prelude.{◌≡◌, ◌<◌, ◌≤◌, IfOk};
 ghost use Rattle.lxr_script.specs.Limits.{IsScript, IsThread};
 ghost use Rattle.lxr_script.specs.Reading.{threads_in};
+ghost use Rattle.lxr_draws.specs.Draws.{draw as drawn, step};
 ghost use Rattle.lxr_load.specs.Load as load;
-ghost use Rattle.lxr_load.specs.Load.{draw, step};
 
+use lxr_draws::draw;
 use lxr_graph::{Op, Operations};
 use lxr_layout::Shape;
 use lxr_script::{Lists, Script};
 use std::alloc::{AllocError, Global};
 
-/// A linear congruential generator of 64 bits, of which a draw gives the upper 31.
+/// The generator of one thread's numbers.
 #[derive(Drop)]
 struct Generator {
     state: u64,
 }
 
 impl Generator {
-    #[tactic(auto, using(crate::proofs::Rounds::step_wraps), unfolding(crate::specs::Load::draw))]
     fn draw(&mut self) -> u32
         ensures state { self.new.state ≡ step self.old.state }
-        ensures drawn { result ≡ draw self.new.state }
+        ensures drawn { result ≡ drawn self.new.state }
     {
-        self.state = self
-            .state
-            .wrapping_mul(6_364_136_223_846_793_005)
-            .wrapping_add(1_442_695_040_888_963_407);
-        (self.state >> 33) as u32
+        draw(&mut self.state)
     }
 }
 

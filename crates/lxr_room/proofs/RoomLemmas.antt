@@ -32,8 +32,7 @@ use Rattle.lxr_between.specs.Meaning.{Meaning, members}
 use Rattle.lxr_between.specs.Standing.{entry_of}
 use Rattle.lxr_between.specs.Lines.{ChosenNeedTrace, Covers, HasBlocks, IsTakenBy, OutsAreTaken, chosen_count, is_chosen}
 use Rattle.lxr_between.specs.Between.{HoldsMoment, IsBetween}
-use Rattle.lxr_between.specs.Running.{IsRunning}
-use Rattle.lxr_room.specs.Room.{BetweenRuns, HasWorld, LogIsWritten, PausedFullLeavesNoRun, RoomlessBlocksAreTaken}
+use Rattle.lxr_room.specs.Room.{HasWorld, LogIsWritten, PausedFullLeavesNoRun, RoomlessBlocksAreTaken}
 use Rattle.lxr_room.proofs.TakenLines.{all_or_one, line_taken}
 
 -- ---- Chosen blocks
@@ -128,24 +127,24 @@ member_takes s g holds outs =
     line_taken (tables_of s) s.limits.blocks g.moment.state.graph g.at g.moment.unreclaimed (members g.moment) holds.image.image
     (λ n h. list_any-append (same_name n) g.moment.unreclaimed g.moment.made ∙ or_left (has g.moment.unreclaimed n) (has g.moment.made n) h) holds.marks outs
 
-block_is_taken : (s : Space) (g : Meaning) (shape : Shape) → IsRunning s g → FitsShape shape → IsFull s shape → (b : ℕ) → b < s.limits.blocks
+block_is_taken : (s : Space) (g : Meaning) (shape : Shape) → IsBetween s g → g.moment.trace ≡ None → FitsShape shape → IsFull s shape → (b : ℕ) → b < s.limits.blocks
     → (n : Name) × IsTrue (has (members g.moment) n) × (granule_of (g.at n) / 2048 ≡ b)
-block_is_taken s g shape runs fits full b below =
-    let holds = runs.door.holds in
+block_is_taken s g shape between no_trace fits full b below =
+    let holds = between.door.holds in
     elim (all_or_one (λ i. IsTrue (free_in (tables_of s) b i)) 128 (told_free (tables_of s) b)) [
       | inl free ↦ absurd (full.lines (record { block = b; line = 0; lines = 128 })
           (record {
             run = record { block = below; within = omega arith; free = λ i low high. free i (omega (arith, high)) };
-            outside = none_chosen (tables_of s) s.limits.blocks g.moment.trace b holds.blocks runs.no_trace below;
+            outside = none_chosen (tables_of s) s.limits.blocks g.moment.trace b holds.blocks no_trace below;
           })
           (whole_is_long shape fits))
       | inr x ↦ begins_in_block (tables_of s) s.limits.blocks g.moment.state.graph g.at (members g.moment) b x.0 holds.image.image x.1
-          (member_takes s g holds runs.outs (128 * b + x.0) (false_from_ne_true (free_in (tables_of s) b x.0) x.2))
+          (member_takes s g holds between.outs (128 * b + x.0) (false_from_ne_true (free_in (tables_of s) b x.0) x.2))
     ]
 
 pub roomless_blocks_are_taken : RoomlessBlocksAreTaken
-roomless_blocks_are_taken s g shape runs fits full =
-    let many = pigeonhole (λ n. granule_of (g.at n) / 2048) (members g.moment) s.limits.blocks (block_is_taken s g shape runs fits full) in
+roomless_blocks_are_taken s g shape between no_trace fits full =
+    let many = pigeonhole (λ n. granule_of (g.at n) / 2048) (members g.moment) s.limits.blocks (block_is_taken s g shape between no_trace fits full) in
     let sum = length-append g.moment.unreclaimed g.moment.made in
     omega (arith, many, sum)
 
@@ -211,17 +210,7 @@ paused_full_leaves_no_run s g shape between none_made no_trace world full =
     })
     (λ q run long. full.lines q (record { run = run; outside = none_chosen (tables_of s) s.limits.blocks g.moment.trace q.block holds.blocks no_trace run.block }) long)
 
--- ---- after a pause, and at its door
-
-pub between_runs : BetweenRuns
-between_runs s g between no_trace one_thread rows = record {
-  door = between.door;
-  undecremented = between.undecremented;
-  outs = between.outs;
-  no_trace = no_trace;
-  one_thread = one_thread;
-  rows = rows;
-}
+-- ---- at a pause's door
 
 pub log_is_written : LogIsWritten
 log_is_written s g door =

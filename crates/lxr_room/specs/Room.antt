@@ -14,11 +14,10 @@ use Rattle.lxr_model.specs.Full.{LeaveNoRun}
 use Rattle.lxr_counting.specs.Following.{HasShapeOf}
 use Rattle.lxr_between.specs.Meaning.{Meaning}
 use Rattle.lxr_between.specs.Between.{IsAtDoor, IsBetween}
-use Rattle.lxr_between.specs.Running.{IsRunning}
 
--- Where no room is left while one thread runs, each block has an object. So objects are at least as many as blocks.
+-- Where no room is left between epochs, with no trace, each block has an object. So objects are at least as many as blocks.
 abbrev pub RoomlessBlocksAreTaken : Type 0
-RoomlessBlocksAreTaken = (s : Space) (g : Meaning) (shape : Shape) → IsRunning s g → FitsShape shape → IsFull s shape
+RoomlessBlocksAreTaken = (s : Space) (g : Meaning) (shape : Shape) → IsBetween s g → g.moment.trace ≡ None → FitsShape shape → IsFull s shape
     → s.limits.blocks ≤ length g.moment.unreclaimed + length g.moment.made
 
 -- the world has the 64 references of the opening, and no data
@@ -34,10 +33,6 @@ abbrev pub PausedFullLeavesNoRun : Type 0
 PausedFullLeavesNoRun = (s : Space) (g : Meaning) (shape : Shape) → IsBetween s g → g.moment.made ≡ [] → g.moment.trace ≡ None
     → HasWorld g.moment.state.graph → IsFull s shape
     → LeaveNoRun g.moment.state.graph (without g.moment.unreclaimed (world_name ∷ [])) s.limits.blocks (line_count shape)
-
--- between epochs, one thread may run where no trace does
-abbrev pub BetweenRuns : Type 0
-BetweenRuns = (s : Space) (g : Meaning) → IsBetween s g → g.moment.trace ≡ None → s.limits.threads ≡ 1 → length g.moment.state.graph ≡ 2 → IsRunning s g
 
 -- the log has as many entries as fields were stored to since the last pause
 abbrev pub LogIsWritten : Type 0

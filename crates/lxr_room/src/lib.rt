@@ -8,9 +8,9 @@
 //! nothing: the contract of each is a law.
 #![tactic(auto)]
 
-ghost use Rattle.lxr_room.specs.Room.{BetweenRuns, LogIsWritten, PausedFullLeavesNoRun, RoomlessBlocksAreTaken, WorldKeepsShape};
+ghost use Rattle.lxr_room.specs.Room.{LogIsWritten, PausedFullLeavesNoRun, RoomlessBlocksAreTaken, WorldKeepsShape};
 
-/// Where no room is left while one thread runs, there are at least as many objects as blocks.
+/// Where no room is left between epochs, with no trace, there are at least as many objects as blocks.
 pub fn roomless_blocks_are_taken()
     ensures { RoomlessBlocksAreTaken }
 {}
@@ -23,11 +23,6 @@ pub fn paused_full_leaves_no_run()
 /// The world has 64 references and no data after each legal history.
 pub fn world_keeps_shape()
     ensures { WorldKeepsShape }
-{}
-
-/// Right after a pause, one thread may run where no trace does.
-pub fn between_runs()
-    ensures { BetweenRuns }
 {}
 
 /// At a pause's door the log has as many entries as fields were stored to since the last pause.

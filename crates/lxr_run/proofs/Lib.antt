@@ -1,10 +1,5 @@
-pub mod HistoryLemmas
-pub mod TallyLemmas
-pub mod SightLemmas
-pub mod SpaceLemmas
-pub mod PauseLemmas
-pub mod CourseLemmas
-pub mod AgainLemmas
-pub mod TurnLemmas
-pub mod OutcomeLemmas
 pub mod OpeningLemmas
+pub mod OutcomeLemmas
+pub mod ServeLemmas
+pub mod GoingLemmas
+pub mod PrintLemmas

@@ -1,7 +1,6 @@
-pub mod Tally
 pub mod Script
-pub mod Run
-pub mod Sights
-pub mod Again
-pub mod Course
+pub mod Opening
+pub mod Serving
+pub mod Going
+pub mod Printing
 pub mod Outcome

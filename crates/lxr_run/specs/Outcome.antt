@@ -1,12 +1,11 @@
 -- What a caller is promised of each way in which a run ends.
-use Rattle.std.specs.Prelude.{ℕ, ◌⊎◌, Option, List, IfSome, take}
-use Rattle.lxr_graph.specs.declared.Op.{Op}
+use Rattle.std.specs.Prelude.{ℕ, ◌⊎◌, Option, List, IfSome, length, take}
 use Rattle.lxr_graph.specs.History.{Item}
 use Rattle.lxr_stream.specs.Streams.{Appends, AppendsFront, IsAtEnd}
-use Rattle.lxr_model.specs.Belongs.{IsHistorySoFar}
+use Rattle.lxr_model.specs.Belongs.{IsHistorySoFar, Script}
 use Rattle.lxr_watch.specs.Sights.{Sight}
-use Rattle.lxr_run.specs.Run.{IsHistoryOf, IsLeftBy, history_text, reports_text, run_terms, script_of}
-use Rattle.lxr_run.specs.Sights.{Sees}
+use Rattle.lxr_run_history.specs.Run.{IsHistoryOf, IsLeftBy, history_text, reports_text, script_terms}
+use Rattle.lxr_run_history.specs.Sights.{Sees}
 use Rattle.lxr_run.specs.Script.{IsScriptOf}
 use Rattle.lxr_run.specs.declared.Status.{Status}
 use Rattle.lxr_run.specs.declared.Status.TheVariants as status
@@ -44,42 +43,42 @@ IsRefusal status.Memory = ⊥
 -- seen what a watch has seen, each before and after a run, and each where it is told; the space is the one after the run.
 
 -- a run's words and input: what was asked for, and that the input was read to its end
-pub record WasAsked (words : List (List ℕ)) (left left' : Option (List ℕ)) (options : RunOptions) (operations : List Op) : Type 0 where
+pub record WasAsked (words : List (List ℕ)) (left left' : Option (List ℕ)) (options : RunOptions) (script : Script) : Type 0 where
   pub accepted : IsCommandLine words options
-  pub script : IfSome left (λ bytes. IsScriptOf bytes operations)
+  pub input : IfSome left (λ bytes. IsScriptOf bytes script)
   pub read : IsAtEnd left'
 
--- A run that is done: the text of one history of the script's thread was written, the space is left by it, and the watch has
+-- A run that is done: the text of one history of the script was written, the space is left by it, and the watch has
 -- seen its pauses.
 pub record IsDone (words : List (List ℕ)) (left left' written written' : Option (List ℕ)) (seen seen' : Option (List Sight)) (space : Space) : Type 0 where
   pub options : RunOptions
-  pub operations : List Op
+  pub script : Script
   pub history : List Item
-  pub asked : WasAsked words left left' options operations
-  pub run : IsHistoryOf options operations history
-  pub text : Appends written written' (history_text history)
-  pub space_left : IsLeftBy options history space
-  pub sights : Sees history seen seen'
+  pub asked : WasAsked words left left' options script
+  pub run : IsHistoryOf options script history
+  pub text : Appends written written' (history_text (length script) history)
+  pub space_left : IsLeftBy options (length script) history space
+  pub sights : Sees (length script) history seen seen'
 
 -- A run that was cut off at a report: a front of the reports of a history so far was written, and the space is left by it.
 pub record IsCutOffEarly (words : List (List ℕ)) (left left' written written' : Option (List ℕ)) (space : Space) : Type 0 where
   pub options : RunOptions
-  pub operations : List Op
+  pub script : Script
   pub history : List Item
-  pub asked : WasAsked words left left' options operations
-  pub run : IsHistorySoFar (run_terms options) (script_of operations) history
+  pub asked : WasAsked words left left' options script
+  pub run : IsHistorySoFar (script_terms options script) script history
   pub text_front : AppendsFront written written' (reports_text history)
-  pub space_left : IsLeftBy options history space
+  pub space_left : IsLeftBy options (length script) history space
 
 -- A run that was cut off at its replies: a front of the text of a whole history was written, and the space is left by it.
 pub record IsCutOffLate (words : List (List ℕ)) (left left' written written' : Option (List ℕ)) (space : Space) : Type 0 where
   pub options : RunOptions
-  pub operations : List Op
+  pub script : Script
   pub history : List Item
-  pub asked : WasAsked words left left' options operations
-  pub run : IsHistoryOf options operations history
-  pub text_front : AppendsFront written written' (history_text history)
-  pub space_left : IsLeftBy options history space
+  pub asked : WasAsked words left left' options script
+  pub run : IsHistoryOf options script history
+  pub text_front : AppendsFront written written' (history_text (length script) history)
+  pub space_left : IsLeftBy options (length script) history space
 
 abbrev pub IsCutOff : List (List ℕ) → Option (List ℕ) → Option (List ℕ) → Option (List ℕ) → Option (List ℕ) → Space → Type 0
 IsCutOff words left left' written written' space = IsCutOffEarly words left left' written written' space ⊎ IsCutOffLate words left left' written written' space

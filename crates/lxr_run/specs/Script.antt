@@ -1,12 +1,12 @@
--- The scripts of this stage: those of one thread.
-use Rattle.std.specs.Prelude.{◌≡◌, ℕ, List, [], ◌∷◌, Ok}
-use Rattle.lxr_graph.specs.declared.Op.{Op}
+-- The scripts of this stage: all that the grammar accepts.
+use Rattle.std.specs.Prelude.{◌≡◌, ℕ, List, Ok}
+use Rattle.lxr_model.specs.Belongs.{Script}
 use Rattle.lxr_script.specs.Reading.{reading_of}
 
--- bytes are a script of one thread with these operations
-abbrev pub IsScriptOf : List ℕ → List Op → Type 0
-IsScriptOf bytes operations = reading_of bytes ≡ Ok (operations ∷ [])
+-- bytes are a script with these operations of each thread
+abbrev pub IsScriptOf : List ℕ → Script → Type 0
+IsScriptOf bytes script = reading_of bytes ≡ Ok script
 
--- bytes are no such script
+-- bytes are no script
 abbrev pub IsNoScript : List ℕ → Type 0
-IsNoScript bytes = (operations : List Op) → ¬ IsScriptOf bytes operations
+IsNoScript bytes = (script : Script) → ¬ IsScriptOf bytes script

@@ -1,44 +1,41 @@
-//! The top call: from the words of a command line and the bytes of a script to the replies of its thread.
+//! The top call: from the words of a command line and the bytes of a script to the replies of its threads.
 //!
-//! One loop does the operations of one thread directly on a space of blocks and lines, and makes pauses between them, which
-//! reclaim by reference counts. The contract of [`lxr`] speaks of the model alone: the text that was written is that of one
-//! legal history of the script, and the space is what that history leaves.
+//! The threads of a script go on in epochs, in which a generator draws which of them makes the next step. Between two epochs
+//! stands a pause, which reclaims by reference counts. The contract of [`lxr`] speaks of the model alone: the text that was
+//! written is that of one legal history of the script, and the space is what that history leaves.
 #![tactic(auto)]
 
-ghost use Rattle.std.specs.Prelude.{◌≡◌, ℕ, ◌≤◌, ◌⊎◌, ◌↔◌, [], IfOk, IfSome, List, OnErr, OnOk, Option, length, map};
-ghost use Rattle.lxr_graph.specs.declared.Op.{Op as OpOf};
-ghost use Rattle.lxr_script.specs.Limits.{IsThread};
+ghost use Rattle.std.specs.Prelude.{◌≡◌, ℕ, ◌⊎◌, ◌↔◌, [], IfSome, List, OnErr, OnOk, Option, map};
+ghost use Rattle.lxr_model.specs.Belongs.{Script};
 ghost use Rattle.lxr_stream.specs.Streams.{Rose, TakesSome};
-ghost use Rattle.lxr_run_words.specs.CommandLines.{AreInRange};
-ghost use Rattle.lxr_watch.specs.Sights.{Sight};
-ghost use Rattle.lxr_run.specs.Course.{IsAmid, Task};
+ghost use Rattle.lxr_run.specs.Opening.{HasBegun};
 ghost use Rattle.lxr_run.specs.Outcome.{IsCutOff, IsDone, IsRefusal, IsRunCommand, WasAsked, WasJudged, judged_part};
 ghost use Rattle.lxr_run.specs.Script.{IsNoScript};
+ghost use Rattle.lxr_run_words.specs.declared.RunOptions.{RunOptions as OptionsOf};
 
-mod edges;
+mod opening;
+mod pauses;
+mod printing;
 mod run;
 mod script;
-mod tally;
+mod serving;
+mod waiting;
 
-pub use edges::{Gate, Open};
-use lxr_acting::opened_runs;
-use lxr_graph::{Operations, Replies};
+use lxr_core::AnyActor;
 use lxr_image::Space;
-use lxr_layout::Limits;
-use lxr_run_words::{RunOptions, read_options};
+pub use lxr_replay::{Gate, Open};
+use lxr_run_words::read_options;
 use lxr_stream::{ReadError, Sink, Source, WriteError, read_all};
-use lxr_text::print_replies;
 pub use lxr_watch::{Seen, Unseen, Watch};
-use run::run_thread;
-use script::{NoOperations, read_operations};
-use std::alloc::{AllocError, Global};
+use opening::open;
+use printing::print_threads;
+use run::run_threads;
+use script::{NoScript, read_threads};
+use std::alloc::Global;
 use std::thread::Threads;
 
 /// A script has at most so many bytes.
 const MOST_BYTES: usize = 67_108_864;
-
-/// The entries of the remembered set. Nothing is entered yet.
-const REMEMBER: u32 = 4096;
 
 /// How a run ended. Its number is the program's exit status.
 #[derive(Clone, Copy, Debug, PartialEq, Eq)]
@@ -57,73 +54,36 @@ pub enum Status {
     Memory = 5,
 }
 
-/// Opens the space for one thread, with room for so many replies.
-fn open(
-    alloc: Global,
-    space: &mut Space,
-    options: RunOptions,
-    replies: usize,
-) -> Result<Replies, AllocError>
-    requires empty { space.old.words ≡ [] }
-    requires options { AreInRange options }
-    ensures amid { OnOk result ((operations : List OpOf) (written : Option (List ℕ)) (seen : Option (List Sight))
-        → let task : Task = record { options = options; operations = operations; written = written; seen = seen } in IsAmid task space.new written seen 0 0 []) }
-    ensures none { IfOk result (λ kept. kept.items ≡ []) }
-    ensures room { IfOk result (λ kept. replies ≤ kept.room) }
-    ensures err { OnErr result (space.new.words ≡ []) }
-{
-    let kept = Replies::with_room(alloc, replies)?;
-    let limits = Limits {
-        blocks: options.blocks,
-        threads: 1,
-        log: options.log,
-        remember: REMEMBER,
-    };
-    space.open(alloc, limits)?;
-    opened_runs();
-    Ok(kept)
-}
-
-/// Does the operations of the thread in a space that was just opened, and then prints their replies. The reports of the
-/// pauses are printed as they come.
+/// Runs the threads in a space that was just opened, and then prints their replies. The reports of the pauses are printed
+/// as they come.
 fn run_and_print<G: Gate, W: Watch, O: Sink>(
     space: &mut Space,
-    operations: &Operations,
-    options: RunOptions,
-    replies: &mut Replies,
+    actors: &mut [AnyActor],
+    seed: u64,
     gate: &G,
     watch: &mut W,
     output: &mut O,
 ) -> Result<(), WriteError>
-    requires amid { let task : Task = record { options = options; operations = operations.now.items; written = O.written output.old; seen = W.seen watch.old } in
-        IsAmid task space.old (O.written output.old) (W.seen watch.old) 0 0 [] }
-    requires limits { IsThread operations.now.items }
-    requires none { replies.old.items ≡ [] }
-    requires room { length operations.now.items ≤ replies.old.room }
-    ensures done { OnOk result ((words : List (List ℕ)) (left left' : Option (List ℕ)) → WasAsked words left left' options operations.now.items
+    requires begun { (options : OptionsOf) × (script : Script) × HasBegun options script space.old (O.written output.old) (W.seen watch.old) actors.old }
+    ensures done { OnOk result ((options : OptionsOf) (script : Script) → HasBegun options script space.old (O.written output.old) (W.seen watch.old) actors.old
+        → (words : List (List ℕ)) (left left' : Option (List ℕ)) → WasAsked words left left' options script
         → IsDone words left left' (O.written output.old) (O.written output.new) (W.seen watch.old) (W.seen watch.new) space.new) }
-    ensures cut_off { OnErr result ((words : List (List ℕ)) (left left' : Option (List ℕ)) → WasAsked words left left' options operations.now.items
+    ensures cut_off { OnErr result ((options : OptionsOf) (script : Script) → HasBegun options script space.old (O.written output.old) (W.seen watch.old) actors.old
+        → (words : List (List ℕ)) (left left' : Option (List ℕ)) → WasAsked words left left' options script
         → IsCutOff words left left' (O.written output.old) (O.written output.new) space.new) }
     ensures cause { result ≡ Err WriteError.Fault → Rose (O.faults output.old) (O.faults output.new) }
 {
-    run_thread(
-        space,
-        operations.as_slice(),
-        options,
-        replies,
-        gate,
-        watch,
-        output,
-    )?;
-    print_replies(1, operations, replies, output)
+    run_threads(space, actors, seed, gate, watch, output)?;
+    print_threads(actors, output)
 }
 
-/// Runs a script: reads it from `input`, does its operations in `space`, and prints their replies to `output`.
+/// Runs a script: reads it from `input`, does the operations of its threads in `space`, and prints their replies to `output`.
 ///
-/// The work is done in this order: the words, the input, the script, the opening of the space with room for all replies,
-/// the operations with their pauses, whose reports are printed as they come, and the replies. The gate is called before each
-/// operation and before the end, and the watch looks at the space right before and right after each pause. `rt` isn't used
-/// yet, and nothing is written to `errors`. Want of memory is the one outcome that no clause ties to a cause.
+/// The work is done in this order: the words, the input, the script, the opening of the space and of its threads with all the
+/// memory that the run takes, the epochs with their pauses, whose reports are printed as they come, and the replies, thread by
+/// thread. The same words and input lead to the same output: the option `replay` says where the generator begins. The gate is
+/// called before each step, and the watch looks at the space right before and right after each pause. `rt` isn't used yet, and
+/// nothing is written to `errors`. Want of memory is the one outcome that no clause ties to a cause.
 pub fn lxr<R: Threads + Sync, I: Source, O: Sink, E: Sink, G: Gate, W: Watch>(
     rt: &R,
     alloc: Global,
@@ -161,24 +121,16 @@ pub fn lxr<R: Threads + Sync, I: Source, O: Sink, E: Sink, G: Gate, W: Watch>(
         Err(ReadError::Fault) => return Status::ReadFault,
         Err(ReadError::Memory) => return Status::Memory,
     };
-    let operations = match read_operations(alloc, &bytes) {
-        Ok(operations) => operations,
-        Err(NoOperations::Script) => return Status::Script,
-        Err(NoOperations::Memory) => return Status::Memory,
+    let threads = match read_threads(alloc, &bytes) {
+        Ok(threads) => threads,
+        Err(NoScript::Refused) => return Status::Script,
+        Err(NoScript::Memory) => return Status::Memory,
     };
-    let mut replies = match open(alloc, space, options, operations.len()) {
-        Ok(replies) => replies,
+    let mut actors = match open(alloc, space, options, threads) {
+        Ok(actors) => actors,
         Err(_) => return Status::Memory,
     };
-    match run_and_print(
-        space,
-        &operations,
-        options,
-        &mut replies,
-        gate,
-        watch,
-        output,
-    ) {
+    match run_and_print(space, &mut actors, options.replay, gate, watch, output) {
         Ok(()) => Status::Done,
         Err(WriteError::Fault) => Status::WriteFault,
         Err(WriteError::Memory) => Status::Memory,

@@ -7,6 +7,7 @@ use lxr_layout::Limits;
 use lxr_run::{Gate, Open, Seen, Status, Unseen, Watch, lxr};
 use lxr_stream::{Bytes, Kept, Plenty, Sink, Source, Whole};
 use std::alloc::{AllocError, Global};
+use std::process::Abort;
 use std::sync::atomic::{AtomicU32, Ordering};
 use std::test::Fail;
 use std::thread::Threads;
@@ -20,284 +21,216 @@ const HEADER: u64 = 0x0010_0000_0010_0401;
 const THREE_PAUSES: &str =
     "lxr 1\nthreads 1\nthread 1\nnew r1 1 0\nstore r0 0 r1\npause\nnew r2 0 0\nstore r1 0 r2\nnew r2 0 0\nstore r1 0 r2\nnil r2\npause\nend\n";
 
-/// A run in memory: its words, its script, what it writes and how it ends.
+/// Two threads store their objects to two references of the world, or to the same one.
+const APART: &str =
+    "lxr 1\nthreads 2\nthread 1\nnew r1 0 1\nstore r0 1 r1\nend\nthread 2\nnew r1 0 1\nstore r0 2 r1\nend\n";
+
+const RACING: &str =
+    "lxr 1\nthreads 2\nthread 1\nnew r1 0 1\nstore r0 3 r1\nend\nthread 2\nnew r1 0 1\nstore r0 3 r1\nend\n";
+
+const APART_TEXT: &str =
+    "pause 1 plain\npromoted 2 1.1 2.1\ndead 0\nstuck 0\nswept 0\nthread 1\nnew 1.1\nstore ok\nthread 2\nnew 2.1\nstore ok\n";
+
+const FIRST_WINS: &str =
+    "pause 1 plain\npromoted 1 1.1\ndead 0\nstuck 0\nswept 0\nthread 1\nnew 1.1\nstore ok\nthread 2\nnew 2.1\nstore ok\n";
+
+const SECOND_WINS: &str =
+    "pause 1 plain\npromoted 1 2.1\ndead 0\nstuck 0\nswept 0\nthread 1\nnew 1.1\nstore ok\nthread 2\nnew 2.1\nstore ok\n";
+
+/// A run in memory that ends well: its words, its script, and what it writes.
 #[derive(Drop)]
 struct Row {
     words: &'static [&'static str],
     script: &'static str,
     output: &'static str,
-    status: Status,
 }
 
-/// Runs that end well.
-fn done_rows() -> [Row; 23] {
+/// Runs of one thread with the operations on registers, references and data words.
+fn operation_rows() -> [Row; 8] {
     [
         Row {
             words: &["run"],
             script: FIRST,
             output: "pause 1 plain\npromoted 0\ndead 0\nstuck 0\nswept 0\nthread 1\nnew 1.1\nput ok\nget 77\n",
-            status: Status::Done,
         },
         Row {
             words: &["run"],
             script: "lxr 1\nthreads 1\nthread 1\nend\n",
             output: "pause 1 plain\npromoted 0\ndead 0\nstuck 0\nswept 0\nthread 1\n",
-            status: Status::Done,
         },
         Row {
             words: &["run"],
             script: "lxr 1\nthreads 1\nthread 1\nload r1 r2 0\nload r1 r0 64\nstore r0 64 r1\nget r2 0\nend\n",
             output: "pause 1 plain\npromoted 0\ndead 0\nstuck 0\nswept 0\nthread 1\nload bad\nload range\nstore range\nget bad\n",
-            status: Status::Done,
         },
         Row {
             words: &["run"],
             script: "lxr 1\nthreads 1\nthread 1\nnew r1 1 0\nstore r1 0 r1\nload r2 r1 0\nstore r2 0 r9\nload r1 r1 0\nend\n",
             output: "pause 1 plain\npromoted 0\ndead 0\nstuck 0\nswept 0\nthread 1\nnew 1.1\nstore ok\nload 1.1\nstore ok\nload nil\n",
-            status: Status::Done,
         },
         Row {
             words: &["run"],
             script: "lxr 1\nthreads 1\nthread 1\nmove r1 r0\nload r1 r2 0\nload r1 r0 64\nsame r1 r0\nend\n",
             output: "pause 1 plain\npromoted 0\ndead 0\nstuck 0\nswept 0\nthread 1\nmove ok\nload bad\nload range\nsame yes\n",
-            status: Status::Done,
         },
         Row {
             words: &["run"],
             script: "lxr 1\nthreads 1\nthread 1\nnew r1 0 0\nnil r1\nsame r1 r0\nget r1 0\nend\n",
             output: "pause 1 plain\npromoted 0\ndead 0\nstuck 0\nswept 0\nthread 1\nnew 1.1\nnil ok\nsame no\nget bad\n",
-            status: Status::Done,
         },
         Row {
             words: &["run", "--blocks", "1"],
             script: "lxr 1\nthreads 1\nthread 1\nnew r1 1023 1023\nnew r2 1023 1023\nsame r2 r3\nnew r2 0 31\nend\n",
-            output: "pause 1 plain\npromoted 1 1.1\ndead 0\nstuck 0\nswept 0\npause 2 plain\npromoted 0\ndead 0\nstuck 0\nswept 0\nthread 1\nnew 1.1\nnew full\nsame yes\nnew 1.2\n",
-            status: Status::Done,
+            output: "pause 1 plain\npromoted 0\ndead 0\nstuck 0\nswept 0\npause 2 plain\npromoted 1 1.1\ndead 0\nstuck 0\nswept 0\npause 3 plain\npromoted 0\ndead 0\nstuck 0\nswept 0\nthread 1\nnew 1.1\nnew full\nsame yes\nnew 1.2\n",
         },
+        Row {
+            words: &["run", "--blocks", "1"],
+            script: "lxr 1\nthreads 1\nthread 1\nnew r1 1023 1023\nput r1 1022 5\nget r1 1022\nload r2 r1 1022\nget r1 1023\nend\n",
+            output: "pause 1 plain\npromoted 0\ndead 0\nstuck 0\nswept 0\npause 2 plain\npromoted 0\ndead 0\nstuck 0\nswept 0\nthread 1\nnew 1.1\nput ok\nget 5\nload nil\nget range\n",
+        },
+    ]
+}
+
+/// Runs under options at their limits.
+fn option_rows() -> [Row; 5] {
+    [
         Row {
             words: &["run", "--blocks", "1024"],
             script: FIRST,
             output: "pause 1 plain\npromoted 0\ndead 0\nstuck 0\nswept 0\nthread 1\nnew 1.1\nput ok\nget 77\n",
-            status: Status::Done,
         },
         Row {
             words: &["run", "--blocks", "00001"],
             script: FIRST,
             output: "pause 1 plain\npromoted 0\ndead 0\nstuck 0\nswept 0\nthread 1\nnew 1.1\nput ok\nget 77\n",
-            status: Status::Done,
         },
         Row {
             words: &["run", "--every", "1048576", "--log", "65536"],
             script: FIRST,
             output: "pause 1 plain\npromoted 0\ndead 0\nstuck 0\nswept 0\nthread 1\nnew 1.1\nput ok\nget 77\n",
-            status: Status::Done,
         },
         Row {
             words: &["run", "--log", "2", "--blocks", "3", "--every", "4"],
             script: FIRST,
             output: "pause 1 plain\npromoted 0\ndead 0\nstuck 0\nswept 0\nthread 1\nnew 1.1\nput ok\nget 77\n",
-            status: Status::Done,
         },
         Row {
             words: &["run"],
             script: "lxr 1\nthreads 1\nthread 1\npause\ncollect\nend\n",
             output: "pause 1 plain\npromoted 0\ndead 0\nstuck 0\nswept 0\npause 2 plain\npromoted 0\ndead 0\nstuck 0\nswept 0\npause 3 plain\npromoted 0\ndead 0\nstuck 0\nswept 0\nthread 1\npause ok\ncollect ok\n",
-            status: Status::Done,
         },
+    ]
+}
+
+/// Runs that ask for pauses.
+fn pause_rows() -> [Row; 4] {
+    [
         Row {
             words: &["run"],
             script: "lxr 1\nthreads 1\nthread 1\nnew r1 1 0\nstore r0 0 r1\npause\nnew r2 0 0\nstore r1 0 r2\nnew r2 0 0\nstore r1 0 r2\nnil r2\npause\nend\n",
             output: "pause 1 plain\npromoted 1 1.1\ndead 0\nstuck 0\nswept 0\npause 2 plain\npromoted 1 1.3\ndead 0\nstuck 0\nswept 0\npause 3 plain\npromoted 0\ndead 0\nstuck 0\nswept 0\nthread 1\nnew 1.1\nstore ok\npause ok\nnew 1.2\nstore ok\nnew 1.3\nstore ok\nnil ok\npause ok\n",
-            status: Status::Done,
         },
         Row {
             words: &["run"],
             script: "lxr 1\nthreads 1\nthread 1\nnew r1 0 0\nstore r0 0 r1\nstore r0 1 r1\nnil r1\npause\nstore r0 0 r1\nstore r0 1 r1\npause\npause\nend\n",
             output: "pause 1 plain\npromoted 1 1.1\ndead 0\nstuck 0\nswept 0\npause 2 plain\npromoted 0\ndead 0\nstuck 0\nswept 0\npause 3 plain\npromoted 0\ndead 1 1.1\nstuck 0\nswept 0\npause 4 plain\npromoted 0\ndead 0\nstuck 0\nswept 0\nthread 1\nnew 1.1\nstore ok\nstore ok\nnil ok\npause ok\nstore ok\nstore ok\npause ok\npause ok\n",
-            status: Status::Done,
         },
         Row {
             words: &["run"],
             script: "lxr 1\nthreads 1\nthread 1\nnew r1 0 0\nstore r0 0 r1\nstore r0 1 r1\nstore r0 2 r1\nnil r1\npause\nstore r0 0 r1\npause\npause\nend\n",
             output: "pause 1 plain\npromoted 1 1.1\ndead 0\nstuck 1 1.1\nswept 0\npause 2 plain\npromoted 0\ndead 0\nstuck 0\nswept 0\npause 3 plain\npromoted 0\ndead 0\nstuck 0\nswept 0\npause 4 plain\npromoted 0\ndead 0\nstuck 0\nswept 0\nthread 1\nnew 1.1\nstore ok\nstore ok\nstore ok\nnil ok\npause ok\nstore ok\npause ok\npause ok\n",
-            status: Status::Done,
         },
         Row {
             words: &["run"],
             script: "lxr 1\nthreads 1\nthread 1\nnew r1 1 0\nnew r2 1 0\nstore r1 0 r2\nstore r2 0 r1\npause\nnil r1\nnil r2\npause\npause\nend\n",
             output: "pause 1 plain\npromoted 2 1.1 1.2\ndead 0\nstuck 0\nswept 0\npause 2 plain\npromoted 0\ndead 0\nstuck 0\nswept 0\npause 3 plain\npromoted 0\ndead 0\nstuck 0\nswept 0\npause 4 plain\npromoted 0\ndead 0\nstuck 0\nswept 0\nthread 1\nnew 1.1\nnew 1.2\nstore ok\nstore ok\npause ok\nnil ok\nnil ok\npause ok\npause ok\n",
-            status: Status::Done,
         },
+    ]
+}
+
+/// Runs with a log of one entry.
+fn log_rows() -> [Row; 3] {
+    [
         Row {
             words: &["run", "--log", "1"],
             script: "lxr 1\nthreads 1\nthread 1\nnew r1 0 0\nstore r0 0 r1\nstore r0 1 r1\nend\n",
             output: "pause 1 plain\npromoted 1 1.1\ndead 0\nstuck 0\nswept 0\npause 2 plain\npromoted 0\ndead 0\nstuck 1 1.1\nswept 0\nthread 1\nnew 1.1\nstore ok\nstore ok\n",
-            status: Status::Done,
         },
         Row {
             words: &["run", "--log", "1"],
             script: "lxr 1\nthreads 1\nthread 1\nnew r1 0 0\nstore r0 0 r1\nstore r0 0 r9\nstore r0 0 r1\nstore r0 0 r1\nend\n",
             output: "pause 1 plain\npromoted 1 1.1\ndead 0\nstuck 0\nswept 0\nthread 1\nnew 1.1\nstore ok\nstore ok\nstore ok\nstore ok\n",
-            status: Status::Done,
         },
         Row {
             words: &["run", "--log", "1"],
             script: "lxr 1\nthreads 1\nthread 1\nnew r1 2 0\nstore r0 0 r1\npause\nstore r1 0 r1\nstore r1 1 r0\nstore r1 0 r2\nend\n",
             output: "pause 1 plain\npromoted 1 1.1\ndead 0\nstuck 0\nswept 0\npause 2 plain\npromoted 0\ndead 0\nstuck 1 1.1\nswept 0\npause 3 plain\npromoted 0\ndead 0\nstuck 0\nswept 0\npause 4 plain\npromoted 0\ndead 0\nstuck 0\nswept 0\nthread 1\nnew 1.1\nstore ok\npause ok\nstore ok\nstore ok\nstore ok\n",
-            status: Status::Done,
         },
+    ]
+}
+
+/// Runs with a pause after each operation, or after two.
+fn turn_rows() -> [Row; 3] {
+    [
         Row {
             words: &["run", "--every", "1"],
             script: FIRST,
             output: "pause 1 plain\npromoted 1 1.1\ndead 0\nstuck 0\nswept 0\npause 2 plain\npromoted 0\ndead 0\nstuck 0\nswept 0\npause 3 plain\npromoted 0\ndead 0\nstuck 0\nswept 0\npause 4 plain\npromoted 0\ndead 0\nstuck 0\nswept 0\nthread 1\nnew 1.1\nput ok\nget 77\n",
-            status: Status::Done,
         },
         Row {
             words: &["run", "--every", "1"],
             script: "lxr 1\nthreads 1\nthread 1\nnew r1 1 0\nstore r1 0 r1\nnil r1\nnil r9\nnil r9\nend\n",
             output: "pause 1 plain\npromoted 1 1.1\ndead 0\nstuck 0\nswept 0\npause 2 plain\npromoted 0\ndead 0\nstuck 0\nswept 0\npause 3 plain\npromoted 0\ndead 0\nstuck 0\nswept 0\npause 4 plain\npromoted 0\ndead 0\nstuck 0\nswept 0\npause 5 plain\npromoted 0\ndead 0\nstuck 0\nswept 0\npause 6 plain\npromoted 0\ndead 0\nstuck 0\nswept 0\nthread 1\nnew 1.1\nstore ok\nnil ok\nnil ok\nnil ok\n",
-            status: Status::Done,
         },
         Row {
             words: &["run", "--every", "2"],
             script: "lxr 1\nthreads 1\nthread 1\nnew r1 1 0\nnew r2 0 0\nstore r1 0 r2\nnil r2\nnil r1\nend\n",
             output: "pause 1 plain\npromoted 2 1.1 1.2\ndead 0\nstuck 0\nswept 0\npause 2 plain\npromoted 0\ndead 0\nstuck 0\nswept 0\npause 3 plain\npromoted 0\ndead 0\nstuck 0\nswept 0\nthread 1\nnew 1.1\nnew 1.2\nstore ok\nnil ok\nnil ok\n",
-            status: Status::Done,
-        },
-        Row {
-            words: &["run"],
-            script: "lxr 1\nthreads 1\nthread 1\nnew r1 0 1\nnew r2 0 1\nnew r3 0 1\nnew r4 0 1\nnew r5 0 1\nnew r6 0 1\nnew r7 0 1\nnew r8 0 1\nnew r9 0 1\nnew r10 0 1\nnew r11 0 1\nnew r12 0 1\nnew r13 0 1\nnew r14 0 1\nnew r15 0 1\npause\nmove r0 r1\nmove r1 r2\nmove r2 r3\nmove r3 r4\nmove r4 r5\nmove r5 r6\nmove r6 r7\nmove r7 r8\nmove r8 r9\nmove r9 r10\nmove r10 r11\nmove r11 r12\nmove r12 r13\nmove r13 r14\nmove r14 r15\nnil r15\npause\nend\n",
-            output: "pause 1 plain\npromoted 15 1.1 1.2 1.3 1.4 1.5 1.6 1.7 1.8 1.9 1.10 1.11 1.12 1.13 1.14 1.15\ndead 0\nstuck 0\nswept 0\npause 2 plain\npromoted 0\ndead 0\nstuck 0\nswept 0\npause 3 plain\npromoted 0\ndead 0\nstuck 0\nswept 0\nthread 1\nnew 1.1\nnew 1.2\nnew 1.3\nnew 1.4\nnew 1.5\nnew 1.6\nnew 1.7\nnew 1.8\nnew 1.9\nnew 1.10\nnew 1.11\nnew 1.12\nnew 1.13\nnew 1.14\nnew 1.15\npause ok\nmove ok\nmove ok\nmove ok\nmove ok\nmove ok\nmove ok\nmove ok\nmove ok\nmove ok\nmove ok\nmove ok\nmove ok\nmove ok\nmove ok\nmove ok\nnil ok\npause ok\n",
-            status: Status::Done,
         },
     ]
 }
 
-/// Runs that are refused before their first operation.
-fn refused_rows() -> [Row; 20] {
+/// Sixteen registers that all change between two pauses.
+fn register_rows() -> [Row; 1] {
+    [Row {
+        words: &["run"],
+        script: "lxr 1\nthreads 1\nthread 1\nnew r1 0 1\nnew r2 0 1\nnew r3 0 1\nnew r4 0 1\nnew r5 0 1\nnew r6 0 1\nnew r7 0 1\nnew r8 0 1\nnew r9 0 1\nnew r10 0 1\nnew r11 0 1\nnew r12 0 1\nnew r13 0 1\nnew r14 0 1\nnew r15 0 1\npause\nmove r0 r1\nmove r1 r2\nmove r2 r3\nmove r3 r4\nmove r4 r5\nmove r5 r6\nmove r6 r7\nmove r7 r8\nmove r8 r9\nmove r9 r10\nmove r10 r11\nmove r11 r12\nmove r12 r13\nmove r13 r14\nmove r14 r15\nnil r15\npause\nend\n",
+        output: "pause 1 plain\npromoted 15 1.1 1.2 1.3 1.4 1.5 1.6 1.7 1.8 1.9 1.10 1.11 1.12 1.13 1.14 1.15\ndead 0\nstuck 0\nswept 0\npause 2 plain\npromoted 0\ndead 0\nstuck 0\nswept 0\npause 3 plain\npromoted 0\ndead 0\nstuck 0\nswept 0\nthread 1\nnew 1.1\nnew 1.2\nnew 1.3\nnew 1.4\nnew 1.5\nnew 1.6\nnew 1.7\nnew 1.8\nnew 1.9\nnew 1.10\nnew 1.11\nnew 1.12\nnew 1.13\nnew 1.14\nnew 1.15\npause ok\nmove ok\nmove ok\nmove ok\nmove ok\nmove ok\nmove ok\nmove ok\nmove ok\nmove ok\nmove ok\nmove ok\nmove ok\nmove ok\nmove ok\nmove ok\nnil ok\npause ok\n",
+    }]
+}
+
+/// Words that are refused.
+fn refused_words() -> [&'static [&'static str]; 18] {
     [
-        Row {
-            words: &[],
-            script: FIRST,
-            output: "",
-            status: Status::Words,
-        },
-        Row {
-            words: &["run", "run"],
-            script: FIRST,
-            output: "",
-            status: Status::Words,
-        },
-        Row {
-            words: &["map"],
-            script: FIRST,
-            output: "",
-            status: Status::Words,
-        },
-        Row {
-            words: &["run", "--blocks"],
-            script: FIRST,
-            output: "",
-            status: Status::Words,
-        },
-        Row {
-            words: &["run", "--blocks=2"],
-            script: FIRST,
-            output: "",
-            status: Status::Words,
-        },
-        Row {
-            words: &["run", "--blocks", "0"],
-            script: FIRST,
-            output: "",
-            status: Status::Words,
-        },
-        Row {
-            words: &["run", "--blocks", "1025"],
-            script: FIRST,
-            output: "",
-            status: Status::Words,
-        },
-        Row {
-            words: &["run", "--blocks", "+2"],
-            script: FIRST,
-            output: "",
-            status: Status::Words,
-        },
-        Row {
-            words: &["run", "--blocks", "2", "--blocks", "2"],
-            script: FIRST,
-            output: "",
-            status: Status::Words,
-        },
-        Row {
-            words: &["run", "--every", "0"],
-            script: FIRST,
-            output: "",
-            status: Status::Words,
-        },
-        Row {
-            words: &["run", "--every", "1048577"],
-            script: FIRST,
-            output: "",
-            status: Status::Words,
-        },
-        Row {
-            words: &["run", "--log", "0"],
-            script: FIRST,
-            output: "",
-            status: Status::Words,
-        },
-        Row {
-            words: &["run", "--log", "65537"],
-            script: FIRST,
-            output: "",
-            status: Status::Words,
-        },
-        Row {
-            words: &["run", "--log", "1", "--every", "1", "--log", "1"],
-            script: FIRST,
-            output: "",
-            status: Status::Words,
-        },
-        Row {
-            words: &["run", "--log"],
-            script: FIRST,
-            output: "",
-            status: Status::Words,
-        },
-        Row {
-            words: &["--log", "1"],
-            script: FIRST,
-            output: "",
-            status: Status::Words,
-        },
-        Row {
-            words: &["run"],
-            script: "lxr 1\nthreads 2\nthread 1\nend\nthread 2\nend\n",
-            output: "",
-            status: Status::Script,
-        },
-        Row {
-            words: &["run"],
-            script: "",
-            output: "",
-            status: Status::Script,
-        },
-        Row {
-            words: &["run"],
-            script: "lxr 1\nthreads 1\nthread 1\nswap r1 r0 0 r1\nend\n",
-            output: "",
-            status: Status::Script,
-        },
-        Row {
-            words: &["run"],
-            script: "lxr 1\nthreads 1\nthread 1\nnew r1 1 1\n",
-            output: "",
-            status: Status::Script,
-        },
+        &[],
+        &["run", "run"],
+        &["map"],
+        &["run", "--blocks"],
+        &["run", "--blocks=2"],
+        &["run", "--blocks", "0"],
+        &["run", "--blocks", "1025"],
+        &["run", "--blocks", "+2"],
+        &["run", "--blocks", "2", "--blocks", "2"],
+        &["run", "--every", "0"],
+        &["run", "--every", "1048577"],
+        &["run", "--log", "0"],
+        &["run", "--log", "65537"],
+        &["run", "--log", "1", "--every", "1", "--log", "1"],
+        &["run", "--log"],
+        &["--log", "1"],
+        &["run", "--replay"],
+        &["run", "--replay", "18446744073709551616"],
     ]
 }
+
+/// Scripts that are refused.
+const REFUSED_SCRIPTS: [&str; 5] = [
+    "lxr 1\nthreads 17\n",
+    "lxr 1\nthreads 2\nthread 1\nend\n",
+    "",
+    "lxr 1\nthreads 1\nthread 1\nswap r1 r0 0 r1\nend\n",
+    "lxr 1\nthreads 1\nthread 1\nnew r1 1 1\n",
+];
 
 /// A run with an open gate.
 fn run<R: Threads + Sync + AllocGlobal, I: Source, O: Sink, W: Watch>(
@@ -328,44 +261,139 @@ fn word(space: &Space, at: usize) -> u64 {
     space.words.as_slice().get(at).copied().unwrap_or(0)
 }
 
+/// A row's run writes its output, and leaves an open space.
+fn ends_well<R: Threads + Sync + AllocGlobal + Abort>(rt: &R, row: &Row) {
+    let mut output = Plenty::new(rt.alloc());
+    let mut space = Space::empty(rt.alloc());
+    let mut input = Whole::new(row.script.as_bytes());
+    let status = run(
+        rt,
+        row.words,
+        &mut input,
+        &mut output,
+        &mut Unseen,
+        &mut space,
+    );
+    assert_eq!(rt; status, Status::Done);
+    assert!(rt; output.written() == row.output.as_bytes());
+    assert!(rt; !space.is_empty());
+}
+
 #[test]
-fn runs_end_well(rt: HostRuntime) {
-    for row in done_rows() {
-        let mut output = Plenty::new(rt.alloc());
-        let mut space = Space::empty(rt.alloc());
-        let mut input = Whole::new(row.script.as_bytes());
-        let status = run(
-            &rt,
-            row.words,
-            &mut input,
-            &mut output,
-            &mut Unseen,
-            &mut space,
-        );
-        assert_eq!(rt; status, row.status);
-        assert!(rt; output.written() == row.output.as_bytes());
-        assert!(rt; !space.is_empty());
+fn operations_are_done(rt: HostRuntime) {
+    for row in operation_rows() {
+        ends_well(&rt, &row);
     }
 }
 
 #[test]
-fn runs_are_refused(rt: HostRuntime) {
-    for row in refused_rows() {
-        let mut output = Plenty::new(rt.alloc());
-        let mut space = Space::empty(rt.alloc());
-        let mut input = Whole::new(row.script.as_bytes());
-        let status = run(
-            &rt,
-            row.words,
-            &mut input,
-            &mut output,
-            &mut Unseen,
-            &mut space,
-        );
-        assert_eq!(rt; status, row.status);
-        assert!(rt; output.written().is_empty());
-        assert!(rt; space.is_empty());
+fn options_are_taken(rt: HostRuntime) {
+    for row in option_rows() {
+        ends_well(&rt, &row);
     }
+}
+
+#[test]
+fn pauses_are_made(rt: HostRuntime) {
+    for row in pause_rows() {
+        ends_well(&rt, &row);
+    }
+}
+
+#[test]
+fn full_logs_make_pauses(rt: HostRuntime) {
+    for row in log_rows() {
+        ends_well(&rt, &row);
+    }
+}
+
+#[test]
+fn turns_make_pauses(rt: HostRuntime) {
+    for row in turn_rows() {
+        ends_well(&rt, &row);
+    }
+}
+
+#[test]
+fn registers_are_counted(rt: HostRuntime) {
+    for row in register_rows() {
+        ends_well(&rt, &row);
+    }
+}
+
+/// A run is refused with a status, and nothing is written or opened.
+fn is_refused<R: Threads + Sync + AllocGlobal + Abort>(
+    rt: &R,
+    words: &[&str],
+    script: &str,
+    wanted: Status,
+) {
+    let mut output = Plenty::new(rt.alloc());
+    let mut space = Space::empty(rt.alloc());
+    let mut input = Whole::new(script.as_bytes());
+    let status = run(rt, words, &mut input, &mut output, &mut Unseen, &mut space);
+    assert_eq!(rt; status, wanted);
+    assert!(rt; output.written().is_empty());
+    assert!(rt; space.is_empty());
+}
+
+#[test]
+fn words_are_refused(rt: HostRuntime) {
+    for words in refused_words() {
+        is_refused(&rt, words, FIRST, Status::Words);
+    }
+}
+
+#[test]
+fn scripts_are_refused(rt: HostRuntime) {
+    for script in REFUSED_SCRIPTS {
+        is_refused(&rt, &["run"], script, Status::Script);
+    }
+}
+
+/// The text of a run of two threads under a schedule.
+fn written_by<R: Threads + Sync + AllocGlobal + Abort>(
+    rt: &R,
+    seed: u32,
+    script: &str,
+    output: &mut Plenty,
+) -> Result<(), AllocError> {
+    let seed = format!(in rt.alloc(); "{seed}")?;
+    let mut space = Space::empty(rt.alloc());
+    let mut input = Whole::new(script.as_bytes());
+    let status = run(
+        rt,
+        &["run", "--replay", seed.as_str()],
+        &mut input,
+        output,
+        &mut Unseen,
+        &mut space,
+    );
+    assert_eq!(rt; status, Status::Done);
+    Ok(())
+}
+
+/// Two threads that store to different references give the same bytes under each schedule.
+#[test]
+fn threads_apart(rt: HostRuntime) -> Result<(), Fail> {
+    for seed in 0..100 {
+        let mut output = Plenty::new(rt.alloc());
+        written_by(&rt, seed, APART, &mut output)?;
+        assert!(rt; output.written() == APART_TEXT.as_bytes());
+    }
+    Ok(())
+}
+
+/// Of two threads that store to one reference, the one whose store is the last has its object promoted.
+#[test]
+fn threads_race(rt: HostRuntime) -> Result<(), Fail> {
+    for seed in 0..100 {
+        let mut output = Plenty::new(rt.alloc());
+        written_by(&rt, seed, RACING, &mut output)?;
+        let is_first = output.written() == FIRST_WINS.as_bytes();
+        assert!(rt; is_first || output.written() == SECOND_WINS.as_bytes());
+    }
+    Ok(())
 }
 
 /// A gate that counts how often it was passed.
@@ -419,6 +447,8 @@ fn words_and_tally(rt: HostRuntime) {
     // The start bits are those of the world, of 1.1 and of 1.3.
     assert_eq!(rt; word(&space, 4160), 1 | 1 << 48);
     assert_eq!(rt; word(&space, 4161), 1 << 1);
+    // One run is listed: the 123 lines behind the fifth.
+    assert_eq!(rt; word(&space, 4419), 123 | 5 << 8);
     let tally = space.tally();
     assert_eq!(rt; tally.news, 3);
     assert_eq!(rt; tally.loads, 0);

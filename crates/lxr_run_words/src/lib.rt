@@ -10,7 +10,7 @@ ghost use Rattle.lxr_run_words.specs.CommandLines.{AreInRange, IsCommandLine, nu
 use lxr_script::number_of;
 
 /// How many options there are.
-const OPTIONS: usize = 3;
+const OPTIONS: usize = 4;
 
 /// What the words of the command line ask for.
 #[derive(Clone, Copy, Debug, PartialEq, Eq)]
@@ -21,6 +21,8 @@ pub struct RunOptions {
     pub every: u32,
     /// The entries of a log, 1 to 65,536.
     pub log: u32,
+    /// Where the generator begins that draws which thread makes the next step.
+    pub replay: u64,
 }
 
 /// A row of the table of options.
@@ -28,12 +30,12 @@ pub struct RunOptions {
 pub struct NumberOption {
     /// Where its number stands among those of all options.
     pub index: usize,
-    pub least: u32,
-    pub greatest: u32,
+    pub least: u64,
+    pub greatest: u64,
 }
 
 /// The numbers of all options, as far as they are given.
-type Numbers = [Option<u32>; OPTIONS];
+type Numbers = [Option<u64>; OPTIONS];
 
 /// The table: the option that a word names.
 fn option_of(word: &str) -> Option<NumberOption>
@@ -55,17 +57,22 @@ fn option_of(word: &str) -> Option<NumberOption>
             least: 1,
             greatest: 65_536,
         }),
+        "--replay" => Some(NumberOption {
+            index: 3,
+            least: 0,
+            greatest: u64::MAX,
+        }),
         _ => None,
     }
 }
 
 /// The number of an option that a word writes, where it is one in the option's range.
-fn number_for(option: NumberOption, word: &str) -> Option<u32>
+fn number_for(option: NumberOption, word: &str) -> Option<u64>
     ensures { result ≡ number_in option word.now }
 {
     let number = number_of(word.as_bytes())?;
-    if u64::from(option.least) <= number && number <= u64::from(option.greatest) {
-        Some(number as u32)
+    if option.least <= number && number <= option.greatest {
+        Some(number)
     } else {
         None
     }
@@ -110,9 +117,14 @@ pub fn read_options(words: &[&str]) -> Option<RunOptions>
         return None;
     }
     let numbers = read_numbers(settings)?;
+    let blocks = numbers[0].unwrap_or(64);
+    let every = numbers[1].unwrap_or(1024);
+    let log = numbers[2].unwrap_or(1024);
+    let replay = numbers[3].unwrap_or(0);
     Some(RunOptions {
-        blocks: numbers[0].unwrap_or(64),
-        every: numbers[1].unwrap_or(1024),
-        log: numbers[2].unwrap_or(1024),
+        blocks: blocks as u32,
+        every: every as u32,
+        log: log as u32,
+        replay,
     })
 }

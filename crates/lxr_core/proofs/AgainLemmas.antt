@@ -1,0 +1,51 @@
+-- Actors that begin again, one after another.
+use Rattle.std.proofs.Common.{◌≡◌, ℕ, ◌+◌, ◌*◌, ◌<◌, refl, sym, ap, ◌∙◌, inl, inr, arith, List, length, length-set}
+use Rattle.std.specs.Prelude.{All, Some, slice_get, slice_set, slice_index_or, drop}
+use Rattle.std.proofs.lemmas.List.Elements.{All-drop, All-take}
+use Rattle.std.proofs.lemmas.Bool.Decides.{eqb_tells}
+use Rattle.std.proofs.lemmas.Option.{slice_get-get_or}
+use Rattle.lxr_layout.specs.declared.Place.{Place}
+use Rattle.lxr_actor.proofs.Runs.{slice_get-set_other, slice_get-set_same}
+use Rattle.lxr_mutator.specs.Mutators.{IsHeld}
+use Rattle.lxr_core.specs.declared.actors.AnyActor.{AnyActor}
+use Rattle.lxr_core.specs.Starting.{HaveStarted, MayAllStart, MayStart, registers_in, started_again}
+
+-- at first none has
+pub none_started : (places : List Place) (before : List AnyActor) → HaveStarted places before before 0
+none_started places before = record { as_many = refl; started = λ i a h less. absurd (omega (arith, less)); others = λ i h. refl }
+
+-- the next actor is what it was
+pub next_before : (places : List Place) (before after : List AnyActor) (n : ℕ) (d : AnyActor) → HaveStarted places before after n → n < length before
+    → slice_get before n ≡ Some (slice_index_or after n d)
+next_before places before after n d is less =
+    let many = is.as_many in
+    let inside : n < length after = omega (arith, many, less) in
+    sym (is.others n (omega arith)) ∙ slice_get-get_or after n d inside
+
+-- so it may begin again
+pub next_may : (places : List Place) (before after : List AnyActor) (n : ℕ) (d : AnyActor) → HaveStarted places before after n → n < length before → MayAllStart before
+    → MayStart (slice_index_or after n d)
+next_may places before after n d is less may = may n (slice_index_or after n d) (next_before places before after n d is less)
+
+-- the registers of a thread are held places
+pub registers_held : (places : List Place) (n : ℕ) → All IsHeld places → All IsHeld (registers_in places n)
+registers_held places n held = All-take IsHeld 16 (drop (16 * n) places) (All-drop IsHeld (16 * n) places held)
+
+-- one more has begun again
+pub one_more : (places : List Place) (before after : List AnyActor) (n : ℕ) (d x : AnyActor) → HaveStarted places before after n → n < length before
+    → x ≡ started_again (slice_index_or after n d) (registers_in places n) → HaveStarted places before (slice_set after n x) (n + 1)
+one_more places before after n d x is less made =
+    let many = is.as_many in
+    let inside : n < length after = omega (arith, many, less) in
+    record {
+      as_many = length-set after n x ∙ is.as_many;
+      started = λ i a there below. elim (eqb_tells i n) [
+        | inl q ↦
+            let same : Some a ≡ Some (slice_index_or after n d) = sym there ∙ (ap (slice_get before) q.1 ∙ next_before places before after n d is less) in
+            let same_actor : slice_index_or after n d ≡ a = cc in
+            ap (slice_get (slice_set after n x)) q.1 ∙ (slice_get-set_same after n x inside
+            ∙ (ap Some made ∙ (ap (λ y. Some (started_again y (registers_in places n))) same_actor ∙ ap (λ k. Some (started_again a (registers_in places k))) (sym q.1))))
+        | inr q ↦ let other = q.1 in slice_get-set_other after n i x other ∙ is.started i a there (omega (arith, other, below))
+      ];
+      others = λ i past. slice_get-set_other after n i x (λ e. omega (arith, e, past)) ∙ is.others i (omega (arith, past));
+    }

@@ -1,0 +1,9 @@
+pub mod StartingLemmas
+pub mod OwnerLemmas
+pub mod OpeningLemmas
+pub mod AgainLemmas
+pub mod OpenedLemmas
+pub mod ScriptLemmas
+pub mod StoryLemmas
+pub mod CollectingLemmas
+pub mod ClosingLemmas

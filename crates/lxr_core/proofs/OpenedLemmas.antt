@@ -1,0 +1,276 @@
+-- An epoch that is opened: what its actors show, and that its invariant holds of the story that begins.
+use Rattle.std.proofs.Common.{◌≡◌, ◌≢◌, ℕ, zero, suc, ◌+◌, ◌-◌, ◌*◌, ◌/◌, ◌%◌, ◌^◌, ◌<◌, ◌≤◌, refl, sym, ap, subst, ◌∙◌, inl, inr, arith, true, false, List, [], ◌∷◌, length}
+use Rattle.std.specs.Prelude.{All, Option, Some, None, map, slice_get, slice_index_or, take, drop}
+use Rattle.std.proofs.Math.ListN.{get_or-map}
+use Rattle.std.proofs.lemmas.List.{get_or-drop, get_or-take, length-drop, length-take-le}
+use Rattle.std.proofs.lemmas.List.Elements.{All-from_get_or}
+use Rattle.std.proofs.lemmas.Option.{slice_get-get_or, slice_get_within}
+use Rattle.lxr_layout.specs.declared.Name.{Name}
+use Rattle.lxr_layout.specs.declared.Place.{Place}
+use Rattle.lxr_layout.specs.declared.limits.Limits.{Limits}
+use Rattle.lxr_layout.specs.Objects.{word_count}
+use Rattle.lxr_layout.specs.Spaces.{region_begin}
+use Rattle.lxr_graph.specs.History.{calls_of, replies_of}
+use Rattle.lxr_graph.specs.State.{State, shape_of}
+use Rattle.lxr_image.specs.declared.space.Space.{Space}
+use Rattle.lxr_image.specs.Image.{ArePlacesOf, IsImage, place_word}
+use Rattle.lxr_image.specs.Spaces.{Turns, tables_of}
+use Rattle.lxr_image.specs.Tables.{Tables, changed, tables_in}
+use Rattle.lxr_model.specs.Moments.{Moment}
+use Rattle.lxr_counting.specs.Following.{FollowsPause}
+use Rattle.lxr_between.specs.Meaning.{members}
+use Rattle.lxr_mutator.specs.declared.phases.MutEnd.{MutEnd}
+use Rattle.lxr_mutator.specs.declared.phases.MutEnd.TheVariants as ends
+use Rattle.lxr_mutator.specs.Mutating.{Mutating, nil}
+use Rattle.lxr_mutator.specs.Mutators.{IsHeld, IsMutator, MayBeIn, again, phase_again}
+use Rattle.lxr_mutator.specs.Steps.{rests_in}
+use Rattle.lxr_epoch.specs.Views.{View, Through, all_of}
+use Rattle.lxr_epoch.specs.Scenes.{Beginning, IsBeginning, Scene, limits_of}
+use Rattle.lxr_epoch.specs.Imaged.{HoldsRegisters}
+use Rattle.lxr_epoch.specs.Epoch.{IsEpoch}
+use Rattle.lxr_epoch.proofs.HeldLemmas.{in_register}
+use Rattle.lxr_epoch.proofs.HeldLemmas as model
+use Rattle.lxr_steps.specs.Showing.{IsMutatorOf, IsSteadyIn, reason_by, stage_in, view_of}
+use Rattle.lxr_core.specs.declared.actors.AnyActor.{AnyActor}
+use Rattle.lxr_core.specs.Actors.{mutator_in, mutators_in}
+use Rattle.lxr_core.specs.Resting.{RestAfter, RestsAfter}
+use Rattle.lxr_core.specs.Starting.{HaveStarted, MayAllStart, registers_in, started_again}
+use Rattle.lxr_core.specs.Stories.{scene_of}
+use Rattle.lxr_core.specs.Opening.{MayOpen, Opens, story_at}
+use Rattle.lxr_core.proofs.AgainLemmas.{registers_held}
+use Rattle.lxr_core.proofs.StartingLemmas.{AllStart, Starts, StartsIn, anew, opening_scene, over}
+use Rattle.lxr_core.proofs.OpeningLemmas.{opens}
+
+-- ---- registers
+
+-- each register's place is that of what the model's register holds
+place_at : (at : Name → ℕ) (places : List Place) (held : List (Option Name)) (k : ℕ) → ArePlacesOf at places held → (slice_index_or places k nil).0 ≡ place_word at (slice_index_or held k None)
+place_at at places held k are = sym (get_or-map (λ p. p.0) places k nil) ∙ (ap (λ z. slice_index_or z k 0) are ∙ get_or-map (place_word at) held k None)
+
+-- no place lies behind the largest heap
+in_heap : (t : Tables) (blocks : ℕ) (at : Name → ℕ) (m : Moment) (v : Option Name) → IsImage t blocks at m.state.graph (members m) → blocks ≤ 1024 → model.IsHeld m v → place_word at v ≤ 2 ^ 21
+in_heap t blocks at m None image few held = omega arith
+in_heap t blocks at m (Some n) image few held =
+    let a = image.stands n held in
+    let low = a.2.whole.in_heap in let some = a.2.placed in
+    let words : 1 ≤ word_count (shape_of a.0) / 2 = omega arith in
+    omega (arith, low, some, few, words)
+
+-- so all registers hold places
+all_held : (t : Tables) (blocks : ℕ) (at : Name → ℕ) (m : Moment) (places : List Place) → FollowsPause m → IsImage t blocks at m.state.graph (members m) → blocks ≤ 1024 → ArePlacesOf at places m.state.registers
+    → All IsHeld places
+all_held t blocks at m places follows image few are = All-from_get_or IsHeld places nil (λ k h.
+    let same : 16 * (k / 16 + 1 - 1) + k % 16 ≡ k = omega arith in
+    let held = subst (λ z. model.IsHeld m (slice_index_or m.state.registers z None)) same (in_register m (k / 16 + 1) (k % 16) follows) in
+    subst (λ z. z ≤ 2 ^ 21) (sym (place_at at places m.state.registers k are)) (in_heap t blocks at m (slice_index_or m.state.registers k None) image few held))
+
+-- each thread has sixteen
+sixteen_of : (places : List Place) (threads i : ℕ) → length places ≡ 16 * threads → i < threads → length (registers_in places i) ≡ 16
+sixteen_of places threads i many less = let behind = length-drop (16 * i) places in length-take-le 16 (drop (16 * i) places) (omega (arith, behind, many, less))
+
+-- the registers of a thread hold the places of what the model's do
+holds_registers : (st : State) (at : Name → ℕ) (places : List Place) (threads i : ℕ) (v : View) → ArePlacesOf at places st.registers → length places ≡ 16 * threads → i < threads
+    → v.thread ≡ i + 1 → v.registers ≡ registers_in places i → HoldsRegisters st at v
+holds_registers st at places threads i v are many less thread registers = record {
+  sixteen = ap length registers ∙ sixteen_of places threads i many less;
+  places = λ r below.
+      let same : 16 * i + r ≡ 16 * (v.thread - 1) + r = omega (arith, thread) in
+      ap (λ z. (slice_index_or z r nil).0) registers
+      ∙ (ap (λ p. p.0) (get_or-take 16 (drop (16 * i) places) r nil below ∙ get_or-drop (16 * i) places r nil)
+      ∙ (place_at at places st.registers (16 * i + r) are ∙ ap (λ z. place_word at (slice_index_or st.registers z None)) same));
+}
+
+-- ---- a mutator that begins again
+
+-- it rests, and nothing is asked of it in its phase
+rests_again : (e : Option MutEnd) → rests_in (phase_again e) ≡ true
+rests_again (Some ends.Ended) = refl
+rests_again e = refl
+
+-- nothing is asked of it in its phase
+may_again : (m : Mutating) (e : Option MutEnd) → MayBeIn m (phase_again e)
+may_again m (Some ends.Ended) = tt
+may_again m e = tt
+
+-- nothing is to be known of its operation
+steady_again : (m : Mutating) (e : Option MutEnd) → IsSteadyIn m (phase_again e)
+steady_again m (Some ends.Ended) = tt
+steady_again m e = tt
+
+-- what it shows: it rests, or it is through
+stage_again : (v : View) (m : Mutating) (e : Option MutEnd) → m.end ≡ e → (e ≡ Some ends.Ended → length v.replies ≡ length v.operations + 1) → (e ≢ Some ends.Ended → length v.replies ≤ length v.operations)
+    → StartsIn v (stage_in m (phase_again e))
+stage_again v m (Some ends.Ended) same all few = subst (λ r. StartsIn v (Through (reason_by r))) (sym same) (over (all refl))
+stage_again v m e same all few = anew (few (λ z. cc))
+
+-- it is a mutator still
+again_mutator : (l : Limits) (m : Mutating) (registers : List Place) → IsMutatorOf l m → length registers ≡ 16 → All IsHeld registers → IsMutatorOf l (again m registers)
+again_mutator l m registers is many held = record {
+  sound = let sound = is.sound in record {
+    thread = sound.thread;
+    operations = sound.operations;
+    few = sound.few;
+    every = sound.every;
+    registers = many;
+    held = held;
+    spans = sound.spans;
+    indexes = sound.indexes;
+    room = sound.room;
+    few_replies = sound.few_replies;
+    replies = elim sound.replies [ inl through ↦ inl (ap phase_again through.1, through.1) | inr few ↦ inr few ];
+    busy = λ e. let k : true ≡ false = sym (rests_again m.end) ∙ e in cc;
+    waits = sound.waits;
+    since = λ turn. let some = sound.every.0 in omega (arith, some);
+    phase = may_again (again m registers) m.end;
+  };
+  regions = is.regions;
+  steady = steady_again (again m registers) m.end;
+}
+
+-- before its end it has fewer replies
+unended : (m : Mutating) → IsMutator m → m.end ≢ Some ends.Ended → length m.replies.items ≤ length m.operations
+unended m is other = elim is.replies [ inl through ↦ absurd (other through.1) | inr few ↦ few ]
+
+-- it shows what mutators show as an epoch opens
+again_starts : (b : Beginning) (places : List Place) (i : ℕ) (m : Mutating) → ArePlacesOf b.meaning.at places b.meaning.moment.state.registers → length places ≡ 16 * (limits_of b).threads
+    → i < (limits_of b).threads → RestsAfter (limits_of b) b.every b.history (i + 1) m → Starts b i (view_of (again m (registers_in places i)))
+again_starts b places i m are many less rests =
+    let sound = rests.mutator.sound in
+    record {
+      thread = rests.thread;
+      formed = λ k d h. (sound.operations k d h).0;
+      endless = λ k d h. (sound.operations k d h).1;
+      few = sound.few;
+      every = (rests.every, sound.every.0);
+      registers = holds_registers b.meaning.moment.state b.meaning.at places (limits_of b).threads i (view_of (again m (registers_in places i))) are many less rests.thread refl;
+      log = rests.log;
+      spans = rests.spans;
+      since = refl;
+      calls = subst (λ t. calls_of t b.history ≡ take (length m.replies.items) (all_of m.operations)) (sym rests.thread) rests.calls;
+      replies = subst (λ t. replies_of t b.history ≡ m.replies.items) (sym rests.thread) rests.replies;
+      stage = stage_again (view_of (again m (registers_in places i))) (again m (registers_in places i)) m.end refl rests.ended (unended m sound);
+    }
+
+-- ---- all of them
+
+-- whose view it is
+pub view_at : (actors : List AnyActor) (i : ℕ) (v : View) → slice_get (map view_of (mutators_in actors)) i ≡ Some v → (a : AnyActor) × (slice_get actors i ≡ Some a) × (v ≡ view_of (mutator_in a))
+view_at [] i v e = cc
+view_at (a ∷ actors) zero v e = (a, refl, cc)
+view_at (a ∷ actors) (suc i) v e = view_at actors i v e
+
+-- as many views as actors
+pub views_length : (actors : List AnyActor) → length (map view_of (mutators_in actors)) ≡ length actors
+views_length [] = refl
+views_length (a ∷ actors) = ap suc (views_length actors)
+
+-- what it was
+was_at : (places : List Place) (before after : List AnyActor) (i : ℕ) (x : AnyActor) → HaveStarted places before after (length before) → slice_get after i ≡ Some x
+    → (a : AnyActor) × (slice_get before i ≡ Some a) × (x ≡ started_again a (registers_in places i))
+was_at places before after i x is there =
+    let many = is.as_many in
+    let inside = slice_get_within after i x there in
+    let below : i < length before = omega (arith, many, inside) in
+    let was = slice_get-get_or before i x below in
+    let now = is.started i (slice_index_or before i x) was below in
+    let same : Some x ≡ Some (started_again (slice_index_or before i x) (registers_in places i)) = sym there ∙ now in
+    (slice_index_or before i x, was, cc)
+
+-- of the actors of an epoch that may be opened, once all have begun again
+module _ (b : Beginning) (before after : List AnyActor) (begins : IsBeginning b) (rest : RestAfter (limits_of b) b.every b.history before)
+    (started : HaveStarted b.space.registers.items before after (length before)) where
+  -- the registers of the space
+  are : ArePlacesOf b.meaning.at b.space.registers.items b.meaning.moment.state.registers
+  are = begins.between.door.holds.image.registers
+
+  -- there are sixteen for each thread
+  many : length b.space.registers.items ≡ 16 * (limits_of b).threads
+  many = begins.between.door.holds.as_many.0
+
+  -- they hold places
+  places_held : All IsHeld b.space.registers.items
+  places_held = all_held (tables_of b.space) b.space.limits.blocks b.meaning.at b.meaning.moment b.space.registers.items begins.between.door.holds.follows begins.between.door.holds.image.image
+      begins.between.door.holds.space.limits.blocks.1 are
+
+  -- each actor is one that has begun again
+  below_threads : (i : ℕ) (a : AnyActor) → slice_get before i ≡ Some a → i < (limits_of b).threads
+  below_threads i a there = let inside = slice_get_within before i a there in let all = rest.as_many in omega (arith, inside, all)
+
+  -- all show what mutators show as an epoch opens
+  pub all_start : AllStart b (map view_of (mutators_in after))
+  all_start = record {
+    as_many = views_length after ∙ (started.as_many ∙ rest.as_many);
+    each = λ i v shown.
+        let x = view_at after i v shown in
+        let a = was_at b.space.registers.items before after i x.0 started x.1 in
+        let same : v ≡ view_of (again (mutator_in a.0) (registers_in b.space.registers.items i)) = x.2 ∙ ap (λ z. view_of (mutator_in z)) a.2 in
+        subst (Starts b i) (sym same) (again_starts b b.space.registers.items i (mutator_in a.0) are many (below_threads i a.0 a.1) (rest.each i a.0 a.1));
+  }
+
+  -- all are mutators still
+  pub all_mutators : (i : ℕ) (x : AnyActor) → slice_get after i ≡ Some x → IsMutatorOf (limits_of b) (mutator_in x)
+  all_mutators i x there =
+      let a = was_at b.space.registers.items before after i x started there in
+      subst (λ z. IsMutatorOf (limits_of b) (mutator_in z)) (sym a.2)
+      (again_mutator (limits_of b) (mutator_in a.0) (registers_in b.space.registers.items i) (rest.each i a.0 a.1).mutator
+      (sixteen_of b.space.registers.items (limits_of b).threads i many (below_threads i a.0 a.1)) (registers_held b.space.registers.items i places_held))
+
+-- what opening the epoch asks of the space and the actors
+pub held_before : (b : Beginning) (before : Space) (actors : List AnyActor) → MayOpen b before actors → All IsHeld before.registers.items
+held_before b before actors may =
+    let holds = may.begins.between.door.holds in
+    subst (λ s. All IsHeld s.registers.items) may.space_is
+    (all_held (tables_of b.space) b.space.limits.blocks b.meaning.at b.meaning.moment b.space.registers.items holds.follows holds.image.image holds.space.limits.blocks.1 holds.image.registers)
+
+-- the actors rest, and have given up what they drew
+pub may_all_start : (b : Beginning) (before : Space) (actors : List AnyActor) → MayOpen b before actors → MayAllStart actors
+may_all_start b before actors may i a there = record { rests = (may.actors_rest.each i a there).rests; spans = (may.actors_rest.each i a there).spans }
+
+-- the tables have as many words as there are
+size_is : (l : Limits) (words : List ℕ) → (tables_in l words).size ≡ length words
+unfolding tables_in
+size_is l words = refl
+
+-- the scene of these tables and views
+abbrev scene_with : Beginning → Tables → List View → Scene
+scene_with b t views = record { tables = t; views = views; history = b.history; at = b.meaning.at; cleared = [] }
+
+-- the scene of the story that begins
+scene_opened : (b : Beginning) (after : Space) (actors : List AnyActor) → after.limits ≡ b.space.limits
+    → tables_of after ≡ record (tables_of b.space) { cursors = changed (tables_of b.space).cursors 0 0 }
+    → opening_scene b (map view_of (mutators_in actors)) ≡ scene_of b (story_at b after actors) []
+scene_opened b after actors limits tables =
+    let same : tables_in b.space.limits after.words ≡ record (tables_of b.space) { cursors = changed (tables_of b.space).cursors 0 0 } =
+    ap (λ l. tables_in l after.words) (sym limits) ∙ tables in
+    ap (λ t. scene_with b t (map view_of (mutators_in actors))) (sym same)
+
+-- it is opened
+opened : (b : Beginning) (after : Space) (before now : List AnyActor) → MayOpen b b.space before
+    → Turns b.space after (record (tables_of b.space) { cursors = changed (tables_of b.space).cursors 0 0 })
+    → HaveStarted b.space.registers.items before now (length before) → Opens b b.space after now
+opened b after before now may turned started =
+    let limits : after.limits ≡ b.space.limits = ap (λ s. s.limits) turned.rest in
+    let start = all_start b before now may.begins may.actors_rest started in
+    let epoch = opens b (map view_of (mutators_in now)) may.begins start may.served.few may.served.unasked in
+    let size : (tables_in after.limits after.words).size ≡ region_begin b.space.limits 15 = ap (λ t. t.size) turned.tables ∙ may.begins.between.door.holds.space.size in
+    record {
+      story = (
+        [],
+        record {
+          epoch = subst (IsEpoch b) (scene_opened b after now limits turned.tables) epoch;
+          size = sym (size_is after.limits after.words) ∙ size;
+          mutators = all_mutators b before now may.begins may.actors_rest started;
+        },
+      );
+      rest = turned.rest;
+    }
+
+-- the same of the space as it stood before
+pub opened_at : (b : Beginning) (before after : Space) (actors now : List AnyActor) → MayOpen b before actors
+    → Turns before after (record (tables_of before) { cursors = changed (tables_of before).cursors 0 0 })
+    → HaveStarted after.registers.items actors now (length actors) → Opens b before after now
+opened_at b before after actors now may turned started =
+    let registers : after.registers ≡ before.registers = ap (λ s. s.registers) turned.rest in
+    let began : HaveStarted before.registers.items actors now (length actors) = subst (λ r. HaveStarted r.items actors now (length actors)) registers started in
+    subst (λ s. MayOpen b s actors → Turns s after (record (tables_of s) { cursors = changed (tables_of s).cursors 0 0 }) → HaveStarted s.registers.items actors now (length actors) → Opens b s after now)
+    may.space_is (opened b after actors now) may turned began

@@ -1,0 +1,103 @@
+-- What a space takes of mutators as an epoch closes.
+use Rattle.std.specs.Prelude.{◌≡◌, ℕ, ◌+◌, ◌*◌, ◌^◌, ◌<◌, ◌≤◌, true, Some, List, [], ◌∷◌, ◌++◌, length, slice_get, take}
+use Rattle.std.specs.List.{flat_map}
+use Rattle.lxr_layout.specs.declared.runs.LogEntry.{LogEntry}
+use Rattle.lxr_layout.specs.declared.Place.{Place}
+use Rattle.lxr_lists.specs.Roomy.{emptied}
+use Rattle.lxr_image.specs.declared.space.Space.{Space}
+use Rattle.lxr_image.specs.declared.space.Tally.{Tally}
+use Rattle.lxr_mutator.specs.declared.phases.MutTally.{MutTally}
+use Rattle.lxr_mutator.specs.Mutating.{Mutating, tally_of}
+use Rattle.lxr_mutator.specs.Mutators.{no_spans}
+use Rattle.lxr_mutator.specs.Steps.{rests_in}
+use Rattle.lxr_core.specs.declared.actors.AnyActor.{AnyActor}
+use Rattle.lxr_core.specs.declared.actors.AnyActor.TheVariants as any
+use Rattle.lxr_core.specs.Actors.{mutator_in}
+
+-- ---- one mutator
+
+-- a mutator that has given up its log's entries and what it had drawn and not filled
+abbrev pub given_up : Mutating → Mutating
+given_up m = record m { log = emptied m.log; spans = no_spans }
+
+-- an actor that has
+abbrev pub actor_given_up : AnyActor → AnyActor
+actor_given_up a = any.Mutator (given_up (mutator_in a))
+
+-- a tally with what the operations of a thread did
+abbrev pub tallied : Tally → MutTally → Tally
+tallied t done = record t { news = t.news + done.news; loads = t.loads + done.loads; stores = t.stores + done.stores }
+
+-- a space that has taken the registers, the entries and the tally of a mutator, behind those that it had
+abbrev pub taken_of : Space → Mutating → Space
+taken_of s m = record s {
+  registers = record s.registers { items = s.registers.items ++ m.registers };
+  logged = record s.logged { items = s.logged.items ++ m.log.items };
+  tally = tallied s.tally (tally_of m.replies.items);
+}
+
+-- a mutator may give up what it has, in a space where logs have so much room
+pub record MayGive (room : ℕ) (m : Mutating) : Type 0 where
+  pub rests : rests_in m.phase ≡ true
+  pub sixteen : length m.registers ≡ 16
+  pub log : length m.log.items ≤ room
+  pub replies : length m.replies.items ≤ 1048577
+
+-- a space has room for what another mutator gives
+pub record MayTake (s : Space) (m : Mutating) : Type 0 where
+  pub registers : length s.registers.items + 16 ≤ s.registers.room
+  pub logged : length s.logged.items + length m.log.items ≤ s.logged.room
+  pub news : s.tally.news ≤ 2 ^ 32
+  pub loads : s.tally.loads ≤ 2 ^ 32
+  pub stores : s.tally.stores ≤ 2 ^ 32
+
+-- ---- all mutators
+
+-- how many objects all threads together made
+abbrev pub news_of : List AnyActor → ℕ
+news_of [] = 0
+news_of (a ∷ actors) = (tally_of (mutator_in a).replies.items).news + news_of actors
+
+-- how many references they loaded
+abbrev pub loads_of : List AnyActor → ℕ
+loads_of [] = 0
+loads_of (a ∷ actors) = (tally_of (mutator_in a).replies.items).loads + loads_of actors
+
+-- how many they stored
+abbrev pub stores_of : List AnyActor → ℕ
+stores_of [] = 0
+stores_of (a ∷ actors) = (tally_of (mutator_in a).replies.items).stores + stores_of actors
+
+-- the tally with what the operations of these threads did
+abbrev pub tally_with : Tally → List AnyActor → Tally
+tally_with t actors = record t { news = news_of actors; loads = loads_of actors; stores = stores_of actors }
+
+-- the registers of all mutators, thread 1 first
+abbrev pub all_registers : List AnyActor → List Place
+all_registers actors = flat_map (λ a. (mutator_in a).registers) actors
+
+-- the entries of all mutators
+abbrev pub all_entries : List AnyActor → List LogEntry
+all_entries actors = flat_map (λ a. (mutator_in a).log.items) actors
+
+-- a space that has the registers, the entries and the tally of these mutators
+abbrev pub holding : Space → List AnyActor → Space
+holding s actors = record s {
+  registers = record s.registers { items = all_registers actors };
+  logged = record s.logged { items = all_entries actors };
+  tally = tally_with s.tally actors;
+}
+
+-- there are no more mutators than a space has room for, and each may give up what it has
+pub record MayAllGive (s : Space) (actors : List AnyActor) : Type 0 where
+  pub few : length actors ≤ 16
+  pub registers : 16 * length actors ≤ s.registers.room
+  pub logged : length actors * s.limits.log ≤ s.logged.room
+  pub each : (i : ℕ) (a : AnyActor) → slice_get actors i ≡ Some a → MayGive s.limits.log (mutator_in a)
+
+-- the first so many mutators have given up what they had, and the space has it
+pub record HaveGiven (start : Space) (before : List AnyActor) (now : Space) (after : List AnyActor) (count : ℕ) : Type 0 where
+  pub as_many : length after ≡ length before
+  pub given : (i : ℕ) (a : AnyActor) → slice_get before i ≡ Some a → i < count → slice_get after i ≡ Some (actor_given_up a)
+  pub others : (i : ℕ) → count ≤ i → slice_get after i ≡ slice_get before i
+  pub space : now ≡ holding start (take count before)

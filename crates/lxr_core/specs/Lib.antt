@@ -1,0 +1,7 @@
+pub mod Actors
+pub mod Stories
+pub mod Resting
+pub mod Starting
+pub mod Opening
+pub mod Collecting
+pub mod Closing

@@ -1,0 +1,38 @@
+-- Actors between two epochs.
+use Rattle.std.specs.Prelude.{◌≡◌, ℕ, ◌+◌, ◌≤◌, false, true, Some, [], List, length, slice_get, take}
+use Rattle.lxr_layout.specs.declared.limits.Limits.{Limits}
+use Rattle.lxr_graph.specs.History.{Item, calls_of, replies_of}
+use Rattle.lxr_model.specs.Belongs.{calls_since_pause, has_asked}
+use Rattle.lxr_mutator.specs.declared.phases.MutEnd.TheVariants as ends
+use Rattle.lxr_mutator.specs.Mutating.{IsWaiting, Mutating}
+use Rattle.lxr_mutator.specs.Mutators.{no_spans}
+use Rattle.lxr_mutator.specs.Steps.{rests_in}
+use Rattle.lxr_epoch.specs.Views.{all_of}
+use Rattle.lxr_steps.specs.Showing.{IsMutatorOf}
+use Rattle.lxr_core.specs.declared.actors.AnyActor.{AnyActor}
+use Rattle.lxr_core.specs.Actors.{mutator_in}
+
+-- The mutator of a thread rests after a history, in a space of these limits: it has done a beginning of its operations, each
+-- once and in order, with the replies of the history; its log is empty, and so are its spans.
+pub record RestsAfter (l : Limits) (turns : ℕ) (h : List Item) (t : ℕ) (m : Mutating) : Type 0 where
+  pub mutator : IsMutatorOf l m
+  pub thread : m.thread ≡ t
+  pub every : m.every ≡ turns
+  pub log : m.log ≡ record { items = []; room = l.log }
+  pub spans : m.spans ≡ no_spans
+  pub rests : rests_in m.phase ≡ true
+  pub calls : calls_of t h ≡ take (length m.replies.items) (all_of m.operations)
+  pub replies : replies_of t h ≡ m.replies.items
+  -- where it has ended, all operations and the end have replies
+  pub ended : m.end ≡ Some ends.Ended → length m.replies.items ≡ length m.operations + 1
+
+-- there is one mutator for each thread, in order, and each rests
+pub record RestAfter (l : Limits) (turns : ℕ) (h : List Item) (actors : List AnyActor) : Type 0 where
+  pub as_many : length actors ≡ l.threads
+  pub each : (i : ℕ) (a : AnyActor) → slice_get actors i ≡ Some a → RestsAfter l turns h (i + 1) (mutator_in a)
+
+-- no `new` waits any more, and since the last pause each thread has had at most the call of one that waited
+pub record AreServed (h : List Item) (actors : List AnyActor) : Type 0 where
+  pub unwaiting : (i : ℕ) (a : AnyActor) → slice_get actors i ≡ Some a → IsWaiting (mutator_in a) → ⊥
+  pub few : (t : ℕ) → calls_since_pause t h ≤ 1
+  pub unasked : (t : ℕ) → has_asked t h ≡ false

@@ -1,0 +1,84 @@
+//! The closing of an epoch.
+ghost use Rattle.std.specs.Prelude.{◌≡◌, ◌+◌, ◌^◌, ◌++◌, ◌<◌, ◌≤◌, length};
+ghost use Rattle.lxr_epoch.specs.Scenes.{Beginning};
+ghost use Rattle.lxr_core.specs.Closing.{Closes, MayClose};
+ghost use Rattle.lxr_core.specs.Collecting.{HaveGiven, MayAllGive, MayGive, MayTake, given_up, taken_of, tallied};
+ghost use Rattle.lxr_core.specs.Stories.{Story};
+
+use crate::actors::AnyActor;
+use lxr_barrier::Log;
+use lxr_epoch_closing::hand_out_drawn;
+use lxr_image::{Entries, Places, Space, Tally};
+use lxr_mutator::{MutTally, Mutator};
+
+/// Closes an epoch in which all actors are through: the space takes each mutator's registers, log and tally, and what
+/// mutators drew is handed out. Then it is at a pause's door.
+pub fn close_epoch(space: &mut Space, actors: &mut [AnyActor])
+    requires { (b : Beginning) × (story : Story) × MayClose b story space.old actors.old }
+    ensures { (b : Beginning) (story : Story) → MayClose b story space.old actors.old → Closes b story space.old space.new actors.new }
+{
+    collect_all(space, actors);
+    hand_out_drawn(space);
+}
+
+/// Takes all that mutators have, thread 1 first, in place of what the space had.
+fn collect_all(space: &mut Space, actors: &mut [AnyActor])
+    requires { MayAllGive space.old actors.old }
+    ensures { HaveGiven space.old actors.old space.new actors.new (length actors.old) }
+{
+    space.registers.clear();
+    space.logged.clear();
+    space.tally.news = 0;
+    space.tally.loads = 0;
+    space.tally.stores = 0;
+    for number in 0..actors.len() {
+        actors[number].give_up(space);
+    }
+}
+
+/// Takes what a mutator has, behind what the space has.
+pub(crate) fn collect(space: &mut Space, mutator: &mut Mutator)
+    requires gives { MayGive space.old.limits.log mutator.old }
+    requires takes { MayTake space.old mutator.old }
+    ensures space { space.new ≡ taken_of space.old mutator.old }
+    ensures mutator { mutator.new ≡ given_up mutator.old }
+{
+    collect_registers(&mut space.registers, mutator);
+    collect_entries(&mut space.logged, mutator.log());
+    add(&mut space.tally, mutator.tally());
+    mutator.clear_log();
+    mutator.empty_spans();
+}
+
+/// Takes a mutator's registers, behind those that are there.
+fn collect_registers(registers: &mut Places, mutator: &Mutator)
+    requires sixteen { length mutator.now.registers ≡ 16 }
+    requires room { length registers.old.items + 16 ≤ registers.old.room }
+    ensures { registers.new ≡ record registers.old { items = registers.old.items ++ mutator.now.registers } }
+{
+    for number in 0..16 {
+        registers.push(mutator.register(number));
+    }
+}
+
+/// Takes a log's entries, behind those that are there.
+fn collect_entries(entries: &mut Entries, log: &Log)
+    requires room { length entries.old.items + length log.now.items ≤ entries.old.room }
+    ensures { entries.new ≡ record entries.old { items = entries.old.items ++ log.now.items } }
+{
+    for at in 0..log.len() {
+        entries.push(log.entry(at));
+    }
+}
+
+/// Counts what the operations of a thread did.
+fn add(tally: &mut Tally, done: MutTally)
+    requires news { tally.old.news + done.news < 2 ^ 64 }
+    requires loads { tally.old.loads + done.loads < 2 ^ 64 }
+    requires stores { tally.old.stores + done.stores < 2 ^ 64 }
+    ensures { tally.new ≡ tallied tally.old done }
+{
+    tally.news += u64::from(done.news);
+    tally.loads += u64::from(done.loads);
+    tally.stores += u64::from(done.stores);
+}

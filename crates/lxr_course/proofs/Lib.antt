@@ -1,0 +1,7 @@
+pub mod ActorLemmas
+pub mod PauseLemmas
+pub mod ServingLemmas
+pub mod TurnLemmas
+pub mod EpochLemmas
+pub mod EndLemmas
+pub mod OpeningLemmas

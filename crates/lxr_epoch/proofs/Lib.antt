@@ -1,0 +1,5 @@
+pub mod HeldLemmas
+pub mod TellingLemmas
+pub mod ShowingLemmas
+pub mod ActingLemmas
+pub mod ObjectLemmas

@@ -1,0 +1,92 @@
+-- The history and what mutators show of it: each has done a beginning of its thread's operations, each once and in order,
+-- with the replies that it keeps.
+use Rattle.std.specs.Prelude.{◌≡◌, ◌≢◌, ℕ, ◌+◌, ◌<◌, ◌≤◌, ⊤, All, false, Some, [], ◌∷◌, ◌++◌, length, slice_get, take, IsTrue}
+use Rattle.lxr_layout.specs.declared.Name.{Name}
+use Rattle.lxr_layout.specs.declared.Shape.{Shape}
+use Rattle.lxr_graph.specs.declared.Op.TheVariants as op
+use Rattle.lxr_graph.specs.declared.Reply.TheVariants as reply
+use Rattle.lxr_graph.specs.History.{calls_of, replies_of}
+use Rattle.lxr_graph.specs.Names.{has}
+use Rattle.lxr_graph.specs.Step.{IsWellFormed}
+use Rattle.lxr_model.specs.Belongs.{calls_since_pause, has_asked}
+use Rattle.lxr_between.specs.Meaning.{members}
+use Rattle.lxr_epoch.specs.Views.{Intent, Reason, Stage, View, all_of, op_now, GivesUp, Rests, Works, Names, Through}
+use Rattle.lxr_epoch.specs.Views as why
+use Rattle.lxr_epoch.specs.Scenes.{Beginning, Scene, limits_of, moment_of}
+use Rattle.lxr_epoch.specs.Events.{Does}
+use Rattle.lxr_epoch.specs.Happening.{DoesNew, DoesStore}
+
+-- how many operations stand in the history: each with a reply, and a load that is yet to tell a name
+abbrev pub waiting_in : Stage → ℕ
+waiting_in (Names place) = 1
+waiting_in _ = 0
+
+-- a member's object stands at a place, and its name is the reply that is yet to come
+pub record IsToTell (b : Beginning) (s : Scene) (v : View) (place : ℕ) : Type 0 where
+  pub name : Name
+  pub member : IsTrue (has (members (moment_of b s)) name)
+  pub stands : place ≡ s.at name
+  pub loads : (dest base index : ℕ) × Does v (op.Load dest base index)
+  pub reply : replies_of v.thread s.history ≡ v.replies ++ reply.Loaded (Some name) ∷ []
+
+abbrev pub AreReplies : Beginning → Scene → View → Stage → Type 0
+AreReplies b s v (Names place) = IsToTell b s v place
+AreReplies b s v _ = replies_of v.thread s.history ≡ v.replies
+
+-- its end, at least, is yet to come
+abbrev pub IsUnended : View → Type 0
+IsUnended v = length v.replies ≤ length v.operations
+
+-- why a mutator gives up, or is through
+abbrev pub HasReason : Scene → View → Reason → Type 0
+HasReason s v why.NoRun = ((shape : Shape) × DoesNew v shape) × (s.tables.cursors 4 ≤ s.tables.cursors 3)
+HasReason s v why.LogFull = DoesStore v × (v.log.room ≤ length v.log.items)
+HasReason s v why.Asked = (s.tables.cursors 0 ≡ 1) × IsUnended v
+HasReason s v why.Turns = (v.since ≡ v.every) × IsUnended v
+HasReason s v why.Ended = length v.replies ≡ length v.operations + 1
+
+-- who gives up does so for want of room, in the heap or in its log
+abbrev pub IsWant : Reason → Type 0
+IsWant why.NoRun = ⊤
+IsWant why.LogFull = ⊤
+IsWant _ = ⊥
+
+-- How a mutator stands to the operations that it may still do: before it is through, it hasn't done so many, has done fewer
+-- than all and its end, and hasn't asked for a pause where it is in the middle of one.
+abbrev pub GoesOn : Scene → View → Stage → Type 0
+GoesOn s v Rests = (v.since < v.every) × (length v.replies ≤ length v.operations)
+GoesOn s v (Works (GivesUp reason)) = (v.since < v.every) × (length v.replies ≤ length v.operations) × (has_asked v.thread s.history ≡ false) × IsWant reason × HasReason s v reason
+GoesOn s v (Works intent) = (v.since < v.every) × (length v.replies ≤ length v.operations) × (has_asked v.thread s.history ≡ false)
+GoesOn s v (Names place) = (v.since < v.every) × (length v.replies < length v.operations) × (has_asked v.thread s.history ≡ false)
+GoesOn s v (Through reason) = (v.since ≤ v.every) × (length v.replies ≤ length v.operations + 1) × HasReason s v reason
+
+-- the calls of the end and of a `new` that was served or refused before the epoch aren't counted by `since`
+abbrev pub uncounted : Stage → ℕ
+uncounted (Through why.Ended) = 2
+uncounted _ = 1
+
+pub record HasCalled (b : Beginning) (s : Scene) (v : View) : Type 0 where
+  pub formed : All IsWellFormed v.operations
+  pub endless : All (λ o. o ≢ op.End) v.operations
+  pub few : length v.operations ≤ 1048576
+  pub every : v.every ≡ b.every
+  pub calls : calls_of v.thread s.history ≡ take (length v.replies + waiting_in v.stage) (all_of v.operations)
+  pub replies : AreReplies b s v v.stage
+  -- `since` counts none of the calls since the last pause that stood in the history as the epoch began
+  pub counted : v.since + waiting_in v.stage + calls_since_pause v.thread b.history ≤ calls_since_pause v.thread s.history
+  pub short : calls_since_pause v.thread s.history ≤ v.since + waiting_in v.stage + uncounted v.stage
+  -- who asked for a pause has set the pause word
+  pub asked : IsTrue (has_asked v.thread s.history) → s.tables.cursors 0 ≡ 1
+  pub goes_on : GoesOn s v v.stage
+
+-- who set the pause word: a thread that asked, or one that gave up
+abbrev pub SetsPauseWord : Scene → View → Stage → Type 0
+SetsPauseWord s v (Through why.NoRun) = ⊤
+SetsPauseWord s v (Through why.LogFull) = ⊤
+SetsPauseWord s v _ = IsTrue (has_asked v.thread s.history)
+
+pub record AreCalled (b : Beginning) (s : Scene) : Type 0 where
+  pub as_many : length s.views ≡ (limits_of b).threads
+  pub threads : (i : ℕ) (v : View) → slice_get s.views i ≡ Some v → v.thread ≡ i + 1
+  pub each : (i : ℕ) (v : View) → slice_get s.views i ≡ Some v → HasCalled b s v
+  pub word : s.tables.cursors 0 ≡ 1 → (i : ℕ) × (v : View) × (slice_get s.views i ≡ Some v) × SetsPauseWord s v v.stage

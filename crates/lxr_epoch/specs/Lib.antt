@@ -1,0 +1,11 @@
+pub mod Views
+pub mod Scenes
+pub mod Events
+pub mod Happening
+pub mod Imaged
+pub mod Logged
+pub mod Drawn
+pub mod Called
+pub mod Epoch
+pub mod Laws
+pub mod Through

@@ -1,0 +1,3 @@
+pub mod HandingOut
+pub mod Door
+pub mod Cause

@@ -1,0 +1,9 @@
+pub mod ViewLemmas
+pub mod PlaceLemmas
+pub mod TurnLemmas
+pub mod CallLemmas
+pub mod ReferenceLemmas
+pub mod FirstLemmas
+pub mod StoreLemmas
+pub mod EventLemmas
+pub mod ClosingLemmas

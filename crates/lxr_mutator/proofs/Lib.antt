@@ -1,0 +1,7 @@
+pub mod RunLemmas
+pub mod NowLemmas
+pub mod PlacedLemmas
+pub mod NearerLemmas
+pub mod LengthLemmas
+pub mod RuleLemmas
+pub mod StayLemmas

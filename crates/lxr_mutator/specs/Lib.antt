@@ -1,0 +1,6 @@
+pub mod Operating
+pub mod Mutating
+pub mod Steps
+pub mod Mutators
+pub mod Seen
+pub mod Laws

@@ -1,0 +1,82 @@
+-- What contracts see of a mutator, and what it is about to do.
+use Rattle.std.specs.Prelude.{ℕ, ◌+◌, ◌≡◌, Bool, true, false, Option, Some, None, List, length, slice_index_or}
+use Rattle.std.specs.List.{count_by}
+use Rattle.lxr_layout.specs.declared.Place.{Place}
+use Rattle.lxr_layout.specs.declared.Name.{Name}
+use Rattle.lxr_layout.specs.declared.LogEntry.{LogEntry}
+use Rattle.lxr_layout.specs.declared.limits.Regions.{Regions}
+use Rattle.lxr_lists.specs.Roomy.{Roomy}
+use Rattle.lxr_graph.specs.declared.Op.{Op}
+use Rattle.lxr_graph.specs.declared.Op.TheVariants as op
+use Rattle.lxr_graph.specs.declared.Reply.{Reply}
+use Rattle.lxr_graph.specs.declared.Reply.TheVariants as reply
+use Rattle.lxr_alloc.specs.declared.Spans.{Spans}
+use Rattle.lxr_mutator.specs.declared.phases.MutEnd.{MutEnd}
+use Rattle.lxr_mutator.specs.declared.phases.MutEnd.TheVariants as ends
+use Rattle.lxr_mutator.specs.declared.phases.MutTally.{MutTally}
+use Rattle.lxr_mutator.specs.declared.phases.Phase.{Phase}
+use Rattle.lxr_mutator.specs.declared.phases.Waiting.{Waiting}
+use Rattle.lxr_mutator.specs.Operating.{dest_of, shape_made}
+
+-- A thread of a script: its operations and where it runs; its log, registers and spans; the replies so far, how many
+-- operations it did since the epoch began, where its unit is, and how its last unit ended.
+pub record Mutating : Type 0 where
+  pub thread : ℕ
+  pub operations : List Op
+  pub regions : Regions
+  pub every : ℕ
+  pub log : Roomy LogEntry
+  pub registers : List Place
+  pub spans : Spans
+  pub replies : Roomy Reply
+  pub since : ℕ
+  pub phase : Phase
+  pub end : Option MutEnd
+
+-- the place of nothing
+abbrev pub nil : Place
+nil = record { 0 = 0 }
+
+-- the operation whose turn it is: the first without a reply, and the thread's end once all have one
+abbrev pub op_now : Mutating → Op
+op_now m = slice_index_or m.operations (length m.replies.items) op.End
+
+-- what a register holds
+abbrev pub register : Mutating → ℕ → Place
+register m r = slice_index_or m.registers r nil
+
+-- a reply to a `new` that made an object
+abbrev pub is_new : Reply → Bool
+is_new (reply.New n) = true
+is_new r = false
+
+-- a reply to a `load` that was done
+abbrev pub is_loaded : Reply → Bool
+is_loaded (reply.Loaded n) = true
+is_loaded r = false
+
+-- a reply to a `store` that was done
+abbrev pub is_stored : Reply → Bool
+is_stored reply.Stored = true
+is_stored r = false
+
+-- how many replies are of each of these kinds
+abbrev pub tally_of : List Reply → MutTally
+tally_of rs = record { news = count_by is_new rs; loads = count_by is_loaded rs; stores = count_by is_stored rs }
+
+-- how many objects it has made
+abbrev pub made : Mutating → ℕ
+made m = count_by is_new m.replies.items
+
+-- the name of the next object that it makes
+abbrev pub next_name : Mutating → Name
+next_name m = record { thread = m.thread; serial = made m + 1 }
+
+-- its last unit ended for want of free lines, and its `new` was since neither served nor refused
+abbrev pub IsWaiting : Mutating → Type 0
+IsWaiting m = m.end ≡ Some ends.NoRun
+
+-- what it waits for, by how its last unit ended
+abbrev pub waiting_by : Mutating → Option MutEnd → Option Waiting
+waiting_by m (Some ends.NoRun) = Some (record { dest = dest_of (op_now m); shape = shape_made (op_now m) })
+waiting_by m e = None

@@ -1,0 +1,164 @@
+-- What holds of each mutator, and what becomes of it between its steps.
+use Rattle.std.specs.Prelude.{◌≡◌, ◌≢◌, ℕ, ◌+◌, ◌/◌, ◌^◌, ◌<◌, ◌≤◌, ◌⊎◌, false, Option, Some, None, List, [], length, replicate}
+use Rattle.std.specs.List.{All}
+use Rattle.lxr_layout.specs.declared.Place.{Place}
+use Rattle.lxr_layout.specs.declared.Shape.{Shape}
+use Rattle.lxr_layout.specs.declared.LogEntry.{LogEntry}
+use Rattle.lxr_layout.specs.declared.limits.Limits.{Limits}
+use Rattle.lxr_layout.specs.declared.limits.Regions.{Regions}
+use Rattle.lxr_layout.specs.Objects.{word_count, line_count}
+use Rattle.lxr_layout.specs.Places.{IsPlace}
+use Rattle.lxr_layout.specs.Spaces.{region_begin}
+use Rattle.lxr_lists.specs.Roomy.{Roomy, pushed}
+use Rattle.lxr_graph.specs.declared.Op.{Op}
+use Rattle.lxr_graph.specs.declared.Op.TheVariants as op
+use Rattle.lxr_graph.specs.declared.Reply.{Reply}
+use Rattle.lxr_graph.specs.Step.{IsWellFormed}
+use Rattle.lxr_alloc.specs.declared.Spans.{Spans}
+use Rattle.lxr_alloc.specs.Spans.{HasRoom, empty_span}
+use Rattle.lxr_barrier.specs.Storing.{end_of}
+use Rattle.lxr_barrier.specs.Storers.{HasRoomIn}
+use Rattle.lxr_mutator.specs.declared.phases.MutEnd.{MutEnd}
+use Rattle.lxr_mutator.specs.declared.phases.MutEnd.TheVariants as ends
+use Rattle.lxr_mutator.specs.declared.phases.Phase.{Phase}
+use Rattle.lxr_mutator.specs.declared.phases.Phase.TheVariants as phase
+use Rattle.lxr_mutator.specs.Mutating.{IsWaiting, Mutating, nil}
+use Rattle.lxr_mutator.specs.Steps.{rests_in, shape_now}
+
+-- an operation of a script: no end
+abbrev pub IsOperation : Op → Type 0
+IsOperation o = IsWellFormed o × (o ≢ op.End)
+
+-- nil or a place
+abbrev pub IsHeld : Place → Type 0
+IsHeld p = p.0 ≤ 2 ^ 21
+
+-- no granules left, and none to give back
+abbrev pub no_spans : Spans
+no_spans = record { current = empty_span; overflow = empty_span }
+
+-- the granules of its spans are granules of the largest heap
+abbrev pub AreInHeap : Spans → Type 0
+AreInHeap s = (s.current.end ≤ 2 ^ 21) × (s.overflow.end ≤ 2 ^ 21)
+
+-- the words of tables and cursors have indexes of 32 bits
+pub record HaveIndexes (r : Regions) : Type 0 where
+  pub unlogged : r.unlogged + r.counts / 64 < 2 ^ 32
+  pub frees : r.frees < 2 ^ 32
+  pub decs : r.decs < 2 ^ 32
+  pub cursors : r.cursors + 16 < 2 ^ 32
+
+-- the regions of a space of these limits
+abbrev pub regions_of : Limits → Regions
+regions_of l = record {
+  heap = 0;
+  counts = region_begin l 1;
+  starts = region_begin l 2;
+  marks = region_begin l 3;
+  grays = region_begin l 4;
+  dones = region_begin l 5;
+  unlogged = region_begin l 6;
+  reuse = region_begin l 7;
+  outs = region_begin l 8;
+  states = region_begin l 9;
+  runs = region_begin l 10;
+  frees = region_begin l 11;
+  decs = region_begin l 12;
+  remembered = region_begin l 13;
+  cursors = region_begin l 14;
+  total = region_begin l 15;
+}
+
+-- an object of this shape has one line, and `current` has no room for it
+abbrev pub NeedsRun : Spans → Shape → Type 0
+NeedsRun spans shape = (line_count shape ≤ 1) × ¬ HasRoom spans.current shape
+
+-- `current` has no room for an object of this shape
+abbrev pub NeedsBlock : Spans → Shape → Type 0
+NeedsBlock spans shape = ¬ HasRoom spans.current shape
+
+module _ (r : Regions) (log : Roomy LogEntry) (spans : Spans) (shape : Shape) where
+  -- what holds in a phase of a mutator with these regions, this log and these spans, whose `new` makes this shape
+  abbrev pub IsIn : Phase → Type 0
+  IsIn phase.Ready = Unit {0}
+  IsIn phase.Finished = Unit {0}
+  IsIn (phase.Base base) = IsPlace base
+  IsIn (phase.Reference base) = IsPlace base
+  IsIn (phase.Referent place) = IsPlace place
+  IsIn (phase.Datum base refs) = IsPlace base
+  IsIn (phase.Putting base refs) = IsPlace base
+  IsIn (phase.Storing store) = HasRoomIn store.phase log × (end_of store ≡ None)
+  IsIn phase.DrawsRun = NeedsRun spans shape
+  IsIn (phase.RunNumber number) = NeedsRun spans shape
+  IsIn (phase.Run number) = NeedsRun spans shape × (r.runs + number < r.frees)
+  IsIn phase.DrawsBlock = NeedsBlock spans shape
+  IsIn (phase.BlockNumber number) = NeedsBlock spans shape
+  IsIn (phase.Block number) = NeedsBlock spans shape × (r.frees + number < r.decs)
+  IsIn (phase.Wiping place next) = IsPlace place × ((1 ≤ next) × (next < word_count shape))
+  IsIn (phase.Heading place) = IsPlace place
+  IsIn phase.Asking = Unit {0}
+  IsIn (phase.GivingUp why) = Unit {0}
+
+-- what holds in this phase, were it the mutator's
+abbrev pub MayBeIn : Mutating → Phase → Type 0
+MayBeIn m = IsIn m.regions m.log m.spans (shape_now m)
+
+-- its end is done
+abbrev pub IsThrough : Mutating → Type 0
+IsThrough m = (m.phase ≡ phase.Finished) × (m.end ≡ Some ends.Ended)
+
+-- what holds of each mutator
+pub record IsMutator (m : Mutating) : Type 0 where
+  pub thread : (1 ≤ m.thread) × (m.thread ≤ 16)
+  pub operations : All IsOperation m.operations
+  pub few : length m.operations ≤ 1048576
+  pub every : (1 ≤ m.every) × (m.every ≤ 1048576)
+  pub registers : length m.registers ≡ 16
+  pub held : All IsHeld m.registers
+  pub spans : AreInHeap m.spans
+  pub indexes : HaveIndexes m.regions
+  -- there is room for each reply, that of the thread's end too
+  pub room : m.replies.room ≡ length m.operations + 1
+  pub few_replies : length m.replies.items ≤ length m.operations + 1
+  pub replies : IsThrough m ⊎ (length m.replies.items ≤ length m.operations)
+  -- a unit that is in progress, or that waits, is that of an operation
+  pub busy : rests_in m.phase ≡ false → length m.replies.items < length m.operations
+  pub waits : IsWaiting m → length m.replies.items < length m.operations
+  -- it goes on only where it may do a further operation in this epoch
+  pub since : m.phase ≢ phase.Finished → m.since < m.every
+  pub phase : MayBeIn m m.phase
+
+-- it is in this phase of an operation
+pub record IsBusy (m : Mutating) (p : Phase) : Type 0 where
+  pub phase : m.phase ≡ p
+  pub operation : length m.replies.items < length m.operations
+  pub may : MayBeIn m p
+
+-- a mutator as it is made
+abbrev pub first : ℕ → List Op → Limits → ℕ → Mutating
+first thread operations limits every = record {
+  thread = thread;
+  operations = operations;
+  regions = regions_of limits;
+  every = every;
+  log = record { items = []; room = limits.log };
+  registers = replicate 16 nil;
+  spans = no_spans;
+  replies = record { items = []; room = length operations + 1 };
+  since = 0;
+  phase = phase.Ready;
+  end = None;
+}
+
+-- its `new` is done from outside with this reply, in no turn of its own
+abbrev pub answered : Mutating → Reply → Mutating
+answered m r = record m { replies = pushed m.replies r; end = Some (ends.OpDone r) }
+
+-- where a new epoch finds it
+abbrev pub phase_again : Option MutEnd → Phase
+phase_again (Some ends.Ended) = phase.Finished
+phase_again e = phase.Ready
+
+-- a new epoch begins, with these registers
+abbrev pub again : Mutating → List Place → Mutating
+again m registers = record m { registers = registers; since = 0; phase = phase_again m.end }

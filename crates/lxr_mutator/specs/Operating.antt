@@ -1,0 +1,44 @@
+-- What the parts of an operation are: each reading is of any operation, and gives 0 where it has no such part.
+use Rattle.std.specs.Prelude.{ℕ}
+use Rattle.lxr_layout.specs.declared.Shape.{Shape}
+use Rattle.lxr_graph.specs.declared.Op.{Op}
+use Rattle.lxr_graph.specs.declared.Op.TheVariants as op
+use Rattle.lxr_graph.specs.declared.Reply.{Reply}
+use Rattle.lxr_graph.specs.declared.Reply.TheVariants as reply
+
+-- the register that gets what is made or loaded
+abbrev pub dest_of : Op → ℕ
+dest_of (op.New dest shape) = dest
+dest_of (op.Load dest base index) = dest
+dest_of o = 0
+
+-- the reference or data word of the base
+abbrev pub index_of : Op → ℕ
+index_of (op.Load dest base index) = index
+index_of (op.Store base index source) = index
+index_of (op.Put base index value) = index
+index_of (op.Get base index) = index
+index_of o = 0
+
+-- what `put` stores
+abbrev pub value_of : Op → ℕ
+value_of (op.Put base index value) = value
+value_of o = 0
+
+-- the shape of what `new` makes
+abbrev pub shape_made : Op → Shape
+shape_made (op.New dest shape) = shape
+shape_made o = record { refs = 0; values = 0 }
+
+-- how many fields of its kind a base of this shape has: references for `load` and `store`, data words for `put` and `get`
+abbrev pub field_count : Op → Shape → ℕ
+field_count (op.Load dest base index) shape = shape.refs
+field_count (op.Store base index source) shape = shape.refs
+field_count (op.Put base index value) shape = shape.values
+field_count (op.Get base index) shape = shape.values
+field_count o shape = 0
+
+-- the reply to `pause` and `collect`
+abbrev pub asked_reply : Op → Reply
+asked_reply op.Collect = reply.Collected
+asked_reply o = reply.Paused

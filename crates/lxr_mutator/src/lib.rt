@@ -1,0 +1,15 @@
+//! A thread of a script as a machine of single atomic steps.
+//!
+//! One unit of a `Mutator` is one operation of its script. It begins with a look at the pause word, so that a pause
+//! waits for at most one operation of each thread. What contracts say of the words is exact: each step is named, with
+//! what the mutator makes of the word that it finds. Nothing is said here of what the words of several threads mean.
+#![tactic(auto)]
+
+mod laws;
+mod mutator;
+mod operating;
+mod phases;
+
+pub use laws::{mutators_give_up_by_rules, mutators_stay_so, units_are_short};
+pub use mutator::Mutator;
+pub use phases::{MutEnd, MutTally, Phase, Stop, Waiting};

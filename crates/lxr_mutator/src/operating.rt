@@ -1,0 +1,85 @@
+//! The parts of an operation: each function reads any operation.
+ghost use Rattle.std.specs.Prelude.{◌≡◌, ◌<◌};
+ghost use Rattle.lxr_layout.specs.Objects.{FitsShape};
+ghost use Rattle.lxr_graph.specs.Step.{IsWellFormed};
+ghost use Rattle.lxr_mutator.specs.Operating.{asked_reply, dest_of, field_count, index_of, shape_made, value_of};
+
+use lxr_graph::{Op, Reply};
+use lxr_layout::Shape;
+
+/// The register that gets what `new` makes or `load` loads; 0 for all else.
+#[inline(always)]
+pub fn dest_of(op: Op) -> u8
+    requires { IsWellFormed op }
+    ensures register { result ≡ dest_of op }
+    ensures exists { result < 16 }
+{
+    match op {
+        Op::New { dest, .. } => dest,
+        Op::Load { dest, .. } => dest,
+        _ => 0,
+    }
+}
+
+/// The index of a field of the base; 0 where the operation has none.
+#[inline(always)]
+pub fn index_of(op: Op) -> u16
+    ensures { result ≡ index_of op }
+{
+    match op {
+        Op::Load { index, .. } => index,
+        Op::Store { index, .. } => index,
+        Op::Put { index, .. } => index,
+        Op::Get { index, .. } => index,
+        _ => 0,
+    }
+}
+
+/// What `put` stores; 0 for all else.
+#[inline(always)]
+pub fn value_of(op: Op) -> u64
+    ensures { result ≡ value_of op }
+{
+    match op {
+        Op::Put { value, .. } => value,
+        _ => 0,
+    }
+}
+
+/// The shape of what `new` makes; no fields for all else.
+#[inline(always)]
+pub fn shape_made(op: Op) -> Shape
+    requires { IsWellFormed op }
+    ensures shape { result ≡ shape_made op }
+    ensures fits { FitsShape result }
+{
+    match op {
+        Op::New { shape, .. } => shape,
+        _ => Shape { refs: 0, values: 0 },
+    }
+}
+
+/// How many fields a base of this shape has of the kind that the operation goes to.
+#[inline(always)]
+pub fn field_count(op: Op, shape: Shape) -> u16
+    ensures { result ≡ field_count op shape }
+{
+    match op {
+        Op::Load { .. } => shape.refs,
+        Op::Store { .. } => shape.refs,
+        Op::Put { .. } => shape.values,
+        Op::Get { .. } => shape.values,
+        _ => 0,
+    }
+}
+
+/// The reply to `pause` and `collect`.
+#[inline(always)]
+pub fn asked_reply(op: Op) -> Reply
+    ensures { result ≡ asked_reply op }
+{
+    match op {
+        Op::Collect => Reply::Collected,
+        _ => Reply::Paused,
+    }
+}

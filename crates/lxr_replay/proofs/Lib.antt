@@ -1,0 +1,6 @@
+pub mod WorkLemmas
+pub mod NumberLemmas
+pub mod PickLemmas
+pub mod TurnLemmas
+pub mod ReplayLemmas
+pub mod ShiftLemmas

@@ -1,0 +1,186 @@
+-- How the history of a run grows: by the calls of an epoch, by the call of a `new` that waited, by a pause that has a
+-- cause, and by its end.
+use Rattle.std.proofs.Common.{◌≡◌, ℕ, suc, ◌<◌, ◌≤◌, refl, sym, ap, subst, ◌∙◌, inl, arith, Bool, true, false, List, [], ◌∷◌, ◌++◌, length, drop, nat_eq}
+use Rattle.std.specs.Prelude.{Some, slice_get, if◌then◌else◌}
+use Rattle.std.proofs.lemmas.List.{take-append-drop}
+use Rattle.std.proofs.lemmas.Bool.{eq-eqb}
+use Rattle.std.proofs.lemmas.Bool.Decides.{nat_tests}
+use Rattle.lxr_graph.specs.declared.Op.{Op}
+use Rattle.lxr_graph.specs.declared.Op.TheVariants as op
+use Rattle.lxr_graph.specs.declared.Reply.{Reply}
+use Rattle.lxr_graph.specs.declared.Reply.TheVariants as reply
+use Rattle.lxr_graph.specs.declared.report.Kind.TheVariants as kind
+use Rattle.lxr_graph.specs.History.{Item, Call, Pause, PauseReport, calls_of}
+use Rattle.lxr_graph.specs.Step.{IsReply, IsWellFormed}
+use Rattle.lxr_model.specs.Moments.{moment}
+use Rattle.lxr_model.specs.Reports.{IsReport}
+use Rattle.lxr_model.specs.Kinds.{MayStand, ends}
+use Rattle.lxr_model.specs.Legal.{IsLegalSoFar, IsPause, KeepsPromise, Replies}
+use Rattle.lxr_model.specs.Belongs.{AskedPausesComeFirst, CallsBeginOperations, HasCause, IsHistorySoFar, LastPauseWasEarly, PausesHaveCauses, Script, TurnsAreShort, calls_since_pause, has_asked, next_operation, operations_of}
+use Rattle.lxr_epoch.specs.Scenes.{Extends, same, called}
+use Rattle.lxr_run_words.specs.declared.RunOptions.{RunOptions}
+use Rattle.lxr_run_history.specs.Growing.{HasBegun, HasEnded}
+use Rattle.lxr_run_history.specs.Run.{IsHistoryOf, run_terms, script_terms}
+
+-- ---- promises
+
+-- where every pause is plain, none stands that collects
+collects_not : (options : RunOptions) (threads : ℕ) (h : List Item) (report : PauseReport) → IsPause (run_terms options threads) h report → report.kind ≡ kind.Collect → ⊥
+collects_not options threads h report pause e = subst (MayStand (run_terms options threads) h (moment threads h) report.number) e pause.stands
+
+-- so no pause promises anything
+promise_kept : (options : RunOptions) (threads : ℕ) (h : List Item) (x : Item) → IsLegalSoFar (run_terms options threads) h → KeepsPromise (run_terms options threads) h x
+promise_kept options threads [] x legal = tt
+promise_kept options threads (Call t o r ∷ h) x legal = tt
+promise_kept options threads (Pause report ∷ h) x legal = λ waiting. absurd (collects_not options threads h report legal.2 waiting.0)
+
+-- ---- the calls of an epoch
+
+-- the reply of a step may stand
+pub replies_in : (options : RunOptions) (threads : ℕ) (h : List Item) (t : ℕ) (o : Op) (r : Reply) → IsReply (moment threads h).state t o r → Replies (run_terms options threads) h t o r
+replies_in options threads h t (op.New dest shape) reply.Full is = absurd (cc)
+replies_in options threads h t (op.New dest shape) r is = (is, tt)
+replies_in options threads h t o r is = is
+
+-- a call counts for its own thread
+pub since_call : (t : ℕ) (o : Op) (r : Reply) (h : List Item) → calls_since_pause t (Call t o r ∷ h) ≡ suc (calls_since_pause t h)
+since_call t o r h = ap (λ b. if b then suc (calls_since_pause t h) else calls_since_pause t h) (eq-eqb t t refl)
+
+-- the calls of an epoch are legal
+pub legal_extends : (options : RunOptions) (threads every : ℕ) (h k : List Item) → Extends threads every h k → IsLegalSoFar (run_terms options threads) h → IsLegalSoFar (run_terms options threads) k
+legal_extends options threads every h k (same) legal = legal
+legal_extends options threads every h k (called l t o r before is) legal =
+    let was = legal_extends options threads every h l before legal in
+    (was, promise_kept options threads l (Call t o r) was, record { thread = is.thread; operation = is.formed; reply = replies_in options threads l t o r is.reply })
+
+-- none stands where its thread waits for a pause that it asked for
+pub asked_extends : (threads every : ℕ) (h k : List Item) → Extends threads every h k → AskedPausesComeFirst h → AskedPausesComeFirst k
+asked_extends threads every h k (same) first = first
+asked_extends threads every h k (called l t o r before is) first = (asked_extends threads every h l before first, is.unasked)
+
+-- turns stay short
+pub turns_extend : (options : RunOptions) (threads : ℕ) (h k : List Item) → Extends threads options.every h k → TurnsAreShort (run_terms options threads) h → TurnsAreShort (run_terms options threads) k
+turns_extend options threads h k (same) short = short
+turns_extend options threads h k (called l t o r before is) short =
+    (turns_extend options threads h l before short, let turn = is.turn in let one = since_call t o r l in omega arith)
+
+-- no pause is among them
+pub causes_extend : (options : RunOptions) (script : Script) (every : ℕ) (h k : List Item) → Extends (length script) every h k
+    → PausesHaveCauses (script_terms options script) script h → PausesHaveCauses (script_terms options script) script k
+causes_extend options script every h k (same) causes = causes
+causes_extend options script every h k (called l t o r before is) causes = causes_extend options script every h l before causes
+
+-- so the last pause stays
+pub early_extends : (options : RunOptions) (script : Script) (every : ℕ) (h k : List Item) → Extends (length script) every h k
+    → LastPauseWasEarly (script_terms options script) h → LastPauseWasEarly (script_terms options script) k
+early_extends options script every h k (same) early = early
+early_extends options script every h k (called l t o r before is) early = early_extends options script every h l before early
+
+-- as many of a thread's operations and its end are a beginning of them
+pub calls_begin : (options : RunOptions) (script : Script) (h : List Item) → HasBegun script h → CallsBeginOperations (script_terms options script) script h
+calls_begin options script h begun = λ t low high.
+    let (n, calls) = begun t low high in
+    (drop n (operations_of script t), ap (λ z. z ++ drop n (operations_of script t)) calls ∙ take-append-drop n (operations_of script t))
+
+-- after an epoch it is a history so far
+pub history_extends : (options : RunOptions) (script : Script) (h k : List Item) → IsHistorySoFar (script_terms options script) script h → Extends (length script) options.every h k → HasBegun script k
+    → IsHistorySoFar (script_terms options script) script k
+history_extends options script h k (legal, belongs) extends begun = (
+  legal_extends options (length script) options.every h k extends legal,
+  record {
+    calls = calls_begin options script k begun;
+    asked = asked_extends (length script) options.every h k extends belongs.asked;
+    turns = turns_extend options (length script) h k extends belongs.turns;
+    causes = causes_extend options script options.every h k extends belongs.causes;
+  },
+)
+
+-- ---- a call between two epochs
+
+-- what is asked of a call that comes next
+pub record MayBeCalled (options : RunOptions) (script : Script) (h : List Item) (t : ℕ) (o : Op) (r : Reply) : Type 0 where
+  pub thread : (1 ≤ t) × (t ≤ length script)
+  pub formed : IsWellFormed o
+  pub replies : Replies (script_terms options script) h t o r
+  pub next : next_operation script t h ≡ Some o
+  pub unasked : has_asked t h ≡ false
+  pub turn : calls_since_pause t h ≤ options.every
+
+-- the item behind the front of a list comes first in its rest
+behind_front : (front rest all : List Op) (o : Op) → front ++ rest ≡ all → slice_get all (length front) ≡ Some o → (tail : List Op) × ((front ++ o ∷ []) ++ tail ≡ all)
+behind_front [] [] all o whole at = absurd (let none : slice_get [] 0 ≡ Some o = subst (λ z. slice_get z 0 ≡ Some o) (sym whole) at in cc)
+behind_front [] (p ∷ rest) all o whole at =
+    let first : Some p ≡ Some o = subst (λ z. slice_get z 0 ≡ Some o) (sym whole) at in
+    let is : p ≡ o = cc in
+    (rest, subst (λ z. z ∷ rest ≡ all) is whole)
+behind_front (p ∷ front) rest [] o whole at = absurd (cc)
+behind_front (p ∷ front) rest (q ∷ all) o whole at =
+    let tails : front ++ rest ≡ all = cc in
+    let heads : p ≡ q = cc in
+    let (tail, e) = behind_front front rest all o tails at in
+    (tail, ap (λ z. p ∷ z) e ∙ ap (λ z. z ∷ all) heads)
+
+-- a thread's calls with one more, where it is that thread's
+one_called : (mine : Bool) (calls rest all : List Op) (o : Op) → calls ++ rest ≡ all → (mine ≡ true → slice_get all (length calls) ≡ Some o)
+    → (tail : List Op) × ((if mine then calls ++ o ∷ [] else calls) ++ tail ≡ all)
+one_called true calls rest all o whole next = behind_front calls rest all o whole (next refl)
+one_called false calls rest all o whole next = (rest, whole)
+
+-- the next operation of a thread joins its calls
+calls_with : (options : RunOptions) (script : Script) (h : List Item) (t : ℕ) (o : Op) (r : Reply) → CallsBeginOperations (script_terms options script) script h → next_operation script t h ≡ Some o
+    → CallsBeginOperations (script_terms options script) script (Call t o r ∷ h)
+calls_with options script h t o r calls next = λ u low high.
+    let (rest, whole) = calls u low high in
+    one_called (nat_eq u t) (calls_of u h) rest (operations_of script u) o whole
+    (λ mine. let is : t ≡ u = grind (arith, nat_tests) in subst (λ v. next_operation script v h ≡ Some o) is next)
+
+-- with it the history is one so far
+pub history_with_call : (options : RunOptions) (script : Script) (h : List Item) (t : ℕ) (o : Op) (r : Reply) → IsHistorySoFar (script_terms options script) script h
+    → MayBeCalled options script h t o r → IsHistorySoFar (script_terms options script) script (Call t o r ∷ h)
+history_with_call options script h t o r (legal, belongs) may = (
+  (legal, promise_kept options (length script) h (Call t o r) legal, record { thread = may.thread; operation = may.formed; reply = may.replies }),
+  record {
+    calls = calls_with options script h t o r belongs.calls may.next;
+    asked = (belongs.asked, may.unasked);
+    turns = (belongs.turns, let turn = may.turn in let one = since_call t o r h in omega arith);
+    causes = belongs.causes;
+  },
+)
+
+-- ---- a pause
+
+-- so it is with a plain pause that has a cause
+pub history_with_pause : (options : RunOptions) (script : Script) (h : List Item) (report : PauseReport) → IsHistorySoFar (script_terms options script) script h
+    → IsReport (moment (length script) h) report → report.kind ≡ kind.Plain → HasCause (script_terms options script) script h
+    → IsHistorySoFar (script_terms options script) script (Pause report ∷ h)
+history_with_pause options script h report (legal, belongs) reports plain cause = (
+  (
+    legal,
+    promise_kept options (length script) h (Pause report) legal,
+    record { stands = subst (MayStand (script_terms options script) h (moment (length script) h) report.number) (sym plain) (inl refl); reports = reports },
+  ),
+  record { calls = belongs.calls; asked = belongs.asked; turns = belongs.turns; causes = (belongs.causes, cause) },
+)
+
+-- ---- the end
+
+-- where not all threads have ended, they hadn't at the last pause
+pub was_early : (options : RunOptions) (script : Script) (h : List Item) → ends h < length script → LastPauseWasEarly (script_terms options script) h
+was_early options script [] more = tt
+was_early options script (Pause report ∷ h) more = more
+was_early options script (Call t op.End r ∷ h) more = was_early options script h (omega arith)
+was_early options script (Call t o r ∷ h) more = was_early options script h more
+
+-- where all threads have ended, the next pause makes it whole
+pub history_whole : (options : RunOptions) (script : Script) (h : List Item) (report : PauseReport) → IsHistorySoFar (script_terms options script) script (Pause report ∷ h)
+    → HasEnded options script h → IsHistoryOf options script (Pause report ∷ h)
+history_whole options script h report (legal, belongs) whole = record {
+  legal = (legal, λ waiting. collects_not options (length script) h report legal.2 waiting.0);
+  belongs = record {
+    calls = whole.calls;
+    asked = belongs.asked;
+    turns = belongs.turns;
+    causes = belongs.causes;
+    last = (whole.ended, whole.early);
+  };
+}

@@ -1,0 +1,37 @@
+-- How the history of a run grows, and when it is whole. Each law is the contract of a function with an empty body.
+use Rattle.std.specs.Prelude.{◌≡◌, ℕ, ◌≤◌, List, ◌∷◌, length, take}
+use Rattle.lxr_graph.specs.declared.report.Kind.TheVariants.{Plain}
+use Rattle.lxr_graph.specs.History.{Item, Pause, PauseReport, calls_of}
+use Rattle.lxr_model.specs.Belongs.{HasCause, IsHistorySoFar, LastPauseWasEarly, Script, operations_of}
+use Rattle.lxr_model.specs.Kinds.{ends}
+use Rattle.lxr_model.specs.Moments.{moment}
+use Rattle.lxr_model.specs.Reports.{IsReport}
+use Rattle.lxr_epoch.specs.Scenes.{Extends}
+use Rattle.lxr_run_words.specs.declared.RunOptions.{RunOptions}
+use Rattle.lxr_run_history.specs.Run.{IsHistoryOf, script_terms}
+
+-- each thread's calls are as many of its operations and its end
+abbrev pub HasBegun : Script → List Item → Type 0
+HasBegun script h = (t : ℕ) → 1 ≤ t → t ≤ length script → (n : ℕ) × (calls_of t h ≡ take n (operations_of script t))
+
+-- the calls of an epoch lead from a history so far to one
+abbrev pub EpochsKeepHistories : Type 0
+EpochsKeepHistories = (options : RunOptions) (script : Script) (h k : List Item) → IsHistorySoFar (script_terms options script) script h → Extends (length script) options.every h k → HasBegun script k
+    → IsHistorySoFar (script_terms options script) script k
+
+-- so does a plain pause that has a cause
+abbrev pub PausesKeepHistories : Type 0
+PausesKeepHistories = (options : RunOptions) (script : Script) (h : List Item) (report : PauseReport) → IsHistorySoFar (script_terms options script) script h
+    → IsReport (moment (length script) h) report → report.kind ≡ Plain → HasCause (script_terms options script) script h
+    → IsHistorySoFar (script_terms options script) script (Pause report ∷ h)
+
+-- all threads have done all their operations and their ends, and at the last pause not all had
+pub record HasEnded (options : RunOptions) (script : Script) (h : List Item) : Type 0 where
+  pub calls : (t : ℕ) → 1 ≤ t → t ≤ length script → calls_of t h ≡ operations_of script t
+  pub ended : ends h ≡ length script
+  pub early : LastPauseWasEarly (script_terms options script) h
+
+-- then the next pause makes the history whole
+abbrev pub EndedHistoriesAreWhole : Type 0
+EndedHistoriesAreWhole = (options : RunOptions) (script : Script) (h : List Item) (report : PauseReport) → IsHistorySoFar (script_terms options script) script (Pause report ∷ h)
+    → HasEnded options script h → IsHistoryOf options script (Pause report ∷ h)

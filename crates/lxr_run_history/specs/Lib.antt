@@ -1,0 +1,4 @@
+pub mod Tally
+pub mod Run
+pub mod Sights
+pub mod Growing

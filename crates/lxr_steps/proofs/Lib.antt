@@ -1,0 +1,12 @@
+pub mod KeepingLemmas
+pub mod OutcomeLemmas
+pub mod KnowingLemmas
+pub mod FieldSteps
+pub mod LeavingSteps
+pub mod DrawingSteps
+pub mod StoringSteps
+pub mod MakingSteps
+pub mod BaseSteps
+pub mod ReadySteps
+pub mod NamingLemmas
+pub mod StepLemmas
