@@ -1,18 +1,18 @@
-//! How many objects a second are placed until a heap is full: of one line, of 64 lines, and of one line where every
-//! second line is taken.
+//! How long it takes to place objects until a heap is full, to look for lines in vain, to list free lines, and to sweep.
 //!
-//! `--time` fills 1,024 blocks and prints the rates. With no word the program fills two blocks and
-//! prints how many objects were placed, which is always the same.
+//! `--time` does this with 1,024 blocks and prints nanoseconds, of an object, of a search, or of a block. With no word the
+//! program has two blocks and prints what was found, which is always the same.
 #![tactic(auto)]
 
-ghost use Rattle.std.specs.Prelude.{◌≤◌, IfOk};
+ghost use Rattle.std.specs.Prelude.{◌≡◌, ◌≤◌, IfOk};
 ghost use Rattle.lxr_image.specs.Spaces.{IsSpace};
 ghost use Rattle.lxr_layout.specs.Objects.{FitsShape};
 ghost use Rattle.lxr_blocks.specs.Placing.{IsRest};
 
-use lxr_blocks::place_now;
+use lxr_blocks::{list_runs, place_now};
 use lxr_image::Space;
-use lxr_layout::{Limits, Name, Shape};
+use lxr_layout::{LINES_IN_BLOCK, Limits, Name, Shape, WORDS_IN_BLOCK};
+use lxr_sweep::sweep_lines;
 use std::alloc::{AllocError, Global};
 use std::time::Instant;
 use std::{env, io};
@@ -29,29 +29,57 @@ const LARGEST: Shape = Shape {
     values: 1023,
 };
 
+/// How often a full heap is searched, listed and swept.
+const ROUNDS: u32 = 20;
+
 fn main(rt: HostRuntime) -> io::Result<()> {
     let mut timed = false;
     for word in env::args(&rt)? {
         timed |= word.as_str() == "--time";
     }
     let blocks = if timed { 1024 } else { 2 };
-    let lines = opened(rt.alloc(), blocks)?;
-    report(&rt, "one line", lines, LINE, timed)?;
-    let largest = opened(rt.alloc(), blocks)?;
-    report(&rt, "64 lines", largest, LARGEST, timed)?;
-    let mut fragmented = opened(rt.alloc(), blocks)?;
-    take_every_second_line(&mut fragmented);
-    report(
-        &rt,
-        "one line, every second line taken",
-        fragmented,
-        LINE,
-        timed,
-    )
+    for (kind, shape, every) in [
+        ("place one line", LINE, 0),
+        ("place 64 lines", LARGEST, 0),
+        ("place one line, every second taken", LINE, 2),
+    ] {
+        let space = fragmented(rt.alloc(), blocks, every)?;
+        report_filling(&rt, kind, space, shape, timed)?;
+    }
+    let third = fragmented(rt.alloc(), blocks, 3)?;
+    report_searching(&rt, "look for 64 lines, every third taken", third, timed)?;
+    for (kind, every) in [
+        ("list an empty heap", 0),
+        ("list, every third line taken", 3),
+        ("list, every second line taken", 2),
+    ] {
+        let space = fragmented(rt.alloc(), blocks, every)?;
+        report_listing(&rt, kind, space, timed)?;
+    }
+    let empty = fragmented(rt.alloc(), blocks, 0)?;
+    report_sweeping(&rt, "sweep an empty heap", empty, timed)
 }
 
-/// Fills a space, and prints how many objects were placed, or the rate.
+/// Prints a number of things, or how many nanoseconds one of some units took.
 fn report(
+    rt: &HostRuntime,
+    kind: &str,
+    found: u32,
+    nanos: u128,
+    units: u32,
+    timed: bool,
+) -> io::Result<()> {
+    if timed {
+        let each = nanos / u128::from(units.max(1));
+        println!(rt; "{kind:<40} {each:>8}")?;
+    } else {
+        println!(rt; "{kind}: {found}")?;
+    }
+    Ok(())
+}
+
+/// Fills a space with objects of a shape.
+fn report_filling(
     rt: &HostRuntime,
     kind: &str,
     mut space: Space,
@@ -64,18 +92,44 @@ fn report(
 {
     let start = Instant::now(rt)?;
     let placed = fill(&mut space, shape);
-    let micros = start.elapsed(rt)?.as_micros().max(1);
-    if timed {
-        let rate = u128::from(placed) * 1_000_000 / micros;
-        println!(rt; "{kind}: {rate} a second")?;
-    } else {
-        println!(rt; "{kind}: {placed} objects")?;
-    }
-    Ok(())
+    let nanos = start.elapsed(rt)?.as_nanos();
+    report(rt, kind, placed, nanos, placed, timed)
 }
 
-/// A space of so many blocks, just opened.
-fn opened(alloc: Global, blocks: u32) -> Result<Space, AllocError>
+/// Looks several times for room for an object of 64 lines.
+fn report_searching(rt: &HostRuntime, kind: &str, mut space: Space, timed: bool) -> io::Result<()>
+    requires space { IsSpace space }
+    requires rest { IsRest space }
+{
+    let start = Instant::now(rt)?;
+    let placed = search(&mut space);
+    let nanos = start.elapsed(rt)?.as_nanos();
+    report(rt, kind, placed, nanos, ROUNDS, timed)
+}
+
+/// Lists the free lines of a space several times.
+fn report_listing(rt: &HostRuntime, kind: &str, mut space: Space, timed: bool) -> io::Result<()>
+    requires space { IsSpace space }
+{
+    sweep_lines(&mut space);
+    let start = Instant::now(rt)?;
+    let listed = list(&mut space);
+    let nanos = start.elapsed(rt)?.as_nanos();
+    report(rt, kind, listed, nanos, ROUNDS, timed)
+}
+
+/// Sweeps a space several times.
+fn report_sweeping(rt: &HostRuntime, kind: &str, mut space: Space, timed: bool) -> io::Result<()>
+    requires space { IsSpace space }
+{
+    let start = Instant::now(rt)?;
+    sweep(&mut space);
+    let nanos = start.elapsed(rt)?.as_nanos();
+    report(rt, kind, ROUNDS, nanos, ROUNDS, timed)
+}
+
+/// A space of so many blocks, just opened, of whose lines one of so many is taken, or none.
+fn fragmented(alloc: Global, blocks: u32, every: u32) -> Result<Space, AllocError>
     requires { (1 ≤ blocks) × (blocks ≤ 1024) }
     ensures space { IfOk result (λ space. IsSpace space) }
     ensures rest { IfOk result (λ space. IsRest space) }
@@ -88,18 +142,39 @@ fn opened(alloc: Global, blocks: u32) -> Result<Space, AllocError>
         remember: 1,
     };
     space.open(alloc, limits)?;
+    touch_heap(&mut space);
+    if every > 0 {
+        take_lines(&mut space, every);
+    }
     Ok(space)
 }
 
-/// Takes every second line of the heap.
-fn take_every_second_line(space: &mut Space)
+/// Writes the words of all blocks but that of the world, which are 0, so that the machine has found memory for them before
+/// a time is taken.
+fn touch_heap(space: &mut Space)
     requires space { IsSpace space.old }
     requires rest { IsRest space.old }
     ensures space { IsSpace space.new }
     ensures rest { IsRest space.new }
+    ensures limits { space.new.limits ≡ space.old.limits }
 {
-    for pair in 0..64 * space.limits.blocks {
-        space.set_out(2 * pair + 1);
+    for at in WORDS_IN_BLOCK..WORDS_IN_BLOCK * space.limits.blocks {
+        space.put_heap(at, 0);
+    }
+}
+
+/// Takes one of so many lines of the heap.
+fn take_lines(space: &mut Space, every: u32)
+    requires space { IsSpace space.old }
+    requires rest { IsRest space.old }
+    requires every { 1 ≤ every }
+    ensures space { IsSpace space.new }
+    ensures rest { IsRest space.new }
+{
+    for line in 0..LINES_IN_BLOCK * space.limits.blocks {
+        if line % every == every - 1 {
+            space.set_out(line);
+        }
     }
 }
 
@@ -113,10 +188,48 @@ fn fill(space: &mut Space, shape: Shape) -> u32
         thread: 1,
         serial: 1,
     };
-    for count in 0..128 * space.limits.blocks {
+    for count in 0..LINES_IN_BLOCK * space.limits.blocks {
         if place_now(space, name, shape).is_none() {
             return count;
         }
     }
-    128 * space.limits.blocks
+    LINES_IN_BLOCK * space.limits.blocks
+}
+
+/// Tries to place objects of 64 lines, and answers how many were placed.
+fn search(space: &mut Space) -> u32
+    requires space { IsSpace space.old }
+    requires rest { IsRest space.old }
+{
+    let name = Name {
+        thread: 1,
+        serial: 1,
+    };
+    let mut placed = 0_u32;
+    for _ in 0..ROUNDS {
+        if place_now(space, name, LARGEST).is_some() {
+            placed = placed.saturating_add(1);
+        }
+    }
+    placed
+}
+
+/// Lists the free lines several times, and answers how many runs there are.
+fn list(space: &mut Space) -> u32
+    requires { IsSpace space.old }
+{
+    let mut listed = 0;
+    for _ in 0..ROUNDS {
+        listed = list_runs(space);
+    }
+    listed
+}
+
+/// Sweeps several times.
+fn sweep(space: &mut Space)
+    requires { IsSpace space.old }
+{
+    for _ in 0..ROUNDS {
+        sweep_lines(space);
+    }
 }

@@ -1,9 +1,9 @@
 -- The words that walkers name are there in every core.
-use Rattle.std.proofs.Common.{◌≡◌, ℕ, ◌+◌, ◌<◌, Bool, true, false, if◌then◌else◌, length, Option, Some, None, refl, ap, arith}
+use Rattle.std.proofs.Common.{◌≡◌, ℕ, ◌+◌, ◌<◌, Bool, true, false, if◌then◌else◌, length, Option, Some, None, ap, arith}
 use Rattle.lxr_actor.specs.declared.Action.{Action}
 use Rattle.lxr_actor.specs.declared.Core.{Core}
 use Rattle.lxr_actor.specs.Run.{AlwaysFits}
-use Rattle.lxr_threads_test.proofs.Wide.{wide-fits}
+use Rattle.test_threads.proofs.Wide.{wide-fits}
 use Rattle.bench_passes.specs.declared.walker.Walker.{Walker}
 use Rattle.bench_passes.specs.declared.walker.Phase.{Phase}
 use Rattle.bench_passes.specs.declared.walker.Phase.TheVariants.{Look, Mark, Count, Note}
@@ -27,4 +27,4 @@ walks-small w Count act e = let s = word-small w in let h : word_of w ≡ act.wo
 walks-small w Note act e = let s = word-small w in let h : word_of w + 4096 ≡ act.word = ap of_action e in omega arith
 
 pub walkers-fit : (core : Core Walker) → 8192 < length core.words + 1 → AlwaysFits walking core
-walkers-fit core h = wide-fits walking 8192 (λ w act is. walks-small w w.phase act is) (λ w old. refl) core h
+walkers-fit core h = wide-fits walking 8192 (λ w act is. walks-small w w.phase act is) core h

@@ -38,7 +38,6 @@ steps_left Note = 1
 abbrev pub walking : Machine Walker
 walking = record {
   action = λ w. walks w w.phase;
-  accepts = λ w old. true;
   after = λ w old. walked w w.phase old;
   rests = λ w. is_look w.phase;
   left = λ w. steps_left w.phase;

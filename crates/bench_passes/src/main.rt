@@ -35,12 +35,12 @@ fn main(rt: HostRuntime) -> io::Result<()> {
     }
     for count in [72_000_usize, 290_000, 4_600_000] {
         let words = PlainWords::new(rt.alloc(), count)?;
-        let times = if timed { 20 } else { 1 };
+        let times = if timed { 1_000_000 } else { 1 };
         let start = Instant::now(&rt)?;
         let _words = reopened(rt.alloc(), words, times)?;
-        let micros = start.elapsed(&rt)?.as_micros() / u128::from(times);
+        let nanos = start.elapsed(&rt)?.as_nanos() / u128::from(times);
         if timed {
-            println!(rt; "{count} words in and out: {micros} microseconds")?;
+            println!(rt; "{count} words in and out: {nanos} nanoseconds")?;
         }
     }
     Ok(())

@@ -2,11 +2,11 @@
 ghost use Rattle.std.specs.Prelude.{◌≡◌, ◌+◌, ◌<◌, length, IfOk};
 
 use crate::walker::Walker;
-use lxr_passes::{close_passes, open_passes};
+use lxr_shared_passes::{close_passes, open_passes};
 use lxr_tables::{PlainWords, Words};
-use lxr_threads_test::run_passes;
 use std::alloc::{AllocError, Global};
 use std::thread::Threads;
+use test_threads::run_passes;
 
 /// The walkers' words: a count for each word of the four lanes, and what was seen there last.
 const WORDS: usize = 8192;
@@ -36,7 +36,7 @@ pub fn in_threads<R: Threads + Sync>(
     Ok(words)
 }
 
-/// Opens an epoch over the words and closes it, so many times: each time all words are copied in and out.
+/// Opens an epoch over the words and closes it, so many times. The words stay where they lie.
 pub fn reopened(alloc: Global, words: PlainWords, times: u32) -> Result<PlainWords, AllocError>
     requires { 8192 < length words + 1 }
 {

@@ -11,7 +11,7 @@ mod work;
 use anyhow::{Result, ensure};
 use lxr_image::Space;
 use lxr_run::{Open, Status, lxr};
-use lxr_stream::{Plenty, Whole};
+use lxr_text_stream::{Plenty, Whole};
 use std::env;
 use std::rt::Clock;
 use std::thread::Threads;
@@ -150,19 +150,29 @@ fn tell<R: AllocGlobal + Clock + Print + Threads + Sync>(rt: &R, run: Run) -> Re
 fn pauses_of<R: AllocGlobal + Clock + Threads + Sync>(rt: &R, run: Run) -> Result<Vec<Pause>> {
     let script = script_of(rt.alloc(), run.works, run.objects)?;
     let mut watch = Clocked::new(rt.alloc(), rt, run.works.len())?;
-    let status = lxr(
+    let status = do_run(rt, run.blocks, script.as_str(), &mut watch);
+    ensure!(status == Status::Done, "the run ended with {status:?}");
+    Ok(watch.pauses(rt.alloc())?)
+}
+
+/// Runs a script in memory, in a heap of so many blocks, with room for all its work between two pauses.
+fn do_run<R: AllocGlobal + Clock + Threads + Sync>(
+    rt: &R,
+    blocks: &str,
+    script: &str,
+    watch: &mut Clocked<R>,
+) -> Status {
+    lxr(
         rt,
         rt.alloc(),
         &[
-            "run", "--blocks", run.blocks, "--log", "65536", "--every", "1048576",
+            "run", "--blocks", blocks, "--log", "65536", "--every", "1048576",
         ],
         &mut Whole::new(script.as_bytes()),
         &mut Plenty::new(rt.alloc()),
         &mut Plenty::new(rt.alloc()),
         &Open,
-        &mut watch,
+        watch,
         &mut Space::empty(rt.alloc()),
-    );
-    ensure!(status == Status::Done, "the run ended with {status:?}");
-    Ok(watch.pauses(rt.alloc())?)
+    )
 }

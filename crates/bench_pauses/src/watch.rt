@@ -1,6 +1,6 @@
 //! The watch that reads the clock.
 use lxr_image::Space;
-use lxr_watch::Watch;
+use lxr_run_watch::Watch;
 use std::alloc::{AllocError, Global};
 use std::rt::Clock;
 use std::time::Instant;
@@ -15,7 +15,7 @@ struct Glance {
 }
 
 /// What was seen of a pause.
-#[derive(Clone, Copy, Debug)]
+#[derive(Clone, Copy)]
 pub(crate) struct Pause {
     pub(crate) nanos: u128,
     /// The entries of the log that the pause read.

@@ -5,7 +5,7 @@ use std::alloc::{AllocError, Global};
 const MOST_LOGGED: u32 = 65_536;
 
 /// What the pause finds to do.
-#[derive(Clone, Copy, Debug)]
+#[derive(Clone, Copy)]
 pub(crate) enum Work {
     /// Nothing.
     Nothing,

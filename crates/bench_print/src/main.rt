@@ -3,13 +3,13 @@
 #![tactic(auto)]
 
 ghost use Rattle.std.specs.Prelude.{◌≢◌, IfOk};
-ghost use Rattle.lxr_text.specs.Replies.{ArePrintable};
+ghost use Rattle.lxr_text_print.specs.Replies.{ArePrintable};
 
+use lxr_base::Listed;
 use lxr_graph::{Op, Operations, Replies, Reply};
 use lxr_layout::{Name, Shape};
-use lxr_lists::Listed;
-use lxr_stream::Out;
-use lxr_text::print_replies;
+use lxr_text_print::print_replies;
+use lxr_text_stream::Out;
 use std::alloc::{AllocError, Global};
 use std::env;
 

@@ -1,14 +1,12 @@
 -- What an actor means: a machine that acts on shared words, one atomic step at a time.
-use Rattle.std.specs.Prelude.{◌≡◌, ℕ, ◌<◌, List, length, Bool, Option, Some, IsTrue, slice_index, if◌then◌else◌}
+use Rattle.std.specs.Prelude.{◌≡◌, ℕ, ◌<◌, List, length, Bool, Option, Some, if◌then◌else◌}
 use Rattle.lxr_layout.specs.declared.Place.{Place}
 use Rattle.lxr_actor.specs.declared.Action.{Action}
 
 pub record Machine (A : Type 0) : Type 0 where
   -- its next step, if it is not finished
   pub action : A → Option Action
-  -- whether the word of its next step may have been this
-  pub accepts : A → ℕ → Bool
-  -- its state once it is told what the word was
+  -- its state once it is told what the word was, whatever that is
   pub after : A → ℕ → A
   -- no unit is in progress
   pub rests : A → Bool
@@ -24,6 +22,6 @@ module _ {A : Type 0} (m : Machine A) where
   abbrev pub to_go : A → ℕ
   to_go a = if m.rests a then 0 else m.left a
 
-  -- the word of its next step exists, and the actor accepts what it has
+  -- the word of its next step exists
   abbrev pub Fits : List ℕ → A → Type 0
-  Fits words a = (act : Action) → m.action a ≡ Some act → (act.word < length words) × IsTrue (m.accepts a (slice_index words act.word))
+  Fits words a = (act : Action) → m.action a ≡ Some act → act.word < length words

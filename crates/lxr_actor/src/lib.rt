@@ -53,6 +53,44 @@ pub struct Action {
     pub operand: u64,
 }
 
+impl Action {
+    /// A load of a word.
+    #[inline(always)]
+    pub fn load(word: u32) -> Action
+        ensures { result ≡ record { kind = Kindred.Load; word = word; operand = 0 } }
+    {
+        Action {
+            kind: Kindred::Load,
+            word,
+            operand: 0,
+        }
+    }
+
+    /// A store of a value to a word.
+    #[inline(always)]
+    pub fn store(word: u32, value: u64) -> Action
+        ensures { result ≡ record { kind = Kindred.Store; word = word; operand = value } }
+    {
+        Action {
+            kind: Kindred::Store,
+            word,
+            operand: value,
+        }
+    }
+
+    /// A draw of the next number from a cursor: the number is the old value, and the cursor is one more from then on.
+    #[inline(always)]
+    pub fn draw(cursor: u32) -> Action
+        ensures { result ≡ record { kind = Kindred.Add; word = cursor; operand = 1 } }
+    {
+        Action {
+            kind: Kindred::Add,
+            word: cursor,
+            operand: 1,
+        }
+    }
+}
+
 /// A machine that acts on shared words. Its work comes in units of some steps each.
 pub trait Actor {
     /// What the actor means.
@@ -62,10 +100,9 @@ pub trait Actor {
     fn next(&self) -> Option<Action>
         ensures { result ≡ machine.action self.now };
 
-    /// Goes on after its next step was done on a word that was `old`.
+    /// Goes on after its next step was done on a word that was `old`, whatever that was.
     fn take(&mut self, old: u64)
-        requires next { IsSome (machine.action self.old) }
-        requires accepted { IsTrue (machine.accepts self.old old) }
+        requires { IsSome (machine.action self.old) }
         ensures state { self.new ≡ machine.after self.old old }
         ensures nearer { to_go machine self.new < machine.left self.old };
 
@@ -98,8 +135,8 @@ pub struct Core<A> {
     pub actors: LinkedList<A>,
 }
 
-/// Does an actor's next step, on the condition that its word exists and that the actor accepts what it has.
-/// False exactly where there is no next step; then nothing changes.
+/// Does an actor's next step, on the condition that its word exists. False exactly where there is no next step; then
+/// nothing changes.
 #[inline(always)]
 pub fn step<A: Actor>(words: &mut PlainWords, actor: &mut A) -> bool
     requires { Fits A.machine words.old actor.old }
@@ -116,8 +153,8 @@ pub fn step<A: Actor>(words: &mut PlainWords, actor: &mut A) -> bool
     true
 }
 
-/// Does the steps of a schedule, one after another. An entry that names no actor, or one that is finished, is
-/// skipped.
+/// Does the steps of a schedule, one after another, on the condition that each finds its word. An entry that names no
+/// actor, or one that is finished, is skipped.
 pub fn replay<A: Actor>(words: &mut PlainWords, actors: &mut [A], schedule: &[u8])
     requires { ReplayFits A.machine (core_of words.old actors.old) schedule.now }
     ensures { core_of words.new actors.new ≡ run A.machine (core_of words.old actors.old) (map Step schedule.now) }

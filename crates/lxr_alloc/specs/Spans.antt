@@ -1,5 +1,6 @@
 -- Spans of granules from which an allocator takes the front.
 use Rattle.std.specs.Prelude.{ℕ, ◌+◌, ◌-◌, ◌*◌, ◌/◌, ◌<◌, ◌≤◌}
+use Rattle.lxr_layout.specs.declared.TheConstants.{GRANULES_IN_BLOCK, GRANULES_IN_LINE, LINES_IN_BLOCK}
 use Rattle.lxr_layout.specs.Objects.{word_count, line_count}
 use Rattle.lxr_layout.specs.declared.Place.{Place}
 use Rattle.lxr_layout.specs.declared.Shape.{Shape}
@@ -19,8 +20,8 @@ abbrev pub rest_of : Span → ℕ
 rest_of s = s.end - s.next
 
 -- an object of this shape can be taken from the span
-abbrev pub HasRoom : Span → Shape → Type 0
-HasRoom s shape = granule_count shape ≤ rest_of s
+abbrev pub FitsSpan : Span → Shape → Type 0
+FitsSpan s shape = granule_count shape ≤ rest_of s
 
 -- where the span begins
 abbrev pub front_of : Span → Place
@@ -36,12 +37,12 @@ IsMedium shape = 1 < line_count shape
 
 -- the lines of a run lie in their block
 abbrev pub IsInBlock : Run → Type 0
-IsInBlock r = (r.block < 1024) × (r.line + r.lines ≤ 128)
+IsInBlock r = (r.block < 1024) × (r.line + r.lines ≤ LINES_IN_BLOCK)
 
 -- the granules of a run; a block has 2,048 granules, a line has 16
 abbrev pub run_span : Run → Span
-run_span r = record { next = 2048 * r.block + 16 * r.line; end = 2048 * r.block + 16 * (r.line + r.lines) }
+run_span r = record { next = GRANULES_IN_BLOCK * r.block + GRANULES_IN_LINE * r.line; end = GRANULES_IN_BLOCK * r.block + GRANULES_IN_LINE * (r.line + r.lines) }
 
 -- the granules of a block
 abbrev pub block_span : ℕ → Span
-block_span block = record { next = 2048 * block; end = 2048 * (block + 1) }
+block_span block = record { next = GRANULES_IN_BLOCK * block; end = GRANULES_IN_BLOCK * (block + 1) }

@@ -8,9 +8,9 @@
 
 ghost use Rattle.std.specs.Prelude.{◌≡◌, ◌↔◌, ◌<◌, ◌≤◌, IfNone, IfSome, IsNone, IsTrue, Some};
 ghost use Rattle.lxr_layout.specs.Objects.{FitsShape, line_count};
-ghost use Rattle.lxr_alloc.specs.Spans.{HasRoom, IsInBlock, IsMedium, block_span, empty_span, front_of, granule_count, rest_of, run_span, taken_from};
+ghost use Rattle.lxr_alloc.specs.Spans.{FitsSpan, IsInBlock, IsMedium, block_span, empty_span, front_of, granule_count, rest_of, run_span, taken_from};
 
-use lxr_layout::{Place, Run, Shape, lines_of, words_of};
+use lxr_layout::{GRANULES_IN_BLOCK, GRANULES_IN_LINE, Place, Run, Shape, lines_of, words_of};
 
 /// Granules in a row that one mutator may fill, from `next` up to `end`, which is not among them.
 #[derive(Clone, Copy, Debug, PartialEq, Eq)]
@@ -43,10 +43,10 @@ impl Span {
         requires { IsInBlock run }
         ensures { result ≡ run_span run }
     {
-        let next = 2048 * run.block + 16 * u32::from(run.line);
+        let next = GRANULES_IN_BLOCK * run.block + GRANULES_IN_LINE * u32::from(run.line);
         Span {
             next,
-            end: next + 16 * u32::from(run.lines),
+            end: next + GRANULES_IN_LINE * u32::from(run.lines),
         }
     }
 
@@ -73,10 +73,10 @@ impl Spans {
     /// more than one line, the front of `overflow`; none where these are too short.
     pub fn try_place(&mut self, shape: Shape) -> Option<Place>
         requires { FitsShape shape }
-        ensures none { IsNone result ↔ (¬ HasRoom self.old.current shape × (IsMedium shape → ¬ HasRoom self.old.overflow shape)) }
+        ensures none { IsNone result ↔ (¬ FitsSpan self.old.current shape × (IsMedium shape → ¬ FitsSpan self.old.overflow shape)) }
         ensures unchanged { IfNone result (self.new ≡ self.old) }
-        ensures current { HasRoom self.old.current shape → (result ≡ Some (front_of self.old.current)) × (self.new ≡ record self.old { current = taken_from self.old.current shape }) }
-        ensures overflow { ¬ HasRoom self.old.current shape → IfSome result (λ place. (place ≡ front_of self.old.overflow) × (self.new ≡ record self.old { overflow = taken_from self.old.overflow shape })) }
+        ensures current { FitsSpan self.old.current shape → (result ≡ Some (front_of self.old.current)) × (self.new ≡ record self.old { current = taken_from self.old.current shape }) }
+        ensures overflow { ¬ FitsSpan self.old.current shape → IfSome result (λ place. (place ≡ front_of self.old.overflow) × (self.new ≡ record self.old { overflow = taken_from self.old.overflow shape })) }
     {
         if let Some(place) = self.current.bump(shape) {
             return Some(place);
@@ -92,7 +92,7 @@ impl Spans {
     pub fn take_run(&mut self, run: Run)
         requires { IsInBlock run }
         ensures run { self.new ≡ record self.old { current = run_span run } }
-        ensures fits { (shape : Shape) → line_count shape ≤ run.lines → HasRoom self.new.current shape }
+        ensures fits { (shape : Shape) → line_count shape ≤ run.lines → FitsSpan self.new.current shape }
     {
         self.current = Span::of_run(run);
     }
@@ -105,8 +105,8 @@ impl Spans {
         ensures small { ¬ IsMedium shape → self.new ≡ record self.old { current = block_span block } }
     {
         let span = Span {
-            next: 2048 * block,
-            end: 2048 * (block + 1),
+            next: GRANULES_IN_BLOCK * block,
+            end: GRANULES_IN_BLOCK * (block + 1),
         };
         if is_medium(shape) {
             self.overflow = span;
@@ -123,6 +123,3 @@ fn is_medium(shape: Shape) -> bool
 {
     lines_of(shape) > 1
 }
-
-#[cfg(test)]
-mod tests;

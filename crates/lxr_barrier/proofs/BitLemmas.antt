@@ -5,9 +5,8 @@ use Rattle.std.specs.Int.{w64, bit_at}
 use Rattle.std.proofs.Math.Nat.{mod-eq_of_lt}
 use Rattle.std.proofs.Math.Pow.{pow-lt}
 use Rattle.std.proofs.lemmas.Nat.Bits.{bit_at_clear_same, bit_at_clear_other}
-use Rattle.lxr_tables.specs.Entries.{bits_from}
+use Rattle.lxr_tables.specs.Entries.{all_but, bits_from}
 use Rattle.lxr_tables.proofs.EntryLemmas.{entry_read}
-use Rattle.lxr_barrier.specs.Storing.{all_but}
 
 -- bit n of the table that begins at a word, in its word
 abbrev bit_in : List ℕ → ℕ → ℕ → ℕ

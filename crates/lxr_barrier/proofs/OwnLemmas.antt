@@ -5,20 +5,21 @@ use Rattle.std.specs.List.{All}
 use Rattle.std.proofs.lemmas.List.{set-get_or}
 use Rattle.std.proofs.lemmas.List.Elements.{All-set}
 use Rattle.std.proofs.lemmas.Option.{slice_get_within}
+use Rattle.lxr_tables.specs.Entries.{is_set}
 use Rattle.lxr_layout.specs.declared.Place.{Place}
 use Rattle.lxr_layout.specs.declared.limits.Regions.{Regions}
 use Rattle.lxr_layout.specs.declared.runs.LogEntry.{LogEntry}
-use Rattle.lxr_lists.specs.Roomy.{Roomy, pushed}
+use Rattle.lxr_base.specs.Roomy.{Roomy, pushed}
 use Rattle.lxr_actor.specs.declared.Action.{Action}
 use Rattle.lxr_actor.specs.declared.Core.{Core}
 use Rattle.lxr_actor.specs.declared.Event.{Event}
 use Rattle.lxr_actor.specs.declared.Event.TheVariants.{Step, Give, Out}
 use Rattle.lxr_actor.specs.Run.{acted, stepped, of_event, change, happened, event, run}
 use Rattle.lxr_actor.proofs.Runs.{run-lengths, run-keeps, slice_get-set_same, slice_get-set_other}
-use Rattle.lxr_barrier.specs.declared.machines.Phase.{Phase}
-use Rattle.lxr_barrier.specs.declared.machines.Phase.TheVariants.{Begun, Unlogged, Loaded, Logged, Ended}
+use Rattle.lxr_barrier.specs.declared.machines.StorePhase.{StorePhase}
+use Rattle.lxr_barrier.specs.declared.machines.StorePhase.TheVariants.{Begun, Unlogged, Loaded, Logged, Ended}
 use Rattle.lxr_barrier.specs.declared.machines.StoreEnd.TheVariants.{Stored}
-use Rattle.lxr_barrier.specs.Storing.{Storing, IsPastBarrier, bit_number, entry_of, is_set, next_action, phase_after, reference_word, target}
+use Rattle.lxr_barrier.specs.Storing.{Storing, IsPastBarrier, bit_number, entry_of, next_action, phase_after, reference_word, target}
 use Rattle.lxr_barrier.specs.Storers.{Logging, storer_after, storer_machine}
 use Rattle.lxr_barrier.specs.Unlogged.{ChangesOnlyBehindBarrier, HasBits, IsStoreIn, KeepOwnLogs, KeepsOwnLog, unlogged_bit}
 use Rattle.lxr_barrier.proofs.BitLemmas.{bit_there, word_before, bit_behind}
@@ -27,20 +28,20 @@ use Rattle.lxr_barrier.proofs.StorerLemmas.{change_same, same_bits, same_store_i
 
 -- a log once its store is told what its word was
 module _ (s : Logging) (u : ℕ) (place : Place) (index : ℕ) (value : Place) (log : Roomy LogEntry) where
-  abbrev storing : Phase → Storing
+  abbrev storing : StorePhase → Storing
   storing p = record { unlogged = u; place = place; index = index; value = value; phase = p }
 
-  abbrev logging : Phase → Logging
+  abbrev logging : StorePhase → Logging
   logging p = record { store = storing p; log = log }
 
   -- before the barrier the log is as it was
-  as_it_was : (p : Phase) → ¬ IsPastBarrier p → KeepsOwnLog s (logging p) → log ≡ s.log
+  as_it_was : (p : StorePhase) → ¬ IsPastBarrier p → KeepsOwnLog s (logging p) → log ≡ s.log
   as_it_was p yet h = elim h.log [ inl e ↦ e | inr (past, more) ↦ absurd (yet past) ]
 
-  moves_on : (p q : Phase) → KeepsOwnLog s (logging p) → storing q ≡ record s.store { phase = q }
+  moves_on : (p q : StorePhase) → KeepsOwnLog s (logging p) → storing q ≡ record s.store { phase = q }
   moves_on p q h = ap (λ (x : Storing). record x { phase = q }) h.store
 
-  quiet_on : (p q : Phase) → ¬ IsPastBarrier p → KeepsOwnLog s (logging p) → KeepsOwnLog s (logging q)
+  quiet_on : (p q : StorePhase) → ¬ IsPastBarrier p → KeepsOwnLog s (logging p) → KeepsOwnLog s (logging q)
   quiet_on p q yet h = record { store = moves_on p q h; log = inl (as_it_was p yet h) }
 
   clears : (old : Place) (b : Bool) → KeepsOwnLog s (logging (Loaded old)) → KeepsOwnLog s (record { store = storing Logged; log = (if b then pushed log (entry_of (storing (Loaded old)) old) else log) })
@@ -53,7 +54,7 @@ module _ (s : Logging) (u : ℕ) (place : Place) (index : ℕ) (value : Place) (
   ends : KeepsOwnLog s (logging Logged) → KeepsOwnLog s (logging (Ended Stored))
   ends h = record { store = moves_on Logged (Ended Stored) h; log = elim h.log [ inl e ↦ inl e | inr (past, more) ↦ inr (tt, more) ] }
 
-  told : (p : Phase) (old : ℕ) → KeepsOwnLog s (logging p) → KeepsOwnLog s (storer_after (logging p) old)
+  told : (p : StorePhase) (old : ℕ) → KeepsOwnLog s (logging p) → KeepsOwnLog s (storer_after (logging p) old)
   told Begun old h = quiet_on Begun (phase_after (storing Begun) log old Begun) (λ past. past) h
   told Unlogged old h = quiet_on Unlogged _ (λ past. past) h
   told (Loaded first) old h = clears first (is_set old (bit_number (storing (Loaded first)))) h
@@ -100,7 +101,7 @@ module _ (r : Regions) (words : List ℕ) (has : HasBits r words) (place : Place
   abbrev w : ℕ
   w = reference_word place index
 
-  abbrev storer : Phase → Logging
+  abbrev storer : StorePhase → Logging
   storer p = record { store = record { unlogged = r.unlogged; place = place; index = index; value = value; phase = p }; log = log }
 
   abbrev IsLeft : List ℕ → Type 0
@@ -112,7 +113,7 @@ module _ (r : Regions) (words : List ℕ) (has : HasBits r words) (place : Place
   before : (k : ℕ) → k < r.counts → k < r.unlogged
   before k h = let b = has.behind in omega arith
 
-  step_leaves : (p : Phase) → (w ≡ at → ¬ IsPastBarrier (stepped storer_machine words (storer p)).1.store.phase) → IsLeft (stepped storer_machine words (storer p)).0
+  step_leaves : (p : StorePhase) → (w ≡ at → ¬ IsPastBarrier (stepped storer_machine words (storer p)).1.store.phase) → IsLeft (stepped storer_machine words (storer p)).0
   step_leaves Begun yet = loaded (r.unlogged + w / 64)
   step_leaves Unlogged yet = loaded w
   step_leaves (Loaded old) yet = let room = has.exist w heap in (word_before words r.unlogged w room at (before at lt), bit_there words r.unlogged w room at (has.exist at lt) (λ e. yet (sym e) tt))
@@ -120,7 +121,7 @@ module _ (r : Regions) (words : List ℕ) (has : HasBits r words) (place : Place
   step_leaves (Ended how) yet = (refl, refl)
 
 -- who is past the barrier stays so
-past_after : (s : Storing) (log : Roomy LogEntry) (old : ℕ) (p : Phase) → IsPastBarrier p → IsPastBarrier (phase_after s log old p)
+past_after : (s : Storing) (log : Roomy LogEntry) (old : ℕ) (p : StorePhase) → IsPastBarrier p → IsPastBarrier (phase_after s log old p)
 past_after s log old Begun past = absurd past
 past_after s log old Unlogged past = absurd past
 past_after s log old (Loaded first) past = absurd past

@@ -9,19 +9,21 @@ use Rattle.std.proofs.lemmas.List.Elements.{All-map, All-nil, All-set}
 use Rattle.std.proofs.lemmas.List.Sums.{sum_by-le}
 use Rattle.std.proofs.lemmas.Nat.Bits.{bit_at-lt}
 use Rattle.std.proofs.lemmas.Option.{slice_get-map}
+use Rattle.lxr_tables.specs.Entries.{is_set}
+use Rattle.lxr_layout.specs.Places.{place_in}
 use Rattle.lxr_layout.specs.declared.Place.{Place}
 use Rattle.lxr_layout.specs.declared.limits.Regions.{Regions}
 use Rattle.lxr_layout.specs.declared.runs.LogEntry.{LogEntry}
-use Rattle.lxr_lists.specs.Roomy.{Roomy, pushed}
+use Rattle.lxr_base.specs.Roomy.{Roomy, pushed}
 use Rattle.lxr_actor.specs.declared.Core.{Core}
 use Rattle.lxr_actor.specs.declared.Event.{Event}
 use Rattle.lxr_actor.specs.declared.Event.TheVariants.{Step, Give, Out}
 use Rattle.lxr_actor.specs.Run.{stepped, of_event, change, happened, event, run}
 use Rattle.lxr_actor.proofs.Runs.{run-lengths, run-keeps}
-use Rattle.lxr_barrier.specs.declared.machines.Phase.{Phase}
-use Rattle.lxr_barrier.specs.declared.machines.Phase.TheVariants.{Begun, Unlogged, Loaded, Logged, Ended}
+use Rattle.lxr_barrier.specs.declared.machines.StorePhase.{StorePhase}
+use Rattle.lxr_barrier.specs.declared.machines.StorePhase.TheVariants.{Begun, Unlogged, Loaded, Logged, Ended}
 use Rattle.lxr_barrier.specs.declared.machines.StoreEnd.TheVariants.{LogFull}
-use Rattle.lxr_barrier.specs.Storing.{Storing, entry_of, is_full, is_set, place_in, reference_word}
+use Rattle.lxr_barrier.specs.Storing.{Storing, entry_of, is_full, reference_word}
 use Rattle.lxr_barrier.specs.Storers.{Logging, storer_machine}
 use Rattle.lxr_barrier.specs.Unlogged.{HasBits, IsBeginning, IsStoreIn, StoreView, UnloggedBitsAndLogs, entries_for, entry_word, loaded_by, ready_for, store_view, unlogged_bit}
 use Rattle.lxr_barrier.proofs.BitLemmas.{bit_read, cleared_words, bit_here, bit_there, word_before, bit_behind}
@@ -46,14 +48,14 @@ module _ (r : Regions) (opening words : List ℕ) (has : HasBits r words) (views
   room : r.unlogged + w / 64 < length words
   room = has.exist w heap
 
-  abbrev storing : Phase → Storing
+  abbrev storing : StorePhase → Storing
   storing p = record { unlogged = r.unlogged; place = place; index = index; value = value; phase = p }
 
-  abbrev logging : Phase → Logging
+  abbrev logging : StorePhase → Logging
   logging p = record { store = storing p; log = log }
 
   -- a step from this phase keeps them
-  abbrev Keeps : Phase → Type 0
+  abbrev Keeps : StorePhase → Type 0
   Keeps p = slice_get views i ≡ Some (store_view (logging p)) → UnloggedBitsAndLogs r opening words views
       → UnloggedBitsAndLogs r opening (stepped storer_machine words (logging p)).0 (set views i (store_view (stepped storer_machine words (logging p)).1))
 
@@ -100,7 +102,7 @@ module _ (r : Regions) (opening words : List ℕ) (has : HasBits r words) (views
   clear old true e at h = first_clear r opening words views h i _ at _ w heap clears (entry_of (storing (Loaded old)) old) refl refl (bit ∙ set_bit bits (w % 64) e)
   clear old false e at h = late_clear r opening words views h i _ at _ w heap clears (bit ∙ clear_bit bits (w % 64) e)
 
-  step_at : (p : Phase) → Keeps p
+  step_at : (p : StorePhase) → Keeps p
   step_at Begun at h = loads (r.unlogged + w / 64) _ (look (is_set bits (w % 64)) (is_full log) refl at h)
   step_at Unlogged at h = loads w _ (quiet r opening words views h i _ at (Some (entry_of (storing Unlogged) (place_in (slice_index words w)))) None (one_loaded r opening words _ (λ set. first_value h set.1)) (none_ready r opening words))
   step_at (Loaded old) at h = clear old (is_set bits (w % 64)) refl at h

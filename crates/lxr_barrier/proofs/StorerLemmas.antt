@@ -3,6 +3,7 @@ use Rattle.std.proofs.Common.{◌≡◌, ℕ, ◌<◌, refl, sym, subst, ◌∙�
 use Rattle.std.specs.Prelude.{Option, Some, None, slice_get}
 use Rattle.std.specs.List.{All}
 use Rattle.std.proofs.lemmas.List.Elements.{All-set}
+use Rattle.lxr_tables.specs.Entries.{all_but}
 use Rattle.lxr_layout.specs.declared.limits.Regions.{Regions}
 use Rattle.lxr_actor.specs.declared.Action.{Action}
 use Rattle.lxr_actor.specs.declared.Kindred.TheVariants.{Load, Store, And}
@@ -11,9 +12,9 @@ use Rattle.lxr_actor.specs.declared.Event.{Event}
 use Rattle.lxr_actor.specs.declared.Event.TheVariants.{Step, Give, Out}
 use Rattle.lxr_actor.specs.Run.{acted, of_event, change, happened, event, FitsAt, AlwaysFits}
 use Rattle.lxr_actor.proofs.Runs.{run-lengths, always-fits}
-use Rattle.lxr_barrier.specs.declared.machines.Phase.{Phase}
-use Rattle.lxr_barrier.specs.declared.machines.Phase.TheVariants.{Begun, Unlogged, Loaded, Logged, Ended}
-use Rattle.lxr_barrier.specs.Storing.{Storing, all_but, action_in, next_action, bit_number, bit_word, target}
+use Rattle.lxr_barrier.specs.declared.machines.StorePhase.{StorePhase}
+use Rattle.lxr_barrier.specs.declared.machines.StorePhase.TheVariants.{Begun, Unlogged, Loaded, Logged, Ended}
+use Rattle.lxr_barrier.specs.Storing.{Storing, action_in, next_action, bit_number, bit_word, target}
 use Rattle.lxr_barrier.specs.Storers.{Logging, storer_machine}
 use Rattle.lxr_barrier.specs.Unlogged.{HasBits, IsStoreIn}
 use Rattle.lxr_barrier.proofs.ViewLemmas.{all_at}
@@ -51,7 +52,7 @@ words_kept core e h =
     subst (λ n. All (λ s. (bit_word s.store < n) × (target s.store < n)) (event storer_machine core e).actors) (sym (run-lengths storer_machine core (e ∷ [])).0)
     (happened_words core e (slice_get core.actors (of_event e)) refl h)
 
-word_exists : (words : List ℕ) (s : Storing) (p : Phase) → bit_word s < length words → target s < length words → (act : Action) → action_in s p ≡ Some act → act.word < length words
+word_exists : (words : List ℕ) (s : Storing) (p : StorePhase) → bit_word s < length words → target s < length words → (act : Action) → action_in s p ≡ Some act → act.word < length words
 word_exists words s Begun b t act e = subst (λ (a : Action). a.word < length words) (let q : record { kind = Load; word = bit_word s; operand = 0 } ≡ act = cc in q) b
 word_exists words s Unlogged b t act e = subst (λ (a : Action). a.word < length words) (let q : record { kind = Load; word = target s; operand = 0 } ≡ act = cc in q) t
 word_exists words s (Loaded old) b t act e = subst (λ (a : Action). a.word < length words) (let q : record { kind = And; word = bit_word s; operand = all_but (bit_number s) } ≡ act = cc in q) b
@@ -59,7 +60,7 @@ word_exists words s Logged b t act e = subst (λ (a : Action). a.word < length w
 word_exists words s (Ended how) b t act e = absurd (cc)
 
 fits_at : (core : Core Logging) (number : ℕ) → AllHaveWords core → FitsAt storer_machine core number
-fits_at core number h s at act e = let has = all_at (HasWords core.words) core.actors number s at h in (word_exists core.words s.store s.store.phase has.0 has.1 act e, refl)
+fits_at core number h s at act e = let has = all_at (HasWords core.words) core.actors number s at h in word_exists core.words s.store s.store.phase has.0 has.1 act e
 
 -- where the words of all storers exist, each step of each schedule fits
 pub storers_fit : (core : Core Logging) → AllHaveWords core → AlwaysFits storer_machine core

@@ -66,7 +66,7 @@ module _ (r : Regions) (opening : List ℕ) where
     entries_in : ℕ → StoreView → ℕ
     entries_in w x = count_by (λ e. nat_eq (entry_word e) w) x.log
 
-    -- the view of the machine after a step, and the views then
+    -- what the machine shows after a step, and what all show then
     abbrev after : List LogEntry → Option LogEntry → Option ℕ → StoreView
     after log loaded ready = record { log = log; loaded = loaded; ready = ready }
 

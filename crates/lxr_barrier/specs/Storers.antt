@@ -1,10 +1,10 @@
 -- A store with a log of its own, as an actor on shared words.
 use Rattle.std.specs.Prelude.{ℕ, ◌<◌, Bool, true, false, None, length}
 use Rattle.lxr_layout.specs.declared.runs.LogEntry.{LogEntry}
-use Rattle.lxr_lists.specs.Roomy.{Roomy}
+use Rattle.lxr_base.specs.Roomy.{Roomy}
 use Rattle.lxr_actor.specs.Machine.{Machine}
-use Rattle.lxr_barrier.specs.declared.machines.Phase.{Phase}
-use Rattle.lxr_barrier.specs.declared.machines.Phase.TheVariants.{Begun, Unlogged, Loaded, Logged, Ended}
+use Rattle.lxr_barrier.specs.declared.machines.StorePhase.{StorePhase}
+use Rattle.lxr_barrier.specs.declared.machines.StorePhase.TheVariants.{Begun, Unlogged, Loaded, Logged, Ended}
 use Rattle.lxr_barrier.specs.Storing.{Storing, next_action, store_after, log_after}
 
 -- a store, and the log that it records in
@@ -13,7 +13,7 @@ pub record Logging : Type 0 where
   pub log : Roomy LogEntry
 
 -- between the look at the bit and its clearing there is room for the entry
-abbrev pub HasRoomIn : Phase → Roomy LogEntry → Type 0
+abbrev pub HasRoomIn : StorePhase → Roomy LogEntry → Type 0
 HasRoomIn Begun log = Unit {0}
 HasRoomIn Unlogged log = length log.items < log.room
 HasRoomIn (Loaded old) log = length log.items < log.room
@@ -21,7 +21,7 @@ HasRoomIn Logged log = Unit {0}
 HasRoomIn (Ended how) log = Unit {0}
 
 -- its one unit is the store: it rests before and after
-abbrev pub rests_in : Phase → Bool
+abbrev pub rests_in : StorePhase → Bool
 rests_in Begun = true
 rests_in Unlogged = false
 rests_in (Loaded old) = false
@@ -29,7 +29,7 @@ rests_in Logged = false
 rests_in (Ended how) = true
 
 -- the most steps that are left
-abbrev pub steps_left : Phase → ℕ
+abbrev pub steps_left : StorePhase → ℕ
 steps_left Begun = 4
 steps_left Unlogged = 3
 steps_left (Loaded old) = 2
@@ -44,7 +44,6 @@ storer_after s old = record { store = store_after s.store s.log old; log = log_a
 abbrev pub storer_machine : Machine Logging
 storer_machine = record {
   action = λ s. next_action s.store;
-  accepts = λ s old. true;
   after = storer_after;
   rests = λ s. rests_in s.store.phase;
   left = λ s. steps_left s.store.phase;

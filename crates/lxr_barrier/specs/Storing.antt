@@ -1,21 +1,22 @@
 -- One store of a reference behind the barrier: what its machine knows, and its single steps.
 use Rattle.std.specs.Prelude.{ℕ, ◌+◌, ◌-◌, ◌/◌, ◌%◌, ◌^◌, Bool, nat_eq, nat_le, if◌then◌else◌, Option, Some, None, length}
 use Rattle.std.specs.Int.{bit_at}
-use Rattle.lxr_layout.specs.Places.{first_word}
+use Rattle.lxr_tables.specs.Entries.{all_but, is_set}
+use Rattle.lxr_layout.specs.Places.{field_word, place_in}
 use Rattle.lxr_layout.specs.declared.Place.{Place}
 use Rattle.lxr_layout.specs.declared.limits.Regions.{Regions}
 use Rattle.lxr_layout.specs.declared.runs.LogEntry.{LogEntry}
-use Rattle.lxr_lists.specs.Roomy.{Roomy, pushed}
+use Rattle.lxr_base.specs.Roomy.{Roomy, pushed}
 use Rattle.lxr_actor.specs.declared.Action.{Action}
 use Rattle.lxr_actor.specs.declared.Kindred.TheVariants.{Load, Store, And}
-use Rattle.lxr_barrier.specs.declared.machines.Phase.{Phase}
-use Rattle.lxr_barrier.specs.declared.machines.Phase.TheVariants.{Begun, Unlogged, Loaded, Logged, Ended}
+use Rattle.lxr_barrier.specs.declared.machines.StorePhase.{StorePhase}
+use Rattle.lxr_barrier.specs.declared.machines.StorePhase.TheVariants.{Begun, Unlogged, Loaded, Logged, Ended}
 use Rattle.lxr_barrier.specs.declared.machines.StoreEnd.{StoreEnd}
 use Rattle.lxr_barrier.specs.declared.machines.StoreEnd.TheVariants.{Stored, LogFull}
 
 -- the heap word of a reference: references stand behind their object's header
 abbrev pub reference_word : Place → ℕ → ℕ
-reference_word place index = first_word place.0 + 1 + index
+reference_word place index = field_word place.0 index
 
 -- a store of a reference: where the unlogged bits begin, the object and which of its references, what is stored,
 -- and how far it is
@@ -24,7 +25,7 @@ pub record Storing : Type 0 where
   pub place : Place
   pub index : ℕ
   pub value : Place
-  pub phase : Phase
+  pub phase : StorePhase
 
 -- the store that has taken no step
 abbrev pub begun : Regions → Place → ℕ → Place → Storing
@@ -41,24 +42,12 @@ bit_word s = s.unlogged + target s / 64
 abbrev pub bit_number : Storing → ℕ
 bit_number s = target s % 64
 
--- all bits of a word but one
-abbrev pub all_but : ℕ → ℕ
-all_but n = 2 ^ 64 - 1 - 2 ^ n
-
--- the place that a reference word holds, in its low 32 bits
-abbrev pub place_in : ℕ → Place
-place_in word = record { 0 = word % 2 ^ 32 }
-
--- this bit of a word is set
-abbrev pub is_set : ℕ → ℕ → Bool
-is_set word n = nat_eq (bit_at word n) 1
-
 -- the log has no room for a further entry
 abbrev pub is_full : Roomy LogEntry → Bool
 is_full log = nat_le log.room (length log.items)
 
 -- it has seen its bit clear, or has cleared it
-abbrev pub IsPastBarrier : Phase → Type 0
+abbrev pub IsPastBarrier : StorePhase → Type 0
 IsPastBarrier Begun = ⊥
 IsPastBarrier Unlogged = ⊥
 IsPastBarrier (Loaded old) = ⊥
@@ -67,7 +56,7 @@ IsPastBarrier (Ended Stored) = Unit {0}
 IsPastBarrier (Ended LogFull) = ⊥
 
 -- the next step: look at the bit; load the reference; clear the bit; store
-abbrev pub action_in : Storing → Phase → Option Action
+abbrev pub action_in : Storing → StorePhase → Option Action
 action_in s Begun = Some (record { kind = Load; word = bit_word s; operand = 0 })
 action_in s Unlogged = Some (record { kind = Load; word = target s; operand = 0 })
 action_in s (Loaded old) = Some (record { kind = And; word = bit_word s; operand = all_but (bit_number s) })
@@ -79,7 +68,7 @@ next_action s = action_in s s.phase
 
 -- how far it is once it is told what the word was: a clear bit leaves the store alone to be done, and a set one
 -- needs room in the log
-abbrev pub phase_after : Storing → Roomy LogEntry → ℕ → Phase → Phase
+abbrev pub phase_after : Storing → Roomy LogEntry → ℕ → StorePhase → StorePhase
 phase_after s log old Begun = if is_set old (bit_number s) then (if is_full log then Ended LogFull else Unlogged) else Logged
 phase_after s log old Unlogged = Loaded (place_in old)
 phase_after s log old (Loaded first) = Logged
@@ -94,7 +83,7 @@ abbrev pub entry_of : Storing → Place → LogEntry
 entry_of s old = record { place = s.place; index = s.index; old = old }
 
 -- the log then: who clears the bit records what it loaded, and who finds it cleared records nothing
-abbrev pub log_in : Storing → Roomy LogEntry → ℕ → Phase → Roomy LogEntry
+abbrev pub log_in : Storing → Roomy LogEntry → ℕ → StorePhase → Roomy LogEntry
 log_in s log old Begun = log
 log_in s log old Unlogged = log
 log_in s log old (Loaded first) = if is_set old (bit_number s) then pushed log (entry_of s first) else log
@@ -105,7 +94,7 @@ abbrev pub log_after : Storing → Roomy LogEntry → ℕ → Roomy LogEntry
 log_after s log old = log_in s log old s.phase
 
 -- how it ended, once it is through
-abbrev pub end_in : Phase → Option StoreEnd
+abbrev pub end_in : StorePhase → Option StoreEnd
 end_in Begun = None
 end_in Unlogged = None
 end_in (Loaded old) = None

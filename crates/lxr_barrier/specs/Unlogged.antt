@@ -4,10 +4,10 @@ use Rattle.std.specs.List.{All, sum_by, count_by}
 use Rattle.lxr_layout.specs.declared.Place.{Place}
 use Rattle.lxr_layout.specs.declared.limits.Regions.{Regions}
 use Rattle.lxr_layout.specs.declared.runs.LogEntry.{LogEntry}
-use Rattle.lxr_lists.specs.Roomy.{pushed}
+use Rattle.lxr_base.specs.Roomy.{pushed}
 use Rattle.lxr_tables.specs.Entries.{bits_from}
-use Rattle.lxr_barrier.specs.declared.machines.Phase.{Phase}
-use Rattle.lxr_barrier.specs.declared.machines.Phase.TheVariants.{Begun, Unlogged, Loaded, Logged, Ended}
+use Rattle.lxr_barrier.specs.declared.machines.StorePhase.{StorePhase}
+use Rattle.lxr_barrier.specs.declared.machines.StorePhase.TheVariants.{Begun, Unlogged, Loaded, Logged, Ended}
 use Rattle.lxr_barrier.specs.Storing.{Storing, IsPastBarrier, bit_word, entry_of, reference_word, target}
 use Rattle.lxr_barrier.specs.Storers.{Logging}
 
@@ -20,7 +20,7 @@ pub record StoreView : Type 0 where
   pub ready : Option ℕ
 
 -- the entry that it records if it is the first to clear the bit
-abbrev pub loaded_by : Storing → Phase → Option LogEntry
+abbrev pub loaded_by : Storing → StorePhase → Option LogEntry
 loaded_by s Begun = None
 loaded_by s Unlogged = None
 loaded_by s (Loaded old) = Some (entry_of s old)
@@ -28,7 +28,7 @@ loaded_by s Logged = None
 loaded_by s (Ended how) = None
 
 -- where it is about to store
-abbrev pub ready_for : Storing → Phase → Option ℕ
+abbrev pub ready_for : Storing → StorePhase → Option ℕ
 ready_for s Begun = None
 ready_for s Unlogged = None
 ready_for s (Loaded old) = None

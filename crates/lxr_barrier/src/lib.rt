@@ -14,8 +14,5 @@ mod storers;
 
 pub use laws::stores_keep_first_values;
 pub use logs::Log;
-pub use machines::{Phase, StoreEnd, StoreMachine};
+pub use machines::{StoreEnd, StoreMachine, StorePhase};
 pub use storers::{Storer, replay_stores};
-
-#[cfg(test)]
-mod tests;

@@ -1,9 +1,9 @@
 //! The log of one thread: references that it was the first to store to, with their old values.
 ghost use Rattle.std.specs.Prelude.{◌≡◌, ◌<◌, ◌≤◌, ◌↔◌, [], IfOk, IsTrue, Some, length, slice_get};
-ghost use Rattle.lxr_lists.specs.Roomy.{emptied, pushed};
+ghost use Rattle.lxr_base.specs.Roomy.{emptied, pushed};
 
+use lxr_base::Listed;
 use lxr_layout::LogEntry;
-use lxr_lists::Listed;
 use std::alloc::{AllocError, Global};
 use std::marker::Model;
 
@@ -17,7 +17,7 @@ pub struct Log {
 impl Model for Log {
     ghost use Rattle.std.specs.Prelude.{◌≡◌, ◌≤◌, ◌<◌, ◌^◌, length};
     ghost use Rattle.lxr_layout.specs.declared.runs.LogEntry.{LogEntry};
-    ghost use Rattle.lxr_lists.specs.Roomy.{Roomy};
+    ghost use Rattle.lxr_base.specs.Roomy.{Roomy};
 
     ghost Value = { Roomy LogEntry };
 

@@ -1,17 +1,18 @@
 //! The store machine: one store of a reference, one atomic step at a time.
 ghost use Rattle.std.specs.Prelude.{◌≡◌, ◌<◌, ◌≤◌, ◌/◌, ◌+◌, ◌^◌, ◌↔◌, IsSome, IsTrue, Some, if◌then◌else◌, length};
 ghost use Rattle.std.specs.Option.{ForSome};
-ghost use Rattle.lxr_layout.specs.Places.{IsPlace};
+ghost use Rattle.lxr_tables.specs.Entries.{all_but, is_set};
+ghost use Rattle.lxr_layout.specs.Places.{IsPlace, place_in};
 ghost use Rattle.lxr_layout.specs.declared.Place.{Place};
 ghost use Rattle.lxr_actor.specs.declared.Kindred.TheVariants.{And};
-ghost use Rattle.lxr_barrier.specs.declared.machines.Phase.TheVariants.{Begun};
+ghost use Rattle.lxr_barrier.specs.declared.machines.StorePhase.TheVariants.{Begun};
 ghost use Rattle.lxr_barrier.specs.declared.machines.StoreEnd.TheVariants.{LogFull};
-ghost use Rattle.lxr_barrier.specs.Storing.{all_but, begun, bit_number, bit_word, end_of, entry_of, is_set, log_after, next_action, place_in, reference_word, store_after, target};
+ghost use Rattle.lxr_barrier.specs.Storing.{begun, bit_number, bit_word, end_of, entry_of, log_after, next_action, reference_word, store_after, target};
 ghost use Rattle.lxr_barrier.specs.Storers.{rests_in};
 
 use crate::logs::Log;
 use lxr_actor::{Action, Kindred};
-use lxr_layout::{LogEntry, Place, Regions, word_of};
+use lxr_layout::{LogEntry, Place, Regions, field_word};
 use std::marker::Model;
 
 /// How a store ended.
@@ -25,7 +26,7 @@ pub enum StoreEnd {
 
 /// How far a store is, with what it has loaded.
 #[derive(Clone, Copy, Debug, PartialEq, Eq)]
-pub enum Phase {
+pub enum StorePhase {
     /// It loads the word with the unlogged bit next.
     Begun,
     /// The bit was set and there is room in the log: it loads the reference next.
@@ -46,12 +47,12 @@ pub struct StoreMachine {
     place: Place,
     index: u16,
     value: Place,
-    phase: Phase,
+    phase: StorePhase,
 }
 
 impl Model for StoreMachine {
     ghost use Rattle.std.specs.Prelude.{◌+◌, ◌/◌, ◌^◌, ◌<◌, ◌≤◌};
-    ghost use Rattle.lxr_layout.specs.Places.{IsPlace};
+    ghost use Rattle.lxr_layout.specs.Places.{IsPlace, place_in};
     ghost use Rattle.lxr_barrier.specs.Storing.{Storing, reference_word};
 
     ghost Value = { Storing };
@@ -75,7 +76,7 @@ impl StoreMachine {
             place,
             index,
             value,
-            phase: Phase::Begun,
+            phase: StorePhase::Begun,
         }
     }
 
@@ -86,19 +87,15 @@ impl StoreMachine {
         ensures { result ≡ next_action self.now }
     {
         match self.phase {
-            Phase::Begun => Some(load(self.bit_word())),
-            Phase::Unlogged => Some(load(self.target())),
-            Phase::Loaded { old: _ } => Some(Action {
+            StorePhase::Begun => Some(Action::load(self.bit_word())),
+            StorePhase::Unlogged => Some(Action::load(self.target())),
+            StorePhase::Loaded { old: _ } => Some(Action {
                 kind: Kindred::And,
                 word: self.bit_word(),
                 operand: !(1_u64 << (self.target() % 64)),
             }),
-            Phase::Logged => Some(Action {
-                kind: Kindred::Store,
-                word: self.target(),
-                operand: u64::from(self.value.0),
-            }),
-            Phase::Ended(_) => None,
+            StorePhase::Logged => Some(Action::store(self.target(), u64::from(self.value.0))),
+            StorePhase::Ended(_) => None,
         }
     }
 
@@ -115,18 +112,18 @@ impl StoreMachine {
     {
         let was_set = old >> (self.target() % 64) & 1 == 1;
         self.phase = match self.phase {
-            Phase::Begun => after_look(was_set, log.is_full()),
-            Phase::Unlogged => Phase::Loaded {
+            StorePhase::Begun => after_look(was_set, log.is_full()),
+            StorePhase::Unlogged => StorePhase::Loaded {
                 old: Place((old & 0xffff_ffff) as u32),
             },
-            Phase::Loaded { old: first } => {
+            StorePhase::Loaded { old: first } => {
                 if was_set {
                     log.push(self.entry(first));
                 }
-                Phase::Logged
+                StorePhase::Logged
             }
-            Phase::Logged => Phase::Ended(StoreEnd::Stored),
-            Phase::Ended(end) => Phase::Ended(end),
+            StorePhase::Logged => StorePhase::Ended(StoreEnd::Stored),
+            StorePhase::Ended(end) => StorePhase::Ended(end),
         };
     }
 
@@ -135,7 +132,7 @@ impl StoreMachine {
         ensures { result ≡ end_of self.now }
     {
         match self.phase {
-            Phase::Ended(end) => Some(end),
+            StorePhase::Ended(end) => Some(end),
             _ => None,
         }
     }
@@ -145,7 +142,7 @@ impl StoreMachine {
     pub(crate) fn is_resting(&self) -> bool
         ensures { result ≡ rests_in self.now.phase }
     {
-        matches!(self.phase, Phase::Begun | Phase::Ended(_))
+        matches!(self.phase, StorePhase::Begun | StorePhase::Ended(_))
     }
 
     /// The heap word that is stored to.
@@ -153,7 +150,7 @@ impl StoreMachine {
     fn target(&self) -> u32
         ensures { result ≡ target self.now }
     {
-        word_of(self.place) + 1 + u32::from(self.index)
+        field_word(self.place, self.index)
     }
 
     /// The word with its unlogged bit.
@@ -176,26 +173,14 @@ impl StoreMachine {
     }
 }
 
-/// A load of a word.
-#[inline(always)]
-fn load(word: u32) -> Action
-    ensures { result ≡ record { kind = Kindred.Load; word = word; operand = 0 } }
-{
-    Action {
-        kind: Kindred::Load,
-        word,
-        operand: 0,
-    }
-}
-
 /// How far a store is once it has seen its unlogged bit.
 #[inline(always)]
-fn after_look(was_set: bool, is_full: bool) -> Phase
-    ensures { result ≡ (if was_set then (if is_full then Phase.Ended StoreEnd.LogFull else Phase.Unlogged) else Phase.Logged) }
+fn after_look(was_set: bool, is_full: bool) -> StorePhase
+    ensures { result ≡ (if was_set then (if is_full then StorePhase.Ended StoreEnd.LogFull else StorePhase.Unlogged) else StorePhase.Logged) }
 {
     match (was_set, is_full) {
-        (false, _) => Phase::Logged,
-        (true, false) => Phase::Unlogged,
-        (true, true) => Phase::Ended(StoreEnd::LogFull),
+        (false, _) => StorePhase::Logged,
+        (true, false) => StorePhase::Unlogged,
+        (true, true) => StorePhase::Ended(StoreEnd::LogFull),
     }
 }

@@ -3,7 +3,7 @@ ghost use Rattle.std.specs.Prelude.{◌≡◌, ◌<◌, List, ℕ, length, map};
 ghost use Rattle.lxr_layout.specs.declared.limits.Regions.{Regions};
 ghost use Rattle.lxr_actor.specs.Run.{core_of, run};
 ghost use Rattle.lxr_actor.specs.declared.Event.TheVariants.{Step};
-ghost use Rattle.lxr_barrier.specs.declared.machines.Phase.TheVariants.{Begun};
+ghost use Rattle.lxr_barrier.specs.declared.machines.StorePhase.TheVariants.{Begun};
 ghost use Rattle.lxr_barrier.specs.Storers.{storer_machine};
 ghost use Rattle.lxr_barrier.specs.Unlogged.{AreStorersIn, ChangesOnlyBehindBarrier, HaveWords, IsBeginning, KeepFirstValues, KeepOwnLogs};
 

@@ -3,6 +3,7 @@ use Rattle.std.proofs.Common.{◌≡◌, ◌≢◌, ℕ, zero, suc, ◌+◌, ◌
 use Rattle.std.proofs.lemmas.List.{length-replicate}
 use Rattle.std.specs.Prelude.{◌&&◌, ◌||◌, IsTrue, Option, Some, None, not, nat_eq, if◌then◌else◌}
 use Rattle.std.proofs.lemmas.Bool.Decides.{leb_tells, nat_tests}
+use Rattle.lxr_layout.specs.declared.TheConstants.{GRANULES_IN_BLOCK, GRANULES_IN_LINE, LINES_IN_BLOCK}
 use Rattle.lxr_layout.specs.declared.runs.Run.{Run}
 use Rattle.lxr_layout.specs.declared.limits.Limits.{Limits}
 use Rattle.lxr_layout.specs.declared.Name.{Name}
@@ -36,40 +37,40 @@ and_false true = refl
 and_false false = refl
 
 -- a count on a line keeps it
-count_keeps : (t : Tables) (n i : ℕ) → i < 16 → t.counts (16 * n + i) ≢ 0 → is_free t n ≡ false
-count_keeps t n i within here = ap (λ z. not (t.outs n) && z) (zero_ends t.counts (16 * n) i 16 within here) ∙ and_false (not (t.outs n))
+count_keeps : (t : Tables) (n i : ℕ) → i < 16 → t.counts (GRANULES_IN_LINE * n + i) ≢ 0 → is_free t n ≡ false
+count_keeps t n i within here = ap (λ z. not (t.outs n) && z) (zero_ends t.counts (GRANULES_IN_LINE * n) i GRANULES_IN_LINE within here) ∙ and_false (not (t.outs n))
 
 -- and so does its out bit
 out_keeps : (t : Tables) (n : ℕ) → IsTrue (t.outs n) → is_free t n ≡ false
-out_keeps t n out = ap (λ b. not b && are_zero t.counts (16 * n) 16) out
+out_keeps t n out = ap (λ b. not b && are_zero t.counts (GRANULES_IN_LINE * n) GRANULES_IN_LINE) out
 
-told_free : (t : Tables) (n : ℕ) (out : Bool) → t.outs n ≡ out → (not out && are_zero t.counts (16 * n) 16) ≡ true → IsFreeLine t n
+told_free : (t : Tables) (n : ℕ) (out : Bool) → t.outs n ≡ out → (not out && are_zero t.counts (GRANULES_IN_LINE * n) GRANULES_IN_LINE) ≡ true → IsFreeLine t n
 told_free t n true is free = let no : false ≡ true = free in cc
-told_free t n false is free = record { in_hand = is; uncounted = zero_each t.counts (16 * n) 16 free }
+told_free t n false is free = record { in_hand = is; uncounted = zero_each t.counts (GRANULES_IN_LINE * n) GRANULES_IN_LINE free }
 
 pub free_line_is_told : FreeLineIsTold
 free_line_is_told t n = (
   (λ free. told_free t n (t.outs n) refl free),
-  (λ free. ap (λ b. not b && are_zero t.counts (16 * n) 16) free.in_hand ∙ all_zero t.counts (16 * n) 16 free.uncounted),
+  (λ free. ap (λ b. not b && are_zero t.counts (GRANULES_IN_LINE * n) GRANULES_IN_LINE) free.in_hand ∙ all_zero t.counts (GRANULES_IN_LINE * n) GRANULES_IN_LINE free.uncounted),
 )
 
 pub kept_line_is_taken : KeptLineIsTaken
-kept_line_is_taken t g k n keeps before after = elim (leb_tells (g + 1) (16 * n)) [
+kept_line_is_taken t g k n keeps before after = elim (leb_tells (g + 1) (GRANULES_IN_LINE * n)) [
   | inl c ↦ let low = c.1 in elim (keeps.further n (omega arith) after) [
-    | inl marked ↦ count_keeps t n 0 (omega arith) (subst (λ x. t.counts x ≢ 0) (let z : 16 * n ≡ 16 * n + 0 = omega arith in z) marked)
+    | inl marked ↦ count_keeps t n 0 (omega arith) (subst (λ x. t.counts x ≢ 0) (let z : GRANULES_IN_LINE * n ≡ GRANULES_IN_LINE * n + 0 = omega arith in z) marked)
     | inr out ↦ out_keeps t n out
   ]
   | inr c ↦ let high = c.1 in elim keeps.first [
-    | inl counted ↦ count_keeps t n (g - 16 * n) (omega arith) (subst (λ x. t.counts x ≢ 0) (let z : g ≡ 16 * n + (g - 16 * n) = omega arith in z) counted)
-    | inr out ↦ out_keeps t n (subst (λ x. IsTrue (t.outs x)) (let z : g / 16 ≡ n = omega arith in z) out)
+    | inl counted ↦ count_keeps t n (g - GRANULES_IN_LINE * n) (omega arith) (subst (λ x. t.counts x ≢ 0) (let z : g ≡ GRANULES_IN_LINE * n + (g - GRANULES_IN_LINE * n) = omega arith in z) counted)
+    | inr out ↦ out_keeps t n (subst (λ x. IsTrue (t.outs x)) (let z : g / GRANULES_IN_LINE ≡ n = omega arith in z) out)
   ]
 ]
 
 -- an object that keeps its lines lies before a run of free lines or behind it
-apart_from_run : (t : Tables) (blocks : ℕ) (r : Run) (g k : ℕ) → IsFreeRun t blocks r → 1 ≤ r.lines → 1 ≤ k → KeepsLines t g k → (g + k ≤ first_granule r) ⊎ (first_granule r + 16 * r.lines ≤ g)
+apart_from_run : (t : Tables) (blocks : ℕ) (r : Run) (g k : ℕ) → IsFreeRun t blocks r → 1 ≤ r.lines → 1 ≤ k → KeepsLines t g k → (g + k ≤ first_granule r) ⊎ (first_granule r + GRANULES_IN_LINE * r.lines ≤ g)
 apart_from_run t blocks r g k run some size keeps = elim (leb_tells (g + k) (first_granule r)) [
   | inl c ↦ inl c.1
-  | inr c ↦ let after = c.1 in elim (leb_tells (first_granule r + 16 * r.lines) g) [
+  | inr c ↦ let after = c.1 in elim (leb_tells (first_granule r + GRANULES_IN_LINE * r.lines) g) [
     | inl d ↦ inr d.1
     | inr d ↦ let before = d.1 in elim (leb_tells g (first_granule r)) [
       | inl e ↦
@@ -79,10 +80,10 @@ apart_from_run t blocks r g k run some size keeps = elim (leb_tells (g + k) (fir
           cc
       | inr e ↦
           let high = e.1 in
-          let taken = kept_line_is_taken t g k (g / 16) keeps (omega arith) (omega arith) in
-          let free = run.free (g / 16 - 128 * r.block) (omega arith) (omega arith) in
-          let same : 128 * r.block + (g / 16 - 128 * r.block) ≡ g / 16 = omega arith in
-          let free_there : is_free t (g / 16) ≡ true = ap (is_free t) (sym same) ∙ free in
+          let taken = kept_line_is_taken t g k (g / GRANULES_IN_LINE) keeps (omega arith) (omega arith) in
+          let free = run.free (g / GRANULES_IN_LINE - LINES_IN_BLOCK * r.block) (omega arith) (omega arith) in
+          let same : LINES_IN_BLOCK * r.block + (g / GRANULES_IN_LINE - LINES_IN_BLOCK * r.block) ≡ g / GRANULES_IN_LINE = omega arith in
+          let free_there : is_free t (g / GRANULES_IN_LINE) ≡ true = ap (is_free t) (sym same) ∙ free in
           cc
     ]
   ]
@@ -96,10 +97,10 @@ record Spot (a b : Space) (at : Name → ℕ) (g : Graph) (us : List Name) (n : 
   end : ℕ
   place : p.0 ≡ from + 1
   fits : from + granule_count s ≤ end
-  in_heap : end ≤ 2048 * a.limits.blocks
-  in_block : from / 2048 ≡ (end - 1) / 2048
+  in_heap : end ≤ GRANULES_IN_BLOCK * a.limits.blocks
+  in_block : from / GRANULES_IN_BLOCK ≡ (end - 1) / GRANULES_IN_BLOCK
   apart : (m : Name) (o : Object) → IsTrue (has us m) → object_at g m ≡ Some o → (granule_of (at m) + granules_of o ≤ from) ⊎ (end ≤ granule_of (at m))
-  outs : (l : ℕ) → from < 16 * l + 16 → 16 * l < end → IsTrue ((tables_of b).outs l)
+  outs : (l : ℕ) → from < GRANULES_IN_LINE * l + GRANULES_IN_LINE → GRANULES_IN_LINE * l < end → IsTrue ((tables_of b).outs l)
   counts : (tables_of b).counts ≡ (tables_of a).counts
   still_out : (l : ℕ) → IsTrue ((tables_of a).outs l) → IsTrue ((tables_of b).outs l)
   heap : (tables_of b).heap ≡ (with_object (tables_of a) from n s).heap
@@ -122,7 +123,7 @@ spot_in_rest a b at g us n s p (inr rest) kept is =
       in_heap = rest.in_heap;
       in_block = omega arith;
       apart = λ m o member has_o. kept.rest m o member has_o some;
-      outs = λ l after before. subst (λ f. IsTrue (f l)) (sym same_outs) (subst (λ x. IsTrue ((tables_of a).outs x)) (let z : a.rest_next / 16 ≡ l = omega (arith, after, before) in z) rest.out);
+      outs = λ l after before. subst (λ f. IsTrue (f l)) (sym same_outs) (subst (λ x. IsTrue ((tables_of a).outs x)) (let z : a.rest_next / GRANULES_IN_LINE ≡ l = omega (arith, after, before) in z) rest.out);
       counts = ap (λ t. t.counts) is.changes.tables;
       still_out = λ l out. subst (λ f. IsTrue (f l)) (sym same_outs) out;
       heap = ap (λ t. t.heap) is.changes.tables;
@@ -157,7 +158,7 @@ spot_on_run a b at g us n s p r kept is =
     let same_outs = ap (λ t. t.outs) is.changes.tables in
     record {
       from = first_granule r;
-      end = first_granule r + 16 * r.lines;
+      end = first_granule r + GRANULES_IN_LINE * r.lines;
       place = ap (λ q. q.0) is.place;
       fits = omega arith;
       in_heap = omega arith;
@@ -223,8 +224,8 @@ old_member ms n m member differ = ap (λ b. b || has ms m) (sym differ) ∙ memb
 -- counts that stay and out bits that stay keep an object's lines
 still_keeps : (t u : Tables) (g k : ℕ) → u.counts ≡ t.counts → ((l : ℕ) → IsTrue (t.outs l) → IsTrue (u.outs l)) → KeepsLines t g k → KeepsLines u g k
 still_keeps t u g k same outs keeps = record {
-  first = elim keeps.first [ inl c ↦ inl (subst (λ f. f g ≢ 0) (sym same) c) | inr o ↦ inr (outs (g / 16) o) ];
-  further = λ n low high. elim (keeps.further n low high) [ inl c ↦ inl (subst (λ f. f (16 * n) ≢ 0) (sym same) c) | inr o ↦ inr (outs n o) ];
+  first = elim keeps.first [ inl c ↦ inl (subst (λ f. f g ≢ 0) (sym same) c) | inr o ↦ inr (outs (g / GRANULES_IN_LINE) o) ];
+  further = λ n low high. elim (keeps.further n low high) [ inl c ↦ inl (subst (λ f. f (GRANULES_IN_LINE * n) ≢ 0) (sym same) c) | inr o ↦ inr (outs n o) ];
 }
 
 -- the new object is kept by the out bits of its lines
@@ -232,7 +233,7 @@ new_keeps : (a b : Space) (at : Name → ℕ) (g : Graph) (us : List Name) (n : 
 new_keeps a b at g us n s p spot =
     let some = some_granules s in let place = spot.place in let fits = spot.fits in
     record {
-      first = inr (spot.outs (granule_of p.0 / 16) (omega arith) (omega arith));
+      first = inr (spot.outs (granule_of p.0 / GRANULES_IN_LINE) (omega arith) (omega arith));
       further = λ l low high. inr (spot.outs l (omega (arith, low)) (omega (arith, high)));
     }
 
@@ -281,7 +282,7 @@ placed_is_apart a b at g us thread s p rest kept row is =
 -- ---- the opened space
 
 -- the world's two further lines have marks
-world_marks : (l : Limits) (n : ℕ) → 0 < 16 * n → 16 * n < 33 → ((opened_tables l).counts (16 * n) ≢ 0) ⊎ IsTrue ((opened_tables l).outs n)
+world_marks : (l : Limits) (n : ℕ) → 0 < GRANULES_IN_LINE * n → GRANULES_IN_LINE * n < 33 → ((opened_tables l).counts (GRANULES_IN_LINE * n) ≢ 0) ⊎ IsTrue ((opened_tables l).outs n)
 world_marks l zero low high = absurd (omega (arith, low))
 world_marks l (suc zero) low high = inl (λ no. let z : 3 ≡ 0 = no in cc z)
 world_marks l (suc (suc zero)) low high = inl (λ no. let z : 3 ≡ 0 = no in cc z)

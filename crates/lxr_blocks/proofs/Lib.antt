@@ -1,4 +1,8 @@
+mod EdgeLemmas
+pub mod HandedLemmas
+pub mod HandingLemmas
+pub mod KeptLemmas
+pub mod LeftLemmas
 pub mod LineLemmas
 pub mod ListingLemmas
-pub mod KeptLemmas
-pub mod HandingLemmas
+pub mod MaskLemmas

@@ -1,15 +1,15 @@
 -- Counts that are 0, and free lines in a row.
-use Rattle.std.proofs.Common.{◌≡◌, ◌≢◌, ℕ, zero, suc, ◌+◌, ◌*◌, ◌<◌, ◌≤◌, refl, sym, ap, subst, ◌∙◌, inl, inr, arith, Bool, true, false}
-use Rattle.std.specs.Prelude.{◌==◌, ◌&&◌, ◌↔◌, IsTrue, max, not, if◌then◌else◌}
+use Rattle.std.proofs.Common.{◌≡◌, ◌≢◌, ℕ, zero, suc, ◌+◌, ◌<◌, ◌≤◌, refl, sym, ap, subst, ◌∙◌, inl, inr, arith, Bool, true, false}
+use Rattle.std.specs.Prelude.{◌==◌, ◌&&◌, IfNone, IsTrue, None, Option, Some, max, if◌then◌else◌}
 use Rattle.std.proofs.Common.{nat_cmp}
 use Rattle.std.specs.Ordering.{ord_max}
-use Rattle.std.proofs.lemmas.Bool.{false_from_ne_true}
 use Rattle.std.proofs.lemmas.Bool.Decides.{eqb_tells, leb_tells, nat_tests}
+use Rattle.lxr_layout.specs.declared.TheConstants.{LINES_IN_BLOCK}
 use Rattle.lxr_layout.specs.declared.runs.Run.{Run}
 use Rattle.lxr_image.specs.Tables.{Tables}
 use Rattle.lxr_blocks.specs.declared.states.BlockState.{BlockState}
 use Rattle.lxr_blocks.specs.declared.states.BlockState.TheVariants.{Chosen, Free, Partly, Whole}
-use Rattle.lxr_blocks.specs.Lines.{IsFirstLine, IsFreeRun, IsNextRun, are_zero, free_count, free_in, is_free}
+use Rattle.lxr_blocks.specs.Lines.{IsFirstLine, IsFreeRun, IsNextRun, are_zero, free_count, free_in}
 use Rattle.lxr_blocks.specs.States.{IsOpenRun, state_by_lines, state_in}
 
 -- ---- the test of a line
@@ -41,17 +41,6 @@ zero_each counts g k all i within = elim (eqb_tells (counts (g + i)) 0) [
   | inr z ↦ let no = zero_ends counts g i k within z.1 in cc
 ]
 
--- a test that tells whether each count is 0
-pub zeros_told : (counts : ℕ → ℕ) (g k : ℕ) (zeros : Bool) → (IsTrue zeros ↔ ((i : ℕ) → i < k → counts (g + i) ≡ 0)) → zeros ≡ are_zero counts g k
-zeros_told counts g k true told = sym (all_zero counts g k (told.0 refl))
-zeros_told counts g k false told = sym (false_from_ne_true (are_zero counts g k) (λ yes. let no : false ≡ true = told.1 (zero_each counts g k yes) in cc))
-
-pub free_if : (t : Tables) (n : ℕ) (out zeros : Bool) → out ≡ t.outs n → out ≡ false → zeros ≡ are_zero t.counts (16 * n) 16 → zeros ≡ is_free t n
-free_if t n out zeros is not_out zeros_is = zeros_is ∙ ap (λ b. not b && are_zero t.counts (16 * n) 16) (sym not_out ∙ is)
-
-pub taken_if : (t : Tables) (n : ℕ) (out : Bool) → out ≡ t.outs n → out ≡ true → not out ≡ is_free t n
-taken_if t n out is is_out = ap not is_out ∙ ap (λ b. not b && are_zero t.counts (16 * n) 16) (sym is_out ∙ is)
-
 -- ---- runs
 
 -- free lines that stand in a row
@@ -70,14 +59,14 @@ behind_front free b from r a n is after some all = elim (leb_tells r.line a) [
 ]
 
 -- free lines behind `from` that begin before the next run ends lie within it
-pub within_end : (free : ℕ → Bool) (b from : ℕ) (r : Run) (a n : ℕ) → IsNextRun free b from r → a < r.line + r.lines → a + n ≤ 128 → AreFree free a n → a + n ≤ r.line + r.lines
+pub within_end : (free : ℕ → Bool) (b from : ℕ) (r : Run) (a n : ℕ) → IsNextRun free b from r → a < r.line + r.lines → a + n ≤ LINES_IN_BLOCK → AreFree free a n → a + n ≤ r.line + r.lines
 within_end free b from r a n is before within all = elim (leb_tells (a + n) (r.line + r.lines)) [
   | inl k ↦ k.1
   | inr k ↦ let past = k.1 in let taken = is.ends.there (omega arith) in let there = all (r.line + r.lines) (omega arith) past in cc
 ]
 
 -- so they are not more than it has
-pub not_longer : (free : ℕ → Bool) (b from : ℕ) (r : Run) (a n : ℕ) → IsNextRun free b from r → from ≤ a → a < r.line + r.lines → a + n ≤ 128 → AreFree free a n → n ≤ r.lines
+pub not_longer : (free : ℕ → Bool) (b from : ℕ) (r : Run) (a n : ℕ) → IsNextRun free b from r → from ≤ a → a < r.line + r.lines → a + n ≤ LINES_IN_BLOCK → AreFree free a n → n ≤ r.lines
 not_longer free b from r a zero is after before within all = omega arith
 not_longer free b from r a (suc n) is after before within all =
     let front = behind_front free b from r a (suc n) is after (omega arith) all in
@@ -85,7 +74,7 @@ not_longer free b from r a (suc n) is after before within all =
     omega arith
 
 -- no free line stands behind `from`
-pub none_behind : (free : ℕ → Bool) (from a n : ℕ) → IsFirstLine free true from 128 → from ≤ a → a + n ≤ 128 → AreFree free a n → n ≡ 0
+pub none_behind : (free : ℕ → Bool) (from a n : ℕ) → IsFirstLine free true from LINES_IN_BLOCK → from ≤ a → a + n ≤ LINES_IN_BLOCK → AreFree free a n → n ≡ 0
 none_behind free from a zero is after within all = refl
 none_behind free from a (suc n) is after within all =
     let taken = is.passed a after (omega arith) in let there = all a (omega arith) (omega arith) in cc
@@ -113,7 +102,7 @@ longer_more t blocks b from best r next before q is same here = elim (leb_tells 
   | inr k ↦ let short = before q is same k.1 in omega arith
 ]
 
-pub longer_end : (t : Tables) (blocks b from best : ℕ) → IsFirstLine (free_in t b) true from 128 → NoneLonger t blocks b from best → (q : Run) → IsFreeRun t blocks q → q.block ≡ b → q.lines ≤ best
+pub longer_end : (t : Tables) (blocks b from best : ℕ) → IsFirstLine (free_in t b) true from LINES_IN_BLOCK → NoneLonger t blocks b from best → (q : Run) → IsFreeRun t blocks q → q.block ≡ b → q.lines ≤ best
 longer_end t blocks b from best none before q is same = elim (leb_tells from q.line) [
   | inl k ↦ let no_lines = none_behind (free_in t b) from q.line q.lines none k.1 is.within (free_lines t blocks b q is same) in omega arith
   | inr k ↦ before q is same k.1
@@ -132,31 +121,18 @@ has_longer t blocks b from best r within next has = elim (leb_tells best r.lines
   | inr k ↦ let below = k.1 in let is = has.3 in (has.0, has.1, has.2, omega arith)
 ]
 
--- ---- the first lines of a block that fit
-
--- all runs that begin below a line are too short
-abbrev pub AreShort : Tables → ℕ → ℕ → ℕ → ℕ → Type 0
-AreShort t blocks b line n = (q : Run) → IsFreeRun t blocks q → q.block ≡ b → q.line < line → q.lines < n
-
-pub short_more : (t : Tables) (blocks b from n : ℕ) (r : Run) → IsNextRun (free_in t b) b from r → r.lines < n → AreShort t blocks b from n → AreShort t blocks b (r.line + r.lines) n
-short_more t blocks b from n r next less before q is same here = elim (leb_tells from q.line) [
-  | inl k ↦ let within = is.within in let short = not_longer (free_in t b) b from r q.line q.lines next k.1 here within (free_lines t blocks b q is same) in omega arith
-  | inr k ↦ before q is same k.1
-]
-
-pub first_that_fits : (t : Tables) (blocks b from n : ℕ) (r : Run) → IsNextRun (free_in t b) b from r → 1 ≤ n → AreShort t blocks b from n
-    → (q : Run) → IsFreeRun t blocks q → q.block ≡ b → q.lines ≡ n → r.line ≤ q.line
-first_that_fits t blocks b from n r next some before q is same long = elim (leb_tells from q.line) [
-  | inl k ↦ behind_front (free_in t b) b from r q.line q.lines next k.1 (omega arith) (free_lines t blocks b q is same)
-  | inr k ↦ let short = before q is same k.1 in absurd (omega arith)
-]
-
 pub greater_is : (a b : ℕ) → ord_max nat_cmp a b ≡ max a b
 greater_is a b = grind (arith, nat_tests)
 
 -- a run of a block that isn't Chosen
 pub open_of : (t : Tables) (blocks b : ℕ) (q : Run) → state_in t b ≢ Chosen → IsFreeRun t blocks q → q.block ≡ b → IsOpenRun t blocks q
 open_of t blocks b q outside is same = record { run = is; outside = subst (λ x. state_in t x ≢ Chosen) (sym same) outside }
+
+-- where no free lines of a block are so many, no open ones are
+pub none_open : {X : Type 0} (o : Option X) (t : Tables) (blocks b n : ℕ) → IfNone o ((q : Run) → IsFreeRun t blocks q → q.block ≡ b → q.lines < n)
+    → IfNone o ((q : Run) → IsOpenRun t blocks q → q.block ≡ b → q.lines < n)
+none_open None t blocks b n none = λ q is. none q is.run
+none_open (Some x) t blocks b n none = tt
 
 -- ---- the state by lines
 
@@ -200,10 +176,10 @@ count_less free i (suc n) within is = elim (eqb_tells i n) [
 ]
 
 abbrev by_count : ℕ → BlockState
-by_count n = if n == 128 then Free else (if n == 0 then Whole else Partly)
+by_count n = if n == LINES_IN_BLOCK then Free else (if n == 0 then Whole else Partly)
 
-partly_by_count : (n : ℕ) → 1 ≤ n → n < 128 → Partly ≡ by_count n
-partly_by_count n some less = elim (eqb_tells n 128) [
+partly_by_count : (n : ℕ) → 1 ≤ n → n < LINES_IN_BLOCK → Partly ≡ by_count n
+partly_by_count n some less = elim (eqb_tells n LINES_IN_BLOCK) [
   | inl k ↦ let is = k.1 in absurd (omega arith)
   | inr k ↦ elim (eqb_tells n 0) [
     | inl z ↦ let is = z.1 in absurd (omega arith)
@@ -211,15 +187,12 @@ partly_by_count n some less = elim (eqb_tells n 128) [
   ]
 ]
 
-pub is_all_free : (t : Tables) (b at : ℕ) → IsFirstLine (free_in t b) false 0 at → at ≡ 128 → Free ≡ state_by_lines t b
-is_all_free t b at none is = sym (ap by_count (count_all (free_in t b) 128 (λ i h. none.passed i (omega arith) (subst (λ n. i < n) (sym is) h))))
+pub all_free_state : (t : Tables) (b : ℕ) → ((i : ℕ) → i < LINES_IN_BLOCK → free_in t b i ≡ true) → Free ≡ state_by_lines t b
+all_free_state t b all = sym (ap by_count (count_all (free_in t b) LINES_IN_BLOCK all))
 
-pub is_whole : (t : Tables) (b at : ℕ) → IsFirstLine (free_in t b) true 0 at → at ≡ 128 → Whole ≡ state_by_lines t b
-is_whole t b at none is = sym (ap by_count (count_none (free_in t b) 128 (λ i h. none.passed i (omega arith) (subst (λ n. i < n) (sym is) h))))
+pub none_free_state : (t : Tables) (b : ℕ) → ((i : ℕ) → i < LINES_IN_BLOCK → free_in t b i ≡ false) → Whole ≡ state_by_lines t b
+none_free_state t b none = sym (ap by_count (count_none (free_in t b) LINES_IN_BLOCK none))
 
-pub is_partly : (t : Tables) (b taken free : ℕ) → IsFirstLine (free_in t b) false 0 taken → taken ≢ 128 → IsFirstLine (free_in t b) true 0 free → free ≢ 128 → Partly ≡ state_by_lines t b
-is_partly t b taken free some_taken is some_free is_too =
-    let taken_within = some_taken.within in let free_within = some_free.within in
-    partly_by_count (free_count (free_in t b) 128)
-    (count_some (free_in t b) free 128 (omega arith) (some_free.there (omega arith)))
-    (count_less (free_in t b) taken 128 (omega arith) (some_taken.there (omega arith)))
+pub some_free_state : (t : Tables) (b free taken : ℕ) → free < LINES_IN_BLOCK → free_in t b free ≡ true → taken < LINES_IN_BLOCK → free_in t b taken ≡ false → Partly ≡ state_by_lines t b
+some_free_state t b free taken free_within is taken_within is_not =
+    partly_by_count (free_count (free_in t b) LINES_IN_BLOCK) (count_some (free_in t b) free LINES_IN_BLOCK free_within is) (count_less (free_in t b) taken LINES_IN_BLOCK taken_within is_not)

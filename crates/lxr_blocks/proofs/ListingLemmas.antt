@@ -5,6 +5,7 @@ use Rattle.std.proofs.Math.ListN.{get_or-append}
 use Rattle.std.proofs.Math.Seq.{get_or-append_right}
 use Rattle.std.specs.Prelude.{◌&&◌, map, nat_le, nat_lt, not, slice_index, if◌then◌else◌}
 use Rattle.std.proofs.lemmas.Bool.Decides.{eqb_tells, leb_tells, nat_tests}
+use Rattle.lxr_layout.specs.declared.TheConstants.{FREE_BLOCK_COUNT, FREE_BLOCK_CURSOR, LINES_IN_BLOCK, RUN_COUNT, RUN_CURSOR}
 use Rattle.lxr_layout.specs.declared.runs.Run.{Run}
 use Rattle.lxr_layout.specs.Runs.{word_of_run}
 use Rattle.lxr_image.specs.declared.space.Space.{Space}
@@ -23,14 +24,14 @@ none_begin free b from zero after none = let is : from ≡ 0 = omega arith in ap
 none_begin free b from (suc k) after none = elim (eqb_tells from (suc k)) [
   | inl e ↦ ap (runs_below free b) (sym e.1)
   | inr e ↦ let ne = e.1 in
-      ap (λ x. runs_below free b k ++ (if x then (record { block = b; line = k; lines = free_from free k (128 - k) } ∷ []) else [])) (none k (omega arith) (omega arith))
+      ap (λ x. runs_below free b k ++ (if x then (record { block = b; line = k; lines = free_from free k (LINES_IN_BLOCK - k) } ∷ []) else [])) (none k (omega arith) (omega arith))
       ∙ append-nil (runs_below free b k) ∙ none_begin free b from k (omega arith) (λ i h below. none i h (omega (arith, below)))
 ]
 
 -- a line at which a run begins adds it
-one_begins : (free : ℕ → Bool) (b k : ℕ) → begins_run free k ≡ true → runs_below free b (suc k) ≡ runs_below free b k ++ (record { block = b; line = k; lines = free_from free k (128 - k) } ∷ [])
+one_begins : (free : ℕ → Bool) (b k : ℕ) → begins_run free k ≡ true → runs_below free b (suc k) ≡ runs_below free b k ++ (record { block = b; line = k; lines = free_from free k (LINES_IN_BLOCK - k) } ∷ [])
 unfolding runs_below
-one_begins free b k begins = ap (λ x. runs_below free b k ++ (if x then (record { block = b; line = k; lines = free_from free k (128 - k) } ∷ []) else [])) begins
+one_begins free b k begins = ap (λ x. runs_below free b k ++ (if x then (record { block = b; line = k; lines = free_from free k (LINES_IN_BLOCK - k) } ∷ []) else [])) begins
 
 -- the length of a run
 free_from_is : (free : ℕ → Bool) (a n m : ℕ) → n ≤ m → ((i : ℕ) → a ≤ i → i < a + n → free i ≡ true) → (n < m → free (a + n) ≡ false) → free_from free a m ≡ n
@@ -46,9 +47,9 @@ free_from_is free a (suc n) (suc m) within all ends =
 
 -- no run goes on over a line
 abbrev pub IsEdge : (ℕ → Bool) → ℕ → Type 0
-IsEdge free line = 0 < line → line < 128 → free line ≡ false
+IsEdge free line = 0 < line → line < LINES_IN_BLOCK → free line ≡ false
 
-begins_at : (free : ℕ → Bool) (from k : ℕ) → IsEdge free from → from ≤ k → k < 128 → ((i : ℕ) → from ≤ i → i < k → free i ≡ false) → free k ≡ true → begins_run free k ≡ true
+begins_at : (free : ℕ → Bool) (from k : ℕ) → IsEdge free from → from ≤ k → k < LINES_IN_BLOCK → ((i : ℕ) → from ≤ i → i < k → free i ≡ false) → free k ≡ true → begins_run free k ≡ true
 begins_at free from zero edge after within passed there = there
 begins_at free from (suc k) edge after within passed there = elim (eqb_tells from (suc k)) [
   | inl e ↦ let is = e.1 in let taken = ap free (sym is) ∙ edge (omega arith) (omega arith) in cc
@@ -70,16 +71,16 @@ behind_begin free a (suc i) less all = begins_no_more free i (all i (omega arith
 pub next_listed : (free : ℕ → Bool) (b from : ℕ) (r : Run) → IsEdge free from → IsNextRun free b from r → runs_below free b (r.line + r.lines) ≡ runs_below free b from ++ (r ∷ [])
 next_listed free b from r edge is =
     let some = is.some in let within = is.ends.within in let reached = is.passed.reached in
-    let len : free_from free r.line (128 - r.line) ≡ r.lines = free_from_is free r.line r.lines (128 - r.line) (omega arith) is.ends.passed (λ less. is.ends.there (omega (arith, less))) in
-    let run : (record { block = b; line = r.line; lines = free_from free r.line (128 - r.line) }) ≡ r = λ j. record { block = sym is.block j; line = r.line; lines = len j } in
+    let len : free_from free r.line (LINES_IN_BLOCK - r.line) ≡ r.lines = free_from_is free r.line r.lines (LINES_IN_BLOCK - r.line) (omega arith) is.ends.passed (λ less. is.ends.there (omega (arith, less))) in
+    let run : (record { block = b; line = r.line; lines = free_from free r.line (LINES_IN_BLOCK - r.line) }) ≡ r = λ j. record { block = sym is.block j; line = r.line; lines = len j } in
     none_begin free b (suc r.line) (r.line + r.lines) (omega arith) (λ i h below. behind_begin free r.line i (omega (arith, h)) (λ k g less. is.ends.passed k g (omega (arith, below, less))))
     ∙ one_begins free b r.line (begins_at free from r.line edge reached (omega arith) is.passed.passed (is.passed.there (omega arith)))
-    ∙ ap (λ x. x ++ (record { block = b; line = r.line; lines = free_from free r.line (128 - r.line) } ∷ [])) (none_begin free b from r.line reached (λ i h below. begins_none free i (is.passed.passed i h below)))
+    ∙ ap (λ x. x ++ (record { block = b; line = r.line; lines = free_from free r.line (LINES_IN_BLOCK - r.line) } ∷ [])) (none_begin free b from r.line reached (λ i h below. begins_none free i (is.passed.passed i h below)))
     ∙ ap (λ x. runs_below free b from ++ (x ∷ [])) run
 
 -- behind the last run there is none
-pub last_listed : (free : ℕ → Bool) (b from : ℕ) → IsFirstLine free true from 128 → runs_below free b 128 ≡ runs_below free b from
-last_listed free b from none = none_begin free b from 128 none.reached (λ i h below. begins_none free i (none.passed i h below))
+pub last_listed : (free : ℕ → Bool) (b from : ℕ) → IsFirstLine free true from LINES_IN_BLOCK → runs_below free b LINES_IN_BLOCK ≡ runs_below free b from
+last_listed free b from none = none_begin free b from LINES_IN_BLOCK none.reached (λ i h below. begins_none free i (none.passed i h below))
 
 pub first_listed : (free : ℕ → Bool) (b : ℕ) → runs_below free b 0 ≡ []
 unfolding runs_below
@@ -114,7 +115,7 @@ few_same free b k none few =
 
 few_more : (free : ℕ → Bool) (b k : ℕ) → begins_run free k ≡ true → 2 * length (runs_below free b k) ≤ k → AreFew free b (suc k)
 few_more free b k begins few =
-    let run : Run = record { block = b; line = k; lines = free_from free k (128 - k) } in
+    let run : Run = record { block = b; line = k; lines = free_from free k (LINES_IN_BLOCK - k) } in
     let more : length (runs_below free b (suc k)) ≡ length (runs_below free b k) + 1 = ap length (one_begins free b k begins) ∙ length-append (runs_below free b k) (run ∷ []) in
     let here = begins_free free k begins in
     (omega arith, λ j is taken. let same : k ≡ j = omega (arith, is) in let there = ap free same in absurd (let z : true ≡ false = sym here ∙ there ∙ taken in cc z))
@@ -136,7 +137,7 @@ few_runs_below free b zero =
 few_runs_below free b (suc k) = few_next free b k (few_runs_below free b k)
 
 -- between two runs lies a line, so a block has no more than 64
-pub few_runs : (free : ℕ → Bool) (b k : ℕ) → k ≤ 128 → length (runs_below free b k) ≤ 64
+pub few_runs : (free : ℕ → Bool) (b k : ℕ) → k ≤ LINES_IN_BLOCK → length (runs_below free b k) ≤ 64
 few_runs free b k within = let few = (few_runs_below free b k).0 in omega arith
 
 -- where a run is found, fewer than 64 were found before
@@ -295,11 +296,11 @@ all_listed a b c d e f g runs frees first runs_is second frees_is one two three 
     let all = turns_then a f g _ _ (turns_then a e f _ _ (turns_then a d e _ _ (turns_then a c d _ _ (turns_then a b c _ _ first second) one) two) three) four in
     record {
       tables = four.tables
-          ∙ ap (λ u. with_cursor u 4 frees) (three.tables ∙ ap (λ u. with_cursor u 3 0) (two.tables ∙ ap (λ u. with_cursor u 2 runs) (one.tables ∙ ap (λ u. with_cursor u 1 0) (second.tables ∙ ap (λ u. with_frees u 0 listed) first.tables))))
+          ∙ ap (λ u. with_cursor u FREE_BLOCK_COUNT frees) (three.tables ∙ ap (λ u. with_cursor u FREE_BLOCK_CURSOR 0) (two.tables ∙ ap (λ u. with_cursor u RUN_COUNT runs) (one.tables ∙ ap (λ u. with_cursor u RUN_CURSOR 0) (second.tables ∙ ap (λ u. with_frees u 0 listed) first.tables))))
           ∙ (λ j. record t {
             runs = written t.runs 0 (listed_runs t a.limits.blocks);
             frees = written t.frees 0 (same j);
-            cursors = changed (changed (changed (changed t.cursors 1 0) 2 (runs_is j)) 3 0) 4 (count j);
+            cursors = changed (changed (changed (changed t.cursors RUN_CURSOR 0) 2 (runs_is j)) 3 0) 4 (count j);
           });
       rest = all.rest;
     }

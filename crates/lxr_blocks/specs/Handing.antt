@@ -1,5 +1,6 @@
 -- What changes where a run is handed out.
 use Rattle.std.specs.Prelude.{ℕ, ◌+◌, ◌*◌, ◌%◌, ◌^◌, nat_le, nat_lt, ◌&&◌, Bool, true, if◌then◌else◌}
+use Rattle.lxr_layout.specs.declared.TheConstants.{LINES_IN_BLOCK}
 use Rattle.lxr_layout.specs.declared.runs.Run.{Run}
 use Rattle.lxr_image.specs.Tables.{Tables}
 use Rattle.lxr_blocks.specs.States.{with_state_by_lines}
@@ -17,7 +18,7 @@ with_lines_out t first end = record t {
 
 -- the first line of a run, counted over the whole heap
 abbrev pub first_line : Run → ℕ
-first_line r = 128 * r.block + r.line
+first_line r = LINES_IN_BLOCK * r.block + r.line
 
 -- the tables with a run handed out
 abbrev pub handed_out : Tables → Run → Tables

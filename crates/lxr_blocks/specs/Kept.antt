@@ -1,5 +1,6 @@
 -- Which lines objects keep, so that none of them is handed out while an object lies on it.
 use Rattle.std.specs.Prelude.{◌≡◌, ◌≢◌, ℕ, ◌+◌, ◌*◌, ◌/◌, ◌<◌, ◌≤◌, ◌⊎◌, ◌↔◌, false, Some, List, [], ◌∷◌, IsTrue, length}
+use Rattle.lxr_layout.specs.declared.TheConstants.{GRANULES_IN_LINE}
 use Rattle.lxr_layout.specs.declared.limits.Limits.{Limits}
 use Rattle.lxr_layout.specs.declared.Name.{Name}
 use Rattle.lxr_layout.specs.declared.Place.{Place}
@@ -20,7 +21,7 @@ use Rattle.lxr_blocks.specs.Placing.{IsPlaced, IsRest}
 -- a free line: it isn't handed out, and each count on it is 0
 pub record IsFreeLine (t : Tables) (n : ℕ) : Type 0 where
   pub in_hand : t.outs n ≡ false
-  pub uncounted : (k : ℕ) → k < 16 → t.counts (16 * n + k) ≡ 0
+  pub uncounted : (k : ℕ) → k < 16 → t.counts (GRANULES_IN_LINE * n + k) ≡ 0
 
 -- the test of a line tells which lines are free
 abbrev pub FreeLineIsTold : Type 0
@@ -29,12 +30,12 @@ FreeLineIsTold = (t : Tables) (n : ℕ) → IsTrue (is_free t n) ↔ IsFreeLine 
 -- an object of k granules from g on keeps its lines: the first one by its count, each further one by the mark at
 -- that line's front, or else by their out bits
 pub record KeepsLines (t : Tables) (g k : ℕ) : Type 0 where
-  pub first : (t.counts g ≢ 0) ⊎ IsTrue (t.outs (g / 16))
-  pub further : (n : ℕ) → g < 16 * n → 16 * n < g + k → (t.counts (16 * n) ≢ 0) ⊎ IsTrue (t.outs n)
+  pub first : (t.counts g ≢ 0) ⊎ IsTrue (t.outs (g / GRANULES_IN_LINE))
+  pub further : (n : ℕ) → g < GRANULES_IN_LINE * n → GRANULES_IN_LINE * n < g + k → (t.counts (GRANULES_IN_LINE * n) ≢ 0) ⊎ IsTrue (t.outs n)
 
 -- no free line is overlapped by an object that keeps its lines
 abbrev pub KeptLineIsTaken : Type 0
-KeptLineIsTaken = (t : Tables) (g k n : ℕ) → KeepsLines t g k → g < 16 * n + 16 → 16 * n < g + k → is_free t n ≡ false
+KeptLineIsTaken = (t : Tables) (g k n : ℕ) → KeepsLines t g k → g < GRANULES_IN_LINE * n + GRANULES_IN_LINE → GRANULES_IN_LINE * n < g + k → is_free t n ≡ false
 
 -- the objects of these names keep their lines, and none of them reaches into the rest of the lines that were placed on last
 pub record AreKept (s : Space) (at : Name → ℕ) (g : Graph) (us : List Name) : Type 0 where

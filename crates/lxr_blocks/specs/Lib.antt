@@ -1,6 +1,7 @@
-pub mod Lines
-pub mod States
 pub mod Handing
-pub mod Listing
-pub mod Placing
 pub mod Kept
+pub mod Lines
+pub mod Listing
+pub mod Masks
+pub mod Placing
+pub mod States

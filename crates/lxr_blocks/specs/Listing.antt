@@ -1,5 +1,6 @@
 -- The tables of runs and of free blocks, as they are listed anew.
 use Rattle.std.specs.Prelude.{◌≡◌, ℕ, zero, suc, ◌+◌, ◌-◌, nat_le, nat_lt, ◌&&◌, Bool, true, false, List, [], ◌∷◌, ◌++◌, map, length, slice_index, if◌then◌else◌}
+use Rattle.lxr_layout.specs.declared.TheConstants.{FREE_BLOCK_COUNT, FREE_BLOCK_CURSOR, LINES_IN_BLOCK, RUN_COUNT, RUN_CURSOR}
 use Rattle.lxr_layout.specs.Runs.{word_of_run}
 use Rattle.lxr_image.specs.declared.space.Space.{Space}
 use Rattle.lxr_image.specs.Tables.{Tables, changed}
@@ -32,7 +33,7 @@ joined f (suc b) = joined f b ++ f b
 
 -- the words of a block's runs, in order
 abbrev pub run_words : Tables → ℕ → List ℕ
-run_words t b = map word_of_run (runs_below (free_in t b) b 128)
+run_words t b = map word_of_run (runs_below (free_in t b) b LINES_IN_BLOCK)
 
 -- the same, where the block's runs are listed
 abbrev pub block_runs : Tables → ℕ → List ℕ
@@ -59,7 +60,7 @@ abbrev pub with_lists : Tables → List ℕ → List ℕ → Tables
 with_lists t runs frees = record t {
   runs = written t.runs 0 runs;
   frees = written t.frees 0 frees;
-  cursors = changed (changed (changed (changed t.cursors 1 0) 2 (length runs)) 3 0) 4 (length frees);
+  cursors = changed (changed (changed (changed t.cursors RUN_CURSOR 0) RUN_COUNT (length runs)) FREE_BLOCK_CURSOR 0) FREE_BLOCK_COUNT (length frees);
 }
 
 -- the tables with words written to the run table from an index on, and with numbers to the table of free blocks

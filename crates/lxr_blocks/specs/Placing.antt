@@ -1,5 +1,6 @@
 -- Where an object is placed in a pause, and what changes.
 use Rattle.std.specs.Prelude.{◌≡◌, ◌≢◌, ℕ, ◌+◌, ◌-◌, ◌*◌, ◌/◌, ◌<◌, ◌≤◌, nat_eq, nat_le, nat_lt, ◌⊎◌, IsTrue, if◌then◌else◌}
+use Rattle.lxr_layout.specs.declared.TheConstants.{GRANULES_IN_BLOCK, GRANULES_IN_LINE}
 use Rattle.lxr_layout.specs.declared.runs.Run.{Run}
 use Rattle.lxr_layout.specs.declared.Name.{Name}
 use Rattle.lxr_layout.specs.declared.Place.{Place}
@@ -19,7 +20,7 @@ granule_count s = word_count s / 2
 
 -- the first granule of a run, counted over the whole heap
 abbrev pub first_granule : Run → ℕ
-first_granule r = 16 * first_line r
+first_granule r = GRANULES_IN_LINE * first_line r
 
 -- the place of a granule
 abbrev pub place_at : ℕ → Place
@@ -35,10 +36,10 @@ with_object t g n s = record t {
 -- outside Chosen blocks
 pub record HasRest (s : Space) : Type 0 where
   pub some : s.rest_next < s.rest_end
-  pub in_heap : s.rest_end ≤ 2048 * s.limits.blocks
-  pub in_line : s.rest_next / 16 ≡ (s.rest_end - 1) / 16
-  pub out : IsTrue ((tables_of s).outs (s.rest_next / 16))
-  pub outside : state_in (tables_of s) (s.rest_next / 2048) ≢ Chosen
+  pub in_heap : s.rest_end ≤ GRANULES_IN_BLOCK * s.limits.blocks
+  pub in_line : s.rest_next / GRANULES_IN_LINE ≡ (s.rest_end - 1) / GRANULES_IN_LINE
+  pub out : IsTrue ((tables_of s).outs (s.rest_next / GRANULES_IN_LINE))
+  pub outside : state_in (tables_of s) (s.rest_next / GRANULES_IN_BLOCK) ≢ Chosen
 
 -- what is left of the lines from which an object was placed last, which may be nothing
 abbrev pub IsRest : Space → Type 0
@@ -46,7 +47,7 @@ IsRest s = (s.rest_next ≡ s.rest_end) ⊎ HasRest s
 
 -- the block in which an object was placed last, from which the next one is sought
 abbrev pub search_begin : Space → ℕ
-search_begin s = if nat_lt (s.rest_next / 2048) s.limits.blocks then (s.rest_next / 2048) else 0
+search_begin s = if nat_lt (s.rest_next / GRANULES_IN_BLOCK) s.limits.blocks then (s.rest_next / GRANULES_IN_BLOCK) else 0
 
 -- how many blocks behind `from` a block comes, once round the heap
 abbrev pub turn_of : ℕ → ℕ → ℕ → ℕ
@@ -73,7 +74,7 @@ pub record IsPlacedOn (r : Run) (before after : Space) (n : Name) (s : Shape) (p
   pub too_long : before.rest_end < before.rest_next + granule_count s
   pub run : IsFirstFit (tables_of before) before.limits.blocks (search_begin before) (line_count s) r
   pub place : p ≡ place_at (first_granule r)
-  pub changes : TurnsWithRest before after (with_object (handed_out (tables_of before) r) (first_granule r) n s) (first_granule r + granule_count s) (first_granule r + 16 * r.lines)
+  pub changes : TurnsWithRest before after (with_object (handed_out (tables_of before) r) (first_granule r) n s) (first_granule r + granule_count s) (first_granule r + GRANULES_IN_LINE * r.lines)
 
 -- an object is placed
 abbrev pub IsPlaced : Space → Space → Name → Shape → Place → Type 0

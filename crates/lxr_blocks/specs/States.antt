@@ -1,5 +1,7 @@
 -- States of blocks, as numbers and by their free lines.
-use Rattle.std.specs.Prelude.{◌≢◌, ℕ, ◌==◌, Bool, true, false, if◌then◌else◌}
+use Rattle.std.specs.Prelude.{◌≡◌, ◌≢◌, ℕ, ◌==◌, ◌⊎◌, Bool, true, false, if◌then◌else◌}
+use Rattle.lxr_image.specs.Opened.{world_state}
+use Rattle.lxr_layout.specs.declared.TheConstants.{LINES_IN_BLOCK}
 use Rattle.lxr_layout.specs.declared.runs.Run.{Run}
 use Rattle.lxr_image.specs.Tables.{Tables, changed}
 use Rattle.lxr_blocks.specs.declared.states.BlockState.{BlockState}
@@ -12,7 +14,7 @@ state_number Free = 0
 state_number Partly = 1
 state_number Whole = 2
 state_number Chosen = 3
-state_number World = 4
+state_number World = world_state
 
 -- the state that a number says; no call writes a number beyond 4, and it is read as that of the world's block
 abbrev pub state_of : ℕ → BlockState
@@ -23,7 +25,7 @@ state_in t b = state_of (t.states b)
 
 -- a block that is neither Chosen nor World is Free where all its lines are free, Whole where none is, and else Partly
 abbrev pub state_by_lines : Tables → ℕ → BlockState
-state_by_lines t b = if free_count (free_in t b) 128 == 128 then Free else (if free_count (free_in t b) 128 == 0 then Whole else Partly)
+state_by_lines t b = if free_count (free_in t b) LINES_IN_BLOCK == LINES_IN_BLOCK then Free else (if free_count (free_in t b) LINES_IN_BLOCK == 0 then Whole else Partly)
 
 -- a state that stays whatever lines are free
 abbrev pub is_fixed : BlockState → Bool
@@ -32,6 +34,10 @@ is_fixed Partly = false
 is_fixed Whole = false
 is_fixed Chosen = true
 is_fixed World = true
+
+-- a block has the state that it had, or neither that one nor its own is Chosen or World
+abbrev pub KeepsState : Tables → Tables → ℕ → Type 0
+KeepsState t u b = (state_in u b ≡ state_in t b) ⊎ ((is_fixed (state_in t b) ≡ false) × (is_fixed (state_in u b) ≡ false))
 
 -- the block has the state of its lines, unless it is Chosen or World
 abbrev pub with_state_by_lines : Tables → ℕ → Tables

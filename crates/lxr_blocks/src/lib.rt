@@ -8,16 +8,14 @@
 
 mod handing;
 mod laws;
-mod lines;
 mod listing;
+mod masks;
 mod placing;
 mod states;
 
 pub use handing::hand_out;
 pub use laws::{free_line_is_told, kept_line_is_taken, opened_is_kept, placed_is_apart};
 pub use listing::list_runs;
+pub use masks::free_mask;
 pub use placing::place_now;
 pub use states::{BlockState, longest, renew_state, state};
-
-#[cfg(test)]
-mod tests;

@@ -4,10 +4,10 @@ ghost use Rattle.lxr_image.specs.Spaces.{IsSpace, Turns, tables_of};
 ghost use Rattle.lxr_blocks.specs.Lines.{free_in, runs_below};
 ghost use Rattle.lxr_blocks.specs.Listing.{TurnsWithRest, block_frees, block_runs, listed_frees, listed_runs, run_words, with_frees, with_lists, with_runs};
 
-use crate::lines::next_run;
+use crate::masks::{edges_of, free_mask, next_run};
 use crate::states::{BlockState, state};
 use lxr_image::Space;
-use lxr_layout::run_word;
+use lxr_layout::{FREE_BLOCK_COUNT, FREE_BLOCK_CURSOR, RUN_COUNT, RUN_CURSOR, run_word};
 
 /// Writes the runs of a block to the run table from an index on, and answers the index behind them.
 fn list_lines(space: &mut Space, block: u32, first: u32) -> u32
@@ -18,12 +18,14 @@ fn list_lines(space: &mut Space, block: u32, first: u32) -> u32
     ensures count { result ≡ first + length (run_words (tables_of space.old) block) }
     ensures room { result ≤ 64 * (block + 1) }
 {
+    let mut edges = edges_of(free_mask(space, block));
     let mut at = first;
     let mut line = 0;
-    while let Some(run) = next_run(space, block, line) {
+    while let Some((run, behind)) = next_run(edges, block) {
         space.put_run(at, run_word(run));
         at += 1;
         line = u32::from(run.line) + u32::from(run.lines);
+        edges = behind;
     }
     at
 }
@@ -97,10 +99,10 @@ pub fn list_runs(space: &mut Space) -> u32
 {
     let runs = list_all_runs(space);
     let frees = list_all_frees(space);
-    space.put_cursor(1, 0);
-    space.put_cursor(2, u64::from(runs));
-    space.put_cursor(3, 0);
-    space.put_cursor(4, u64::from(frees));
+    space.put_cursor(RUN_CURSOR, 0);
+    space.put_cursor(RUN_COUNT, u64::from(runs));
+    space.put_cursor(FREE_BLOCK_CURSOR, 0);
+    space.put_cursor(FREE_BLOCK_COUNT, u64::from(frees));
     space.rest_next = 0;
     space.rest_end = 0;
     runs

@@ -1,51 +1,64 @@
 //! Placing an object in a pause, one at a time.
 ghost use Rattle.std.specs.Prelude.{◌≡◌, ◌≢◌, ℕ, ◌+◌, ◌*◌, ◌<◌, ◌≤◌, ◌↔◌, IfNone, IfSome, IsNone};
+ghost use Rattle.lxr_layout.specs.declared.TheConstants.{GRANULES_IN_BLOCK, GRANULES_IN_LINE, LINES_IN_BLOCK};
 ghost use Rattle.lxr_layout.specs.declared.runs.Run.{Run};
 ghost use Rattle.lxr_layout.specs.Objects.{FitsShape, line_count, word_count};
 ghost use Rattle.lxr_image.specs.Spaces.{IsSpace, Turns, tables_of};
-ghost use Rattle.lxr_blocks.specs.Lines.{IsFreeRun};
+ghost use Rattle.lxr_blocks.specs.Lines.{IsFreeRun, free_in};
 ghost use Rattle.lxr_blocks.specs.Listing.{TurnsWithRest};
 ghost use Rattle.lxr_blocks.specs.Handing.{handed_out};
+ghost use Rattle.lxr_blocks.specs.Masks.{IsMask};
 ghost use Rattle.lxr_blocks.specs.Placing.{IsFirstFit, IsFull, IsPlaced, IsRest, first_granule, granule_count, place_at, search_begin, with_object};
 ghost use Rattle.lxr_blocks.specs.States.{IsOpenRun};
 
-use crate::handing::hand_out;
-use crate::lines::next_run;
+use crate::handing::hand_out_of;
+use crate::masks::{free_mask, run_starts};
 use crate::states::{BlockState, state};
 use lxr_image::Space;
-use lxr_layout::{Name, Place, Run, Shape, lines_of, pack, words_of};
+use lxr_layout::{
+    GRANULES_IN_BLOCK, GRANULES_IN_LINE, LINES_IN_BLOCK, Name, Place, Run, Shape, lines_of, pack,
+    words_of,
+};
+
+/// Free lines in a row, and all the free lines of their block.
+#[derive(Clone, Copy)]
+struct Fit {
+    run: Run,
+    free: u128,
+}
 
 /// The first so many free lines in a row of a block.
-fn fit_in(space: &Space, block: u32, lines: u8) -> Option<Run>
+fn fit_in(space: &Space, block: u32, lines: u8) -> Option<Fit>
     requires space { IsSpace space.now }
     requires block { block < space.now.limits.blocks }
-    requires lines { 1 ≤ lines }
+    requires lines { (1 ≤ lines) × (lines ≤ LINES_IN_BLOCK) }
     ensures none { IfNone result ((q : Run) → IsFreeRun (tables_of space.now) space.now.limits.blocks q → q.block ≡ block → q.lines < lines) }
-    ensures run { IfSome result (λ run. IsFreeRun (tables_of space.now) space.now.limits.blocks run × (run.block ≡ block) × (run.lines ≡ lines)) }
-    ensures first { IfSome result (λ run. (q : Run) → IsFreeRun (tables_of space.now) space.now.limits.blocks q → q.block ≡ block → q.lines ≡ lines → run.line ≤ q.line) }
+    ensures run { IfSome result (λ fit. IsFreeRun (tables_of space.now) space.now.limits.blocks fit.run × (fit.run.block ≡ block) × (fit.run.lines ≡ lines)) }
+    ensures first { IfSome result (λ fit. (q : Run) → IsFreeRun (tables_of space.now) space.now.limits.blocks q → q.block ≡ block → q.lines ≡ lines → fit.run.line ≤ q.line) }
+    ensures free { IfSome result (λ fit. IsMask fit.free (free_in (tables_of space.now) fit.run.block)) }
 {
-    let mut line = 0;
-    while let Some(run) = next_run(space, block, line) {
-        if lines <= run.lines {
-            return Some(Run {
-                block,
-                line: run.line,
-                lines,
-            });
-        }
-        line = u32::from(run.line) + u32::from(run.lines);
+    let free = free_mask(space, block);
+    let starts = run_starts(free, lines);
+    if starts == 0 {
+        return None;
     }
-    None
+    let run = Run {
+        block,
+        line: starts.trailing_zeros() as u8,
+        lines,
+    };
+    Some(Fit { run, free })
 }
 
 /// The first so many free lines in a row of a block that isn't Chosen.
-fn fit_outside(space: &Space, block: u32, lines: u8) -> Option<Run>
+fn fit_outside(space: &Space, block: u32, lines: u8) -> Option<Fit>
     requires space { IsSpace space.now }
     requires block { block < space.now.limits.blocks }
-    requires lines { 1 ≤ lines }
+    requires lines { (1 ≤ lines) × (lines ≤ LINES_IN_BLOCK) }
     ensures none { IfNone result ((q : Run) → IsOpenRun (tables_of space.now) space.now.limits.blocks q → q.block ≡ block → q.lines < lines) }
-    ensures run { IfSome result (λ run. IsOpenRun (tables_of space.now) space.now.limits.blocks run × (run.block ≡ block) × (run.lines ≡ lines)) }
-    ensures first { IfSome result (λ run. (q : Run) → IsOpenRun (tables_of space.now) space.now.limits.blocks q → q.block ≡ block → q.lines ≡ lines → run.line ≤ q.line) }
+    ensures run { IfSome result (λ fit. IsOpenRun (tables_of space.now) space.now.limits.blocks fit.run × (fit.run.block ≡ block) × (fit.run.lines ≡ lines)) }
+    ensures first { IfSome result (λ fit. (q : Run) → IsOpenRun (tables_of space.now) space.now.limits.blocks q → q.block ≡ block → q.lines ≡ lines → fit.run.line ≤ q.line) }
+    ensures free { IfSome result (λ fit. IsMask fit.free (free_in (tables_of space.now) fit.run.block)) }
 {
     match state(space, block) {
         BlockState::Chosen => None,
@@ -54,33 +67,35 @@ fn fit_outside(space: &Space, block: u32, lines: u8) -> Option<Run>
 }
 
 /// The first so many free lines in a row of these blocks, outside Chosen ones.
-fn fit_among(space: &Space, from: u32, end: u32, lines: u8) -> Option<Run>
+fn fit_among(space: &Space, from: u32, end: u32, lines: u8) -> Option<Fit>
     requires space { IsSpace space.now }
     requires blocks { (from ≤ end) × (end ≤ space.now.limits.blocks) }
-    requires lines { 1 ≤ lines }
+    requires lines { (1 ≤ lines) × (lines ≤ LINES_IN_BLOCK) }
     ensures none { IfNone result ((q : Run) → IsOpenRun (tables_of space.now) space.now.limits.blocks q → from ≤ q.block → q.block < end → q.lines < lines) }
-    ensures run { IfSome result (λ run. IsOpenRun (tables_of space.now) space.now.limits.blocks run × (from ≤ run.block) × (run.block < end) × (run.lines ≡ lines)) }
-    ensures before { IfSome result (λ run. (q : Run) → IsOpenRun (tables_of space.now) space.now.limits.blocks q → from ≤ q.block → q.block < run.block → q.lines < lines) }
-    ensures first { IfSome result (λ run. (q : Run) → IsOpenRun (tables_of space.now) space.now.limits.blocks q → q.block ≡ run.block → q.lines ≡ lines → run.line ≤ q.line) }
+    ensures run { IfSome result (λ fit. IsOpenRun (tables_of space.now) space.now.limits.blocks fit.run × (from ≤ fit.run.block) × (fit.run.block < end) × (fit.run.lines ≡ lines)) }
+    ensures before { IfSome result (λ fit. (q : Run) → IsOpenRun (tables_of space.now) space.now.limits.blocks q → from ≤ q.block → q.block < fit.run.block → q.lines < lines) }
+    ensures first { IfSome result (λ fit. (q : Run) → IsOpenRun (tables_of space.now) space.now.limits.blocks q → q.block ≡ fit.run.block → q.lines ≡ lines → fit.run.line ≤ q.line) }
+    ensures free { IfSome result (λ fit. IsMask fit.free (free_in (tables_of space.now) fit.run.block)) }
 {
     for block in from..end {
-        if let Some(run) = fit_outside(space, block, lines) {
-            return Some(run);
+        if let Some(fit) = fit_outside(space, block, lines) {
+            return Some(fit);
         }
     }
     None
 }
 
 /// The first so many free lines in a row outside Chosen blocks, on the way round the heap from a block.
-fn first_fit(space: &Space, from: u32, lines: u8) -> Option<Run>
+fn first_fit(space: &Space, from: u32, lines: u8) -> Option<Fit>
     requires space { IsSpace space.now }
     requires block { from < space.now.limits.blocks }
-    requires lines { 1 ≤ lines }
+    requires lines { (1 ≤ lines) × (lines ≤ LINES_IN_BLOCK) }
     ensures none { IfNone result ((q : Run) → IsOpenRun (tables_of space.now) space.now.limits.blocks q → q.lines < lines) }
-    ensures run { IfSome result (λ run. IsFirstFit (tables_of space.now) space.now.limits.blocks from lines run) }
+    ensures run { IfSome result (λ fit. IsFirstFit (tables_of space.now) space.now.limits.blocks from lines fit.run) }
+    ensures free { IfSome result (λ fit. IsMask fit.free (free_in (tables_of space.now) fit.run.block)) }
 {
-    if let Some(run) = fit_among(space, from, space.limits.blocks, lines) {
-        return Some(run);
+    if let Some(fit) = fit_among(space, from, space.limits.blocks, lines) {
+        return Some(fit);
     }
     fit_among(space, 0, from, lines)
 }
@@ -91,7 +106,7 @@ fn search_from(space: &Space) -> u32
     ensures from { result ≡ search_begin space.now }
     ensures block { result < space.now.limits.blocks }
 {
-    let last = space.rest_next / 2048;
+    let last = space.rest_next / GRANULES_IN_BLOCK;
     if last < space.limits.blocks { last } else { 0 }
 }
 
@@ -99,7 +114,7 @@ fn search_from(space: &Space) -> u32
 fn write_object(space: &mut Space, granule: u32, name: Name, shape: Shape)
     requires space { IsSpace space.old }
     requires shape { FitsShape shape }
-    requires granule { granule + granule_count shape ≤ 2048 * space.old.limits.blocks }
+    requires granule { granule + granule_count shape ≤ GRANULES_IN_BLOCK * space.old.limits.blocks }
     ensures { Turns space.old space.new (with_object (tables_of space.old) granule name shape) }
 {
     let first = 2 * granule;
@@ -114,7 +129,7 @@ fn place_in_rest(space: &mut Space, name: Name, shape: Shape) -> Place
     requires space { IsSpace space.old }
     requires shape { FitsShape shape }
     requires fits { space.old.rest_next + granule_count shape ≤ space.old.rest_end }
-    requires in_heap { space.old.rest_end ≤ 2048 * space.old.limits.blocks }
+    requires in_heap { space.old.rest_end ≤ GRANULES_IN_BLOCK * space.old.limits.blocks }
     ensures place { result ≡ place_at space.old.rest_next }
     ensures changes { TurnsWithRest space.old space.new (with_object (tables_of space.old) space.old.rest_next name shape) (space.old.rest_next + granule_count shape) space.old.rest_end }
 {
@@ -125,14 +140,16 @@ fn place_in_rest(space: &mut Space, name: Name, shape: Shape) -> Place
 }
 
 /// Hands out a run of free lines, which become the rest.
-fn open_rest(space: &mut Space, run: Run)
+fn open_rest(space: &mut Space, fit: Fit)
     requires space { IsSpace space.old }
-    requires run { IsFreeRun (tables_of space.old) space.old.limits.blocks run }
-    ensures { TurnsWithRest space.old space.new (handed_out (tables_of space.old) run) (first_granule run) (first_granule run + 16 * run.lines) }
+    requires run { IsFreeRun (tables_of space.old) space.old.limits.blocks fit.run }
+    requires free { IsMask fit.free (free_in (tables_of space.old) fit.run.block) }
+    ensures { TurnsWithRest space.old space.new (handed_out (tables_of space.old) fit.run) (first_granule fit.run) (first_granule fit.run + GRANULES_IN_LINE * fit.run.lines) }
 {
-    hand_out(space, run);
-    space.rest_next = 16 * (128 * run.block + u32::from(run.line));
-    space.rest_end = space.rest_next + 16 * u32::from(run.lines);
+    let run = fit.run;
+    hand_out_of(space, run, fit.free);
+    space.rest_next = GRANULES_IN_LINE * (LINES_IN_BLOCK * run.block + u32::from(run.line));
+    space.rest_end = space.rest_next + GRANULES_IN_LINE * u32::from(run.lines);
 }
 
 /// Places a new object, with zeros for its references and data; only in a pause, when no thread has a part of the
@@ -141,9 +158,9 @@ fn open_rest(space: &mut Space, run: Run)
 /// last object was placed: they are handed out, and what is left of their last line is the rest from then on.
 /// None exactly where neither the rest nor free lines outside Chosen blocks are long enough; then nothing changes.
 ///
-/// It looks at each block at most once: it tests up to 128 lines of a block, a line that is out by one load, and any
-/// other by two. Where all objects are short, it finds lines in the block in which it placed last, or in the next that
-/// has any, so that filling a heap takes time in proportion to its lines.
+/// An object that fits the rest costs no search. Else it looks at each block at most once, by the mask of its free lines.
+/// Where all objects are short, it finds lines in the block in which it placed last, or in the next that has any, so that
+/// filling a heap takes time in proportion to its lines.
 pub fn place_now(space: &mut Space, name: Name, shape: Shape) -> Option<Place>
     requires space { IsSpace space.old }
     requires shape { FitsShape shape }
@@ -155,8 +172,8 @@ pub fn place_now(space: &mut Space, name: Name, shape: Shape) -> Option<Place>
     ensures space { IsSpace space.new }
 {
     if space.rest_end - space.rest_next < words_of(shape) / 2 {
-        let run = first_fit(space, search_from(space), lines_of(shape) as u8)?;
-        open_rest(space, run);
+        let fit = first_fit(space, search_from(space), lines_of(shape) as u8)?;
+        open_rest(space, fit);
     }
     Some(place_in_rest(space, name, shape))
 }

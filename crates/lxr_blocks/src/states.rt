@@ -2,10 +2,12 @@
 ghost use Rattle.std.specs.Prelude.{◌≡◌, ◌<◌, ◌≤◌, ℕ};
 ghost use Rattle.lxr_layout.specs.declared.runs.Run.{Run};
 ghost use Rattle.lxr_image.specs.Spaces.{IsSpace, Turns, tables_of};
-ghost use Rattle.lxr_blocks.specs.Lines.{IsFreeRun};
+ghost use Rattle.lxr_image.specs.Tables.{Tables};
+ghost use Rattle.lxr_blocks.specs.Lines.{IsFreeRun, free_in};
+ghost use Rattle.lxr_blocks.specs.Masks.{IsMask};
 ghost use Rattle.lxr_blocks.specs.States.{IsOpenRun, state_by_lines, state_in, state_number, state_of, with_state_by_lines};
 
-use crate::lines::{first_line, next_run};
+use crate::masks::{edges_of, free_mask, next_run};
 use lxr_image::Space;
 
 /// What a block is to be used for.
@@ -60,19 +62,33 @@ pub fn state(space: &Space, block: u32) -> BlockState
     BlockState::of_number(space.state_word(block))
 }
 
-/// The state that a block has by its free lines alone.
-fn state_of_lines(space: &Space, block: u32) -> BlockState
-    requires space { IsSpace space.now }
-    requires block { block < space.now.limits.blocks }
-    ensures { result ≡ state_by_lines (tables_of space.now) block }
+/// The state that a block with these free lines has by them alone.
+fn state_of_lines(free: u128) -> BlockState
+    ensures { (t : Tables) (b : ℕ) → IsMask free (free_in t b) → result ≡ state_by_lines t b }
 {
-    if first_line(space, block, 0, false) == 128 {
+    if free == u128::MAX {
         return BlockState::Free;
     }
-    if first_line(space, block, 0, true) == 128 {
+    if free == 0 {
         return BlockState::Whole;
     }
     BlockState::Partly
+}
+
+/// Gives a block with these free lines the state that it has by them, unless it is Chosen or World.
+pub(crate) fn put_state_by(space: &mut Space, block: u32, free: u128)
+    requires space { IsSpace space.old }
+    requires block { block < space.old.limits.blocks }
+    requires free { IsMask free (free_in (tables_of space.old) block) }
+    ensures { Turns space.old space.new (with_state_by_lines (tables_of space.old) block) }
+{
+    match state(space, block) {
+        BlockState::Chosen | BlockState::World => {}
+        BlockState::Free | BlockState::Partly | BlockState::Whole => {
+            let state = state_of_lines(free);
+            space.put_state(block, state.number());
+        }
+    }
 }
 
 /// Gives a block the state of its free lines, unless it is Chosen or World. It is for after a change of counts or of
@@ -82,13 +98,8 @@ pub fn renew_state(space: &mut Space, block: u32)
     requires block { block < space.old.limits.blocks }
     ensures { Turns space.old space.new (with_state_by_lines (tables_of space.old) block) }
 {
-    match state(space, block) {
-        BlockState::Chosen | BlockState::World => {}
-        BlockState::Free | BlockState::Partly | BlockState::Whole => {
-            let state = state_of_lines(space, block);
-            space.put_state(block, state.number());
-        }
-    }
+    let free = free_mask(space, block);
+    put_state_by(space, block, free);
 }
 
 /// The lines of the longest run of a block.
@@ -98,11 +109,13 @@ fn longest_in(space: &Space, block: u32) -> u8
     ensures bound { (q : Run) → IsFreeRun (tables_of space.now) space.now.limits.blocks q → q.block ≡ block → q.lines ≤ result }
     ensures reached { (q : Run) × IsFreeRun (tables_of space.now) space.now.limits.blocks q × (q.block ≡ block) × (q.lines ≡ result) }
 {
+    let mut edges = edges_of(free_mask(space, block));
     let mut best = 0;
     let mut line = 0;
-    while let Some(run) = next_run(space, block, line) {
+    while let Some((run, behind)) = next_run(edges, block) {
         best = best.max(run.lines);
         line = u32::from(run.line) + u32::from(run.lines);
+        edges = behind;
     }
     best
 }

@@ -3,9 +3,8 @@
 #![tactic(auto)]
 
 use lxr_image::Space;
-use lxr_run::{Open, Status, lxr};
-use lxr_stream::{Faults, Out, Standard};
-use lxr_watch::Unseen;
+use lxr_run::{Open, Status, Unseen, lxr};
+use lxr_text_stream::{Faults, Out, Standard};
 use std::alloc::AllocError;
 use std::env;
 use std::env::Env;
@@ -35,10 +34,10 @@ fn texts_of<'a, R: AllocGlobal>(rt: &R, words: &'a [String]) -> Result<Vec<&'a s
 
 fn main(rt: HostRuntime) -> ExitCode {
     let Ok(words) = words_of(&rt) else {
-        return ExitCode::from(Status::Memory as u8);
+        return ExitCode::from(Status::Memory.code());
     };
     let Ok(texts) = texts_of(&rt, &words) else {
-        return ExitCode::from(Status::Memory as u8);
+        return ExitCode::from(Status::Memory.code());
     };
     let status = lxr(
         &rt,
@@ -51,5 +50,5 @@ fn main(rt: HostRuntime) -> ExitCode {
         &mut Unseen,
         &mut Space::empty(rt.alloc()),
     );
-    ExitCode::from(status as u8)
+    ExitCode::from(status.code())
 }

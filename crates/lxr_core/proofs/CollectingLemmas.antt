@@ -8,7 +8,7 @@ use Rattle.std.proofs.Math.Seq.{take-suc}
 use Rattle.std.proofs.lemmas.Bool.Decides.{eqb_tells}
 use Rattle.lxr_layout.specs.declared.runs.LogEntry.{LogEntry}
 use Rattle.lxr_layout.specs.declared.Place.{Place}
-use Rattle.lxr_lists.specs.Roomy.{Roomy, emptied, pushed}
+use Rattle.lxr_base.specs.Roomy.{Roomy, emptied, pushed}
 use Rattle.lxr_image.specs.declared.space.Space.{Space}
 use Rattle.lxr_core.specs.declared.actors.AnyActor.{AnyActor}
 use Rattle.lxr_core.specs.Actors.{mutator_in}

@@ -4,6 +4,7 @@ pub mod OpeningLemmas
 pub mod AgainLemmas
 pub mod OpenedLemmas
 pub mod ScriptLemmas
-pub mod StoryLemmas
+pub mod ExecutionLemmas
 pub mod CollectingLemmas
 pub mod ClosingLemmas
+pub mod KeptLemmas

@@ -1,44 +1,48 @@
--- An epoch that is opened: what its actors show, and that its invariant holds of the story that begins.
+-- An epoch that is opened: what its actors show, and that its invariant holds of the execution that begins.
 use Rattle.std.proofs.Common.{◌≡◌, ◌≢◌, ℕ, zero, suc, ◌+◌, ◌-◌, ◌*◌, ◌/◌, ◌%◌, ◌^◌, ◌<◌, ◌≤◌, refl, sym, ap, subst, ◌∙◌, inl, inr, arith, true, false, List, [], ◌∷◌, length}
 use Rattle.std.specs.Prelude.{All, Option, Some, None, map, slice_get, slice_index_or, take, drop}
 use Rattle.std.proofs.Math.ListN.{get_or-map}
 use Rattle.std.proofs.lemmas.List.{get_or-drop, get_or-take, length-drop, length-take-le}
 use Rattle.std.proofs.lemmas.List.Elements.{All-from_get_or}
 use Rattle.std.proofs.lemmas.Option.{slice_get-get_or, slice_get_within}
+use Rattle.lxr_layout.specs.declared.TheConstants.{PAUSE_WORD}
 use Rattle.lxr_layout.specs.declared.Name.{Name}
 use Rattle.lxr_layout.specs.declared.Place.{Place}
 use Rattle.lxr_layout.specs.declared.limits.Limits.{Limits}
 use Rattle.lxr_layout.specs.Objects.{word_count}
 use Rattle.lxr_layout.specs.Spaces.{region_begin}
 use Rattle.lxr_graph.specs.History.{calls_of, replies_of}
-use Rattle.lxr_graph.specs.State.{State, shape_of}
+use Rattle.lxr_graph.specs.State.{State, next_name, shape_of}
+use Rattle.lxr_mutator.specs.Mutating as mutating
 use Rattle.lxr_image.specs.declared.space.Space.{Space}
 use Rattle.lxr_image.specs.Image.{ArePlacesOf, IsImage, place_word}
 use Rattle.lxr_image.specs.Spaces.{Turns, tables_of}
 use Rattle.lxr_image.specs.Tables.{Tables, changed, tables_in}
-use Rattle.lxr_model.specs.Moments.{Moment}
-use Rattle.lxr_counting.specs.Following.{FollowsPause}
-use Rattle.lxr_between.specs.Meaning.{members}
+use Rattle.lxr_model.specs.Moments.{Moment, moment}
+use Rattle.lxr_model_counting.specs.Following.{FollowsPause}
+use Rattle.lxr_invariant.specs.AbstractState.{AbstractState, members}
 use Rattle.lxr_mutator.specs.declared.phases.MutEnd.{MutEnd}
 use Rattle.lxr_mutator.specs.declared.phases.MutEnd.TheVariants as ends
-use Rattle.lxr_mutator.specs.Mutating.{Mutating, nil}
+use Rattle.lxr_mutator.specs.declared.phases.MutatorPhase.{MutatorPhase}
+use Rattle.lxr_mutator.specs.declared.phases.MutatorPhase.TheVariants as phase
+use Rattle.lxr_mutator.specs.Mutating.{Mutating, nil, rests_in}
 use Rattle.lxr_mutator.specs.Mutators.{IsHeld, IsMutator, MayBeIn, again, phase_again}
-use Rattle.lxr_mutator.specs.Steps.{rests_in}
-use Rattle.lxr_epoch.specs.Views.{View, Through, all_of}
-use Rattle.lxr_epoch.specs.Scenes.{Beginning, IsBeginning, Scene, limits_of}
-use Rattle.lxr_epoch.specs.Imaged.{HoldsRegisters}
-use Rattle.lxr_epoch.specs.Epoch.{IsEpoch}
-use Rattle.lxr_epoch.proofs.HeldLemmas.{in_register}
-use Rattle.lxr_epoch.proofs.HeldLemmas as model
-use Rattle.lxr_steps.specs.Showing.{IsMutatorOf, IsSteadyIn, reason_by, stage_in, view_of}
+use Rattle.lxr_core_events.specs.ThreadStates.{ThreadState, Through, all_of}
+use Rattle.lxr_core_events.specs.EpochStates.{Beginning, IsBeginning, EpochState, limits_of}
+use Rattle.lxr_core_events.specs.Imaged.{HoldsRegisters}
+use Rattle.lxr_core_events.specs.Epoch.{IsEpoch}
+use Rattle.lxr_core_events.proofs.HeldLemmas.{in_register}
+use Rattle.lxr_core_events.proofs.HeldLemmas as model
+use Rattle.lxr_core_sim_mutator.specs.Showing.{IsMutatorOf, IsSteadyIn, WaitsForNew, reason_by, stage_in, thread_state_of}
+use Rattle.lxr_core_sim_mutator.proofs.NamingLemmas.{named_after}
 use Rattle.lxr_core.specs.declared.actors.AnyActor.{AnyActor}
 use Rattle.lxr_core.specs.Actors.{mutator_in, mutators_in}
-use Rattle.lxr_core.specs.Resting.{RestAfter, RestsAfter}
+use Rattle.lxr_core.specs.Resting.{FitsThread, RestAfter, RestsAfter}
 use Rattle.lxr_core.specs.Starting.{HaveStarted, MayAllStart, registers_in, started_again}
-use Rattle.lxr_core.specs.Stories.{scene_of}
-use Rattle.lxr_core.specs.Opening.{MayOpen, Opens, story_at}
+use Rattle.lxr_core.specs.Executions.{HoldsExecution, epoch_state_of}
+use Rattle.lxr_core.specs.Opening.{Begins, MayOpen, Opens, execution_at}
 use Rattle.lxr_core.proofs.AgainLemmas.{registers_held}
-use Rattle.lxr_core.proofs.StartingLemmas.{AllStart, Starts, StartsIn, anew, opening_scene, over}
+use Rattle.lxr_core.proofs.StartingLemmas.{AllStart, Starts, StartsIn, anew, opening_epoch_state, over}
 use Rattle.lxr_core.proofs.OpeningLemmas.{opens}
 
 -- ---- registers
@@ -69,7 +73,7 @@ sixteen_of : (places : List Place) (threads i : ℕ) → length places ≡ 16 * 
 sixteen_of places threads i many less = let behind = length-drop (16 * i) places in length-take-le 16 (drop (16 * i) places) (omega (arith, behind, many, less))
 
 -- the registers of a thread hold the places of what the model's do
-holds_registers : (st : State) (at : Name → ℕ) (places : List Place) (threads i : ℕ) (v : View) → ArePlacesOf at places st.registers → length places ≡ 16 * threads → i < threads
+holds_registers : (st : State) (at : Name → ℕ) (places : List Place) (threads i : ℕ) (v : ThreadState) → ArePlacesOf at places st.registers → length places ≡ 16 * threads → i < threads
     → v.thread ≡ i + 1 → v.registers ≡ registers_in places i → HoldsRegisters st at v
 holds_registers st at places threads i v are many less thread registers = record {
   sixteen = ap length registers ∙ sixteen_of places threads i many less;
@@ -92,20 +96,26 @@ may_again : (m : Mutating) (e : Option MutEnd) → MayBeIn m (phase_again e)
 may_again m (Some ends.Ended) = tt
 may_again m e = tt
 
--- nothing is to be known of its operation
-steady_again : (m : Mutating) (e : Option MutEnd) → IsSteadyIn m (phase_again e)
-steady_again m (Some ends.Ended) = tt
-steady_again m e = tt
+-- what a mutator that rests waits for is a `new`
+pub waits_for_new : (m : Mutating) (p : MutatorPhase) → rests_in p ≡ true → IsSteadyIn m p → WaitsForNew m
+waits_for_new m phase.Ready rests steady = steady.1
+waits_for_new m phase.Finished rests steady = steady
+waits_for_new m p rests steady = absurd (cc)
+
+-- so it is of one that begins again, and one between two units hasn't done its end
+steady_again : (m : Mutating) (e : Option MutEnd) → m.end ≡ e → WaitsForNew m → IsSteadyIn m (phase_again e)
+steady_again m (Some ends.Ended) same waits = waits
+steady_again m e same waits = (λ ended. (let k : e ≡ Some ends.Ended = sym same ∙ ended in cc), waits)
 
 -- what it shows: it rests, or it is through
-stage_again : (v : View) (m : Mutating) (e : Option MutEnd) → m.end ≡ e → (e ≡ Some ends.Ended → length v.replies ≡ length v.operations + 1) → (e ≢ Some ends.Ended → length v.replies ≤ length v.operations)
+stage_again : (v : ThreadState) (m : Mutating) (e : Option MutEnd) → m.end ≡ e → (e ≡ Some ends.Ended → length v.replies ≡ length v.operations + 1) → (e ≢ Some ends.Ended → length v.replies ≤ length v.operations)
     → StartsIn v (stage_in m (phase_again e))
 stage_again v m (Some ends.Ended) same all few = subst (λ r. StartsIn v (Through (reason_by r))) (sym same) (over (all refl))
 stage_again v m e same all few = anew (few (λ z. cc))
 
 -- it is a mutator still
-again_mutator : (l : Limits) (m : Mutating) (registers : List Place) → IsMutatorOf l m → length registers ≡ 16 → All IsHeld registers → IsMutatorOf l (again m registers)
-again_mutator l m registers is many held = record {
+again_mutator : (l : Limits) (m : Mutating) (registers : List Place) → IsMutatorOf l m → rests_in m.phase ≡ true → length registers ≡ 16 → All IsHeld registers → IsMutatorOf l (again m registers)
+again_mutator l m registers is rests many held = record {
   sound = let sound = is.sound in record {
     thread = sound.thread;
     operations = sound.operations;
@@ -124,7 +134,7 @@ again_mutator l m registers is many held = record {
     phase = may_again (again m registers) m.end;
   };
   regions = is.regions;
-  steady = steady_again (again m registers) m.end;
+  steady = steady_again (again m registers) m.end refl (waits_for_new m m.phase rests is.steady);
 }
 
 -- before its end it has fewer replies
@@ -132,8 +142,8 @@ unended : (m : Mutating) → IsMutator m → m.end ≢ Some ends.Ended → lengt
 unended m is other = elim is.replies [ inl through ↦ absurd (other through.1) | inr few ↦ few ]
 
 -- it shows what mutators show as an epoch opens
-again_starts : (b : Beginning) (places : List Place) (i : ℕ) (m : Mutating) → ArePlacesOf b.meaning.at places b.meaning.moment.state.registers → length places ≡ 16 * (limits_of b).threads
-    → i < (limits_of b).threads → RestsAfter (limits_of b) b.every b.history (i + 1) m → Starts b i (view_of (again m (registers_in places i)))
+again_starts : (b : Beginning) (places : List Place) (i : ℕ) (m : Mutating) → ArePlacesOf b.abstract_state.at places b.abstract_state.moment.state.registers → length places ≡ 16 * (limits_of b).threads
+    → i < (limits_of b).threads → RestsAfter (limits_of b) b.every b.history (i + 1) m → Starts b i (thread_state_of (again m (registers_in places i)))
 again_starts b places i m are many less rests =
     let sound = rests.mutator.sound in
     record {
@@ -142,27 +152,27 @@ again_starts b places i m are many less rests =
       endless = λ k d h. (sound.operations k d h).1;
       few = sound.few;
       every = (rests.every, sound.every.0);
-      registers = holds_registers b.meaning.moment.state b.meaning.at places (limits_of b).threads i (view_of (again m (registers_in places i))) are many less rests.thread refl;
+      registers = holds_registers b.abstract_state.moment.state b.abstract_state.at places (limits_of b).threads i (thread_state_of (again m (registers_in places i))) are many less rests.thread refl;
       log = rests.log;
       spans = rests.spans;
       since = refl;
       calls = subst (λ t. calls_of t b.history ≡ take (length m.replies.items) (all_of m.operations)) (sym rests.thread) rests.calls;
       replies = subst (λ t. replies_of t b.history ≡ m.replies.items) (sym rests.thread) rests.replies;
-      stage = stage_again (view_of (again m (registers_in places i))) (again m (registers_in places i)) m.end refl rests.ended (unended m sound);
+      stage = stage_again (thread_state_of (again m (registers_in places i))) (again m (registers_in places i)) m.end refl rests.ended (unended m sound);
     }
 
 -- ---- all of them
 
--- whose view it is
-pub view_at : (actors : List AnyActor) (i : ℕ) (v : View) → slice_get (map view_of (mutators_in actors)) i ≡ Some v → (a : AnyActor) × (slice_get actors i ≡ Some a) × (v ≡ view_of (mutator_in a))
-view_at [] i v e = cc
-view_at (a ∷ actors) zero v e = (a, refl, cc)
-view_at (a ∷ actors) (suc i) v e = view_at actors i v e
+-- whose thread state it is
+pub thread_state_at : (actors : List AnyActor) (i : ℕ) (v : ThreadState) → slice_get (map thread_state_of (mutators_in actors)) i ≡ Some v → (a : AnyActor) × (slice_get actors i ≡ Some a) × (v ≡ thread_state_of (mutator_in a))
+thread_state_at [] i v e = cc
+thread_state_at (a ∷ actors) zero v e = (a, refl, cc)
+thread_state_at (a ∷ actors) (suc i) v e = thread_state_at actors i v e
 
--- as many views as actors
-pub views_length : (actors : List AnyActor) → length (map view_of (mutators_in actors)) ≡ length actors
-views_length [] = refl
-views_length (a ∷ actors) = ap suc (views_length actors)
+-- as many thread states as actors
+pub thread_states_length : (actors : List AnyActor) → length (map thread_state_of (mutators_in actors)) ≡ length actors
+thread_states_length [] = refl
+thread_states_length (a ∷ actors) = ap suc (thread_states_length actors)
 
 -- what it was
 was_at : (places : List Place) (before after : List AnyActor) (i : ℕ) (x : AnyActor) → HaveStarted places before after (length before) → slice_get after i ≡ Some x
@@ -180,30 +190,30 @@ was_at places before after i x is there =
 module _ (b : Beginning) (before after : List AnyActor) (begins : IsBeginning b) (rest : RestAfter (limits_of b) b.every b.history before)
     (started : HaveStarted b.space.registers.items before after (length before)) where
   -- the registers of the space
-  are : ArePlacesOf b.meaning.at b.space.registers.items b.meaning.moment.state.registers
-  are = begins.between.door.holds.image.registers
+  are : ArePlacesOf b.abstract_state.at b.space.registers.items b.abstract_state.moment.state.registers
+  are = begins.between.safepoint.holds.image.registers
 
   -- there are sixteen for each thread
   many : length b.space.registers.items ≡ 16 * (limits_of b).threads
-  many = begins.between.door.holds.as_many.0
+  many = begins.between.safepoint.holds.as_many.0
 
   -- they hold places
   places_held : All IsHeld b.space.registers.items
-  places_held = all_held (tables_of b.space) b.space.limits.blocks b.meaning.at b.meaning.moment b.space.registers.items begins.between.door.holds.follows begins.between.door.holds.image.image
-      begins.between.door.holds.space.limits.blocks.1 are
+  places_held = all_held (tables_of b.space) b.space.limits.blocks b.abstract_state.at b.abstract_state.moment b.space.registers.items begins.between.safepoint.holds.follows begins.between.safepoint.holds.image.image
+      begins.between.safepoint.holds.space.limits.blocks.1 are
 
   -- each actor is one that has begun again
   below_threads : (i : ℕ) (a : AnyActor) → slice_get before i ≡ Some a → i < (limits_of b).threads
   below_threads i a there = let inside = slice_get_within before i a there in let all = rest.as_many in omega (arith, inside, all)
 
   -- all show what mutators show as an epoch opens
-  pub all_start : AllStart b (map view_of (mutators_in after))
+  pub all_start : AllStart b (map thread_state_of (mutators_in after))
   all_start = record {
-    as_many = views_length after ∙ (started.as_many ∙ rest.as_many);
+    as_many = thread_states_length after ∙ (started.as_many ∙ rest.as_many);
     each = λ i v shown.
-        let x = view_at after i v shown in
+        let x = thread_state_at after i v shown in
         let a = was_at b.space.registers.items before after i x.0 started x.1 in
-        let same : v ≡ view_of (again (mutator_in a.0) (registers_in b.space.registers.items i)) = x.2 ∙ ap (λ z. view_of (mutator_in z)) a.2 in
+        let same : v ≡ thread_state_of (again (mutator_in a.0) (registers_in b.space.registers.items i)) = x.2 ∙ ap (λ z. thread_state_of (mutator_in z)) a.2 in
         subst (Starts b i) (sym same) (again_starts b b.space.registers.items i (mutator_in a.0) are many (below_threads i a.0 a.1) (rest.each i a.0 a.1));
   }
 
@@ -212,65 +222,91 @@ module _ (b : Beginning) (before after : List AnyActor) (begins : IsBeginning b)
   all_mutators i x there =
       let a = was_at b.space.registers.items before after i x started there in
       subst (λ z. IsMutatorOf (limits_of b) (mutator_in z)) (sym a.2)
-      (again_mutator (limits_of b) (mutator_in a.0) (registers_in b.space.registers.items i) (rest.each i a.0 a.1).mutator
+      (again_mutator (limits_of b) (mutator_in a.0) (registers_in b.space.registers.items i) (rest.each i a.0 a.1).mutator (rest.each i a.0 a.1).rests
       (sixteen_of b.space.registers.items (limits_of b).threads i many (below_threads i a.0 a.1)) (registers_held b.space.registers.items i places_held))
 
 -- what opening the epoch asks of the space and the actors
-pub held_before : (b : Beginning) (before : Space) (actors : List AnyActor) → MayOpen b before actors → All IsHeld before.registers.items
-held_before b before actors may =
-    let holds = may.begins.between.door.holds in
-    subst (λ s. All IsHeld s.registers.items) may.space_is
-    (all_held (tables_of b.space) b.space.limits.blocks b.meaning.at b.meaning.moment b.space.registers.items holds.follows holds.image.image holds.space.limits.blocks.1 holds.image.registers)
+pub held_before : (g : AbstractState) (before : Space) (actors : List AnyActor) → MayOpen g before actors → All IsHeld before.registers.items
+held_before g before actors may =
+    let holds = may.between.safepoint.holds in
+    all_held (tables_of before) before.limits.blocks g.at g.moment before.registers.items holds.follows holds.image.image holds.space.limits.blocks.1 holds.image.registers
 
 -- the actors rest, and have given up what they drew
-pub may_all_start : (b : Beginning) (before : Space) (actors : List AnyActor) → MayOpen b before actors → MayAllStart actors
-may_all_start b before actors may i a there = record { rests = (may.actors_rest.each i a there).rests; spans = (may.actors_rest.each i a there).spans }
+pub may_all_start : (g : AbstractState) (before : Space) (actors : List AnyActor) → MayOpen g before actors → MayAllStart actors
+may_all_start g before actors may i a there = record { rests = (may.fit.each i a there).rests; spans = (may.fit.each i a there).spans }
+
+-- what rests after a history fits what it led to
+fits_after : (b : Beginning) (t : ℕ) (m : Mutating) → IsBeginning b → 1 ≤ t → t ≤ (limits_of b).threads → RestsAfter (limits_of b) b.every b.history t m → FitsThread (limits_of b) b.abstract_state.moment.state.graph t m
+fits_after b t m begins some few rests =
+    let thread = rests.thread in
+    let named = named_after (limits_of b).threads b.history m begins.counted (omega (arith, thread, some)) (omega (arith, thread, few))
+    (subst (λ n. replies_of n b.history ≡ m.replies.items) (sym thread) rests.replies) in
+    record {
+      mutator = rests.mutator;
+      thread = thread;
+      log = rests.log;
+      spans = rests.spans;
+      rests = rests.rests;
+      name = subst (λ (z : Moment). next_name z.state.graph t ≡ mutating.next_name m) (sym begins.moment)
+          (subst (λ n. next_name (moment (limits_of b).threads b.history).state.graph n ≡ mutating.next_name m) thread named);
+    }
+
+-- so an epoch may be opened
+pub may_open : (b : Beginning) (space : Space) (actors : List AnyActor) → Begins b space actors → MayOpen b.abstract_state space actors
+may_open b space actors is = subst (λ s. MayOpen b.abstract_state s actors) is.space_is (record {
+  between = is.begins.between;
+  listed = is.begins.listed;
+  fit = record {
+    as_many = is.actors_rest.as_many;
+    each = λ i a there.
+        let within = slice_get_within actors i a there in
+        let many = is.actors_rest.as_many in
+        fits_after b (i + 1) (mutator_in a) is.begins (omega arith) (omega (arith, within, many)) (is.actors_rest.each i a there);
+  };
+})
 
 -- the tables have as many words as there are
 size_is : (l : Limits) (words : List ℕ) → (tables_in l words).size ≡ length words
 unfolding tables_in
 size_is l words = refl
 
--- the scene of these tables and views
-abbrev scene_with : Beginning → Tables → List View → Scene
-scene_with b t views = record { tables = t; views = views; history = b.history; at = b.meaning.at; cleared = [] }
+-- the epoch state of these tables and thread states
+abbrev epoch_state_with : Beginning → Tables → List ThreadState → EpochState
+epoch_state_with b t thread_states = record { tables = t; thread_states = thread_states; history = b.history; at = b.abstract_state.at; cleared = [] }
 
--- the scene of the story that begins
-scene_opened : (b : Beginning) (after : Space) (actors : List AnyActor) → after.limits ≡ b.space.limits
-    → tables_of after ≡ record (tables_of b.space) { cursors = changed (tables_of b.space).cursors 0 0 }
-    → opening_scene b (map view_of (mutators_in actors)) ≡ scene_of b (story_at b after actors) []
-scene_opened b after actors limits tables =
-    let same : tables_in b.space.limits after.words ≡ record (tables_of b.space) { cursors = changed (tables_of b.space).cursors 0 0 } =
+-- the epoch state of the execution that begins
+epoch_state_opened : (b : Beginning) (after : Space) (actors : List AnyActor) → after.limits ≡ b.space.limits
+    → tables_of after ≡ record (tables_of b.space) { cursors = changed (tables_of b.space).cursors PAUSE_WORD 0 }
+    → opening_epoch_state b (map thread_state_of (mutators_in actors)) ≡ epoch_state_of b (execution_at b after actors) []
+epoch_state_opened b after actors limits tables =
+    let same : tables_in b.space.limits after.words ≡ record (tables_of b.space) { cursors = changed (tables_of b.space).cursors PAUSE_WORD 0 } =
     ap (λ l. tables_in l after.words) (sym limits) ∙ tables in
-    ap (λ t. scene_with b t (map view_of (mutators_in actors))) (sym same)
+    ap (λ t. epoch_state_with b t (map thread_state_of (mutators_in actors))) (sym same)
 
--- it is opened
-opened : (b : Beginning) (after : Space) (before now : List AnyActor) → MayOpen b b.space before
-    → Turns b.space after (record (tables_of b.space) { cursors = changed (tables_of b.space).cursors 0 0 })
-    → HaveStarted b.space.registers.items before now (length before) → Opens b b.space after now
-opened b after before now may turned started =
-    let limits : after.limits ≡ b.space.limits = ap (λ s. s.limits) turned.rest in
-    let start = all_start b before now may.begins may.actors_rest started in
-    let epoch = opens b (map view_of (mutators_in now)) may.begins start may.served.few may.served.unasked in
-    let size : (tables_in after.limits after.words).size ≡ region_begin b.space.limits 15 = ap (λ t. t.size) turned.tables ∙ may.begins.between.door.holds.space.size in
-    record {
-      story = (
-        [],
-        record {
-          epoch = subst (IsEpoch b) (scene_opened b after now limits turned.tables) epoch;
-          size = sym (size_is after.limits after.words) ∙ size;
-          mutators = all_mutators b before now may.begins may.actors_rest started;
-        },
-      );
-      rest = turned.rest;
-    }
+-- the invariant of the epoch holds
+holds : (b : Beginning) (after : Space) (before now : List AnyActor) → Begins b b.space before → Opens b.space after before now → HoldsExecution b (execution_at b after now)
+holds b after before now is opened =
+    let limits : after.limits ≡ b.space.limits = ap (λ s. s.limits) opened.space.rest in
+    let start = all_start b before now is.begins is.actors_rest opened.actors in
+    let epoch = opens b (map thread_state_of (mutators_in now)) is.begins start is.served.few is.served.unasked in
+    let size : (tables_in after.limits after.words).size ≡ region_begin b.space.limits 15 = ap (λ t. t.size) opened.space.tables ∙ is.begins.between.safepoint.holds.space.size in (
+      [],
+      record {
+        epoch = subst (IsEpoch b) (epoch_state_opened b after now limits opened.space.tables) epoch;
+        size = sym (size_is after.limits after.words) ∙ size;
+        mutators = all_mutators b before now is.begins is.actors_rest opened.actors;
+      },
+    )
 
 -- the same of the space as it stood before
-pub opened_at : (b : Beginning) (before after : Space) (actors now : List AnyActor) → MayOpen b before actors
-    → Turns before after (record (tables_of before) { cursors = changed (tables_of before).cursors 0 0 })
-    → HaveStarted after.registers.items actors now (length actors) → Opens b before after now
-opened_at b before after actors now may turned started =
-    let registers : after.registers ≡ before.registers = ap (λ s. s.registers) turned.rest in
-    let began : HaveStarted before.registers.items actors now (length actors) = subst (λ r. HaveStarted r.items actors now (length actors)) registers started in
-    subst (λ s. MayOpen b s actors → Turns s after (record (tables_of s) { cursors = changed (tables_of s).cursors 0 0 }) → HaveStarted s.registers.items actors now (length actors) → Opens b s after now)
-    may.space_is (opened b after actors now) may turned began
+pub holds_at : (b : Beginning) (before after : Space) (actors now : List AnyActor) → Begins b before actors → Opens before after actors now → HoldsExecution b (execution_at b after now)
+holds_at b before after actors now is opened =
+    subst (λ s. Begins b s actors → Opens s after actors now → HoldsExecution b (execution_at b after now)) is.space_is (holds b after actors now) is opened
+
+-- the registers that the space has are those that it had
+pub opened_at : (before after : Space) (actors now : List AnyActor) → Turns before after (record (tables_of before) { cursors = changed (tables_of before).cursors PAUSE_WORD 0 })
+    → HaveStarted after.registers.items actors now (length actors) → Opens before after actors now
+opened_at before after actors now turned started = record {
+  space = turned;
+  actors = subst (λ places. HaveStarted places actors now (length actors)) (ap (λ s. s.registers.items) turned.rest) started;
+}

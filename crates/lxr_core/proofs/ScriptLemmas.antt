@@ -1,12 +1,13 @@
 -- Neither an epoch nor what comes before and behind it changes the operations of a thread.
 use Rattle.std.proofs.Common.{◌≡◌, ℕ, zero, suc, ◌<◌, refl, sym, ap, ◌∙◌, arith, Bool, true, false, List, [], ◌∷◌, length, cond, nat_eq}
-use Rattle.std.specs.Prelude.{Option, Some, None, slice_get, slice_set, if◌then◌else◌, nat_lt, ◌&&◌}
+use Rattle.std.specs.Prelude.{Option, Some, None, slice_get, slice_index, slice_set, if◌then◌else◌, nat_lt, ◌&&◌}
 use Rattle.std.proofs.lemmas.Bool.Decides.{nat_tests}
 use Rattle.std.proofs.lemmas.Option.{slice_get-get_or, slice_get_within}
+use Rattle.lxr_layout.specs.Places.{place_in}
 use Rattle.lxr_layout.specs.declared.Place.{Place}
 use Rattle.lxr_layout.specs.declared.Shape.{Shape}
 use Rattle.lxr_layout.specs.declared.LogEntry.{LogEntry}
-use Rattle.lxr_lists.specs.Roomy.{Roomy}
+use Rattle.lxr_base.specs.Roomy.{Roomy}
 use Rattle.lxr_graph.specs.declared.Op.{Op}
 use Rattle.lxr_graph.specs.declared.Op.TheVariants as op
 use Rattle.lxr_graph.proofs.RowLemmas.{slice_get-push}
@@ -17,13 +18,13 @@ use Rattle.lxr_actor.specs.declared.Event.TheVariants.{Step, Give, Out}
 use Rattle.lxr_actor.specs.Run.{acted, change, event, happened, of_event, run}
 use Rattle.lxr_barrier.specs.declared.StoreEnd.{StoreEnd}
 use Rattle.lxr_barrier.specs.declared.StoreEnd.TheVariants as store_end
-use Rattle.lxr_barrier.specs.Storing.{Storing, end_of, log_after, place_in, store_after}
-use Rattle.lxr_mutator.specs.declared.phases.Phase.{Phase}
-use Rattle.lxr_mutator.specs.declared.phases.Phase.TheVariants as phase
+use Rattle.lxr_barrier.specs.Storing.{Storing, end_of, log_after, store_after}
+use Rattle.lxr_mutator.specs.declared.phases.MutatorPhase.{MutatorPhase}
+use Rattle.lxr_mutator.specs.declared.phases.MutatorPhase.TheVariants as phase
 use Rattle.lxr_mutator.specs.Mutating.{Mutating, op_now, register}
-use Rattle.lxr_mutator.specs.Operating.{field_count, index_of}
-use Rattle.lxr_mutator.specs.Steps.{after_in, based, has_room, is_medium, placed, started, stored}
-use Rattle.lxr_epoch.specs.Views.{all_of}
+use Rattle.lxr_mutator.specs.Operating.{indexed_fields, index_of}
+use Rattle.lxr_mutator.specs.Steps.{accepts_in, after_in, based, has_room, is_medium, placed, started, stored}
+use Rattle.lxr_core_events.specs.ThreadStates.{all_of}
 use Rattle.lxr_core.specs.declared.actors.AnyActor.{AnyActor}
 use Rattle.lxr_core.specs.declared.actors.AnyActor.TheVariants as any
 use Rattle.lxr_core.specs.Actors.{any_machine, mutator_in, script_of}
@@ -101,10 +102,10 @@ stored_keeps m s log None = refl
 stored_keeps m s log (Some store_end.Stored) = refl
 stored_keeps m s log (Some store_end.LogFull) = refl
 
-after_keeps : (m : Mutating) (p : Phase) (old : ℕ) → Keeps m (after_in m p old)
+after_keeps : (m : Mutating) (p : MutatorPhase) (old : ℕ) → Keeps m (after_in m p old)
 after_keeps m phase.Ready old = either_keeps (nat_eq old 1) m _ _ refl (started_keeps m (op_now m))
 after_keeps m phase.Finished old = refl
-after_keeps m (phase.Base base) old = either_keeps (nat_lt (index_of (op_now m)) (field_count (op_now m) _)) m _ _ refl refl
+after_keeps m (phase.Base base) old = either_keeps (nat_lt (index_of (op_now m)) (indexed_fields (op_now m) _)) m _ _ refl refl
 after_keeps m (phase.Reference base) old = either_keeps (nat_eq (place_in old).0 0) m _ _ refl refl
 after_keeps m (phase.Referent place) old = refl
 after_keeps m (phase.Datum base refs) old = refl
@@ -126,7 +127,7 @@ after_keeps m (phase.GivingUp why) old = refl
 -- so does each event of an actor
 acted_keeps : (words : List ℕ) (a : AnyActor) (o : Option Action) → (mutator_in (acted any_machine words a o).1).operations ≡ (mutator_in a).operations
 acted_keeps words a None = refl
-acted_keeps words (any.Mutator m) (Some act) = after_keeps m m.phase _
+acted_keeps words (any.Mutator m) (Some act) = let old = slice_index words act.word in either_keeps (accepts_in m m.phase old) m _ _ (after_keeps m m.phase old) refl
 
 change_keeps : (e : Event) (words : List ℕ) (a : AnyActor) → (mutator_in (change any_machine e words a).1).operations ≡ (mutator_in a).operations
 change_keeps (Step number) words a = acted_keeps words a (any_machine.action a)

@@ -1,29 +1,30 @@
 -- What mutators show as an epoch opens.
 use Rattle.std.proofs.Common.{◌≡◌, ◌≢◌, ℕ, ◌+◌, ◌≤◌, List, [], length}
 use Rattle.std.specs.Prelude.{All, Some, slice_get, take}
+use Rattle.lxr_layout.specs.declared.TheConstants.{PAUSE_WORD}
 use Rattle.lxr_graph.specs.declared.Op.TheVariants as op
 use Rattle.lxr_graph.specs.History.{calls_of, replies_of}
 use Rattle.lxr_graph.specs.Step.{IsWellFormed}
 use Rattle.lxr_image.specs.Tables.{changed}
 use Rattle.lxr_alloc.specs.Spans.{empty_span}
-use Rattle.lxr_epoch.specs.Views.{Stage, View, Rests, Through, Works, Intent, all_of}
-use Rattle.lxr_epoch.specs.Views as why
-use Rattle.lxr_epoch.specs.Scenes.{Beginning, Scene, limits_of, opening_tables}
-use Rattle.lxr_epoch.specs.Imaged.{HoldsRegisters}
+use Rattle.lxr_core_events.specs.ThreadStates.{Stage, ThreadState, Rests, Through, Works, Intent, all_of}
+use Rattle.lxr_core_events.specs.ThreadStates as why
+use Rattle.lxr_core_events.specs.EpochStates.{Beginning, EpochState, limits_of, opening_tables}
+use Rattle.lxr_core_events.specs.Imaged.{HoldsRegisters}
 
 -- it rests, with operations or the end left, or it has done its end
-pub data StartsIn (v : View) : Stage → Type 0 where
+pub data StartsIn (v : ThreadState) : Stage → Type 0 where
   anew : length v.replies ≤ length v.operations → StartsIn v Rests
   over : length v.replies ≡ length v.operations + 1 → StartsIn v (Through why.Ended)
 
 -- the mutator of a number shows this as an epoch opens
-pub record Starts (b : Beginning) (i : ℕ) (v : View) : Type 0 where
+pub record Starts (b : Beginning) (i : ℕ) (v : ThreadState) : Type 0 where
   pub thread : v.thread ≡ i + 1
   pub formed : All IsWellFormed v.operations
   pub endless : All (λ o. o ≢ op.End) v.operations
   pub few : length v.operations ≤ 1048576
   pub every : (v.every ≡ b.every) × (1 ≤ v.every)
-  pub registers : HoldsRegisters b.meaning.moment.state b.meaning.at v
+  pub registers : HoldsRegisters b.abstract_state.moment.state b.abstract_state.at v
   pub log : v.log ≡ record { items = []; room = (limits_of b).log }
   pub spans : v.spans ≡ record { current = empty_span; overflow = empty_span }
   pub since : v.since ≡ 0
@@ -32,21 +33,21 @@ pub record Starts (b : Beginning) (i : ℕ) (v : View) : Type 0 where
   pub stage : StartsIn v v.stage
 
 -- all mutators show this
-pub record AllStart (b : Beginning) (views : List View) : Type 0 where
-  pub as_many : length views ≡ (limits_of b).threads
-  pub each : (i : ℕ) (v : View) → slice_get views i ≡ Some v → Starts b i v
+pub record AllStart (b : Beginning) (thread_states : List ThreadState) : Type 0 where
+  pub as_many : length thread_states ≡ (limits_of b).threads
+  pub each : (i : ℕ) (v : ThreadState) → slice_get thread_states i ≡ Some v → Starts b i v
 
--- the scene that an epoch opens with: no pause is asked for
-abbrev pub opening_scene : Beginning → List View → Scene
-opening_scene b views = record {
-  tables = record (opening_tables b) { cursors = changed (opening_tables b).cursors 0 0 };
-  views = views;
+-- the epoch state that an epoch opens with: no pause is asked for
+abbrev pub opening_epoch_state : Beginning → List ThreadState → EpochState
+opening_epoch_state b thread_states = record {
+  tables = record (opening_tables b) { cursors = changed (opening_tables b).cursors PAUSE_WORD 0 };
+  thread_states = thread_states;
   history = b.history;
-  at = b.meaning.at;
+  at = b.abstract_state.at;
   cleared = [];
 }
 
 -- nobody works on anything
-pub no_work : {P : Type 0} (v : View) (intent : Intent) → (stage : Stage) → StartsIn v stage → stage ≡ Works intent → P
+pub no_work : {P : Type 0} (v : ThreadState) (intent : Intent) → (stage : Stage) → StartsIn v stage → stage ≡ Works intent → P
 no_work v intent stage (anew _) e = cc
 no_work v intent stage (over _) e = cc

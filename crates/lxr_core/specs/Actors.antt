@@ -19,7 +19,6 @@ mutators_in actors = map mutator_in actors
 abbrev pub any_machine : Machine AnyActor
 any_machine = record {
   action = λ a. mutator_machine.action (mutator_in a);
-  accepts = λ a old. mutator_machine.accepts (mutator_in a) old;
   after = λ a old. any.Mutator (mutator_machine.after (mutator_in a) old);
   rests = λ a. mutator_machine.rests (mutator_in a);
   left = λ a. mutator_machine.left (mutator_in a);

@@ -1,5 +1,5 @@
 -- The closing of an epoch.
-use Rattle.std.specs.Prelude.{◌≡◌, ℕ, ◌<◌, ◌⊎◌, false, Some, List, IsTrue, length, slice_get}
+use Rattle.std.specs.Prelude.{◌≡◌, ℕ, ◌<◌, ◌⊎◌, false, true, Some, List, IsTrue, length, map, slice_get}
 use Rattle.lxr_layout.specs.declared.Name.{Name}
 use Rattle.lxr_graph.specs.Names.{has}
 use Rattle.lxr_image.specs.declared.space.Space.{Space}
@@ -9,57 +9,74 @@ use Rattle.lxr_model.specs.Legal.{IsLegalSoFar}
 use Rattle.lxr_model.specs.Moments.{moment}
 use Rattle.lxr_model.specs.Terms.{Terms}
 use Rattle.lxr_actor.specs.Run.{core_of}
-use Rattle.lxr_between.specs.Meaning.{Meaning, members}
-use Rattle.lxr_between.specs.Counting.{IsUndecremented}
-use Rattle.lxr_between.specs.Between.{IsAtDoor}
-use Rattle.lxr_mutator.specs.declared.phases.Phase.TheVariants as phase
+use Rattle.lxr_invariant.specs.AbstractState.{AbstractState, members}
+use Rattle.lxr_invariant.specs.Counting.{IsUndecremented}
+use Rattle.lxr_invariant.specs.Quiescent.{IsAtSafepoint}
+use Rattle.lxr_mutator.specs.declared.phases.MutatorPhase.TheVariants as phase
 use Rattle.lxr_mutator.specs.Mutating.{IsWaiting}
 use Rattle.lxr_mutator.specs.Mutators.{IsThrough}
-use Rattle.lxr_epoch.specs.Scenes.{Beginning, Extends, limits_of}
-use Rattle.lxr_epoch_closing.specs.Cause.{AreTermsOf}
-use Rattle.lxr_steps.specs.Showing.{IsNew}
+use Rattle.lxr_core_events.specs.EpochStates.{Beginning, Extends, limits_of}
+use Rattle.lxr_core_close.specs.HandingOut.{AreHandedOut, IsDrawn}
+use Rattle.lxr_core_close.specs.Safepoint.{WasFree}
+use Rattle.lxr_core_close.specs.Cause.{AreTermsOf}
+use Rattle.lxr_core_sim_mutator.specs.Showing.{IsNew}
 use Rattle.lxr_core.specs.declared.actors.AnyActor.{AnyActor}
-use Rattle.lxr_core.specs.Actors.{mutator_in, script_of}
-use Rattle.lxr_core.specs.Collecting.{tally_with}
-use Rattle.lxr_core.specs.Stories.{HoldsStory, Story}
+use Rattle.lxr_core.specs.Actors.{any_machine, mutator_in, script_of}
+use Rattle.lxr_core.specs.Collecting.{actor_given_up, all_entries, all_registers, tally_with}
+use Rattle.lxr_core.specs.Executions.{HoldsExecution, Execution}
 use Rattle.lxr_core.specs.Resting.{RestAfter}
+
+-- all actors rest
+abbrev pub AreResting : List AnyActor → Type 0
+AreResting actors = (i : ℕ) (a : AnyActor) → slice_get actors i ≡ Some a → any_machine.rests a ≡ true
 
 -- all actors are through with the epoch
 abbrev pub AreFinished : List AnyActor → Type 0
 AreFinished actors = (i : ℕ) (a : AnyActor) → slice_get actors i ≡ Some a → (mutator_in a).phase ≡ phase.Finished
 
--- An epoch may be closed: the words and the actors are those that some schedule has led to, and all actors are through.
-pub record MayClose (b : Beginning) (story : Story) (space : Space) (actors : List AnyActor) : Type 0 where
-  pub holds : HoldsStory b story
-  pub core : story.core ≡ core_of space.words actors
+-- An epoch may be closed: the words and the actors are those that some schedule has led to, be it one of no steps, and all
+-- actors rest.
+pub record MayClose (b : Beginning) (execution : Execution) (space : Space) (actors : List AnyActor) : Type 0 where
+  pub holds : HoldsExecution b execution
+  pub core : execution.core ≡ core_of space.words actors
   pub space_is : space ≡ record b.space { words = space.words }
-  pub finished : AreFinished actors
+  pub resting : AreResting actors
 
--- the meaning once an epoch is closed
-abbrev pub closed_meaning : Beginning → Story → Meaning
-closed_meaning b story = record b.meaning { moment = moment (limits_of b).threads story.history; at = story.at }
+-- what the space stands for once an epoch is closed
+abbrev pub closed_state : Beginning → Execution → AbstractState
+closed_state b execution = record b.abstract_state { moment = moment (limits_of b).threads execution.history; at = execution.at }
 
 -- an epoch has done something: the history is longer, or a `new` waits, or all threads have ended
-abbrev pub HasProgress : Beginning → Story → List AnyActor → Type 0
-HasProgress b story actors =
-    (length b.history < length story.history)
+abbrev pub HasProgress : Beginning → Execution → List AnyActor → Type 0
+HasProgress b execution actors =
+    (length b.history < length execution.history)
     ⊎ ((i : ℕ) × (a : AnyActor) × (slice_get actors i ≡ Some a) × IsWaiting (mutator_in a))
     ⊎ ((i : ℕ) (a : AnyActor) → slice_get actors i ≡ Some a → IsThrough (mutator_in a))
 
--- It is closed: the space is at a pause's door for what the history has led to, the actors rest for it with the operations
--- that they had, what waits is a `new`, and a pause has a cause where the history was legal. Where nobody had asked for a pause before the epoch, it has done something. Of the
--- space, words, registers, entries and the tally of operations alone have changed.
-pub record Closes (b : Beginning) (story : Story) (before after : Space) (actors : List AnyActor) : Type 0 where
-  pub door : IsAtDoor after (closed_meaning b story)
-  pub undecremented : IsUndecremented (tables_of after) (closed_meaning b story).moment story.at
-  pub extends : Extends (limits_of b).threads b.every b.history story.history
+-- The epoch is closed.
+pub record Closes (b : Beginning) (execution : Execution) (before after : Space) (actors : List AnyActor) : Type 0 where
+  -- the space is at a safepoint before a pause for what the history has led to, and no decrementer has worked
+  pub safepoint : IsAtSafepoint after (closed_state b execution)
+  pub undecremented : IsUndecremented (tables_of after) (closed_state b execution).moment execution.at
+  -- the lines that were drawn are handed out, each once, and no others; all other tables are as they were
+  pub hands_out : AreHandedOut (IsDrawn b.space before) (tables_of before) (tables_of after)
+  -- these lines were free as the epoch opened, so that no object that stood in the heap then overlaps one of them
+  pub free : (line : ℕ) → IsDrawn b.space before line → WasFree b line
+  -- the history goes on by calls
+  pub extends : Extends (limits_of b).threads b.every b.history execution.history
   -- what stood in the heap as the epoch opened stands where it did
-  pub unmoved : (n : Name) → IsTrue (has (members b.meaning.moment) n) → story.at n ≡ b.meaning.at n
-  pub actors_rest : RestAfter (limits_of b) b.every story.history actors
-  pub script : script_of actors ≡ script_of story.core.actors
+  pub unmoved : (n : Name) → IsTrue (has (members b.abstract_state.moment) n) → execution.at n ≡ b.abstract_state.at n
+  -- the actors have given up what they had; they rest for the history, and what waits is a `new`
+  pub gave : actors ≡ map actor_given_up execution.core.actors
+  pub actors_rest : RestAfter (limits_of b) b.every execution.history actors
   pub news : (i : ℕ) (a : AnyActor) → slice_get actors i ≡ Some a → IsWaiting (mutator_in a) → IsNew (mutator_in a)
-  pub cause : (terms : Terms) → AreTermsOf b terms → IsLegalSoFar terms b.history → HasCause terms (script_of actors) story.history
-  pub progress : ((t : ℕ) → has_asked t b.history ≡ false) → HasProgress b story actors
+  -- where all are through, a pause has a cause; and where nobody had asked for one before, the epoch has done something
+  pub cause : AreFinished execution.core.actors → (terms : Terms) → AreTermsOf b terms → IsLegalSoFar terms b.history → HasCause terms (script_of actors) execution.history
+  pub progress : AreFinished execution.core.actors → ((t : ℕ) → has_asked t b.history ≡ false) → HasProgress b execution actors
+  -- the space has the registers and the entries of all actors, those of thread 1 first
+  pub registers : after.registers.items ≡ all_registers execution.core.actors
+  pub logged : after.logged.items ≡ all_entries execution.core.actors
+  -- of the space, words, registers, entries and the tally of operations alone have changed
   pub tally : after.tally ≡ tally_with before.tally actors
   pub rest : after ≡ record before {
     words = after.words;

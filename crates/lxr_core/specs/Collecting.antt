@@ -3,13 +3,12 @@ use Rattle.std.specs.Prelude.{◌≡◌, ℕ, ◌+◌, ◌*◌, ◌^◌, ◌<◌
 use Rattle.std.specs.List.{flat_map}
 use Rattle.lxr_layout.specs.declared.runs.LogEntry.{LogEntry}
 use Rattle.lxr_layout.specs.declared.Place.{Place}
-use Rattle.lxr_lists.specs.Roomy.{emptied}
+use Rattle.lxr_base.specs.Roomy.{emptied}
 use Rattle.lxr_image.specs.declared.space.Space.{Space}
 use Rattle.lxr_image.specs.declared.space.Tally.{Tally}
 use Rattle.lxr_mutator.specs.declared.phases.MutTally.{MutTally}
-use Rattle.lxr_mutator.specs.Mutating.{Mutating, tally_of}
+use Rattle.lxr_mutator.specs.Mutating.{Mutating, rests_in, tally_of}
 use Rattle.lxr_mutator.specs.Mutators.{no_spans}
-use Rattle.lxr_mutator.specs.Steps.{rests_in}
 use Rattle.lxr_core.specs.declared.actors.AnyActor.{AnyActor}
 use Rattle.lxr_core.specs.declared.actors.AnyActor.TheVariants as any
 use Rattle.lxr_core.specs.Actors.{mutator_in}

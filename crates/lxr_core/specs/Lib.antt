@@ -1,5 +1,5 @@
 pub mod Actors
-pub mod Stories
+pub mod Executions
 pub mod Resting
 pub mod Starting
 pub mod Opening

@@ -1,24 +1,38 @@
 -- The opening of an epoch.
-use Rattle.std.specs.Prelude.{◌≡◌, List}
+use Rattle.std.specs.Prelude.{◌≡◌, List, length}
+use Rattle.lxr_layout.specs.declared.TheConstants.{PAUSE_WORD}
 use Rattle.lxr_image.specs.declared.space.Space.{Space}
+use Rattle.lxr_image.specs.Spaces.{Turns, tables_of}
+use Rattle.lxr_image.specs.Tables.{changed}
 use Rattle.lxr_actor.specs.Run.{core_of}
-use Rattle.lxr_epoch.specs.Scenes.{Beginning, IsBeginning, limits_of}
+use Rattle.lxr_invariant.specs.AbstractState.{AbstractState}
+use Rattle.lxr_invariant.specs.Listed.{IsListed}
+use Rattle.lxr_invariant.specs.Quiescent.{IsQuiescent}
+use Rattle.lxr_core_events.specs.EpochStates.{Beginning, IsBeginning, limits_of}
 use Rattle.lxr_core.specs.declared.actors.AnyActor.{AnyActor}
-use Rattle.lxr_core.specs.Stories.{HoldsStory, Story}
-use Rattle.lxr_core.specs.Resting.{AreServed, RestAfter}
+use Rattle.lxr_core.specs.Executions.{Execution}
+use Rattle.lxr_core.specs.Resting.{AreServed, FitSpace, RestAfter}
+use Rattle.lxr_core.specs.Starting.{HaveStarted}
 
--- An epoch may be opened: the space is between epochs and listed, and the actors rest for its history.
-pub record MayOpen (b : Beginning) (space : Space) (actors : List AnyActor) : Type 0 where
+-- An epoch may be opened: the space is between epochs and listed, and the actors rest and fit it.
+pub record MayOpen (g : AbstractState) (space : Space) (actors : List AnyActor) : Type 0 where
+  pub between : IsQuiescent space g
+  pub listed : IsListed space
+  pub fit : FitSpace space.limits g.moment.state.graph actors
+
+-- It is opened: the pause word is clear, and each mutator has begun again with its sixteen registers. Nothing else of the space
+-- or of the actors has changed.
+pub record Opens (before after : Space) (resting started : List AnyActor) : Type 0 where
+  pub space : Turns before after (record (tables_of before) { cursors = changed (tables_of before).cursors PAUSE_WORD 0 })
+  pub actors : HaveStarted before.registers.items resting started (length resting)
+
+-- A history so far led to the space and the actors: the actors rest for it, no `new` waits, and no trace runs.
+pub record Begins (b : Beginning) (space : Space) (actors : List AnyActor) : Type 0 where
   pub space_is : b.space ≡ space
   pub begins : IsBeginning b
   pub actors_rest : RestAfter (limits_of b) b.every b.history actors
   pub served : AreServed b.history actors
 
--- the story that begins with a space and actors
-abbrev pub story_at : Beginning → Space → List AnyActor → Story
-story_at b space actors = record { core = core_of space.words actors; history = b.history; at = b.meaning.at }
-
--- It is opened: the invariant of the epoch holds of the story that begins here. Nothing but words has changed in the space.
-pub record Opens (b : Beginning) (before after : Space) (actors : List AnyActor) : Type 0 where
-  pub story : HoldsStory b (story_at b after actors)
-  pub rest : after ≡ record before { words = after.words }
+-- the execution that begins with a space and actors
+abbrev pub execution_at : Beginning → Space → List AnyActor → Execution
+execution_at b space actors = record { core = core_of space.words actors; history = b.history; at = b.abstract_state.at }

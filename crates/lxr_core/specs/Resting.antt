@@ -2,15 +2,31 @@
 use Rattle.std.specs.Prelude.{◌≡◌, ℕ, ◌+◌, ◌≤◌, false, true, Some, [], List, length, slice_get, take}
 use Rattle.lxr_layout.specs.declared.limits.Limits.{Limits}
 use Rattle.lxr_graph.specs.History.{Item, calls_of, replies_of}
+use Rattle.lxr_graph.specs.State.{Graph, next_name}
+use Rattle.lxr_mutator.specs.Mutating as mutating
 use Rattle.lxr_model.specs.Belongs.{calls_since_pause, has_asked}
 use Rattle.lxr_mutator.specs.declared.phases.MutEnd.TheVariants as ends
-use Rattle.lxr_mutator.specs.Mutating.{IsWaiting, Mutating}
+use Rattle.lxr_mutator.specs.Mutating.{IsWaiting, Mutating, rests_in}
 use Rattle.lxr_mutator.specs.Mutators.{no_spans}
-use Rattle.lxr_mutator.specs.Steps.{rests_in}
-use Rattle.lxr_epoch.specs.Views.{all_of}
-use Rattle.lxr_steps.specs.Showing.{IsMutatorOf}
+use Rattle.lxr_core_events.specs.ThreadStates.{all_of}
+use Rattle.lxr_core_sim_mutator.specs.Showing.{IsMutatorOf}
 use Rattle.lxr_core.specs.declared.actors.AnyActor.{AnyActor}
 use Rattle.lxr_core.specs.Actors.{mutator_in}
+
+-- The mutator of a thread rests and fits a space of these limits that stands for this graph: it was made with them, has neither
+-- entries in its log nor granules in its spans, and names its next object by its thread's next name in the graph.
+pub record FitsThread (l : Limits) (graph : Graph) (t : ℕ) (m : Mutating) : Type 0 where
+  pub mutator : IsMutatorOf l m
+  pub thread : m.thread ≡ t
+  pub log : m.log ≡ record { items = []; room = l.log }
+  pub spans : m.spans ≡ no_spans
+  pub rests : rests_in m.phase ≡ true
+  pub name : next_name graph t ≡ mutating.next_name m
+
+-- there is one mutator for each thread, in order, and each fits
+pub record FitSpace (l : Limits) (graph : Graph) (actors : List AnyActor) : Type 0 where
+  pub as_many : length actors ≡ l.threads
+  pub each : (i : ℕ) (a : AnyActor) → slice_get actors i ≡ Some a → FitsThread l graph (i + 1) (mutator_in a)
 
 -- The mutator of a thread rests after a history, in a space of these limits: it has done a beginning of its operations, each
 -- once and in order, with the replies of the history; its log is empty, and so are its spans.

@@ -2,7 +2,7 @@
 use Rattle.std.specs.Prelude.{◌≡◌, ℕ, ◌*◌, ◌<◌, ◌≤◌, true, Some, List, length, slice_get, take, drop}
 use Rattle.lxr_layout.specs.declared.Place.{Place}
 use Rattle.lxr_mutator.specs.Mutators.{again, no_spans}
-use Rattle.lxr_mutator.specs.Steps.{rests_in}
+use Rattle.lxr_mutator.specs.Mutating.{rests_in}
 use Rattle.lxr_core.specs.declared.actors.AnyActor.{AnyActor}
 use Rattle.lxr_core.specs.declared.actors.AnyActor.TheVariants as any
 use Rattle.lxr_core.specs.Actors.{mutator_in}

@@ -1,21 +1,21 @@
 //! The closing of an epoch.
 ghost use Rattle.std.specs.Prelude.{◌≡◌, ◌+◌, ◌^◌, ◌++◌, ◌<◌, ◌≤◌, length};
-ghost use Rattle.lxr_epoch.specs.Scenes.{Beginning};
+ghost use Rattle.lxr_core_events.specs.EpochStates.{Beginning};
 ghost use Rattle.lxr_core.specs.Closing.{Closes, MayClose};
 ghost use Rattle.lxr_core.specs.Collecting.{HaveGiven, MayAllGive, MayGive, MayTake, given_up, taken_of, tallied};
-ghost use Rattle.lxr_core.specs.Stories.{Story};
+ghost use Rattle.lxr_core.specs.Executions.{Execution};
 
 use crate::actors::AnyActor;
 use lxr_barrier::Log;
-use lxr_epoch_closing::hand_out_drawn;
+use lxr_core_close::hand_out_drawn;
 use lxr_image::{Entries, Places, Space, Tally};
 use lxr_mutator::{MutTally, Mutator};
 
-/// Closes an epoch in which all actors are through: the space takes each mutator's registers, log and tally, and what
-/// mutators drew is handed out. Then it is at a pause's door.
+/// Closes an epoch in which all actors rest: the space takes each mutator's registers, log and tally, and hands out what
+/// mutators drew. Then it is at a safepoint before a pause.
 pub fn close_epoch(space: &mut Space, actors: &mut [AnyActor])
-    requires { (b : Beginning) × (story : Story) × MayClose b story space.old actors.old }
-    ensures { (b : Beginning) (story : Story) → MayClose b story space.old actors.old → Closes b story space.old space.new actors.new }
+    requires { (b : Beginning) × (execution : Execution) × MayClose b execution space.old actors.old }
+    ensures { (b : Beginning) (execution : Execution) → MayClose b execution space.old actors.old → Closes b execution space.old space.new actors.new }
 {
     collect_all(space, actors);
     hand_out_drawn(space);

@@ -2,25 +2,20 @@
 //!
 //! Between two pauses actors act on the words of a space, one atomic step at a time, in whatever order. An epoch opens
 //! with actors that rest; then, after every schedule of their steps, the invariant of the epoch holds and each next
-//! step fits. It closes where all actors are through: then the space is at a pause's door, and the actors rest.
+//! step fits. It may be closed wherever all actors rest, and the space is at a safepoint before a pause then.
 #![tactic(auto)]
 
 mod actors;
 mod closing;
 mod opening;
 
-ghost use Rattle.lxr_core.specs.Stories.{StoriesGoOn};
+ghost use Rattle.lxr_core.specs.Executions.{EpochInvariantHolds};
 
 pub use actors::AnyActor;
 pub use closing::close_epoch;
-use lxr_epoch_laws::epoch_is_kept;
-use lxr_steps::steps_are_events;
 pub use opening::open_epoch;
 
 /// After every schedule of an epoch its invariant holds, and each next step fits.
-pub fn stories_go_on()
-    ensures { StoriesGoOn }
-{
-    steps_are_events();
-    epoch_is_kept();
-}
+pub fn epoch_invariant_holds()
+    ensures { EpochInvariantHolds }
+{}

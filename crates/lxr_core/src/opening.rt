@@ -2,23 +2,25 @@
 ghost use Rattle.std.specs.Prelude.{◌≡◌, ◌+◌, ◌*◌, ◌<◌, ◌≤◌, length};
 ghost use Rattle.std.specs.List.{All};
 ghost use Rattle.lxr_mutator.specs.Mutators.{IsHeld};
-ghost use Rattle.lxr_epoch.specs.Scenes.{Beginning};
-ghost use Rattle.lxr_core.specs.Actors.{script_of};
-ghost use Rattle.lxr_core.specs.Opening.{MayOpen, Opens};
+ghost use Rattle.lxr_invariant.specs.AbstractState.{AbstractState};
+ghost use Rattle.lxr_core_events.specs.EpochStates.{Beginning};
+ghost use Rattle.lxr_core.specs.Executions.{HoldsExecution};
+ghost use Rattle.lxr_core.specs.Opening.{Begins, MayOpen, Opens, execution_at};
 ghost use Rattle.lxr_core.specs.Starting.{HaveStarted, MayAllStart, registers_in};
 
 use crate::actors::AnyActor;
 use lxr_image::Space;
-use lxr_layout::Place;
+use lxr_layout::{PAUSE_WORD, Place};
 
-/// Opens an epoch: no pause is asked for, and each mutator has its registers again and begins anew, unless it has
-/// done its end.
+/// Opens an epoch: no pause is asked for, and each mutator has its registers again and begins anew with no operation
+/// done in this epoch, unless it has done its end. No step is made yet. Where a history so far led to this space and
+/// these actors, the invariant of the epoch holds from here on.
 pub fn open_epoch(space: &mut Space, actors: &mut [AnyActor])
-    requires { (b : Beginning) × MayOpen b space.old actors.old }
-    ensures opens { (b : Beginning) → MayOpen b space.old actors.old → Opens b space.old space.new actors.new }
-    ensures script { script_of actors.new ≡ script_of actors.old }
+    requires { (g : AbstractState) × MayOpen g space.old actors.old }
+    ensures opens { Opens space.old space.new actors.old actors.new }
+    ensures execution { (b : Beginning) → Begins b space.old actors.old → HoldsExecution b (execution_at b space.new actors.new) }
 {
-    space.put_cursor(0, 0);
+    space.put_cursor(PAUSE_WORD, 0);
     start_all(actors, space.registers.as_slice());
 }
 
@@ -43,7 +45,7 @@ fn registers_of(places: &[Place], number: usize) -> [Place; 16]
 {
     let first = 16 * number;
     let end = first + 16;
-    let mut registers = [Place(0); 16];
+    let mut registers = [Place::NIL; 16];
     registers.copy_from_slice(&places[first..end]);
     registers
 }

@@ -1,6 +1,6 @@
 -- A heap word that is written changes at most the one object that it belongs to.
-use Rattle.std.proofs.Common.{◌≡◌, ◌≢◌, ℕ, ◌+◌, ◌*◌, ◌/◌, ◌<◌, ◌≤◌, refl, sym, ap, subst, ◌∙◌, inl, inr, ◌⊎◌, arith, true, false, cond, List, length, nat_eq}
-use Rattle.std.specs.Prelude.{Option, Some, IsTrue, slice_get, slice_set, map}
+use Rattle.std.proofs.Common.{◌≡◌, ◌≢◌, ℕ, ◌+◌, ◌*◌, ◌/◌, ◌<◌, ◌≤◌, refl, sym, ap, subst, ◌∙◌, inl, inr, ◌⊎◌, arith, true, false, cond, suc, List, [], ◌∷◌, length, nat_eq}
+use Rattle.std.specs.Prelude.{Option, Some, None, IsTrue, slice_get, slice_set, map}
 use Rattle.std.proofs.Math.ListN.{length-set}
 use Rattle.std.proofs.lemmas.List.{map-set}
 use Rattle.std.proofs.lemmas.Option.{slice_get_within}
@@ -225,3 +225,12 @@ starts_stand_whole t blocks at g us ms is starts within g' start =
     let u = starts.only g' start in
     let a = is.stands u.0 (within u.0 u.1) in
     (u.0, shape_of a.0, subst (λ k. StandsWhole t blocks k u.0 (shape_of a.0)) u.2 a.2.whole)
+
+-- ---- places under another map
+
+-- what is held has the places that it had where another map agrees on it
+pub places_still : (at to : Name → ℕ) (vs : List (Option Name)) → ((i : ℕ) (n : Name) → slice_get vs i ≡ Some (Some n) → to n ≡ at n) → map (place_word at) vs ≡ map (place_word to) vs
+places_still at to [] each = refl
+places_still at to (None ∷ vs) each = ap (λ z. 0 ∷ z) (places_still at to vs (λ i n e. each (suc i) n e))
+places_still at to (Some n ∷ vs) each =
+    ap (λ z. z ∷ map (place_word at) vs) (sym (each 0 n refl)) ∙ ap (λ z. to n ∷ z) (places_still at to vs (λ i m e. each (suc i) m e))

@@ -1,7 +1,7 @@
 pub mod RegionLemmas
 pub mod HalfLemmas
 pub mod TableLaws
-pub mod LineCounts
+pub mod OutLemmas
 pub mod SpaceLemmas
 pub mod OpenLemmas
 pub mod ImageLemmas

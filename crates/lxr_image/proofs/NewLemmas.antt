@@ -3,6 +3,7 @@ use Rattle.std.proofs.Common.{◌≡◌, ℕ, zero, suc, ◌+◌, ◌-◌, ◌*�
 use Rattle.std.specs.Prelude.{◌||◌, Option, Some, None, IsTrue, slice_get}
 use Rattle.std.proofs.lemmas.List.{length-replicate}
 use Rattle.std.proofs.lemmas.Option.{slice_get_within}
+use Rattle.lxr_layout.specs.declared.TheConstants.{GRANULES_IN_BLOCK}
 use Rattle.lxr_layout.specs.declared.Name.{Name}
 use Rattle.lxr_layout.specs.declared.Shape.{Shape}
 use Rattle.lxr_layout.specs.Objects.{FitsShape, word_count}
@@ -46,8 +47,8 @@ held_stays at g ms n p m a unheld member has_a i (Some w) e = elim (same_name w 
 
 -- ---- the new object
 
-new_stands : (t u : Tables) (blocks : ℕ) (to : Name → ℕ) (n : Name) (p : ℕ) (s : Shape) → to n ≡ p → 1 ≤ p → granule_of p + word_count s / 2 ≤ 2048 * blocks
-    → granule_of p / 2048 ≡ (granule_of p + word_count s / 2 - 1) / 2048 → FitsShape s → IsName n → WritesNew t u p n s → Stands u blocks to n (fresh s)
+new_stands : (t u : Tables) (blocks : ℕ) (to : Name → ℕ) (n : Name) (p : ℕ) (s : Shape) → to n ≡ p → 1 ≤ p → granule_of p + word_count s / 2 ≤ GRANULES_IN_BLOCK * blocks
+    → granule_of p / GRANULES_IN_BLOCK ≡ (granule_of p + word_count s / 2 - 1) / GRANULES_IN_BLOCK → FitsShape s → IsName n → WritesNew t u p n s → Stands u blocks to n (fresh s)
 new_stands t u blocks to n p s there first in_heap in_block fits name writes =
     let refs : length (fresh s).refs ≡ s.refs = length-replicate {A = Option Name} s.refs None in
     let values : length (fresh s).values ≡ s.values = length-replicate {A = ℕ} s.values 0 in

@@ -4,6 +4,7 @@ use Rattle.std.specs.Prelude.{◌==◌, ◌↔◌, IsTrue, slice_index, slice_in
 use Rattle.std.proofs.lemmas.Bool.Decides.{eqb_tells}
 use Rattle.std.proofs.lemmas.List.{get_or-set_same, get_or-set_other}
 use Rattle.std.proofs.Math.ListN.{get_or-eq_default, length-set}
+use Rattle.lxr_layout.specs.declared.TheConstants.{GRANULES_IN_BLOCK, LINES_IN_BLOCK}
 use Rattle.lxr_layout.specs.declared.limits.Limits.{Limits}
 use Rattle.lxr_layout.specs.Spaces.{region_begin, region_sizes}
 use Rattle.lxr_tables.specs.Entries.{OthersStay, table}
@@ -24,7 +25,7 @@ entry h xs ys k e is within i = elim (eqb_tells i k) as (λ _. h (slice_index ys
 ]
 
 -- only the region of the word that was written has changed
-rebuilt : (l : Limits) (ws vs : List ℕ) (n o : ℕ) → n < 15 → o < slice_index (region_sizes l) n → OthersStay ws vs (region_begin l n + o)
+pub rebuilt : (l : Limits) (ws vs : List ℕ) (n o : ℕ) → n < 15 → o < slice_index (region_sizes l) n → OthersStay ws vs (region_begin l n + o)
     → tables_in l vs ≡ tables_from (length ws) (slice_set (cut (region_sizes l) ws) n (slice_index_or (cut (region_sizes l) vs) n []))
 unfolding tables_in
 rebuilt l ws vs n o h within others =
@@ -147,15 +148,15 @@ word_written l ws t k v size within =
 
 -- ---- reference counts
 
-pub count_read : (l : Limits) (ws : List ℕ) (g : ℕ) → g < 2048 * l.blocks → slice_index (table 2 32 (drop (region_begin l 1) ws)) g ≡ (tables_in l ws).counts g
+pub count_read : (l : Limits) (ws : List ℕ) (g : ℕ) → g < GRANULES_IN_BLOCK * l.blocks → slice_index (table 2 32 (drop (region_begin l 1) ws)) g ≡ (tables_in l ws).counts g
 unfolding tables_in
 count_read l ws g within = region_read 2 32 (region_sizes l) ws 1 g (lit< tt) (omega arith)
 
-pub count_within : (l : Limits) (ws : List ℕ) (g : ℕ) → (tables_in l ws).size ≡ region_begin l 15 → g < 2048 * l.blocks → region_begin l 1 + g / 32 < length ws
+pub count_within : (l : Limits) (ws : List ℕ) (g : ℕ) → (tables_in l ws).size ≡ region_begin l 15 → g < GRANULES_IN_BLOCK * l.blocks → region_begin l 1 + g / 32 < length ws
 unfolding tables_in
 count_within l ws g size within = region_within (region_sizes l) ws 1 (g / 32) (lit< tt) (omega arith) (omega arith)
 
-pub count_written : (l : Limits) (ws vs : List ℕ) (g e : ℕ) → (tables_in l ws).size ≡ region_begin l 15 → g < 2048 * l.blocks
+pub count_written : (l : Limits) (ws vs : List ℕ) (g e : ℕ) → (tables_in l ws).size ≡ region_begin l 15 → g < GRANULES_IN_BLOCK * l.blocks
     → table 2 32 (drop (region_begin l 1) vs) ≡ slice_set (table 2 32 (drop (region_begin l 1) ws)) g e → OthersStay ws vs (region_begin l 1 + g / 32)
     → tables_in l vs ≡ record (tables_in l ws) { counts = changed (tables_in l ws).counts g e }
 unfolding tables_in
@@ -169,15 +170,15 @@ count_written l ws vs g e size within written others =
 
 -- ---- reuse counters
 
-pub reuse_read : (l : Limits) (ws : List ℕ) (n : ℕ) → n < 128 * l.blocks → slice_index (table 32 2 (drop (region_begin l 7) ws)) n ≡ (tables_in l ws).reuse n
+pub reuse_read : (l : Limits) (ws : List ℕ) (n : ℕ) → n < LINES_IN_BLOCK * l.blocks → slice_index (table 32 2 (drop (region_begin l 7) ws)) n ≡ (tables_in l ws).reuse n
 unfolding tables_in
 reuse_read l ws n within = region_read 32 2 (region_sizes l) ws 7 n (lit< tt) (omega arith)
 
-pub reuse_within : (l : Limits) (ws : List ℕ) (n : ℕ) → (tables_in l ws).size ≡ region_begin l 15 → n < 128 * l.blocks → region_begin l 7 + n / 2 < length ws
+pub reuse_within : (l : Limits) (ws : List ℕ) (n : ℕ) → (tables_in l ws).size ≡ region_begin l 15 → n < LINES_IN_BLOCK * l.blocks → region_begin l 7 + n / 2 < length ws
 unfolding tables_in
 reuse_within l ws n size within = region_within (region_sizes l) ws 7 (n / 2) (lit< tt) (omega arith) (omega arith)
 
-pub reuse_written : (l : Limits) (ws vs : List ℕ) (n e : ℕ) → (tables_in l ws).size ≡ region_begin l 15 → n < 128 * l.blocks
+pub reuse_written : (l : Limits) (ws vs : List ℕ) (n e : ℕ) → (tables_in l ws).size ≡ region_begin l 15 → n < LINES_IN_BLOCK * l.blocks
     → table 32 2 (drop (region_begin l 7) vs) ≡ slice_set (table 32 2 (drop (region_begin l 7) ws)) n e → OthersStay ws vs (region_begin l 7 + n / 2)
     → tables_in l vs ≡ record (tables_in l ws) { reuse = changed (tables_in l ws).reuse n e }
 unfolding tables_in
@@ -195,12 +196,12 @@ test_of true x (from, back) = sym (eq-eqb x 1 (from refl))
 test_of false x (from, back) = elim (eqb_tells x 1) [ inl k ↦ back k.1 ∙ sym k.0 | inr k ↦ sym k.0 ]
 
 -- the half of a word that was read
-pub half_is : (l : Limits) (ws : List ℕ) (n at w : ℕ) → (tables_in l ws).size ≡ region_begin l 15 → n < 128 * l.blocks → at ≡ region_begin l 7 + n / 2 → w ≡ slice_index ws at
+pub half_is : (l : Limits) (ws : List ℕ) (n at w : ℕ) → (tables_in l ws).size ≡ region_begin l 15 → n < LINES_IN_BLOCK * l.blocks → at ≡ region_begin l 7 + n / 2 → w ≡ slice_index ws at
     → w / 2 ^ (32 * (n % 2)) % 2 ^ 32 ≡ (tables_in l ws).reuse n
 half_is l ws n at w size within at_is w_is = read_at 32 2 (region_begin l 7) n ws at w (32 * (n % 2)) (lit< tt) (reuse_within l ws n size within) at_is w_is refl ∙ reuse_read l ws n within
 
 -- a half of a word that was read is written
-pub half_put : (l : Limits) (ws vs : List ℕ) (n at w v e : ℕ) → (tables_in l ws).size ≡ region_begin l 15 → n < 128 * l.blocks → at ≡ region_begin l 7 + n / 2 → w ≡ slice_index ws at → vs ≡ slice_set ws at v
+pub half_put : (l : Limits) (ws vs : List ℕ) (n at w v e : ℕ) → (tables_in l ws).size ≡ region_begin l 15 → n < LINES_IN_BLOCK * l.blocks → at ≡ region_begin l 7 + n / 2 → w ≡ slice_index ws at → vs ≡ slice_set ws at v
     → e < 2 ^ 32 → IsWritten 32 w v (n % 2) e → tables_in l vs ≡ record (tables_in l ws) { reuse = changed (tables_in l ws).reuse n e }
 half_put l ws vs n at w v e size within at_is w_is vs_is fits written =
     let inside = reuse_within l ws n size within in
@@ -208,7 +209,7 @@ half_put l ws vs n at w v e size within at_is w_is vs_is fits written =
     (subst (λ x. OthersStay ws x (region_begin l 7 + n / 2)) (sym (vs_is ∙ ap (λ k. slice_set ws k v) at_is)) (others_stay ws (region_begin l 7 + n / 2) v inside))
 
 -- past the heap no object begins
-pub no_start_past : (l : Limits) (ws : List ℕ) (g : ℕ) → (tables_in l ws).size ≡ region_begin l 15 → 2048 * l.blocks ≤ g → (tables_in l ws).starts g ≡ false
+pub no_start_past : (l : Limits) (ws : List ℕ) (g : ℕ) → (tables_in l ws).size ≡ region_begin l 15 → GRANULES_IN_BLOCK * l.blocks ≤ g → (tables_in l ws).starts g ≡ false
 unfolding tables_in
 no_start_past l ws g size past =
     let region : List ℕ = slice_index_or (cut (region_sizes l) ws) 2 [] in

@@ -1,6 +1,7 @@
 -- How the image of a graph changes, and what is read of it. Each law is the contract of a function with an empty body.
 use Rattle.std.specs.Prelude.{◌≡◌, ℕ, ◌+◌, ◌-◌, ◌*◌, ◌/◌, ◌<◌, ◌≤◌, ◌⊎◌, Option, Some, List, ◌∷◌, IsTrue, if◌then◌else◌, length, slice_get, slice_set}
 use Rattle.std.specs.Option.{option_map}
+use Rattle.lxr_layout.specs.declared.TheConstants.{GRANULES_IN_BLOCK}
 use Rattle.lxr_layout.specs.declared.Name.{Name}
 use Rattle.lxr_layout.specs.declared.Place.{Place}
 use Rattle.lxr_layout.specs.declared.Shape.{Shape}
@@ -42,8 +43,8 @@ PutKeepsImage = (t : Tables) (blocks : ℕ) (at : Name → ℕ) (g : Graph) (ms 
 -- room for an object at a place: whole in one block of the heap, and no member reaches into it
 pub record IsRoom (blocks : ℕ) (at : Name → ℕ) (g : Graph) (ms : List Name) (p : ℕ) (s : Shape) : Type 0 where
   pub placed : 1 ≤ p
-  pub in_heap : granule_of p + word_count s / 2 ≤ 2048 * blocks
-  pub in_block : granule_of p / 2048 ≡ (granule_of p + word_count s / 2 - 1) / 2048
+  pub in_heap : granule_of p + word_count s / 2 ≤ GRANULES_IN_BLOCK * blocks
+  pub in_block : granule_of p / GRANULES_IN_BLOCK ≡ (granule_of p + word_count s / 2 - 1) / GRANULES_IN_BLOCK
   pub free : (m : Name) (a : Object) → IsTrue (has ms m) → object_at g m ≡ Some a
       → (granule_of (at m) + granules_of a ≤ granule_of p) ⊎ (granule_of p + word_count s / 2 ≤ granule_of (at m))
 

@@ -4,7 +4,7 @@ use Rattle.lxr_layout.specs.declared.limits.Limits.{Limits}
 use Rattle.lxr_layout.specs.declared.runs.Run.{Run}
 use Rattle.lxr_layout.specs.declared.Name.{Name}
 use Rattle.lxr_layout.specs.declared.Place.{Place}
-use Rattle.lxr_layout.specs.declared.TheConstants.{STUCK}
+use Rattle.lxr_layout.specs.declared.TheConstants.{FREE_BLOCK_COUNT, GRANULES_IN_BLOCK, GRANULES_IN_LINE, RUN_COUNT, STUCK}
 use Rattle.lxr_layout.specs.Objects.{header_word}
 use Rattle.lxr_layout.specs.Runs.{word_of_run}
 use Rattle.lxr_layout.specs.Spaces.{region_begin}
@@ -13,7 +13,6 @@ use Rattle.lxr_graph.specs.declared.report.Report.{Report}
 use Rattle.lxr_graph.specs.State.{world, world_name, shape_of, opening_registers}
 use Rattle.lxr_image.specs.declared.space.Space.{Space}
 use Rattle.lxr_image.specs.declared.space.Tally.{Tally}
-use Rattle.lxr_image.specs.declared.open.TheConstants.{WORLD_STATE}
 use Rattle.lxr_image.specs.Tables.{Tables, changed}
 use Rattle.lxr_image.specs.Spaces.{tables_of}
 
@@ -44,9 +43,13 @@ abbrev pub with_world : Tables → Tables
 with_world t = record t {
   heap = changed t.heap 0 (header_word world_name (shape_of world));
   starts = changed t.starts 0 true;
-  counts = changed (changed (changed t.counts 0 STUCK) 16 STUCK) 32 STUCK;
+  counts = changed (changed (changed t.counts 0 STUCK) GRANULES_IN_LINE STUCK) (2 * GRANULES_IN_LINE) STUCK;
   unlogged = λ w. if nat_le 1 w && nat_le w 64 then true else t.unlogged w;
 }
+
+-- the state of the world's block, as its number
+abbrev pub world_state : ℕ
+world_state = 4
 
 -- the lines of the world's block that the world leaves
 abbrev pub first_run : Run
@@ -55,10 +58,10 @@ first_run = record { block = 0; line = 3; lines = 125 }
 -- Block 0 is the world's. The run table has its run, the free table all other blocks in order, and the cursors their numbers.
 abbrev pub with_blocks : ℕ → Tables → Tables
 with_blocks blocks t = record t {
-  states = changed t.states 0 WORLD_STATE;
+  states = changed t.states 0 world_state;
   runs = changed t.runs 0 (word_of_run first_run);
   frees = λ i. if nat_lt (i + 1) blocks then (i + 1) else t.frees i;
-  cursors = changed (changed t.cursors 2 1) 4 (blocks - 1);
+  cursors = changed (changed t.cursors RUN_COUNT 1) FREE_BLOCK_COUNT (blocks - 1);
 }
 
 -- the tables of an opened space
@@ -83,8 +86,8 @@ pub record HasRoom (s : Space) : Type 0 where
   pub registers : s.registers.room ≡ 16 * s.limits.threads
   pub deferred : s.deferred.room ≡ 16 * s.limits.threads
   pub logged : s.logged.room ≡ s.limits.threads * s.limits.log
-  pub work : s.work.room ≡ 2048 * s.limits.blocks
-  pub report : HasReportRoom s.report (2048 * s.limits.blocks)
+  pub work : s.work.room ≡ GRANULES_IN_BLOCK * s.limits.blocks
+  pub report : HasReportRoom s.report (GRANULES_IN_BLOCK * s.limits.blocks)
 
 -- the report of no pause
 pub record IsBlank (r : Report) : Type 0 where

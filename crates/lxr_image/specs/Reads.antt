@@ -1,5 +1,6 @@
 -- What is read of the objects that stand in the tables.
 use Rattle.std.specs.Prelude.{◌≡◌, ℕ, ◌+◌, ◌-◌, ◌*◌, ◌/◌, ◌^◌, ◌<◌, ◌≤◌, nat_le, nat_lt, ◌&&◌, Option, Some, None, IsTrue, if◌then◌else◌}
+use Rattle.lxr_layout.specs.declared.TheConstants.{GRANULES_IN_BLOCK}
 use Rattle.lxr_layout.specs.declared.Name.{Name}
 use Rattle.lxr_layout.specs.declared.Shape.{Shape}
 use Rattle.lxr_layout.specs.declared.Header.{Header}
@@ -44,8 +45,8 @@ pub record StandsWhole (t : Tables) (blocks g : ℕ) (n : Name) (s : Shape) : Ty
   pub name : IsName n
   pub shape : FitsShape s
   pub header : t.heap (2 * g) ≡ header_word n s
-  pub in_heap : g + word_count s / 2 ≤ 2048 * blocks
-  pub in_block : g / 2048 ≡ (g + word_count s / 2 - 1) / 2048
+  pub in_heap : g + word_count s / 2 ≤ GRANULES_IN_BLOCK * blocks
+  pub in_block : g / GRANULES_IN_BLOCK ≡ (g + word_count s / 2 - 1) / GRANULES_IN_BLOCK
 
 -- each start bit stands at the header of an object that lies whole in one block
 abbrev pub StartsStandWhole : Tables → ℕ → Type 0

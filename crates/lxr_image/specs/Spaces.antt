@@ -1,6 +1,6 @@
 -- What a space is, and how a call on its words changes it.
 use Rattle.std.specs.Prelude.{◌≡◌, ℕ, ◌*◌, ◌^◌, ◌<◌, ◌≤◌, Bool, false}
-use Rattle.lxr_layout.specs.declared.TheConstants.{STUCK}
+use Rattle.lxr_layout.specs.declared.TheConstants.{GRANULES_IN_BLOCK, STUCK}
 use Rattle.lxr_layout.specs.Spaces.{AreLimits, region_begin}
 use Rattle.lxr_image.specs.declared.space.Space.{Space}
 use Rattle.lxr_image.specs.declared.tables.BitTable.{BitTable}
@@ -34,7 +34,7 @@ EntriesAreWithin = (s : Space) → AreWithin (tables_of s)
 
 -- past the heap's last granule no object begins
 abbrev pub NoneStartsPast : Type 0
-NoneStartsPast = (s : Space) (g : ℕ) → IsSpace s → 2048 * s.limits.blocks ≤ g → (tables_of s).starts g ≡ false
+NoneStartsPast = (s : Space) (g : ℕ) → IsSpace s → GRANULES_IN_BLOCK * s.limits.blocks ≤ g → (tables_of s).starts g ≡ false
 
 -- the region of a table of bits, and of a table of words
 abbrev pub bit_region : BitTable → ℕ

@@ -19,6 +19,3 @@ pub use laws::{
 };
 pub use open::WORLD_STATE;
 pub use space::{Entries, Places, Space, Tally};
-
-#[cfg(test)]
-mod tests;

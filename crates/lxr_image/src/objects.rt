@@ -1,22 +1,23 @@
 //! Objects as they are read by their places.
 ghost use Rattle.std.specs.Prelude.{◌≡◌, ◌*◌, ◌≤◌, ◌&&◌, IsTrue, nat_le};
+ghost use Rattle.lxr_layout.specs.declared.TheConstants.{GRANULES_IN_BLOCK};
 ghost use Rattle.lxr_image.specs.Reads.{StartsStandWhole, datum_at, field_at, granule_of, header_at};
 ghost use Rattle.lxr_image.specs.Spaces.{IsSpace, tables_of};
 
 use crate::Space;
-use lxr_layout::{Header, Place, unpack, word_of};
+use lxr_layout::{GRANULES_IN_BLOCK, Header, Place, field_word, unpack, word_of};
 
 impl Space {
     /// Whether an unreclaimed object begins at a place.
     fn begins(&self, place: Place) -> bool
         requires { IsSpace self.now }
         ensures begins { result ≡ (nat_le 1 place.0 && (tables_of self.now).starts (granule_of place.0)) }
-        ensures in_heap { IsTrue result → (1 ≤ place.0) × (place.0 ≤ 2048 * self.now.limits.blocks) }
+        ensures in_heap { IsTrue result → (1 ≤ place.0) × (place.0 ≤ GRANULES_IN_BLOCK * self.now.limits.blocks) }
     {
         if place.0 == 0 {
             return false;
         }
-        if 2048 * self.limits.blocks < place.0 {
+        if GRANULES_IN_BLOCK * self.limits.blocks < place.0 {
             return false;
         }
         self.has_start(place.0 - 1)
@@ -43,7 +44,7 @@ impl Space {
     {
         match self.object(place)? {
             Header::Object(_, shape) if index < shape.refs => {
-                Some(self.heap_word(word_of(place) + 1 + u32::from(index)))
+                Some(self.heap_word(field_word(place, index)))
             }
             _ => None,
         }

@@ -11,16 +11,17 @@ ghost use Rattle.lxr_image.specs.Spaces.{IsSpace, Turns, tables_of};
 ghost use Rattle.lxr_layout.specs.Spaces.{AreLimits, region_begin};
 
 use crate::{Places, Space, Tally};
+use lxr_base::Listed;
 use lxr_graph::{Kind, Report};
-use lxr_layout::{Limits, Name, Place, Run, STUCK, Shape, pack, regions, run_word};
-use lxr_lists::Listed;
+use lxr_layout::{
+    FREE_BLOCK_COUNT, GRANULES_IN_BLOCK, Limits, Name, Place, RUN_COUNT, Run, STUCK, Shape, pack,
+    regions, run_word,
+};
 use lxr_tables::{PlainWords, Words};
 use std::alloc::{AllocError, Global};
 
 /// The state of the block in which the world lies.
 pub const WORLD_STATE: u64 = 4;
-
-const NIL: Place = Place(0);
 
 /// Where the world stands, in every space and for good.
 const WORLD: Place = Place(1);
@@ -40,7 +41,7 @@ fn push_opening_row(places: &mut Places)
     requires { length places.old.items + 16 ≤ places.old.room }
     ensures { places.new ≡ record places.old { items = places.old.items ++ map opening_place opening_row } }
 {
-    let mut row = [NIL; 16];
+    let mut row = [Place::NIL; 16];
     row[0] = WORLD;
     for place in row {
         places.push(place);
@@ -152,7 +153,7 @@ impl Space {
         requires { AreLimits limits }
         ensures { IfOk result (λ space. IsNew space limits (cleared_tables (region_begin limits 15))) }
     {
-        let granules = 2048 * limits.blocks as usize;
+        let granules = (GRANULES_IN_BLOCK * limits.blocks) as usize;
         Ok(Space {
             words: PlainWords::new(alloc, regions(limits).total as usize)?,
             limits,
@@ -207,7 +208,7 @@ impl Space {
         for block in 1..self.limits.blocks {
             self.put_free(block - 1, u64::from(block));
         }
-        self.put_cursor(2, 1);
-        self.put_cursor(4, u64::from(self.limits.blocks - 1));
+        self.put_cursor(RUN_COUNT, 1);
+        self.put_cursor(FREE_BLOCK_COUNT, u64::from(self.limits.blocks - 1));
     }
 }

@@ -1,7 +1,7 @@
 //! The space and its numbers.
+use lxr_base::Listed;
 use lxr_graph::Report;
 use lxr_layout::{Limits, LogEntry, Place};
-use lxr_lists::Listed;
 use lxr_tables::PlainWords;
 
 /// A list of places.

@@ -3,7 +3,9 @@
 //! Each call says which entry of which table it reads or writes, as an equation of the tables; the places of the
 //! regions among the words are known here alone. A granule, line, block or heap word is given by its number in the
 //! heap, from 0.
-ghost use Rattle.std.specs.Prelude.{◌≡◌, ◌≢◌, ℕ, ◌+◌, ◌*◌, ◌/◌, ◌%◌, ◌^◌, ◌<◌, ◌≤◌, ◌↔◌, IsTrue, false, slice_index, true};
+ghost use Rattle.std.specs.Prelude.{◌≡◌, ◌≢◌, ℕ, ◌+◌, ◌*◌, ◌/◌, ◌%◌, ◌^◌, ◌<◌, ◌≤◌, ◌↔◌, ◌==◌, IsBitSet, IsTrue, false, if◌then◌else◌, slice_index, true};
+ghost use Rattle.std.specs.Int.{bit_at};
+ghost use Rattle.lxr_layout.specs.declared.TheConstants.{GRANULES_IN_BLOCK, GRANULES_IN_LINE, LINES_IN_BLOCK, WORDS_IN_BLOCK};
 ghost use Rattle.lxr_image.specs.Spaces.{IsSpace, Turns, bit_region, bit_table, tables_of, with_bit, with_word, word_region, word_table};
 ghost use Rattle.lxr_image.specs.Tables.{changed};
 ghost use Rattle.lxr_layout.specs.Spaces.{AreLimits, region_begin, region_sizes};
@@ -13,6 +15,7 @@ use crate::Space;
 use lxr_layout::{Limits, STUCK, regions};
 use lxr_tables::{
     Lowered, Raised, Words, bit, clear_bit, lower_two, raise_two, set_bit, set_two, two,
+    uncounted_lines,
 };
 
 /// A table of bits.
@@ -132,7 +135,7 @@ impl Space {
     #[inline(always)]
     pub fn has_start(&self, granule: u32) -> bool
         requires space { IsSpace self.now }
-        requires granule { granule < 2048 * self.now.limits.blocks }
+        requires granule { granule < GRANULES_IN_BLOCK * self.now.limits.blocks }
         ensures { result ≡ (tables_of self.now).starts granule }
     {
         self.bit_in(BitTable::Starts, granule as usize)
@@ -142,7 +145,7 @@ impl Space {
     #[inline(always)]
     pub fn set_start(&mut self, granule: u32)
         requires space { IsSpace self.old }
-        requires granule { granule < 2048 * self.old.limits.blocks }
+        requires granule { granule < GRANULES_IN_BLOCK * self.old.limits.blocks }
         ensures { let t = tables_of self.old in
             Turns self.old self.new (record t { starts = changed t.starts granule true }) }
     {
@@ -153,7 +156,7 @@ impl Space {
     #[inline(always)]
     pub fn clear_start(&mut self, granule: u32)
         requires space { IsSpace self.old }
-        requires granule { granule < 2048 * self.old.limits.blocks }
+        requires granule { granule < GRANULES_IN_BLOCK * self.old.limits.blocks }
         ensures { let t = tables_of self.old in
             Turns self.old self.new (record t { starts = changed t.starts granule false }) }
     {
@@ -164,7 +167,7 @@ impl Space {
     #[inline(always)]
     pub fn has_mark(&self, granule: u32) -> bool
         requires space { IsSpace self.now }
-        requires granule { granule < 2048 * self.now.limits.blocks }
+        requires granule { granule < GRANULES_IN_BLOCK * self.now.limits.blocks }
         ensures { result ≡ (tables_of self.now).marks granule }
     {
         self.bit_in(BitTable::Marks, granule as usize)
@@ -174,7 +177,7 @@ impl Space {
     #[inline(always)]
     pub fn set_mark(&mut self, granule: u32)
         requires space { IsSpace self.old }
-        requires granule { granule < 2048 * self.old.limits.blocks }
+        requires granule { granule < GRANULES_IN_BLOCK * self.old.limits.blocks }
         ensures { let t = tables_of self.old in
             Turns self.old self.new (record t { marks = changed t.marks granule true }) }
     {
@@ -185,7 +188,7 @@ impl Space {
     #[inline(always)]
     pub fn clear_mark(&mut self, granule: u32)
         requires space { IsSpace self.old }
-        requires granule { granule < 2048 * self.old.limits.blocks }
+        requires granule { granule < GRANULES_IN_BLOCK * self.old.limits.blocks }
         ensures { let t = tables_of self.old in
             Turns self.old self.new (record t { marks = changed t.marks granule false }) }
     {
@@ -196,7 +199,7 @@ impl Space {
     #[inline(always)]
     pub fn has_gray(&self, granule: u32) -> bool
         requires space { IsSpace self.now }
-        requires granule { granule < 2048 * self.now.limits.blocks }
+        requires granule { granule < GRANULES_IN_BLOCK * self.now.limits.blocks }
         ensures { result ≡ (tables_of self.now).grays granule }
     {
         self.bit_in(BitTable::Grays, granule as usize)
@@ -206,7 +209,7 @@ impl Space {
     #[inline(always)]
     pub fn set_gray(&mut self, granule: u32)
         requires space { IsSpace self.old }
-        requires granule { granule < 2048 * self.old.limits.blocks }
+        requires granule { granule < GRANULES_IN_BLOCK * self.old.limits.blocks }
         ensures { let t = tables_of self.old in
             Turns self.old self.new (record t { grays = changed t.grays granule true }) }
     {
@@ -217,7 +220,7 @@ impl Space {
     #[inline(always)]
     pub fn clear_gray(&mut self, granule: u32)
         requires space { IsSpace self.old }
-        requires granule { granule < 2048 * self.old.limits.blocks }
+        requires granule { granule < GRANULES_IN_BLOCK * self.old.limits.blocks }
         ensures { let t = tables_of self.old in
             Turns self.old self.new (record t { grays = changed t.grays granule false }) }
     {
@@ -228,7 +231,7 @@ impl Space {
     #[inline(always)]
     pub fn has_done(&self, granule: u32) -> bool
         requires space { IsSpace self.now }
-        requires granule { granule < 2048 * self.now.limits.blocks }
+        requires granule { granule < GRANULES_IN_BLOCK * self.now.limits.blocks }
         ensures { result ≡ (tables_of self.now).dones granule }
     {
         self.bit_in(BitTable::Dones, granule as usize)
@@ -238,7 +241,7 @@ impl Space {
     #[inline(always)]
     pub fn set_done(&mut self, granule: u32)
         requires space { IsSpace self.old }
-        requires granule { granule < 2048 * self.old.limits.blocks }
+        requires granule { granule < GRANULES_IN_BLOCK * self.old.limits.blocks }
         ensures { let t = tables_of self.old in
             Turns self.old self.new (record t { dones = changed t.dones granule true }) }
     {
@@ -249,7 +252,7 @@ impl Space {
     #[inline(always)]
     pub fn clear_done(&mut self, granule: u32)
         requires space { IsSpace self.old }
-        requires granule { granule < 2048 * self.old.limits.blocks }
+        requires granule { granule < GRANULES_IN_BLOCK * self.old.limits.blocks }
         ensures { let t = tables_of self.old in
             Turns self.old self.new (record t { dones = changed t.dones granule false }) }
     {
@@ -260,7 +263,7 @@ impl Space {
     #[inline(always)]
     pub fn has_unlogged(&self, at: u32) -> bool
         requires space { IsSpace self.now }
-        requires at { at < 4096 * self.now.limits.blocks }
+        requires at { at < WORDS_IN_BLOCK * self.now.limits.blocks }
         ensures { result ≡ (tables_of self.now).unlogged at }
     {
         self.bit_in(BitTable::Unlogged, at as usize)
@@ -270,7 +273,7 @@ impl Space {
     #[inline(always)]
     pub fn set_unlogged(&mut self, at: u32)
         requires space { IsSpace self.old }
-        requires at { at < 4096 * self.old.limits.blocks }
+        requires at { at < WORDS_IN_BLOCK * self.old.limits.blocks }
         ensures { let t = tables_of self.old in
             Turns self.old self.new (record t { unlogged = changed t.unlogged at true }) }
     {
@@ -281,7 +284,7 @@ impl Space {
     #[inline(always)]
     pub fn clear_unlogged(&mut self, at: u32)
         requires space { IsSpace self.old }
-        requires at { at < 4096 * self.old.limits.blocks }
+        requires at { at < WORDS_IN_BLOCK * self.old.limits.blocks }
         ensures { let t = tables_of self.old in
             Turns self.old self.new (record t { unlogged = changed t.unlogged at false }) }
     {
@@ -292,7 +295,7 @@ impl Space {
     #[inline(always)]
     pub fn has_out(&self, line: u32) -> bool
         requires space { IsSpace self.now }
-        requires line { line < 128 * self.now.limits.blocks }
+        requires line { line < LINES_IN_BLOCK * self.now.limits.blocks }
         ensures { result ≡ (tables_of self.now).outs line }
     {
         self.bit_in(BitTable::Outs, line as usize)
@@ -302,7 +305,7 @@ impl Space {
     #[inline(always)]
     pub fn set_out(&mut self, line: u32)
         requires space { IsSpace self.old }
-        requires line { line < 128 * self.old.limits.blocks }
+        requires line { line < LINES_IN_BLOCK * self.old.limits.blocks }
         ensures { let t = tables_of self.old in
             Turns self.old self.new (record t { outs = changed t.outs line true }) }
     {
@@ -313,18 +316,54 @@ impl Space {
     #[inline(always)]
     pub fn clear_out(&mut self, line: u32)
         requires space { IsSpace self.old }
-        requires line { line < 128 * self.old.limits.blocks }
+        requires line { line < LINES_IN_BLOCK * self.old.limits.blocks }
         ensures { let t = tables_of self.old in
             Turns self.old self.new (record t { outs = changed t.outs line false }) }
     {
         self.clear_bit_in(BitTable::Outs, line as usize);
     }
 
+    /// The lines of the block that are out: bit i of the answer is set exactly where line i was handed out since the last
+    /// promotion.
+    #[inline(always)]
+    pub fn out_lines(&self, block: u32) -> u128
+        requires space { IsSpace self.now }
+        requires block { block < self.now.limits.blocks }
+        ensures { (i : ℕ) → i < LINES_IN_BLOCK → (IsBitSet result i ↔ IsTrue ((tables_of self.now).outs (LINES_IN_BLOCK * block + i))) }
+    {
+        let low = self.out_word(2 * block);
+        let high = self.out_word(2 * block + 1);
+        u128::from(high) << 64 | u128::from(low)
+    }
+
+    /// A word of the out bits: those of 64 lines in a row.
+    #[inline(always)]
+    fn out_word(&self, at: u32) -> u64
+        requires space { IsSpace self.now }
+        requires at { at < 2 * self.now.limits.blocks }
+        ensures { (i : ℕ) → i < 64 → (tables_of self.now).outs (64 * at + i) ≡ (bit_at result i == 1) }
+    {
+        let base = BitTable::Outs.begin(self.limits);
+        self.words.get(base + at as usize)
+    }
+
+    /// Forgets that 64 lines in a row were handed out: those whose out bits are one word.
+    #[inline(always)]
+    pub fn clear_out_word(&mut self, at: u32)
+        requires space { IsSpace self.old }
+        requires at { at < 2 * self.old.limits.blocks }
+        ensures { let t = tables_of self.old in
+            Turns self.old self.new (record t { outs = λ n. if n / 64 == at then false else t.outs n }) }
+    {
+        let base = BitTable::Outs.begin(self.limits);
+        self.words.set(base + at as usize, 0);
+    }
+
     /// A word of the heap.
     #[inline(always)]
     pub fn heap_word(&self, at: u32) -> u64
         requires space { IsSpace self.now }
-        requires at { at < 4096 * self.now.limits.blocks }
+        requires at { at < WORDS_IN_BLOCK * self.now.limits.blocks }
         ensures { result ≡ (tables_of self.now).heap at }
     {
         self.word_in(WordTable::Heap, at as usize)
@@ -334,7 +373,7 @@ impl Space {
     #[inline(always)]
     pub fn put_heap(&mut self, at: u32, value: u64)
         requires space { IsSpace self.old }
-        requires at { at < 4096 * self.old.limits.blocks }
+        requires at { at < WORDS_IN_BLOCK * self.old.limits.blocks }
         ensures { let t = tables_of self.old in
             Turns self.old self.new (record t { heap = changed t.heap at value }) }
     {
@@ -471,7 +510,7 @@ impl Space {
     #[inline(always)]
     pub fn count(&self, granule: u32) -> u8
         requires space { IsSpace self.now }
-        requires granule { granule < 2048 * self.now.limits.blocks }
+        requires granule { granule < GRANULES_IN_BLOCK * self.now.limits.blocks }
         ensures value { result ≡ (tables_of self.now).counts granule }
         ensures within { result ≤ STUCK }
     {
@@ -483,7 +522,7 @@ impl Space {
     #[inline(always)]
     pub fn set_count(&mut self, granule: u32, count: u8)
         requires space { IsSpace self.old }
-        requires granule { granule < 2048 * self.old.limits.blocks }
+        requires granule { granule < GRANULES_IN_BLOCK * self.old.limits.blocks }
         requires count { count ≤ STUCK }
         ensures { let t = tables_of self.old in
             Turns self.old self.new (record t { counts = changed t.counts granule count }) }
@@ -496,7 +535,7 @@ impl Space {
     #[inline(always)]
     pub fn raise_count(&mut self, granule: u32) -> Raised
         requires space { IsSpace self.old }
-        requires granule { granule < 2048 * self.old.limits.blocks }
+        requires granule { granule < GRANULES_IN_BLOCK * self.old.limits.blocks }
         ensures old { result.old ≡ (tables_of self.old).counts granule }
         ensures now { result.now ≡ raised_count result.old }
         ensures tables { let t = tables_of self.old in
@@ -510,7 +549,7 @@ impl Space {
     #[inline(always)]
     pub fn lower_count(&mut self, granule: u32) -> Lowered
         requires space { IsSpace self.old }
-        requires granule { granule < 2048 * self.old.limits.blocks }
+        requires granule { granule < GRANULES_IN_BLOCK * self.old.limits.blocks }
         requires counted { (tables_of self.old).counts granule ≢ 0 }
         ensures answer { result ≡ lowered_of ((tables_of self.old).counts granule) }
         ensures tables { let t = tables_of self.old in
@@ -520,15 +559,15 @@ impl Space {
         lower_two(&mut self.words, base, granule as usize)
     }
 
-    /// Whether the counts of all sixteen granules of the line are 0. They are one half of a word, which is read once.
+    /// The lines of the block that have no count but 0: bit i of the answer is set exactly where all counts of line i
+    /// are 0. Each word of the block's counts is read once.
     #[inline(always)]
-    pub fn has_no_counts(&self, line: u32) -> bool
+    pub fn uncounted_lines(&self, block: u32) -> u128
         requires space { IsSpace self.now }
-        requires line { line < 128 * self.now.limits.blocks }
-        ensures { IsTrue result ↔ ((k : ℕ) → k < 16 → (tables_of self.now).counts (16 * line + k) ≡ 0) }
+        requires block { block < self.now.limits.blocks }
+        ensures { (i : ℕ) → i < LINES_IN_BLOCK → (IsBitSet result i ↔ ((k : ℕ) → k < GRANULES_IN_LINE → (tables_of self.now).counts (GRANULES_IN_BLOCK * block + GRANULES_IN_LINE * i + k) ≡ 0)) }
     {
-        let word = self.words.get(self.counts_begin() + line as usize / 2);
-        word >> (32 * (line % 2)) & 0xffff_ffff == 0
+        uncounted_lines(&self.words, self.counts_begin(), block as usize)
     }
 
     /// The first word of the reference counts.
@@ -544,7 +583,7 @@ impl Space {
     #[inline(always)]
     pub fn reuse(&self, line: u32) -> u32
         requires space { IsSpace self.now }
-        requires line { line < 128 * self.now.limits.blocks }
+        requires line { line < LINES_IN_BLOCK * self.now.limits.blocks }
         ensures { result ≡ (tables_of self.now).reuse line }
     {
         let word = self.words.get(self.reuse_word(line));
@@ -555,7 +594,7 @@ impl Space {
     #[inline(always)]
     pub fn raise_reuse(&mut self, line: u32)
         requires space { IsSpace self.old }
-        requires line { line < 128 * self.old.limits.blocks }
+        requires line { line < LINES_IN_BLOCK * self.old.limits.blocks }
         ensures { let t = tables_of self.old in
             Turns self.old self.new (record t { reuse = changed t.reuse line ((t.reuse line + 1) % 2 ^ 32) }) }
     {
@@ -572,7 +611,7 @@ impl Space {
     #[inline(always)]
     fn reuse_word(&self, line: u32) -> usize
         requires space { IsSpace self.now }
-        requires line { line < 128 * self.now.limits.blocks }
+        requires line { line < LINES_IN_BLOCK * self.now.limits.blocks }
         ensures { result ≡ region_begin self.now.limits 7 + line / 2 }
     {
         regions(self.limits).reuse as usize + line as usize / 2

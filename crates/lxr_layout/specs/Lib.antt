@@ -2,3 +2,4 @@ pub mod Objects
 pub mod Places
 pub mod Runs
 pub mod Spaces
+pub mod Numbers

@@ -7,15 +7,59 @@
 
 ghost use Rattle.std.specs.Prelude.{◌≡◌, ◌↔◌, IsTrue};
 ghost use Rattle.lxr_layout.specs.Objects.{FitsShape, header_of, header_word, line_count, word_count};
-ghost use Rattle.lxr_layout.specs.Places.{IsPlace, block_at, first_word, line_at};
+ghost use Rattle.lxr_layout.specs.Places.{IsPlace, block_at, field_word as field_at, first_word, line_at};
 
+mod laws;
 mod limits;
 mod runs;
 mod spaces;
 
+pub use laws::constants_have_numbers;
 pub use limits::{Limits, Regions};
 pub use runs::{LogEntry, Run, entry_of, entry_word, run_of, run_word};
 pub use spaces::regions;
+
+/// The words of a block of 32 KB.
+pub const WORDS_IN_BLOCK: u32 = 4096;
+
+/// The granules of a block.
+pub const GRANULES_IN_BLOCK: u32 = 2048;
+
+/// The lines of a block.
+pub const LINES_IN_BLOCK: u32 = 128;
+
+/// The words of a line of 256 bytes.
+pub const WORDS_IN_LINE: u32 = 32;
+
+/// The granules of a line.
+pub const GRANULES_IN_LINE: u32 = 16;
+
+/// The cursor that is 1 while a pause is asked for, else 0.
+pub const PAUSE_WORD: u32 = 0;
+
+/// The cursor that counts how often a number of the table of runs was drawn in this epoch.
+pub const RUN_CURSOR: u32 = 1;
+
+/// The cursor that tells how many runs are listed.
+pub const RUN_COUNT: u32 = 2;
+
+/// The cursor that counts how often a number of the table of free blocks was drawn in this epoch.
+pub const FREE_BLOCK_CURSOR: u32 = 3;
+
+/// The cursor that tells how many free blocks are listed.
+pub const FREE_BLOCK_COUNT: u32 = 4;
+
+/// The cursor that counts how often a number of the list of decrements was drawn.
+pub const DECREMENT_CURSOR: u32 = 5;
+
+/// The cursor that tells how many decrements wait in their list.
+pub const DECREMENT_COUNT: u32 = 6;
+
+/// The cursor that counts how often a number of the remembered set was drawn since the trace began.
+pub const REMEMBERED_CURSOR: u32 = 7;
+
+/// The cursor that is 1 while a trace runs, else 0.
+pub const TRACING_WORD: u32 = 8;
 
 /// The bits of a reference count in its table.
 pub const COUNT_BITS: u32 = 2;
@@ -27,6 +71,11 @@ pub const STUCK: u8 = 3;
 /// Where an object begins: the index of its first granule in the heap, plus 1. 0 is nil.
 #[derive(Clone, Copy, Debug, PartialEq, Eq)]
 pub struct Place(pub u32);
+
+impl Place {
+    /// The place of nothing.
+    pub const NIL: Place = Place(0);
+}
 
 /// How many references and how many data words an object has.
 #[derive(Clone, Copy, Debug, PartialEq, Eq)]
@@ -71,7 +120,7 @@ pub fn lines_of(shape: Shape) -> u32
     requires { FitsShape shape }
     ensures { result ≡ line_count shape }
 {
-    words_of(shape).div_ceil(32)
+    words_of(shape).div_ceil(WORDS_IN_LINE)
 }
 
 /// The header word of an object.
@@ -114,12 +163,20 @@ pub fn word_of(place: Place) -> u32
     2 * (place.0 - 1)
 }
 
+/// The heap word of a reference of the object at a place.
+pub fn field_word(place: Place, index: u16) -> u32
+    requires { IsPlace place }
+    ensures { result ≡ field_at place.0 index }
+{
+    word_of(place) + 1 + u32::from(index)
+}
+
 /// The line of a place, counted over the whole heap.
 pub fn line_of(place: Place) -> u32
     requires { IsPlace place }
     ensures { result ≡ line_at place.0 }
 {
-    (place.0 - 1) / 16
+    (place.0 - 1) / GRANULES_IN_LINE
 }
 
 /// The block of a place.
@@ -127,8 +184,5 @@ pub fn block_of(place: Place) -> u32
     requires { IsPlace place }
     ensures { result ≡ block_at place.0 }
 {
-    (place.0 - 1) / 2048
+    (place.0 - 1) / GRANULES_IN_BLOCK
 }
-
-#[cfg(test)]
-mod tests;

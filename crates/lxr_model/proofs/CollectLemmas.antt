@@ -1,19 +1,21 @@
 -- After a collecting pause what is unreclaimed is reachable: a kept name that isn't would have been swept. The last pause
--- of a history that belongs to a script collects, since all threads have ended.
-use Rattle.std.proofs.Common.{◌≡◌, refl, subst, inl, inr, List, [], ◌∷◌, IsTrue}
+-- of a history that belongs to a script collects, since all threads have ended. And a whole history is one so far.
+use Rattle.std.proofs.Common.{◌≡◌, refl, subst, ◌∙◌, inl, inr, List, [], ◌∷◌, IsTrue}
 use Rattle.std.specs.Prelude.{ℕ, ◌≢◌}
+use Rattle.std.proofs.lemmas.List.{append-nil}
 use Rattle.lxr_layout.specs.declared.Name.{Name}
 use Rattle.lxr_graph.specs.declared.report.Kind.{Kind}
 use Rattle.lxr_graph.specs.declared.report.Kind.TheVariants as kind
 use Rattle.lxr_graph.specs.Names.{has, without}
-use Rattle.lxr_graph.specs.History.{PauseReport, Item, Call, Pause}
+use Rattle.lxr_graph.specs.History.{PauseReport, Item, Call, Pause, calls_of}
 use Rattle.lxr_graph.proofs.NameSets.{not_both, without_parts}
 use Rattle.lxr_model.specs.Reachable.{Reachable}
 use Rattle.lxr_model.specs.Terms.{Terms, OnlyPlain}
 use Rattle.lxr_model.specs.Moments.{Moment, moment, unreclaimed_after}
 use Rattle.lxr_model.specs.Reports.{PauseParts, IsReportWith, IsSwept, kept_names}
 use Rattle.lxr_model.specs.Kinds.{MustCollect, MayStand}
-use Rattle.lxr_model.specs.HistoryLaws.{CollectingKeepsTheReachable, LastUnreclaimedAreReachable}
+use Rattle.lxr_model.specs.Belongs.{EarlierPausesWereEarly, EndsWithPause}
+use Rattle.lxr_model.specs.HistoryLaws.{CollectingKeepsTheReachable, LastUnreclaimedAreReachable, WholeHistoriesAreSoFar}
 use Rattle.lxr_model.proofs.HistoryLemmas.{GoodAt, good_history, reachable_kept, reachable_are_kept}
 use Rattle.lxr_model.proofs.DrainLemmas.{left_remain}
 use Rattle.lxr_model.proofs.DecideLemmas.{decide_reachable}
@@ -48,3 +50,21 @@ last_reachable terms script (Call t o r ∷ h) traces legal belongs n = absurd b
 last_reachable terms script (Pause report ∷ h) traces legal belongs n =
     collecting_keeps terms h report legal.0
     (must_collect terms h (moment terms.threads h) report.number report.kind traces (inr belongs.last.0) legal.0.2.stands) n
+
+-- a history that ends with its last pause has no earlier one like it
+early_before : (terms : Terms) (h : List Item) → EndsWithPause terms h → EarlierPausesWereEarly terms h
+early_before terms [] ends = absurd ends
+early_before terms (Call t o r ∷ h) ends = absurd ends
+early_before terms (Pause report ∷ h) ends = ends.1
+
+pub whole_so_far : WholeHistoriesAreSoFar
+whole_so_far terms script h legal belongs = (
+  legal.0,
+  record {
+    calls = λ t low high. ([], append-nil (calls_of t h) ∙ belongs.calls t low high);
+    asked = belongs.asked;
+    turns = belongs.turns;
+    causes = belongs.causes;
+    early = early_before terms h belongs.last;
+  },
+)

@@ -15,31 +15,31 @@ use Rattle.lxr_model.proofs.CountLemmas.{held_same}
 
 -- ---- tests on lists
 
-gets_held : (rs : List (Option Name)) (o : Name) → IsTrue (list_any (same_held (Some o)) rs) → Gets rs (Some o)
+pub gets_held : (rs : List (Option Name)) (o : Name) → IsTrue (list_any (same_held (Some o)) rs) → Gets rs (Some o)
 gets_held [] o h = absurd (cc)
 gets_held (r ∷ rs) o h = elim (or_cases (same_held (Some o) r) (list_any (same_held (Some o)) rs) h) [
   | inl e ↦ (0, ap Some (held_same o r e))
   | inr k ↦ let g = gets_held rs o k in (suc g.0, g.1)
 ]
 
-held_gets : (rs : List (Option Name)) (o : Name) → Gets rs (Some o) → IsTrue (list_any (same_held (Some o)) rs)
+pub held_gets : (rs : List (Option Name)) (o : Name) → Gets rs (Some o) → IsTrue (list_any (same_held (Some o)) rs)
 held_gets [] o (i, e) = absurd (cc)
 held_gets (r ∷ rs) o (zero, e) =
     let k : r ≡ Some o = cc in
     or_left (same_held (Some o) r) (list_any (same_held (Some o)) rs) (ap (same_held (Some o)) k ∙ same_itself o)
 held_gets (r ∷ rs) o (suc i, e) = or_right (same_held (Some o) r) (list_any (same_held (Some o)) rs) (held_gets rs o (i, e))
 
-abbrev refers_test : Graph → Name → Name → Bool
+abbrev pub refers_test : Graph → Name → Name → Bool
 refers_test g o u = list_any (same_held (Some o)) (refs_of (object_at g u))
 
-referrer : (g : Graph) (o : Name) (us : List Name) → IsTrue (list_any (refers_test g o) us) → (u : Name) × IsTrue (has us u) × Refers g u o
+pub referrer : (g : Graph) (o : Name) (us : List Name) → IsTrue (list_any (refers_test g o) us) → (u : Name) × IsTrue (has us u) × Refers g u o
 referrer g o [] h = absurd (cc)
 referrer g o (u ∷ us) h = elim (or_cases (refers_test g o u) (list_any (refers_test g o) us) h) [
   | inl e ↦ (u, or_left (same_name u u) (has us u) (same_itself u), gets_held (refs_of (object_at g u)) o e)
   | inr k ↦ let r = referrer g o us k in (r.0, or_right (same_name r.0 u) (has us r.0) r.1, r.2)
 ]
 
-from_referrer : (g : Graph) (o : Name) (us : List Name) (u : Name) → IsTrue (has us u) → Refers g u o → IsTrue (list_any (refers_test g o) us)
+pub from_referrer : (g : Graph) (o : Name) (us : List Name) (u : Name) → IsTrue (has us u) → Refers g u o → IsTrue (list_any (refers_test g o) us)
 from_referrer g o [] u h f = absurd (cc)
 from_referrer g o (x ∷ us) u h f = elim (or_cases (same_name u x) (has us u) h) [
   | inl e ↦ or_left (refers_test g o x) (list_any (refers_test g o) us) (held_gets (refs_of (object_at g x)) o (subst (λ z. Refers g z o) (same_names u x e) f))

@@ -19,7 +19,7 @@ use Rattle.lxr_graph.proofs.NameSets.{has_one, insert_cases, insert_new, insert_
 use Rattle.lxr_model.specs.Reachable.{Reachable, the_world, held, referred, Refers}
 use Rattle.lxr_model.specs.Dead.{Dead, by_register, by_kept, by_promoted}
 use Rattle.lxr_model.specs.Terms.{Terms}
-use Rattle.lxr_model.specs.Moments.{Trace, Moment, moment, opening_moment, after_pause, made_after, trace_after, left_by, unreclaimed_after}
+use Rattle.lxr_model.specs.Moments.{Trace, Moment, moment, opening_moment, after_pause, made_after, going_on, trace_after, left_by, unreclaimed_after}
 use Rattle.lxr_model.specs.Reports.{PauseParts, IsReportWith, IsSwept, IsSweptAtEnd, AreDrained, kept_names, remaining_names}
 use Rattle.lxr_model.specs.Legal.{IsLegalSoFar, Replies}
 use Rattle.lxr_model.specs.HistoryLaws.{ReclaimedAreUnreachable, ReachableAreKept, ReachableAreOldOrMade, MadeAreYoung, RowsAreThreads}
@@ -236,8 +236,12 @@ module _ (threads : ℕ) (m : Moment) (report : PauseReport) (parts : PauseParts
     | inr q ↦ union_right report.promoted m.unreclaimed n (without_parts m.unreclaimed parts.first_dead n q).0
   ]
 
+  goes_on : (trace : Option Trace) → RunningGood trace m.state → RunningGood (going_on m report trace) m.state
+  goes_on None running = tt
+  goes_on (Some trace) running = record { grows = running.grows; reach = running.reach; kept = running.kept }
+
   running_pause : (k : Kind) → RunningGood (trace_after m report k) m.state
-  running_pause kind.Plain = good.running
+  running_pause kind.Plain = goes_on m.trace good.running
   running_pause kind.Begin = record { grows = λ n e. e; reach = λ n r. inl r; kept = left_exists }
   running_pause (kind.End j) = tt
   running_pause kind.Collect = tt

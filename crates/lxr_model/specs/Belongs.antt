@@ -53,7 +53,7 @@ calls_since_pause t [] = 0
 calls_since_pause t (Pause report ∷ h) = 0
 calls_since_pause t (Call u o r ∷ h) = if nat_eq t u then suc (calls_since_pause t h) else calls_since_pause t h
 
--- between two pauses a thread has at most `every` calls and one more, a `new` that waited
+-- between two pauses a thread has at most `every` + 1 calls
 abbrev pub TurnsAreShort : Terms → List Item → Type 0
 TurnsAreShort terms [] = Unit {0}
 TurnsAreShort terms (Pause report ∷ h) = TurnsAreShort terms h
@@ -102,6 +102,12 @@ LastPauseWasEarly terms [] = Unit {0}
 LastPauseWasEarly terms (Call t o r ∷ h) = LastPauseWasEarly terms h
 LastPauseWasEarly terms (Pause report ∷ h) = ends h < terms.threads
 
+-- before no pause but the last had all threads ended
+abbrev pub EarlierPausesWereEarly : Terms → List Item → Type 0
+EarlierPausesWereEarly terms [] = Unit {0}
+EarlierPausesWereEarly terms (Call t o r ∷ h) = EarlierPausesWereEarly terms h
+EarlierPausesWereEarly terms (Pause report ∷ h) = LastPauseWasEarly terms h
+
 abbrev pub EndsWithPause : Terms → List Item → Type 0
 EndsWithPause terms [] = ⊥
 EndsWithPause terms (Call t o r ∷ h) = ⊥
@@ -117,12 +123,14 @@ pub record Belongs (terms : Terms) (script : Script) (h : List Item) : Type 0 wh
   pub causes : PausesHaveCauses terms script h
   pub last : EndsWithPause terms h
 
--- a history belongs as far as it goes: each thread has a beginning of its calls, and nothing is asked of the end
+-- A history belongs as far as it goes: each thread has a beginning of its calls, and it need not be at its end. Behind the
+-- last thread's end stands one pause at most, so each pause but the last has a cause of its own.
 pub record BelongsSoFar (terms : Terms) (script : Script) (h : List Item) : Type 0 where
   pub calls : CallsBeginOperations terms script h
   pub asked : AskedPausesComeFirst h
   pub turns : TurnsAreShort terms h
   pub causes : PausesHaveCauses terms script h
+  pub early : EarlierPausesWereEarly terms h
 
 -- a history so far: legal and belonging as far as it goes
 abbrev pub IsHistorySoFar : Terms → Script → List Item → Type 0

@@ -12,7 +12,7 @@ use Rattle.lxr_model.specs.Terms.{Terms, OnlyPlain}
 use Rattle.lxr_model.specs.Moments.{moment, state_at, unreclaimed_at, stuck_at}
 use Rattle.lxr_model.specs.Reports.{is_draining}
 use Rattle.lxr_model.specs.Legal.{IsLegalSoFar, IsLegal}
-use Rattle.lxr_model.specs.Belongs.{Script, Belongs}
+use Rattle.lxr_model.specs.Belongs.{Script, Belongs, IsHistorySoFar}
 
 -- ---- what is reachable
 
@@ -58,6 +58,12 @@ abbrev pub LastUnreclaimedAreReachable : Type 0
 LastUnreclaimedAreReachable =
     (terms : Terms) (script : Script) (h : List Item) → terms.kinds ≢ OnlyPlain → IsLegal terms h
     → Belongs terms script h → (n : Name) → IsTrue (has (unreclaimed_at terms h) n) ↔ Reachable (state_at terms h) n
+
+-- ---- as far as it goes
+
+-- a whole history is one so far
+abbrev pub WholeHistoriesAreSoFar : Type 0
+WholeHistoriesAreSoFar = (terms : Terms) (script : Script) (h : List Item) → IsLegal terms h → Belongs terms script h → IsHistorySoFar terms script h
 
 -- ---- counts
 

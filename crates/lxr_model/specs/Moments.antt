@@ -1,5 +1,5 @@
 -- The moment that a history leads to: all that the next item depends on. Items stand newest first.
-use Rattle.std.specs.Prelude.{ℕ, ◌&&◌, nat_eq, if◌then◌else◌, Bool, Option, Some, None, List, [], ◌∷◌}
+use Rattle.std.specs.Prelude.{ℕ, ◌+◌, ◌&&◌, nat_eq, if◌then◌else◌, Bool, Option, Some, None, List, [], ◌∷◌, length}
 use Rattle.std.specs.List.{list_any}
 use Rattle.lxr_layout.specs.declared.Name.{Name}
 use Rattle.lxr_graph.specs.declared.Op.{Op}
@@ -13,6 +13,7 @@ use Rattle.lxr_graph.specs.State.{State, opening, world_name, register_at}
 use Rattle.lxr_graph.specs.Step.{state_after}
 use Rattle.lxr_graph.specs.History.{PauseReport, Item, Call, Pause}
 use Rattle.lxr_model.specs.Terms.{Terms}
+use Rattle.lxr_model.specs.References.{reference_slots}
 
 -- a reference as a place in the graph: an object's name and an index
 abbrev pub Field : Type 0
@@ -21,11 +22,15 @@ Field = Name × ℕ
 abbrev pub same_field : Field → Field → Bool
 same_field a b = same_name a.0 b.0 && nat_eq a.1 b.1
 
--- a trace that runs: the number of the pause at which it began, with the state and the unreclaimed names there
+-- a trace that runs: the number of the pause at which it began, with the state and the unreclaimed names there; and of the
+-- pauses since, how many references the objects that they promoted have, and how many references of unreclaimed objects
+-- were stored to before them
 pub record Trace : Type 0 where
   pub began : ℕ
   pub state : State
   pub unreclaimed : List Name
+  pub promoted_slots : ℕ
+  pub written_slots : ℕ
 
 -- the state now and at the last pause; that pause's number, and the unreclaimed and the stuck names after it; the trace
 -- that runs; since that pause, the names made and the references of unreclaimed objects that were stored to
@@ -87,10 +92,28 @@ unreclaimed_after m report = left_by report (union report.promoted m.unreclaimed
 abbrev pub stuck_after : Moment → PauseReport → List Name
 stuck_after m report = left_by report (union report.stuck m.stuck)
 
+-- a trace that goes on at a pause counts the references of what the pause promotes, and those that were stored to before it
+abbrev pub going_on : Moment → PauseReport → Option Trace → Option Trace
+going_on m report None = None
+going_on m report (Some trace) = Some (record trace {
+  promoted_slots = trace.promoted_slots + reference_slots m.state.graph report.promoted;
+  written_slots = trace.written_slots + length m.written;
+})
+
+-- the trace that begins at a pause
+abbrev pub trace_from : Moment → PauseReport → Trace
+trace_from m report = record {
+  began = report.number;
+  state = m.state;
+  unreclaimed = unreclaimed_after m report;
+  promoted_slots = 0;
+  written_slots = 0;
+}
+
 -- the trace that runs after a pause of this kind
 abbrev pub trace_after : Moment → PauseReport → Kind → Option Trace
-trace_after m report kind.Plain = m.trace
-trace_after m report kind.Begin = Some (record { began = report.number; state = m.state; unreclaimed = unreclaimed_after m report })
+trace_after m report kind.Plain = going_on m report m.trace
+trace_after m report kind.Begin = Some (trace_from m report)
 trace_after m report (kind.End j) = None
 trace_after m report kind.Collect = None
 
@@ -125,3 +148,10 @@ stuck_at terms h = (moment terms.threads h).stuck
 
 abbrev pub trace_at : Terms → List Item → Option Trace
 trace_at terms h = (moment terms.threads h).trace
+
+-- ---- the remembered set
+
+-- How many references a trace may have remembered so far, where these names are its snapshot: those of the snapshot's
+-- objects, those of the objects promoted since it began, and those stored to before each pause since.
+abbrev pub rememberable : Trace → List Name → ℕ
+rememberable trace snapshot = reference_slots trace.state.graph snapshot + trace.promoted_slots + trace.written_slots

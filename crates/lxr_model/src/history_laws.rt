@@ -1,5 +1,5 @@
 //! Laws of legal histories: what pauses reclaim is unreachable, what is reachable stays, and what counts say.
-ghost use Rattle.lxr_model.specs.HistoryLaws.{CollectingKeepsTheReachable, CountsAreExact, DrainingLeavesNoZero, LastUnreclaimedAreReachable, MadeAreYoung, ReachableAreKept, ReachableAreOldOrMade, ReclaimedAreUnreachable, RowsAreThreads};
+ghost use Rattle.lxr_model.specs.HistoryLaws.{CollectingKeepsTheReachable, CountsAreExact, DrainingLeavesNoZero, LastUnreclaimedAreReachable, MadeAreYoung, ReachableAreKept, ReachableAreOldOrMade, ReclaimedAreUnreachable, RowsAreThreads, WholeHistoriesAreSoFar};
 
 /// No name that a pause of a legal history reclaims, dead or swept, is reachable there.
 pub fn reclaimed_are_unreachable()
@@ -35,6 +35,11 @@ pub fn collecting_keeps_the_reachable()
 /// traces are in force.
 pub fn last_unreclaimed_are_reachable()
     ensures { LastUnreclaimedAreReachable }
+{}
+
+/// A whole history that belongs to a script is a history so far of it.
+pub fn whole_histories_are_so_far()
+    ensures { WholeHistoriesAreSoFar }
 {}
 
 /// After a draining pause each unreclaimed name that isn't stuck has a reference.

@@ -1,11 +1,12 @@
 -- Units are short.
 use Rattle.std.proofs.Common.{◌≤◌, arith}
+use Rattle.lxr_layout.specs.declared.TheConstants.{GRANULES_IN_BLOCK}
 use Rattle.lxr_layout.specs.Objects.{word_count}
-use Rattle.lxr_barrier.specs.declared.machines.Phase.{Phase as StorePhase}
-use Rattle.lxr_barrier.specs.declared.machines.Phase.TheVariants as store_phase
+use Rattle.lxr_barrier.specs.declared.machines.StorePhase.{StorePhase}
+use Rattle.lxr_barrier.specs.declared.machines.StorePhase.TheVariants as store_phase
 use Rattle.lxr_barrier.specs.Storers.{steps_left}
-use Rattle.lxr_mutator.specs.declared.phases.Phase.{Phase}
-use Rattle.lxr_mutator.specs.declared.phases.Phase.TheVariants as phase
+use Rattle.lxr_mutator.specs.declared.phases.MutatorPhase.{MutatorPhase}
+use Rattle.lxr_mutator.specs.declared.phases.MutatorPhase.TheVariants as phase
 use Rattle.lxr_mutator.specs.Mutating.{Mutating}
 use Rattle.lxr_mutator.specs.Steps.{left_in, shape_now}
 use Rattle.lxr_mutator.specs.Laws.{UnitsAreShort}
@@ -20,7 +21,7 @@ store_short store_phase.Logged = omega arith
 store_short (store_phase.Ended how) = omega arith
 
 -- in each phase few steps are left
-short_in : (m : Mutating) (p : Phase) → word_count (shape_now m) ≤ 2048 → left_in m p ≤ 8192
+short_in : (m : Mutating) (p : MutatorPhase) → word_count (shape_now m) ≤ GRANULES_IN_BLOCK → left_in m p ≤ 8192
 short_in m phase.Ready few = omega arith
 short_in m phase.Finished few = omega arith
 short_in m (phase.Base base) few = omega arith

@@ -1,25 +1,27 @@
 -- Each step brings a mutator nearer to the end of its unit.
 use Rattle.std.proofs.Common.{◌≡◌, ℕ, ◌+◌, ◌<◌, ◌≤◌, Bool, true, false, arith, refl, ap}
 use Rattle.std.specs.Prelude.{nat_le, nat_eq, ◌&&◌, if◌then◌else◌, None}
+use Rattle.lxr_tables.specs.Entries.{is_set}
+use Rattle.lxr_layout.specs.declared.TheConstants.{GRANULES_IN_BLOCK}
 use Rattle.lxr_layout.specs.declared.Place.{Place}
 use Rattle.lxr_layout.specs.declared.LogEntry.{LogEntry}
 use Rattle.lxr_layout.specs.declared.Shape.{Shape}
 use Rattle.lxr_layout.specs.Objects.{word_count}
-use Rattle.lxr_lists.specs.Roomy.{Roomy}
+use Rattle.lxr_base.specs.Roomy.{Roomy}
 use Rattle.lxr_graph.specs.declared.Op.{Op}
 use Rattle.lxr_graph.specs.declared.Op.TheVariants as op
 use Rattle.lxr_graph.specs.declared.Reply.{Reply}
 use Rattle.lxr_graph.specs.declared.Reply.TheVariants as reply
 use Rattle.lxr_actor.specs.Machine.{to_go}
-use Rattle.lxr_barrier.specs.declared.machines.Phase.{Phase as StorePhase}
-use Rattle.lxr_barrier.specs.declared.machines.Phase.TheVariants as store_phase
+use Rattle.lxr_barrier.specs.declared.machines.StorePhase.{StorePhase}
+use Rattle.lxr_barrier.specs.declared.machines.StorePhase.TheVariants as store_phase
 use Rattle.lxr_barrier.specs.declared.StoreEnd.TheVariants as store_end
-use Rattle.lxr_barrier.specs.Storing.{Storing, end_in, end_of, phase_after, store_after, log_after, is_set, is_full, bit_number}
+use Rattle.lxr_barrier.specs.Storing.{Storing, end_in, end_of, phase_after, store_after, log_after, is_full, bit_number}
 use Rattle.lxr_barrier.specs.Storers.{steps_left}
-use Rattle.lxr_mutator.specs.declared.phases.Phase.TheVariants as phase
+use Rattle.lxr_mutator.specs.declared.phases.MutatorPhase.TheVariants as phase
 use Rattle.lxr_mutator.specs.declared.phases.MutEnd.TheVariants as ends
-use Rattle.lxr_mutator.specs.Mutating.{Mutating, nil, op_now, register}
-use Rattle.lxr_mutator.specs.Steps.{after_in, based, done_with, draws_for, finished, has_room, in_current, in_overflow, is_medium, left_in, mutator_machine, rests_in, shape_now, started, stored, with_register}
+use Rattle.lxr_mutator.specs.Mutating.{Mutating, nil, op_now, register, rests_in}
+use Rattle.lxr_mutator.specs.Steps.{after_in, based, done_with, draws_for, finished, has_room, in_current, in_overflow, is_medium, left_in, mutator_machine, shape_now, started, stored, with_register}
 
 -- an operation that is done leaves nothing to do
 rests_either : (m : Mutating) (b : Bool) → (if rests_in (if b then phase.Finished else phase.Ready) then 0 else left_in m (if b then phase.Finished else phase.Ready)) ≡ 0
@@ -44,13 +46,13 @@ draws_by m true = omega arith
 draws_by m false = omega arith
 
 -- so it is where the overflow span has room, and where it has none
-overflow_by : (m : Mutating) (shape : Shape) → word_count (shape_now m) ≤ 2048 → (b : Bool)
+overflow_by : (m : Mutating) (shape : Shape) → word_count (shape_now m) ≤ GRANULES_IN_BLOCK → (b : Bool)
     → to_go mutator_machine (if b then in_overflow m shape m.spans.overflow else record m { phase = draws_for shape }) ≤ 2053
 overflow_by m shape few true = omega arith
 overflow_by m shape few false = draws_by m (is_medium shape)
 
 -- and where the current span has room
-placed_by : (m : Mutating) (shape : Shape) → word_count (shape_now m) ≤ 2048 → (b : Bool)
+placed_by : (m : Mutating) (shape : Shape) → word_count (shape_now m) ≤ GRANULES_IN_BLOCK → (b : Bool)
     → to_go mutator_machine (if b then in_current m shape m.spans.current
     else if is_medium shape && has_room m.spans.overflow shape then in_overflow m shape m.spans.overflow
     else record m { phase = draws_for shape }) ≤ 2053
@@ -58,7 +60,7 @@ placed_by m shape few true = omega arith
 placed_by m shape few false = overflow_by m shape few (is_medium shape && has_room m.spans.overflow shape)
 
 -- however an operation begins, it takes at most 2,053 steps more
-pub started_to_go : (m : Mutating) (o : Op) → word_count (shape_now m) ≤ 2048 → to_go mutator_machine (started m o) ≤ 2053
+pub started_to_go : (m : Mutating) (o : Op) → word_count (shape_now m) ≤ GRANULES_IN_BLOCK → to_go mutator_machine (started m o) ≤ 2053
 started_to_go m (op.New dest shape) few = placed_by m shape few (has_room m.spans.current shape)
 started_to_go m (op.Load dest base index) few = omega (arith, based_to_go m (register m base))
 started_to_go m (op.Store base index source) few = omega (arith, based_to_go m (register m base))
@@ -72,12 +74,12 @@ started_to_go m op.Collect few = omega arith
 started_to_go m op.End few = omega arith
 
 -- so the look at the pause word is the first of at most 2,054 steps
-asked_by : (m : Mutating) → word_count (shape_now m) ≤ 2048 → (b : Bool) → to_go mutator_machine (if b then finished m ends.Asked else started m (op_now m)) < 2054
+asked_by : (m : Mutating) → word_count (shape_now m) ≤ GRANULES_IN_BLOCK → (b : Bool) → to_go mutator_machine (if b then finished m ends.Asked else started m (op_now m)) < 2054
 asked_by m few true = omega arith
 asked_by m few false = omega (arith, started_to_go m (op_now m) few)
 
 -- at the beginning of a unit
-pub ready_nearer : (m : Mutating) (old : ℕ) → word_count (shape_now m) ≤ 2048 → to_go mutator_machine (after_in m phase.Ready old) < 2054
+pub ready_nearer : (m : Mutating) (old : ℕ) → word_count (shape_now m) ≤ GRANULES_IN_BLOCK → to_go mutator_machine (after_in m phase.Ready old) < 2054
 ready_nearer m old few = asked_by m few (nat_eq old 1)
 
 -- a store that has gone on takes at most its own steps, and one more where it gives up

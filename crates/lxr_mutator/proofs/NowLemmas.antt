@@ -3,13 +3,14 @@ use Rattle.std.proofs.Common.{◌≡◌, ℕ, zero, suc, ◌≤◌, List, [], �
 use Rattle.std.specs.Prelude.{None, slice_index_or}
 use Rattle.std.specs.List.{All}
 use Rattle.std.proofs.lemmas.List.Elements.{All-head, All-tail}
+use Rattle.lxr_layout.specs.declared.TheConstants.{GRANULES_IN_BLOCK}
 use Rattle.lxr_layout.specs.Objects.{FitsShape, word_count}
 use Rattle.lxr_layout.specs.declared.Shape.{Shape}
 use Rattle.lxr_graph.specs.declared.Op.{Op}
 use Rattle.lxr_graph.specs.declared.Op.TheVariants as op
 use Rattle.lxr_graph.specs.Step.{IsWellFormed}
 use Rattle.lxr_barrier.specs.Storing.{Storing, end_of}
-use Rattle.lxr_mutator.specs.declared.phases.Phase.TheVariants as phase
+use Rattle.lxr_mutator.specs.declared.phases.MutatorPhase.TheVariants as phase
 use Rattle.lxr_mutator.specs.Operating.{shape_made}
 use Rattle.lxr_mutator.specs.Mutating.{Mutating, op_now}
 use Rattle.lxr_mutator.specs.Steps.{shape_now}
@@ -31,11 +32,11 @@ shape_fits (op.New dest shape) h = h.1
 shape_fits o h = (omega arith, omega arith)
 
 -- a shape that fits has at most 2,048 words
-words_bound : (s : Shape) → FitsShape s → word_count s ≤ 2048
+words_bound : (s : Shape) → FitsShape s → word_count s ≤ GRANULES_IN_BLOCK
 words_bound s fits = omega arith
 
 -- which has at most 2,048 words
-pub few_words : (m : Mutating) → IsMutator m → word_count (shape_now m) ≤ 2048
+pub few_words : (m : Mutating) → IsMutator m → word_count (shape_now m) ≤ GRANULES_IN_BLOCK
 few_words m is = words_bound (shape_now m) (shape_fits (op_now m) (formed_now m is))
 
 -- a store in progress has not ended

@@ -6,14 +6,14 @@ use Rattle.lxr_layout.specs.declared.Shape.{Shape}
 use Rattle.lxr_layout.specs.Places.{IsPlace}
 use Rattle.lxr_alloc.specs.declared.Span.{Span}
 use Rattle.lxr_alloc.specs.declared.Spans.{Spans}
-use Rattle.lxr_alloc.specs.Spans.{HasRoom, IsInBlock, front_of, run_span, taken_from}
-use Rattle.lxr_mutator.specs.declared.phases.Phase.TheVariants as phase
-use Rattle.lxr_mutator.specs.Mutating.{Mutating}
-use Rattle.lxr_mutator.specs.Steps.{in_current, rests_in}
+use Rattle.lxr_alloc.specs.Spans.{FitsSpan, IsInBlock, front_of, run_span, taken_from}
+use Rattle.lxr_mutator.specs.declared.phases.MutatorPhase.TheVariants as phase
+use Rattle.lxr_mutator.specs.Mutating.{Mutating, rests_in}
+use Rattle.lxr_mutator.specs.Steps.{in_current}
 use Rattle.lxr_mutator.specs.Mutators.{IsMutator}
 
 -- the front of a span with room that ends in the heap is a place
-pub front_is_place : (span : Span) (shape : Shape) → HasRoom span shape → span.end ≤ 2097152 → IsPlace (front_of span)
+pub front_is_place : (span : Span) (shape : Shape) → FitsSpan span shape → span.end ≤ 2097152 → IsPlace (front_of span)
 front_is_place span shape room within = omega arith
 
 -- a run ends in the heap
@@ -32,7 +32,7 @@ run_filled m taken after shape span place t p a =
     (subst (λ (s : Spans). record m { spans = record s { current = taken_from s.current shape }; phase = phase.Wiping (front_of s.current) 1 } ≡ in_current m shape span) (sym t) refl))
 
 -- with an object placed, it is a mutator still
-pub placed_is_mutator : (m : Mutating) (shape : Shape) (span : Span) → IsMutator m → rests_in m.phase ≡ false → HasRoom span shape → span.end ≤ 2097152 → IsMutator (in_current m shape span)
+pub placed_is_mutator : (m : Mutating) (shape : Shape) (span : Span) → IsMutator m → rests_in m.phase ≡ false → FitsSpan span shape → span.end ≤ 2097152 → IsMutator (in_current m shape span)
 placed_is_mutator m shape span is busy room within = record {
   thread = is.thread;
   operations = is.operations;

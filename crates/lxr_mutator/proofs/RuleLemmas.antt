@@ -1,11 +1,12 @@
 -- When units give up.
 use Rattle.std.proofs.Common.{◌≡◌, ℕ, ◌+◌, Bool, true, false, arith, refl, ap, Some, None, Option, inl, inr}
 use Rattle.std.specs.Prelude.{◌⊎◌, ◌&&◌, IsTrue, nat_eq, nat_le, nat_lt, if◌then◌else◌}
+use Rattle.lxr_layout.specs.Places.{place_in}
 use Rattle.lxr_layout.specs.declared.Place.{Place}
 use Rattle.lxr_layout.specs.declared.LogEntry.{LogEntry}
 use Rattle.lxr_layout.specs.declared.Shape.{Shape}
 use Rattle.lxr_layout.specs.Objects.{header_of, word_count}
-use Rattle.lxr_lists.specs.Roomy.{Roomy}
+use Rattle.lxr_base.specs.Roomy.{Roomy}
 use Rattle.lxr_graph.specs.declared.Op.{Op}
 use Rattle.lxr_graph.specs.declared.Op.TheVariants as op
 use Rattle.lxr_graph.specs.declared.Reply.TheVariants as reply
@@ -13,30 +14,30 @@ use Rattle.lxr_alloc.specs.declared.Span.{Span}
 use Rattle.lxr_alloc.specs.Spans.{block_span}
 use Rattle.lxr_barrier.specs.declared.StoreEnd.{StoreEnd}
 use Rattle.lxr_barrier.specs.declared.StoreEnd.TheVariants as store_end
-use Rattle.lxr_barrier.specs.Storing.{Storing, end_of, log_after, place_in, store_after}
+use Rattle.lxr_barrier.specs.Storing.{Storing, end_of, log_after, store_after}
 use Rattle.lxr_mutator.specs.declared.phases.MutEnd.TheVariants as ends
-use Rattle.lxr_mutator.specs.declared.phases.Phase.{Phase}
-use Rattle.lxr_mutator.specs.declared.phases.Phase.TheVariants as phase
+use Rattle.lxr_mutator.specs.declared.phases.MutatorPhase.{MutatorPhase}
+use Rattle.lxr_mutator.specs.declared.phases.MutatorPhase.TheVariants as phase
 use Rattle.lxr_mutator.specs.declared.phases.Stop.{Stop}
 use Rattle.lxr_mutator.specs.declared.phases.Stop.TheVariants as stop
-use Rattle.lxr_mutator.specs.Operating.{dest_of, field_count, index_of, shape_made}
+use Rattle.lxr_mutator.specs.Operating.{dest_of, indexed_fields, index_of, shape_made}
 use Rattle.lxr_mutator.specs.Mutating.{Mutating, op_now, register}
-use Rattle.lxr_mutator.specs.Steps.{action_in, after_in, done_with, draws_for, finished, has_room, in_current, in_overflow, is_medium, reaching, shape_now, shape_told, started, stored, with_register}
+use Rattle.lxr_mutator.specs.Steps.{accepts_in, action_in, after_in, next_in, done_with, draws_for, finished, has_room, in_current, in_overflow, is_medium, reaching, shape_now, shape_told, started, stored, with_register}
 use Rattle.lxr_mutator.specs.Laws.{Finds, IsPastRuns, MutatorsGiveUpByRules}
 
 -- the phases in which a unit gives up, or draws a block
-abbrev halts : Phase → Bool
+abbrev halts : MutatorPhase → Bool
 halts phase.DrawsBlock = true
 halts (phase.GivingUp why) = true
 halts p = false
 
 -- the phases in which it gives up
-abbrev gives_up : Phase → Bool
+abbrev gives_up : MutatorPhase → Bool
 gives_up (phase.GivingUp why) = true
 gives_up p = false
 
 -- a unit that is done does neither
-done_on : (q : Phase → Bool) → q phase.Finished ≡ false → q phase.Ready ≡ false → (b : Bool) → q (if b then phase.Finished else phase.Ready) ≡ false
+done_on : (q : MutatorPhase → Bool) → q phase.Finished ≡ false → q phase.Ready ≡ false → (b : Bool) → q (if b then phase.Finished else phase.Ready) ≡ false
 done_on q f r true = f
 done_on q f r false = r
 
@@ -75,7 +76,7 @@ block_on m shape span true = refl
 block_on m shape span false = refl
 
 -- the phases of which the rest of this file does not speak
-abbrev IsPlain : Phase → Type 0
+abbrev IsPlain : MutatorPhase → Type 0
 IsPlain phase.Ready = ⊥
 IsPlain phase.Finished = ⊥
 IsPlain (phase.Storing store) = ⊥
@@ -84,10 +85,10 @@ IsPlain (phase.BlockNumber number) = ⊥
 IsPlain p = Unit {0}
 
 -- no other phase leads to giving up, or to drawing a block
-plain_on : (m : Mutating) (old : ℕ) (p : Phase) → IsPlain p → halts (after_in m p old).phase ≡ false
+plain_on : (m : Mutating) (old : ℕ) (p : MutatorPhase) → IsPlain p → halts (after_in m p old).phase ≡ false
 plain_on m old phase.Ready is = absurd is
 plain_on m old phase.Finished is = absurd is
-plain_on m old (phase.Base base) is = reached_on m base (shape_told (header_of old)) (nat_lt (index_of (op_now m)) (field_count (op_now m) (shape_told (header_of old))))
+plain_on m old (phase.Base base) is = reached_on m base (shape_told (header_of old)) (nat_lt (index_of (op_now m)) (indexed_fields (op_now m) (shape_told (header_of old))))
 plain_on m old (phase.Reference base) is = loaded_on (with_register m (dest_of (op_now m)) (place_in old)) (place_in old) (nat_eq (place_in old).0 0)
 plain_on m old (phase.Referent place) is = done_on halts refl refl (nat_le m.every (m.since + 1))
 plain_on m old (phase.Datum base refs) is = done_on halts refl refl (nat_le m.every (m.since + 1))
@@ -123,7 +124,7 @@ placed_on m shape true = refl
 placed_on m shape false = overflow_on m shape (is_medium shape && has_room m.spans.overflow shape)
 
 -- an operation on a base is done or looks at its header
-based_on : (q : Phase → Bool) → q phase.Finished ≡ false → q phase.Ready ≡ false → (m : Mutating) (base : Place) → q (phase.Base base) ≡ false
+based_on : (q : MutatorPhase → Bool) → q phase.Finished ≡ false → q phase.Ready ≡ false → (m : Mutating) (base : Place) → q (phase.Base base) ≡ false
     → (b : Bool) → q (if b then done_with m reply.Bad else record m { phase = phase.Base base }).phase ≡ false
 based_on q f r m base h true = done_on q f r (nat_le m.every (m.since + 1))
 based_on q f r m base h false = h
@@ -166,11 +167,11 @@ placed_medium m shape true h = absurd (cc)
 placed_medium m shape false h = overflow_medium m shape (is_medium shape && has_room m.spans.overflow shape) h
 
 -- what halts is no phase that does not
-clash : (q : Phase → Bool) (p p' : Phase) → p ≡ p' → q p ≡ false → q p' ≡ true → ⊥
+clash : (q : MutatorPhase → Bool) (p p' : MutatorPhase) → p ≡ p' → q p ≡ false → q p' ≡ true → ⊥
 clash q p p' e false_at true_at = let w : q p ≡ q p' = ap q e in cc
 
 -- the phase in which it draws a block
-abbrev draws : Phase → Bool
+abbrev draws : MutatorPhase → Bool
 draws phase.DrawsBlock = true
 draws p = false
 
@@ -231,7 +232,7 @@ blocks_on number true = refl
 blocks_on number false = refl
 
 -- by its phase: what it finds before it gives up
-finds_in : (m : Mutating) (old : ℕ) (why : Stop) (p : Phase) → m.phase ≡ p → (after_in m p old).phase ≡ phase.GivingUp why → Finds m old why
+finds_in : (m : Mutating) (old : ℕ) (why : Stop) (p : MutatorPhase) → m.phase ≡ p → (after_in m p old).phase ≡ phase.GivingUp why → Finds m old why
 finds_in m old why phase.Ready is h = absurd (clash gives_up _ _ h (ready_on m (nat_eq old 1)) refl)
 finds_in m old why phase.Finished is h = absurd (cc)
 finds_in m old why (phase.Base base) is h = absurd (clash halts _ _ h (plain_on m old (phase.Base base) tt) refl)
@@ -252,7 +253,7 @@ finds_in m old why phase.Asking is h = absurd (clash halts _ _ h (plain_on m old
 finds_in m old why (phase.GivingUp w) is h = absurd (clash halts _ _ h (plain_on m old (phase.GivingUp w) tt) refl)
 
 -- by its phase: what comes before it draws a block
-draws_in : (m : Mutating) (old : ℕ) (p : Phase) → m.phase ≡ p → (after_in m p old).phase ≡ phase.DrawsBlock → IsPastRuns m old ⊎ ((m.phase ≡ phase.Ready) × IsTrue (is_medium (shape_now m)))
+draws_in : (m : Mutating) (old : ℕ) (p : MutatorPhase) → m.phase ≡ p → (after_in m p old).phase ≡ phase.DrawsBlock → IsPastRuns m old ⊎ ((m.phase ≡ phase.Ready) × IsTrue (is_medium (shape_now m)))
 draws_in m old phase.Ready is h = inr (is, ready_medium m (nat_eq old 1) h)
 draws_in m old phase.Finished is h = absurd (cc)
 draws_in m old (phase.Base base) is h = absurd (clash halts _ _ h (plain_on m old (phase.Base base) tt) refl)
@@ -272,11 +273,20 @@ draws_in m old (phase.Heading place) is h = absurd (clash halts _ _ h (plain_on 
 draws_in m old phase.Asking is h = absurd (clash halts _ _ h (plain_on m old phase.Asking tt) refl)
 draws_in m old (phase.GivingUp w) is h = absurd (clash halts _ _ h (plain_on m old (phase.GivingUp w) tt) refl)
 
+-- whether or not the word tells what the phase looks for
+finds_by : (m : Mutating) (old : ℕ) (why : Stop) (b : Bool) → (if b then after_in m m.phase old else done_with m reply.Bad).phase ≡ phase.GivingUp why → Finds m old why
+finds_by m old why true h = finds_in m old why m.phase refl h
+finds_by m old why false h = absurd (clash halts _ _ h (done_on halts refl refl (nat_le m.every (m.since + 1))) refl)
+
+draws_by : (m : Mutating) (old : ℕ) (b : Bool) → (if b then after_in m m.phase old else done_with m reply.Bad).phase ≡ phase.DrawsBlock → IsPastRuns m old ⊎ ((m.phase ≡ phase.Ready) × IsTrue (is_medium (shape_now m)))
+draws_by m old true h = draws_in m old m.phase refl h
+draws_by m old false h = absurd (clash halts _ _ h (done_on halts refl refl (nat_le m.every (m.since + 1))) refl)
+
 -- what comes before a mutator gives up, and what it does then
 pub give_up_by_rules : MutatorsGiveUpByRules
 give_up_by_rules m old = record {
-  finds = λ why h. finds_in m old why m.phase refl h;
-  draws_block = λ h. draws_in m old m.phase refl h;
+  finds = λ why h. finds_by m old why (accepts_in m m.phase old) h;
+  draws_block = λ h. draws_by m old (accepts_in m m.phase old) h;
   asks = λ why is. ap (action_in m) is;
-  ends = λ why is. ap (λ p. (after_in m p old).end) is;
+  ends = λ why is. ap (λ p. (next_in m p old).end) is;
 }

@@ -4,13 +4,14 @@ use Rattle.std.specs.Prelude.{◌&&◌, IsTrue, nat_eq, nat_le, nat_lt, if◌the
 use Rattle.std.specs.List.{All}
 use Rattle.std.proofs.lemmas.List.Elements.{All-set, All-replicate, All-get_or}
 use Rattle.std.proofs.Math.ListN.{length-set}
+use Rattle.lxr_tables.specs.Entries.{is_set}
 use Rattle.lxr_layout.specs.declared.Place.{Place}
 use Rattle.lxr_layout.specs.declared.LogEntry.{LogEntry}
 use Rattle.lxr_layout.specs.declared.Run.{Run}
 use Rattle.lxr_layout.specs.declared.Shape.{Shape}
 use Rattle.lxr_layout.specs.Objects.{header_of, line_count, word_count}
-use Rattle.lxr_layout.specs.Places.{IsPlace}
-use Rattle.lxr_lists.specs.Roomy.{Roomy}
+use Rattle.lxr_layout.specs.Places.{IsPlace, place_in}
+use Rattle.lxr_base.specs.Roomy.{Roomy}
 use Rattle.lxr_graph.specs.declared.Op.{Op}
 use Rattle.lxr_graph.specs.declared.Op.TheVariants as op
 use Rattle.lxr_graph.specs.declared.Reply.{Reply}
@@ -18,21 +19,21 @@ use Rattle.lxr_graph.specs.declared.Reply.TheVariants as reply
 use Rattle.lxr_graph.specs.Step.{IsWellFormed}
 use Rattle.lxr_alloc.specs.declared.Span.{Span}
 use Rattle.lxr_alloc.specs.declared.Spans.{Spans}
-use Rattle.lxr_alloc.specs.Spans.{HasRoom, block_span, front_of, run_span, taken_from}
-use Rattle.lxr_barrier.specs.declared.machines.Phase.{Phase as StorePhase}
-use Rattle.lxr_barrier.specs.declared.machines.Phase.TheVariants as store_phase
+use Rattle.lxr_alloc.specs.Spans.{FitsSpan, block_span, front_of, run_span, taken_from}
+use Rattle.lxr_barrier.specs.declared.machines.StorePhase.{StorePhase}
+use Rattle.lxr_barrier.specs.declared.machines.StorePhase.TheVariants as store_phase
 use Rattle.lxr_barrier.specs.declared.StoreEnd.{StoreEnd}
 use Rattle.lxr_barrier.specs.declared.StoreEnd.TheVariants as store_end
-use Rattle.lxr_barrier.specs.Storing.{Storing, bit_number, end_of, is_full, is_set, log_after, log_in, phase_after, place_in, store_after}
+use Rattle.lxr_barrier.specs.Storing.{Storing, bit_number, end_of, is_full, log_after, log_in, phase_after, store_after}
 use Rattle.lxr_barrier.specs.Storers.{HasRoomIn}
 use Rattle.lxr_mutator.specs.declared.phases.MutEnd.{MutEnd}
 use Rattle.lxr_mutator.specs.declared.phases.MutEnd.TheVariants as ends
-use Rattle.lxr_mutator.specs.declared.phases.Phase.{Phase}
-use Rattle.lxr_mutator.specs.declared.phases.Phase.TheVariants as phase
+use Rattle.lxr_mutator.specs.declared.phases.MutatorPhase.{MutatorPhase}
+use Rattle.lxr_mutator.specs.declared.phases.MutatorPhase.TheVariants as phase
 use Rattle.lxr_mutator.specs.declared.phases.Stop.TheVariants as stop
-use Rattle.lxr_mutator.specs.Operating.{dest_of, field_count, index_of, shape_made}
-use Rattle.lxr_mutator.specs.Mutating.{Mutating, next_name, nil, op_now, register}
-use Rattle.lxr_mutator.specs.Steps.{accepts_in, after_in, done_with, draws_for, end_by, ended, finished, has_room, in_current, in_overflow, is_medium, placed, reaching, rests_in, run_in, shape_now, shape_told, started, stored, with_register}
+use Rattle.lxr_mutator.specs.Operating.{dest_of, indexed_fields, index_of, shape_made}
+use Rattle.lxr_mutator.specs.Mutating.{Mutating, next_name, nil, op_now, register, rests_in}
+use Rattle.lxr_mutator.specs.Steps.{accepts_in, after_in, next_in, done_with, draws_for, end_by, ended, finished, has_room, in_current, in_overflow, is_medium, placed, reaching, run_in, shape_now, shape_told, started, stored, with_register}
 use Rattle.lxr_mutator.specs.Mutators.{AreInHeap, IsHeld, IsIn, IsMutator, IsThrough, MayBeIn, NeedsBlock, NeedsRun}
 use Rattle.lxr_mutator.specs.Laws.{MutatorsStaySo}
 use Rattle.lxr_mutator.proofs.NowLemmas.{few_words, formed_now}
@@ -45,7 +46,7 @@ pub record GoesOn (m : Mutating) : Type 0 where
   pub operation : length m.replies.items < length m.operations
 
 -- it goes on in another phase, with another log, other registers and other spans
-pub goes_on : (m : Mutating) (log : Roomy LogEntry) (registers : List Place) (spans : Spans) (p : Phase) → IsMutator m → GoesOn m
+pub goes_on : (m : Mutating) (log : Roomy LogEntry) (registers : List Place) (spans : Spans) (p : MutatorPhase) → IsMutator m → GoesOn m
     → length registers ≡ 16 → All IsHeld registers → AreInHeap spans → IsIn m.regions log spans (shape_now m) p
     → IsMutator (record m { log = log; registers = registers; spans = spans; phase = p })
 goes_on m log registers spans p is on sixteen held heap may = record {
@@ -154,13 +155,13 @@ end_stays m is turn = let few = not_through m turn is.replies in record {
 }
 
 -- in a phase of an operation it goes on, and what holds in the phase holds
-on_busy : (m : Mutating) (p : Phase) → IsMutator m → m.phase ≡ p → rests_in p ≡ false → GoesOn m
+on_busy : (m : Mutating) (p : MutatorPhase) → IsMutator m → m.phase ≡ p → rests_in p ≡ false → GoesOn m
 on_busy m p is e busy =
     let b : rests_in m.phase ≡ false = ap rests_in e ∙ busy in
     record { turn = λ f. let r = ap rests_in f in absurd (cc); operation = is.busy b }
 
 -- it goes on in another phase
-go : (m : Mutating) (p : Phase) → IsMutator m → GoesOn m → MayBeIn m p → IsMutator (record m { phase = p })
+go : (m : Mutating) (p : MutatorPhase) → IsMutator m → GoesOn m → MayBeIn m p → IsMutator (record m { phase = p })
 go m p is on may = goes_on m m.log m.registers m.spans p is on is.registers is.held is.spans may
 
 -- with another register
@@ -209,13 +210,13 @@ reached_stays m base shape is on at true = go m (reaching m base shape (op_now m
 reached_stays m base shape is on at false = done_stays m reply.Range is on
 
 -- an object is placed at the front of a span
-current_stays : (m : Mutating) (shape : Shape) (span : Span) → IsMutator m → GoesOn m → HasRoom span shape → span.end ≤ 2097152 → 1 < word_count (shape_now m) → IsMutator (in_current m shape span)
+current_stays : (m : Mutating) (shape : Shape) (span : Span) → IsMutator m → GoesOn m → FitsSpan span shape → span.end ≤ 2097152 → 1 < word_count (shape_now m) → IsMutator (in_current m shape span)
 current_stays m shape span is on room within words =
     goes_on m m.log m.registers (record m.spans { current = taken_from span shape }) (phase.Wiping (front_of span) 1) is on is.registers is.held (within, is.spans.1)
     (front_is_place span shape room within, (omega arith, words))
 
 -- so it is in the overflow span
-overflow_stays : (m : Mutating) (shape : Shape) (span : Span) → IsMutator m → GoesOn m → HasRoom span shape → span.end ≤ 2097152 → 1 < word_count (shape_now m) → IsMutator (in_overflow m shape span)
+overflow_stays : (m : Mutating) (shape : Shape) (span : Span) → IsMutator m → GoesOn m → FitsSpan span shape → span.end ≤ 2097152 → 1 < word_count (shape_now m) → IsMutator (in_overflow m shape span)
 overflow_stays m shape span is on room within words =
     goes_on m m.log m.registers (record m.spans { overflow = taken_from span shape }) (phase.Wiping (front_of span) 1) is on is.registers is.held (is.spans.0, within)
     (front_is_place span shape room within, (omega arith, words))
@@ -225,13 +226,13 @@ some_words : (s : Shape) → 1 < word_count s
 some_words s = omega arith
 
 -- what is drawn is drawn for want of room
-draws_stays : (m : Mutating) → IsMutator m → GoesOn m → ¬ HasRoom m.spans.current (shape_now m) → (b : Bool) → is_medium (shape_now m) ≡ b
+draws_stays : (m : Mutating) → IsMutator m → GoesOn m → ¬ FitsSpan m.spans.current (shape_now m) → (b : Bool) → is_medium (shape_now m) ≡ b
     → IsMutator (record m { phase = if b then phase.DrawsBlock else phase.DrawsRun })
 draws_stays m is on no_room true e = go m phase.DrawsBlock is on no_room
 draws_stays m is on no_room false e = go m phase.DrawsRun is on (grind arith, no_room)
 
 -- the overflow span is tried where the current one has no room
-behind_stays : (m : Mutating) → IsMutator m → GoesOn m → ¬ HasRoom m.spans.current (shape_now m) → (a b : Bool) → is_medium (shape_now m) ≡ a → has_room m.spans.overflow (shape_now m) ≡ b
+behind_stays : (m : Mutating) → IsMutator m → GoesOn m → ¬ FitsSpan m.spans.current (shape_now m) → (a b : Bool) → is_medium (shape_now m) ≡ a → has_room m.spans.overflow (shape_now m) ≡ b
     → IsMutator (if a && b then in_overflow m (shape_now m) m.spans.overflow else record m { phase = draws_for (shape_now m) })
 behind_stays m is on no_room true true e f = overflow_stays m (shape_now m) m.spans.overflow is on (grind arith) is.spans.1 (some_words (shape_now m))
 behind_stays m is on no_room true false e f = draws_stays m is on no_room (is_medium (shape_now m)) refl
@@ -328,14 +329,14 @@ ready_stays m is e true = finish_stays m ends.Asked is (λ f. absurd (cc)) (λ q
 ready_stays m is e false = started_stays m (op_now m) is e refl (formed_now m is)
 
 -- a run of at least one line fits an object of one line
-line_fits : (r : Run) (shape : Shape) → FitsRun r → line_count shape ≤ 1 → HasRoom (run_span r) shape
+line_fits : (r : Run) (shape : Shape) → FitsRun r → line_count shape ≤ 1 → FitsSpan (run_span r) shape
 line_fits r shape f one = omega (arith, f.some)
 
 -- by its phase
-stays_in : (m : Mutating) (old : ℕ) (p : Phase) → IsMutator m → m.phase ≡ p → MayBeIn m p → IsTrue (accepts_in m p old) → IsMutator (after_in m p old)
+stays_in : (m : Mutating) (old : ℕ) (p : MutatorPhase) → IsMutator m → m.phase ≡ p → MayBeIn m p → IsTrue (accepts_in m p old) → IsMutator (after_in m p old)
 stays_in m old phase.Ready is e may ok = ready_stays m is e (nat_eq old 1)
 stays_in m old phase.Finished is e may ok = is
-stays_in m old (phase.Base base) is e may ok = reached_stays m base (shape_told (header_of old)) is (on_busy m (phase.Base base) is e refl) may (nat_lt (index_of (op_now m)) (field_count (op_now m) (shape_told (header_of old))))
+stays_in m old (phase.Base base) is e may ok = reached_stays m base (shape_told (header_of old)) is (on_busy m (phase.Base base) is e refl) may (nat_lt (index_of (op_now m)) (indexed_fields (op_now m) (shape_told (header_of old))))
 stays_in m old (phase.Reference base) is e may ok =
     let on = on_busy m (phase.Reference base) is e refl in
     let held : IsHeld (place_in old) = grind arith in
@@ -362,6 +363,32 @@ stays_in m old (phase.GivingUp why) is e may ok =
     let on = on_busy m (phase.GivingUp why) is e refl in
     finish_stays m (end_by why) is on.turn (λ q. on.operation)
 
--- what holds of a mutator holds of it after a step that may be done
+-- a word that doesn't tell what a phase looks for comes within a unit
+unread_busy : (m : Mutating) (old : ℕ) (p : MutatorPhase) → accepts_in m p old ≡ false → rests_in p ≡ false
+unread_busy m old phase.Ready e = absurd (cc)
+unread_busy m old phase.Finished e = absurd (cc)
+unread_busy m old (phase.Base base) e = refl
+unread_busy m old (phase.Reference base) e = refl
+unread_busy m old (phase.Referent place) e = refl
+unread_busy m old (phase.Datum base refs) e = refl
+unread_busy m old (phase.Putting base refs) e = refl
+unread_busy m old (phase.Storing s) e = refl
+unread_busy m old phase.DrawsRun e = refl
+unread_busy m old (phase.RunNumber number) e = refl
+unread_busy m old (phase.Run number) e = refl
+unread_busy m old phase.DrawsBlock e = refl
+unread_busy m old (phase.BlockNumber number) e = refl
+unread_busy m old (phase.Block number) e = refl
+unread_busy m old (phase.Wiping place next) e = refl
+unread_busy m old (phase.Heading place) e = refl
+unread_busy m old phase.Asking e = refl
+unread_busy m old (phase.GivingUp why) e = refl
+
+-- whether or not the word tells that
+stays_by : (m : Mutating) (old : ℕ) → IsMutator m → (b : Bool) → accepts_in m m.phase old ≡ b → IsMutator (if b then after_in m m.phase old else done_with m reply.Bad)
+stays_by m old is true ok = stays_in m old m.phase is refl is.phase ok
+stays_by m old is false e = done_stays m reply.Bad is (on_busy m m.phase is refl (unread_busy m old m.phase e))
+
+-- what holds of a mutator holds of it after each step
 pub stay_so : MutatorsStaySo
-stay_so m old is next ok = stays_in m old m.phase is refl is.phase ok
+stay_so m old is next = stays_by m old is (accepts_in m m.phase old) refl

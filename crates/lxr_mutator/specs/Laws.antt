@@ -2,11 +2,11 @@
 use Rattle.std.specs.Prelude.{◌≡◌, ℕ, ◌≤◌, ◌⊎◌, Some, IsSome, IsTrue}
 use Rattle.lxr_barrier.specs.declared.StoreEnd.TheVariants as store_end
 use Rattle.lxr_barrier.specs.Storing.{Storing, end_of, store_after}
-use Rattle.lxr_mutator.specs.declared.phases.Phase.TheVariants as phase
+use Rattle.lxr_mutator.specs.declared.phases.MutatorPhase.TheVariants as phase
 use Rattle.lxr_mutator.specs.declared.phases.Stop.{Stop}
 use Rattle.lxr_mutator.specs.declared.phases.Stop.TheVariants as stop
 use Rattle.lxr_mutator.specs.Mutating.{Mutating}
-use Rattle.lxr_mutator.specs.Steps.{accepts_in, action, after, end_by, is_medium, left_in, shape_now, storing}
+use Rattle.lxr_mutator.specs.Steps.{action, after, end_by, is_medium, left_in, shape_now, storing}
 use Rattle.lxr_mutator.specs.Mutators.{IsMutator}
 
 -- a unit has at most 8,192 steps
@@ -42,6 +42,6 @@ pub record GivesUpByRules (m : Mutating) (old : ℕ) : Type 0 where
 abbrev pub MutatorsGiveUpByRules : Type 0
 MutatorsGiveUpByRules = (m : Mutating) (old : ℕ) → GivesUpByRules m old
 
--- what holds of a mutator holds of it after a step that may be done
+-- what holds of a mutator holds of it after each step, whatever the word was
 abbrev pub MutatorsStaySo : Type 0
-MutatorsStaySo = (m : Mutating) (old : ℕ) → IsMutator m → IsSome (action m) → IsTrue (accepts_in m m.phase old) → IsMutator (after m old)
+MutatorsStaySo = (m : Mutating) (old : ℕ) → IsMutator m → IsSome (action m) → IsMutator (after m old)

@@ -1,11 +1,11 @@
 -- What contracts see of a mutator, and what it is about to do.
-use Rattle.std.specs.Prelude.{ℕ, ◌+◌, ◌≡◌, Bool, true, false, Option, Some, None, List, length, slice_index_or}
+use Rattle.std.specs.Prelude.{ℕ, ◌+◌, ◌≡◌, Bool, true, false, if◌then◌else◌, Option, Some, None, List, length, slice_index_or}
 use Rattle.std.specs.List.{count_by}
 use Rattle.lxr_layout.specs.declared.Place.{Place}
 use Rattle.lxr_layout.specs.declared.Name.{Name}
 use Rattle.lxr_layout.specs.declared.LogEntry.{LogEntry}
 use Rattle.lxr_layout.specs.declared.limits.Regions.{Regions}
-use Rattle.lxr_lists.specs.Roomy.{Roomy}
+use Rattle.lxr_base.specs.Roomy.{Roomy}
 use Rattle.lxr_graph.specs.declared.Op.{Op}
 use Rattle.lxr_graph.specs.declared.Op.TheVariants as op
 use Rattle.lxr_graph.specs.declared.Reply.{Reply}
@@ -14,7 +14,8 @@ use Rattle.lxr_alloc.specs.declared.Spans.{Spans}
 use Rattle.lxr_mutator.specs.declared.phases.MutEnd.{MutEnd}
 use Rattle.lxr_mutator.specs.declared.phases.MutEnd.TheVariants as ends
 use Rattle.lxr_mutator.specs.declared.phases.MutTally.{MutTally}
-use Rattle.lxr_mutator.specs.declared.phases.Phase.{Phase}
+use Rattle.lxr_mutator.specs.declared.phases.MutatorPhase.{MutatorPhase}
+use Rattle.lxr_mutator.specs.declared.phases.MutatorPhase.TheVariants as phase
 use Rattle.lxr_mutator.specs.declared.phases.Waiting.{Waiting}
 use Rattle.lxr_mutator.specs.Operating.{dest_of, shape_made}
 
@@ -30,7 +31,7 @@ pub record Mutating : Type 0 where
   pub spans : Spans
   pub replies : Roomy Reply
   pub since : ℕ
-  pub phase : Phase
+  pub phase : MutatorPhase
   pub end : Option MutEnd
 
 -- the place of nothing
@@ -72,11 +73,17 @@ made m = count_by is_new m.replies.items
 abbrev pub next_name : Mutating → Name
 next_name m = record { thread = m.thread; serial = made m + 1 }
 
+-- no unit is in progress
+abbrev pub rests_in : MutatorPhase → Bool
+rests_in phase.Ready = true
+rests_in phase.Finished = true
+rests_in p = false
+
 -- its last unit ended for want of free lines, and its `new` was since neither served nor refused
 abbrev pub IsWaiting : Mutating → Type 0
-IsWaiting m = m.end ≡ Some ends.NoRun
+IsWaiting m = (m.end ≡ Some ends.NoRun) × (rests_in m.phase ≡ true)
 
 -- what it waits for, by how its last unit ended
 abbrev pub waiting_by : Mutating → Option MutEnd → Option Waiting
-waiting_by m (Some ends.NoRun) = Some (record { dest = dest_of (op_now m); shape = shape_made (op_now m) })
+waiting_by m (Some ends.NoRun) = if rests_in m.phase then Some (record { dest = dest_of (op_now m); shape = shape_made (op_now m) }) else None
 waiting_by m e = None

@@ -1,5 +1,5 @@
 -- What holds of each mutator, and what becomes of it between its steps.
-use Rattle.std.specs.Prelude.{◌≡◌, ◌≢◌, ℕ, ◌+◌, ◌/◌, ◌^◌, ◌<◌, ◌≤◌, ◌⊎◌, false, Option, Some, None, List, [], length, replicate}
+use Rattle.std.specs.Prelude.{◌≡◌, ◌≢◌, ℕ, ◌+◌, ◌/◌, ◌^◌, ◌<◌, ◌≤◌, ◌⊎◌, false, if◌then◌else◌, nat_le, Option, Some, None, List, [], length, replicate}
 use Rattle.std.specs.List.{All}
 use Rattle.lxr_layout.specs.declared.Place.{Place}
 use Rattle.lxr_layout.specs.declared.Shape.{Shape}
@@ -8,22 +8,24 @@ use Rattle.lxr_layout.specs.declared.limits.Limits.{Limits}
 use Rattle.lxr_layout.specs.declared.limits.Regions.{Regions}
 use Rattle.lxr_layout.specs.Objects.{word_count, line_count}
 use Rattle.lxr_layout.specs.Places.{IsPlace}
-use Rattle.lxr_layout.specs.Spaces.{region_begin}
-use Rattle.lxr_lists.specs.Roomy.{Roomy, pushed}
+use Rattle.lxr_layout.specs.Spaces.{region_begin, regions_of}
+use Rattle.lxr_base.specs.Roomy.{Roomy, pushed}
 use Rattle.lxr_graph.specs.declared.Op.{Op}
 use Rattle.lxr_graph.specs.declared.Op.TheVariants as op
 use Rattle.lxr_graph.specs.declared.Reply.{Reply}
+use Rattle.lxr_graph.specs.declared.Reply.TheVariants as reply
 use Rattle.lxr_graph.specs.Step.{IsWellFormed}
 use Rattle.lxr_alloc.specs.declared.Spans.{Spans}
-use Rattle.lxr_alloc.specs.Spans.{HasRoom, empty_span}
+use Rattle.lxr_alloc.specs.Spans.{FitsSpan, empty_span}
 use Rattle.lxr_barrier.specs.Storing.{end_of}
 use Rattle.lxr_barrier.specs.Storers.{HasRoomIn}
 use Rattle.lxr_mutator.specs.declared.phases.MutEnd.{MutEnd}
 use Rattle.lxr_mutator.specs.declared.phases.MutEnd.TheVariants as ends
-use Rattle.lxr_mutator.specs.declared.phases.Phase.{Phase}
-use Rattle.lxr_mutator.specs.declared.phases.Phase.TheVariants as phase
-use Rattle.lxr_mutator.specs.Mutating.{IsWaiting, Mutating, nil}
-use Rattle.lxr_mutator.specs.Steps.{rests_in, shape_now}
+use Rattle.lxr_mutator.specs.declared.phases.MutatorPhase.{MutatorPhase}
+use Rattle.lxr_mutator.specs.declared.phases.MutatorPhase.TheVariants as phase
+use Rattle.lxr_mutator.specs.Mutating.{Mutating, next_name, nil, op_now, rests_in}
+use Rattle.lxr_mutator.specs.Steps.{shape_now, with_register}
+use Rattle.lxr_mutator.specs.Operating.{dest_of}
 
 -- an operation of a script: no end
 abbrev pub IsOperation : Op → Type 0
@@ -48,38 +50,17 @@ pub record HaveIndexes (r : Regions) : Type 0 where
   pub decs : r.decs < 2 ^ 32
   pub cursors : r.cursors + 16 < 2 ^ 32
 
--- the regions of a space of these limits
-abbrev pub regions_of : Limits → Regions
-regions_of l = record {
-  heap = 0;
-  counts = region_begin l 1;
-  starts = region_begin l 2;
-  marks = region_begin l 3;
-  grays = region_begin l 4;
-  dones = region_begin l 5;
-  unlogged = region_begin l 6;
-  reuse = region_begin l 7;
-  outs = region_begin l 8;
-  states = region_begin l 9;
-  runs = region_begin l 10;
-  frees = region_begin l 11;
-  decs = region_begin l 12;
-  remembered = region_begin l 13;
-  cursors = region_begin l 14;
-  total = region_begin l 15;
-}
-
 -- an object of this shape has one line, and `current` has no room for it
 abbrev pub NeedsRun : Spans → Shape → Type 0
-NeedsRun spans shape = (line_count shape ≤ 1) × ¬ HasRoom spans.current shape
+NeedsRun spans shape = (line_count shape ≤ 1) × ¬ FitsSpan spans.current shape
 
 -- `current` has no room for an object of this shape
 abbrev pub NeedsBlock : Spans → Shape → Type 0
-NeedsBlock spans shape = ¬ HasRoom spans.current shape
+NeedsBlock spans shape = ¬ FitsSpan spans.current shape
 
 module _ (r : Regions) (log : Roomy LogEntry) (spans : Spans) (shape : Shape) where
   -- what holds in a phase of a mutator with these regions, this log and these spans, whose `new` makes this shape
-  abbrev pub IsIn : Phase → Type 0
+  abbrev pub IsIn : MutatorPhase → Type 0
   IsIn phase.Ready = Unit {0}
   IsIn phase.Finished = Unit {0}
   IsIn (phase.Base base) = IsPlace base
@@ -100,7 +81,7 @@ module _ (r : Regions) (log : Roomy LogEntry) (spans : Spans) (shape : Shape) wh
   IsIn (phase.GivingUp why) = Unit {0}
 
 -- what holds in this phase, were it the mutator's
-abbrev pub MayBeIn : Mutating → Phase → Type 0
+abbrev pub MayBeIn : Mutating → MutatorPhase → Type 0
 MayBeIn m = IsIn m.regions m.log m.spans (shape_now m)
 
 -- its end is done
@@ -121,15 +102,15 @@ pub record IsMutator (m : Mutating) : Type 0 where
   pub room : m.replies.room ≡ length m.operations + 1
   pub few_replies : length m.replies.items ≤ length m.operations + 1
   pub replies : IsThrough m ⊎ (length m.replies.items ≤ length m.operations)
-  -- a unit that is in progress, or that waits, is that of an operation
+  -- a unit that is in progress, or that ended for want of lines, is that of an operation
   pub busy : rests_in m.phase ≡ false → length m.replies.items < length m.operations
-  pub waits : IsWaiting m → length m.replies.items < length m.operations
+  pub waits : m.end ≡ Some ends.NoRun → length m.replies.items < length m.operations
   -- it goes on only where it may do a further operation in this epoch
   pub since : m.phase ≢ phase.Finished → m.since < m.every
   pub phase : MayBeIn m m.phase
 
 -- it is in this phase of an operation
-pub record IsBusy (m : Mutating) (p : Phase) : Type 0 where
+pub record IsBusy (m : Mutating) (p : MutatorPhase) : Type 0 where
   pub phase : m.phase ≡ p
   pub operation : length m.replies.items < length m.operations
   pub may : MayBeIn m p
@@ -154,8 +135,20 @@ first thread operations limits every = record {
 abbrev pub answered : Mutating → Reply → Mutating
 answered m r = record m { replies = pushed m.replies r; end = Some (ends.OpDone r) }
 
+-- this place, or nil where the largest heap has no such place
+abbrev pub held_place : Place → Place
+held_place p = if nat_le p.0 (2 ^ 21) then p else nil
+
+-- its `new` is done from outside: the register that it names holds the new object's place, and the reply is the object's name
+abbrev pub served : Mutating → Place → Mutating
+served m place = answered (with_register m (dest_of (op_now m)) (held_place place)) (reply.New (next_name m))
+
+-- its `new` was refused, or served with a place
+abbrev pub IsAnswered : Mutating → Mutating → Reply → Type 0
+IsAnswered m m' r = ((r ≡ reply.Full) × (m' ≡ answered m r)) ⊎ ((place : Place) × (r ≡ reply.New (next_name m)) × (m' ≡ served m place))
+
 -- where a new epoch finds it
-abbrev pub phase_again : Option MutEnd → Phase
+abbrev pub phase_again : Option MutEnd → MutatorPhase
 phase_again (Some ends.Ended) = phase.Finished
 phase_again e = phase.Ready
 

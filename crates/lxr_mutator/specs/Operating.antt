@@ -30,13 +30,13 @@ abbrev pub shape_made : Op → Shape
 shape_made (op.New dest shape) = shape
 shape_made o = record { refs = 0; values = 0 }
 
--- how many fields of its kind a base of this shape has: references for `load` and `store`, data words for `put` and `get`
-abbrev pub field_count : Op → Shape → ℕ
-field_count (op.Load dest base index) shape = shape.refs
-field_count (op.Store base index source) shape = shape.refs
-field_count (op.Put base index value) shape = shape.values
-field_count (op.Get base index) shape = shape.values
-field_count o shape = 0
+-- how many fields a base of this shape has of the kind that the operation indexes: references for `load` and `store`, data words for `put` and `get`
+abbrev pub indexed_fields : Op → Shape → ℕ
+indexed_fields (op.Load dest base index) shape = shape.refs
+indexed_fields (op.Store base index source) shape = shape.refs
+indexed_fields (op.Put base index value) shape = shape.values
+indexed_fields (op.Get base index) shape = shape.values
+indexed_fields o shape = 0
 
 -- the reply to `pause` and `collect`
 abbrev pub asked_reply : Op → Reply

@@ -1,5 +1,6 @@
 -- A mutator as a machine: one case for each phase.
 use Rattle.std.specs.Prelude.{ℕ, ◌+◌, ◌-◌, ◌/◌, ◌%◌, ◌^◌, ◌&&◌, nat_eq, nat_le, nat_lt, if◌then◌else◌, Bool, true, false, Option, Some, None, replicate, slice_set}
+use Rattle.lxr_layout.specs.declared.TheConstants.{FREE_BLOCK_COUNT, FREE_BLOCK_CURSOR, LINES_IN_BLOCK, RUN_COUNT, RUN_CURSOR}
 use Rattle.lxr_layout.specs.declared.Place.{Place}
 use Rattle.lxr_layout.specs.declared.Name.{Name}
 use Rattle.lxr_layout.specs.declared.Shape.{Shape}
@@ -8,8 +9,8 @@ use Rattle.lxr_layout.specs.declared.Header.TheVariants as header
 use Rattle.lxr_layout.specs.declared.LogEntry.{LogEntry}
 use Rattle.lxr_layout.specs.declared.Run.{Run}
 use Rattle.lxr_layout.specs.Objects.{word_count, line_count, header_of, header_word}
-use Rattle.lxr_layout.specs.Places.{first_word}
-use Rattle.lxr_lists.specs.Roomy.{Roomy, pushed}
+use Rattle.lxr_layout.specs.Places.{first_word, place_in}
+use Rattle.lxr_base.specs.Roomy.{Roomy, pushed}
 use Rattle.lxr_graph.specs.declared.Op.{Op}
 use Rattle.lxr_graph.specs.declared.Op.TheVariants as op
 use Rattle.lxr_graph.specs.declared.Reply.{Reply}
@@ -21,16 +22,16 @@ use Rattle.lxr_alloc.specs.declared.Span.{Span}
 use Rattle.lxr_alloc.specs.Spans.{granule_count, rest_of, front_of, taken_from, run_span, block_span}
 use Rattle.lxr_barrier.specs.declared.StoreEnd.{StoreEnd}
 use Rattle.lxr_barrier.specs.declared.StoreEnd.TheVariants as store_end
-use Rattle.lxr_barrier.specs.Storing.{Storing, begun, next_action, place_in, reference_word, store_after, log_after, end_of}
+use Rattle.lxr_barrier.specs.Storing.{Storing, begun, next_action, reference_word, store_after, log_after, end_of}
 use Rattle.lxr_barrier.specs.Storers.{steps_left}
 use Rattle.lxr_mutator.specs.declared.phases.MutEnd.{MutEnd}
 use Rattle.lxr_mutator.specs.declared.phases.MutEnd.TheVariants as ends
-use Rattle.lxr_mutator.specs.declared.phases.Phase.{Phase}
-use Rattle.lxr_mutator.specs.declared.phases.Phase.TheVariants as phase
+use Rattle.lxr_mutator.specs.declared.phases.MutatorPhase.{MutatorPhase}
+use Rattle.lxr_mutator.specs.declared.phases.MutatorPhase.TheVariants as phase
 use Rattle.lxr_mutator.specs.declared.phases.Stop.{Stop}
 use Rattle.lxr_mutator.specs.declared.phases.Stop.TheVariants as stop
-use Rattle.lxr_mutator.specs.Operating.{dest_of, index_of, value_of, shape_made, field_count, asked_reply}
-use Rattle.lxr_mutator.specs.Mutating.{Mutating, nil, op_now, register, next_name}
+use Rattle.lxr_mutator.specs.Operating.{dest_of, index_of, value_of, shape_made, indexed_fields, asked_reply}
+use Rattle.lxr_mutator.specs.Mutating.{Mutating, nil, op_now, register, next_name, rests_in}
 
 -- the shape of the object that it makes
 abbrev pub shape_now : Mutating → Shape
@@ -53,7 +54,7 @@ abbrev pub data_word : Place → ℕ → ℕ → ℕ
 data_word place refs index = first_word place.0 + 1 + refs + index
 
 -- its next step, by its phase
-abbrev pub action_in : Mutating → Phase → Option Action
+abbrev pub action_in : Mutating → MutatorPhase → Option Action
 action_in m phase.Ready = loading m.regions.cursors
 action_in m phase.Finished = None
 action_in m (phase.Base base) = loading (first_word base.0)
@@ -62,11 +63,11 @@ action_in m (phase.Referent place) = loading (first_word place.0)
 action_in m (phase.Datum base refs) = loading (data_word base refs (index_of (op_now m)))
 action_in m (phase.Putting base refs) = storing (data_word base refs (index_of (op_now m))) (value_of (op_now m))
 action_in m (phase.Storing store) = next_action store
-action_in m phase.DrawsRun = drawing (m.regions.cursors + 1)
-action_in m (phase.RunNumber number) = loading (m.regions.cursors + 2)
+action_in m phase.DrawsRun = drawing (m.regions.cursors + RUN_CURSOR)
+action_in m (phase.RunNumber number) = loading (m.regions.cursors + RUN_COUNT)
 action_in m (phase.Run number) = loading (m.regions.runs + number)
-action_in m phase.DrawsBlock = drawing (m.regions.cursors + 3)
-action_in m (phase.BlockNumber number) = loading (m.regions.cursors + 4)
+action_in m phase.DrawsBlock = drawing (m.regions.cursors + FREE_BLOCK_CURSOR)
+action_in m (phase.BlockNumber number) = loading (m.regions.cursors + FREE_BLOCK_COUNT)
 action_in m (phase.Block number) = loading (m.regions.frees + number)
 action_in m (phase.Wiping place next) = storing (first_word place.0 + next) 0
 action_in m (phase.Heading place) = storing (first_word place.0) (header_word (next_name m) (shape_now m))
@@ -101,10 +102,11 @@ run_in word = record { block = word / 2 ^ 16; line = word / 2 ^ 8 % 2 ^ 8; lines
 
 -- a run of at least one line, which lies in its block
 abbrev pub is_run : Run → Bool
-is_run run = nat_lt run.block 1024 && (nat_le 1 run.lines && nat_le (run.line + run.lines) 128)
+is_run run = nat_lt run.block 1024 && (nat_le 1 run.lines && nat_le (run.line + run.lines) LINES_IN_BLOCK)
 
--- what the word of its next step may have been, by its phase
-abbrev pub accepts_in : Mutating → Phase → ℕ → Bool
+-- The word of its next step tells what its phase looks for: the header of an object of the heap, a reference, a count that its
+-- table has room for, a run, a block. In an epoch each word does.
+abbrev pub accepts_in : Mutating → MutatorPhase → ℕ → Bool
 accepts_in m (phase.Base base) old = is_header old && lies_in_heap m base old
 accepts_in m (phase.Reference base) old = nat_le old (2 ^ 21)
 accepts_in m (phase.Referent place) old = is_header old
@@ -163,7 +165,7 @@ in_overflow m shape span = record m {
 }
 
 -- what is drawn for an object that its spans have no room for
-abbrev pub draws_for : Shape → Phase
+abbrev pub draws_for : Shape → MutatorPhase
 draws_for shape = if is_medium shape then phase.DrawsBlock else phase.DrawsRun
 
 -- an object of this shape is placed in its spans, or something is drawn for it
@@ -196,7 +198,7 @@ started m op.Collect = record m { phase = phase.Asking }
 started m op.End = ended m
 
 -- the phase for a field of a base of this shape
-abbrev pub reaching : Mutating → Place → Shape → Op → Phase
+abbrev pub reaching : Mutating → Place → Shape → Op → MutatorPhase
 reaching m base shape (op.Load dest b index) = phase.Reference base
 reaching m base shape (op.Store b index source) = phase.Storing (begun m.regions base index (register m source))
 reaching m base shape (op.Put b index value) = phase.Putting base shape.refs
@@ -206,7 +208,7 @@ reaching m base shape o = phase.Ready
 -- the base has this shape: the operation goes on at its field, if there is one of this index
 abbrev pub reached : Mutating → Place → Shape → Mutating
 reached m base shape =
-    if nat_lt (index_of (op_now m)) (field_count (op_now m) shape) then record m { phase = reaching m base shape (op_now m) }
+    if nat_lt (index_of (op_now m)) (indexed_fields (op_now m) shape) then record m { phase = reaching m base shape (op_now m) }
     else done_with m reply.Range
 
 -- this place was loaded
@@ -231,8 +233,8 @@ abbrev pub end_by : Stop → MutEnd
 end_by stop.NoRun = ends.NoRun
 end_by stop.LogFull = ends.LogFull
 
--- after its next step, once it is told what the word was, by its phase
-abbrev pub after_in : Mutating → Phase → ℕ → Mutating
+-- after its next step, by its phase, where the word tells what this looks for
+abbrev pub after_in : Mutating → MutatorPhase → ℕ → Mutating
 after_in m phase.Ready old = if nat_eq old 1 then finished m ends.Asked else started m (op_now m)
 after_in m phase.Finished old = m
 after_in m (phase.Base base) old = reached m base (shape_told (header_of old))
@@ -252,18 +254,16 @@ after_in m (phase.Heading place) old = done_with (with_register m (dest_of (op_n
 after_in m phase.Asking old = done_with m (asked_reply (op_now m))
 after_in m (phase.GivingUp why) old = finished m (end_by why)
 
+-- the same, whatever the word was: one that doesn't tell what its phase looks for ends the operation as bad
+abbrev pub next_in : Mutating → MutatorPhase → ℕ → Mutating
+next_in m p old = if accepts_in m p old then after_in m p old else done_with m reply.Bad
+
 -- after its next step
 abbrev pub after : Mutating → ℕ → Mutating
-after m old = after_in m m.phase old
-
--- no unit is in progress
-abbrev pub rests_in : Phase → Bool
-rests_in phase.Ready = true
-rests_in phase.Finished = true
-rests_in p = false
+after m old = next_in m m.phase old
 
 -- The most steps that are left of its unit, by its phase. An object has at most 2,048 words, and each is stored to once.
-abbrev pub left_in : Mutating → Phase → ℕ
+abbrev pub left_in : Mutating → MutatorPhase → ℕ
 left_in m phase.Ready = 2054
 left_in m phase.Finished = 0
 left_in m (phase.Base base) = 6
@@ -287,7 +287,6 @@ left_in m (phase.GivingUp why) = 1
 abbrev pub mutator_machine : Machine Mutating
 mutator_machine = record {
   action = action;
-  accepts = λ m old. accepts_in m m.phase old;
   after = after;
   rests = λ m. rests_in m.phase;
   left = λ m. left_in m m.phase;

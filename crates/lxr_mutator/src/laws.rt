@@ -13,7 +13,7 @@ pub fn mutators_give_up_by_rules()
     ensures { MutatorsGiveUpByRules }
 {}
 
-/// A step that may be done leaves a mutator one.
+/// A step leaves a mutator one, whatever it finds in its word.
 pub fn mutators_stay_so()
     ensures { MutatorsStaySo }
 {}

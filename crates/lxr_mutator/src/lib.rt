@@ -12,4 +12,4 @@ mod phases;
 
 pub use laws::{mutators_give_up_by_rules, mutators_stay_so, units_are_short};
 pub use mutator::Mutator;
-pub use phases::{MutEnd, MutTally, Phase, Stop, Waiting};
+pub use phases::{MutEnd, MutTally, MutatorPhase, Stop, Waiting};

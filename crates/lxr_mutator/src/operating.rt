@@ -2,7 +2,7 @@
 ghost use Rattle.std.specs.Prelude.{◌≡◌, ◌<◌};
 ghost use Rattle.lxr_layout.specs.Objects.{FitsShape};
 ghost use Rattle.lxr_graph.specs.Step.{IsWellFormed};
-ghost use Rattle.lxr_mutator.specs.Operating.{asked_reply, dest_of, field_count, index_of, shape_made, value_of};
+ghost use Rattle.lxr_mutator.specs.Operating.{asked_reply, dest_of, indexed_fields, index_of, shape_made, value_of};
 
 use lxr_graph::{Op, Reply};
 use lxr_layout::Shape;
@@ -59,10 +59,11 @@ pub fn shape_made(op: Op) -> Shape
     }
 }
 
-/// How many fields a base of this shape has of the kind that the operation goes to.
+/// How many fields a base of this shape has of the kind that the operation indexes: references for `load` and `store`,
+/// data words for `put` and `get`.
 #[inline(always)]
-pub fn field_count(op: Op, shape: Shape) -> u16
-    ensures { result ≡ field_count op shape }
+pub fn indexed_fields(op: Op, shape: Shape) -> u16
+    ensures { result ≡ indexed_fields op shape }
 {
     match op {
         Op::Load { .. } => shape.refs,

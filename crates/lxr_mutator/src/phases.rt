@@ -67,7 +67,7 @@ impl MutTally {
 
 /// Where a unit is: which step is next, with what the unit has learned.
 #[derive(Drop)]
-pub enum Phase {
+pub enum MutatorPhase {
     /// Between units. The next step loads the pause word.
     Ready,
     /// Through for this epoch. There is no next step.

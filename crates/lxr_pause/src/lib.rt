@@ -1,6 +1,16 @@
-//! What a pause leaves for the next one: the decrements of old values, queued, and the registers, deferred.
+//! The pause: what counting does while all threads rest.
+//!
+//! A pause comes in the order of LXR (Zhao, Blackburn and McKinley, 2022). The counts that wait since the last pause are
+//! lowered, and what comes to 0 is reclaimed with all that dies by it ([`finish_decrements`]). Counts are raised for the
+//! references that were stored and the registers that changed, and new objects that are held get their first count and
+//! stay ([`increments`], [`promote`]). What was overwritten waits for the next pause to be lowered
+//! ([`queue_decrements`]), and registers are kept as they are now, to be compared with then ([`defer_roots`]).
+//!
+//! Each call takes the space alone, takes no memory and has no refusal. Its contract says what it leaves, in terms of the
+//! history that the space stands for. The work is done in the rooms `lxr_pause_decrements`, `lxr_pause_increments` and
+//! `lxr_pause_queue`; crates of this repository stand on these.
 #![tactic(auto)]
 
-mod queueing;
-
-pub use queueing::{defer_roots, queue_decrements};
+pub use lxr_pause_decrements::finish_decrements;
+pub use lxr_pause_increments::{increments, promote};
+pub use lxr_pause_queue::{defer_roots, queue_decrements};

@@ -1,5 +1,1 @@
-pub mod OpeningLemmas
 pub mod OutcomeLemmas
-pub mod ServeLemmas
-pub mod GoingLemmas
-pub mod PrintLemmas

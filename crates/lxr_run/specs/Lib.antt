@@ -1,6 +1,4 @@
+pub mod Codes
+pub mod Lines
 pub mod Script
-pub mod Opening
-pub mod Serving
-pub mod Going
-pub mod Printing
 pub mod Outcome

@@ -1,10 +1,12 @@
 -- What a caller is promised of each way in which a run ends.
-use Rattle.std.specs.Prelude.{ℕ, ◌⊎◌, Option, List, IfSome, length, take}
+use Rattle.std.specs.Prelude.{ℕ, ◌+◌, ◌⊎◌, Option, List, IfSome, length, take}
+use Rattle.lxr_text_script.specs.Limits.{most_bytes}
 use Rattle.lxr_graph.specs.History.{Item}
-use Rattle.lxr_stream.specs.Streams.{Appends, AppendsFront, IsAtEnd}
+use Rattle.lxr_text_stream.specs.Streams.{Appends, AppendsFront, IsAtEnd}
 use Rattle.lxr_model.specs.Belongs.{IsHistorySoFar, Script}
-use Rattle.lxr_watch.specs.Sights.{Sight}
-use Rattle.lxr_run_history.specs.Run.{IsHistoryOf, IsLeftBy, history_text, reports_text, script_terms}
+use Rattle.lxr_run_watch.specs.Sights.{Sight}
+use Rattle.lxr_run_history.specs.Left.{IsLeftBy}
+use Rattle.lxr_run_history.specs.Run.{IsHistoryOf, history_text, reports_text, script_terms}
 use Rattle.lxr_run_history.specs.Sights.{Sees}
 use Rattle.lxr_run.specs.Script.{IsScriptOf}
 use Rattle.lxr_run.specs.declared.Status.{Status}
@@ -17,9 +19,9 @@ use Rattle.lxr_run_words.specs.CommandLines.{IsCommandLine}
 abbrev pub IsRunCommand : List (List ℕ) → Type 0
 IsRunCommand words = (options : RunOptions) × IsCommandLine words options
 
--- an input of more than 67,108,864 bytes is judged by its first 67,108,865, and is refused
+-- a longer input than a script may be is judged by its front of one byte more, and is refused
 unfoldable pub judged_part : List ℕ → List ℕ
-judged_part bytes = take 67108865 bytes
+judged_part bytes = take (most_bytes + 1) bytes
 
 -- the statuses of a run whose input was judged: nothing else kept it from that
 abbrev pub WasJudged : Status → Type 0

@@ -1,7 +1,7 @@
 -- The scripts of this stage: all that the grammar accepts.
 use Rattle.std.specs.Prelude.{◌≡◌, ℕ, List, Ok}
 use Rattle.lxr_model.specs.Belongs.{Script}
-use Rattle.lxr_script.specs.Reading.{reading_of}
+use Rattle.lxr_text_script.specs.Reading.{reading_of}
 
 -- bytes are a script with these operations of each thread
 abbrev pub IsScriptOf : List ℕ → Script → Type 0

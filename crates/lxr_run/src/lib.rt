@@ -1,80 +1,68 @@
-//! The top call: from the words of a command line and the bytes of a script to the replies of its threads.
+//! The top call: from the words of a command line and the bytes of a script to the replies of its threads; and the public calls
+//! and types of a run.
 //!
 //! The threads of a script go on in epochs, in which a generator draws which of them makes the next step. Between two epochs
 //! stands a pause, which reclaims by reference counts. The contract of [`lxr`] speaks of the model alone: the text that was
-//! written is that of one legal history of the script, and the space is what that history leaves.
+//! written is that of one legal history of the script, and the space is what that history leaves. That this history is the
+//! one which the generator draws from the option `replay` on stands in the contract of the loop below.
+//!
+//! [`one_pause`] makes a plain pause; it will take the kind that is asked for once there are other kinds.
 #![tactic(auto)]
 
-ghost use Rattle.std.specs.Prelude.{◌≡◌, ℕ, ◌⊎◌, ◌↔◌, [], IfSome, List, OnErr, OnOk, Option, map};
-ghost use Rattle.lxr_model.specs.Belongs.{Script};
-ghost use Rattle.lxr_stream.specs.Streams.{Rose, TakesSome};
-ghost use Rattle.lxr_run.specs.Opening.{HasBegun};
-ghost use Rattle.lxr_run.specs.Outcome.{IsCutOff, IsDone, IsRefusal, IsRunCommand, WasAsked, WasJudged, judged_part};
+ghost use Rattle.std.specs.Prelude.{◌≡◌, ◌⊎◌, ◌↔◌, [], IfSome, map};
+ghost use Rattle.lxr_text_stream.specs.Streams.{Rose, TakesSome};
+ghost use Rattle.lxr_run.specs.Codes.{code_of};
+ghost use Rattle.lxr_run.specs.Outcome.{IsCutOff, IsDone, IsRefusal, IsRunCommand, WasJudged, judged_part};
 ghost use Rattle.lxr_run.specs.Script.{IsNoScript};
-ghost use Rattle.lxr_run_words.specs.declared.RunOptions.{RunOptions as OptionsOf};
 
-mod opening;
-mod pauses;
-mod printing;
-mod run;
+mod refusal;
 mod script;
-mod serving;
-mod waiting;
 
-use lxr_core::AnyActor;
 use lxr_image::Space;
-pub use lxr_replay::{Gate, Open};
+use lxr_run_loop::{open, run_and_print};
+pub use lxr_run_pause::one_pause;
+pub use lxr_run_replay::{Gate, Open, replay_epoch};
+pub use lxr_run_watch::{Seen, Unseen, Watch};
 use lxr_run_words::read_options;
-use lxr_stream::{ReadError, Sink, Source, WriteError, read_all};
-pub use lxr_watch::{Seen, Unseen, Watch};
-use opening::open;
-use printing::print_threads;
-use run::run_threads;
+use lxr_text_script::MOST_BYTES;
+use lxr_text_stream::{ReadError, Sink, Source, WriteError, read_all};
+pub use lxr_words::{Command, Options, WordError, WordFault, read_words};
+pub use refusal::{Refusal, refusal_line};
 use script::{NoScript, read_threads};
 use std::alloc::Global;
 use std::thread::Threads;
 
-/// A script has at most so many bytes.
-const MOST_BYTES: usize = 67_108_864;
-
-/// How a run ended. Its number is the program's exit status.
+/// How a run ended.
 #[derive(Clone, Copy, Debug, PartialEq, Eq)]
 pub enum Status {
     /// The text was written whole.
-    Done = 0,
+    Done,
     /// The words of the command line aren't `run` with options that there are.
-    Words = 1,
+    Words,
     /// The input is no script.
-    Script = 2,
+    Script,
     /// Reading failed.
-    ReadFault = 3,
+    ReadFault,
     /// Writing failed.
-    WriteFault = 4,
+    WriteFault,
     /// Memory ran out.
-    Memory = 5,
+    Memory,
 }
 
-/// Runs the threads in a space that was just opened, and then prints their replies. The reports of the pauses are printed
-/// as they come.
-fn run_and_print<G: Gate, W: Watch, O: Sink>(
-    space: &mut Space,
-    actors: &mut [AnyActor],
-    seed: u64,
-    gate: &G,
-    watch: &mut W,
-    output: &mut O,
-) -> Result<(), WriteError>
-    requires begun { (options : OptionsOf) × (script : Script) × HasBegun options script space.old (O.written output.old) (W.seen watch.old) actors.old }
-    ensures done { OnOk result ((options : OptionsOf) (script : Script) → HasBegun options script space.old (O.written output.old) (W.seen watch.old) actors.old
-        → (words : List (List ℕ)) (left left' : Option (List ℕ)) → WasAsked words left left' options script
-        → IsDone words left left' (O.written output.old) (O.written output.new) (W.seen watch.old) (W.seen watch.new) space.new) }
-    ensures cut_off { OnErr result ((options : OptionsOf) (script : Script) → HasBegun options script space.old (O.written output.old) (W.seen watch.old) actors.old
-        → (words : List (List ℕ)) (left left' : Option (List ℕ)) → WasAsked words left left' options script
-        → IsCutOff words left left' (O.written output.old) (O.written output.new) space.new) }
-    ensures cause { result ≡ Err WriteError.Fault → Rose (O.faults output.old) (O.faults output.new) }
-{
-    run_threads(space, actors, seed, gate, watch, output)?;
-    print_threads(actors, output)
+impl Status {
+    /// The program's exit status.
+    pub fn code(self) -> u8
+        ensures { result ≡ code_of self }
+    {
+        match self {
+            Status::Done => 0,
+            Status::Words => 1,
+            Status::Script => 2,
+            Status::ReadFault => 3,
+            Status::WriteFault => 4,
+            Status::Memory => 5,
+        }
+    }
 }
 
 /// Runs a script: reads it from `input`, does the operations of its threads in `space`, and prints their replies to `output`.
@@ -82,7 +70,7 @@ fn run_and_print<G: Gate, W: Watch, O: Sink>(
 /// The work is done in this order: the words, the input, the script, the opening of the space and of its threads with all the
 /// memory that the run takes, the epochs with their pauses, whose reports are printed as they come, and the replies, thread by
 /// thread. The same words and input lead to the same output: the option `replay` says where the generator begins. The gate is
-/// called before each step, and the watch looks at the space right before and right after each pause. `rt` isn't used yet, and
+/// called before each operation, and the watch looks at the space right before and right after each pause. `rt` isn't used yet, and
 /// nothing is written to `errors`. Want of memory is the one outcome that no clause ties to a cause.
 pub fn lxr<R: Threads + Sync, I: Source, O: Sink, E: Sink, G: Gate, W: Watch>(
     rt: &R,

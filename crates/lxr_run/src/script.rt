@@ -1,10 +1,10 @@
 //! The script of a run.
 ghost use Rattle.std.specs.Prelude.{◌≡◌, IfOk};
-ghost use Rattle.lxr_script.specs.Limits.{IsScript};
-ghost use Rattle.lxr_script.specs.Reading.{lists_in};
+ghost use Rattle.lxr_text_script.specs.Limits.{IsScript};
+ghost use Rattle.lxr_text_script.specs.Reading.{lists_in};
 ghost use Rattle.lxr_run.specs.Script.{IsNoScript, IsScriptOf};
 
-use lxr_script::{Lists, ScriptError, read_script};
+use lxr_text_script::{Lists, ScriptError, read_script};
 use std::alloc::Global;
 
 /// Why there is no script.

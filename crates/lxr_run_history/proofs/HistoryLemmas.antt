@@ -16,10 +16,10 @@ use Rattle.lxr_model.specs.Moments.{moment}
 use Rattle.lxr_model.specs.Reports.{IsReport}
 use Rattle.lxr_model.specs.Kinds.{MayStand, ends}
 use Rattle.lxr_model.specs.Legal.{IsLegalSoFar, IsPause, KeepsPromise, Replies}
-use Rattle.lxr_model.specs.Belongs.{AskedPausesComeFirst, CallsBeginOperations, HasCause, IsHistorySoFar, LastPauseWasEarly, PausesHaveCauses, Script, TurnsAreShort, calls_since_pause, has_asked, next_operation, operations_of}
-use Rattle.lxr_epoch.specs.Scenes.{Extends, same, called}
+use Rattle.lxr_model.specs.Belongs.{AskedPausesComeFirst, CallsBeginOperations, EarlierPausesWereEarly, HasCause, IsHistorySoFar, LastPauseWasEarly, PausesHaveCauses, Script, TurnsAreShort, calls_since_pause, has_asked, next_operation, operations_of}
+use Rattle.lxr_core_events.specs.EpochStates.{Extends, same, called}
 use Rattle.lxr_run_words.specs.declared.RunOptions.{RunOptions}
-use Rattle.lxr_run_history.specs.Growing.{HasBegun, HasEnded}
+use Rattle.lxr_run_history.specs.Growing.{CallsBeginScript, HasEnded}
 use Rattle.lxr_run_history.specs.Run.{IsHistoryOf, run_terms, script_terms}
 
 -- ---- promises
@@ -76,14 +76,20 @@ pub early_extends : (options : RunOptions) (script : Script) (every : ℕ) (h k 
 early_extends options script every h k (same) early = early
 early_extends options script every h k (called l t o r before is) early = early_extends options script every h l before early
 
+-- and those before it
+pub earlier_extends : (options : RunOptions) (script : Script) (every : ℕ) (h k : List Item) → Extends (length script) every h k
+    → EarlierPausesWereEarly (script_terms options script) h → EarlierPausesWereEarly (script_terms options script) k
+earlier_extends options script every h k (same) early = early
+earlier_extends options script every h k (called l t o r before is) early = earlier_extends options script every h l before early
+
 -- as many of a thread's operations and its end are a beginning of them
-pub calls_begin : (options : RunOptions) (script : Script) (h : List Item) → HasBegun script h → CallsBeginOperations (script_terms options script) script h
+pub calls_begin : (options : RunOptions) (script : Script) (h : List Item) → CallsBeginScript script h → CallsBeginOperations (script_terms options script) script h
 calls_begin options script h begun = λ t low high.
     let (n, calls) = begun t low high in
     (drop n (operations_of script t), ap (λ z. z ++ drop n (operations_of script t)) calls ∙ take-append-drop n (operations_of script t))
 
 -- after an epoch it is a history so far
-pub history_extends : (options : RunOptions) (script : Script) (h k : List Item) → IsHistorySoFar (script_terms options script) script h → Extends (length script) options.every h k → HasBegun script k
+pub history_extends : (options : RunOptions) (script : Script) (h k : List Item) → IsHistorySoFar (script_terms options script) script h → Extends (length script) options.every h k → CallsBeginScript script k
     → IsHistorySoFar (script_terms options script) script k
 history_extends options script h k (legal, belongs) extends begun = (
   legal_extends options (length script) options.every h k extends legal,
@@ -92,6 +98,7 @@ history_extends options script h k (legal, belongs) extends begun = (
     asked = asked_extends (length script) options.every h k extends belongs.asked;
     turns = turns_extend options (length script) h k extends belongs.turns;
     causes = causes_extend options script options.every h k extends belongs.causes;
+    early = earlier_extends options script options.every h k extends belongs.early;
   },
 )
 
@@ -144,22 +151,23 @@ history_with_call options script h t o r (legal, belongs) may = (
     asked = (belongs.asked, may.unasked);
     turns = (belongs.turns, let turn = may.turn in let one = since_call t o r h in omega arith);
     causes = belongs.causes;
+    early = belongs.early;
   },
 )
 
 -- ---- a pause
 
--- so it is with a plain pause that has a cause
+-- so it is with a plain pause that has a cause, where at the last one not all threads had ended
 pub history_with_pause : (options : RunOptions) (script : Script) (h : List Item) (report : PauseReport) → IsHistorySoFar (script_terms options script) script h
     → IsReport (moment (length script) h) report → report.kind ≡ kind.Plain → HasCause (script_terms options script) script h
-    → IsHistorySoFar (script_terms options script) script (Pause report ∷ h)
-history_with_pause options script h report (legal, belongs) reports plain cause = (
+    → LastPauseWasEarly (script_terms options script) h → IsHistorySoFar (script_terms options script) script (Pause report ∷ h)
+history_with_pause options script h report (legal, belongs) reports plain cause early = (
   (
     legal,
     promise_kept options (length script) h (Pause report) legal,
     record { stands = subst (MayStand (script_terms options script) h (moment (length script) h) report.number) (sym plain) (inl refl); reports = reports },
   ),
-  record { calls = belongs.calls; asked = belongs.asked; turns = belongs.turns; causes = (belongs.causes, cause) },
+  record { calls = belongs.calls; asked = belongs.asked; turns = belongs.turns; causes = (belongs.causes, cause); early = early },
 )
 
 -- ---- the end
@@ -181,6 +189,6 @@ history_whole options script h report (legal, belongs) whole = record {
     asked = belongs.asked;
     turns = belongs.turns;
     causes = belongs.causes;
-    last = (whole.ended, whole.early);
+    last = (whole.ended, belongs.early);
   };
 }

@@ -15,11 +15,11 @@ use Rattle.lxr_model.specs.Moments.{Moment, moment}
 use Rattle.lxr_model.specs.Full.{IsRightAfterPause, LeaveNoRun}
 use Rattle.lxr_model.specs.Legal.{IsLegalSoFar, Replies}
 use Rattle.lxr_model.specs.Belongs.{HasCause, Script, is_new, next_operation}
-use Rattle.lxr_between.specs.Meaning.{Meaning}
-use Rattle.lxr_between.specs.Between.{IsBetween}
-use Rattle.lxr_room.specs.Room.{HasWorld}
-use Rattle.lxr_room.proofs.RoomLemmas.{paused_full_leaves_no_run, roomless_blocks_are_taken}
-use Rattle.lxr_room.proofs.WorldLemmas.{world_keeps_shape}
+use Rattle.lxr_invariant.specs.AbstractState.{AbstractState}
+use Rattle.lxr_invariant.specs.Quiescent.{IsQuiescent}
+use Rattle.lxr_full.specs.Room.{HasWorld}
+use Rattle.lxr_full.proofs.RoomLemmas.{paused_full_leaves_no_run, roomless_blocks_are_taken}
+use Rattle.lxr_full.proofs.WorldLemmas.{world_keeps_shape}
 use Rattle.lxr_run_words.specs.declared.RunOptions.{RunOptions}
 use Rattle.lxr_run_history.specs.Run.{script_terms}
 
@@ -31,8 +31,8 @@ none_made threads P (Call t (op.New dest shape) reply.Full ∷ h) after = none_m
 none_made threads P (Call t o r ∷ h) after = absurd after
 
 -- a `new` that finds no room then may be refused
-pub may_be_refused : (options : RunOptions) (script : Script) (h : List Item) (s : Space) (g : Meaning) (t dest : ℕ) (shape : Shape) → IsLegalSoFar (script_terms options script) h
-    → IsRightAfterPause (λ report. Unit {0}) h → IsBetween s g → g.moment ≡ moment (length script) h → g.moment.trace ≡ None → s.limits.blocks ≡ options.blocks → IsFull s shape
+pub may_be_refused : (options : RunOptions) (script : Script) (h : List Item) (s : Space) (g : AbstractState) (t dest : ℕ) (shape : Shape) → IsLegalSoFar (script_terms options script) h
+    → IsRightAfterPause (λ report. Unit {0}) h → IsQuiescent s g → g.moment ≡ moment (length script) h → g.moment.trace ≡ None → s.limits.blocks ≡ options.blocks → IsFull s shape
     → Replies (script_terms options script) h t (op.New dest shape) reply.Full
 may_be_refused options script h s g t dest shape legal after between is no_trace blocks full =
     let world : HasWorld (moment (length script) h).state.graph = world_keeps_shape (script_terms options script) h legal in
@@ -45,8 +45,8 @@ may_be_refused options script h s g t dest shape legal after between is no_trace
     )
 
 -- and one that finds none is a cause of a pause
-pub room_cause : (options : RunOptions) (script : Script) (h : List Item) (s : Space) (g : Meaning) (t dest : ℕ) (shape : Shape) → 1 ≤ t → t ≤ length script
-    → next_operation script t h ≡ Some (op.New dest shape) → IsBetween s g → g.moment ≡ moment (length script) h → g.moment.trace ≡ None → s.limits.blocks ≡ options.blocks → FitsShape shape → IsFull s shape
+pub room_cause : (options : RunOptions) (script : Script) (h : List Item) (s : Space) (g : AbstractState) (t dest : ℕ) (shape : Shape) → 1 ≤ t → t ≤ length script
+    → next_operation script t h ≡ Some (op.New dest shape) → IsQuiescent s g → g.moment ≡ moment (length script) h → g.moment.trace ≡ None → s.limits.blocks ≡ options.blocks → FitsShape shape → IsFull s shape
     → HasCause (script_terms options script) script h
 room_cause options script h s g t dest shape low high next between is no_trace blocks fits full =
     let taken : s.limits.blocks ≤ length g.moment.unreclaimed + length g.moment.made = roomless_blocks_are_taken s g shape between no_trace fits full in

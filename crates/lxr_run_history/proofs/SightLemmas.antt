@@ -7,8 +7,8 @@ use Rattle.lxr_graph.specs.declared.Op.{Op}
 use Rattle.lxr_graph.specs.declared.Reply.{Reply}
 use Rattle.lxr_graph.specs.History.{Item, Call, Pause, PauseReport}
 use Rattle.lxr_image.specs.Image.{opening_at}
-use Rattle.lxr_watch.specs.Sights.{Looks, Sight}
-use Rattle.lxr_epoch.specs.Scenes.{Extends, same, called}
+use Rattle.lxr_run_watch.specs.Sights.{Looks, Sight}
+use Rattle.lxr_core_events.specs.EpochStates.{Extends, same, called}
 use Rattle.lxr_run_history.specs.Sights.{SeesPause, SeesTo}
 
 -- before the first pause nothing is seen
@@ -29,18 +29,18 @@ pub sees_epoch : (threads every : ℕ) (h k : List Item) (before seen : Option (
 sees_epoch threads every h k before seen places (same) sees = sees
 sees_epoch threads every h k before seen places (called l t o r front is) sees = sees_call threads l t o r before seen places (sees_epoch threads every h l before seen places front sees)
 
--- a pause is seen by the looks at its door and behind it
-pub sees_pause : (threads : ℕ) (h : List Item) (report : PauseReport) (before seen amid after : Option (List Sight)) (door last : Sight) (places places' : Name → ℕ)
-    → SeesTo threads h before seen places → Looks seen amid door → Looks amid after last → SeesPause threads h report door last places places'
+-- a pause is seen by the looks at its safepoint and behind it
+pub sees_pause : (threads : ℕ) (h : List Item) (report : PauseReport) (before seen amid after : Option (List Sight)) (safepoint last : Sight) (places places' : Name → ℕ)
+    → SeesTo threads h before seen places → Looks seen amid safepoint → Looks amid after last → SeesPause threads h report safepoint last places places'
     → SeesTo threads (Pause report ∷ h) before after places'
-sees_pause threads h report before seen amid None door last places places' sees first second pause = tt
-sees_pause threads h report before seen None (Some after) door last places places' sees first second pause = absurd second
-sees_pause threads h report before None (Some amid) (Some after) door last places places' sees first second pause = absurd first
-sees_pause threads h report None (Some seen) (Some amid) (Some after) door last places places' sees first second pause = absurd sees
-sees_pause threads h report (Some before) (Some seen) (Some amid) (Some after) door last places places' (sights, e, pauses) first second pause = (
-  sights ++ door ∷ last ∷ [],
-  grown before sights seen amid after door last e first second,
-  (sights, door, last, places, refl, pauses, pause),
+sees_pause threads h report before seen amid None safepoint last places places' sees first second pause = tt
+sees_pause threads h report before seen None (Some after) safepoint last places places' sees first second pause = absurd second
+sees_pause threads h report before None (Some amid) (Some after) safepoint last places places' sees first second pause = absurd first
+sees_pause threads h report None (Some seen) (Some amid) (Some after) safepoint last places places' sees first second pause = absurd sees
+sees_pause threads h report (Some before) (Some seen) (Some amid) (Some after) safepoint last places places' (sights, e, pauses) first second pause = (
+  sights ++ safepoint ∷ last ∷ [],
+  grown before sights seen amid after safepoint last e first second,
+  (sights, safepoint, last, places, refl, pauses, pause),
 )
   where
     grown : (u s v w x : List Sight) (a b : Sight) → v ≡ u ++ s → w ≡ v ++ a ∷ [] → x ≡ w ++ b ∷ [] → x ≡ u ++ (s ++ a ∷ b ∷ [])

@@ -1,22 +1,22 @@
--- What holds of a space between epochs and at a pause's door doesn't read its tally.
+-- What holds of a space between epochs and at a safepoint before a pause doesn't read its tally.
 use Rattle.lxr_image.specs.declared.space.Space.{Space}
 use Rattle.lxr_image.specs.declared.space.Tally.{Tally}
-use Rattle.lxr_between.specs.Meaning.{Meaning}
-use Rattle.lxr_between.specs.Between.{IsAtDoor, IsBetween}
-use Rattle.lxr_one_pause.proofs.FrameLemmas.{holds_told}
+use Rattle.lxr_invariant.specs.AbstractState.{AbstractState}
+use Rattle.lxr_invariant.specs.Quiescent.{IsAtSafepoint, IsQuiescent}
+use Rattle.lxr_run_pause.proofs.FrameLemmas.{holds_told}
 
--- a door stays one whatever the tally
-pub door_tallied : (s : Space) (g : Meaning) (tally : Tally) → IsAtDoor s g → IsAtDoor (record s { tally = tally }) g
-door_tallied s g tally door = record {
-  holds = holds_told s g.moment g.at s.report tally s.pauses door.holds.room.report door.holds;
-  numbers = record { pauses = door.numbers.pauses; trace = door.numbers.trace; report = door.numbers.report };
-  traced = door.traced;
+-- a safepoint stays one whatever the tally
+pub safepoint_tallied : (s : Space) (g : AbstractState) (tally : Tally) → IsAtSafepoint s g → IsAtSafepoint (record s { tally = tally }) g
+safepoint_tallied s g tally safepoint = record {
+  holds = holds_told s g.moment g.at s.report tally s.pauses safepoint.holds.room.report safepoint.holds;
+  numbers = record { pauses = safepoint.numbers.pauses; trace = safepoint.numbers.trace; report = safepoint.numbers.report };
+  traced = safepoint.traced;
 }
 
 -- so does what holds between epochs
-pub between_tallied : (s : Space) (g : Meaning) (tally : Tally) → IsBetween s g → IsBetween (record s { tally = tally }) g
-between_tallied s g tally between = record {
-  door = door_tallied s g tally between.door;
+pub quiescent_tallied : (s : Space) (g : AbstractState) (tally : Tally) → IsQuiescent s g → IsQuiescent (record s { tally = tally }) g
+quiescent_tallied s g tally between = record {
+  safepoint = safepoint_tallied s g tally between.safepoint;
   unwritten = between.unwritten;
   undecremented = between.undecremented;
   lines = between.lines;

@@ -6,30 +6,29 @@ use Rattle.lxr_model.specs.Belongs.{HasCause, IsHistorySoFar, LastPauseWasEarly,
 use Rattle.lxr_model.specs.Kinds.{ends}
 use Rattle.lxr_model.specs.Moments.{moment}
 use Rattle.lxr_model.specs.Reports.{IsReport}
-use Rattle.lxr_epoch.specs.Scenes.{Extends}
+use Rattle.lxr_core_events.specs.EpochStates.{Extends}
 use Rattle.lxr_run_words.specs.declared.RunOptions.{RunOptions}
 use Rattle.lxr_run_history.specs.Run.{IsHistoryOf, script_terms}
 
 -- each thread's calls are as many of its operations and its end
-abbrev pub HasBegun : Script → List Item → Type 0
-HasBegun script h = (t : ℕ) → 1 ≤ t → t ≤ length script → (n : ℕ) × (calls_of t h ≡ take n (operations_of script t))
+abbrev pub CallsBeginScript : Script → List Item → Type 0
+CallsBeginScript script h = (t : ℕ) → 1 ≤ t → t ≤ length script → (n : ℕ) × (calls_of t h ≡ take n (operations_of script t))
 
 -- the calls of an epoch lead from a history so far to one
 abbrev pub EpochsKeepHistories : Type 0
-EpochsKeepHistories = (options : RunOptions) (script : Script) (h k : List Item) → IsHistorySoFar (script_terms options script) script h → Extends (length script) options.every h k → HasBegun script k
+EpochsKeepHistories = (options : RunOptions) (script : Script) (h k : List Item) → IsHistorySoFar (script_terms options script) script h → Extends (length script) options.every h k → CallsBeginScript script k
     → IsHistorySoFar (script_terms options script) script k
 
--- so does a plain pause that has a cause
+-- so does a plain pause that has a cause, where at the last one not all threads had ended
 abbrev pub PausesKeepHistories : Type 0
 PausesKeepHistories = (options : RunOptions) (script : Script) (h : List Item) (report : PauseReport) → IsHistorySoFar (script_terms options script) script h
     → IsReport (moment (length script) h) report → report.kind ≡ Plain → HasCause (script_terms options script) script h
-    → IsHistorySoFar (script_terms options script) script (Pause report ∷ h)
+    → LastPauseWasEarly (script_terms options script) h → IsHistorySoFar (script_terms options script) script (Pause report ∷ h)
 
--- all threads have done all their operations and their ends, and at the last pause not all had
+-- all threads have done all their operations and their ends
 pub record HasEnded (options : RunOptions) (script : Script) (h : List Item) : Type 0 where
   pub calls : (t : ℕ) → 1 ≤ t → t ≤ length script → calls_of t h ≡ operations_of script t
   pub ended : ends h ≡ length script
-  pub early : LastPauseWasEarly (script_terms options script) h
 
 -- then the next pause makes the history whole
 abbrev pub EndedHistoriesAreWhole : Type 0

@@ -1,4 +1,5 @@
 pub mod Tally
 pub mod Run
+pub mod Left
 pub mod Sights
 pub mod Growing

@@ -5,42 +5,42 @@ use Rattle.lxr_graph.specs.Names.{has}
 use Rattle.lxr_graph.specs.History.{Item, Call, Pause, PauseReport}
 use Rattle.lxr_image.specs.declared.space.Space.{Space}
 use Rattle.lxr_image.specs.Image.{opening_at}
-use Rattle.lxr_between.specs.Meaning.{Meaning}
-use Rattle.lxr_between.specs.Between.{IsAtDoor, IsBetween}
-use Rattle.lxr_watch.specs.Sights.{Sight, sight_of}
-use Rattle.lxr_run_history.specs.Run.{StandsAfter}
+use Rattle.lxr_invariant.specs.AbstractState.{AbstractState}
+use Rattle.lxr_invariant.specs.Quiescent.{IsAtSafepoint, IsQuiescent}
+use Rattle.lxr_run_watch.specs.Sights.{Sight, sight_of}
+use Rattle.lxr_run_history.specs.Left.{StandsAfter}
 
--- a sight is that of a space at a pause's door, and of one between epochs, whatever room its lists have
-abbrev pub IsSightAtDoor : Sight → Meaning → Type 0
-IsSightAtDoor sight g = (space : Space) × (sight_of space ≡ sight) × IsAtDoor space g
+-- a sight is that of a space at a safepoint, and of one between epochs, whatever room its lists have
+abbrev pub IsSightAtSafepoint : Sight → AbstractState → Type 0
+IsSightAtSafepoint sight g = (space : Space) × (sight_of space ≡ sight) × IsAtSafepoint space g
 
-abbrev pub IsSightBetween : Sight → Meaning → Type 0
-IsSightBetween sight g = (space : Space) × (sight_of space ≡ sight) × IsBetween space g
+abbrev pub IsSightQuiescent : Sight → AbstractState → Type 0
+IsSightQuiescent sight g = (space : Space) × (sight_of space ≡ sight) × IsQuiescent space g
 
 -- these names' objects are at the same places
 abbrev pub SamePlaces : List Name → (Name → ℕ) → (Name → ℕ) → Type 0
 SamePlaces ns before after = (n : Name) → IsTrue (has ns n) → after n ≡ before n
 
--- The sights of one pause after h: the space at its door, with the unreclaimed objects where they were, and the space after
--- it, which moved no object that stays. `places` and `places'` are the maps before the door and after the pause.
-pub record SeesPause (threads : ℕ) (h : List Item) (report : PauseReport) (door after : Sight) (places places' : Name → ℕ) : Type 0 where
-  pub meaning : Meaning
-  pub stands : StandsAfter threads h meaning
-  pub at_door : IsSightAtDoor door meaning
-  pub kept : SamePlaces meaning.moment.unreclaimed places meaning.at
-  pub meaning' : Meaning
-  pub stands' : StandsAfter threads (Pause report ∷ h) meaning'
-  pub between : IsSightBetween after meaning'
-  pub places_are : places' ≡ meaning'.at
-  pub unmoved : (n : Name) → IsTrue (has meaning.moment.unreclaimed n) → IsTrue (has meaning'.moment.unreclaimed n) → meaning'.at n ≡ meaning.at n
+-- The sights of one pause after h: the space at its safepoint, with the unreclaimed objects where they were, and the space after
+-- it, which moved no object that stays. `places` and `places'` are the maps before the safepoint and after the pause.
+pub record SeesPause (threads : ℕ) (h : List Item) (report : PauseReport) (safepoint after : Sight) (places places' : Name → ℕ) : Type 0 where
+  pub abstract_state : AbstractState
+  pub stands : StandsAfter threads h abstract_state
+  pub at_safepoint : IsSightAtSafepoint safepoint abstract_state
+  pub kept : SamePlaces abstract_state.moment.unreclaimed places abstract_state.at
+  pub abstract_state' : AbstractState
+  pub stands' : StandsAfter threads (Pause report ∷ h) abstract_state'
+  pub between : IsSightQuiescent after abstract_state'
+  pub places_are : places' ≡ abstract_state'.at
+  pub unmoved : (n : Name) → IsTrue (has abstract_state.moment.unreclaimed n) → IsTrue (has abstract_state'.moment.unreclaimed n) → abstract_state'.at n ≡ abstract_state.at n
 
 -- The sights of a history of so many threads, two for each pause, in order; at the opening the world alone has a place.
 abbrev pub SeesPauses : ℕ → List Item → List Sight → (Name → ℕ) → Type 0
 SeesPauses threads [] sights places = (sights ≡ []) × (places ≡ opening_at)
 SeesPauses threads (Call t o r ∷ h) sights places = SeesPauses threads h sights places
 SeesPauses threads (Pause report ∷ h) sights places =
-    (before : List Sight) × (door after : Sight) × (old : Name → ℕ)
-    × (sights ≡ before ++ door ∷ after ∷ []) × SeesPauses threads h before old × SeesPause threads h report door after old places
+    (before : List Sight) × (safepoint after : Sight) × (old : Name → ℕ)
+    × (sights ≡ before ++ safepoint ∷ after ∷ []) × SeesPauses threads h before old × SeesPause threads h report safepoint after old places
 
 -- A watch that tells what it saw after a run told what it saw before, and saw the pauses of a history since; these are the
 -- places at the last of them.

@@ -6,7 +6,7 @@ use Rattle.std.specs.Borrow.{Bor}
 use Rattle.std.proofs.lemmas.List.{append-nil, take_all}
 use Rattle.std.proofs.lemmas.Bool.{leb-true}
 use Rattle.std.proofs.lemmas.Slice.Eq.{bytes_eq-Decides}
-use Rattle.lxr_script.specs.Numbers.{number_of}
+use Rattle.lxr_text_script.specs.Numbers.{number_of}
 use Rattle.lxr_run_words.specs.declared.NumberOption.{NumberOption}
 use Rattle.lxr_run_words.specs.declared.RunOptions.{RunOptions}
 use Rattle.lxr_run_words.specs.CommandLines.{AreInRange, IsCommandLine, Numbers, Spells, Text, in_range, none_given, nothing, number_in, number_or, numbers_in, numbers_with, option_named, options_from, set_named, set_number, set_option, setting}
@@ -112,27 +112,27 @@ refused_settings words o read = (
 
 -- ---- ranges
 
-abbrev pub IsBetween : ℕ → ℕ → ℕ → Type 0
-IsBetween least greatest n = (least ≤ n) × (n ≤ greatest)
+abbrev pub IsWithin : ℕ → ℕ → ℕ → Type 0
+IsWithin least greatest n = (least ≤ n) × (n ≤ greatest)
 
 -- each option of an index has this range
 abbrev pub HasRange : ℕ → ℕ → ℕ → Type 0
 HasRange index least greatest = (name : Text) (option : NumberOption) → option_named name ≡ Some option → option.index ≡ index → (option.least ≡ least) × (option.greatest ≡ greatest)
 
-within_range : (option : NumberOption) (m n : ℕ) → in_range option m ≡ Some n → IsBetween option.least option.greatest n
+within_range : (option : NumberOption) (m n : ℕ) → in_range option m ≡ Some n → IsWithin option.least option.greatest n
 within_range option m n e = go (nat_le option.least m) refl (nat_le m option.greatest) refl e
   where
-    go : (a : Bool) → nat_le option.least m ≡ a → (b : Bool) → nat_le m option.greatest ≡ b → (if a && b then Some m else None) ≡ Some n → IsBetween option.least option.greatest n
+    go : (a : Bool) → nat_le option.least m ≡ a → (b : Bool) → nat_le m option.greatest ≡ b → (if a && b then Some m else None) ≡ Some n → IsWithin option.least option.greatest n
     go true p true q e =
         let same : m ≡ n = cc in
-        subst (IsBetween option.least option.greatest) same (leb-true option.least m p, leb-true m option.greatest q)
+        subst (IsWithin option.least option.greatest) same (leb-true option.least m p, leb-true m option.greatest q)
     go true p false q e = absurd (cc)
     go false p b q e = absurd (cc)
 
-number_within : (option : NumberOption) (value : Text) (n : ℕ) → number_in option value ≡ Some n → IsBetween option.least option.greatest n
+number_within : (option : NumberOption) (value : Text) (n : ℕ) → number_in option value ≡ Some n → IsWithin option.least option.greatest n
 number_within option value n e = go (number_of value) e
   where
-    go : (o : Option ℕ) → option_and_then (in_range option) o ≡ Some n → IsBetween option.least option.greatest n
+    go : (o : Option ℕ) → option_and_then (in_range option) o ≡ Some n → IsWithin option.least option.greatest n
     go None e = absurd (cc)
     go (Some m) e = within_range option m n e
 
@@ -143,11 +143,11 @@ changed_or_same (x ∷ xs) zero (suc k) v P same changed = same
 changed_or_same (x ∷ xs) (suc i) zero v P same changed = same
 changed_or_same (x ∷ xs) (suc i) (suc k) v P same changed = changed_or_same xs i k v P same (λ e. changed (ap suc e))
 
-pub numbers_between : (words : List Text) (numbers : Numbers) (index least greatest default : ℕ) → HasRange index least greatest → IsBetween least greatest default
-    → slice_index_or none_given index None ≡ None → Spells words numbers → IsBetween least greatest (number_or index default numbers)
-numbers_between _ _ index least greatest default ranges fits none nothing = subst (λ z. IsBetween least greatest (unwrap_or z default)) (sym none) fits
+pub numbers_between : (words : List Text) (numbers : Numbers) (index least greatest default : ℕ) → HasRange index least greatest → IsWithin least greatest default
+    → slice_index_or none_given index None ≡ None → Spells words numbers → IsWithin least greatest (number_or index default numbers)
+numbers_between _ _ index least greatest default ranges fits none nothing = subst (λ z. IsWithin least greatest (unwrap_or z default)) (sym none) fits
 numbers_between _ _ index least greatest default ranges fits none (setting words numbers name value option n spells named free number) =
-    changed_or_same numbers option.index index (Some n) (λ z. IsBetween least greatest (unwrap_or z default))
+    changed_or_same numbers option.index index (Some n) (λ z. IsWithin least greatest (unwrap_or z default))
     (numbers_between words numbers index least greatest default ranges fits none spells)
     (λ same.
     let range = ranges name option named same in

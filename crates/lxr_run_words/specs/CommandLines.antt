@@ -1,7 +1,7 @@
 -- The words of a command line: `run`, then options, each at most once and as two words `--name value`, in any order.
 use Rattle.std.specs.Prelude.{◌≡◌, ℕ, ◌≤◌, ◌&&◌, nat_le, if◌then◌else◌, Option, Some, None, option_and_then, List, [], ◌∷◌, ◌++◌, replicate, slice_get, slice_index_or, slice_set, unwrap_or, codes}
 use Rattle.std.specs.Str.{bytes_eq}
-use Rattle.lxr_script.specs.Numbers.{number_of}
+use Rattle.lxr_text_script.specs.Numbers.{number_of}
 use Rattle.lxr_run_words.specs.declared.NumberOption.{NumberOption}
 use Rattle.lxr_run_words.specs.declared.RunOptions.{RunOptions}
 

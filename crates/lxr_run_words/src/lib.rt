@@ -7,7 +7,7 @@
 ghost use Rattle.std.specs.Prelude.{◌≡◌, ◌↔◌, IfSome, Some, map};
 ghost use Rattle.lxr_run_words.specs.CommandLines.{AreInRange, IsCommandLine, number_in, numbers_in, option_named, set_number};
 
-use lxr_script::number_of;
+use lxr_text_script::number_of;
 
 /// How many options there are.
 const OPTIONS: usize = 4;

@@ -12,6 +12,3 @@ mod zeros;
 pub use laws::swept_is_by_lines;
 pub use states::sweep_lines;
 pub use zeros::zero_lines;
-
-#[cfg(test)]
-mod tests;

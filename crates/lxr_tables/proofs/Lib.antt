@@ -1,2 +1,4 @@
+pub mod BitLemmas
 pub mod EntryLemmas
+pub mod LanesLemmas
 pub mod MaskLemmas

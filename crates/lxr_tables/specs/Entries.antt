@@ -1,5 +1,6 @@
 -- Words as tables: each word is cut into entries of a few bits, and a table is the list of all entries.
-use Rattle.std.specs.Prelude.{◌≡◌, ℕ, zero, suc, ◌/◌, ◌%◌, ◌^◌, List, [], ◌∷◌, drop, slice_index, slice_set}
+use Rattle.std.specs.Prelude.{◌≡◌, ℕ, zero, suc, ◌-◌, ◌/◌, ◌%◌, ◌^◌, Bool, nat_eq, List, [], ◌∷◌, drop, slice_index, slice_set}
+use Rattle.std.specs.Int.{bit_at}
 use Rattle.std.specs.List.{flat_map}
 use Rattle.lxr_layout.specs.declared.TheConstants.{COUNT_BITS}
 use Rattle.lxr_tables.specs.declared.counts.TheConstants.{COUNTS_IN_WORD}
@@ -24,3 +25,11 @@ counts_from words base = table COUNT_BITS COUNTS_IN_WORD (drop base words)
 -- every word but one is as it was
 abbrev pub OthersStay : List ℕ → List ℕ → ℕ → Type 0
 OthersStay before after at = after ≡ slice_set before at (slice_index after at)
+
+-- this bit of a word is set
+abbrev pub is_set : ℕ → ℕ → Bool
+is_set word n = nat_eq (bit_at word n) 1
+
+-- all bits of a word but one
+abbrev pub all_but : ℕ → ℕ
+all_but n = 2 ^ 64 - 1 - 2 ^ n

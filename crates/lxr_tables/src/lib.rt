@@ -8,11 +8,10 @@
 
 mod bits;
 mod counts;
+mod lanes;
 mod words;
 
 pub use bits::{bit, clear_bit, set_bit};
 pub use counts::{COUNTS_IN_WORD, Lowered, Raised, lower_two, raise_two, set_two, two};
+pub use lanes::{COUNT_WORDS_IN_BLOCK, uncounted_lines, zero_lanes};
 pub use words::{PlainWords, Words};
-
-#[cfg(test)]
-mod tests;

@@ -1,9 +1,14 @@
 //! Words that are read and written one at a time.
 //!
-//! `Words` is what the tables ask of their words. `PlainWords` are words of one owner; how they lie in memory is
-//! private, and contracts see the list of them.
+//! `Words` is what the tables ask of their words. `PlainWords` are words of one owner; contracts see the list of them.
+//! They lie in the memory of a closed table of atomic words, so that an epoch opens that over them, and gives them back at
+//! its end, without a copy.
 ghost use Rattle.std.specs.Prelude.{◌≡◌, ℕ, ◌+◌, ◌<◌, List, [], length, slice_index, slice_set, replicate, IfOk};
+ghost use Rattle.atomic_table.specs.Table.{opening, Final, Seen};
 
+use atomic_table::{Seat, Table, TableRule};
+use lxr_tables_reopen::KeyFrom;
+use lxr_tables_words::ClosedWords;
 use std::alloc::{AllocError, Global};
 use std::marker::Model;
 
@@ -27,41 +32,69 @@ pub trait Words {
         ensures { words_of self.new ≡ slice_set (words_of self.old) at value };
 }
 
-/// Words of one owner.
+/// Words of one owner, which an epoch can use where they lie.
 #[derive(Drop)]
 pub struct PlainWords {
-    items: Vec<u64>,
+    // None where there are no words, so that these take no memory.
+    closed: Option<ClosedWords<Global>>,
 }
 
 impl Model for PlainWords {
+    ghost use Rattle.std.specs.Prelude.{ℕ, List};
+    ghost use Rattle.lxr_tables.specs.Words.{words_in};
+
     ghost Value = { List ℕ };
 
-    ghost view = { λ w. w.items.items };
+    ghost view = { λ w. words_in w.closed };
 }
 
 impl PlainWords {
     /// No words. It takes no memory.
-    pub fn empty(alloc: Global) -> PlainWords
+    pub fn empty(_alloc: Global) -> PlainWords
         ensures { result ≡ [] }
     {
-        PlainWords {
-            items: Vec::new(alloc),
-        }
+        PlainWords { closed: None }
     }
 
     /// So many words, all 0.
     pub fn new(alloc: Global, count: usize) -> Result<PlainWords, AllocError>
         ensures { IfOk result (λ w. w ≡ replicate count 0) }
     {
-        let items = vec![in alloc; 0_u64; count]?;
-        Ok(PlainWords { items })
+        let closed = ClosedWords::new(alloc, count)?;
+        Ok(PlainWords {
+            closed: Some(closed),
+        })
     }
 
-    /// All words, to be read.
-    pub fn as_slice(&self) -> &[u64]
-        ensures { result.now ≡ self.now }
+    /// A table of atomic words over these, where they lie, and its first seat. The condition is that there are words, and
+    /// that the rule holds of them. It copies no word and takes no memory.
+    pub fn open<V, K, P: TableRule<(), V, K>, B, Q: KeyFrom<B, K>>(
+        self,
+        about: &B,
+    ) -> (Table<(), V, K, P, Global>, Seat<(), V>)
+        requires words { 0 < length self }
+        requires rule { P.holds (Q.key about.now self) (opening self [] (P.first (Q.key about.now self))) }
+        ensures table { (result.0.shared.table_id.words ≡ length self) × (result.0.shared.table_id.slots ≡ 0) × (result.0.shared.key ≡ Q.key about.now self) }
+        ensures seat { (result.1.table_id ≡ result.0.shared.table_id) × (result.1.id ≡ 0) × (result.1.me ≡ (P.first (Q.key about.now self), [])) }
     {
-        self.items.as_slice()
+        match self.closed {
+            Some(closed) => closed.open::<V, K, P, B, Q>(about),
+            None => unreachable!(),
+        }
+    }
+
+    /// The words of a table that has no slots, where they lie: those of a last state, which has the seat's view.
+    pub fn close<V, K, P: TableRule<(), V, K>>(
+        table: Table<(), V, K, P, Global>,
+        seat: Seat<(), V>,
+    ) -> PlainWords
+        requires { (seat.table_id ≡ table.shared.table_id) × (table.shared.table_id.slots ≡ 0) }
+        ensures count { length result ≡ table.shared.table_id.words }
+        ensures values { Final (Seen (P.holds table.shared.key) seat.id seat.me.0) result [] }
+    {
+        PlainWords {
+            closed: Some(ClosedWords::close(table, seat)),
+        }
     }
 }
 
@@ -80,14 +113,23 @@ impl Words for PlainWords {
     ghost words_of = { λ w. w };
 
     fn count(&self) -> usize {
-        self.items.len()
+        match &self.closed {
+            Some(closed) => closed.count(),
+            None => 0,
+        }
     }
 
     fn get(&self, at: usize) -> u64 {
-        self.items[at]
+        match &self.closed {
+            Some(closed) => closed.get(at),
+            None => unreachable!(),
+        }
     }
 
     fn set(&mut self, at: usize, value: u64) {
-        self.items[at] = value;
+        match &mut self.closed {
+            Some(closed) => closed.set(at, value),
+            None => unreachable!(),
+        }
     }
 }

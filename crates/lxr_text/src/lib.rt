@@ -1,16 +1,18 @@
-//! The printed texts: the replies of a thread, the report of a pause, the summary of a run. Each is defined byte for
-//! byte in `specs/`, and written to a sink in large pieces. After an error a front of the text is written.
+//! Text in and out: streams, scripts, loads, and what is printed.
+//!
+//! A [`Source`] gives bytes and a [`Sink`] takes them, each with a count of its faults; both exist over the real streams
+//! and in memory. [`read_script`] reads a script by its grammar or names its first fault with the line, and
+//! [`make_load`] makes one from a seed. [`print_pause`], [`print_replies`] and [`print_summary`] write a report, the
+//! replies of a thread and the sums of a load, byte for byte as their definitions say.
+//!
+//! The work is done in the rooms `lxr_text_stream`, `lxr_text_script`, `lxr_text_load` and `lxr_text_print`; crates of
+//! this repository stand on these.
 #![tactic(auto)]
 
-mod laws;
-mod pages;
-mod pauses;
-mod replies;
-mod summary;
-#[cfg(test)]
-mod tests;
-
-pub use laws::{text_grows_by_calls, text_is_of_operations};
-pub use pauses::print_pause;
-pub use replies::print_replies;
-pub use summary::{Sums, print_summary};
+pub use lxr_text_load::make_load;
+pub use lxr_text_print::{Sums, print_pause, print_replies, print_summary};
+pub use lxr_text_script::{Lists, Script, ScriptError, ScriptFault, error_line, read_script};
+pub use lxr_text_stream::{
+    Bytes, Faults, Kept, Out, Plenty, Put, ReadError, Sink, Source, Standard, Taken, Whole,
+    WriteError, put_all, read_all,
+};

@@ -3,7 +3,7 @@ pub mod Alike
 pub mod CommandLines
 pub mod Lists
 pub mod Matches
-pub mod Meaning
+pub mod MeaningLemmas
 pub mod Rules
 pub mod Spellings
 pub mod Walks

@@ -111,6 +111,3 @@ pub enum WordError {
     #[error("out of memory")]
     Memory,
 }
-
-#[cfg(test)]
-mod tests;

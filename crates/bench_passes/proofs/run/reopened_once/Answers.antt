@@ -1,8 +1,8 @@
 use Rattle.std.proofs.Common.{◌≡◌, List, length, map, All, ap, sym, ◌∙◌, subst}
 use Rattle.lxr_actor.specs.declared.Core.{Core}
 use Rattle.lxr_actor.proofs.Runs.{run-lengths}
-use Rattle.lxr_passes.specs.Passing.{Passing, dealt}
-use Rattle.lxr_threads_test.proofs.Served.{dealt-epoch}
+use Rattle.lxr_shared_passes.specs.Passing.{Passing, dealt}
+use Rattle.test_threads.proofs.Served.{dealt-epoch}
 use Rattle.bench_passes.specs.declared.walker.Walker.{Walker}
 use Rattle.bench_passes.specs.Walking.{walking}
 use Rattle.bench_passes.proofs.Fits.{walkers-fit}

@@ -1,10 +1,12 @@
-use Rattle.std.proofs.Common.{◌≡◌, ◌+◌, ◌∙◌, [], ◌∷◌, ap, arith, length, length-append, refl, subst, sym, true}
+use Rattle.std.proofs.Common.{◌≡◌, ◌+◌, ◌∙◌, [], ◌∷◌, ap, arith, length, length-append, refl, subst, sym}
 use Rattle.std.specs.Prelude.{map}
 use Rattle.std.proofs.lemmas.List.{length-map}
+use Rattle.lxr_layout.specs.declared.TheConstants.{LINES_IN_BLOCK}
 use Rattle.lxr_layout.specs.Runs.{word_of_run}
 use Rattle.lxr_image.specs.Spaces.{Turns, tables_of}
 use Rattle.lxr_image.proofs.SpaceLemmas.{still_space}
-use Rattle.lxr_blocks.specs.Lines.{IsFirstLine, IsNextRun, free_in, runs_below}
+use Rattle.lxr_blocks.specs.Lines.{free_in, runs_below}
+use Rattle.lxr_blocks.specs.Masks.{AreEdges}
 use Rattle.lxr_blocks.specs.Listing.{with_runs}
 use Rattle.lxr_blocks.proofs.ListingLemmas.{IsEdge, edge_behind, few_runs, first_listed, last_listed, next_listed, next_words, room_left, run_more, runs_none}
 use Rattle.lxr_blocks.proofs.listing.list_lines.Goals as goal
@@ -16,6 +18,7 @@ loop-run-init c =
     record {
       space = c.requires.space;
       within = omega arith;
+      edges = c.edges_of-edges.ensures (free_in (tables_of c.args.space.now) c.args.block) c.free_mask.ensures;
       edge = λ some _. absurd (omega (arith, some));
       turns = runs_none c.args.space.now c.args.first (map word_of_run (runs_below (free_in (tables_of c.args.space.now) c.args.block) c.args.block 0)) (ap (map word_of_run) none);
       count = omega arith;
@@ -25,7 +28,7 @@ pub put_run-requires-clause-at : goal.put_run-requires-clause-at
 put_run-requires-clause-at c =
     let t = tables_of c.args.space.now in let free = free_in t c.args.block in
     let before = c.loop-run.invariant in
-    let next = subst (λ u. IsNextRun (free_in u c.args.block) c.args.block c.loop-run.line c.in-Some.run') before.turns.tables c.in-Some.ensures.run in
+    let next = (c.in-Some.ensures.run free c.loop-run.line before.edges).0 in
     let left = room_left free c.args.block c.loop-run.line c.in-Some.run' before.edge next in
     let same : c.loop-run.space.limits.blocks ≡ c.args.space.now.limits.blocks = ap (λ s. s.limits.blocks) before.turns.rest in
     let count = before.count in let first = c.requires.first in let block = c.requires.block in
@@ -35,7 +38,7 @@ pub overflow_add-at : goal.overflow_add-at
 overflow_add-at c =
     let t = tables_of c.args.space.now in let free = free_in t c.args.block in
     let before = c.loop-run.invariant in
-    let next = subst (λ u. IsNextRun (free_in u c.args.block) c.args.block c.loop-run.line c.in-Some.run') before.turns.tables c.in-Some.ensures.run in
+    let next = (c.in-Some.ensures.run free c.loop-run.line before.edges).0 in
     let left = room_left free c.args.block c.loop-run.line c.in-Some.run' before.edge next in
     let count = before.count in let first = c.requires.first in let block = c.requires.block in let most = c.requires.space.limits.blocks in
     omega arith
@@ -44,7 +47,7 @@ pub loop-run-preserved : goal.loop-run-preserved
 loop-run-preserved c =
     let t = tables_of c.args.space.now in let free = free_in t c.args.block in
     let before = c.loop-run.invariant in
-    let next = subst (λ u. IsNextRun (free_in u c.args.block) c.args.block c.loop-run.line c.in-Some.run') before.turns.tables c.in-Some.ensures.run in
+    let next = (c.in-Some.ensures.run free c.loop-run.line before.edges).0 in
     let end : c.from.result + c.from-in-Some.result ≡ c.in-Some.run'.line + c.in-Some.run'.lines = λ j. c.from.ensures j + c.from-in-Some.ensures j in
     let within = next.ends.within in
     let more : length (runs_below free c.args.block (c.in-Some.run'.line + c.in-Some.run'.lines)) ≡ length (runs_below free c.args.block c.loop-run.line) + 1 =
@@ -55,6 +58,7 @@ loop-run-preserved c =
     record {
       space = still_space c.loop-run.space c.put_run.new.self _ before.space c.put_run.ensures refl;
       within = omega arith;
+      edges = subst (AreEdges c.in-Some.behind free) (sym end) (c.in-Some.ensures.run free c.loop-run.line before.edges).1;
       edge = subst (IsEdge free) (sym end) (edge_behind free c.args.block c.loop-run.line c.in-Some.run' next);
       turns = run_more c.args.space.now c.loop-run.space c.put_run.new.self c.args.first c.loop-run.at c.run_word.result (map word_of_run (runs_below free c.args.block c.loop-run.line))
           (map word_of_run (runs_below free c.args.block (c.from.result + c.from-in-Some.result))) before.turns
@@ -68,15 +72,15 @@ pub returns-clause-runs : goal.returns-clause-runs
 returns-clause-runs c =
     let t = tables_of c.args.space.now in let free = free_in t c.args.block in
     let before = c.loop-run.invariant in
-    let none = subst (λ u. IsFirstLine (free_in u c.args.block) true c.loop-run.line 128) before.turns.tables c.in_default.ensures.none in
+    let none = c.in_default.ensures.none free c.loop-run.line before.within before.edges in
     subst (λ xs. Turns c.args.space.now c.loop-run.space (with_runs t c.args.first (map word_of_run xs))) (sym (last_listed free c.args.block c.loop-run.line none)) before.turns
 
 pub returns-clause-count : goal.returns-clause-count
 returns-clause-count c =
     let t = tables_of c.args.space.now in let free = free_in t c.args.block in
     let before = c.loop-run.invariant in
-    let none = subst (λ u. IsFirstLine (free_in u c.args.block) true c.loop-run.line 128) before.turns.tables c.in_default.ensures.none in
-    before.count ∙ ap (λ n. c.args.first + n) (ap length (sym (last_listed free c.args.block c.loop-run.line none)) ∙ sym (length-map (runs_below free c.args.block 128) word_of_run))
+    let none = c.in_default.ensures.none free c.loop-run.line before.within before.edges in
+    before.count ∙ ap (λ n. c.args.first + n) (ap length (sym (last_listed free c.args.block c.loop-run.line none)) ∙ sym (length-map (runs_below free c.args.block LINES_IN_BLOCK) word_of_run))
 
 pub returns-clause-room : goal.returns-clause-room
 returns-clause-room c =

@@ -1,19 +1,16 @@
-use Rattle.std.proofs.Common.{◌≡◌, ◌+◌, arith, subst, sym}
+use Rattle.std.proofs.Common.{refl}
 use Rattle.lxr_image.specs.Spaces.{tables_of}
-use Rattle.lxr_blocks.proofs.LineLemmas.{AreShort, first_that_fits, short_more}
+use Rattle.lxr_blocks.proofs.MaskLemmas.{lowest_first, lowest_fits}
 use Rattle.lxr_blocks.proofs.placing.fit_in.Goals as goal
 
-pub returns-then-lines-run-clause-first : goal.returns-then-lines-run-clause-first
-returns-then-lines-run-clause-first c =
-    first_that_fits (tables_of c.args.space.now) c.args.space.now.limits.blocks c.args.block c.loop-run.line c.args.lines c.in-Some.run' c.in-Some.ensures.run c.requires.lines c.loop-run.invariant.short
+pub returns-clause-run : goal.returns-clause-run
+returns-clause-run c = (
+  lowest_fits (tables_of c.args.space.now) c.args.space.now.limits.blocks c.args.block c.free_mask-free.result c.run_starts-starts.result c.args.lines c.requires.block c.free_mask-free.type_inv c.run_starts-starts.type_inv
+      c.requires.lines.0 c.free_mask-free.ensures c.run_starts-starts.ensures c.if-starts-eq0.false,
+  refl,
+  refl,
+)
 
-pub loop-run-preserved : goal.loop-run-preserved
-loop-run-preserved c =
-    let next = c.in-Some.ensures.run in
-    let end : c.from.result + c.from-in-Some.result ≡ c.in-Some.run'.line + c.in-Some.run'.lines = λ j. c.from.ensures j + c.from-in-Some.ensures j in
-    let within = next.ends.within in
-    record {
-      within = omega arith;
-      short = subst (λ e. AreShort (tables_of c.args.space.now) c.args.space.now.limits.blocks c.args.block e c.args.lines) (sym end)
-          (short_more (tables_of c.args.space.now) c.args.space.now.limits.blocks c.args.block c.loop-run.line c.args.lines c.in-Some.run' next c.if-lines-run.false c.loop-run.invariant.short);
-    }
+pub returns-clause-first : goal.returns-clause-first
+returns-clause-first c =
+    lowest_first (tables_of c.args.space.now) c.args.space.now.limits.blocks c.args.block c.free_mask-free.result c.run_starts-starts.result c.args.lines c.run_starts-starts.type_inv c.free_mask-free.ensures c.run_starts-starts.ensures c.if-starts-eq0.false

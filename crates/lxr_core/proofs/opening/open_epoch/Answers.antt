@@ -2,25 +2,21 @@ use Rattle.std.proofs.Common.{◌∙◌, length, sym, ap, subst}
 use Rattle.std.specs.List.{All}
 use Rattle.lxr_mutator.specs.Mutators.{IsHeld}
 use Rattle.lxr_core.specs.Starting.{HaveStarted}
-use Rattle.lxr_core.proofs.OpenedLemmas.{held_before, may_all_start, opened_at}
-use Rattle.lxr_core.proofs.ScriptLemmas.{started_script}
+use Rattle.lxr_core.proofs.OpenedLemmas.{held_before, holds_at, may_all_start, opened_at}
 use Rattle.lxr_core.proofs.opening.open_epoch.Goals as goal
 
--- src/opening.rt:20:5
 pub start_all-requires-clause-held : goal.start_all-requires-clause-held
 start_all-requires-clause-held c =
     let same = ap (λ s. s.registers.items) c.put_cursor.ensures.rest in
     subst (All IsHeld) (sym (c.as_slice.ensures ∙ same)) (held_before c.requires.0 c.args.space.now c.args.actors.now c.requires.1)
 
--- src/opening.rt:20:5
 pub start_all-requires-clause-rest : goal.start_all-requires-clause-rest
 start_all-requires-clause-rest c = may_all_start c.requires.0 c.args.space.now c.args.actors.now c.requires.1
 
--- src/opening.rt:15:1
 pub returns-clause-opens : goal.returns-clause-opens
-returns-clause-opens c = λ b may.
-    opened_at b c.args.space.now c.put_cursor.new.self c.args.actors.now c.start_all.new.actors may c.put_cursor.ensures
+returns-clause-opens c =
+    opened_at c.args.space.now c.put_cursor.new.self c.args.actors.now c.start_all.new.actors c.put_cursor.ensures
     (subst (λ places. HaveStarted places c.args.actors.now c.start_all.new.actors (length c.args.actors.now)) c.as_slice.ensures c.start_all.ensures)
 
-pub returns-clause-script : goal.returns-clause-script
-returns-clause-script c = started_script c.as_slice.result.now c.args.actors.now c.start_all.new.actors c.start_all.ensures
+pub returns-clause-execution : goal.returns-clause-execution
+returns-clause-execution c = λ b begins. holds_at b c.args.space.now c.put_cursor.new.self c.args.actors.now c.start_all.new.actors begins (returns-clause-opens c)

@@ -6,7 +6,7 @@ use Rattle.clap.specs.Simple.{HasMatchesOf, app_of}
 use Rattle.lxr_words.specs.Number.{Text}
 use Rattle.lxr_words.specs.Options.{table_of}
 use Rattle.lxr_words.specs.Arguments.{Finds, app_for}
-use Rattle.lxr_words.proofs.Meaning.{clear_words, found_holds, has_fault, refused_says, simple_is, title}
+use Rattle.lxr_words.proofs.MeaningLemmas.{clear_words, found_holds, has_fault, refused_says, simple_is, title}
 use Rattle.lxr_words.proofs.Walks.{no_dashes}
 use Rattle.lxr_words.proofs.arguments.matches_among.Goals as goal
 

@@ -3,7 +3,7 @@ use Rattle.std.proofs.Common.{◌∙◌, sym, map}
 use Rattle.std.specs.Borrow.{Bor}
 use Rattle.clap.specs.Matches.{found_of}
 use Rattle.lxr_words.specs.Number.{Text}
-use Rattle.lxr_words.proofs.Meaning.{answers, clear_words, dashes_say}
+use Rattle.lxr_words.proofs.MeaningLemmas.{answers, clear_words, dashes_say}
 use Rattle.lxr_words.proofs.reading.read_options.Goals as goal
 
 pub returns-then-has_dashes : goal.returns-then-has_dashes

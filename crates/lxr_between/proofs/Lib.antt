@@ -1,5 +1,0 @@
-pub mod NameLemmas
-pub mod EntryLemmas
-pub mod PlaceLemmas
-pub mod FrameLemmas
-pub mod OpeningLemmas

@@ -1,0 +1,101 @@
+//! The free lines of a block as a mask of 128 bits, and the search in such a mask.
+ghost use Rattle.std.specs.Prelude.{◌≡◌, ◌↔◌, ℕ, ◌+◌, ◌-◌, ◌^◌, ◌<◌, ◌≤◌, IfNone, IfSome, IsBitSet, true, Bool, if◌then◌else◌};
+ghost use Rattle.lxr_layout.specs.declared.TheConstants.{LINES_IN_BLOCK};
+ghost use Rattle.lxr_image.specs.Spaces.{IsSpace, tables_of};
+ghost use Rattle.lxr_blocks.specs.Handing.{is_between};
+ghost use Rattle.lxr_blocks.specs.Lines.{IsFirstLine, IsNextRun, free_in};
+ghost use Rattle.lxr_blocks.specs.Masks.{AreEdges, IsMask};
+ghost use Rattle.std.specs.Int.{bit_at, trailing_zeros, w128};
+
+use lxr_image::Space;
+use lxr_layout::{LINES_IN_BLOCK, Run};
+
+/// The free lines of a block: bit i is set exactly where line i is free. It reads the 64 words of the block's counts and
+/// the two words of its out bits, each once.
+#[inline(always)]
+pub fn free_mask(space: &Space, block: u32) -> u128
+    requires space { IsSpace space.now }
+    requires block { block < space.now.limits.blocks }
+    ensures { IsMask result (free_in (tables_of space.now) block) }
+{
+    space.uncounted_lines(block) & !space.out_lines(block)
+}
+
+/// The bits from one on, all set.
+#[inline(always)]
+fn bits_from(first: u32) -> u128
+    requires { first ≤ LINES_IN_BLOCK }
+    ensures { result ≡ 2 ^ 128 - 2 ^ first }
+{
+    if first < LINES_IN_BLOCK {
+        u128::MAX << first
+    } else {
+        0
+    }
+}
+
+/// The bits that are left of a mask without those of a run's lines.
+#[inline(always)]
+pub(crate) fn without_run(mask: u128, run: Run) -> u128
+    requires { run.line + run.lines ≤ LINES_IN_BLOCK }
+    ensures { (i : ℕ) → i < LINES_IN_BLOCK → bit_at result i ≡ if is_between run.line (run.line + run.lines) i then 0 else bit_at mask i }
+{
+    let first = u32::from(run.line);
+    let end = first + u32::from(run.lines);
+    mask & !(bits_from(first) - bits_from(end))
+}
+
+/// The edges of a block's free lines: bit i of the answer is set exactly where line i is free and the line before it isn't,
+/// or the other way round.
+#[inline(always)]
+pub(crate) fn edges_of(mask: u128) -> u128
+    ensures { (free : ℕ → Bool) → IsMask mask free → AreEdges result free 0 }
+{
+    mask ^ (mask << 1)
+}
+
+/// The bits without the lowest that is set.
+#[inline(always)]
+fn without_lowest(bits: u128) -> u128
+    ensures lowest { (i : ℕ) → i ≤ trailing_zeros w128 bits → bit_at result i ≡ 0 }
+    ensures others { (i : ℕ) → trailing_zeros w128 bits < i → bit_at result i ≡ bit_at bits i }
+{
+    if bits == 0 { 0 } else { bits & (bits - 1) }
+}
+
+/// The first run of a block whose free lines have these edges from a line on, and the edges behind it.
+#[inline(always)]
+pub(crate) fn next_run(edges: u128, block: u32) -> Option<(Run, u128)>
+    ensures none { IfNone result ((free : ℕ → Bool) (from : ℕ) → from ≤ LINES_IN_BLOCK → AreEdges edges free from → IsFirstLine free true from LINES_IN_BLOCK) }
+    ensures run { IfSome result (λ next. (free : ℕ → Bool) (from : ℕ) → AreEdges edges free from → IsNextRun free block from next.0 × AreEdges next.1 free (next.0.line + next.0.lines)) }
+{
+    if edges == 0 {
+        return None;
+    }
+    let line = edges.trailing_zeros();
+    let rest = without_lowest(edges);
+    let end = rest.trailing_zeros();
+    let run = Run {
+        block,
+        line: line as u8,
+        lines: (end - line) as u8,
+    };
+    Some((run, without_lowest(rest)))
+}
+
+/// The lines at which so many free lines in a row begin: bit i of the answer is set exactly where the bits of the mask
+/// from i on are, so many of them. It doubles the number of lines that it knows of with each step.
+#[inline(always)]
+pub(crate) fn run_starts(mask: u128, lines: u8) -> u128
+    requires { (1 ≤ lines) × (lines ≤ LINES_IN_BLOCK) }
+    ensures { (i : ℕ) → IsBitSet result i ↔ ((k : ℕ) → k < lines → IsBitSet mask (i + k)) }
+{
+    let mut starts = mask;
+    let mut known = 1;
+    while known < lines && starts != 0 {
+        let step = known.min(lines - known);
+        starts &= starts >> step;
+        known += step;
+    }
+    starts
+}

@@ -1,0 +1,79 @@
+-- An epoch as one fold over the events of a schedule: beside the words and the actors it gives the history and the map of
+-- places.
+use Rattle.std.specs.Prelude.{◌≡◌, ℕ, Option, Some, None, List, [], ◌∷◌, map, length, slice_get}
+use Rattle.lxr_layout.specs.declared.Name.{Name}
+use Rattle.lxr_layout.specs.Spaces.{region_begin}
+use Rattle.lxr_graph.specs.History.{Item}
+use Rattle.lxr_image.specs.Tables.{tables_in}
+use Rattle.lxr_model.specs.Moments.{Field}
+use Rattle.lxr_actor.specs.declared.Core.{Core}
+use Rattle.lxr_actor.specs.declared.Event.{Event}
+use Rattle.lxr_actor.specs.declared.Event.TheVariants.{Step, Give, Out}
+use Rattle.lxr_actor.specs.Run.{AlwaysFits, event, run, stepped}
+use Rattle.lxr_mutator.specs.Steps.{mutator_machine}
+use Rattle.lxr_core_events.specs.EpochStates.{Beginning, EpochState, limits_of}
+use Rattle.lxr_core_events.specs.Epoch.{IsEpoch}
+use Rattle.lxr_core_sim_mutator.specs.Showing.{IsMutatorOf, thread_state_of}
+use Rattle.lxr_core_sim_mutator.specs.Stepping.{history_after, places_after}
+use Rattle.lxr_core.specs.declared.actors.AnyActor.{AnyActor}
+use Rattle.lxr_core.specs.Actors.{any_machine, mutator_in, mutators_in}
+
+-- a core, with the history that led to it and the places of the objects that stand in it
+pub record Execution : Type 0 where
+  pub core : Core AnyActor
+  pub history : List Item
+  pub at : Name → ℕ
+
+-- the epoch state of an execution, where these references' bits were cleared
+abbrev pub epoch_state_of : Beginning → Execution → List Field → EpochState
+epoch_state_of b execution cleared = record {
+  tables = tables_in (limits_of b) execution.core.words;
+  thread_states = map thread_state_of (mutators_in execution.core.actors);
+  history = execution.history;
+  at = execution.at;
+  cleared = cleared;
+}
+
+-- the history and the places after the next step of this actor
+abbrev pub after_step : Beginning → Execution → Option AnyActor → List Item × (Name → ℕ)
+after_step b execution None = (execution.history, execution.at)
+after_step b execution (Some a) =
+    let m = mutator_in a in
+    let m' = (stepped mutator_machine execution.core.words m).1 in
+    (history_after b (epoch_state_of b execution []) m m', places_after b (epoch_state_of b execution []) m)
+
+-- the history and the places after an event: only steps of actors are told of
+abbrev pub told_of : Beginning → Execution → Event → List Item × (Name → ℕ)
+told_of b execution (Step number) = after_step b execution (slice_get execution.core.actors number)
+told_of b execution (Give number place) = (execution.history, execution.at)
+told_of b execution (Out number) = (execution.history, execution.at)
+
+-- the execution after an event
+abbrev pub tell : Beginning → Execution → Event → Execution
+tell b execution e = record { core = event any_machine execution.core e; history = (told_of b execution e).0; at = (told_of b execution e).1 }
+
+-- the execution after a schedule of events
+abbrev pub tell_all : Beginning → Execution → List Event → Execution
+tell_all b execution [] = execution
+tell_all b execution (e ∷ es) = tell_all b (tell b execution e) es
+
+-- The invariant of the epoch holds of an execution, with some references whose bits were cleared.
+pub record IsExecution (b : Beginning) (execution : Execution) (cleared : List Field) : Type 0 where
+  pub epoch : IsEpoch b (epoch_state_of b execution cleared)
+  pub size : length execution.core.words ≡ region_begin (limits_of b) 15
+  pub mutators : (i : ℕ) (a : AnyActor) → slice_get execution.core.actors i ≡ Some a → IsMutatorOf (limits_of b) (mutator_in a)
+
+-- it holds with some references
+abbrev pub HoldsExecution : Beginning → Execution → Type 0
+HoldsExecution b execution = (cleared : List Field) × IsExecution b execution cleared
+
+-- after a schedule of events it holds, the core is that of the fold over the schedule, and at each moment on the way the next
+-- step of each actor fits
+pub record HoldsAfter (b : Beginning) (execution : Execution) (schedule : List Event) : Type 0 where
+  pub holds : HoldsExecution b (tell_all b execution schedule)
+  pub core : (tell_all b execution schedule).core ≡ run any_machine execution.core schedule
+  pub fits : AlwaysFits any_machine execution.core
+
+-- so it is of every execution for which the invariant holds, and every schedule
+abbrev pub EpochInvariantHolds : Type 0
+EpochInvariantHolds = (b : Beginning) (execution : Execution) (schedule : List Event) → HoldsExecution b execution → HoldsAfter b execution schedule

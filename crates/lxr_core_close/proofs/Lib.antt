@@ -1,0 +1,6 @@
+pub mod HandingLemmas
+pub mod ListLemmas
+pub mod StillLemmas
+pub mod SafepointLemmas
+pub mod CauseLemmas
+pub mod ProgressLemmas

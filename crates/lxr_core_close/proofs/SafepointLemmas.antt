@@ -1,0 +1,288 @@
+-- At the end of an epoch, with all that mutators drew handed out, a space is at a safepoint before a pause.
+use Rattle.std.proofs.Common.{◌≡◌, ◌≢◌, ℕ, ◌+◌, ◌-◌, ◌*◌, ◌/◌, ◌<◌, ◌≤◌, refl, sym, ap, subst, ◌∙◌, inl, inr, arith, Bool, false, List, length}
+use Rattle.std.specs.Prelude.{Option, IsTrue}
+use Rattle.std.specs.Option.{option_map}
+use Rattle.std.proofs.lemmas.Bool.Decides.{leb_tells}
+use Rattle.std.proofs.lemmas.List.{length-map}
+use Rattle.lxr_layout.specs.declared.TheConstants.{DECREMENT_COUNT, DECREMENT_CURSOR, FREE_BLOCK_COUNT, GRANULES_IN_BLOCK, RUN_COUNT}
+use Rattle.lxr_layout.specs.declared.limits.Limits.{Limits}
+use Rattle.lxr_layout.specs.declared.LogEntry.{LogEntry}
+use Rattle.lxr_layout.specs.declared.Place.{Place}
+use Rattle.lxr_layout.specs.Spaces.{AreLimits, region_begin}
+use Rattle.lxr_graph.specs.Names.{has}
+use Rattle.lxr_graph.specs.State.{Object}
+use Rattle.lxr_graph.proofs.NameSets.{not_both}
+use Rattle.lxr_image.specs.declared.space.Space.{Space}
+use Rattle.lxr_image.specs.declared.space.Tally.{Tally}
+use Rattle.lxr_base.specs.Roomy.{Roomy}
+use Rattle.lxr_image.specs.Tables.{Tables, tables_in}
+use Rattle.lxr_image.specs.Spaces.{IsSpace, tables_of}
+use Rattle.lxr_image.specs.Reads.{granule_of}
+use Rattle.lxr_image.specs.Image.{ArePlacesOf, granules_of, place_word}
+use Rattle.lxr_image.proofs.ImageLemmas.{places_still}
+use Rattle.lxr_blocks.specs.declared.states.BlockState.TheVariants.{Chosen}
+use Rattle.lxr_blocks.specs.Lines.{is_free}
+use Rattle.lxr_blocks.specs.States.{state_in, state_of}
+use Rattle.lxr_model.specs.Moments.{Moment, Trace}
+use Rattle.lxr_model.specs.Reachable.{held}
+use Rattle.lxr_invariant.specs.AbstractState.{members}
+use Rattle.lxr_invariant.specs.Lines.{AvoidChosen, HasBlocks, LinesAreOut}
+use Rattle.lxr_invariant.specs.Quiescent.{HoldsMoment}
+use Rattle.lxr_invariant.proofs.FrameLemmas.{bits_still, blocks_still, counts_still, decrements_still, image_still, marks_still, undecremented_still}
+use Rattle.lxr_invariant.proofs.BlockLemmas.{blocks_kept, none_chosen, still_not}
+use Rattle.lxr_invariant.proofs.MemberLemmas.{untraced}
+use Rattle.lxr_invariant.proofs.NameLemmas.{in_first, in_second}
+use Rattle.lxr_core_events.specs.EpochStates.{Beginning, EpochState, limits_of, moment_of, opening_tables}
+use Rattle.lxr_core_events.specs.Logged.{logs_of}
+use Rattle.lxr_core_events.specs.Drawn.{IsDrawnMemory, LieInDrawn}
+use Rattle.lxr_core_events.specs.Epoch.{IsEpoch}
+use Rattle.lxr_core_events.specs.Laws.{HasClosingLogs}
+use Rattle.lxr_core_close.specs.HandingOut.{AreHandedOut, AreLater, DrawnIsOut, IsDrawnLine, drawn_blocks, drawn_runs}
+use Rattle.lxr_core_close.specs.Safepoint.{ClosingReachesSafepoint, DrawnMayBeHandedOut, DrawnWasFree, HasCollected, IsClosed, closed_state, registers_of}
+use Rattle.lxr_core_close.proofs.HandingLemmas.{drawn_is_out, keeps_state, listed_was_free, still_out}
+use Rattle.lxr_core_events.proofs.DrawnLemmas.{block_below, run_below}
+use Rattle.lxr_core_close.proofs.ListLemmas.{few_entries, registers_are_places}
+use Rattle.lxr_core_close.proofs.StillLemmas.{AreUnmoved, HaveOnePause, counts_unmoved, decrements_unmoved, marks_unmoved, pause_stays, undecremented_unmoved}
+
+-- ---- the end of an epoch
+
+-- the tables are later than those that were listed
+later : (b : Beginning) (s : EpochState) → IsEpoch b s → AreLater (tables_of b.space) s.tables
+later b s is = record {
+  rest = is.fixed.tables;
+  runs = is.fixed.cursors RUN_COUNT (λ e. absurd (omega arith)) (λ e. absurd (omega arith)) (λ e. absurd (omega arith));
+  frees = is.fixed.cursors FREE_BLOCK_COUNT (λ e. absurd (omega arith)) (λ e. absurd (omega arith)) (λ e. absurd (omega arith));
+}
+
+-- a drawn line was free as it was listed, and objects keep their lines
+pub drawn_was_free : DrawnWasFree
+drawn_was_free b s space line is tables drawn =
+    let free = listed_was_free b.space (tables_of space) line is.begins.listed (subst (AreLater (tables_of b.space)) (sym tables) (later b s is)) drawn in
+    record {
+      free = free;
+      untaken = λ taken. not_both (is_free (opening_tables b) line) free (subst (λ z. is_free (opening_tables b) z ≡ false) taken.5 (is.begins.between.lines taken.0 taken.1 taken.2 taken.3 taken.4));
+    }
+
+-- a cursor that no mutator moves
+cursor_stays : (b : Beginning) (s : EpochState) (c : ℕ) → IsEpoch b s → 4 ≤ c → s.tables.cursors c ≡ (opening_tables b).cursors c
+cursor_stays b s c is high = is.fixed.cursors c (λ e. omega arith) (λ e. omega arith) (λ e. omega arith)
+
+-- the space is one, with the lists of the opening
+pub drawn_may_be_handed_out : DrawnMayBeHandedOut
+drawn_may_be_handed_out b s now is has =
+    let opened : IsSpace b.space = is.begins.between.safepoint.holds.space in
+    let limits : now.limits ≡ b.space.limits = ap (λ (z : Space). z.limits) has.rest in
+    record {
+      lists = is.begins.listed;
+      space = record {
+        limits = subst AreLimits (sym limits) opened.limits;
+        size = ap (λ (z : Tables). z.size) has.tables ∙ ap (λ (z : Tables). z.size) is.fixed.tables ∙ opened.size ∙ ap (λ (l : Limits). region_begin l 15) (sym limits);
+      };
+      limits = limits;
+      tables = subst (AreLater (tables_of b.space)) (sym has.tables) (later b s is);
+    }
+
+-- the last pause is that of the opening
+one_pause : (b : Beginning) (s : EpochState) → IsEpoch b s → HaveOnePause b.abstract_state.moment (moment_of b s)
+one_pause b s is = subst (λ (m : Moment). HaveOnePause m (moment_of b s)) (sym is.begins.moment) (pause_stays (limits_of b).threads b.every b.history s.history is.extends)
+
+-- what is unreclaimed stands where it did
+unmoved : (b : Beginning) (s : EpochState) → IsEpoch b s → AreUnmoved b.abstract_state.moment.unreclaimed b.abstract_state.at s.at
+unmoved b s is n h = is.image.placed.unmoved n (in_first b.abstract_state.moment.unreclaimed b.abstract_state.moment.made n h)
+
+-- ---- lines and blocks
+
+-- the lines that were drawn in an epoch
+abbrev pub drawn_in : Beginning → EpochState → ℕ → Type 0
+drawn_in b s = IsDrawnLine (opening_tables b) (limits_of b).blocks (drawn_runs s.tables) (drawn_blocks s.tables)
+
+-- they are handed out
+abbrev pub DrawnAreOut : Beginning → EpochState → Tables → Type 0
+DrawnAreOut b s u = AreHandedOut (drawn_in b s) s.tables u
+
+-- a granule of an object that lies in what was drawn is one of a line that is handed out
+drawn_out : (b : Beginning) (s : EpochState) (u : Tables) (first end k : ℕ) → DrawnAreOut b s u → AreLater (opening_tables b) s.tables
+    → (is : IsDrawnMemory b s) (t : ℕ) → LieInDrawn b is.drawers t first end → first ≤ k → k < end → IsTrue (u.outs (k / 16))
+drawn_out b s u first end k hands late is t (inl run) low high =
+    let from = run.within.0 in let to = run.within.1 in let small = run_below b s is run.number t run.drawn in let listed = run.listed in let same = late.runs in
+    drawn_is_out (drawn_in b s) s.tables u (k / 16) hands (inl (record {
+      number = run.number;
+      drawn = omega (arith, small, listed, same);
+      run = run.run;
+      lists = run.lists;
+      line = record { first = omega (arith, from, low); behind = omega (arith, to, high) };
+    }))
+drawn_out b s u first end k hands late is t (inr block) low high =
+    let from = block.within.0 in let to = block.within.1 in let small = block_below b s is block.number t block.drawn in let listed = block.listed in let same = late.frees in
+    drawn_is_out (drawn_in b s) s.tables u (k / 16) hands (inr (record {
+      number = block.number;
+      drawn = omega (arith, small, listed, same);
+      line = record { first = omega (arith, from, low); behind = omega (arith, to, high) };
+    }))
+
+-- what was made lies on lines that are out
+lines_out : (b : Beginning) (s : EpochState) (u : Tables) → IsEpoch b s → DrawnAreOut b s u
+    → LinesAreOut u (moment_of b s).state.graph s.at (moment_of b s).made
+lines_out b s u is hands n o k member covers = elim (is.drawn.made n o member covers.object) [
+  | inl served ↦ still_out (drawn_in b s) s.tables u (k / 16) hands (subst (λ (f : ℕ → Bool). IsTrue (f (k / 16))) (sym (ap (λ (z : Tables). z.outs) is.fixed.tables)) (served.out k covers))
+  | inr lies ↦ drawn_out b s u (granule_of (s.at n)) (granule_of (s.at n) + granules_of o) k hands (later b s is) is.drawn n.thread lies covers.first covers.behind
+]
+
+-- nothing that was made lies in a Chosen block, since no block is Chosen
+unchosen : (b : Beginning) (s : EpochState) (u : Tables) → IsEpoch b s → DrawnAreOut b s u
+    → AvoidChosen u s.at (moment_of b s).made
+unchosen b s u is hands n member =
+    let m : Moment = moment_of b s in
+    let stands = is.image.placed.image.stands n (in_second m.unreclaimed m.made n member) in
+    let in_heap = stands.2.whole.in_heap in
+    let some = some_granules stands.0 in
+    let block : granule_of (s.at n) / GRANULES_IN_BLOCK < (limits_of b).blocks = omega (arith, in_heap, some) in
+    let states : s.tables.states ≡ (opening_tables b).states = ap (λ (z : Tables). z.states) is.fixed.tables in
+    let none : state_in (opening_tables b) (granule_of (s.at n) / GRANULES_IN_BLOCK) ≢ Chosen =
+    none_chosen (opening_tables b) (limits_of b).blocks b.abstract_state.moment.trace (granule_of (s.at n) / GRANULES_IN_BLOCK) is.begins.between.safepoint.holds.blocks is.begins.no_trace block in
+    still_not s.tables u (granule_of (s.at n) / GRANULES_IN_BLOCK) Chosen refl (keeps_state (drawn_in b s) s.tables u (granule_of (s.at n) / GRANULES_IN_BLOCK) hands)
+    (λ e. none (ap (λ f. state_of (f (granule_of (s.at n) / GRANULES_IN_BLOCK))) (sym states) ∙ e))
+  where
+    some_granules : (o : Object) → 1 ≤ granules_of o
+    some_granules o = omega arith
+
+-- ---- registers and logs
+
+-- there are sixteen registers for each mutator, in the model too
+model_registers : (b : Beginning) (s : EpochState) → IsEpoch b s → length (moment_of b s).state.registers ≡ 16 * (limits_of b).threads
+model_registers b s is =
+    let opened = is.begins.between.safepoint.holds in
+    let one = one_pause b s is in
+    let words : length b.space.registers.items ≡ length b.abstract_state.moment.state.registers =
+    sym (length-map b.space.registers.items (λ (p : Place). p.0)) ∙ ap length opened.image.registers ∙ length-map b.abstract_state.moment.state.registers (place_word b.abstract_state.at) in
+    as_many (length b.space.registers.items) (length b.abstract_state.moment.state.registers) (length (moment_of b s).state.registers) (length b.abstract_state.moment.state.graph) (length b.abstract_state.moment.last.graph)
+    (length (moment_of b s).state.graph) (limits_of b).threads opened.as_many.0 words opened.follows.registers opened.follows.rows is.lives.registers (is.lives.rows ∙ ap (λ z. length z.graph) one.last)
+  where
+    as_many : (words before now rows last rows_now threads : ℕ) → words ≡ 16 * threads → words ≡ before → before ≡ 16 * (rows - 1) → rows ≡ last → now ≡ 16 * (rows_now - 1) → rows_now ≡ last → now ≡ 16 * threads
+    as_many words before now rows last rows_now threads a c d e f g = omega arith
+
+-- the registers of mutators are places of what the model's hold
+registers_held : (b : Beginning) (s : EpochState) → IsEpoch b s → ArePlacesOf s.at (registers_of s.thread_states) (moment_of b s).state.registers
+registers_held b s is =
+    registers_are_places s.at (moment_of b s).state s.thread_states (model_registers b s is ∙ ap (λ z. 16 * z) (sym is.called.as_many)) is.called.threads is.image.registers
+
+-- so they are as many
+registers_many : (b : Beginning) (s : EpochState) → IsEpoch b s → length (registers_of s.thread_states) ≡ 16 * (limits_of b).threads
+registers_many b s is =
+    sym (length-map (registers_of s.thread_states) (λ (p : Place). p.0)) ∙ ap length (registers_held b s is) ∙ length-map (moment_of b s).state.registers (place_word s.at) ∙ model_registers b s is
+
+-- all logs fit into the list of entries
+logs_fit : (b : Beginning) (s : EpochState) → IsEpoch b s → length (logs_of s.thread_states) ≤ (limits_of b).threads * (limits_of b).log
+logs_fit b s is =
+    subst (λ z. length (logs_of s.thread_states) ≤ z * (limits_of b).log) is.called.as_many
+    (few_entries (limits_of b).log s.thread_states (λ i v h. let room = is.logged.rooms i v h in subst (λ z. length v.log.items ≤ z) room.0 room.1))
+
+-- ---- the safepoint
+
+-- the space of these words and this tally that has the registers and the logs of all mutators
+abbrev pub closed_space : Beginning → EpochState → List ℕ → Tally → Space
+closed_space b s words tally = record b.space {
+  words = words;
+  registers = record { items = registers_of s.thread_states; room = b.space.registers.room };
+  logged = record { items = logs_of s.thread_states; room = b.space.logged.room };
+  tally = tally;
+}
+
+-- deferred registers are those of the last pause
+deferred_held : (b : Beginning) (s : EpochState) → IsEpoch b s → ArePlacesOf s.at b.space.deferred.items (moment_of b s).last.registers
+deferred_held b s is =
+    let opened = is.begins.between.safepoint.holds in
+    subst (λ z. ArePlacesOf s.at b.space.deferred.items z.registers) (sym (one_pause b s is).last)
+    (opened.image.deferred ∙ places_still b.abstract_state.at s.at b.abstract_state.moment.last.registers (λ i n e. unmoved b s is n (opened.follows.kept n (held (i, e)))))
+
+-- the closed space holds the moment to which the history has led
+holds_closed : (b : Beginning) (s : EpochState) (words : List ℕ) (tally : Tally) → IsEpoch b s → HasClosingLogs b s → DrawnAreOut b s (tables_in (limits_of b) words)
+    → HoldsMoment (closed_space b s words tally) (moment_of b s) s.at
+holds_closed b s words tally is closing hands =
+    let o : Tables = opening_tables b in
+    let t : Tables = s.tables in
+    let u : Tables = tables_in (limits_of b) words in
+    let m : Moment = moment_of b s in
+    let opened = is.begins.between.safepoint.holds in
+    let one = one_pause b s is in
+    let still = unmoved b s is in
+    let late = is.fixed.tables in
+    let counts : u.counts ≡ o.counts = ap (λ (z : Tables). z.counts) hands.rest ∙ ap (λ (z : Tables). z.counts) late in
+    let dones : u.dones ≡ o.dones = ap (λ (z : Tables). z.dones) hands.rest ∙ ap (λ (z : Tables). z.dones) late in
+    let decs : u.decs ≡ o.decs = ap (λ (z : Tables). z.decs) hands.rest ∙ ap (λ (z : Tables). z.decs) late in
+    let cursors : u.cursors ≡ t.cursors = ap (λ (z : Tables). z.cursors) hands.rest in
+    let drawn : u.cursors DECREMENT_CURSOR ≡ o.cursors DECREMENT_CURSOR = ap (λ f. f 5) cursors ∙ cursor_stays b s 5 is (omega arith) in
+    let waiting : u.cursors DECREMENT_COUNT ≡ o.cursors DECREMENT_COUNT = ap (λ f. f 6) cursors ∙ cursor_stays b s 6 is (omega arith) in
+    let counted = counts_unmoved o b.abstract_state.moment m b.abstract_state.at s.at one still is.begins.between.undecremented opened.counts in
+    let lowered = decrements_unmoved (limits_of b) o b.abstract_state.moment m b.abstract_state.at s.at one still opened.decrements in
+    let marked = marks_unmoved o b.abstract_state.moment m b.abstract_state.at s.at opened.follows is.lives one still opened.marks in
+    let blocks : HasBlocks t (limits_of b).blocks b.abstract_state.moment.trace =
+    blocks_still o t (limits_of b).blocks b.abstract_state.moment.trace (ap (λ (z : Tables). z.states) late) (cursor_stays b s 8 is (omega arith)) opened.blocks in
+    record {
+      space = record { limits = opened.space.limits; size = ap (λ (z : Tables). z.size) hands.rest ∙ ap (λ (z : Tables). z.size) late ∙ opened.space.size };
+      room = record { registers = opened.room.registers; deferred = opened.room.deferred; logged = opened.room.logged; work = opened.room.work; report = opened.room.report };
+      as_many = (registers_many b s is, opened.as_many.1);
+      follows = is.lives;
+      image = record {
+        image = image_still t u (limits_of b).blocks s.at m.state.graph (members m) (members m) (ap (λ (z : Tables). z.heap) hands.rest) (λ n h. h) is.image.placed.image;
+        registers = registers_held b s is;
+        deferred = deferred_held b s is;
+        world = is.image.placed.world;
+      };
+      bits = bits_still t u m s.at m.unreclaimed (ap (λ (z : Tables). z.starts) hands.rest) (ap (λ (z : Tables). z.marks) hands.rest) (ap (λ (z : Tables). z.grays) hands.rest)
+          (ap (λ (z : Tables). z.dones) hands.rest) (ap (λ (z : Tables). z.unlogged) hands.rest) closing.bits;
+      logs = closing.logs;
+      few_logs = logs_fit b s is;
+      counts = counts_still o u m s.at counts dones decs drawn waiting counted;
+      decrements = decrements_still (limits_of b) (limits_of b) o u m s.at refl decs waiting lowered;
+      marks = marks_still o u m.state.graph s.at m.unreclaimed counts marked;
+      lines = lines_out b s u is hands;
+      unchosen = unchosen b s u is hands;
+      blocks = subst (λ (z : Option Trace). HasBlocks u (limits_of b).blocks z) (sym one.trace) (blocks_kept t u (limits_of b).blocks b.abstract_state.moment.trace (λ c. keeps_state (drawn_in b s) t u c hands) (ap (λ f. f 8) cursors) blocks);
+      rest = record {
+        rest = inl is.begins.listed.no_rest;
+        apart = λ n o k member covers. elim (leb_tells b.space.rest_end k) [ inl c ↦ inr c.1 | inr c ↦ let low = c.1 in let none = is.begins.listed.no_rest in inl (omega (arith, low, none)) ];
+      };
+      no_work = opened.no_work;
+    }
+
+-- the closed space is at a safepoint before a pause
+is_at_safepoint : (b : Beginning) (s : EpochState) (words : List ℕ) (tally : Tally) → IsEpoch b s → HasClosingLogs b s → DrawnAreOut b s (tables_in (limits_of b) words) → IsClosed b s (closed_space b s words tally)
+is_at_safepoint b s words tally is closing hands =
+    let o : Tables = opening_tables b in
+    let u : Tables = tables_in (limits_of b) words in
+    let numbers = is.begins.between.safepoint.numbers in
+    let one = one_pause b s is in
+    let counts : u.counts ≡ o.counts = ap (λ (z : Tables). z.counts) hands.rest ∙ ap (λ (z : Tables). z.counts) is.fixed.tables in
+    let dones : u.dones ≡ o.dones = ap (λ (z : Tables). z.dones) hands.rest ∙ ap (λ (z : Tables). z.dones) is.fixed.tables in
+    let drawn : u.cursors DECREMENT_CURSOR ≡ o.cursors DECREMENT_CURSOR = ap (λ (z : Tables). z.cursors DECREMENT_CURSOR) hands.rest ∙ cursor_stays b s 5 is (omega arith) in
+    record {
+      safepoint = record {
+        holds = holds_closed b s words tally is closing hands;
+        numbers = record {
+          pauses = numbers.pauses ∙ sym one.number;
+          trace = numbers.trace ∙ ap (λ z. option_map (λ (trace : Trace). trace.began) z) (sym one.trace);
+          report = numbers.report;
+        };
+        traced = untraced (limits_of b) u (logs_of s.thread_states) (closed_state b s) (moment_of b s).trace (one.trace ∙ is.begins.no_trace);
+      };
+      undecremented = undecremented_still o u (moment_of b s) s.at dones counts drawn (undecremented_unmoved o b.abstract_state.moment (moment_of b s) b.abstract_state.at s.at one (unmoved b s is) is.begins.between.undecremented);
+    }
+
+-- the space is the closed one of its words
+is_closed : (b : Beginning) (s : EpochState) (now after : Space) → HasCollected b s now → DrawnIsOut b.space now after → after ≡ closed_space b s after.words now.tally
+is_closed b s now after has out =
+    out.rest ∙ ap (λ z. with_words z after.words) has.rest ∙ ap (λ r. collected r now.logged) has.registers ∙ ap (λ l. collected (record { items = registers_of s.thread_states; room = b.space.registers.room }) l) has.logged
+  where
+    with_words : Space → List ℕ → Space
+    with_words z words = record z { words = words }
+
+    collected : Roomy Place → Roomy LogEntry → Space
+    collected registers logged = record b.space { words = after.words; registers = registers; logged = logged; tally = now.tally }
+
+-- so the space is at a safepoint before a pause
+pub closing_reaches_safepoint : ClosingReachesSafepoint
+closing_reaches_safepoint b s now after is closing has out =
+    let same = is_closed b s now after has out in
+    let hands : DrawnAreOut b s (tables_of after) = subst (λ z. AreHandedOut (IsDrawnLine (opening_tables b) (limits_of b).blocks (drawn_runs z) (drawn_blocks z)) z (tables_of after)) has.tables out.hands in
+    subst (IsClosed b s) (sym same) (is_at_safepoint b s after.words now.tally is closing (subst (DrawnAreOut b s) (ap tables_of same) hands))

@@ -1,0 +1,3 @@
+pub mod HandingOut
+pub mod Safepoint
+pub mod Cause

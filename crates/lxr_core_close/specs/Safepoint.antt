@@ -1,0 +1,55 @@
+-- From the end of an epoch to a safepoint before a pause, and what is known of the lines that were drawn.
+use Rattle.std.specs.Prelude.{◌≡◌, ℕ, List, IsTrue}
+use Rattle.std.specs.List.{flat_map}
+use Rattle.lxr_layout.specs.declared.Place.{Place}
+use Rattle.lxr_image.specs.declared.space.Space.{Space}
+use Rattle.lxr_image.specs.Spaces.{tables_of}
+use Rattle.lxr_blocks.specs.Lines.{is_free}
+use Rattle.lxr_invariant.specs.AbstractState.{AbstractState, members}
+use Rattle.lxr_invariant.specs.Counting.{IsUndecremented}
+use Rattle.lxr_invariant.specs.Lines.{IsTakenBy}
+use Rattle.lxr_invariant.specs.Quiescent.{IsAtSafepoint}
+use Rattle.lxr_core_events.specs.ThreadStates.{ThreadState}
+use Rattle.lxr_core_events.specs.EpochStates.{Beginning, EpochState, moment_of, opening_tables}
+use Rattle.lxr_core_events.specs.Logged.{logs_of}
+use Rattle.lxr_core_events.specs.Epoch.{IsEpoch}
+use Rattle.lxr_core_events.specs.Laws.{HasClosingLogs}
+use Rattle.lxr_core_close.specs.HandingOut.{DrawnIsOut, IsDrawn, MayHandOut}
+
+-- the registers of all mutators, thread 1 first
+abbrev pub registers_of : List ThreadState → List Place
+registers_of thread_states = flat_map (λ v. v.registers) thread_states
+
+-- what a space stands for once the calls of an epoch stand in the history
+abbrev pub closed_state : Beginning → EpochState → AbstractState
+closed_state b s = record b.abstract_state { moment = moment_of b s; at = s.at }
+
+-- A space has taken what mutators hold: its tables are those of the epoch state, its registers theirs, and it has all their entries.
+-- Of what the epoch began with, words, registers, entries and the tally alone have changed.
+pub record HasCollected (b : Beginning) (s : EpochState) (now : Space) : Type 0 where
+  pub tables : tables_of now ≡ s.tables
+  pub registers : now.registers ≡ record { items = registers_of s.thread_states; room = b.space.registers.room }
+  pub logged : now.logged ≡ record { items = logs_of s.thread_states; room = b.space.logged.room }
+  pub rest : now ≡ record b.space { words = now.words; registers = now.registers; logged = now.logged; tally = now.tally }
+
+-- the epoch is closed: the space is at a safepoint before a pause, where no decrementer has worked
+pub record IsClosed (b : Beginning) (s : EpochState) (after : Space) : Type 0 where
+  pub safepoint : IsAtSafepoint after (closed_state b s)
+  pub undecremented : IsUndecremented (tables_of after) (moment_of b s) s.at
+
+-- a line was free as the epoch opened, so that no object that stood in the heap then overlaps it
+pub record WasFree (b : Beginning) (line : ℕ) : Type 0 where
+  pub free : IsTrue (is_free (opening_tables b) line)
+  pub untaken : ¬ IsTakenBy b.abstract_state.moment.state.graph b.abstract_state.at (members b.abstract_state.moment) line
+
+-- Each line that was drawn was free as the epoch opened.
+abbrev pub DrawnWasFree : Type 0
+DrawnWasFree = (b : Beginning) (s : EpochState) (space : Space) (line : ℕ) → IsEpoch b s → tables_of space ≡ s.tables → IsDrawn b.space space line → WasFree b line
+
+-- What was drawn in an epoch may be handed out once a space has taken what mutators hold.
+abbrev pub DrawnMayBeHandedOut : Type 0
+DrawnMayBeHandedOut = (b : Beginning) (s : EpochState) (now : Space) → IsEpoch b s → HasCollected b s now → MayHandOut b.space now
+
+-- Once it is, the epoch is closed, where bits and logs are those of the references that were stored to.
+abbrev pub ClosingReachesSafepoint : Type 0
+ClosingReachesSafepoint = (b : Beginning) (s : EpochState) (now after : Space) → IsEpoch b s → HasClosingLogs b s → HasCollected b s now → DrawnIsOut b.space now after → IsClosed b s after

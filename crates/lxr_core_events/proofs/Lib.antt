@@ -1,0 +1,6 @@
+pub mod HeldLemmas
+pub mod TellingLemmas
+pub mod ShowingLemmas
+pub mod ActingLemmas
+pub mod ObjectLemmas
+pub mod DrawnLemmas

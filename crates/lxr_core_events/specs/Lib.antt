@@ -1,0 +1,11 @@
+pub mod ThreadStates
+pub mod EpochStates
+pub mod Events
+pub mod Happening
+pub mod Imaged
+pub mod Logged
+pub mod Drawn
+pub mod Called
+pub mod Epoch
+pub mod Laws
+pub mod Through

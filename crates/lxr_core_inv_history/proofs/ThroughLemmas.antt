@@ -1,0 +1,135 @@
+-- Where all mutators rest: what the history has of each thread. Where all are through: the cause of the pause.
+use Rattle.std.proofs.Common.{◌≡◌, ℕ, zero, suc, ◌+◌, refl, sym, ap, subst, ◌∙◌, inl, inr, ◌⊎◌, arith, List, [], ◌∷◌, length, take}
+use Rattle.std.specs.Prelude.{Option, Some, slice_get}
+use Rattle.std.proofs.lemmas.List.{length-take-le}
+use Rattle.std.proofs.lemmas.Option.{slice_get_within}
+use Rattle.lxr_graph.specs.declared.Op.{Op}
+use Rattle.lxr_graph.specs.declared.Op.TheVariants as op
+use Rattle.lxr_graph.specs.History.{calls_of, replies_of}
+use Rattle.lxr_core_events.specs.ThreadStates.{Reason, Stage, ThreadState, all_of, Rests, Works, Names, Through}
+use Rattle.lxr_core_events.specs.ThreadStates as why
+use Rattle.lxr_core_events.specs.EpochStates.{Beginning, EpochState}
+use Rattle.lxr_core_events.specs.Events.{Does}
+use Rattle.lxr_core_events.specs.Called.{AreReplies, IsWithinTurn, SetsPauseWord, waiting_in}
+use Rattle.lxr_core_events.specs.Epoch.{IsEpoch, IsResting}
+use Rattle.lxr_core_events.specs.Through.{CallsAreBeginnings, CausesPause, HasCause, IsAsHistory, RestIsHistory, ThroughHasCause, next_by}
+use Rattle.lxr_core_inv_history.proofs.StandingLemmas.{thread_within}
+
+-- ---- calls and replies
+
+-- calls are a beginning of the operations
+pub calls_are_beginnings : CallsAreBeginnings
+calls_are_beginnings b s i v is shown = (is.called.each i v shown).calls
+
+-- no operation of a mutator that rests stands in the history without its reply
+none_waits : (stage : Stage) → IsResting stage → waiting_in stage ≡ 0
+none_waits Rests rests = refl
+none_waits (Through why) rests = refl
+none_waits (Works intent) rests = absurd rests
+none_waits (Names place) rests = absurd rests
+
+-- the replies of one that rests are all there
+all_replied : (b : Beginning) (s : EpochState) (v : ThreadState) (stage : Stage) → IsResting stage → AreReplies b s v stage → replies_of v.thread s.history ≡ v.replies
+all_replied b s v Rests rests are = are
+all_replied b s v (Through why) rests are = are
+all_replied b s v (Works intent) rests are = absurd rests
+all_replied b s v (Names place) rests are = absurd rests
+
+-- what a mutator that rests has called and replied
+rest_calls : (b : Beginning) (s : EpochState) (i : ℕ) (v : ThreadState) → IsEpoch b s → slice_get s.thread_states i ≡ Some v → IsResting v.stage → IsAsHistory s v
+rest_calls b s i v is shown rests =
+    let has = is.called.each i v shown in
+    let none = none_waits v.stage rests in
+    record { calls = has.calls ∙ ap (λ k. take k (all_of v.operations)) (omega (arith, none)); replies = all_replied b s v v.stage rests has.replies }
+
+-- so it is of one that is through
+pub through_calls : (b : Beginning) (s : EpochState) (i : ℕ) (v : ThreadState) (reason : Reason) → IsEpoch b s → slice_get s.thread_states i ≡ Some v → v.stage ≡ Through reason → IsAsHistory s v
+through_calls b s i v reason is shown stage = rest_calls b s i v is shown (subst IsResting (sym stage) tt)
+
+-- so it is where all rest
+pub rest_is_history : RestIsHistory
+rest_is_history b s i v is rest shown = rest_calls b s i v is shown (rest i v shown)
+
+-- ---- the cause
+
+-- the operation in progress is the one that the history tells to be next
+next_is : (s : EpochState) (v : ThreadState) (o : Op) → IsAsHistory s v → Does v o → next_by s v ≡ Some o
+next_is s v o told does =
+    let within = slice_get_within (all_of v.operations) (length v.replies) o does in
+    ap (slice_get (all_of v.operations)) (ap length told.calls ∙ length-take-le (length v.replies) (all_of v.operations) (omega (arith, within))) ∙ does
+
+-- a mutator that is a cause
+causes : (b : Beginning) (s : EpochState) (i : ℕ) (v : ThreadState) → IsEpoch b s → slice_get s.thread_states i ≡ Some v → CausesPause b s v → HasCause b s
+causes b s i v is shown cause = record { number = i; thread_state = v; shows = shown; thread = thread_within b s i v is.called shown; causes = cause }
+
+-- one who gave up is a cause
+no_run_causes : (b : Beginning) (s : EpochState) (i : ℕ) (v : ThreadState) → IsEpoch b s → slice_get s.thread_states i ≡ Some v → v.stage ≡ Through why.NoRun → HasCause b s
+no_run_causes b s i v is shown stage =
+    let on : IsWithinTurn s v (Through why.NoRun) = subst (IsWithinTurn s v) stage (is.called.each i v shown).within_turn in
+    let new = on.2.0 in
+    causes b s i v is shown (inr (inr (inl ((new.1.0, new.0, next_is s v (op.New new.1.0 new.0) (through_calls b s i v why.NoRun is shown stage) new.1.1), on.2.1))))
+
+-- so is one whose log is full
+log_full_causes : (b : Beginning) (s : EpochState) (i : ℕ) (v : ThreadState) → IsEpoch b s → slice_get s.thread_states i ≡ Some v → v.stage ≡ Through why.LogFull → HasCause b s
+log_full_causes b s i v is shown stage =
+    let on : IsWithinTurn s v (Through why.LogFull) = subst (IsWithinTurn s v) stage (is.called.each i v shown).within_turn in
+    let store = on.2.0 in
+    causes b s i v is shown (inr (inr (inr (
+      (store.0, store.1, store.2, next_is s v (op.Store store.0 store.1 store.2) (through_calls b s i v why.LogFull is shown stage) store.3),
+      on.2.1,
+    ))))
+
+-- one who had its turn is a cause
+turn_causes : (b : Beginning) (s : EpochState) (i : ℕ) (v : ThreadState) → IsEpoch b s → slice_get s.thread_states i ≡ Some v → v.stage ≡ Through why.Turns → HasCause b s
+turn_causes b s i v is shown stage =
+    let has = is.called.each i v shown in
+    let on : IsWithinTurn s v (Through why.Turns) = subst (IsWithinTurn s v) stage has.within_turn in
+    let full = on.2.0 in
+    let every = has.every in
+    let counted = has.counted in
+    causes b s i v is shown (inr (inl (omega (arith, full, every, counted))))
+
+-- where the pause word is set, who set it is a cause
+setter_causes : (b : Beginning) (s : EpochState) (i : ℕ) (v : ThreadState) (stage : Stage) → IsEpoch b s → slice_get s.thread_states i ≡ Some v → v.stage ≡ stage → SetsPauseWord s v stage → HasCause b s
+setter_causes b s i v (Through why.NoRun) is shown e sets = no_run_causes b s i v is shown e
+setter_causes b s i v (Through why.LogFull) is shown e sets = log_full_causes b s i v is shown e
+setter_causes b s i v (Through why.Asked) is shown e sets = causes b s i v is shown (inl sets)
+setter_causes b s i v (Through why.Turns) is shown e sets = causes b s i v is shown (inl sets)
+setter_causes b s i v (Through why.Ended) is shown e sets = causes b s i v is shown (inl sets)
+setter_causes b s i v Rests is shown e sets = causes b s i v is shown (inl sets)
+setter_causes b s i v (Works intent) is shown e sets = causes b s i v is shown (inl sets)
+setter_causes b s i v (Names place) is shown e sets = causes b s i v is shown (inl sets)
+
+-- one who is through has ended, or there is a cause
+ended_or_cause : (b : Beginning) (s : EpochState) (i : ℕ) (v : ThreadState) (reason : Reason) → IsEpoch b s → slice_get s.thread_states i ≡ Some v → v.stage ≡ Through reason → (v.stage ≡ Through why.Ended) ⊎ HasCause b s
+ended_or_cause b s i v why.NoRun is shown stage = inr (no_run_causes b s i v is shown stage)
+ended_or_cause b s i v why.LogFull is shown stage = inr (log_full_causes b s i v is shown stage)
+ended_or_cause b s i v why.Asked is shown stage =
+    let on : IsWithinTurn s v (Through why.Asked) = subst (IsWithinTurn s v) stage (is.called.each i v shown).within_turn in
+    let by = is.called.word on.2.0 in
+    inr (setter_causes b s by.0 by.1 by.1.stage is by.2 refl by.3)
+ended_or_cause b s i v why.Turns is shown stage = inr (turn_causes b s i v is shown stage)
+ended_or_cause b s i v why.Ended is shown stage = inl stage
+
+-- either all of a list are so, or there is something else
+all_or : {A : Type 0} (P : A → Type 0) (Q : Type 0) (xs : List A) → ((i : ℕ) (x : A) → slice_get xs i ≡ Some x → P x ⊎ Q) → ((i : ℕ) (x : A) → slice_get xs i ≡ Some x → P x) ⊎ Q
+all_or P Q [] each = inl (λ i x e. absurd (cc))
+all_or P Q (y ∷ ys) each = elim (each zero y refl) [
+  | inr q ↦ inr q
+  | inl p ↦ elim (all_or P Q ys (λ i x e. each (suc i) x e)) [
+    | inr q ↦ inr q
+    | inl ps ↦ inl (all_of_both P y ys p ps)
+  ]
+]
+  where
+    all_of_both : {A : Type 0} (P : A → Type 0) (y : A) (ys : List A) → P y → ((i : ℕ) (x : A) → slice_get ys i ≡ Some x → P x) → (i : ℕ) (x : A) → slice_get (y ∷ ys) i ≡ Some x → P x
+    all_of_both P y ys p ps zero x e = subst P (same_of y x e) p
+      where
+        same_of : {A : Type 0} (a c : A) → ◌≡◌ {A = Option A} (Some a) (Some c) → a ≡ c
+        same_of a c e = cc
+    all_of_both P y ys p ps (suc i) x e = ps i x e
+
+-- all have ended, or there is a cause
+pub through_has_cause : ThroughHasCause
+through_has_cause b s is through =
+    all_or (λ v. v.stage ≡ Through why.Ended) (HasCause b s) s.thread_states (λ i v shown. ended_or_cause b s i v (through i v shown).0 is shown (through i v shown).1)

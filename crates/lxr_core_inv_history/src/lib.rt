@@ -1,0 +1,39 @@
+//! What the history has while threads run between two pauses: it goes on by steps of the model alone, and each thread's
+//! calls are its operations, each once and in order, with the replies that its mutator keeps.
+//!
+//! Operations stand in the history at one atomic step each, in whatever order the threads' steps come. The functions of
+//! this crate do nothing: the contract of each is a law.
+#![tactic(auto)]
+
+ghost use Rattle.lxr_core_events.specs.Laws.{HistoryIsKept, RepliesAreSteps};
+ghost use Rattle.lxr_core_events.specs.Through.{CallsAreBeginnings, EndsAreCounted, EpochProgresses, RestIsHistory, ThroughHasCause};
+
+/// Each event keeps the history and the replies, where replies are those of the model's steps.
+pub fn history_is_kept()
+    ensures { RepliesAreSteps → HistoryIsKept }
+{}
+
+/// Where all threads are through, all have ended or one of them is a cause for a pause.
+pub fn through_has_cause()
+    ensures { ThroughHasCause }
+{}
+
+/// At each moment a thread's calls are a beginning of its operations.
+pub fn calls_are_beginnings()
+    ensures { CallsAreBeginnings }
+{}
+
+/// Where all mutators rest, calls and replies of each thread are those that its mutator keeps.
+pub fn rest_is_history()
+    ensures { RestIsHistory }
+{}
+
+/// Where all threads are through, the history counts who has ended.
+pub fn ends_are_counted()
+    ensures { EndsAreCounted }
+{}
+
+/// Right after a pause each epoch brings an operation or an end, or a thread finds no block.
+pub fn epoch_progresses()
+    ensures { EpochProgresses }
+{}

@@ -1,0 +1,14 @@
+//! Objects stand where they were placed, and what mutators have learned of them stays so, whatever the order of their
+//! atomic steps.
+//!
+//! The heap is the image of the model's graph at each moment of an epoch: a step writes a data word or a reference of
+//! the object that its mutator works on, wipes words that are its maker's alone, or makes an object of them by its
+//! header; all other steps leave the heap as it is. The function of this crate does nothing: its contract is a law.
+#![tactic(auto)]
+
+ghost use Rattle.lxr_core_events.specs.Laws.{PlacedIsKept};
+
+/// Where replies are those of the model, each event leaves objects at their places.
+pub fn placed_is_kept()
+    ensures { PlacedIsKept }
+{}

@@ -1,0 +1,9 @@
+pub mod ThreadStateLemmas
+pub mod PlaceLemmas
+pub mod TurnLemmas
+pub mod CallLemmas
+pub mod ReferenceLemmas
+pub mod FirstLemmas
+pub mod StoreLemmas
+pub mod EventLemmas
+pub mod ClosingLemmas

@@ -1,0 +1,17 @@
+//! Unlogged bits and logs while threads run between two pauses.
+//!
+//! Each reference of an unreclaimed object either has its unlogged bit, and holds what it held at the last pause, or has
+//! exactly one entry in exactly one log. The functions of this crate do nothing: the contract of each is a law.
+#![tactic(auto)]
+
+ghost use Rattle.lxr_core_events.specs.Laws.{BitsAndLogsAreKept, ClosingLogs, RepliesAreSteps};
+
+/// Each event keeps bits and logs, where mutators reply as the model does.
+pub fn bits_and_logs_are_kept()
+    ensures { RepliesAreSteps → BitsAndLogsAreKept }
+{}
+
+/// Where all mutators rest, bits and logs are those of the references that were stored to.
+pub fn closing_logs()
+    ensures { ClosingLogs }
+{}

@@ -1,0 +1,9 @@
+pub mod ThreadStateLemmas
+pub mod FixedLemmas
+pub mod CarryLemmas
+pub mod OwnerLemmas
+pub mod QuietLemmas
+pub mod TakingLemmas
+pub mod MakingLemmas
+pub mod DrawnLemmas
+pub mod ClosingLemmas

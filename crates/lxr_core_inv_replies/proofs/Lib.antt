@@ -1,0 +1,8 @@
+mod StepLemmas
+mod RegisterLemmas
+mod AnswerLemmas
+mod AtOnceLemmas
+mod ObjectLemmas
+mod MakingLemmas
+pub mod ReplyLemmas
+pub mod KeepingLemmas

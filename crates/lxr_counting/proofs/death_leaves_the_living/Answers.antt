@@ -1,5 +1,0 @@
-use Rattle.lxr_counting.proofs.DeathLemmas.{death_leaves}
-use Rattle.lxr_counting.proofs.death_leaves_the_living.Goals as goal
-
-pub returns : goal.returns
-returns c = death_leaves

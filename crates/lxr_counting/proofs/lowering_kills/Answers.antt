@@ -1,5 +1,0 @@
-use Rattle.lxr_counting.proofs.LoweringLemmas.{over}
-use Rattle.lxr_counting.proofs.lowering_kills.Goals as goal
-
-pub returns : goal.returns
-returns c = over

@@ -1,5 +1,0 @@
-use Rattle.lxr_counting.proofs.FollowingLemmas.{plain_pause_follows}
-use Rattle.lxr_counting.proofs.plain_pause_restarts_following.Goals as goal
-
-pub returns : goal.returns
-returns c = plain_pause_follows

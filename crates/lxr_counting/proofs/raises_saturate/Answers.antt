@@ -1,5 +1,0 @@
-use Rattle.lxr_counting.proofs.RaisingLemmas.{raises_saturate}
-use Rattle.lxr_counting.proofs.raises_saturate.Goals as goal
-
-pub returns : goal.returns
-returns c = raises_saturate

@@ -1,3 +1,0 @@
-pub mod Deeds
-pub mod Laws
-pub mod Helpers

@@ -1,5 +1,0 @@
-pub mod HeldLemmas
-pub mod TellingLemmas
-pub mod ShowingLemmas
-pub mod ActingLemmas
-pub mod ObjectLemmas

@@ -1,6 +1,0 @@
-pub mod HandingLemmas
-pub mod ListLemmas
-pub mod StillLemmas
-pub mod DoorLemmas
-pub mod CauseLemmas
-pub mod ProgressLemmas

@@ -1,3 +1,0 @@
-pub mod HandingOut
-pub mod Door
-pub mod Cause

@@ -1,9 +1,0 @@
-pub mod ViewLemmas
-pub mod FixedLemmas
-pub mod CarryLemmas
-pub mod OwnerLemmas
-pub mod QuietLemmas
-pub mod TakingLemmas
-pub mod MakingLemmas
-pub mod DrawnLemmas
-pub mod ClosingLemmas

@@ -1,9 +1,0 @@
-pub mod ViewLemmas
-pub mod PlaceLemmas
-pub mod TurnLemmas
-pub mod CallLemmas
-pub mod ReferenceLemmas
-pub mod FirstLemmas
-pub mod StoreLemmas
-pub mod EventLemmas
-pub mod ClosingLemmas

@@ -1,8 +1,0 @@
-mod StepLemmas
-mod RegisterLemmas
-mod AnswerLemmas
-mod AtOnceLemmas
-mod ObjectLemmas
-mod MakingLemmas
-mod ReplyLemmas
-mod KeepingLemmas

@@ -1,0 +1,197 @@
+-- A full heap has an object in each block, and so at least as many objects as blocks: names are taken out block by block.
+-- Right after a pause the unreclaimed objects but the world take all lines behind the world's three.
+use Rattle.std.proofs.Common.{◌≡◌, ℕ, zero, suc, ◌+◌, ◌-◌, ◌*◌, ◌/◌, ◌<◌, ◌≤◌, refl, sym, ap, subst, ◌∙◌, inl, inr, ◌⊎◌, arith, Bool, true, false, nat_eq, List, [], ◌∷◌, ◌++◌, length}
+use Rattle.std.specs.Prelude.{Some, None, IsTrue, not, map, filter}
+use Rattle.std.proofs.lemmas.Bool.{cases_Bool, false_from_ne_true, or_left}
+use Rattle.std.proofs.lemmas.Bool.Decides.{nat_tests}
+use Rattle.std.proofs.lemmas.List.{append-nil, length-append, length-map}
+use Rattle.std.proofs.lemmas.List.Filters.{length-filter_both}
+use Rattle.std.proofs.lemmas.List.Folds.{list_any-append}
+use Rattle.std.proofs.lemmas.List.Sorted.{length_permutation}
+use Rattle.std.proofs.lemmas.Map.Views.{any-filter_same}
+use Rattle.lxr_layout.specs.declared.TheConstants.{GRANULES_IN_BLOCK, GRANULES_IN_LINE, LINES_IN_BLOCK}
+use Rattle.lxr_layout.specs.declared.Name.{Name}
+use Rattle.lxr_layout.specs.declared.Shape.{Shape}
+use Rattle.lxr_layout.specs.Objects.{FitsShape, line_count}
+use Rattle.lxr_graph.specs.State.{Graph, Object, world_name}
+use Rattle.lxr_graph.specs.Names.{has, same_name, without}
+use Rattle.lxr_graph.proofs.NameSets.{has_one, in_without, same_names, without_parts}
+use Rattle.lxr_image.specs.declared.space.Space.{Space}
+use Rattle.lxr_image.specs.Tables.{Tables}
+use Rattle.lxr_image.specs.Spaces.{tables_of}
+use Rattle.lxr_image.specs.Reads.{granule_of}
+use Rattle.lxr_image.specs.Image.{IsImage, granules_of}
+use Rattle.lxr_blocks.specs.Lines.{free_in, is_free}
+use Rattle.lxr_blocks.specs.Placing.{IsFull}
+use Rattle.lxr_full.specs.Taken.{LinesAreTaken}
+use Rattle.lxr_full.proofs.TakenLemmas.{taken_leaves_no_run}
+use Rattle.lxr_invariant.specs.AbstractState.{AbstractState, members}
+use Rattle.lxr_invariant.specs.Standing.{entry_of}
+use Rattle.lxr_invariant.specs.Lines.{Covers, IsTakenBy, OutsAreTaken}
+use Rattle.lxr_invariant.specs.Quiescent.{HoldsMoment, IsQuiescent}
+use Rattle.lxr_invariant.proofs.BlockLemmas.{none_chosen}
+use Rattle.lxr_full.specs.Room.{HasWorld, LogIsWritten, PausedFullLeavesNoRun, RoomlessBlocksAreTaken}
+use Rattle.lxr_full.proofs.TakenLines.{all_or_one, line_taken}
+
+-- ---- one name a block
+
+in_filter : (p : Name → Bool) (ns : List Name) (n : Name) → p n ≡ true → IsTrue (has ns n) → IsTrue (has (filter p ns) n)
+in_filter p ns n passes h = any-filter_same (same_name n) p true (λ k e. ap p (sym (same_names n k e)) ∙ passes) ns ∙ h
+
+some_length : (ns : List Name) (n : Name) → IsTrue (has ns n) → 1 ≤ length ns
+some_length [] n h = absurd (cc)
+some_length (m ∷ ns) n h = omega arith
+
+-- a list has a name for each of the numbers below one
+abbrev pub HasEach : (Name → ℕ) → List Name → ℕ → Type 0
+HasEach f ns n = (b : ℕ) → b < n → (x : Name) × IsTrue (has ns x) × (f x ≡ b)
+
+-- the names of a number, and all others
+abbrev of_number : (Name → ℕ) → ℕ → Name → Bool
+of_number f n x = nat_eq (f x) n
+
+abbrev of_others : (Name → ℕ) → ℕ → Name → Bool
+of_others f n x = not (of_number f n x)
+
+others_stay : (f : Name → ℕ) (ns : List Name) (n : ℕ) → HasEach f ns (n + 1) → HasEach f (filter (of_others f n) ns) n
+others_stay f ns n all b below =
+    let x = all b (omega (arith, below)) in
+    let other : of_number f n x.0 ≡ false = let is = x.2 in grind (arith, nat_tests, is, below) in
+    (x.0, in_filter (of_others f n) ns x.0 (ap not other) x.1, x.2)
+
+one_goes : (f : Name → ℕ) (ns : List Name) (n : ℕ) → HasEach f ns (n + 1) → 1 ≤ length (filter (of_number f n) ns)
+one_goes f ns n all =
+    let x = all n (omega arith) in
+    let own : of_number f n x.0 ≡ true = let is = x.2 in grind (arith, nat_tests, is) in
+    some_length (filter (of_number f n) ns) x.0 (in_filter (of_number f n) ns x.0 own x.1)
+
+-- it has at least as many names then
+pub pigeonhole : (f : Name → ℕ) (ns : List Name) (n : ℕ) → HasEach f ns n → n ≤ length ns
+pigeonhole f ns zero all = omega arith
+pigeonhole f ns (suc n) all =
+    let each : HasEach f ns (n + 1) = λ b below. all b (omega (arith, below)) in
+    let some = one_goes f ns n each in
+    let rest = pigeonhole f (filter (of_others f n) ns) n (others_stay f ns n each) in
+    let both = length-filter_both (of_number f n) (of_others f n) (λ x. refl) ns in
+    omega (arith, some, rest, both)
+
+-- ---- each block is taken
+
+-- a free line is told by a test
+told_free : (t : Tables) (b i : ℕ) → IsTrue (free_in t b i) ⊎ ¬ IsTrue (free_in t b i)
+told_free t b i = elim (cases_Bool (free_in t b i)) [ inl free ↦ inl free | inr taken ↦ inr (λ free. let w : true ≡ false = sym free ∙ taken in cc) ]
+
+-- an object that has a granule of a line of a block begins in that block
+block_of : (first granules k b i : ℕ) → first ≤ k → k < first + granules → first / GRANULES_IN_BLOCK ≡ (first + granules - 1) / GRANULES_IN_BLOCK → k / GRANULES_IN_LINE ≡ LINES_IN_BLOCK * b + i → i < LINES_IN_BLOCK → first / GRANULES_IN_BLOCK ≡ b
+block_of first granules k b i low high whole line within = omega arith
+
+-- a whole block is long enough
+whole_is_long : (shape : Shape) → FitsShape shape → line_count shape ≤ LINES_IN_BLOCK
+whole_is_long shape fits = let refs = fits.0 in let values = fits.1 in omega arith
+
+-- an object of a line of a block begins in that block
+begins_in_block : (t : Tables) (blocks : ℕ) (g : Graph) (at : Name → ℕ) (ms : List Name) (b i : ℕ) → IsImage t blocks at g ms → i < LINES_IN_BLOCK → IsTakenBy g at ms (LINES_IN_BLOCK * b + i)
+    → (n : Name) × IsTrue (has ms n) × (granule_of (at n) / GRANULES_IN_BLOCK ≡ b)
+begins_in_block t blocks g at ms b i image within taken =
+    let a = image.stands taken.0 taken.3 in
+    let found = taken.4.object in
+    let both : Some taken.1 ≡ Some a.0 = sym found ∙ a.1 in
+    let same : taken.1 ≡ a.0 = cc in
+    let high : taken.2 < granule_of (at taken.0) + granules_of a.0 = subst (λ o. taken.2 < granule_of (at taken.0) + granules_of o) same taken.4.behind in
+    (taken.0, taken.3, block_of (granule_of (at taken.0)) (granules_of a.0) taken.2 b i taken.4.first high a.2.whole.in_block taken.5 within)
+
+-- in a space that holds a moment, an object of a member overlaps a line that isn't free
+pub member_takes : (s : Space) (g : AbstractState) → HoldsMoment s g.moment g.at → OutsAreTaken (tables_of s) g.moment.state.graph g.at (members g.moment) → (line : ℕ) → is_free (tables_of s) line ≡ false
+    → IsTakenBy g.moment.state.graph g.at (members g.moment) line
+member_takes s g holds outs =
+    line_taken (tables_of s) s.limits.blocks g.moment.state.graph g.at g.moment.unreclaimed (members g.moment) holds.image.image
+    (λ n h. list_any-append (same_name n) g.moment.unreclaimed g.moment.made ∙ or_left (has g.moment.unreclaimed n) (has g.moment.made n) h) holds.marks outs
+
+block_is_taken : (s : Space) (g : AbstractState) (shape : Shape) → IsQuiescent s g → g.moment.trace ≡ None → FitsShape shape → IsFull s shape → (b : ℕ) → b < s.limits.blocks
+    → (n : Name) × IsTrue (has (members g.moment) n) × (granule_of (g.at n) / GRANULES_IN_BLOCK ≡ b)
+block_is_taken s g shape between no_trace fits full b below =
+    let holds = between.safepoint.holds in
+    elim (all_or_one (λ i. IsTrue (free_in (tables_of s) b i)) LINES_IN_BLOCK (told_free (tables_of s) b)) [
+      | inl free ↦ absurd (full.lines (record { block = b; line = 0; lines = LINES_IN_BLOCK })
+          (record {
+            run = record { block = below; within = omega arith; free = λ i low high. free i (omega (arith, high)) };
+            outside = none_chosen (tables_of s) s.limits.blocks g.moment.trace b holds.blocks no_trace below;
+          })
+          (whole_is_long shape fits))
+      | inr x ↦ begins_in_block (tables_of s) s.limits.blocks g.moment.state.graph g.at (members g.moment) b x.0 holds.image.image x.1
+          (member_takes s g holds between.outs (LINES_IN_BLOCK * b + x.0) (false_from_ne_true (free_in (tables_of s) b x.0) x.2))
+    ]
+
+pub roomless_blocks_are_taken : RoomlessBlocksAreTaken
+roomless_blocks_are_taken s g shape between no_trace fits full =
+    let many = pigeonhole (λ n. granule_of (g.at n) / GRANULES_IN_BLOCK) (members g.moment) s.limits.blocks (block_is_taken s g shape between no_trace fits full) in
+    let sum = length-append g.moment.unreclaimed g.moment.made in
+    omega (arith, many, sum)
+
+-- ---- right after a pause
+
+-- the world has the lines 0 to 2 alone
+world_is_low : (g : Graph) (at : Name → ℕ) (o : Object) (k line : ℕ) → HasWorld g → at world_name ≡ 1 → Covers g at world_name o k → k / GRANULES_IN_LINE ≡ line → line < 3
+world_is_low g at o k line world place is same_line =
+    let found = is.object in
+    let both : Some o ≡ Some world.0 = sym found ∙ world.1 in
+    let same : o ≡ world.0 = cc in
+    let refs : length world.0.refs ≡ 64 = world.2.refs in
+    let values : length world.0.values ≡ 0 = world.2.values in
+    let size : granules_of world.0 ≡ 33 = omega (arith, refs, values) in
+    let all : granules_of o ≡ 33 = ap granules_of same ∙ size in
+    let high = is.behind in
+    omega (arith, place, all, high, same_line)
+
+not_the_world : (g : Graph) (at : Name → ℕ) (n : Name) (o : Object) (k line : ℕ) → HasWorld g → at world_name ≡ 1 → Covers g at n o k → k / GRANULES_IN_LINE ≡ line → 3 ≤ line
+    → IsTrue (has (world_name ∷ []) n) → ⊥
+not_the_world g at n o k line world place is same_line past one =
+    let low = world_is_low g at o k line world place (subst (λ m. Covers g at m o k) (has_one world_name n one) is) same_line in
+    absurd (omega (arith, low, past))
+
+unreclaimed_member : (us made : List Name) (n : Name) → made ≡ [] → IsTrue (has (us ++ made) n) → IsTrue (has us n)
+unreclaimed_member us made n none h = subst (λ ns. IsTrue (has ns n)) (ap (λ ns. us ++ ns) none ∙ append-nil us) h
+
+-- an object of a line has granules before its end and behind its begin
+overlaps_low : (first k line : ℕ) → first ≤ k → k / GRANULES_IN_LINE ≡ line → first < GRANULES_IN_LINE * line + GRANULES_IN_LINE
+overlaps_low first k line low is = omega arith
+
+overlaps_high : (end k line : ℕ) → k < end → k / GRANULES_IN_LINE ≡ line → GRANULES_IN_LINE * line < end
+overlaps_high end k line high is = omega arith
+
+lines_are_taken : (s : Space) (g : AbstractState) → IsQuiescent s g → g.moment.made ≡ [] → HasWorld g.moment.state.graph
+    → LinesAreTaken (tables_of s) s.limits.blocks g.at g.moment.state.graph (without g.moment.unreclaimed (world_name ∷ []))
+lines_are_taken s g between none_made world line past in_heap taken =
+    let holds = between.safepoint.holds in
+    let is = member_takes s g holds between.outs line taken in
+    let n : Name = is.0 in
+    let others = not_the_world g.moment.state.graph g.at n is.1 is.2 line world holds.image.world is.4 is.5 past in (
+      n,
+      is.1,
+      in_without g.moment.unreclaimed (world_name ∷ []) n (unreclaimed_member g.moment.unreclaimed g.moment.made n none_made is.3) others,
+      is.4.object,
+      overlaps_low (granule_of (g.at n)) is.2 line is.4.first is.5,
+      overlaps_high (granule_of (g.at n) + granules_of is.1) is.2 line is.4.behind is.5,
+    )
+
+some_lines : (shape : Shape) → 1 ≤ line_count shape
+some_lines shape = omega arith
+
+pub paused_full_leaves_no_run : PausedFullLeavesNoRun
+paused_full_leaves_no_run s g shape between none_made no_trace world full =
+    let holds = between.safepoint.holds in
+    taken_leaves_no_run (tables_of s) s.limits.blocks g.at g.moment.state.graph (members g.moment) (without g.moment.unreclaimed (world_name ∷ [])) (line_count shape)
+    (some_lines shape) holds.space.limits.blocks.0
+    (record {
+      image = holds.image.image;
+      among = λ n h. list_any-append (same_name n) g.moment.unreclaimed g.moment.made
+          ∙ or_left (has g.moment.unreclaimed n) (has g.moment.made n) (without_parts g.moment.unreclaimed (world_name ∷ []) n h).0;
+      lines = lines_are_taken s g between none_made world;
+    })
+    (λ q run long. full.lines q (record { run = run; outside = none_chosen (tables_of s) s.limits.blocks g.moment.trace q.block holds.blocks no_trace run.block }) long)
+
+-- ---- at a safepoint before a pause
+
+pub log_is_written : LogIsWritten
+log_is_written s g safepoint =
+    sym (length_permutation (map (entry_of g.moment g.at) g.moment.written) s.logged.items safepoint.holds.logs ∙ length-map g.moment.written (entry_of g.moment g.at))

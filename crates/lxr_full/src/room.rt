@@ -1,0 +1,29 @@
+//! What follows where no room is left for a new object, at a safepoint before a pause and right after a pause.
+//!
+//! A heap is full for a shape where neither the rest nor free lines in a row fit it. A line that isn't free is
+//! overlapped by an object: it is out, or one of its granules begins an unreclaimed object or is a line mark of one.
+//! So where no trace runs, a full heap has an object in each of its blocks, and right after a pause the unreclaimed
+//! objects alone can leave no run for the shape. Blocks and lines are those of Immix (Blackburn and McKinley, 2008),
+//! line marks in the table of counts those of LXR (Zhao, Blackburn and McKinley, 2022). The functions here do
+//! nothing: the contract of each is a law.
+ghost use Rattle.lxr_full.specs.Room.{LogIsWritten, PausedFullLeavesNoRun, RoomlessBlocksAreTaken, WorldKeepsShape};
+
+/// Where no room is left between epochs, with no trace, there are at least as many objects as blocks.
+pub fn roomless_blocks_are_taken()
+    ensures { RoomlessBlocksAreTaken }
+{}
+
+/// Where no room is left right after a pause, the unreclaimed objects can leave no run.
+pub fn paused_full_leaves_no_run()
+    ensures { PausedFullLeavesNoRun }
+{}
+
+/// The world has 64 references and no data after each legal history.
+pub fn world_keeps_shape()
+    ensures { WorldKeepsShape }
+{}
+
+/// At a safepoint before a pause the log has as many entries as fields were stored to since the last pause.
+pub fn log_is_written()
+    ensures { LogIsWritten }
+{}

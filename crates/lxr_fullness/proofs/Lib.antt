@@ -1,3 +1,0 @@
-pub mod SlotLemmas
-pub mod TouchedLemmas
-pub mod TakenLemmas

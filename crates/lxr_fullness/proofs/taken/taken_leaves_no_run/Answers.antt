@@ -1,5 +1,0 @@
-use Rattle.lxr_fullness.proofs.TakenLemmas.{taken_leaves_no_run}
-use Rattle.lxr_fullness.proofs.taken.taken_leaves_no_run.Goals as goal
-
-pub returns : goal.returns
-returns c = taken_leaves_no_run

@@ -1,5 +1,0 @@
-use Rattle.lxr_fullness.proofs.TakenLemmas.{taken_touches_few}
-use Rattle.lxr_fullness.proofs.taken.taken_touches_few.Goals as goal
-
-pub returns : goal.returns
-returns c = taken_touches_few

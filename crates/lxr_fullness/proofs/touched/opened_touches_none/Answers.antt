@@ -1,5 +1,0 @@
-use Rattle.lxr_fullness.proofs.TouchedLemmas.{opened_touches_none}
-use Rattle.lxr_fullness.proofs.touched.opened_touches_none.Goals as goal
-
-pub returns : goal.returns
-returns c = opened_touches_none

@@ -1,5 +1,0 @@
-use Rattle.lxr_fullness.proofs.TouchedLemmas.{touched_reads_lines}
-use Rattle.lxr_fullness.proofs.touched.touched_reads_lines.Goals as goal
-
-pub returns : goal.returns
-returns c = touched_reads_lines

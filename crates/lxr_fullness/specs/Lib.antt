@@ -1,3 +1,0 @@
-pub mod Touched
-pub mod TouchedLaws
-pub mod Taken

@@ -1,0 +1,54 @@
+-- Names sorted by their order stand in it, each once, where each was there once before.
+use Rattle.std.proofs.Common.{◌≡◌, ℕ, ◌+◌, ◌*◌, ◌^◌, ◌<◌, sym, arith, false, List, [], ◌∷◌}
+use Rattle.std.specs.Prelude.{slice_index_or}
+use Rattle.std.specs.Cmp.{IsStrictWeakOrder, IsTotalOrder}
+use Rattle.std.specs.List.{AllByRecursion}
+use Rattle.std.specs.List as list
+use Rattle.std.specs.List.Sorted.{IsPermutation, IsSortedBy}
+use Rattle.std.specs.Ordering.{is_lt, nat_cmp}
+use Rattle.std.specs.declared.cmp.Ordering.TheVariants.{Less}
+use Rattle.std.proofs.lemmas.Bool.{or_parts}
+use Rattle.std.proofs.lemmas.Bool.Decides.{nat_tests}
+use Rattle.std.proofs.lemmas.Cmp.{nat_cmp_total, on_total, then_total}
+use Rattle.std.proofs.lemmas.List.Sorted.{list_any-IsPermutation, ranks_by}
+use Rattle.std.proofs.lemmas.Map.Keys.{IsDistinct-IsPermutation, apart_from_distinct, sorted_from_all_adjacent}
+use Rattle.lxr_layout.specs.declared.Name.{Name}
+use Rattle.lxr_graph.specs.Names.{AreInOrder, has, name_order, same_name}
+use Rattle.lxr_graph.specs.Distinct.{IsDistinct}
+
+-- ranks stand to each other as their names do
+pub rank_order : (a b : Name) (i j : ℕ) → a.serial < 2 ^ 32 → b.serial < 2 ^ 32 → i ≡ a.serial + 2 ^ 32 * a.thread → j ≡ b.serial + 2 ^ 32 * b.thread → nat_cmp i j ≡ name_order a b
+rank_order a b i j h k p q = grind (arith, nat_tests)
+
+name_total : IsTotalOrder name_order
+name_total = then_total (on_total (λ (n : Name). n.thread) nat_cmp_total) (on_total (λ (n : Name). n.serial) nat_cmp_total)
+
+pub names_rank : IsStrictWeakOrder (λ a b. is_lt (name_order a b))
+names_rank = ranks_by name_total (λ n. n)
+
+same_flips : (a b : Name) → same_name a b ≡ same_name b a
+same_flips a b = grind arith
+
+-- a name that neither stands behind another nor is it stands before it
+before : (a b : Name) → is_lt (name_order b a) ≡ false → same_name a b ≡ false → name_order a b ≡ Less
+before a b h k = grind (arith, nat_tests)
+
+-- what a list has not differs from each of its names
+none_same : (n : Name) (ns : List Name) → has ns n ≡ false → AllByRecursion (λ m. same_name n m ≡ false) ns
+none_same n [] h = tt
+none_same n (m ∷ ms) h = let parts = or_parts (same_name n m) (has ms n) h in (parts.0, none_same n ms parts.1)
+
+distinct : (ns : List Name) → IsDistinct ns → list.IsDistinct same_name ns
+unfolding list.IsDistinct
+distinct [] h = tt
+distinct (n ∷ ns) h = (none_same n ns h.0, distinct ns h.1)
+
+pub sorted_names : (ns ms : List Name) → IsDistinct ns → IsPermutation ns ms → IsSortedBy (λ a b. is_lt (name_order a b)) ms → AreInOrder ms
+sorted_names ns ms once moved up =
+    let first : Name = record { thread = 0; serial = 0 } in
+    let apart = IsDistinct-IsPermutation same_name same_flips ns ms moved (distinct ns once) in
+    sorted_from_all_adjacent name_total ms first
+    (λ k within. before (slice_index_or ms k first) (slice_index_or ms (k + 1) first) (up k first (omega arith) within) (apart_from_distinct same_name ms k (k + 1) first apart (omega arith) within))
+
+pub same_members : (ns ms : List Name) → IsPermutation ns ms → (n : Name) → has ms n ≡ has ns n
+same_members ns ms moved n = sym (list_any-IsPermutation (same_name n) ns ms moved)

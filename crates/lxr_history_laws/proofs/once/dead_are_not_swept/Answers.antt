@@ -1,5 +1,0 @@
-use Rattle.lxr_history_laws.proofs.OnceLemmas.{dead_not_swept}
-use Rattle.lxr_history_laws.proofs.once.dead_are_not_swept.Goals as goal
-
-pub returns : goal.returns
-returns c = dead_not_swept

@@ -1,5 +1,0 @@
-use Rattle.lxr_history_laws.proofs.ReportLemmas.{history_determined}
-use Rattle.lxr_history_laws.proofs.reports.history_is_determined.Goals as goal
-
-pub returns : goal.returns
-returns c = history_determined

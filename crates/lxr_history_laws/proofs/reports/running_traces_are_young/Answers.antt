@@ -1,5 +1,0 @@
-use Rattle.lxr_history_laws.proofs.ReportLemmas.{running_young}
-use Rattle.lxr_history_laws.proofs.reports.running_traces_are_young.Goals as goal
-
-pub returns : goal.returns
-returns c = running_young

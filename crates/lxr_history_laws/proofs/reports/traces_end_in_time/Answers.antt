@@ -1,5 +1,0 @@
-use Rattle.lxr_history_laws.proofs.ReportLemmas.{ends_in_time}
-use Rattle.lxr_history_laws.proofs.reports.traces_end_in_time.Goals as goal
-
-pub returns : goal.returns
-returns c = ends_in_time

@@ -1,5 +1,0 @@
-use Rattle.lxr_history_laws.proofs.TraceLemmas.{garbage_stays}
-use Rattle.lxr_history_laws.proofs.unreclaimed.garbage_stays.Goals as goal
-
-pub returns : goal.returns
-returns c = garbage_stays

@@ -1,5 +1,0 @@
-use Rattle.lxr_history_laws.proofs.ClosedLemmas.{unreclaimed_closed}
-use Rattle.lxr_history_laws.proofs.unreclaimed.unreclaimed_are_closed.Goals as goal
-
-pub returns : goal.returns
-returns c = unreclaimed_closed

@@ -1,5 +1,0 @@
-use Rattle.lxr_history_laws.proofs.ClosedLemmas.{have_objects}
-use Rattle.lxr_history_laws.proofs.unreclaimed.unreclaimed_have_objects.Goals as goal
-
-pub returns : goal.returns
-returns c = have_objects

@@ -1,5 +1,0 @@
-use Rattle.lxr_history_laws.proofs.TraceLemmas.{unstuck_referred}
-use Rattle.lxr_history_laws.proofs.unreclaimed.unstuck_garbage_is_referred_to.Goals as goal
-
-pub returns : goal.returns
-returns c = unstuck_referred

@@ -1,0 +1,9 @@
+pub mod AbstractState
+pub mod Standing
+pub mod Counting
+pub mod Lines
+pub mod Tracing
+pub mod Quiescent
+pub mod Listed
+pub mod Raised
+pub mod Keeping

@@ -1,0 +1,132 @@
+-- What holds of marks, grays and remembered entries at a safepoint while a trace runs. A marked object counts as scanned, and
+-- one that is done as handled.
+use Rattle.std.specs.Prelude.{◌≡◌, ℕ, ◌+◌, ◌*◌, ◌/◌, ◌^◌, ◌<◌, ◌≤◌, ◌⊎◌, ⊤, false, Option, Some, None, List, IsTrue, slice_get}
+use Rattle.lxr_invariant.specs.Standing.{word_of_field}
+use Rattle.lxr_layout.specs.declared.TheConstants.{GRANULES_IN_BLOCK, REMEMBERED_CURSOR, WORDS_IN_BLOCK, WORDS_IN_LINE}
+use Rattle.lxr_layout.specs.declared.limits.Limits.{Limits}
+use Rattle.lxr_layout.specs.declared.Name.{Name}
+use Rattle.lxr_layout.specs.declared.LogEntry.{LogEntry}
+use Rattle.lxr_layout.specs.declared.Place.{Place}
+use Rattle.lxr_layout.specs.Places.{first_word}
+use Rattle.lxr_layout.specs.Runs.{IsEntry, word_of_entry}
+use Rattle.lxr_graph.specs.Names.{IsSetOf, has}
+use Rattle.lxr_graph.specs.State.{HasObject, object_at, refs_of, world_name}
+use Rattle.lxr_image.specs.Tables.{Tables}
+use Rattle.lxr_image.specs.Reads.{granule_of}
+use Rattle.lxr_blocks.specs.declared.states.BlockState.TheVariants.{Chosen}
+use Rattle.lxr_blocks.specs.States.{state_in}
+use Rattle.lxr_model.specs.Reachable.{Holds, Reachable, Refers}
+use Rattle.lxr_model.specs.Moments.{Moment, Trace, rememberable}
+use Rattle.lxr_model_counting.specs.Following.{IsLive}
+use Rattle.lxr_invariant.specs.AbstractState.{AbstractState}
+use Rattle.lxr_invariant.specs.Counting.{is_done}
+
+-- the object of a name is marked, and is gray
+abbrev pub IsMarked : Tables → (Name → ℕ) → Name → Type 0
+IsMarked t at n = IsTrue (t.marks (granule_of (at n)))
+
+abbrev pub IsGray : Tables → (Name → ℕ) → Name → Type 0
+IsGray t at n = IsTrue (t.grays (granule_of (at n)))
+
+-- a name was made since the trace began
+abbrev pub IsYounger : Moment → Trace → Name → Type 0
+IsYounger m trace n = (object_at trace.state.graph n ≡ None) × HasObject m.state.graph n
+
+-- a log has the place of an object as an old value
+abbrev pub IsOldValue : List LogEntry → ℕ → Type 0
+IsOldValue entries p = (k : ℕ) × (entry : LogEntry) × (slice_get entries k ≡ Some entry) × (entry.old.0 ≡ p)
+
+-- a name of the snapshot is covered: it is gray, marked, reclaimed since, or an old value in a log
+abbrev pub IsCovered : Tables → Moment → (Name → ℕ) → List LogEntry → Name → Type 0
+IsCovered t m at entries n =
+    (has m.unreclaimed n ≡ false)
+    ⊎ (IsTrue (has m.unreclaimed n) × IsGray t at n)
+    ⊎ (IsTrue (has m.unreclaimed n) × IsMarked t at n)
+    ⊎ (IsTrue (has m.unreclaimed n) × IsOldValue entries (at n))
+
+-- reference i of u's object is still to be scanned, and holds what it held when the trace began
+pub record IsToBeScanned (t : Tables) (m : Moment) (at : Name → ℕ) (u : Name) (i : ℕ) (v : Name) : Type 0 where
+  pub member : IsTrue (has m.unreclaimed u)
+  pub unmarked : t.marks (granule_of (at u)) ≡ false
+  pub undone : is_done t at u ≡ false
+  pub holds : slice_get (refs_of (object_at m.state.graph u)) i ≡ Some (Some v)
+
+-- The snapshot is covered: the world, what registers held when the trace began, and what each reference of a reachable
+-- object held then, unless that reference is still to be scanned.
+pub record SnapshotIsCovered (t : Tables) (m : Moment) (at : Name → ℕ) (entries : List LogEntry) (trace : Trace) : Type 0 where
+  pub world : IsCovered t m at entries world_name
+  pub registers : (n : Name) → Holds trace.state n → IsCovered t m at entries n
+  pub references : (u v : Name) (i : ℕ) → Reachable trace.state u → slice_get (refs_of (object_at trace.state.graph u)) i ≡ Some (Some v)
+      → IsCovered t m at entries v ⊎ IsToBeScanned t m at u i v
+
+-- a name belongs to the snapshot or is younger
+abbrev pub IsInSnapshot : Moment → Trace → Name → Type 0
+IsInSnapshot m trace n = Reachable trace.state n ⊎ IsYounger m trace n
+
+-- what was unreclaimed and unreachable when the trace began
+pub record IsGarbageOf (trace : Trace) (n : Name) : Type 0 where
+  pub member : IsTrue (has trace.unreclaimed n)
+  pub unreachable : ¬ Reachable trace.state n
+
+-- garbage of a trace stays: it is unreclaimed, not live, not done, refers to what it referred to, and where it isn't stuck
+-- some garbage refers to it
+pub record StaysGarbage (t : Tables) (m : Moment) (at : Name → ℕ) (trace : Trace) (n : Name) : Type 0 where
+  pub member : IsTrue (has m.unreclaimed n)
+  pub dropped : ¬ IsLive m n
+  pub undone : is_done t at n ≡ false
+  pub references : refs_of (object_at m.state.graph n) ≡ refs_of (object_at trace.state.graph n)
+  pub referred : has m.stuck n ≡ false → (u : Name) × IsGarbageOf trace u × Refers trace.state.graph u n
+
+-- Marks stay inside the snapshot: so do grays and dones. What is unreclaimed was so when the trace began, or is younger
+-- and marked. No unreclaimed object of the snapshot, and no younger one, refers to garbage of the trace, now or at the
+-- last pause, and garbage stays.
+pub record MarksStayInside (t : Tables) (m : Moment) (at : Name → ℕ) (trace : Trace) : Type 0 where
+  pub marks : (n : Name) → IsTrue (has m.unreclaimed n) → IsMarked t at n → IsInSnapshot m trace n
+  pub grays : (n : Name) → IsTrue (has m.unreclaimed n) → IsGray t at n → IsInSnapshot m trace n
+  pub dones : (n : Name) → IsTrue (has m.unreclaimed n) → IsTrue (is_done t at n) → IsInSnapshot m trace n
+  pub members : (n : Name) → IsTrue (has m.unreclaimed n) → IsTrue (has trace.unreclaimed n) ⊎ (IsYounger m trace n × IsMarked t at n)
+  pub referred : (u n : Name) → IsTrue (has m.unreclaimed u) → IsInSnapshot m trace u → IsGarbageOf trace n
+      → ¬ Refers m.last.graph u n × ¬ Refers m.state.graph u n
+  pub garbage : (n : Name) → IsGarbageOf trace n → StaysGarbage t m at trace n
+
+-- the remembered set has overflowed since the trace began: its cursor tells how many entries were drawn
+abbrev pub HasOverflowed : Limits → Tables → Type 0
+HasOverflowed l t = l.remember < t.cursors REMEMBERED_CURSOR
+
+-- a field has an entry with the reuse counter that its line has now
+abbrev pub IsRemembered : Limits → Tables → (Name → ℕ) → Name → ℕ → Type 0
+IsRemembered l t at n i = (k : ℕ) × (k < t.cursors REMEMBERED_CURSOR) × (k < l.remember)
+    × (t.remembered k ≡ word_of_entry (t.reuse (word_of_field at n i / WORDS_IN_LINE)) (record { 0 = at n }) i)
+
+-- an entry of the remembered set is that of a field, whose word is one of the heap
+pub record IsEntryWord (l : Limits) (word : ℕ) (c : ℕ) (p : Place) (i : ℕ) : Type 0 where
+  pub is : word ≡ word_of_entry c p i
+  pub entry : IsEntry c p i
+  pub in_heap : first_word p.0 + 1 + i < WORDS_IN_BLOCK * l.blocks
+
+-- a tracer has scanned the object, or it was promoted since the trace began
+abbrev pub IsScanned : Tables → (Name → ℕ) → Trace → Name → Type 0
+IsScanned t at trace n = IsMarked t at n ⊎ (has trace.unreclaimed n ≡ false)
+
+-- Remembered so far: each reference of a scanned or promoted object that points into a Chosen block, and that wasn't stored
+-- to since the last pause, is remembered, unless the set has overflowed. No more fields were remembered than may be.
+pub record IsRememberedSoFar (l : Limits) (t : Tables) (m : Moment) (at : Name → ℕ) (trace : Trace) (most : ℕ) : Type 0 where
+  pub fields : (n v : Name) (i : ℕ) → IsTrue (has m.unreclaimed n) → IsScanned t at trace n
+      → slice_get (refs_of (object_at m.state.graph n)) i ≡ Some (Some v) → IsTrue (t.unlogged (word_of_field at n i))
+      → state_in t (granule_of (at v) / GRANULES_IN_BLOCK) ≡ Chosen → IsRemembered l t at n i ⊎ HasOverflowed l t
+  pub entries : (k : ℕ) → k < t.cursors REMEMBERED_CURSOR → k < l.remember → (c : ℕ) × (p : Place) × (i : ℕ) × IsEntryWord l (t.remembered k) c p i
+  pub drawn : t.cursors REMEMBERED_CURSOR ≤ most
+
+-- all of this, for the trace that runs and the names of its snapshot
+pub record TraceHolds (l : Limits) (t : Tables) (entries : List LogEntry) (g : AbstractState) (trace : Trace) : Type 0 where
+  pub snapshot : List Name
+  pub reachable : IsSetOf snapshot (Reachable trace.state)
+  pub covered : SnapshotIsCovered t g.moment g.at entries trace
+  pub inside : MarksStayInside t g.moment g.at trace
+  pub remembered : IsRememberedSoFar l t g.moment g.at trace (rememberable trace snapshot)
+  pub few : rememberable trace snapshot ≤ 2 ^ 23 * (g.moment.number + 1)
+
+-- nothing is asked where none runs
+abbrev pub IsTracedBy : Limits → Tables → List LogEntry → AbstractState → Option Trace → Type 0
+IsTracedBy l t entries g None = ⊤
+IsTracedBy l t entries g (Some trace) = TraceHolds l t entries g trace

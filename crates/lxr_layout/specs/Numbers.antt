@@ -1,0 +1,28 @@
+-- The numbers of the geometry and of the cursors.
+use Rattle.std.specs.Prelude.{◌≡◌}
+use Rattle.lxr_layout.specs.declared.TheConstants.{COUNT_BITS, DECREMENT_COUNT, DECREMENT_CURSOR, FREE_BLOCK_COUNT, FREE_BLOCK_CURSOR, GRANULES_IN_BLOCK, GRANULES_IN_LINE, LINES_IN_BLOCK, PAUSE_WORD, REMEMBERED_CURSOR, RUN_COUNT, RUN_CURSOR, STUCK, TRACING_WORD, WORDS_IN_BLOCK, WORDS_IN_LINE}
+
+-- a block of 32 KB has 128 lines of 256 bytes; a granule has two words of 8 bytes
+pub record HasGeometry : Type 0 where
+  pub block_words : WORDS_IN_BLOCK ≡ 4096
+  pub block_granules : GRANULES_IN_BLOCK ≡ 2048
+  pub block_lines : LINES_IN_BLOCK ≡ 128
+  pub line_words : WORDS_IN_LINE ≡ 32
+  pub line_granules : GRANULES_IN_LINE ≡ 16
+
+-- which word of the region of cursors is which
+pub record HasCursors : Type 0 where
+  pub pause : PAUSE_WORD ≡ 0
+  pub runs_drawn : RUN_CURSOR ≡ 1
+  pub runs : RUN_COUNT ≡ 2
+  pub blocks_drawn : FREE_BLOCK_CURSOR ≡ 3
+  pub blocks : FREE_BLOCK_COUNT ≡ 4
+  pub decrements_drawn : DECREMENT_CURSOR ≡ 5
+  pub decrements : DECREMENT_COUNT ≡ 6
+  pub remembered : REMEMBERED_CURSOR ≡ 7
+  pub tracing : TRACING_WORD ≡ 8
+
+-- counts have two bits, and stick at the greatest number
+pub record HasCountWidth : Type 0 where
+  pub bits : COUNT_BITS ≡ 2
+  pub stuck : STUCK ≡ 3

@@ -1,0 +1,253 @@
+-- Each test of an item is right: where it holds, so does what it stands for.
+use Rattle.std.proofs.Common.{◌≡◌, ◌≢◌, ℕ, ◌+◌, ◌-◌, ◌/◌, ◌%◌, ◌<◌, refl, ap, subst, inl, inr, arith, Bool, true, false, List, [], ◌∷◌, IsTrue, nat_eq, nat_lt}
+use Rattle.std.specs.Prelude.{Option, Some, None, nat_le, not, ◌&&◌, ◌||◌}
+use Rattle.std.proofs.lemmas.Bool.{or_cases, or_left, or_right, and_parts, and_from, not-true, not_from_false, false_from_ne_true}
+use Rattle.lxr_layout.specs.declared.Name.{Name}
+use Rattle.lxr_layout.specs.declared.Shape.{Shape}
+use Rattle.lxr_layout.specs.Objects.{FitsShape, word_count, line_count}
+use Rattle.lxr_graph.specs.declared.Op.{Op}
+use Rattle.lxr_graph.specs.declared.Op.TheVariants as op
+use Rattle.lxr_graph.specs.declared.Reply.{Reply}
+use Rattle.lxr_graph.specs.declared.Reply.TheVariants as reply
+use Rattle.lxr_graph.specs.declared.report.Kind.{Kind}
+use Rattle.lxr_graph.specs.declared.report.Kind.TheVariants as kind
+use Rattle.lxr_graph.specs.Names.{has, without, union, IsSetOf}
+use Rattle.lxr_graph.specs.State.{Graph, State, world_name}
+use Rattle.lxr_graph.specs.Step.{IsWellFormed}
+use Rattle.lxr_graph.specs.History.{PauseReport, Item, Call, Pause}
+use Rattle.lxr_graph.proofs.NameSets.{not_both, has_one, in_order-without, without_parts, in_without}
+use Rattle.lxr_model.specs.Reachable.{Reachable}
+use Rattle.lxr_model.specs.Terms.{Terms, FullRule, FlatSpaceIsFull, MadeLeaveNoRun, UnreclaimedLeaveNoRun, ReachableLeaveNoRun, KindRule, OnlyPlain, CollectsWhereAsked, CollectsForWaiting}
+use Rattle.lxr_model.specs.Moments.{Trace, Moment, moment}
+use Rattle.lxr_model.specs.Kinds.{collect_called, ends, MustCollect, MayCollect, OnlyNewsSincePause, IsRunning, NeedsNoTrace, MayStand}
+use Rattle.lxr_model.specs.Reports.{IsReport}
+use Rattle.lxr_model.specs.Full.{LeaveNoRun, names_made, IsRightAfterPause, MayBeFull, MayBePlaced, slots_in, slots_taken, flat_words}
+use Rattle.lxr_model.specs.Legal.{Replies, StandsForWaiting, IsWaitedFor, KeepsPromise, MayFollow, IsLegalSoFar, IsLegal, OwesNoCall}
+use Rattle.lxr_model_decide.specs.Sets.{reachable_names}
+use Rattle.lxr_model_decide.specs.Reports.{CanBe}
+use Rattle.lxr_model_decide.specs.Legality.{must_collect, only_news_since_pause, may_collect, has_traces, is_running, may_begin, needs_no_trace, may_stand, fits_shape, is_well_formed, is_collect, leave_no_run, is_right_after_pause, may_be_full, may_be_placed, may_reply, stands_for_waiting, is_waited_for, keeps_promise, owes_no_call, may_follow, all_may_stand, reply_again, item_again, again, IsFoundLegal}
+use Rattle.lxr_model_decide.proofs.SetLemmas.{reachable_right}
+use Rattle.lxr_model_decide.proofs.PartLemmas.{reports_right, le_from_test}
+
+-- ---- numbers
+
+pub lt_from_test : (a b : ℕ) → IsTrue (nat_lt a b) → a < b
+lt_from_test a b h = grind arith
+
+pub eq_from_test : (a b : ℕ) → IsTrue (nat_eq a b) → a ≡ b
+eq_from_test a b h = grind arith
+
+ne_from_test : (a b : ℕ) → IsTrue (not (nat_eq a b)) → a ≢ b
+ne_from_test a b h e = grind arith
+
+pub test_from_eq : (a b : ℕ) → a ≡ b → IsTrue (nat_eq a b)
+test_from_eq a b h = grind arith
+
+-- ---- where a kind may stand
+
+pub must_right : (terms : Terms) (h : List Item) → IsTrue (must_collect terms h) → MustCollect terms h
+must_right terms h e = elim (or_cases (collect_called h) (nat_eq (ends h) terms.threads) e) [
+  | inl k ↦ inl k
+  | inr k ↦ inr (eq_from_test (ends h) terms.threads k)
+]
+
+must_not : (terms : Terms) (h : List Item) → IsTrue (not (must_collect terms h)) → MustCollect terms h → ⊥
+must_not terms h e (inl k) = not_both (must_collect terms h) (or_left (collect_called h) (nat_eq (ends h) terms.threads) k) (not-true (must_collect terms h) e)
+must_not terms h e (inr k) = not_both (must_collect terms h) (or_right (collect_called h) (nat_eq (ends h) terms.threads) (test_from_eq (ends h) terms.threads k))
+    (not-true (must_collect terms h) e)
+
+only_news : (h : List Item) → IsTrue (only_news_since_pause h) → OnlyNewsSincePause h
+only_news [] e = absurd (cc)
+only_news (Pause report ∷ h) e = tt
+only_news (Call t (op.New dest shape) r ∷ h) e = only_news h e
+only_news (Call t _ r ∷ h) e = absurd (cc)
+
+collect_right : (rule : KindRule) (terms : Terms) (h : List Item) → IsTrue (may_collect rule terms h) → MayCollect rule terms h
+collect_right OnlyPlain terms h e = absurd (cc)
+collect_right CollectsWhereAsked terms h e = must_right terms h e
+collect_right CollectsForWaiting terms h e = elim (or_cases (must_collect terms h) (only_news_since_pause h) e) [
+  | inl k ↦ inl (must_right terms h k)
+  | inr k ↦ inr (only_news h k)
+]
+
+traces_right : (rule : KindRule) → IsTrue (has_traces rule) → rule ≢ OnlyPlain
+traces_right rule e k = not_both (has_traces rule) e (ap has_traces k)
+
+no_traces : (rule : KindRule) → IsTrue (not (has_traces rule)) → rule ≡ OnlyPlain
+no_traces OnlyPlain e = refl
+no_traces CollectsWhereAsked e = absurd (cc)
+no_traces CollectsForWaiting e = absurd (cc)
+
+running_right : (j : ℕ) (trace : Option Trace) → IsTrue (is_running j trace) → IsRunning j trace
+running_right j None e = absurd (cc)
+running_right j (Some trace) e = eq_from_test trace.began j e
+
+running_some : (j : ℕ) (trace : Option Trace) → IsTrue (is_running j trace) → trace ≢ None
+running_some j trace e k = not_both (is_running j trace) e (ap (is_running j) k)
+
+begin_right : (terms : Terms) (k : ℕ) (trace : Option Trace) → IsTrue (may_begin terms k trace) → (trace ≡ None) × (k % terms.trace ≡ 0)
+begin_right terms k None e = (refl, eq_from_test (k % terms.trace) 0 e)
+begin_right terms k (Some trace) e = absurd (cc)
+
+no_trace_right : (terms : Terms) (k : ℕ) (trace : Option Trace) → IsTrue (needs_no_trace terms k trace) → NeedsNoTrace terms k trace
+no_trace_right terms k None e = ne_from_test (k % terms.trace) 0 e
+no_trace_right terms k (Some trace) e = lt_from_test k (trace.began + terms.within) e
+
+stand_right : (terms : Terms) (h : List Item) (m : Moment) (k : ℕ) (i : Kind) → IsTrue (may_stand terms h m.trace k i) → MayStand terms h m k i × CanBe m i
+stand_right terms h m k kind.Collect e = (collect_right terms.kinds terms h e, tt)
+stand_right terms h m k (kind.End j) e =
+    let a = and_parts (has_traces terms.kinds) (not (must_collect terms h) && is_running j m.trace) e in
+    let b = and_parts (not (must_collect terms h)) (is_running j m.trace) a.1 in
+    ((traces_right terms.kinds a.0, must_not terms h b.0, running_right j m.trace b.1), running_some j m.trace b.1)
+stand_right terms h m k kind.Begin e =
+    let a = and_parts (has_traces terms.kinds) (not (must_collect terms h) && may_begin terms k m.trace) e in
+    let b = and_parts (not (must_collect terms h)) (may_begin terms k m.trace) a.1 in
+    let c = begin_right terms k m.trace b.1 in
+    ((traces_right terms.kinds a.0, must_not terms h b.0, c.0, c.1), tt)
+stand_right terms h m k kind.Plain e = elim (or_cases (not (has_traces terms.kinds)) (not (must_collect terms h) && needs_no_trace terms k m.trace) e) [
+  | inl a ↦ (inl (no_traces terms.kinds a), tt)
+  | inr a ↦ let b = and_parts (not (must_collect terms h)) (needs_no_trace terms k m.trace) a in
+      (inr (must_not terms h b.0, no_trace_right terms k m.trace b.1), tt)
+]
+
+-- ---- calls
+
+below_two : (a b : ℕ) → IsTrue (nat_lt a 16 && nat_lt b 16) → (a < 16) × (b < 16)
+below_two a b e = let c = and_parts (nat_lt a 16) (nat_lt b 16) e in (lt_from_test a 16 c.0, lt_from_test b 16 c.1)
+
+shape_right : (shape : Shape) → IsTrue (fits_shape shape) → FitsShape shape
+shape_right shape e = let c = and_parts (nat_le shape.refs 1023) (nat_le shape.values 1023) e in (le_from_test shape.refs 1023 c.0, le_from_test shape.values 1023 c.1)
+
+formed_right : (o : Op) → IsTrue (is_well_formed o) → IsWellFormed o
+formed_right (op.New dest shape) e = let c = and_parts (nat_lt dest 16) (fits_shape shape) e in (lt_from_test dest 16 c.0, shape_right shape c.1)
+formed_right (op.Load dest base index) e = below_two dest base e
+formed_right (op.Store base index source) e = below_two base source e
+formed_right (op.Put base index value) e = lt_from_test base 16 e
+formed_right (op.Get base index) e = lt_from_test base 16 e
+formed_right (op.Move dest source) e = below_two dest source e
+formed_right (op.Nil dest) e = lt_from_test dest 16 e
+formed_right (op.Same left right) e = below_two left right e
+formed_right op.Pause e = tt
+formed_right op.Collect e = tt
+formed_right op.End e = tt
+
+pub collect_kind : (k : Kind) → IsTrue (is_collect k) → k ≡ kind.Collect
+collect_kind kind.Collect e = refl
+collect_kind kind.Plain e = absurd (cc)
+collect_kind kind.Begin e = absurd (cc)
+collect_kind (kind.End j) e = absurd (cc)
+
+right_after : (collecting : Bool) (P : PauseReport → Type 0) → ((report : PauseReport) → IsTrue (not collecting || is_collect report.kind) → P report)
+    → (h : List Item) → IsTrue (is_right_after_pause collecting h) → IsRightAfterPause P h
+right_after collecting P f [] e = absurd (cc)
+right_after collecting P f (Pause report ∷ h) e = f report e
+right_after collecting P f (Call t (op.New dest shape) reply.Full ∷ h) e = right_after collecting P f h e
+right_after collecting P f (Call t _ _ ∷ h) e = absurd (cc)
+
+pub others_reachable : (s : State) → IsSetOf (without (reachable_names s) (world_name ∷ [])) (λ o. Reachable s o × (o ≢ world_name))
+others_reachable s = record {
+  in_order = in_order-without (reachable_names s) (world_name ∷ []) (reachable_right s).in_order;
+  members = λ o. (
+    λ h. let w = without_parts (reachable_names s) (world_name ∷ []) o h in
+        (((reachable_right s).members o).0 w.0, λ e. not_both (has (world_name ∷ []) o) (ap (has (world_name ∷ [])) e) w.1),
+    λ h. in_without (reachable_names s) (world_name ∷ []) o (((reachable_right s).members o).1 h.0) (λ k. h.1 (has_one world_name o k)),
+  );
+}
+
+run_right : (g : Graph) (ns : List Name) (blocks k : ℕ) → IsTrue (leave_no_run g ns blocks k) → LeaveNoRun g ns blocks k
+run_right g ns blocks k e = le_from_test (slots_in k (blocks - 1)) (slots_taken g k ns) e
+
+full_right : (rule : FullRule) (terms : Terms) (h : List Item) (shape : Shape) → IsTrue (may_be_full rule terms h (moment terms.threads h) shape) → MayBeFull rule terms h shape
+full_right FlatSpaceIsFull terms h shape e = lt_from_test 262144 (flat_words (moment terms.threads h).state.graph h + word_count shape) e
+full_right MadeLeaveNoRun terms h shape e = run_right (moment terms.threads h).state.graph (names_made h) terms.blocks (line_count shape) e
+full_right UnreclaimedLeaveNoRun terms h shape e =
+    let m = moment terms.threads h in
+    let a = and_parts (is_right_after_pause false h) (leave_no_run m.state.graph (without m.unreclaimed (world_name ∷ [])) terms.blocks (line_count shape)) e in
+    (right_after false (λ report. Unit {0}) (λ report k. tt) h a.0, run_right m.state.graph (without m.unreclaimed (world_name ∷ [])) terms.blocks (line_count shape) a.1)
+full_right ReachableLeaveNoRun terms h shape e =
+    let s = (moment terms.threads h).state in
+    let ns = without (reachable_names s) (world_name ∷ []) in
+    let a = and_parts (is_right_after_pause true h) (leave_no_run s.graph ns terms.blocks (line_count shape)) e in
+    (right_after true (λ report. report.kind ≡ kind.Collect) (λ report k. collect_kind report.kind k) h a.0, ns, others_reachable s, run_right s.graph ns terms.blocks (line_count shape) a.1)
+
+placed_right : (rule : FullRule) (terms : Terms) (h : List Item) (shape : Shape) → IsTrue (may_be_placed rule h (moment terms.threads h) shape) → MayBePlaced rule terms h shape
+placed_right FlatSpaceIsFull terms h shape e = le_from_test (flat_words (moment terms.threads h).state.graph h + word_count shape) 262144 e
+placed_right MadeLeaveNoRun terms h shape e = tt
+placed_right UnreclaimedLeaveNoRun terms h shape e = tt
+placed_right ReachableLeaveNoRun terms h shape e = tt
+
+replies_right : (terms : Terms) (h : List Item) (t : ℕ) (o : Op) (r : Reply) → IsTrue (may_reply terms h (moment terms.threads h) o r)
+    → reply_again (moment terms.threads h) t o r ≡ r → Replies terms h t o r
+replies_right terms h t (op.New dest shape) reply.Full e same = full_right terms.full terms h shape e
+replies_right terms h t (op.New dest shape) r e same = (same, placed_right terms.full terms h shape e)
+replies_right terms h t o r e same = same
+
+-- ---- a `new` that was waited for
+
+waited_right : (terms : Terms) (h : List Item) (x : Item) → IsTrue (is_waited_for terms (moment terms.threads h) x) → IsWaitedFor terms h x
+waited_right terms h (Call t (op.New dest shape) r) e =
+    let m = moment terms.threads h in
+    le_from_test (slots_in (line_count shape) (terms.blocks - 1 - terms.blocks / 8)) (slots_taken m.state.graph (line_count shape) (without (union m.made m.unreclaimed) (world_name ∷ []))) e
+waited_right terms h (Call t _ r) e = absurd (cc)
+waited_right terms h (Pause report) e = absurd (cc)
+
+not_waiting : (terms : Terms) (h : List Item) (report : PauseReport) → IsTrue (not (stands_for_waiting terms h report)) → StandsForWaiting terms h report → ⊥
+not_waiting terms h report e w = not_both (stands_for_waiting terms h report)
+    (and_from (is_collect report.kind) (not (must_collect terms h)) (ap is_collect w.0)
+    (not_from_false (must_collect terms h) (false_from_ne_true (must_collect terms h) (λ k. w.1 (must_right terms h k)))))
+    (not-true (stands_for_waiting terms h report) e)
+
+promise_right : (terms : Terms) (h : List Item) (x : Item) → IsTrue (keeps_promise terms h x) → KeepsPromise terms h x
+promise_right terms [] x e = tt
+promise_right terms (Call t o r ∷ h) x e = tt
+promise_right terms (Pause report ∷ h) x e = λ w. elim (or_cases (not (stands_for_waiting terms h report)) (is_waited_for terms (moment terms.threads h) x) e) [
+  | inl k ↦ absurd (not_waiting terms h report k w)
+  | inr k ↦ waited_right terms h x k
+]
+
+owes_right : (terms : Terms) (h : List Item) → IsTrue (owes_no_call terms h) → OwesNoCall terms h
+owes_right terms [] e = tt
+owes_right terms (Call t o r ∷ h) e = tt
+owes_right terms (Pause report ∷ h) e = not_waiting terms h report e
+
+-- ---- histories
+
+same_reply : {t u : ℕ} {o p : Op} {r q : Reply} → Call t o r ≡ Call u p q → r ≡ q
+same_reply e = cc
+
+same_report : {a b : PauseReport} → Pause a ≡ Pause b → a ≡ b
+same_report e = cc
+
+same_item : {x y : Item} {g h : List Item} → x ∷ g ≡ y ∷ h → x ≡ y
+same_item e = cc
+
+same_rest : {x y : Item} {g h : List Item} → x ∷ g ≡ y ∷ h → g ≡ h
+same_rest e = cc
+
+follow_right : (terms : Terms) (h : List Item) (x : Item) → IsTrue (may_follow terms h (moment terms.threads h) x)
+    → item_again (moment terms.threads h) x ≡ x → MayFollow terms h x
+follow_right terms h (Call t o r) e same =
+    let a = and_parts (nat_le 1 t && nat_le t terms.threads) (is_well_formed o && may_reply terms h (moment terms.threads h) o r) e in
+    let b = and_parts (nat_le 1 t) (nat_le t terms.threads) a.0 in
+    let c = and_parts (is_well_formed o) (may_reply terms h (moment terms.threads h) o r) a.1 in
+    record {
+      thread = (le_from_test 1 t b.0, le_from_test t terms.threads b.1);
+      operation = formed_right o c.0;
+      reply = replies_right terms h t o r c.1 (same_reply same);
+    }
+follow_right terms h (Pause report) e same =
+    let a = stand_right terms h (moment terms.threads h) report.number report.kind e in
+    record {
+      stands = a.0;
+      reports = subst (IsReport (moment terms.threads h)) (same_report same) (reports_right (moment terms.threads h) report.kind a.1);
+    }
+
+pub legal_so_far : (terms : Terms) (h : List Item) → IsTrue (all_may_stand terms h) → again terms h ≡ h → IsLegalSoFar terms h
+legal_so_far terms [] e same = tt
+legal_so_far terms (x ∷ h) e same =
+    let a = and_parts (all_may_stand terms h) (keeps_promise terms h x && may_follow terms h (moment terms.threads h) x) e in
+    let b = and_parts (keeps_promise terms h x) (may_follow terms h (moment terms.threads h) x) a.1 in
+    (legal_so_far terms h a.0 (same_rest same), promise_right terms h x b.0, follow_right terms h x b.1 (same_item same))
+
+pub legal_by_tests : (terms : Terms) (h : List Item) → IsFoundLegal terms h → IsLegal terms h
+legal_by_tests terms h found = (legal_so_far terms h found.stand found.same, owes_right terms h found.owes)

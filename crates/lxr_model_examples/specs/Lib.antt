@@ -1,0 +1,4 @@
+pub mod Words
+pub mod Histories
+pub mod NearMisses
+pub mod Remembered

@@ -1,0 +1,140 @@
+//! Fields: from the header of a base to a reference or a data word of it.
+ghost use Rattle.std.specs.Prelude.{◌≡◌, ◌+◌, ◌&&◌, ◌<◌, ◌≤◌, Some, None, if◌then◌else◌};
+ghost use Rattle.lxr_layout.specs.Objects.{header_of, word_count};
+ghost use Rattle.lxr_layout.specs.Places.{IsPlace, first_word};
+ghost use Rattle.lxr_barrier.specs.Storing.{Storing};
+ghost use Rattle.lxr_mutator.specs.Operating.{index_of, indexed_fields};
+ghost use Rattle.lxr_mutator.specs.Mutating.{op_now};
+ghost use Rattle.lxr_mutator.specs.Steps.{after_in, data_word, is_header, lies_in_heap, name_told, next_in, reaching, shape_told};
+ghost use Rattle.lxr_mutator.specs.Mutators.{IsBusy, MayBeIn};
+
+use super::{LAST_PLACE, Mutator};
+use crate::operating::{dest_of, index_of, indexed_fields};
+use crate::phases::{MutatorPhase, Stop};
+use lxr_barrier::{StoreEnd, StoreMachine};
+use lxr_graph::{Op, Reply};
+use lxr_layout::{Header, Name, Place, Shape, unpack, word_of, words_of};
+
+impl Mutator {
+    /// The header of the base was loaded: the operation goes on at a field of it, if it has one of this index.
+    #[inline(always)]
+    pub(super) fn reach_field(&mut self, base: Place, header: u64)
+        requires { IsBusy self.old (MutatorPhase.Base base) }
+        ensures { self.new ≡ next_in self.old (MutatorPhase.Base base) header }
+    {
+        let Some(shape) = self.shape_at(base, header) else {
+            self.reply(Reply::Bad);
+            return;
+        };
+        let op = self.op();
+        if index_of(op) < indexed_fields(op, shape) {
+            self.go_on(self.field_phase(base, shape, op));
+        } else {
+            self.reply(Reply::Range);
+        }
+    }
+
+    /// The shape that a header at a place tells; none where it is no object's, or the object reaches past the heap.
+    #[inline(always)]
+    fn shape_at(&self, base: Place, header: u64) -> Option<Shape>
+        requires { IsPlace base }
+        ensures { result ≡ (if is_header header && lies_in_heap self.now base header then Some (shape_told (header_of header)) else None) }
+    {
+        match unpack(header) {
+            Header::Object(_, shape) if word_of(base) + words_of(shape) <= self.regions.counts => {
+                Some(shape)
+            }
+            _ => None,
+        }
+    }
+
+    /// The phase for the field of a base that the operation goes to.
+    #[inline(always)]
+    fn field_phase(&self, base: Place, shape: Shape, op: Op) -> MutatorPhase
+        requires op { op ≡ op_now self.now }
+        requires place { IsPlace base }
+        requires field { index_of op < indexed_fields op shape }
+        requires heap { first_word base.0 + word_count shape ≤ self.now.regions.counts }
+        ensures phase { result ≡ reaching self.now base shape op }
+        ensures may { MayBeIn self.now result }
+    {
+        match op {
+            Op::Load { .. } => MutatorPhase::Reference { base },
+            Op::Store { index, source, .. } => MutatorPhase::Storing(StoreMachine::new(
+                self.regions,
+                base,
+                index,
+                self.register(source),
+            )),
+            Op::Put { .. } => MutatorPhase::Putting {
+                base,
+                refs: shape.refs,
+            },
+            Op::Get { .. } => MutatorPhase::Datum {
+                base,
+                refs: shape.refs,
+            },
+            _ => MutatorPhase::Ready,
+        }
+    }
+
+    /// A reference was loaded: its register holds what it refers to, whose name is looked up unless it is nil.
+    #[inline(always)]
+    pub(super) fn keep_reference(&mut self, base: Place, reference: u64)
+        requires { IsBusy self.old (MutatorPhase.Reference base) }
+        ensures { self.new ≡ next_in self.old (MutatorPhase.Reference base) reference }
+    {
+        if reference > u64::from(LAST_PLACE) {
+            self.reply(Reply::Bad);
+            return;
+        }
+        let place = Place(reference as u32);
+        self.set_register(dest_of(self.op()), place);
+        if place.0 == 0 {
+            self.reply(Reply::Loaded(None));
+        } else {
+            self.go_on(MutatorPhase::Referent { place });
+        }
+    }
+
+    /// The header of what was loaded is loaded too: the operation is done, with the name that it tells.
+    #[inline(always)]
+    pub(super) fn name_referent(&mut self, place: Place, header: u64)
+        requires { IsBusy self.old (MutatorPhase.Referent place) }
+        ensures { self.new ≡ next_in self.old (MutatorPhase.Referent place) header }
+    {
+        match unpack(header) {
+            Header::Object(name, _) => self.reply(Reply::Loaded(Some(name))),
+            Header::Moved(_) => self.reply(Reply::Bad),
+        }
+    }
+
+    /// The store in progress goes on.
+    #[inline(always)]
+    pub(super) fn step_store(&mut self, old: u64)
+        requires { (store : Storing) × (self.old.phase ≡ MutatorPhase.Storing store) }
+        ensures { (store : Storing) → self.old.phase ≡ MutatorPhase.Storing store → self.new ≡ after_in self.old (MutatorPhase.Storing store) old }
+    {
+        let MutatorPhase::Storing(machine) = &mut self.phase else {
+            unreachable!();
+        };
+        machine.take(old, &mut self.log);
+        match machine.end() {
+            None => {}
+            Some(StoreEnd::Stored) => {
+                self.phase = MutatorPhase::Ready;
+                self.reply(Reply::Stored);
+            }
+            Some(StoreEnd::LogFull) => self.phase = MutatorPhase::GivingUp(Stop::LogFull),
+        }
+    }
+}
+
+/// The heap word of the data word that the operation goes to, in an object with so many references.
+#[inline(always)]
+pub(super) fn data_word(base: Place, refs: u16, op: Op) -> u32
+    requires { IsPlace base }
+    ensures { result ≡ data_word base refs (index_of op) }
+{
+    word_of(base) + 1 + u32::from(refs) + u32::from(index_of(op))
+}

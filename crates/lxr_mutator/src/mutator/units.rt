@@ -1,0 +1,227 @@
+//! Units: how an operation begins and ends, and the steps between.
+ghost use Rattle.std.specs.Prelude.{◌≡◌, ◌≢◌, ◌<◌, length};
+ghost use Rattle.lxr_graph.specs.Step.{IsWellFormed};
+ghost use Rattle.lxr_mutator.specs.Mutating.{op_now};
+ghost use Rattle.lxr_mutator.specs.Steps.{after_in, based, done_with, end_by, ended, finished, next_in, started};
+ghost use Rattle.lxr_mutator.specs.Mutators.{IsBusy, IsHeld, MayBeIn};
+
+use super::Mutator;
+use super::fields::data_word;
+use crate::operating::{asked_reply, index_of, value_of};
+use crate::phases::{MutEnd, MutatorPhase, Stop};
+use lxr_actor::{Action, Actor};
+use lxr_graph::{Op, Reply};
+use lxr_layout::{
+    FREE_BLOCK_COUNT, FREE_BLOCK_CURSOR, PAUSE_WORD, Place, RUN_COUNT, RUN_CURSOR, field_word,
+    pack, word_of,
+};
+
+impl Mutator {
+    /// Goes on to a further step of the operation.
+    #[inline(always)]
+    pub(super) fn go_on(&mut self, phase: MutatorPhase)
+        requires turn { self.old.phase ≢ MutatorPhase.Finished }
+        requires operation { length self.old.replies.items < length self.old.operations }
+        requires phase { MayBeIn self.old phase }
+        ensures { self.new ≡ record self.old { phase = phase } }
+    {
+        self.phase = phase;
+    }
+
+    /// The operation is done, with this reply.
+    #[inline(always)]
+    pub(super) fn reply(&mut self, reply: Reply)
+        requires turn { self.old.phase ≢ MutatorPhase.Finished }
+        requires operation { length self.old.replies.items < length self.old.operations }
+        ensures { self.new ≡ done_with self.old reply }
+    {
+        self.replies.push(reply);
+        self.tally.count(reply);
+        self.since += 1;
+        if self.since >= self.every {
+            self.phase = MutatorPhase::Finished;
+            self.end = Some(MutEnd::Turns);
+        } else {
+            self.phase = MutatorPhase::Ready;
+            self.end = Some(MutEnd::OpDone(reply));
+        }
+    }
+
+    /// Ends the unit without a reply.
+    #[inline(always)]
+    fn stop(&mut self, how: MutEnd)
+        requires turn { self.old.phase ≢ MutatorPhase.Finished }
+        requires waits { how ≡ MutEnd.NoRun → length self.old.replies.items < length self.old.operations }
+        ensures { self.new ≡ finished self.old how }
+    {
+        self.phase = MutatorPhase::Finished;
+        self.end = Some(how);
+    }
+
+    /// The thread's end is done.
+    fn end_thread(&mut self)
+        requires turn { self.old.phase ≢ MutatorPhase.Finished }
+        ensures { self.new ≡ ended self.old }
+    {
+        self.registers = [Place::NIL; 16];
+        self.replies.push(Reply::Ended);
+        self.tally.count(Reply::Ended);
+        self.phase = MutatorPhase::Finished;
+        self.end = Some(MutEnd::Ended);
+    }
+
+    /// The pause word was loaded: the unit ends where it was 1, and else its operation begins.
+    #[inline(always)]
+    fn look_at_pause_word(&mut self, old: u64)
+        requires { self.old.phase ≡ MutatorPhase.Ready }
+        ensures { self.new ≡ after_in self.old MutatorPhase.Ready old }
+    {
+        if old == 1 {
+            self.stop(MutEnd::Asked);
+        } else {
+            self.begin(self.op());
+        }
+    }
+
+    /// Begins an operation.
+    #[inline(always)]
+    fn begin(&mut self, op: Op)
+        requires phase { self.old.phase ≡ MutatorPhase.Ready }
+        requires op { op ≡ op_now self.old }
+        requires formed { IsWellFormed op }
+        ensures { self.new ≡ started self.old op }
+    {
+        match op {
+            Op::New { shape, .. } => self.place_object(shape),
+            Op::Load { base, .. } => self.begin_at(self.register(base)),
+            Op::Store { base, .. } => self.begin_at(self.register(base)),
+            Op::Put { base, .. } => self.begin_at(self.register(base)),
+            Op::Get { base, .. } => self.begin_at(self.register(base)),
+            Op::Move { dest, source } => {
+                self.set_register(dest, self.register(source));
+                self.reply(Reply::Moved);
+            }
+            Op::Nil { dest } => {
+                self.set_register(dest, Place::NIL);
+                self.reply(Reply::Cleared);
+            }
+            Op::Same { left, right } => {
+                let same = self.register(left).0 == self.register(right).0;
+                self.reply(Reply::Same(same));
+            }
+            Op::Pause => self.go_on(MutatorPhase::Asking),
+            Op::Collect => self.go_on(MutatorPhase::Asking),
+            Op::End => self.end_thread(),
+        }
+    }
+
+    /// Begins an operation on a base, which is nil or has a header to look at.
+    #[inline(always)]
+    fn begin_at(&mut self, base: Place)
+        requires phase { self.old.phase ≡ MutatorPhase.Ready }
+        requires operation { length self.old.replies.items < length self.old.operations }
+        requires held { IsHeld base }
+        ensures { self.new ≡ based self.old base }
+    {
+        if base.0 == 0 {
+            self.reply(Reply::Bad);
+        } else {
+            self.go_on(MutatorPhase::Base { base });
+        }
+    }
+}
+
+impl Actor for Mutator {
+    ghost use Rattle.lxr_mutator.specs.Steps.{mutator_machine};
+
+    ghost machine = { mutator_machine };
+
+    #[inline(always)]
+    fn next(&self) -> Option<Action> {
+        let cursors = self.regions.cursors;
+        match self.phase {
+            MutatorPhase::Ready => Some(Action::load(cursors + PAUSE_WORD)),
+            MutatorPhase::Finished => None,
+            MutatorPhase::Base { base } => Some(Action::load(word_of(base))),
+            MutatorPhase::Reference { base } => {
+                Some(Action::load(field_word(base, index_of(self.op()))))
+            }
+            MutatorPhase::Referent { place } => Some(Action::load(word_of(place))),
+            MutatorPhase::Datum { base, refs } => {
+                Some(Action::load(data_word(base, refs, self.op())))
+            }
+            MutatorPhase::Putting { base, refs } => {
+                let op = self.op();
+                Some(Action::store(data_word(base, refs, op), value_of(op)))
+            }
+            MutatorPhase::Storing(ref machine) => machine.next(),
+            MutatorPhase::DrawsRun => Some(Action::draw(cursors + RUN_CURSOR)),
+            MutatorPhase::RunNumber { .. } => Some(Action::load(cursors + RUN_COUNT)),
+            MutatorPhase::Run { number } => Some(Action::load(self.regions.runs + number as u32)),
+            MutatorPhase::DrawsBlock => Some(Action::draw(cursors + FREE_BLOCK_CURSOR)),
+            MutatorPhase::BlockNumber { .. } => Some(Action::load(cursors + FREE_BLOCK_COUNT)),
+            MutatorPhase::Block { number } => {
+                Some(Action::load(self.regions.frees + number as u32))
+            }
+            MutatorPhase::Wiping { place, next } => Some(Action::store(word_of(place) + next, 0)),
+            MutatorPhase::Heading { place } => {
+                let header = pack(self.next_name(), self.shape());
+                Some(Action::store(word_of(place), header))
+            }
+            MutatorPhase::Asking => Some(Action::store(cursors + PAUSE_WORD, 1)),
+            MutatorPhase::GivingUp(_) => Some(Action::store(cursors + PAUSE_WORD, 1)),
+        }
+    }
+
+    #[inline(always)]
+    fn take(&mut self, old: u64) {
+        match self.phase {
+            MutatorPhase::Ready => self.look_at_pause_word(old),
+            MutatorPhase::Finished => {}
+            MutatorPhase::Base { base } => self.reach_field(base, old),
+            MutatorPhase::Reference { base } => self.keep_reference(base, old),
+            MutatorPhase::Referent { place } => self.name_referent(place, old),
+            MutatorPhase::Datum { .. } => self.reply(Reply::Got(old)),
+            MutatorPhase::Putting { .. } => self.reply(Reply::Put),
+            MutatorPhase::Storing(_) => self.step_store(old),
+            MutatorPhase::DrawsRun => self.go_on(MutatorPhase::RunNumber { number: old }),
+            MutatorPhase::RunNumber { number } => self.find_run(number, old),
+            MutatorPhase::Run { number } => self.fill_run(number, old),
+            MutatorPhase::DrawsBlock => self.go_on(MutatorPhase::BlockNumber { number: old }),
+            MutatorPhase::BlockNumber { number } => self.find_block(number, old),
+            MutatorPhase::Block { number } => self.fill_block(number, old),
+            MutatorPhase::Wiping { place, next } => self.wipe_word(place, next),
+            MutatorPhase::Heading { place } => self.hand_out(place),
+            MutatorPhase::Asking => self.reply(asked_reply(self.op())),
+            MutatorPhase::GivingUp(stop) => self.stop(end_by(stop)),
+        }
+    }
+
+    #[inline(always)]
+    fn resting(&self) -> bool {
+        match self.phase {
+            MutatorPhase::Ready => true,
+            MutatorPhase::Finished => true,
+            _ => false,
+        }
+    }
+
+    fn offer(&mut self, _place: Place) -> bool {
+        false
+    }
+
+    fn surplus(&mut self) -> Option<Place> {
+        None
+    }
+}
+
+/// How a unit ends that gives up.
+#[inline(always)]
+fn end_by(stop: Stop) -> MutEnd
+    ensures { result ≡ end_by stop }
+{
+    match stop {
+        Stop::NoRun => MutEnd::NoRun,
+        Stop::LogFull => MutEnd::LogFull,
+    }
+}

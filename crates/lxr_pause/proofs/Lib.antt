@@ -1,6 +1,0 @@
-pub mod AppendingLemmas
-pub mod SettledLemmas
-pub mod QueuedLemmas
-pub mod PlaceLemmas
-pub mod RaisedLemmas
-pub mod HoldsLemmas

@@ -1,5 +1,0 @@
-use Rattle.lxr_pause.proofs.AppendingLemmas.{EntriesSoFar}
-use Rattle.lxr_pause.proofs.queueing.queue_entries.Given as goal
-
-abbrev pub invariant-loop-number : goal.invariant-loop-number
-invariant-loop-number l = EntriesSoFar l.initial.space l.space l.number

@@ -1,7 +1,0 @@
-use Rattle.lxr_pause.proofs.AppendingLemmas.{registers_next}
-use Rattle.lxr_pause.proofs.queueing.queue_registers.Goals as goal
-
-pub loop-number-preserved : goal.loop-number-preserved
-loop-number-preserved c =
-    registers_next c.args.space.now c.loop-number.space c.queue_old.new.space c.loop-number.number c.dropped_place-old.result.0 c.place_before.result c.place_now.result
-    c.loop-number.invariant c.place_before.ensures c.place_now.ensures c.dropped_place-old.ensures c.queue_old.ensures

@@ -1,0 +1,359 @@
+-- The loops of the decrements: references of one object, the worklist, the list.
+use Rattle.std.proofs.Common.{◌≡◌, ◌≢◌, ℕ, zero, suc, ◌+◌, ◌-◌, ◌*◌, ◌<◌, ◌≤◌, refl, sym, ap, subst, ◌∙◌, inl, inr, ◌^◌, arith, Bool, cond, List, [], ◌∷◌, ◌++◌, IsTrue, length, length-append, nat_eq, nat_le, true}
+use Rattle.std.specs.Prelude.{◌&&◌, Option, Some, None, slice_get}
+use Rattle.std.proofs.lemmas.Bool.{or_left, or_right}
+use Rattle.lxr_layout.specs.declared.TheConstants.{DECREMENT_COUNT, DECREMENT_CURSOR, GRANULES_IN_BLOCK, WORDS_IN_BLOCK}
+use Rattle.lxr_layout.specs.declared.Name.{Name}
+use Rattle.lxr_layout.specs.declared.Place.{Place}
+use Rattle.lxr_layout.specs.declared.Shape.{Shape}
+use Rattle.lxr_layout.specs.Spaces.{AreLimits, region_begin}
+use Rattle.lxr_base.specs.Roomy.{pushed}
+use Rattle.lxr_graph.specs.Names.{has, same_name}
+use Rattle.lxr_graph.specs.State.{State, shape_of}
+use Rattle.lxr_graph.proofs.NameSets.{same_itself, same_names}
+use Rattle.lxr_image.specs.declared.space.Space.{Space}
+use Rattle.lxr_image.specs.Tables.{Tables, changed}
+use Rattle.lxr_image.specs.Spaces.{Turns, tables_of}
+use Rattle.lxr_image.specs.Reads.{granule_of}
+use Rattle.lxr_image.specs.Image.{place_word}
+use Rattle.lxr_image.proofs.SpaceLemmas.{same_limits, still_space}
+use Rattle.lxr_model.specs.Dead.{Dead}
+use Rattle.lxr_model.specs.Moments.{Moment}
+use Rattle.lxr_model.specs.References.{occurrences, references_from}
+use Rattle.lxr_model_counting.specs.Lowering.{IsLowered, once}
+use Rattle.lxr_model_counting.proofs.DistinctLemmas.{tested}
+use Rattle.lxr_model_counting.proofs.LoweringLemmas.{gone_members, once_other, once_same, over}
+use Rattle.lxr_model_counting.proofs.DeathLemmas.{cascade_dead}
+use Rattle.lxr_invariant.specs.Counting.{count_at, entries_between, occurrences_from, passing, waiting_at}
+use Rattle.lxr_invariant.specs.Standing.{place_of}
+use Rattle.lxr_invariant.proofs.NameLemmas.{has_more, map_empty, occurrences_end, occurrences_step, split_last}
+use Rattle.lxr_invariant.proofs.EntryLemmas.{changed_here, changed_other, same_number, unlike_number}
+use Rattle.lxr_invariant.proofs.FrameLemmas.{bits_still, marks_still}
+use Rattle.lxr_invariant.proofs.KeepingLemmas.{keeps_same}
+use Rattle.lxr_pause_decrements.specs.Cascade.{CascadeStage, Cascade, IsAt, Waiting, Reaches, Releasing, FieldWaits, Drains, IsOpening, IsFinished, IsHeader, Leaves, held_by, kept, later, to_do, waits, with_lists}
+use Rattle.lxr_pause_decrements.proofs.CascadeLemmas.{granules_differ, in_heap, refs_more, same_parts}
+use Rattle.lxr_pause_decrements.proofs.SpaceLemmas.{leaves_by, turned_leaves}
+
+-- ---- references from a number on
+
+got : (rs : List (Option Name)) (i : ℕ) → i < length rs → (ref : Option Name) × (slice_get rs i ≡ Some ref)
+got [] i h = absurd (omega arith)
+got (r ∷ rs) zero h = (r, refl)
+got (r ∷ rs) (suc i) h = got rs i (omega arith)
+
+-- ---- stages
+
+extra_same : (s : Space) (st : CascadeStage) (f g : Name → ℕ) → ((o : Name) → f o ≡ g o) → Reaches s st f → Reaches s st g
+extra_same s st f g e (gone, work, at) = let same : f ≡ g = λ i o. e o i in (gone, work, subst (λ z. IsAt s (later st gone work z)) same at)
+
+-- ---- one object's references
+
+released_dead : (s : Space) (p : ℕ) (st : CascadeStage) (r : Name) (rest : Name → ℕ) → Releasing s p st r rest
+    → IsTrue (has st.moment.unreclaimed r) × Dead st.moment.last st.moment.unreclaimed st.moment.stuck r
+released_dead s p st r rest re =
+    let c = re.stage.cascade.lowered.cascade in
+    ((gone_members st.moment.last st.moment.unreclaimed st.moment.stuck st.gone c r re.gone).0, cascade_dead st.moment.last st.moment.unreclaimed st.moment.stuck st.gone c r re.gone)
+
+pub released_place : (s : Space) (p : Place) (st : CascadeStage) (r : Name) (rest : Name → ℕ) → Releasing s p.0 st r rest → (1 ≤ p.0) × (p.0 ≤ 2 ^ 21) × (p.0 ≤ GRANULES_IN_BLOCK * s.limits.blocks)
+released_place s p st r rest re =
+    let h = in_heap (tables_of s).heap s.limits.blocks st.moment st.at re.stage.cascade.ground r (released_dead s p.0 st r rest re).0 in
+    let e = re.stands in
+    let b = re.stage.space.limits.blocks in
+    (omega (arith, e, h.0), omega (arith, e, h.1, h.0, b.1), omega (arith, e, h.1, h.0))
+
+pub released_header : (s : Space) (p : Place) (st : CascadeStage) (r : Name) (rest : Name → ℕ) → Releasing s p.0 st r rest
+    → (shape : Shape) × IsHeader (tables_of s) p.0 r shape × (shape.refs ≡ length (held_by st r))
+released_header s p st r rest re =
+    let a = re.stage.cascade.ground.stands r (released_dead s p.0 st r rest re).0 in (
+      shape_of a.0,
+      record {
+        name = a.2.name;
+        fits = a.2.shape;
+        header = ap (λ z. (tables_of s).heap (2 * (z - 1))) re.stands ∙ a.2.header;
+      },
+      sym a.3,
+    )
+
+-- the words of the references lie in the heap
+pub field_place : (s : Space) (p : Place) (i : ℕ) (st : CascadeStage) (r : Name) (rest : Name → ℕ) → FieldWaits s p.0 i st r rest
+    → (1 ≤ p.0) × (p.0 ≤ 2 ^ 21) × (2 * (p.0 - 1) + 1 + i < WORDS_IN_BLOCK * s.limits.blocks) × (i < 1024)
+field_place s p i st r rest w =
+    let a = w.stage.cascade.ground.stands r w.member in
+    let f = a.2.fits in
+    let q = a.2.placed in
+    let k = a.2.shape.0 in
+    let e = w.stands in
+    let h = w.index in
+    let b = w.stage.space.limits.blocks in
+    let n = a.3 in
+    (omega (arith, q, e), omega (arith, f, e, b.1), omega (arith, f, q, e, n, h), omega (arith, k, n, h))
+
+field_holds : (s : Space) (p : Place) (i : ℕ) (st : CascadeStage) (r : Name) (rest : Name → ℕ) (ref : Option Name) → FieldWaits s p.0 i st r rest
+    → slice_get (held_by st r) i ≡ Some ref → (tables_of s).heap (2 * (p.0 - 1) + 1 + i) ≡ place_word st.at ref
+field_holds s p i st r rest ref w e = ap (λ z. (tables_of s).heap (2 * (z - 1) + 1 + i)) w.stands ∙ w.stage.cascade.ground.fields r i ref w.dead e
+
+-- a reference that is nil waits for nothing
+nil_step : (s : Space) (p : Place) (i : ℕ) (st : CascadeStage) (r : Name) (rest : Name → ℕ) (ref : Option Name) → slice_get (held_by st r) i ≡ Some ref → FieldWaits s p.0 i st r rest
+    → place_word st.at ref ≡ 0 → Reaches s st (λ o. rest o + occurrences_from (held_by st r) (i + 1) o)
+nil_step s p i st r rest None e w zero_word =
+    extra_same s st st.extra _ (λ o. let k = occurrences_step (held_by st r) i None o e in let x = w.extra o in omega (arith, k, x)) (st.gone, st.work, w.stage)
+nil_step s p i st r rest (Some n) e w zero_word =
+    let member : IsTrue (has st.moment.unreclaimed n) = w.stage.cascade.ground.closed r n w.member (i, e) in
+    let h = (in_heap (tables_of s).heap s.limits.blocks st.moment st.at w.stage.cascade.ground n member).0 in
+    absurd (omega (arith, h, zero_word))
+
+pub nil_reference : (s : Space) (p : Place) (i word : ℕ) (st : CascadeStage) (r : Name) (rest : Name → ℕ) → FieldWaits s p.0 i st r rest
+    → word ≡ 0 → word ≡ (tables_of s).heap (2 * (p.0 - 1) + 1 + i) → Reaches s st (λ o. rest o + occurrences_from (held_by st r) (i + 1) o)
+nil_reference s p i word st r rest w zero_word is =
+    let g = got (held_by st r) i w.index in
+    nil_step s p i st r rest g.0 g.1 w (sym (field_holds s p i st r rest g.0 w g.1) ∙ sym is ∙ zero_word)
+
+-- a reference that isn't nil waits
+held_step : (s : Space) (p : Place) (i word : ℕ) (st : CascadeStage) (r : Name) (rest : Name → ℕ) (ref : Option Name) → slice_get (held_by st r) i ≡ Some ref → FieldWaits s p.0 i st r rest
+    → word ≢ 0 → word ≡ place_word st.at ref → (n : Name) × Waiting s word st n (λ o. rest o + occurrences_from (held_by st r) (i + 1) o)
+held_step s p i word st r rest None e w some_word is = absurd (some_word is)
+held_step s p i word st r rest (Some n) e w some_word is = (
+  n,
+  record {
+    stage = w.stage;
+    member = w.stage.cascade.ground.closed r n w.member (i, e);
+    stands = is;
+    taken = λ o. let k = occurrences_step (held_by st r) i (Some n) o e in let x = w.extra o in omega (arith, k, x);
+  },
+)
+
+pub held_reference : (s : Space) (p : Place) (i word : ℕ) (st : CascadeStage) (r : Name) (rest : Name → ℕ) → FieldWaits s p.0 i st r rest
+    → word ≢ 0 → word ≡ (tables_of s).heap (2 * (p.0 - 1) + 1 + i) → (n : Name) × Waiting s word st n (λ o. rest o + occurrences_from (held_by st r) (i + 1) o)
+held_reference s p i word st r rest w some_word is =
+    let g = got (held_by st r) i w.index in
+    held_step s p i word st r rest g.0 g.1 w some_word (is ∙ field_holds s p i st r rest g.0 w g.1)
+
+-- ---- the loop over one object's references
+
+pub begins : (s : Space) (p : ℕ) (st : CascadeStage) (r : Name) (rest : Name → ℕ) → Releasing s p st r rest → Reaches s st (λ o. rest o + occurrences_from (held_by st r) 0 o)
+begins s p st r rest re = extra_same s st st.extra _ re.extra (st.gone, st.work, re.stage)
+
+pub field_waits : (s now : Space) (p i : ℕ) (st : CascadeStage) (r : Name) (rest : Name → ℕ) → Releasing s p st r rest → i < length (held_by st r)
+    → (reaches : Reaches now st (λ o. rest o + occurrences_from (held_by st r) i o)) → FieldWaits now p i (later st reaches.0 reaches.1 (λ o. rest o + occurrences_from (held_by st r) i o)) r rest
+field_waits s now p i st r rest re h (gone, work, at) =
+    let d = released_dead s p st r rest re in
+    record { stage = at; member = d.0; dead = d.1; stands = re.stands; index = h; extra = λ o. refl }
+
+pub ends : (now : Space) (i : ℕ) (st : CascadeStage) (r : Name) (rest : Name → ℕ) → i ≡ length (held_by st r) → Reaches now st (λ o. rest o + occurrences_from (held_by st r) i o) → Reaches now st rest
+ends now i st r rest e reaches = extra_same now st _ rest (λ o. let k = occurrences_end (held_by st r) o in let q = ap (λ z. occurrences_from (held_by st r) z o) e in omega (arith, k, q)) reaches
+
+-- ---- the worklist
+
+-- another name for what waits
+repended : (s : State) (us stuck gone : List Name) (count f g : Name → ℕ) → ((o : Name) → IsTrue (has us o) → g o ≡ f o) → IsLowered s us stuck gone count f → IsLowered s us stuck gone count g
+repended s us stuck gone count f g e is = record {
+  cascade = is.cascade;
+  exact = λ o in_us unstuck. let k = is.exact o in_us unstuck in let q = e o in_us in omega (arith, k, q);
+  empty = is.empty;
+  zero = is.zero;
+}
+
+-- the tables of a space of which the worklist changed
+still_tables : (s now : Space) → now ≡ record s { work = now.work } → tables_of now ≡ tables_of s
+still_tables s now rest = ap (λ z. tables_of z) rest
+
+-- the last of the worklist is taken out
+pub popped : (s now : Space) (p : Place) (st : CascadeStage) → IsAt s st → s.work ≡ pushed now.work p → now ≡ record s { work = now.work }
+    → (ms : List Name) × (r : Name) × Releasing now p.0 (later st st.gone ms (λ o. st.extra o + occurrences (held_by st r) o)) r st.extra
+popped s now p st at work rest =
+    let is = at.cascade in
+    let m : Moment = st.moment in
+    let items : s.work.items ≡ now.work.items ++ p ∷ [] = ap (λ z. z.items) work in
+    let x = split_last (place_of st.at) st.work now.work.items p (sym items ∙ is.work) in
+    let r_there : IsTrue (has st.work x.1) = ap (λ z. has z x.1) x.2 ∙ has_more x.0 x.1 x.1 ∙ or_right (has x.0 x.1) (same_name x.1 x.1) (same_itself x.1) in
+    let limits : now.limits ≡ s.limits = ap (λ z. z.limits) rest in
+    let dead : now.report.dead ≡ s.report.dead = ap (λ z. z.report.dead) rest in
+    let room : now.work.room ≡ s.work.room = sym (ap (λ z. z.room) work) in
+    let longer : length s.work.items ≡ length now.work.items + 1 = ap length items ∙ length-append now.work.items (p ∷ []) in
+    let st2 : CascadeStage = later st st.gone x.0 (λ o. st.extra o + occurrences (held_by st x.1) o) in
+    let cascade : Cascade s.limits (tables_of s) now.work s.report.dead st2 = record {
+      ground = is.ground;
+      lowered = repended m.last m.unreclaimed m.stuck st.gone (count_at (tables_of s) st.at) (waits (tables_of s) st) (waits (tables_of s) st2)
+          (λ o _. let k = refs_more m.last.graph x.0 x.1 o in let q : references_from m.last.graph st.work o ≡ references_from m.last.graph (x.0 ++ x.1 ∷ []) o = ap (λ z. references_from m.last.graph z o) x.2 in omega (arith, k, q)) is.lowered;
+      stuck = is.stuck;
+      below = is.below;
+      bits = is.bits;
+      marks = is.marks;
+      none_done = is.none_done;
+      none_drawn = is.none_drawn;
+      decrements = is.decrements;
+      once = is.once;
+      work = x.3;
+      work_gone = λ n h. is.work_gone n (ap (λ z. has z n) x.2 ∙ has_more x.0 x.1 n ∙ or_left (has x.0 n) (same_name n x.1) h);
+      reported = is.reported;
+      work_room = let k = is.work_room in omega (arith, k, room, longer);
+      dead_room = is.dead_room;
+    } in
+    let tables = still_tables s now rest in (
+      x.0,
+      x.1,
+      record {
+        stage = record {
+          space = record {
+            limits = subst AreLimits (sym limits) at.space.limits;
+            size = ap (λ z. z.size) tables ∙ at.space.size ∙ ap (λ z. region_begin z 15) (sym limits);
+          };
+          cascade = same_parts s.limits now.limits (tables_of s) (tables_of now) now.work now.work s.report.dead now.report.dead st2 limits tables refl dead cascade;
+        };
+        gone = is.work_gone x.1 r_there;
+        stands = ap (λ z. z.0) x.4;
+        extra = λ o. refl;
+      },
+    )
+
+-- what is left to do is one less when one is taken out of the worklist
+pub popped_to_do : (s now : Space) (p : Place) → s.work ≡ pushed now.work p → now ≡ record s { work = now.work } → to_do now + 1 ≡ to_do s
+popped_to_do s now p work rest =
+    let items : s.work.items ≡ now.work.items ++ p ∷ [] = ap (λ z. z.items) work in
+    let longer : length s.work.items ≡ length now.work.items + 1 = ap length items ∙ length-append now.work.items (p ∷ []) in
+    let same : passing (tables_of now).starts (GRANULES_IN_BLOCK * now.limits.blocks) ≡ passing (tables_of s).starts (GRANULES_IN_BLOCK * s.limits.blocks) = ap (λ z. passing (tables_of z).starts (GRANULES_IN_BLOCK * z.limits.blocks)) rest in
+    omega (arith, longer, same)
+
+pub popped_leaves : (s now : Space) (p : Place) → s.work ≡ pushed now.work p → now ≡ record s { work = now.work } → Leaves s now
+popped_leaves s now p work rest =
+    let tables = still_tables s now rest in
+    let words : now.words ≡ s.words = ap (λ z. z.words) rest in
+    leaves_by s now now.work s.report.dead (rest ∙ ap {A = List ℕ} (λ w. with_lists s w now.work s.report.dead) (sym words)) (sym (ap (λ z. z.room) work)) refl
+    (record {
+      keeps = keeps_same (tables_of s) (tables_of now) tables;
+      dones = ap (λ t. t.dones) tables;
+      outs = ap (λ t. t.outs) tables;
+      states = ap (λ t. t.states) tables;
+    })
+
+pub popped_cursors : (s now : Space) → now ≡ record s { work = now.work } → (tables_of now).cursors DECREMENT_COUNT ≡ (tables_of s).cursors DECREMENT_COUNT
+popped_cursors s now rest = ap (λ t. t.cursors DECREMENT_COUNT) (still_tables s now rest)
+
+-- an empty worklist
+pub emptied : (s : Space) (st : CascadeStage) → s.work.items ≡ [] → Reaches s st st.extra → Drains s st
+emptied s st empty (gone, work, at) =
+    let none : work ≡ [] = map_empty (place_of st.at) work (sym empty ∙ at.cascade.work) in
+    (gone, subst (λ z. IsAt s (later st gone z st.extra)) none at)
+
+-- ---- the list of decrements
+
+-- the tables with a shorter list of decrements
+abbrev pub with_length : Tables → ℕ → Tables
+with_length t n = record t { cursors = changed t.cursors DECREMENT_COUNT n }
+
+-- a list that isn't drawn from: its last entry, and those before it
+waiting_more : (t : Tables) (n p : ℕ) → t.cursors DECREMENT_CURSOR ≡ 0 → t.cursors DECREMENT_COUNT ≡ suc n → waiting_at t p ≡ cond (nat_eq (t.decs n) p) 1 0 + waiting_at (with_length t n) p
+waiting_more t n p undrawn some =
+    let from : entries_between t.decs (t.cursors DECREMENT_CURSOR) (t.cursors DECREMENT_COUNT) p ≡ entries_between t.decs 0 (suc n) p = ap (λ z. entries_between t.decs z (t.cursors DECREMENT_COUNT) p) undrawn ∙ ap (λ z. entries_between t.decs 0 z p) some in
+    let here : nat_le 0 n ≡ true = grind arith in
+    let head : entries_between t.decs 0 (suc n) p ≡ cond (nat_eq (t.decs n) p) 1 0 + entries_between t.decs 0 n p = ap (λ b. cond (b && nat_eq (t.decs n) p) 1 0 + entries_between t.decs 0 n p) here in
+    let drawn : changed t.cursors DECREMENT_COUNT n 5 ≡ 0 = changed_other t.cursors DECREMENT_COUNT n 5 (λ e. omega arith) ∙ undrawn in
+    let long : changed t.cursors DECREMENT_COUNT n 6 ≡ n = changed_here t.cursors DECREMENT_COUNT n 6 refl in
+    let tail : waiting_at (with_length t n) p ≡ entries_between t.decs 0 n p = ap (λ z. entries_between t.decs z (changed t.cursors DECREMENT_COUNT n 6) p) drawn ∙ ap (λ z. entries_between t.decs 0 z p) long in
+    from ∙ head ∙ ap (λ z. cond (nat_eq (t.decs n) p) 1 0 + z) (sym tail)
+
+-- the last of the list is taken out
+pub last_taken : (s now : Space) (st : CascadeStage) (n : ℕ) → IsAt s st → (tables_of s).cursors DECREMENT_COUNT ≡ suc n → Turns s now (with_length (tables_of s) n)
+    → (r : Name) × Waiting now ((tables_of s).decs n) (later st st.gone st.work (λ o. st.extra o + once o r)) r st.extra
+last_taken s now st n at some turns =
+    let t : Tables = tables_of s in
+    let is = at.cascade in
+    let m : Moment = st.moment in
+    let x = is.decrements.places n (omega (arith, some)) in
+    let st2 : CascadeStage = later st st.gone st.work (λ o. st.extra o + once o x.0) in
+    let t2 : Tables = with_length t n in
+    let number : Bool → ℕ = λ b. cond b 1 0 in
+    let shorter : t2.cursors DECREMENT_COUNT ≡ n = changed_here t.cursors DECREMENT_COUNT n 6 refl in
+    let one : (o : Name) → IsTrue (has m.unreclaimed o) → number (nat_eq (t.decs n) (st.at o)) ≡ once o x.0 =
+    λ o in_o. elim (tested (same_name o x.0)) [
+      | inl k ↦
+          let e : t.decs n ≡ st.at o = x.2 ∙ sym (ap st.at (same_names o x.0 k)) in
+          ap number (ap (λ z. nat_eq z (st.at o)) e ∙ same_number (st.at o) (st.at o) refl) ∙ sym (once_same o x.0 k)
+      | inr k ↦
+          let ne = granules_differ t.heap s.limits.blocks m st.at is.ground o x.0 in_o x.1 k in
+          let e = x.2 in
+          ap number (unlike_number (t.decs n) (st.at o) (λ q. ne (ap granule_of (sym q ∙ e)))) ∙ sym (once_other o x.0 k)
+    ] in
+    let cascade : Cascade s.limits t2 s.work s.report.dead st2 = record {
+      ground = is.ground;
+      lowered = repended m.last m.unreclaimed m.stuck st.gone (count_at t st.at) (waits t st) (waits t2 st2)
+          (λ o in_o.
+          let q = waiting_more t n (st.at o) is.none_drawn some in
+          let k = one o in_o in
+          omega (arith, q, k)) is.lowered;
+      stuck = is.stuck;
+      below = is.below;
+      bits = bits_still t t2 m st.at (kept st) refl refl refl refl refl is.bits;
+      marks = marks_still t t2 m.state.graph st.at (kept st) refl is.marks;
+      none_done = is.none_done;
+      none_drawn = changed_other t.cursors DECREMENT_COUNT n 5 (λ e. omega arith) ∙ is.none_drawn;
+      decrements = record {
+        fits = let d = is.decrements.fits in omega (arith, d, some, shorter);
+        places = λ k h. is.decrements.places k (omega (arith, h, some, shorter));
+      };
+      once = is.once;
+      work = is.work;
+      work_gone = is.work_gone;
+      reported = is.reported;
+      work_room = is.work_room;
+      dead_room = is.dead_room;
+    } in (
+      x.0,
+      record {
+        stage = record {
+          space = still_space s now t2 at.space turns refl;
+          cascade = same_parts s.limits now.limits t2 (tables_of now) s.work now.work s.report.dead now.report.dead st2 (same_limits s now t2 turns) turns.tables (ap (λ z. z.work) turns.rest) (ap (λ z. z.report.dead) turns.rest) cascade;
+        };
+        member = x.1;
+        stands = x.2;
+        taken = λ o. omega arith;
+      },
+    )
+
+-- the last decrement is the place of an object, which is small
+pub last_place : (s : Space) (st : CascadeStage) (n : ℕ) → IsAt s st → (tables_of s).cursors DECREMENT_COUNT ≡ suc n → (tables_of s).decs n ≤ 2 ^ 21
+last_place s st n at some =
+    let x = at.cascade.decrements.places n (omega (arith, some)) in
+    let h = in_heap (tables_of s).heap s.limits.blocks st.moment st.at at.cascade.ground x.0 x.1 in
+    let e = x.2 in
+    let b = at.space.limits.blocks in
+    omega (arith, e, h.0, h.1, b.1)
+
+-- the list has room for its entries
+pub list_fits : (s : Space) (st : CascadeStage) → IsAt s st → ((tables_of s).cursors DECREMENT_COUNT ≤ s.limits.threads * (s.limits.log + 16)) × ((tables_of s).cursors DECREMENT_COUNT < 2 ^ 32)
+list_fits s st at =
+    let f = at.cascade.decrements.fits in
+    let a = at.space.limits.threads in
+    let b = at.space.limits.log in
+    (f, small s.limits.threads s.limits.log ((tables_of s).cursors DECREMENT_COUNT) a.1 b.1 f)
+  where
+    small : (x y n : ℕ) → x ≤ 16 → y ≤ 65536 → n ≤ x * (y + 16) → n < 2 ^ 32
+    small x y n hx hy h = grind arith
+
+pub taken_leaves : (s now : Space) (n : ℕ) → Turns s now (with_length (tables_of s) n) → Leaves s now
+taken_leaves s now n turns = turned_leaves s now (with_length (tables_of s) n) turns
+    (record {
+      keeps = record { heap = refl; reuse = refl; runs = refl; frees = refl; remembered = refl; cursors = λ k ne. changed_other (tables_of s).cursors DECREMENT_COUNT n k ne };
+      dones = refl;
+      outs = refl;
+      states = refl;
+    })
+
+pub taken_length : (s now : Space) (n : ℕ) → Turns s now (with_length (tables_of s) n) → (tables_of now).cursors DECREMENT_COUNT ≡ n
+taken_length s now n turns = ap (λ t. t.cursors DECREMENT_COUNT) turns.tables ∙ changed_here (tables_of s).cursors DECREMENT_COUNT n 6 refl
+
+-- ---- the beginning and the end
+
+pub opened : (s : Space) (st : CascadeStage) → IsOpening s st → (gone : List Name) × IsAt s (later st gone [] (λ o. 0))
+opened s st is =
+    let none : st.extra ≡ λ o. 0 = λ i o. is.extra o i in
+    (st.gone, subst (λ z. IsAt s (later st st.gone [] z)) none (subst (λ z. IsAt s (later st st.gone z st.extra)) is.work is.stage))
+
+-- where nothing waits, exactly the dead are gone
+pub finished : (s : Space) (st : CascadeStage) (gone : List Name) → IsAt s (later st gone [] (λ o. 0)) → (tables_of s).cursors DECREMENT_COUNT ≡ 0 → IsFinished s (later st gone [] (λ o. 0))
+finished s st gone at none_waits = record {
+  stage = at;
+  waiting = none_waits;
+  gone = λ o. over st.moment.last st.moment.unreclaimed st.moment.stuck gone (count_at (tables_of s) st.at) (waits (tables_of s) (later st gone [] (λ o. 0))) at.cascade.lowered
+      (λ u. let q : waiting_at (tables_of s) (st.at u) ≡ 0 = ap (λ z. entries_between (tables_of s).decs ((tables_of s).cursors DECREMENT_CURSOR) z (st.at u)) none_waits in omega (arith, q)) o;
+}

@@ -1,0 +1,40 @@
+use Rattle.std.proofs.Common.{[], ◌∙◌, sym}
+use Rattle.lxr_pause_decrements.specs.Cascade.{later}
+use Rattle.lxr_pause_decrements.proofs.SpaceLemmas.{leaves_both, leaves_none}
+use Rattle.lxr_pause_decrements.proofs.DrainLemmas.{opened, finished}
+use Rattle.lxr_pause_decrements.proofs.finish.lower_all.Goals as goal
+
+pub lower_place-requires : goal.lower_place-requires
+lower_place-requires c =
+    let st = c.requires.0 in
+    let x = c.loop-space.invariant.stage st c.requires.1 in
+    let y = c.take_decrement-place.ensures.taken (later st x.0 [] (λ o. 0)) x.1 in
+    (_, y.0, _, y.1)
+
+pub drain-requires : goal.drain-requires
+drain-requires c =
+    let st = c.requires.0 in
+    let x = c.loop-space.invariant.stage st c.requires.1 in
+    let y = c.take_decrement-place.ensures.taken (later st x.0 [] (λ o. 0)) x.1 in
+    let z = c.lower_place.ensures.reaches _ y.0 _ y.1 in
+    (_, z.2)
+
+pub loop-space-init : goal.loop-space-init
+loop-space-init c = record { stage = λ st is. opened c.args.space.now st is; leaves = leaves_none c.args.space.now }
+
+pub loop-space-preserved : goal.loop-space-preserved
+loop-space-preserved c = record {
+  stage = λ st is.
+      let x = c.loop-space.invariant.stage st is in
+      let y = c.take_decrement-place.ensures.taken (later st x.0 [] (λ o. 0)) x.1 in
+      let z = c.lower_place.ensures.reaches _ y.0 _ y.1 in
+      c.drain.ensures.drains _ z.2;
+  leaves = leaves_both c.args.space.now c.loop-space.space c.drain.new.space c.loop-space.invariant.leaves
+      (leaves_both c.loop-space.space c.take_decrement-place.new.space c.drain.new.space c.take_decrement-place.ensures.leaves
+      (leaves_both c.take_decrement-place.new.space c.lower_place.new.space c.drain.new.space c.lower_place.ensures.keeps.leaves c.drain.ensures.keeps.leaves));
+}
+
+pub returns-clause-finished : goal.returns-clause-finished
+returns-clause-finished c = λ st is.
+    let x = c.loop-space.invariant.stage st is in
+    (x.0, finished c.loop-space.space st x.0 x.1 (sym c.cursor.ensures ∙ c.loop-space-test.false))

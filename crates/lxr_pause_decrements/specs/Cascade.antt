@@ -1,0 +1,191 @@
+-- What holds of a space in the middle of its decrements.
+use Rattle.std.specs.Prelude.{◌≡◌, ℕ, ◌+◌, ◌*◌, ◌/◌, ◌<◌, ◌≤◌, ◌↔◌, false, Option, Some, List, [], ◌++◌, IsTrue, length, slice_get, map, reverse}
+use Rattle.lxr_layout.specs.declared.Name.{Name}
+use Rattle.lxr_layout.specs.declared.Place.{Place}
+use Rattle.lxr_layout.specs.declared.Shape.{Shape}
+use Rattle.lxr_layout.specs.declared.limits.Limits.{Limits}
+use Rattle.lxr_layout.specs.declared.TheConstants.{DECREMENT_COUNT, DECREMENT_CURSOR, GRANULES_IN_BLOCK, STUCK}
+use Rattle.lxr_layout.specs.Objects.{FitsShape, header_word, word_count}
+use Rattle.lxr_layout.specs.Places.{first_word}
+use Rattle.lxr_base.specs.Roomy.{Roomy, pushed}
+use Rattle.lxr_graph.specs.Names.{has, same_name, without}
+use Rattle.lxr_graph.specs.State.{Object, object_at, refs_of, shape_of}
+use Rattle.lxr_image.specs.declared.space.Space.{Space}
+use Rattle.lxr_image.specs.Tables.{Tables, changed}
+use Rattle.lxr_image.specs.Spaces.{IsSpace, tables_of}
+use Rattle.lxr_image.specs.Reads.{IsName, granule_of}
+use Rattle.lxr_image.specs.Image.{AreApart, granules_of, place_word}
+use Rattle.lxr_model.specs.Dead.{Dead}
+use Rattle.lxr_model.specs.Moments.{Moment}
+use Rattle.lxr_model.specs.Reachable.{Refers}
+use Rattle.lxr_model.specs.References.{occurrences, references_from}
+use Rattle.lxr_model_counting.specs.Distinct.{IsDistinct}
+use Rattle.lxr_model_counting.specs.Lowering.{IsLowered, TakenFrom}
+use Rattle.lxr_invariant.specs.Keeping.{KeepsListsAndCounters}
+use Rattle.lxr_invariant.specs.Counting.{HasDecrements, count_at, occurrences_from, passing, waiting_at}
+use Rattle.lxr_invariant.specs.Lines.{HasMarks, line_behind, next_line}
+use Rattle.lxr_invariant.specs.Standing.{HasBits, place_of}
+use Rattle.lxr_pause_decrements.specs.Wipe.{cleared, wiped}
+
+-- A stage of the decrements: what stands for the space while they are done. No code holds it.
+pub record CascadeStage : Type 0 where
+  pub moment : Moment
+  pub at : Name → ℕ
+  -- names that the report had before
+  pub before : List Name
+  -- what is reclaimed so far, newest first, and of it what still lies in the worklist
+  pub gone : List Name
+  pub work : List Name
+  -- what waits to be lowered beside the list of decrements and the references of `work`
+  pub extra : Name → ℕ
+
+-- the unreclaimed names that are left
+abbrev pub kept : CascadeStage → List Name
+kept st = without st.moment.unreclaimed st.gone
+
+-- an object's header stands at its place in the heap; of its fields nothing is said
+pub record Founded (heap : ℕ → ℕ) (blocks : ℕ) (at : Name → ℕ) (n : Name) (o : Object) : Type 0 where
+  pub placed : 1 ≤ at n
+  pub name : IsName n
+  pub shape : FitsShape (shape_of o)
+  pub header : heap (first_word (at n)) ≡ header_word n (shape_of o)
+  pub fits : granule_of (at n) + granules_of o ≤ GRANULES_IN_BLOCK * blocks
+
+-- What the decrements never change: unreclaimed objects stand apart at their places, with as many references as they had
+-- at the last pause, and the dead hold the references that they had there.
+pub record Ground (heap : ℕ → ℕ) (blocks : ℕ) (m : Moment) (at : Name → ℕ) : Type 0 where
+  pub distinct : IsDistinct m.unreclaimed
+  pub stands : (n : Name) → IsTrue (has m.unreclaimed n)
+      → (o : Object) × (object_at m.state.graph n ≡ Some o) × Founded heap blocks at n o × (length (refs_of (object_at m.last.graph n)) ≡ length o.refs)
+  pub fields : (n : Name) (i : ℕ) (r : Option Name) → Dead m.last m.unreclaimed m.stuck n → slice_get (refs_of (object_at m.last.graph n)) i ≡ Some r
+      → heap (first_word (at n) + 1 + i) ≡ place_word at r
+  pub apart : (x y : Name) (a b : Object) → IsTrue (has m.unreclaimed x) → IsTrue (has m.unreclaimed y) → same_name x y ≡ false
+      → object_at m.state.graph x ≡ Some a → object_at m.state.graph y ≡ Some b → AreApart at x a y b
+  pub closed : (u n : Name) → IsTrue (has m.unreclaimed u) → Refers m.last.graph u n → IsTrue (has m.unreclaimed n)
+
+-- how often a name waits to be lowered
+abbrev pub waits : Tables → CascadeStage → Name → ℕ
+waits t st n = waiting_at t (st.at n) + references_from st.moment.last.graph st.work n + st.extra n
+
+-- Some decrements are done: what is gone was removed one after another; what is left has its bits and marks, and a count of
+-- its references from what is left and of what waits; and there is room for what may still go.
+pub record Cascade (l : Limits) (t : Tables) (w : Roomy Place) (d : Roomy Name) (st : CascadeStage) : Type 0 where
+  pub ground : Ground t.heap l.blocks st.moment st.at
+  pub lowered : IsLowered st.moment.last st.moment.unreclaimed st.moment.stuck st.gone (count_at t st.at) (waits t st)
+  pub stuck : (n : Name) → IsTrue (has st.moment.unreclaimed n) → IsTrue (has st.moment.stuck n) → count_at t st.at n ≡ STUCK
+  pub below : (n : Name) → IsTrue (has st.moment.unreclaimed n) → has st.moment.stuck n ≡ false → count_at t st.at n < STUCK
+  pub bits : HasBits t st.moment st.at (kept st)
+  pub marks : HasMarks t st.moment.state.graph st.at (kept st)
+  pub none_done : (k : ℕ) → t.dones k ≡ false
+  pub none_drawn : t.cursors DECREMENT_CURSOR ≡ 0
+  pub decrements : HasDecrements l t st.moment st.at
+  pub once : IsDistinct (reverse st.gone)
+  pub work : w.items ≡ map (place_of st.at) st.work
+  pub work_gone : (n : Name) → IsTrue (has st.work n) → IsTrue (has st.gone n)
+  pub reported : d.items ≡ st.before ++ reverse st.gone
+  pub work_room : length w.items + passing t.starts (GRANULES_IN_BLOCK * l.blocks) ≤ w.room
+  pub dead_room : length d.items + passing t.starts (GRANULES_IN_BLOCK * l.blocks) ≤ d.room
+
+-- a space at a stage
+pub record IsAt (s : Space) (st : CascadeStage) : Type 0 where
+  pub space : IsSpace s
+  pub cascade : Cascade s.limits (tables_of s) s.work s.report.dead st
+
+-- what is left to do: each object that isn't reclaimed may come into the worklist once
+abbrev pub to_do : Space → ℕ
+to_do s = passing (tables_of s).starts (GRANULES_IN_BLOCK * s.limits.blocks) + length s.work.items
+
+-- the stage with other names gone and in the worklist, and other names waiting
+abbrev pub later : CascadeStage → List Name → List Name → (Name → ℕ) → CascadeStage
+later st gone work extra = record st { gone = gone; work = work; extra = extra }
+
+-- a name at its place waits once more than the rest says
+pub record Waiting (s : Space) (place : ℕ) (st : CascadeStage) (r : Name) (rest : Name → ℕ) : Type 0 where
+  pub stage : IsAt s st
+  pub member : IsTrue (has st.moment.unreclaimed r)
+  pub stands : place ≡ st.at r
+  pub taken : TakenFrom st.extra r rest
+
+-- at some later stage nothing but the rest waits beside the lists
+abbrev pub Reaches : Space → CascadeStage → (Name → ℕ) → Type 0
+Reaches s st rest = (gone : List Name) × (work : List Name) × IsAt s (later st gone work rest)
+
+-- the header of an object stands at a place
+pub record IsHeader (t : Tables) (place : ℕ) (n : Name) (shape : Shape) : Type 0 where
+  pub name : IsName n
+  pub fits : FitsShape shape
+  pub header : t.heap (first_word place) ≡ header_word n shape
+
+-- the tables without an object of a shape at a place
+abbrev pub without_object : Tables → ℕ → Shape → Tables
+without_object t p shape = record t {
+  starts = changed t.starts (granule_of p) false;
+  marks = changed t.marks (granule_of p) false;
+  grays = changed t.grays (granule_of p) false;
+  counts = wiped t.counts (next_line (granule_of p)) (line_behind (granule_of p) (word_count shape / 2));
+  unlogged = cleared t.unlogged (first_word p + 1) (first_word p + 1 + shape.refs);
+}
+
+-- the space with other words, another worklist and other names of the dead in its report
+abbrev pub with_lists : Space → List ℕ → Roomy Place → Roomy Name → Space
+with_lists s words work dead = record s { words = words; work = work; report = record s.report { dead = dead } }
+
+-- the object at a place begins no more, waits in the worklist, and is reported
+pub record Reclaims (before after : Space) (p : Place) (n : Name) (shape : Shape) : Type 0 where
+  pub tables : tables_of after ≡ without_object (tables_of before) p.0 shape
+  pub rest : after ≡ with_lists before after.words (pushed before.work p) (pushed before.report.dead n)
+
+-- the tables that decrements never write, and the cursors but for the length of their list
+pub record TablesStay (t u : Tables) : Type 0 where
+  pub keeps : KeepsListsAndCounters t u
+  pub dones : u.dones ≡ t.dones
+  pub outs : u.outs ≡ t.outs
+  pub states : u.states ≡ t.states
+
+-- what the decrements leave
+pub record Leaves (before after : Space) : Type 0 where
+  pub tables : TablesStay (tables_of before) (tables_of after)
+  pub rest : after ≡ with_lists before after.words after.work after.report.dead
+  pub work_room : after.work.room ≡ before.work.room
+  pub dead_room : after.report.dead.room ≡ before.report.dead.room
+
+-- what one lowering leaves
+pub record Keeps (before after : Space) : Type 0 where
+  pub leaves : Leaves before after
+  pub waiting : (tables_of after).cursors DECREMENT_COUNT ≡ (tables_of before).cursors DECREMENT_COUNT
+
+-- the references that a name's object had at the last pause
+abbrev pub held_by : CascadeStage → Name → List (Option Name)
+held_by st r = refs_of (object_at st.moment.last.graph r)
+
+-- a reclaimed name out of the worklist, whose references wait
+pub record Releasing (s : Space) (place : ℕ) (st : CascadeStage) (r : Name) (rest : Name → ℕ) : Type 0 where
+  pub stage : IsAt s st
+  pub gone : IsTrue (has st.gone r)
+  pub stands : place ≡ st.at r
+  pub extra : (o : Name) → st.extra o ≡ rest o + occurrences (held_by st r) o
+
+-- the references of a dead object wait from number i on
+pub record FieldWaits (s : Space) (place i : ℕ) (st : CascadeStage) (r : Name) (rest : Name → ℕ) : Type 0 where
+  pub stage : IsAt s st
+  pub member : IsTrue (has st.moment.unreclaimed r)
+  pub dead : Dead st.moment.last st.moment.unreclaimed st.moment.stuck r
+  pub stands : place ≡ st.at r
+  pub index : i < length (held_by st r)
+  pub extra : (o : Name) → st.extra o ≡ rest o + occurrences_from (held_by st r) i o
+
+-- the worklist is empty at some later stage
+abbrev pub Drains : Space → CascadeStage → Type 0
+Drains s st = (gone : List Name) × IsAt s (later st gone [] st.extra)
+
+-- nothing waits but in the list of decrements
+pub record IsOpening (s : Space) (st : CascadeStage) : Type 0 where
+  pub stage : IsAt s st
+  pub work : st.work ≡ []
+  pub extra : (o : Name) → st.extra o ≡ 0
+
+-- exactly the dead are gone, and nothing waits
+pub record IsFinished (s : Space) (st : CascadeStage) : Type 0 where
+  pub stage : IsAt s st
+  pub waiting : (tables_of s).cursors DECREMENT_COUNT ≡ 0
+  pub gone : (o : Name) → IsTrue (has st.gone o) ↔ Dead st.moment.last st.moment.unreclaimed st.moment.stuck o

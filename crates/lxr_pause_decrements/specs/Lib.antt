@@ -1,0 +1,5 @@
+pub mod Wipe
+pub mod Cascade
+pub mod Steps
+pub mod Finishing
+pub mod Opened

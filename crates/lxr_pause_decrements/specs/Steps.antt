@@ -1,0 +1,48 @@
+-- What each step of the decrements asks, and from which stage to which it leads.
+use Rattle.std.specs.Prelude.{ℕ, ◌+◌, List, []}
+use Rattle.lxr_layout.specs.declared.Name.{Name}
+use Rattle.lxr_image.specs.declared.space.Space.{Space}
+use Rattle.lxr_model_counting.specs.Lowering.{once}
+use Rattle.lxr_invariant.specs.Counting.{occurrences_from}
+use Rattle.lxr_pause_decrements.specs.Cascade.{CascadeStage, Drains, FieldWaits, IsAt, IsFinished, IsOpening, Reaches, Releasing, Waiting, held_by, later}
+
+-- the space is at some stage
+abbrev pub IsMidway : Space → Type 0
+IsMidway s = (st : CascadeStage) × IsAt s st
+
+-- the object at a place waits to be lowered once; then it does no more
+abbrev pub MayLower : Space → ℕ → Type 0
+MayLower s place = (st : CascadeStage) × (r : Name) × (rest : Name → ℕ) × Waiting s place st r rest
+
+abbrev pub Lowers : Space → Space → ℕ → Type 0
+Lowers before after place = (st : CascadeStage) (r : Name) (rest : Name → ℕ) → Waiting before place st r rest → Reaches after st rest
+
+-- the references of the dead object at a place wait from number i on; then they do from the next one on
+abbrev pub MayLowerField : Space → ℕ → ℕ → Type 0
+MayLowerField s place i = (st : CascadeStage) × (r : Name) × (rest : Name → ℕ) × FieldWaits s place i st r rest
+
+abbrev pub LowersField : Space → Space → ℕ → ℕ → Type 0
+LowersField before after place i =
+    (st : CascadeStage) (r : Name) (rest : Name → ℕ) → FieldWaits before place i st r rest → Reaches after st (λ o. rest o + occurrences_from (held_by st r) (i + 1) o)
+
+-- all references of the reclaimed object at a place wait; then none does
+abbrev pub MayRelease : Space → ℕ → Type 0
+MayRelease s place = (st : CascadeStage) × (r : Name) × (rest : Name → ℕ) × Releasing s place st r rest
+
+abbrev pub Releases : Space → Space → ℕ → Type 0
+Releases before after place = (st : CascadeStage) (r : Name) (rest : Name → ℕ) → Releasing before place st r rest → Reaches after st rest
+
+-- the worklist is emptied
+abbrev pub Empties : Space → Space → Type 0
+Empties before after = (st : CascadeStage) → IsAt before st → Drains after st
+
+-- the last decrement of the list is taken out of it, and the object at its place waits
+abbrev pub TakesLast : Space → Space → ℕ → Type 0
+TakesLast before after place = (st : CascadeStage) → IsAt before st → (r : Name) × Waiting after place (later st st.gone st.work (λ o. st.extra o + once o r)) r st.extra
+
+-- nothing waits but in the list of decrements; then exactly the dead are gone, and nothing waits
+abbrev pub MayLowerAll : Space → Type 0
+MayLowerAll s = (st : CascadeStage) × IsOpening s st
+
+abbrev pub LowersAll : Space → Space → Type 0
+LowersAll before after = (st : CascadeStage) → IsOpening before st → (gone : List Name) × IsFinished after (later st gone [] (λ o. 0))

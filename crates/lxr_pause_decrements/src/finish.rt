@@ -1,0 +1,116 @@
+//! Lowering counts, one after another, until nothing waits.
+ghost use Rattle.std.specs.Prelude.{◌≡◌, ℕ, ◌+◌, ◌*◌, ◌≤◌, List};
+ghost use Rattle.lxr_layout.specs.declared.TheConstants.{DECREMENT_COUNT, GRANULES_IN_BLOCK};
+ghost use Rattle.lxr_layout.specs.declared.Name.{Name as NameOf};
+ghost use Rattle.lxr_layout.specs.declared.Shape.{Shape as ShapeOf};
+ghost use Rattle.lxr_layout.specs.Places.{IsPlace};
+ghost use Rattle.lxr_image.specs.Spaces.{IsSpace, tables_of};
+ghost use Rattle.lxr_model.specs.Moments.{Moment};
+ghost use Rattle.lxr_pause_decrements.specs.Finishing.{CanFinish, Finishes};
+ghost use Rattle.lxr_pause_decrements.specs.Cascade.{IsHeader, Keeps, Leaves, to_do};
+ghost use Rattle.lxr_pause_decrements.specs.Steps.{Empties, IsMidway, Lowers, LowersAll, LowersField, MayLower, MayLowerAll, MayLowerField, MayRelease, Releases, TakesLast};
+
+use crate::reclaim::reclaim;
+use lxr_image::Space;
+use lxr_layout::{DECREMENT_COUNT, Header, Place, unpack, word_of};
+use lxr_tables::Lowered;
+
+/// Lowers the count of the object at a place; a stuck count stays. With its last count the object is reclaimed, and what it
+/// refers to waits.
+fn lower_place(space: &mut Space, place: Place)
+    requires { MayLower space.old place.0 }
+    ensures reaches { Lowers space.old space.new place.0 }
+    ensures to_do { to_do space.new ≡ to_do space.old }
+    ensures keeps { Keeps space.old space.new }
+{
+    if let Lowered::Zero = space.lower_count(place.0 - 1) {
+        reclaim(space, place);
+    }
+}
+
+/// How many references the object at a place has.
+fn reference_slots(space: &Space, place: Place) -> u16
+    requires space { IsSpace space.now }
+    requires place { IsPlace place }
+    requires heap { place.0 ≤ GRANULES_IN_BLOCK * space.now.limits.blocks }
+    ensures { (n : NameOf) (shape : ShapeOf) → IsHeader (tables_of space.now) place.0 n shape → result ≡ shape.refs }
+{
+    match unpack(space.heap_word(word_of(place))) {
+        Header::Object(_, shape) => shape.refs,
+        Header::Moved(_) => 0,
+    }
+}
+
+/// Lowers what one reference of a dead object holds, unless it is nil.
+fn lower_field(space: &mut Space, place: Place, index: u16)
+    requires { MayLowerField space.old place.0 index }
+    ensures reaches { LowersField space.old space.new place.0 index }
+    ensures to_do { to_do space.new ≡ to_do space.old }
+    ensures keeps { Keeps space.old space.new }
+{
+    let word = space.heap_word(2 * (place.0 - 1) + 1 + u32::from(index));
+    if word != 0 {
+        lower_place(space, Place(word as u32));
+    }
+}
+
+/// Lowers what each reference of a reclaimed object holds.
+fn release(space: &mut Space, place: Place)
+    requires { MayRelease space.old place.0 }
+    ensures reaches { Releases space.old space.new place.0 }
+    ensures to_do { to_do space.new ≡ to_do space.old }
+    ensures keeps { Keeps space.old space.new }
+{
+    let count = reference_slots(space, place);
+    for i in 0..count {
+        lower_field(space, place, i);
+    }
+}
+
+/// Empties the worklist: each object in it is released, which may put further ones into it.
+fn drain(space: &mut Space)
+    requires { IsMidway space.old }
+    ensures drains { Empties space.old space.new }
+    ensures keeps { Keeps space.old space.new }
+{
+    while let Some(place) = space.work.pop() {
+        release(space, place);
+    }
+}
+
+/// Takes the last of the waiting decrements, of which there is one.
+fn take_decrement(space: &mut Space) -> Place
+    requires waiting { 1 ≤ (tables_of space.old).cursors DECREMENT_COUNT }
+    requires stage { IsMidway space.old }
+    ensures taken { TakesLast space.old space.new result.0 }
+    ensures fewer { (tables_of space.new).cursors DECREMENT_COUNT + 1 ≡ (tables_of space.old).cursors DECREMENT_COUNT }
+    ensures leaves { Leaves space.old space.new }
+{
+    let last = space.cursor(DECREMENT_COUNT) - 1;
+    let place = space.decrement_at(last as u32);
+    space.put_cursor(DECREMENT_COUNT, last);
+    Place(place as u32)
+}
+
+/// Does every decrement of the list, with what each brings about.
+fn lower_all(space: &mut Space)
+    requires { MayLowerAll space.old }
+    ensures finished { LowersAll space.old space.new }
+    ensures leaves { Leaves space.old space.new }
+{
+    while space.cursor(DECREMENT_COUNT) != 0 {
+        let place = take_decrement(space);
+        lower_place(space, place);
+        drain(space);
+    }
+}
+
+/// Does every waiting decrement, and those that follow from it: the count of the object at each place of the list is lowered,
+/// and an object whose count falls to 0 is reclaimed, which lowers what its references hold in turn. What is reclaimed is
+/// reported as dead, in that order. It takes no memory, and no more of the machine's stack for a longer chain of objects.
+pub fn finish_decrements(space: &mut Space)
+    requires { (m : Moment) × (at : NameOf → ℕ) × CanFinish space.old m at }
+    ensures { (m : Moment) (at : NameOf → ℕ) → CanFinish space.old m at → (gone : List NameOf) × Finishes space.old space.new m at gone }
+{
+    lower_all(space);
+}

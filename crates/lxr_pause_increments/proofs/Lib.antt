@@ -1,0 +1,14 @@
+pub mod TableLemmas
+pub mod RangeLemmas
+pub mod FrameLemmas
+pub mod MarkLemmas
+pub mod BitLemmas
+pub mod RaiseLemmas
+pub mod StageLemmas
+pub mod IncrementLemmas
+pub mod OrderLemmas
+pub mod GrownLemmas
+pub mod StillLemmas
+pub mod ScanLemmas
+pub mod RootLemmas
+pub mod RaisedLemmas

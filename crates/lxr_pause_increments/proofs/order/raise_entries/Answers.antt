@@ -1,0 +1,42 @@
+use Rattle.std.proofs.Common.{arith}
+use Rattle.lxr_pause_increments.proofs.RootLemmas.{all_entries, as_many_fields, log_order, no_entries, same_logs}
+use Rattle.lxr_pause_increments.proofs.ScanLemmas.{leaves_both, leaves_none}
+use Rattle.lxr_pause_increments.proofs.order.raise_entries.Goals as goal
+
+pub loop-index-init : goal.loop-index-init
+loop-index-init c = record {
+  settles = λ m at st fields order settled. (st, no_entries c.args.space.now m at st fields settled);
+  leaves = leaves_none c.args.space.now;
+}
+
+pub raise_entry-requires : goal.raise_entry-requires
+raise_entry-requires c =
+    let m = c.requires.0 in
+    let at = c.requires.1 in
+    let fields = log_order c.args.space.now m at c.requires.2 c.requires.3.accounted.incrementing in
+    let count = as_many_fields m at fields.0 c.args.space.now.logged.items fields.1 in
+    let x = c.loop-index.invariant.settles m at c.requires.2 fields.0 fields.1 c.requires.3 in
+    let t = c.loop-index-test.true in
+    let e = c.len-index-end.ensures in
+    (m, at, x.0, fields.0, same_logs c.args.space.now c.loop-index.space m at fields.0 c.loop-index.invariant.leaves fields.1, omega (arith, count, t, e), x.1)
+
+pub loop-index-preserved : goal.loop-index-preserved
+loop-index-preserved c = record {
+  settles = λ m at st fields order settled.
+      let count = as_many_fields m at fields c.args.space.now.logged.items order in
+      let x = c.loop-index.invariant.settles m at st fields order settled in
+      let t = c.loop-index-test.true in
+      let e = c.len-index-end.ensures in
+      c.raise_entry.ensures.settles m at x.0 fields (same_logs c.args.space.now c.loop-index.space m at fields c.loop-index.invariant.leaves order) (omega (arith, count, t, e)) x.1;
+  leaves = leaves_both c.args.space.now c.loop-index.space c.raise_entry.new.space c.loop-index.invariant.leaves c.raise_entry.ensures.leaves;
+}
+
+pub returns-clause-settles : goal.returns-clause-settles
+returns-clause-settles c = λ m at st settled.
+    let fields = log_order c.args.space.now m at st settled.accounted.incrementing in
+    let count = as_many_fields m at fields.0 c.args.space.now.logged.items fields.1 in
+    let x = c.loop-index.invariant.settles m at st fields.0 fields.1 settled in
+    let t = c.loop-index-test.false in
+    let u = c.loop-index.auto.index-end in
+    let e = c.len-index-end.ensures in
+    (x.0, all_entries c.loop-index.space m at x.0 fields.0 c.args.space.now.logged.items c.loop-index.index fields.1 (omega (arith, count, t, u, e)) x.1)

@@ -1,0 +1,43 @@
+use Rattle.std.proofs.Common.{◌∙◌, arith}
+use Rattle.lxr_pause_increments.proofs.ScanLemmas.{leaves_both, promoted_holder, scanned_all, scanned_more}
+use Rattle.lxr_pause_increments.proofs.order.scan.Goals as goal
+
+pub reference_slots-count-requires : goal.reference_slots-count-requires
+reference_slots-count-requires c =
+    let is = c.requires.5 in
+    (c.requires.0, c.requires.1, c.requires.2, c.requires.3, is.accounted.incrementing, promoted_holder c.args.space.now c.requires.0 c.requires.1 c.requires.2 c.requires.3 c.args.place.0 is.accounted.incrementing is.promoted is.stands)
+
+pub raise_field-requires : goal.raise_field-requires
+raise_field-requires c =
+    let m = c.requires.0 in
+    let at = c.requires.1 in
+    let u = c.requires.3 in
+    let is = c.requires.5 in
+    let holder = promoted_holder c.args.space.now m at c.requires.2 u c.args.place.0 is.accounted.incrementing is.promoted is.stands in
+    let count = c.reference_slots-count.ensures m at c.requires.2 u is.accounted.incrementing holder in
+    let x = c.loop-index.invariant.scanning m at c.requires.2 u c.requires.4 is in
+    let t = c.loop-index-test.true in
+    (m, at, x.0, u, x.1.accounted.incrementing, promoted_holder c.loop-index.space m at x.0 u c.args.place.0 x.1.accounted.incrementing x.1.promoted x.1.stands, omega (arith, count, t))
+
+pub loop-index-preserved : goal.loop-index-preserved
+loop-index-preserved c = record {
+  scanning = λ m at st u base is.
+      let holder = promoted_holder c.args.space.now m at st u c.args.place.0 is.accounted.incrementing is.promoted is.stands in
+      let count = c.reference_slots-count.ensures m at st u is.accounted.incrementing holder in
+      let x = c.loop-index.invariant.scanning m at st u base is in
+      let t = c.loop-index-test.true in
+      let later = promoted_holder c.loop-index.space m at x.0 u c.args.place.0 x.1.accounted.incrementing x.1.promoted x.1.stands in
+      let incrementing = c.raise_field.ensures.raises m at x.0 u x.1.accounted.incrementing later (omega (arith, count, t)) in
+      (_, scanned_more c.loop-index.space c.raise_field.new.space c.args.place.0 c.loop-index.index m at x.0 u base x.1 (omega (arith, count, t)) incrementing);
+  left = c.raise_field.ensures.left ∙ c.loop-index.invariant.left;
+  leaves = leaves_both c.args.space.now c.loop-index.space c.raise_field.new.space c.loop-index.invariant.leaves c.raise_field.ensures.leaves;
+}
+
+pub returns-clause-reaches : goal.returns-clause-reaches
+returns-clause-reaches c = λ m at st u base is.
+    let holder = promoted_holder c.args.space.now m at st u c.args.place.0 is.accounted.incrementing is.promoted is.stands in
+    let count = c.reference_slots-count.ensures m at st u is.accounted.incrementing holder in
+    let x = c.loop-index.invariant.scanning m at st u base is in
+    let t = c.loop-index-test.false in
+    let e = c.loop-index.auto.index-end in
+    scanned_all c.loop-index.space c.args.place.0 c.loop-index.index m at x.0 u base (omega (arith, count, t, e)) x.1

@@ -1,0 +1,122 @@
+-- What holds while counts are raised one after another and objects are promoted.
+use Rattle.std.specs.Prelude.{◌≡◌, ◌≢◌, ℕ, ◌+◌, ◌-◌, ◌*◌, ◌≤◌, ◌↔◌, ◌==◌, ◌&&◌, not, Bool, false, List, [], ◌∷◌, ◌++◌, IsTrue, length, map, min, reverse, if◌then◌else◌}
+use Rattle.lxr_layout.specs.declared.Name.{Name}
+use Rattle.lxr_layout.specs.declared.TheConstants.{DECREMENT_COUNT, DECREMENT_CURSOR, GRANULES_IN_BLOCK, STUCK}
+use Rattle.lxr_graph.specs.Names.{has, without}
+use Rattle.lxr_image.specs.declared.space.Space.{Space}
+use Rattle.lxr_image.specs.Spaces.{IsSpace, tables_of}
+use Rattle.lxr_image.specs.Opened.{HasRoom}
+use Rattle.lxr_model.specs.References.{references_from}
+use Rattle.lxr_model.specs.Moments.{Moment}
+use Rattle.lxr_model_counting.specs.Distinct.{IsDistinct}
+use Rattle.lxr_model_counting.specs.Following.{FollowsPause}
+use Rattle.lxr_model_counting.specs.Lowering.{once}
+use Rattle.lxr_model_counting.specs.Raising.{IsGrowth, IsHeldUp}
+use Rattle.lxr_invariant.specs.AbstractState.{members}
+use Rattle.lxr_invariant.specs.Standing.{AreLogged, HasBits, IsImaged, place_of}
+use Rattle.lxr_invariant.specs.Counting.{count_at, passing}
+use Rattle.lxr_invariant.specs.Keeping.{KeepsListsAndCounters}
+use Rattle.lxr_invariant.specs.Lines.{HasBlocks, HasMarks}
+use Rattle.lxr_invariant.specs.Raised.{count_found, with_promoted}
+
+-- A stage of the increments; no code holds it.
+pub record IncrementStage : Type 0 where
+  -- what is promoted so far, newest first
+  pub promoted : List Name
+  -- the promoted names whose references are still to be raised, in the order of the worklist
+  pub work : List Name
+  -- how often each name was raised so far
+  pub added : Name → ℕ
+
+-- the count of a name as it would be without a largest value
+abbrev pub count_so_far : Moment → IncrementStage → Name → ℕ
+count_so_far m st n = count_found m st.promoted n + st.added n
+
+-- an unstuck name has been raised to STUCK
+pub record IsFull (m : Moment) (st : IncrementStage) (n : Name) : Type 0 where
+  pub member : IsTrue (has (with_promoted m st.promoted) n)
+  pub unstuck : has m.stuck n ≡ false
+  pub reaches : STUCK ≤ count_so_far m st n
+
+-- the counts at a stage: STUCK for what was stuck, and else as often as raised, but at most STUCK
+pub record HasCountsSoFar (s : Space) (m : Moment) (at : Name → ℕ) (st : IncrementStage) : Type 0 where
+  pub stuck : (n : Name) → IsTrue (has m.stuck n) → count_at (tables_of s) at n ≡ STUCK
+  pub exact : (n : Name) → IsTrue (has (with_promoted m st.promoted) n) → has m.stuck n ≡ false → count_at (tables_of s) at n ≡ min (count_so_far m st n) STUCK
+  pub positive : (n : Name) → IsTrue (has (with_promoted m st.promoted) n) → count_at (tables_of s) at n ≢ 0
+  -- a new object is promoted where it is raised first
+  pub unraised : (n : Name) → IsTrue (has m.made n) → has st.promoted n ≡ false → st.added n ≡ 0
+  -- those that became stuck are reported, each once
+  pub reported : (n : Name) → IsTrue (has s.report.stuck.items n) ↔ IsFull m st n
+  pub reported_once : IsDistinct s.report.stuck.items
+
+-- the lists have room: each promoted object has a start bit of its own, and each name that became stuck a count of STUCK
+pub record HasRoomToRaise (s : Space) : Type 0 where
+  pub promoted : length s.report.promoted.items ≤ passing (tables_of s).starts (GRANULES_IN_BLOCK * s.limits.blocks)
+  pub work : length s.work.items ≤ length s.report.promoted.items
+  pub stuck : length s.report.stuck.items ≤ passing (λ k. (tables_of s).counts k == STUCK) (GRANULES_IN_BLOCK * s.limits.blocks)
+
+-- The space at a stage of the increments, for a moment whose dead are gone; no trace runs.
+pub record IsIncrementing (s : Space) (m : Moment) (at : Name → ℕ) (st : IncrementStage) : Type 0 where
+  pub space : IsSpace s
+  pub room : HasRoom s
+  pub as_many : (length s.registers.items ≡ 16 * s.limits.threads) × (length s.deferred.items ≡ 16 * s.limits.threads)
+  pub follows : FollowsPause m
+  pub image : IsImaged s m at
+  -- each promoted name was made since the last pause and held up when it was promoted, and each is promoted once
+  pub growth : IsGrowth m.state m.unreclaimed m.made st.promoted
+  pub once_promoted : IsDistinct st.promoted
+  pub work_promoted : (n : Name) → IsTrue (has st.work n) → IsTrue (has st.promoted n)
+  pub once_work : IsDistinct st.work
+  pub bits : HasBits (tables_of s) m at (with_promoted m st.promoted)
+  pub marks : HasMarks (tables_of s) m.state.graph at (with_promoted m st.promoted)
+  pub counts : HasCountsSoFar s m at st
+  pub logs : AreLogged m at s.logged.items
+  pub few_logs : length s.logged.items ≤ s.limits.threads * s.limits.log
+  pub none_done : (k : ℕ) → (tables_of s).dones k ≡ false
+  pub blocks : HasBlocks (tables_of s) s.limits.blocks m.trace
+  pub decrements : ((tables_of s).cursors DECREMENT_CURSOR ≡ 0) × ((tables_of s).cursors DECREMENT_COUNT ≡ 0)
+  -- the lists of the space are those of the stage
+  pub reported : s.report.promoted.items ≡ reverse st.promoted
+  pub worklist : s.work.items ≡ map (place_of at) st.work
+  pub lists : HasRoomToRaise s
+
+-- a name is a new object that isn't promoted yet
+abbrev pub is_unpromoted : Moment → IncrementStage → Name → Bool
+is_unpromoted m st o = has m.made o && not (has st.promoted o)
+
+-- the stage once a name is raised: where it is a new object that isn't promoted yet, it is, and waits in the worklist
+abbrev pub stage_with : Moment → IncrementStage → Name → IncrementStage
+stage_with m st o = record {
+  promoted = if is_unpromoted m st o then (o ∷ st.promoted) else st.promoted;
+  work = if is_unpromoted m st o then (st.work ++ o ∷ []) else st.work;
+  added = λ n. once n o + st.added n;
+}
+
+-- a name may be raised: its object stands at a place, and something kept or promoted holds it up
+pub record MayBeRaised (m : Moment) (at : Name → ℕ) (st : IncrementStage) (o : Name) (place : ℕ) : Type 0 where
+  pub member : IsTrue (has (members m) o)
+  pub held_up : IsHeldUp m.state m.unreclaimed st.promoted o
+  pub stands : place ≡ at o
+
+-- what is left to do: new objects that may be promoted, and the worklist
+abbrev pub left : Space → ℕ
+left s = (GRANULES_IN_BLOCK * s.limits.blocks - passing (tables_of s).starts (GRANULES_IN_BLOCK * s.limits.blocks)) + length s.work.items
+
+-- What was raised: `base` for logged references and registers so far, and the references of each promoted object that isn't
+-- in the worklist, but for those that are still pending.
+abbrev pub Accounts : Moment → IncrementStage → (Name → ℕ) → (Name → ℕ) → Type 0
+Accounts m st base pending = (o : Name) → st.added o + pending o ≡ base o + references_from m.state.graph (without st.promoted st.work) o
+
+-- What raising leaves of a space: all but its words, the worklist, and the promoted and stuck names of the report; of tables,
+-- lists, counters and states of blocks.
+pub record RaisingLeaves (before after : Space) : Type 0 where
+  pub space : after ≡ record before {
+    words = after.words;
+    work = record before.work { items = after.work.items };
+    report = record before.report {
+      promoted = record before.report.promoted { items = after.report.promoted.items };
+      stuck = record before.report.stuck { items = after.report.stuck.items };
+    };
+  }
+  pub keeps : KeepsListsAndCounters (tables_of before) (tables_of after)
+  pub states : (tables_of after).states ≡ (tables_of before).states

@@ -1,0 +1,5 @@
+pub mod Increments
+pub mod Accounted
+pub mod Raising
+pub mod Promotion
+pub mod Steps

@@ -1,0 +1,12 @@
+//! The increments of a pause: counts are raised for what was stored since the last pause and for what registers hold newly,
+//! and each new object that is raised is promoted, with all that it refers to.
+//!
+//! New objects have no counts until a pause finds them, as in LXR (Zhao, Blackburn and McKinley, 2022), so most of them die
+//! without ever being counted.
+#![tactic(auto)]
+
+mod counts;
+mod order;
+
+pub use counts::promote;
+pub use order::increments;

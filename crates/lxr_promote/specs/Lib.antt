@@ -1,4 +1,0 @@
-pub mod Rising
-pub mod Accounted
-pub mod Raising
-pub mod Promotion

@@ -1,6 +1,0 @@
-pub mod WipeLemmas
-pub mod SinkingLemmas
-pub mod SpaceLemmas
-pub mod DrainLemmas
-pub mod BridgeLemmas
-pub mod OpenedLemmas

@@ -1,4 +1,0 @@
-pub mod Wipe
-pub mod Sinking
-pub mod Finishing
-pub mod Opened

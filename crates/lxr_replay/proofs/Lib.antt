@@ -1,6 +1,0 @@
-pub mod WorkLemmas
-pub mod NumberLemmas
-pub mod PickLemmas
-pub mod TurnLemmas
-pub mod ReplayLemmas
-pub mod ShiftLemmas

@@ -1,9 +1,0 @@
-use Rattle.std.proofs.Common.{◌≡◌, ◌≤◌, length, take}
-use Rattle.lxr_replay.specs.Replaying.{unfinished}
-use Rattle.lxr_replay.proofs.numbers.Unfinished.of.Given as goal
-
-abbrev pub invariant-loop-number : goal.invariant-loop-number
-invariant-loop-number l = record {
-  are : l.unfinished ≡ unfinished (take l.number l.fn.actors);
-  few : length l.unfinished ≤ l.number;
-}

@@ -1,3 +1,0 @@
-pub mod TakenLines
-pub mod RoomLemmas
-pub mod WorldLemmas

@@ -1,5 +1,0 @@
-use Rattle.lxr_room.proofs.RoomLemmas.{roomless_blocks_are_taken}
-use Rattle.lxr_room.proofs.roomless_blocks_are_taken.Goals as goal
-
-pub returns : goal.returns
-returns c = roomless_blocks_are_taken

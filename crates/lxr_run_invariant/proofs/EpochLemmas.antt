@@ -1,0 +1,249 @@
+-- What an epoch does to a run: it may be opened where the run is between epochs, and once it is closed a pause has a cause.
+use Rattle.std.proofs.Common.{◌≡◌, ℕ, suc, ◌+◌, ◌<◌, ◌≤◌, ◌⊎◌, refl, sym, ap, subst, ◌∙◌, inl, inr, arith, IsTrue, List, ◌∷◌, length}
+use Rattle.std.specs.Prelude.{Option}
+use Rattle.lxr_layout.specs.declared.Name.{Name}
+use Rattle.lxr_layout.specs.declared.limits.Limits.{Limits}
+use Rattle.lxr_graph.specs.Names.{has}
+use Rattle.lxr_graph.specs.declared.Op.{Op}
+use Rattle.lxr_graph.specs.declared.Op.TheVariants as op
+use Rattle.lxr_graph.specs.declared.Reply.{Reply}
+use Rattle.lxr_graph.specs.declared.Reply.TheVariants as reply
+use Rattle.lxr_graph.specs.History.{Item, Call}
+use Rattle.lxr_image.specs.declared.space.Space.{Space}
+use Rattle.lxr_image.specs.declared.space.Tally.{Tally}
+use Rattle.lxr_model.specs.Belongs.{HasCause, IsHistorySoFar}
+use Rattle.lxr_model.specs.Kinds.{ends}
+use Rattle.lxr_model.specs.Moments.{Moment, moment}
+use Rattle.lxr_invariant.specs.AbstractState.{AbstractState}
+use Rattle.lxr_invariant.proofs.NameLemmas.{in_first}
+use Rattle.lxr_text_stream.specs.Streams.{Appends}
+use Rattle.lxr_run_watch.specs.Sights.{Sight}
+use Rattle.lxr_mutator.specs.Mutating.{is_loaded, is_new, is_stored}
+use Rattle.lxr_core_events.specs.EpochStates.{CountsObjects, Extends, called, same}
+use Rattle.lxr_core_events.proofs.ObjectLemmas.{legal_counts}
+use Rattle.lxr_core.specs.declared.actors.AnyActor.{AnyActor}
+use Rattle.lxr_core.specs.Actors.{script_of}
+use Rattle.lxr_core.specs.Closing.{AreFinished, Closes, HasProgress}
+use Rattle.lxr_core.specs.Collecting.{loads_of, news_of, stores_of, tally_with}
+use Rattle.lxr_core.specs.Opening.{Begins}
+use Rattle.lxr_core.specs.Resting.{RestAfter}
+use Rattle.lxr_core.specs.Executions.{Execution}
+use Rattle.lxr_core.proofs.ClosingLemmas.{given_script}
+use Rattle.lxr_run_history.specs.Left.{last_report}
+use Rattle.lxr_run_history.specs.Run.{reports_text}
+use Rattle.lxr_run_history.specs.Tally.{counted, tally_of}
+use Rattle.lxr_run_history.proofs.HistoryLemmas.{early_extends, history_extends, was_early}
+use Rattle.lxr_run_history.proofs.SightLemmas.{sees_epoch}
+use Rattle.lxr_run_history.proofs.TallyLemmas.{loads_are, news_are, stores_are}
+use Rattle.lxr_run_history.proofs.ThreadSums.{counted_in, one}
+use Rattle.lxr_run_invariant.specs.LoopInvariant.{HasCome, HasMore, HasRunEpoch, HaveActors, HaveEnded, IsBetweenEpochs, SomeWait, Task, done_of, task_limits, terms_of, threads_of}
+use Rattle.lxr_run_invariant.specs.Laws.{EpochsRun, beginning_of}
+use Rattle.lxr_run_invariant.proofs.ActorLemmas.{calls_are_done, ends_are_all, ends_are_fewer, has_begun, kind_is}
+
+-- ---- the opening of an epoch
+
+-- an epoch may be opened between epochs
+pub may_open : (task : Task) (space : Space) (written : Option (List ℕ)) (seen : Option (List Sight)) (actors : List AnyActor) (h : List Item) (g : AbstractState)
+    → IsBetweenEpochs task space written seen actors h g → Begins (beginning_of task space h g) space actors
+may_open task space written seen actors h g amid =
+    let come = amid.come in
+    let threads : threads_of task ≡ space.limits.threads = ap (λ (l : Limits). l.threads) (sym come.limits) in
+    record {
+      space_is = refl;
+      begins = record {
+        between = amid.between;
+        listed = amid.listed;
+        all_listed = amid.all_listed;
+        moment = come.stands.moment ∙ ap (λ n. moment n h) threads;
+        no_trace = come.no_trace;
+        counted = subst (λ n. CountsObjects n h) threads (legal_counts (terms_of task) h come.history.0);
+      };
+      actors_rest = subst (λ l. RestAfter l task.options.every h actors) (sym come.limits) amid.actors_rest.rest;
+      served = amid.served;
+    }
+
+-- ---- what an epoch leaves
+
+-- the last report stays
+report_extends : (threads every : ℕ) (h k : List Item) → Extends threads every h k → last_report k ≡ last_report h
+report_extends threads every h k (same) = refl
+report_extends threads every h k (called l t o r before is) = report_extends threads every h l before
+
+-- so does the text of reports
+text_extends : (threads every : ℕ) (h k : List Item) → Extends threads every h k → reports_text k ≡ reports_text h
+text_extends threads every h k (same) = refl
+text_extends threads every h k (called l t o r before is) = text_extends threads every h l before
+
+-- calls leave what is unreclaimed
+unreclaimed_extends : (threads every : ℕ) (h k : List Item) → Extends threads every h k → (moment threads k).unreclaimed ≡ (moment threads h).unreclaimed
+unreclaimed_extends threads every h k (same) = refl
+unreclaimed_extends threads every h k (called l t o r before is) = unreclaimed_extends threads every h l before
+
+-- and which trace runs
+trace_extends : (threads every : ℕ) (h k : List Item) → Extends threads every h k → (moment threads k).trace ≡ (moment threads h).trace
+trace_extends threads every h k (same) = refl
+trace_extends threads every h k (called l t o r before is) = trace_extends threads every h l before
+
+-- as many calls more as the history is longer
+calls_extend : (threads every : ℕ) (h k : List Item) → Extends threads every h k → length h + counted_in one k ≡ length k + counted_in one h
+calls_extend threads every h k (same) = refl
+calls_extend threads every h k (called l t o r before is) = let rest = calls_extend threads every h l before in omega arith
+
+-- a tally with the operations of another
+abbrev with_operations : Tally → Tally → Tally
+with_operations t from = record t { news = from.news; loads = from.loads; stores = from.stores }
+
+-- a reply changes those alone
+counted_rest : (t s : Tally) (r : Reply) → t ≡ with_operations s t → counted t r ≡ with_operations s (counted t r)
+counted_rest t s (reply.New n) e = ap (λ (z : Tally). record z { news = t.news + 1 }) e
+counted_rest t s (reply.Loaded v) e = ap (λ (z : Tally). record z { loads = t.loads + 1 }) e
+counted_rest t s reply.Stored e = ap (λ (z : Tally). record z { stores = t.stores + 1 }) e
+counted_rest t s r e = e
+
+-- calls change the numbers of operations alone
+tally_extends : (threads every : ℕ) (h k : List Item) → Extends threads every h k → tally_of threads k ≡ with_operations (tally_of threads h) (tally_of threads k)
+tally_extends threads every h k (same) = refl
+tally_extends threads every h k (called l t o r before is) = counted_rest (tally_of threads l) (tally_of threads h) r (tally_extends threads every h l before)
+
+-- and these are the sums over the threads
+tally_told : (task : Task) (h k : List Item) (actors : List AnyActor) → IsHistorySoFar (terms_of task) task.script k → Extends (threads_of task) task.options.every h k → HaveActors task k actors
+    → tally_with (tally_of (threads_of task) h) actors ≡ tally_of (threads_of task) k
+tally_told task h k actors history extends have =
+    let legal = history.0 in
+    let news : (tally_of (threads_of task) k).news ≡ news_of actors = news_are (threads_of task) k ∙ kind_is task k actors legal have is_new news_of refl (λ a actors. refl) in
+    let loads : (tally_of (threads_of task) k).loads ≡ loads_of actors = loads_are (threads_of task) k ∙ kind_is task k actors legal have is_loaded loads_of refl (λ a actors. refl) in
+    let stores : (tally_of (threads_of task) k).stores ≡ stores_of actors = stores_are (threads_of task) k ∙ kind_is task k actors legal have is_stored stores_of refl (λ a actors. refl) in
+    sym (
+    tally_extends (threads_of task) task.options.every h k extends
+    ∙ ap (λ n. sums (tally_of (threads_of task) h) n (tally_of (threads_of task) k).loads (tally_of (threads_of task) k).stores) news
+    ∙ ap (λ n. sums (tally_of (threads_of task) h) (news_of actors) n (tally_of (threads_of task) k).stores) loads
+    ∙ ap (λ n. sums (tally_of (threads_of task) h) (news_of actors) (loads_of actors) n) stores
+    )
+  where
+    sums : Tally → ℕ → ℕ → ℕ → Tally
+    sums t news loads stores = record t { news = news; loads = loads; stores = stores }
+
+-- ---- the closing of an epoch
+
+-- once all are through, and not all were before, something was done
+all_through_did : (task : Task) (h k : List Item) (before actors : List AnyActor) → IsHistorySoFar (terms_of task) task.script h → IsHistorySoFar (terms_of task) task.script k
+    → Extends (threads_of task) task.options.every h k → HaveActors task h before → HaveActors task k actors → HasMore before → HaveEnded actors → length h < length k
+all_through_did task h k before actors history history' extends have have' more ended =
+    let fewer = ends_are_fewer task h before history.0 have more in
+    let all = ends_are_all task k actors history'.0 have' ended in
+    let grow = ends_extend (threads_of task) task.options.every h k extends in
+    omega arith
+  where
+    -- each call more is one end at most
+    ends_extend : (threads every : ℕ) (h k : List Item) → Extends threads every h k → ends k + length h ≤ ends h + length k
+    ends_extend threads every h k (same) = omega arith
+    ends_extend threads every h k (called l t o r before is) = let rest = ends_extend threads every h l before in let one = ends_one t o r l in omega arith
+      where
+        ends_one : (t : ℕ) (o : Op) (r : Reply) (l : List Item) → ends (Call t o r ∷ l) ≤ suc (ends l)
+        ends_one t op.End r l = omega arith
+        ends_one t o r l = omega arith
+
+module _ (task : Task) (space mid after : Space) (written : Option (List ℕ)) (seen : Option (List Sight)) (before actors : List AnyActor) (h : List Item) (g : AbstractState) (execution : Execution)
+    (amid : IsBetweenEpochs task space written seen before h g) (mid_is : mid ≡ record space { words = mid.words }) (script : script_of execution.core.actors ≡ task.script)
+    (finished : AreFinished execution.core.actors) (closes : Closes (beginning_of task space h g) execution mid after actors) where
+  -- the limits, the threads and the calls of the epoch are those of the run
+  limits : space.limits ≡ task_limits task
+  limits = amid.come.limits
+
+  threads : space.limits.threads ≡ threads_of task
+  threads = ap (λ (l : Limits). l.threads) limits
+
+  extends : Extends (threads_of task) task.options.every h execution.history
+  extends = subst (λ n. Extends n task.options.every h execution.history) threads closes.extends
+
+  -- the abstract state of the space at the safepoint
+  abbrev pub safepoint_state : AbstractState
+  safepoint_state = record g { moment = moment space.limits.threads execution.history; at = execution.at }
+
+  -- it is that of the history
+  moment_is : safepoint_state.moment ≡ moment (threads_of task) execution.history
+  moment_is = ap (λ n. moment n execution.history) threads
+
+  -- the actors are those of the script still
+  have : HaveActors task execution.history actors
+  have = record {
+    rest = subst (λ l. RestAfter l task.options.every execution.history actors) limits closes.actors_rest;
+    script = ap script_of closes.gave ∙ given_script execution.core.actors ∙ script;
+  }
+
+  -- the history is one so far
+  history : IsHistorySoFar (terms_of task) task.script execution.history
+  history = history_extends task.options task.script h execution.history amid.come.history extends (has_begun task execution.history actors have)
+
+  same_limits : after.limits ≡ space.limits
+  same_limits = ap (λ (s : Space). s.limits) closes.rest ∙ ap (λ (s : Space). s.limits) mid_is
+
+  -- the tally has the numbers of the history
+  tally : after.tally ≡ tally_of (threads_of task) execution.history
+  tally =
+      closes.tally
+      ∙ ap (λ (t : Tally). tally_with t actors) (ap (λ (s : Space). s.tally) mid_is ∙ amid.come.tally)
+      ∙ tally_told task h execution.history actors history extends have
+
+  -- a member then was a member before
+  still : (n : Name) → IsTrue (has safepoint_state.moment.unreclaimed n) → IsTrue (has g.moment.unreclaimed n)
+  still n member = subst (λ ns. IsTrue (has ns n))
+      (ap (λ (m : Moment). m.unreclaimed) moment_is ∙ unreclaimed_extends (threads_of task) task.options.every h execution.history extends ∙ ap (λ (m : Moment). m.unreclaimed) (sym amid.come.stands.moment)) member
+
+  -- all that holds of the run at the safepoint
+  come : HasCome task after written seen execution.history safepoint_state
+  come = record {
+    history = history;
+    stands = record { moment = moment_is; reported = amid.come.stands.reported ∙ sym (report_extends (threads_of task) task.options.every h execution.history extends) };
+    safepoint = closes.safepoint;
+    undecremented = closes.undecremented;
+    no_trace = ap (λ (m : Moment). m.trace) moment_is ∙ trace_extends (threads_of task) task.options.every h execution.history extends ∙ ap (λ (m : Moment). m.trace) (sym amid.come.stands.moment) ∙ amid.come.no_trace;
+    limits = same_limits ∙ limits;
+    tally = tally;
+    text = subst (Appends task.written written) (sym (text_extends (threads_of task) task.options.every h execution.history extends)) amid.come.text;
+    places = amid.come.places;
+    sights = sees_epoch (threads_of task) task.options.every h execution.history task.seen seen amid.come.places extends amid.come.sights;
+    kept = λ n member. closes.unmoved n (in_first g.moment.unreclaimed g.moment.made n (still n member)) ∙ amid.come.kept n (still n member);
+  }
+
+  -- the actors have done as many calls more as the history is longer
+  grown : length h + done_of actors ≡ length execution.history + done_of before
+  grown =
+      let now = calls_are_done task execution.history actors history.0 have in
+      let was = calls_are_done task h before amid.come.history.0 amid.actors_rest in
+      let more = calls_extend (threads_of task) task.options.every h execution.history extends in
+      omega arith
+
+  -- the epoch has done something, or a `new` waits
+  progress : HasProgress (beginning_of task space h g) execution actors → (done_of before < done_of actors) ⊎ SomeWait actors
+  progress (inl longer) = inl (let more = grown in omega arith)
+  progress (inr (inl waits)) = inr waits
+  progress (inr (inr ended)) =
+      let longer = all_through_did task h execution.history before actors amid.come.history history extends amid.actors_rest have amid.more ended in
+      inl (let more = grown in omega arith)
+
+  -- an epoch has run
+  pub epoch_run : HasRunEpoch task after written seen before actors execution.history safepoint_state
+  epoch_run = record {
+    come = come;
+    actors_rest = have;
+    news = closes.news;
+    due = (
+      subst (λ s. HasCause (terms_of task) s execution.history) have.script
+          (closes.cause finished (terms_of task) (record { threads = sym threads; blocks = ap (λ (l : Limits). l.blocks) (sym limits); log = ap (λ (l : Limits). l.log) (sym limits); every = refl }) amid.come.history.0),
+      early_extends task.options task.script task.options.every h execution.history extends
+          (was_early task.options task.script h (ends_are_fewer task h before amid.come.history.0 amid.actors_rest amid.more)),
+    );
+    progress = progress (closes.progress finished amid.served.unasked);
+    grows = let more = grown in let longer = length_extends (threads_of task) task.options.every h execution.history extends in omega arith;
+    few = let few = amid.few in let same = ap (λ (s : Space). s.pauses) closes.rest ∙ ap (λ (s : Space). s.pauses) mid_is in omega arith;
+  }
+    where
+      length_extends : (threads every : ℕ) (h k : List Item) → Extends threads every h k → length h ≤ length k
+      length_extends threads every h k (same) = omega arith
+      length_extends threads every h k (called l t o r before is) = let rest = length_extends threads every h l before in omega arith
+
+-- so it is of each epoch
+pub epochs_run : EpochsRun
+epochs_run task space mid after written seen before actors h g execution amid closed =
+    (safepoint_state task space mid after written seen before actors h g execution amid closed.words closed.script closed.finished closed.closes, epoch_run task space mid after written seen before actors h g execution amid closed.words closed.script closed.finished closed.closes)

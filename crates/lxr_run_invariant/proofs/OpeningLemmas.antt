@@ -1,0 +1,101 @@
+-- A run begins between two epochs, with the empty history.
+use Rattle.std.proofs.Common.{◌≡◌, ℕ, ◌+◌, ◌≤◌, refl, sym, ap, subst, ◌∙◌, arith, List, [], length}
+use Rattle.std.specs.Prelude.{Some, slice_get}
+use Rattle.std.proofs.lemmas.List.{length-map}
+use Rattle.lxr_layout.specs.declared.limits.Limits.{Limits}
+use Rattle.lxr_image.specs.declared.space.Space.{Space}
+use Rattle.lxr_image.specs.Image.{opening_at}
+use Rattle.lxr_image.specs.Opened.{no_tally}
+use Rattle.lxr_model.specs.Belongs.{operations_of}
+use Rattle.lxr_model.specs.Moments.{opening_moment}
+use Rattle.lxr_invariant.specs.AbstractState.{AbstractState, no_report}
+use Rattle.lxr_invariant.specs.Quiescent.{IsQuiescent}
+use Rattle.lxr_invariant.specs.Listed.{FreeBlocksAreListed, IsListed}
+use Rattle.lxr_text_stream.proofs.StreamLemmas.{Appends-nil}
+use Rattle.lxr_mutator.specs.Mutating.{Mutating}
+use Rattle.lxr_mutator.specs.Mutators.{IsMutator, first}
+use Rattle.lxr_core.specs.declared.actors.AnyActor.{AnyActor}
+use Rattle.lxr_core.specs.Actors.{mutator_in, script_of}
+use Rattle.lxr_core.specs.Resting.{RestsAfter}
+use Rattle.lxr_graph.specs.declared.Op.{Op}
+use Rattle.lxr_run_history.proofs.SightLemmas.{sees_none}
+use Rattle.lxr_run_invariant.proofs.ActorLemmas.{found}
+use Rattle.lxr_run_invariant.specs.LoopInvariant.{HaveActors, IsBetweenEpochs, Task, task_limits, threads_of}
+
+-- a space that was just opened, for so many threads: what it stands for, and what is listed
+pub record IsOpenedFor (task : Task) (space : Space) (g : AbstractState) : Type 0 where
+  pub moment : g.moment ≡ opening_moment (threads_of task)
+  pub at : g.at ≡ opening_at
+  pub reported : g.reported ≡ no_report
+  pub between : IsQuiescent space g
+  pub listed : IsListed space
+  pub all_listed : FreeBlocksAreListed space
+  pub limits : space.limits ≡ task_limits task
+  pub tally : space.tally ≡ no_tally
+  pub pauses : space.pauses ≡ 0
+
+-- a mutator as it is made rests for the empty history
+pub first_rests : (l : Limits) (every t : ℕ) (operations : List Op) → IsMutator (first t operations l every) → RestsAfter l every [] t (first t operations l every)
+first_rests l every t operations is = record {
+  mutator = record { sound = is; regions = refl; steady = (λ e. absurd (cc), λ e. absurd (cc)) };
+  thread = refl;
+  every = refl;
+  log = refl;
+  spans = refl;
+  rests = refl;
+  calls = refl;
+  replies = refl;
+  ended = λ e. absurd (cc);
+}
+
+-- each actor is the mutator of its thread as it is made
+pub record AreFirst (task : Task) (actors : List AnyActor) : Type 0 where
+  pub script : script_of actors ≡ task.script
+  pub each : (i : ℕ) (a : AnyActor) → slice_get actors i ≡ Some a → mutator_in a ≡ first (i + 1) (mutator_in a).operations (task_limits task) task.options.every
+  pub sound : (i : ℕ) (a : AnyActor) → slice_get actors i ≡ Some a → IsMutator (mutator_in a)
+
+-- so do all of them
+first_have : (task : Task) (actors : List AnyActor) → AreFirst task actors → HaveActors task [] actors
+first_have task actors are = record {
+  rest = record {
+    as_many = sym (length-map actors (λ (a : AnyActor). (mutator_in a).operations)) ∙ ap length are.script;
+    each = λ i a at.
+        let is = are.each i a at in
+        subst (RestsAfter (task_limits task) task.options.every [] (i + 1)) (sym is)
+        (first_rests (task_limits task) task.options.every (i + 1) (mutator_in a).operations (subst IsMutator is (are.sound i a at)));
+  };
+  script = are.script;
+}
+
+-- the run is between epochs, with the empty history
+pub between_opened : (task : Task) (space : Space) (g : AbstractState) (actors : List AnyActor) → 1 ≤ threads_of task → IsOpenedFor task space g → AreFirst task actors
+    → IsBetweenEpochs task space task.written task.seen actors [] g
+between_opened task space g actors some opened are = record {
+  come = record {
+    history = (tt, record { calls = λ t low high. (operations_of task.script t, refl); asked = tt; turns = tt; causes = tt; early = tt });
+    stands = record { moment = opened.moment; reported = opened.reported };
+    safepoint = opened.between.safepoint;
+    undecremented = opened.between.undecremented;
+    no_trace = ap (λ m. m.trace) opened.moment;
+    limits = opened.limits;
+    tally = opened.tally;
+    text = Appends-nil task.written;
+    places = opening_at;
+    sights = sees_none (threads_of task) task.seen;
+    kept = λ n member. ap (λ f. f n) opened.at;
+  };
+  between = opened.between;
+  listed = opened.listed;
+  all_listed = opened.all_listed;
+  actors_rest = first_have task actors are;
+  served = record {
+    unwaiting = λ i a at waits. let e = sym (ap (λ (m : Mutating). m.end) (are.each i a at)) ∙ waits.0 in cc;
+    few = λ t. omega arith;
+    unasked = λ t. refl;
+  };
+  few = let none = opened.pauses in omega arith;
+  more =
+      let many : length actors ≡ threads_of task = sym (length-map actors (λ (a : AnyActor). (mutator_in a).operations)) ∙ ap length are.script in
+      let (a, at) = found actors 0 (omega arith) in
+      (0, a, at, λ through. let e = sym (ap (λ (m : Mutating). m.end) (are.each 0 a at)) ∙ through.1 in cc);
+}

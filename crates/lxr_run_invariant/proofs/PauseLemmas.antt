@@ -1,0 +1,201 @@
+-- What a pause does to a run: its history has the pause, and a front of its report or all of it was written.
+use Rattle.std.proofs.Common.{◌≡◌, ℕ, ◌+◌, ◌*◌, ◌≤◌, refl, sym, ap, subst, ◌∙◌, arith, List, ◌∷◌, length}
+use Rattle.std.specs.Prelude.{Option, None, false, Some, slice_get}
+use Rattle.lxr_layout.specs.declared.limits.Limits.{Limits}
+use Rattle.lxr_graph.specs.History.{Item, Pause, PauseReport, report_of}
+use Rattle.lxr_image.specs.declared.space.Space.{Space}
+use Rattle.lxr_image.specs.declared.space.Tally.{Tally}
+use Rattle.lxr_model.specs.Moments.{Moment, after_pause, going_on, moment, trace_after}
+use Rattle.lxr_model.specs.Reports.{IsReport}
+use Rattle.lxr_model.specs.Belongs.{IsHistorySoFar}
+use Rattle.lxr_invariant.specs.AbstractState.{AbstractState, paused}
+use Rattle.lxr_full.proofs.RoomLemmas.{log_is_written}
+use Rattle.lxr_run_pause.specs.Pausing.{CanPause, Pauses}
+use Rattle.lxr_text_stream.specs.Streams.{Appends, AppendsFront}
+use Rattle.lxr_text_stream.proofs.StreamLemmas.{Appends-append, AppendsFront-after}
+use Rattle.lxr_text_print.specs.Reports.{report_text}
+use Rattle.lxr_run_watch.specs.Sights.{Looks, Sight, sight_of}
+use Rattle.lxr_core.specs.declared.actors.AnyActor.{AnyActor}
+use Rattle.lxr_core.specs.Actors.{mutator_in}
+use Rattle.lxr_core.specs.Resting.{RestsAfter}
+use Rattle.lxr_mutator.specs.Mutating.{Mutating}
+use Rattle.lxr_run_history.specs.Left.{StandsAfter}
+use Rattle.lxr_run_history.specs.Run.{reports_text}
+use Rattle.lxr_run_history.specs.Sights.{SeesTo}
+use Rattle.lxr_run_history.specs.Tally.{tally_of}
+use Rattle.lxr_run_history.proofs.HistoryLemmas.{history_with_pause}
+use Rattle.lxr_run_history.proofs.SightLemmas.{sees_pause}
+use Rattle.lxr_run_history.proofs.SpaceLemmas.{safepoint_tallied}
+use Rattle.lxr_run_history.proofs.TallyLemmas.{logs_few, pauses_are, replies_few}
+use Rattle.lxr_run_history.proofs.ThreadSums.{counted_in, one}
+use Rattle.lxr_run_invariant.specs.LoopInvariant.{FitsCounts, HasCome, HaveActors, IsPauseDue, IsPaused, Task, WasCutOff, done_of, task_limits, terms_of, threads_of}
+use Rattle.lxr_run_invariant.proofs.ActorLemmas.{as_many, calls_are_done, done_few}
+
+-- ---- numbers
+
+-- each thread keeps so many replies at most
+replies_within : (task : Task) (h : List Item) (actors : List AnyActor) → HaveActors task h actors → (i : ℕ) (a : AnyActor) → slice_get actors i ≡ Some a → length (mutator_in a).replies.items ≤ 1048577
+replies_within task h actors have i a at =
+    let sound = (have.rest.each i a at).mutator.sound in
+    let few = sound.few in
+    let replies = sound.few_replies in
+    omega arith
+
+-- so they do little together
+pub all_done_few : (task : Task) (h : List Item) (actors : List AnyActor) → HaveActors task h actors → threads_of task ≤ 16 → done_of actors ≤ 16777232
+all_done_few task h actors have threads =
+    let each = done_few actors (replies_within task h actors have) in
+    let many = as_many task h actors have in
+    omega arith
+
+-- pauses are numbered from 1, and those of a history are counted in the tally
+pub pauses_counted : (task : Task) (space : Space) (written : Option (List ℕ)) (seen : Option (List Sight)) (h : List Item) (g : AbstractState)
+    → HasCome task space written seen h g → space.tally.pauses ≡ space.pauses
+pauses_counted task space written seen h g come =
+    ap (λ (t : Tally). t.pauses) come.tally ∙ pauses_are (terms_of task) h come.history.0 ∙ ap (λ (m : Moment). m.number) (sym come.stands.moment) ∙ sym come.safepoint.numbers.pauses
+
+-- what is logged are the fields that were written
+pub logged_is : (task : Task) (space : Space) (written : Option (List ℕ)) (seen : Option (List Sight)) (h : List Item) (g : AbstractState)
+    → HasCome task space written seen h g → length space.logged.items ≡ length (moment (threads_of task) h).written
+logged_is task space written seen h g come = sym (log_is_written space g come.safepoint) ∙ ap (λ (m : Moment). length m.written) come.stands.moment
+
+-- there are 16 threads at most
+pub few_threads : (task : Task) (space : Space) (written : Option (List ℕ)) (seen : Option (List Sight)) (h : List Item) (g : AbstractState) → HasCome task space written seen h g → threads_of task ≤ 16
+few_threads task space written seen h g come =
+    let limits = come.safepoint.holds.space.limits.threads in
+    let same : space.limits.threads ≡ threads_of task = ap (λ (l : Limits). l.threads) come.limits in
+    omega arith
+
+-- so the numbers fit, and one pause more does
+pub counts_fit : (task : Task) (space : Space) (written : Option (List ℕ)) (seen : Option (List Sight)) (h : List Item) (g : AbstractState) (actors : List AnyActor)
+    → HasCome task space written seen h g → HaveActors task h actors → space.pauses ≤ 2 * done_of actors + 1 → FitsCounts space
+counts_fit task space written seen h g actors come have few =
+    let all = all_done_few task h actors have (few_threads task space written seen h g come) in
+    let told = pauses_counted task space written seen h g come in
+    let calls = calls_are_done task h actors come.history.0 have in
+    let replies : space.tally.news + space.tally.loads + space.tally.stores ≤ counted_in one h =
+    subst (λ (t : Tally). t.news + t.loads + t.stores ≤ counted_in one h) (sym come.tally) (replies_few (threads_of task) h) in
+    let stored : space.tally.logs + length (moment (threads_of task) h).written ≤ space.tally.stores =
+    subst (λ (t : Tally). t.logs + length (moment (threads_of task) h).written ≤ t.stores) (sym come.tally) (logs_few (threads_of task) h) in
+    let logged = logged_is task space written seen h g come in
+    record { pauses = (omega arith, omega arith); logs = omega arith; news = omega arith; loads = omega arith; stores = omega arith }
+
+-- ---- a pause
+
+-- the space at a safepoint before a pause, with so many log entries counted
+abbrev pub safepoint_by : Space → ℕ → Space
+safepoint_by s n = record s { tally = record s.tally { logs = s.tally.logs + n } }
+
+abbrev pub at_safepoint : Space → Space
+at_safepoint s = safepoint_by s (length s.logged.items)
+
+-- a pause may be made
+pub can_pause : (task : Task) (space : Space) (written : Option (List ℕ)) (seen : Option (List Sight)) (h : List Item) (g : AbstractState)
+    → HasCome task space written seen h g → FitsCounts space → CanPause (at_safepoint space) g
+can_pause task space written seen h g come fits = record {
+  safepoint = safepoint_tallied space g (record space.tally { logs = space.tally.logs + length space.logged.items }) come.safepoint;
+  undecremented = come.undecremented;
+  no_trace = come.no_trace;
+  counted = fits.pauses;
+}
+
+module _ (task : Task) (before after : Space) (written : Option (List ℕ)) (seen amid seen' : Option (List Sight)) (h : List Item) (g : AbstractState)
+    (come : HasCome task before written seen h g) (due : IsPauseDue task h) (pauses : Pauses (at_safepoint before) after g) where
+  -- its report, and what the space stands for then
+  abbrev report : PauseReport
+  report = report_of after.report
+
+  abbrev abstract_state : AbstractState
+  abstract_state = paused g report
+
+  -- the history, the space, the tally and the sights are those of the run with that pause
+  history : IsHistorySoFar (terms_of task) task.script (Pause report ∷ h)
+  history = history_with_pause task.options task.script h report come.history (subst (λ m. IsReport m report) come.stands.moment pauses.reports) pauses.plain due.0 due.1
+
+  stands : StandsAfter (threads_of task) (Pause report ∷ h) abstract_state
+  stands = record { moment = ap (λ m. after_pause m report) come.stands.moment; reported = refl }
+
+  limits : after.limits ≡ before.limits
+  limits = ap (λ (s : Space). s.limits) pauses.space
+
+  no_trace : trace_after g.moment report report.kind ≡ None
+  no_trace = ap (trace_after g.moment report) pauses.plain ∙ ap (going_on g.moment report) come.no_trace
+
+  tally : after.tally ≡ tally_of (threads_of task) (Pause report ∷ h)
+  tally =
+      pauses.tally
+      ∙ ap (λ n. record before.tally { logs = before.tally.logs + n; pauses = before.tally.pauses + 1 }) (logged_is task before written seen h g come)
+      ∙ ap (λ (t : Tally). record t { logs = t.logs + length (moment (threads_of task) h).written; pauses = t.pauses + 1 }) come.tally
+
+  module _ (first : Looks seen amid (sight_of (at_safepoint before))) (second : Looks amid seen' (sight_of after)) where
+    sights : SeesTo (threads_of task) (Pause report ∷ h) task.seen seen' g.at
+    sights = sees_pause (threads_of task) h report task.seen seen amid seen' (sight_of (at_safepoint before)) (sight_of after) come.places g.at come.sights first second (record {
+      abstract_state = g;
+      stands = come.stands;
+      at_safepoint = (at_safepoint before, refl, safepoint_tallied before g (record before.tally { logs = before.tally.logs + length before.logged.items }) come.safepoint);
+      kept = come.kept;
+      abstract_state' = abstract_state;
+      stands' = stands;
+      between = (after, refl, pauses.between);
+      places_are = refl;
+      unmoved = λ n was stays. refl;
+    })
+
+    pub paused_after : (written' : Option (List ℕ)) → Appends written written' (report_text false report) → IsPaused task after written' seen' h
+    paused_after written' printed = (
+      report,
+      abstract_state,
+      record {
+        come = record {
+          history = history;
+          stands = stands;
+          safepoint = pauses.between.safepoint;
+          undecremented = pauses.between.undecremented;
+          no_trace = no_trace;
+          limits = limits ∙ come.limits;
+          tally = tally;
+          text = Appends-append task.written written written' (reports_text h) (report_text false report) come.text printed;
+          places = g.at;
+          sights = sights;
+          kept = λ n member. refl;
+        };
+        between = pauses.between;
+      },
+    )
+
+  -- or it was cut off at the report
+  pub cut_off_after : (written' : Option (List ℕ)) → AppendsFront written written' (report_text false report) → WasCutOff task after written'
+  cut_off_after written' printed = (
+    Pause report ∷ h,
+    record {
+      history = history;
+      text_front = AppendsFront-after task.written written written' (reports_text h) (report_text false report) come.text printed;
+      left = (abstract_state, record { stands = stands; between = pauses.between; limits = limits ∙ come.limits; tally = tally });
+    },
+  )
+
+-- ---- actors
+
+-- a pause leaves the calls and replies of each thread
+pub rests_paused : (l : Limits) (every : ℕ) (h : List Item) (last : PauseReport) (t : ℕ) (m : Mutating) → RestsAfter l every h t m → RestsAfter l every (Pause last ∷ h) t m
+rests_paused l every h last t m rests = record {
+  mutator = rests.mutator;
+  thread = rests.thread;
+  every = rests.every;
+  log = rests.log;
+  spans = rests.spans;
+  rests = rests.rests;
+  calls = rests.calls;
+  replies = rests.replies;
+  ended = rests.ended;
+}
+
+-- so all actors rest
+pub actors_paused : (task : Task) (h : List Item) (last : PauseReport) (actors : List AnyActor) → HaveActors task h actors → HaveActors task (Pause last ∷ h) actors
+actors_paused task h last actors have = record {
+  rest = record {
+    as_many = have.rest.as_many;
+    each = λ i a at. rests_paused (task_limits task) task.options.every h last (i + 1) (mutator_in a) (have.rest.each i a at);
+  };
+  script = have.script;
+}

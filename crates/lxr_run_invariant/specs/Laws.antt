@@ -1,0 +1,67 @@
+-- What a run keeps from step to step, each law the contract of a function with an empty body.
+use Rattle.std.specs.Prelude.{◌≡◌, ℕ, ◌+◌, ◌<◌, Bool, Option, List, length}
+use Rattle.lxr_graph.specs.History.{Item}
+use Rattle.lxr_image.specs.declared.space.Space.{Space}
+use Rattle.lxr_invariant.specs.AbstractState.{AbstractState}
+use Rattle.lxr_invariant.specs.Quiescent.{IsQuiescent}
+use Rattle.lxr_invariant.specs.Listed.{FreeBlocksAreListed, IsListed}
+use Rattle.lxr_run_watch.specs.Sights.{Sight}
+use Rattle.lxr_core_events.specs.EpochStates.{Beginning}
+use Rattle.lxr_core.specs.declared.actors.AnyActor.{AnyActor}
+use Rattle.lxr_core.specs.Actors.{script_of}
+use Rattle.lxr_core.specs.Closing.{AreFinished, Closes}
+use Rattle.lxr_core.specs.Opening.{Begins}
+use Rattle.lxr_core.specs.Executions.{Execution}
+use Rattle.lxr_run_invariant.specs.LoopInvariant.{HasRun, HasRunEpoch, HaveEnded, IsBetweenEpochs, IsPaused, IsServing, Task, done_of}
+
+-- ---- epochs
+
+-- what an epoch of a run begins with
+abbrev pub beginning_of : Task → Space → List Item → AbstractState → Beginning
+beginning_of task space h g = record { space = space; abstract_state = g; history = h; every = task.options.every }
+
+-- an epoch may be opened between epochs
+abbrev pub EpochsMayOpen : Type 0
+EpochsMayOpen = (task : Task) (space : Space) (written : Option (List ℕ)) (seen : Option (List Sight)) (actors : List AnyActor) (h : List Item) (g : AbstractState)
+    → IsBetweenEpochs task space written seen actors h g → Begins (beginning_of task space h g) space actors
+
+-- an epoch that began so, in which nothing but words changed, is closed once all threads are through with it
+pub record HasClosed (task : Task) (space mid after : Space) (actors : List AnyActor) (h : List Item) (g : AbstractState) (execution : Execution) : Type 0 where
+  pub words : mid ≡ record space { words = mid.words }
+  pub script : script_of execution.core.actors ≡ task.script
+  pub finished : AreFinished execution.core.actors
+  pub closes : Closes (beginning_of task space h g) execution mid after actors
+
+-- then a pause has a cause
+abbrev pub EpochsRun : Type 0
+EpochsRun = (task : Task) (space mid after : Space) (written : Option (List ℕ)) (seen : Option (List Sight)) (before actors : List AnyActor) (h : List Item) (g : AbstractState) (execution : Execution)
+    → IsBetweenEpochs task space written seen before h g → HasClosed task space mid after actors h g execution → (m : AbstractState) × HasRunEpoch task after written seen before actors execution.history m
+
+-- ---- the way to the next epoch
+
+-- what listing runs and free blocks anew leaves of a space between epochs
+pub record ListsAnew (before after : Space) (g : AbstractState) : Type 0 where
+  pub between : IsQuiescent after g
+  pub listed : IsListed after
+  pub all_listed : FreeBlocksAreListed after
+  pub limits : after.limits ≡ before.limits
+  pub tally : after.tally ≡ before.tally
+  pub pauses : after.pauses ≡ before.pauses
+
+-- A run is between epochs again, and has done something, once a pause is made behind an epoch, each waiting `new` is served or
+-- refused, and runs and free blocks are listed.
+pub record IsAgain (task : Task) (space : Space) (written : Option (List ℕ)) (seen : Option (List Sight)) (before actors : List AnyActor) (h : List Item) (g : AbstractState) : Type 0 where
+  pub amid : IsBetweenEpochs task space written seen actors h g
+  pub more : done_of before < done_of actors
+
+abbrev pub RunsGoOn : Type 0
+RunsGoOn = (task : Task) (safepoint space after : Space) (written written' : Option (List ℕ)) (seen seen' : Option (List Sight)) (before actors actors' : List AnyActor) (paused first : ℕ) (served : Bool) (h h' : List Item) (g g' : AbstractState)
+    → HasRunEpoch task safepoint written seen before actors h g → paused ≡ safepoint.pauses + 1 → IsServing task space written' seen' actors paused actors' first served h' g' → first ≡ length actors'
+    → ListsAnew space after g' → IsAgain task after written' seen' before actors' h' g'
+
+-- ---- the end
+
+-- where all threads have ended, the pause behind the epoch is the last, and the history is whole
+abbrev pub RunsEnd : Type 0
+RunsEnd = (task : Task) (safepoint space : Space) (written written' : Option (List ℕ)) (seen seen' : Option (List Sight)) (before actors : List AnyActor) (h : List Item) (g : AbstractState)
+    → HasRunEpoch task safepoint written seen before actors h g → HaveEnded actors → IsPaused task space written' seen' h → HasRun task space written' seen' actors

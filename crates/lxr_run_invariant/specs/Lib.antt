@@ -1,0 +1,2 @@
+pub mod LoopInvariant
+pub mod Laws

@@ -1,0 +1,205 @@
+-- How far a run has come: what holds between its steps.
+use Rattle.std.specs.Prelude.{◌≡◌, ℕ, ◌+◌, ◌-◌, ◌*◌, ◌^◌, ◌<◌, ◌≤◌, ◌⊎◌, Bool, false, Option, None, Some, List, ◌∷◌, [], length, slice_get}
+use Rattle.lxr_layout.specs.declared.Name.{Name}
+use Rattle.lxr_layout.specs.declared.limits.Limits.{Limits}
+use Rattle.lxr_graph.specs.declared.Op.{Op}
+use Rattle.lxr_graph.specs.declared.Reply.{Reply}
+use Rattle.lxr_graph.specs.History.{Item, Call, Pause, PauseReport}
+use Rattle.lxr_image.specs.declared.space.Space.{Space}
+use Rattle.lxr_image.specs.Spaces.{tables_of}
+use Rattle.lxr_text_stream.specs.Streams.{Appends, AppendsFront}
+use Rattle.lxr_model.specs.Belongs.{HasCause, IsHistorySoFar, LastPauseWasEarly, Script, calls_since_pause, has_asked, operations_of}
+use Rattle.lxr_model.specs.Full.{IsRightAfterPause}
+use Rattle.lxr_model.specs.Kinds.{ends}
+use Rattle.lxr_model.specs.Terms.{Terms}
+use Rattle.lxr_invariant.specs.AbstractState.{AbstractState}
+use Rattle.lxr_invariant.specs.Counting.{IsUndecremented}
+use Rattle.lxr_invariant.specs.Quiescent.{IsAtSafepoint, IsQuiescent}
+use Rattle.lxr_invariant.specs.Listed.{FreeBlocksAreListed, IsListed}
+use Rattle.lxr_run_watch.specs.Sights.{Sight}
+use Rattle.lxr_mutator.specs.Mutating.{IsWaiting, Mutating, op_now}
+use Rattle.lxr_mutator.specs.Mutators.{IsAnswered, IsThrough}
+use Rattle.lxr_core_events.specs.ThreadStates.{all_of}
+use Rattle.lxr_core_sim_mutator.specs.Showing.{IsNew}
+use Rattle.lxr_core.specs.declared.actors.AnyActor.{AnyActor}
+use Rattle.lxr_core.specs.Actors.{mutator_in, script_of}
+use Rattle.lxr_core.specs.Resting.{AreServed, RestAfter, RestsAfter}
+use Rattle.lxr_run_words.specs.declared.RunOptions.{RunOptions}
+use Rattle.lxr_run_history.specs.Left.{IsLeftBy, StandsAfter, run_limits}
+use Rattle.lxr_run_history.specs.Run.{IsHistoryOf, reports_text, script_terms}
+use Rattle.lxr_run_history.specs.Sights.{SamePlaces, Sees, SeesTo}
+use Rattle.lxr_run_history.specs.Tally.{tally_of}
+
+-- What a run begins with: its options and script, and what was written and seen before it, where it is told.
+pub record Task : Type 0 where
+  pub options : RunOptions
+  pub script : Script
+  pub written : Option (List ℕ)
+  pub seen : Option (List Sight)
+
+abbrev pub threads_of : Task → ℕ
+threads_of task = length task.script
+
+abbrev pub terms_of : Task → Terms
+terms_of task = script_terms task.options task.script
+
+abbrev pub task_limits : Task → Limits
+task_limits task = run_limits task.options (threads_of task)
+
+-- The run has come to a history so far, and the space stands for what it led to, at a safepoint before a pause; the tally has the
+-- history's numbers; the reports of its pauses were written, and the watch has seen them; what was unreclaimed at the last
+-- one stands where it did.
+pub record HasCome (task : Task) (space : Space) (written : Option (List ℕ)) (seen : Option (List Sight)) (h : List Item) (g : AbstractState) : Type 0 where
+  pub history : IsHistorySoFar (terms_of task) task.script h
+  pub stands : StandsAfter (threads_of task) h g
+  pub safepoint : IsAtSafepoint space g
+  pub undecremented : IsUndecremented (tables_of space) g.moment g.at
+  pub no_trace : g.moment.trace ≡ None
+  pub limits : space.limits ≡ task_limits task
+  pub tally : space.tally ≡ tally_of (threads_of task) h
+  pub text : Appends task.written written (reports_text h)
+  pub places : Name → ℕ
+  pub sights : SeesTo (threads_of task) h task.seen seen places
+  pub kept : SamePlaces g.moment.unreclaimed places g.at
+
+-- the numbers of a run are far from the ends of their types
+pub record FitsCounts (space : Space) : Type 0 where
+  pub pauses : (space.pauses + 1 < 2 ^ 32) × (space.tally.pauses < 2 ^ 63)
+  pub logs : space.tally.logs + length space.logged.items < 2 ^ 63
+  pub news : space.tally.news + 1 < 2 ^ 32
+  pub loads : space.tally.loads < 2 ^ 63
+  pub stores : space.tally.stores < 2 ^ 63
+
+-- the actors are those of the script's threads, and rest for a history
+pub record HaveActors (task : Task) (h : List Item) (actors : List AnyActor) : Type 0 where
+  pub rest : RestAfter (task_limits task) task.options.every h actors
+  pub script : script_of actors ≡ task.script
+
+-- how many operations and ends are done
+abbrev pub done_of : List AnyActor → ℕ
+done_of [] = 0
+done_of (a ∷ actors) = length (mutator_in a).replies.items + done_of actors
+
+-- how many operations and ends are left
+abbrev pub left_of : List AnyActor → ℕ
+left_of [] = 0
+left_of (a ∷ actors) = (length (mutator_in a).operations + 1 - length (mutator_in a).replies.items) + left_of actors
+
+-- not all threads have ended; all have
+abbrev pub HasMore : List AnyActor → Type 0
+HasMore actors = (i : ℕ) × (a : AnyActor) × (slice_get actors i ≡ Some a) × ¬ IsThrough (mutator_in a)
+
+abbrev pub HaveEnded : List AnyActor → Type 0
+HaveEnded actors = (i : ℕ) (a : AnyActor) → slice_get actors i ≡ Some a → IsThrough (mutator_in a)
+
+-- some `new` waits; what waits is a `new`
+abbrev pub SomeWait : List AnyActor → Type 0
+SomeWait actors = (i : ℕ) × (a : AnyActor) × (slice_get actors i ≡ Some a) × IsWaiting (mutator_in a)
+
+abbrev pub NewsWait : List AnyActor → Type 0
+NewsWait actors = (i : ℕ) (a : AnyActor) → slice_get actors i ≡ Some a → IsWaiting (mutator_in a) → IsNew (mutator_in a)
+
+-- Between two epochs: the space is between epochs and listed, nobody waits, and not all threads have ended. Two pauses at
+-- most were made for each operation or end.
+pub record IsBetweenEpochs (task : Task) (space : Space) (written : Option (List ℕ)) (seen : Option (List Sight)) (actors : List AnyActor) (h : List Item) (g : AbstractState) : Type 0 where
+  pub come : HasCome task space written seen h g
+  pub between : IsQuiescent space g
+  pub listed : IsListed space
+  pub all_listed : FreeBlocksAreListed space
+  pub actors_rest : HaveActors task h actors
+  pub served : AreServed h actors
+  pub few : space.pauses ≤ 2 * done_of actors
+  pub more : HasMore actors
+
+-- a pause is due: it has a cause, and at the last one not all threads had ended
+abbrev pub IsPauseDue : Task → List Item → Type 0
+IsPauseDue task h = HasCause (terms_of task) task.script h × LastPauseWasEarly (terms_of task) h
+
+-- An epoch has run from `before`, and a pause is due.
+pub record HasRunEpoch (task : Task) (space : Space) (written : Option (List ℕ)) (seen : Option (List Sight)) (before actors : List AnyActor) (h : List Item) (g : AbstractState) : Type 0 where
+  pub come : HasCome task space written seen h g
+  pub actors_rest : HaveActors task h actors
+  pub news : NewsWait actors
+  pub due : IsPauseDue task h
+  -- something was done, or some `new` waits
+  pub progress : (done_of before < done_of actors) ⊎ SomeWait actors
+  pub grows : done_of before ≤ done_of actors
+  pub few : space.pauses ≤ 2 * done_of before
+
+-- a pause was made after h
+pub record HasPaused (task : Task) (space : Space) (written : Option (List ℕ)) (seen : Option (List Sight)) (h : List Item) (report : PauseReport) (g : AbstractState) : Type 0 where
+  pub come : HasCome task space written seen (Pause report ∷ h) g
+  pub between : IsQuiescent space g
+
+abbrev pub IsPaused : Task → Space → Option (List ℕ) → Option (List Sight) → List Item → Type 0
+IsPaused task space written seen h = (report : PauseReport) × (g : AbstractState) × HasPaused task space written seen h report g
+
+-- there is a last pause, and nothing but refusals stands behind it
+abbrev pub IsRefusedSince : List Item → Type 0
+IsRefusedSince h = IsRightAfterPause (λ report. Unit {0}) h
+
+-- Thread t's `new` waits, and its turn has come: the thread has had no call since the last pause. Where none was served since
+-- that pause, nothing but refusals stands behind it. Not all threads have ended.
+pub record MayServe (task : Task) (space : Space) (written : Option (List ℕ)) (seen : Option (List Sight)) (t : ℕ) (m : Mutating) (served : Bool) (h : List Item) (g : AbstractState) : Type 0 where
+  pub come : HasCome task space written seen h g
+  pub between : IsQuiescent space g
+  pub thread : (1 ≤ t) × (t ≤ threads_of task)
+  pub rests : RestsAfter (task_limits task) task.options.every h t m
+  pub operations : operations_of task.script t ≡ all_of m.operations
+  pub waits : IsWaiting m
+  pub news : IsNew m
+  pub none_yet : calls_since_pause t h ≡ 0
+  pub unasked : has_asked t h ≡ false
+  pub unserved : served ≡ false → IsRefusedSince h
+  pub more : ends h < threads_of task
+
+-- a history goes on by a call alone, or by a pause and then the call
+abbrev pub GoesOnBy : ℕ → Op → Reply → List Item → List Item → Type 0
+GoesOnBy t o r h h' = (h' ≡ Call t o r ∷ h) ⊎ ((report : PauseReport) × (h' ≡ Call t o r ∷ Pause report ∷ h))
+
+-- it was served or refused; where none was served since the last pause, nothing but refusals stands behind it
+pub record HasAnswered (task : Task) (space : Space) (written : Option (List ℕ)) (seen : Option (List Sight)) (t : ℕ) (m m' : Mutating) (served : Bool) (h h' : List Item) (g : AbstractState) : Type 0 where
+  pub come : HasCome task space written seen h' g
+  pub between : IsQuiescent space g
+  pub reply : Reply
+  pub goes_on : GoesOnBy t (op_now m) reply h h'
+  pub mutator : IsAnswered m m' reply
+  pub unserved : served ≡ false → IsRefusedSince h'
+
+-- While waiting `new`s are served: those of the first threads are served or refused. The actors were `before` when it began,
+-- and so many pauses had been made; since then one at most was made for each `new`.
+pub record IsServing (task : Task) (space : Space) (written : Option (List ℕ)) (seen : Option (List Sight)) (before : List AnyActor) (paused : ℕ) (actors : List AnyActor) (first : ℕ) (served : Bool) (h : List Item) (g : AbstractState) : Type 0 where
+  pub come : HasCome task space written seen h g
+  pub between : IsQuiescent space g
+  pub actors_rest : HaveActors task h actors
+  pub news : NewsWait actors
+  pub untouched : (i : ℕ) → first ≤ i → slice_get actors i ≡ slice_get before i
+  pub unwaiting : (i : ℕ) (a : AnyActor) → slice_get actors i ≡ Some a → i < first → ¬ IsWaiting (mutator_in a)
+  pub short : (t : ℕ) → t ≤ first → calls_since_pause t h ≤ 1
+  pub none_yet : (t : ℕ) → first < t → calls_since_pause t h ≡ 0
+  pub unasked : (t : ℕ) → has_asked t h ≡ false
+  pub unserved : served ≡ false → IsRefusedSince h
+  pub more : HasMore actors
+  pub few : space.pauses + done_of before ≤ paused + done_of actors
+  pub grows : done_of before ≤ done_of actors
+  pub done : (i : ℕ) (a : AnyActor) → slice_get before i ≡ Some a → i < first → IsWaiting (mutator_in a) → done_of before < done_of actors
+
+-- a run that was cut off at a report: a front of the reports of a history so far was written, and the space is left by it
+pub record WasCutOffAt (task : Task) (space : Space) (written : Option (List ℕ)) (h : List Item) : Type 0 where
+  pub history : IsHistorySoFar (terms_of task) task.script h
+  pub text_front : AppendsFront task.written written (reports_text h)
+  pub left : IsLeftBy task.options (threads_of task) h space
+
+abbrev pub WasCutOff : Task → Space → Option (List ℕ) → Type 0
+WasCutOff task space written = (h : List Item) × WasCutOffAt task space written h
+
+-- all operations and ends are done, and the last pause is made
+pub record HasRunTo (task : Task) (space : Space) (written : Option (List ℕ)) (seen : Option (List Sight)) (actors : List AnyActor) (h : List Item) : Type 0 where
+  pub history : IsHistoryOf task.options task.script h
+  pub left : IsLeftBy task.options (threads_of task) h space
+  pub text : Appends task.written written (reports_text h)
+  pub sights : Sees (threads_of task) h task.seen seen
+  pub actors_rest : HaveActors task h actors
+
+abbrev pub HasRun : Task → Space → Option (List ℕ) → Option (List Sight) → List AnyActor → Type 0
+HasRun task space written seen actors = (h : List Item) × HasRunTo task space written seen actors h

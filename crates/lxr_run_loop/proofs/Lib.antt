@@ -1,0 +1,5 @@
+pub mod OpeningLemmas
+pub mod ServeLemmas
+pub mod ProgressLemmas
+pub mod PrintLemmas
+pub mod PrintedLemmas

@@ -1,0 +1,115 @@
+use Rattle.std.proofs.Common.{arith, refl, ap, length, ◌∷◌}
+use Rattle.lxr_graph.specs.History.{Pause}
+use Rattle.lxr_image.specs.declared.space.Space.{Space}
+use Rattle.lxr_text_print.proofs.PageLemmas.{OnErr-always}
+use Rattle.lxr_run_invariant.proofs.ActorLemmas.{left_less}
+use Rattle.lxr_run_invariant.proofs.EndLemmas.{run_to}
+use Rattle.lxr_run_invariant.proofs.PauseLemmas.{counts_fit}
+use Rattle.lxr_run_invariant.proofs.TurnLemmas.{runs_go_on, serving_begins}
+use Rattle.lxr_run_loop.specs.Drawing.{by_answers, by_epoch, by_pause}
+use Rattle.lxr_run_loop.proofs.ProgressLemmas.{has_more, have_all_ended, left_no_more, not_told}
+use Rattle.lxr_run_loop.proofs.run.make_round.Goals as goal
+
+pub run_epoch-requires-clause-may : goal.run_epoch-requires-clause-may
+run_epoch-requires-clause-may g c = λ lifetimes bounds.
+    let (task, (h, m, amid, drawn)) = c.requires.under_way in
+    (task, g.O.Sink.written c.args.output.now, g.W.Watch.seen c.args.watch.now, h, m, amid)
+
+pub pause-requires-clause-due : goal.pause-requires-clause-due
+pause-requires-clause-due g c =
+    let (task, (h, m, amid, drawn)) = c.requires.under_way in
+    let (h', m', ran, replays) = c.run_epoch.ensures task (g.O.Sink.written c.args.output.now) (g.W.Watch.seen c.args.watch.now) h m amid in
+    (task, h', m', (ran.come, ran.due))
+
+pub pause-requires-clause-counts : goal.pause-requires-clause-counts
+pause-requires-clause-counts g c =
+    let (task, (h, m, amid, drawn)) = c.requires.under_way in
+    let (h', m', ran, replays) = c.run_epoch.ensures task (g.O.Sink.written c.args.output.now) (g.W.Watch.seen c.args.watch.now) h m amid in
+    let few = ran.few in
+    let grows = ran.grows in
+    counts_fit task c.run_epoch.new.space (g.O.Sink.written c.args.output.now) (g.W.Watch.seen c.args.watch.now) h' m' c.run_epoch.new.actors ran.come ran.actors_rest (omega arith)
+
+pub returns-in_err-pause-clause-err : goal.returns-in_err-pause-clause-err
+returns-in_err-pause-clause-err g c = OnErr-always c.from_residual.result (λ task (h, m, amid, drawn).
+    let (h', m', ran, replays) = c.run_epoch.ensures task (g.O.Sink.written c.args.output.now) (g.W.Watch.seen c.args.watch.now) h m amid in
+    c.in_err-pause.ensures.err task h' m' (ran.come, ran.due))
+
+pub returns-then-have_ended-clause-ok : goal.returns-then-have_ended-clause-ok
+returns-then-have_ended-clause-ok g c = λ task (h, m, amid, drawn).
+    let (h', m', ran, replays) = c.run_epoch.ensures task (g.O.Sink.written c.args.output.now) (g.W.Watch.seen c.args.watch.now) h m amid in
+    let (report, m'', paused) = c.in_ok-pause.ensures.ok task h' m' (ran.come, ran.due) in
+    let run = run_to task c.run_epoch.new.space c.pause.new.space (g.O.Sink.written c.args.output.now) (g.O.Sink.written c.pause.new.output) (g.W.Watch.seen c.args.watch.now)
+    (g.W.Watch.seen c.pause.new.watch) c.args.actors.now c.run_epoch.new.actors h' m' m'' report ran
+    (have_all_ended task h' c.run_epoch.new.actors ran.actors_rest (c.have_ended.ensures.0 c.if-have_ended.true)) paused in
+    record {
+      complete = (Pause report ∷ h', run, by_pause h' report c.run_epoch.new.x (by_epoch h h' c.args.x.now c.run_epoch.new.x c.args.space.now c.args.actors.now drawn replays));
+      no_more = left_no_more task h h' c.args.actors.now c.run_epoch.new.actors amid.actors_rest ran.actors_rest ran.grows;
+    }
+
+pub serve_waiting-requires-clause-serving : goal.serve_waiting-requires-clause-serving
+serve_waiting-requires-clause-serving g c =
+    let (task, (h, m, amid, drawn)) = c.requires.under_way in
+    let (h', m', ran, replays) = c.run_epoch.ensures task (g.O.Sink.written c.args.output.now) (g.W.Watch.seen c.args.watch.now) h m amid in
+    let (report, m'', paused) = c.in_ok-pause.ensures.ok task h' m' (ran.come, ran.due) in (
+      task,
+      _,
+      m'',
+      serving_begins task c.pause.new.space (g.O.Sink.written c.pause.new.output) (g.W.Watch.seen c.pause.new.watch) c.run_epoch.new.actors h' report m'' ran.actors_rest ran.news
+          (has_more c.run_epoch.new.actors (not_told c.have_ended.result c.have_ended.ensures c.if-have_ended.false)) paused,
+    )
+
+pub serve_waiting-requires-clause-few : goal.serve_waiting-requires-clause-few
+serve_waiting-requires-clause-few g c =
+    let (task, (h, m, amid, drawn)) = c.requires.under_way in
+    let (h', m', ran, replays) = c.run_epoch.ensures task (g.O.Sink.written c.args.output.now) (g.W.Watch.seen c.args.watch.now) h m amid in
+    let few = ran.few in
+    let grows = ran.grows in
+    let one = c.pause.ensures.pauses in
+    omega arith
+
+pub returns-in_err-serve_waiting-clause-err : goal.returns-in_err-serve_waiting-clause-err
+returns-in_err-serve_waiting-clause-err g c = OnErr-always c.from_residual-in_err-serve_waiting.result (λ task (h, m, amid, drawn).
+    let (h', m', ran, replays) = c.run_epoch.ensures task (g.O.Sink.written c.args.output.now) (g.W.Watch.seen c.args.watch.now) h m amid in
+    let (report, m'', paused) = c.in_ok-pause.ensures.ok task h' m' (ran.come, ran.due) in
+    c.in_err-serve_waiting.ensures.err task _ m''
+    (serving_begins task c.pause.new.space (g.O.Sink.written c.pause.new.output) (g.W.Watch.seen c.pause.new.watch) c.run_epoch.new.actors h' report m'' ran.actors_rest ran.news
+    (has_more c.run_epoch.new.actors (not_told c.have_ended.result c.have_ended.ensures c.if-have_ended.false)) paused))
+
+pub list_for_epoch-requires : goal.list_for_epoch-requires
+list_for_epoch-requires g c =
+    let (task, (h, m, amid, drawn)) = c.requires.under_way in
+    let (h', m', ran, replays) = c.run_epoch.ensures task (g.O.Sink.written c.args.output.now) (g.W.Watch.seen c.args.watch.now) h m amid in
+    let (report, m'', paused) = c.in_ok-pause.ensures.ok task h' m' (ran.come, ran.due) in
+    let (served, h'', m3, serving, answers) = c.in_ok-serve_waiting.ensures.ok task _ m''
+    (serving_begins task c.pause.new.space (g.O.Sink.written c.pause.new.output) (g.W.Watch.seen c.pause.new.watch) c.run_epoch.new.actors h' report m'' ran.actors_rest ran.news
+    (has_more c.run_epoch.new.actors (not_told c.have_ended.result c.have_ended.ensures c.if-have_ended.false)) paused) in
+    (m3, serving.between)
+
+pub returns-clause-ok : goal.returns-clause-ok
+returns-clause-ok g c = λ task (h, m, amid, drawn).
+    let (h', m', ran, replays) = c.run_epoch.ensures task (g.O.Sink.written c.args.output.now) (g.W.Watch.seen c.args.watch.now) h m amid in
+    let (report, m'', paused) = c.in_ok-pause.ensures.ok task h' m' (ran.come, ran.due) in
+    let begun = serving_begins task c.pause.new.space (g.O.Sink.written c.pause.new.output) (g.W.Watch.seen c.pause.new.watch) c.run_epoch.new.actors h' report m'' ran.actors_rest ran.news
+    (has_more c.run_epoch.new.actors (not_told c.have_ended.result c.have_ended.ensures c.if-have_ended.false)) paused in
+    let (served, h'', m3, serving, answers) = c.in_ok-serve_waiting.ensures.ok task _ m'' begun in
+    let again = runs_go_on task c.run_epoch.new.space c.serve_waiting.new.space c.list_for_epoch.new.space (g.O.Sink.written c.args.output.now) (g.O.Sink.written c.serve_waiting.new.output)
+    (g.W.Watch.seen c.args.watch.now) (g.W.Watch.seen c.serve_waiting.new.watch) c.args.actors.now c.run_epoch.new.actors c.serve_waiting.new.actors c.pause.new.space.pauses
+    (length c.serve_waiting.new.actors) served h' h'' m' m3 ran c.pause.ensures.pauses serving refl
+    (record {
+      between = c.list_for_epoch.ensures.between m3 serving.between;
+      listed = c.list_for_epoch.ensures.listed.listed;
+      all_listed = c.list_for_epoch.ensures.listed.whole;
+      limits = ap (λ (s : Space). s.limits) c.list_for_epoch.ensures.lists.rest;
+      tally = ap (λ (s : Space). s.tally) c.list_for_epoch.ensures.lists.rest;
+      pauses = ap (λ (s : Space). s.pauses) c.list_for_epoch.ensures.lists.rest;
+    }) in
+    record {
+      under_way = (
+        h'',
+        m3,
+        again.amid,
+        by_answers _ h'' c.run_epoch.new.x m'' c.run_epoch.new.actors c.serve_waiting.new.actors c.pause.new.space c.serve_waiting.new.space
+            (g.O.Sink.written c.pause.new.output) (g.W.Watch.seen c.pause.new.watch) served (by_pause h' report c.run_epoch.new.x (by_epoch h h' c.args.x.now c.run_epoch.new.x c.args.space.now c.args.actors.now drawn replays)) begun answers,
+      );
+      less = left_less task h h'' c.args.actors.now c.serve_waiting.new.actors amid.actors_rest again.amid.actors_rest again.more;
+    }

@@ -1,0 +1,17 @@
+use Rattle.std.proofs.Common.{◌≡◌, ℕ, ◌+◌, ◌≤◌, true, false, cond}
+use Rattle.lxr_run_invariant.specs.LoopInvariant.{Task, left_of}
+use Rattle.lxr_run_loop.specs.Progress.{IsComplete, IsUnderWay}
+use Rattle.lxr_run_loop.proofs.run.run_threads.Given as goal
+
+abbrev pub invariant-loop-ended : goal.invariant-loop-ended
+invariant-loop-ended g l =
+    record {
+      under_way : (task : Task) → IsUnderWay task l.fn.space (g.O.Sink.written l.fn.output) (g.W.Watch.seen l.fn.watch) l.fn.actors l.fn.seed → l.ended ≡ false
+          → IsUnderWay task l.space (g.O.Sink.written l.output) (g.W.Watch.seen l.watch) l.actors l.x;
+      complete : (task : Task) → IsUnderWay task l.fn.space (g.O.Sink.written l.fn.output) (g.W.Watch.seen l.fn.watch) l.fn.actors l.fn.seed → l.ended ≡ true
+          → IsComplete task l.space (g.O.Sink.written l.output) (g.W.Watch.seen l.watch) l.actors l.x;
+      faults : g.O.Sink.faults l.fn.output ≤ g.O.Sink.faults l.output;
+    }
+
+abbrev pub decreases-loop-ended : goal.decreases-loop-ended
+decreases-loop-ended g l = left_of l.actors + cond {A = ℕ} l.ended 0 1

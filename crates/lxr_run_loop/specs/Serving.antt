@@ -1,0 +1,78 @@
+-- What a run has come to while waiting `new`s are answered, named once for what each call asks and promises.
+use Rattle.std.specs.Prelude.{◌≡◌, ℕ, ◌+◌, Bool, false, Option, Some, List, length, slice_get, slice_set}
+use Rattle.lxr_graph.specs.History.{Item}
+use Rattle.lxr_image.specs.declared.space.Space.{Space}
+use Rattle.lxr_invariant.specs.AbstractState.{AbstractState}
+use Rattle.lxr_run_watch.specs.Sights.{Sight}
+use Rattle.lxr_mutator.specs.declared.phases.Waiting.{Waiting}
+use Rattle.lxr_mutator.specs.Mutating.{Mutating}
+use Rattle.lxr_core.specs.declared.actors.AnyActor.{AnyActor}
+use Rattle.lxr_run_invariant.specs.LoopInvariant.{HasAnswered, IsServing, MayServe, Task, WasCutOff}
+use Rattle.lxr_run_loop.specs.Answering.{Answers, AnswersActor, AnswersFirst}
+
+-- ---- one `new`
+
+-- an object can be made for the `new` of a mutator in some run
+abbrev pub IsServableIn : Space → Mutating → Type 0
+IsServableIn space m = (task : Task) × (written : Option (List ℕ)) × (seen : Option (List Sight)) × (t : ℕ) × (served : Bool) × (h : List Item) × (g : AbstractState) × MayServe task space written seen t m served h g
+
+-- the turn of a mutator's `new` has come in some run
+abbrev pub CanServe : Space → Option (List ℕ) → Option (List Sight) → Mutating → Bool → Type 0
+CanServe space written seen m served = (task : Task) × (t : ℕ) × (h : List Item) × (g : AbstractState) × MayServe task space written seen t m served h g
+
+-- in each such run it has been answered
+abbrev pub IsAnsweredIn : Space → Option (List ℕ) → Option (List Sight) → Mutating → Bool → Waiting → Space → Option (List ℕ) → Option (List Sight) → Mutating → Bool → Type 0
+IsAnsweredIn space written seen m served w space' written' seen' m' served' = (task : Task) (t : ℕ) (h : List Item) (g : AbstractState) → MayServe task space written seen t m served h g
+    → (h' : List Item) × (g' : AbstractState) × HasAnswered task space' written' seen' t m m' served' h h' g' × Answers t m m' w space space' served served' h h'
+
+-- each such run was cut off
+abbrev pub IsCutOffServing : Space → Option (List ℕ) → Option (List Sight) → Mutating → Bool → Space → Option (List ℕ) → Type 0
+IsCutOffServing space written seen m served space' written' = (task : Task) (t : ℕ) (h : List Item) (g : AbstractState) → MayServe task space written seen t m served h g → WasCutOff task space' written'
+
+-- ---- one actor
+
+-- where serving has come to: the actors that there were, how many pauses had been made then, the actors now and the next of them
+pub record Stand : Type 0 where
+  pub before : List AnyActor
+  pub paused : ℕ
+  pub actors : List AnyActor
+  pub first : ℕ
+
+-- a run serves its actors, and this one is the next
+abbrev pub IsServingNext : Task → Space → Option (List ℕ) → Option (List Sight) → Stand → AnyActor → Bool → List Item → AbstractState → Type 0
+IsServingNext task space written seen stand actor served h g =
+    IsServing task space written seen stand.before stand.paused stand.actors stand.first served h g × (slice_get stand.actors stand.first ≡ Some actor)
+
+abbrev pub CanServeNext : Space → Option (List ℕ) → Option (List Sight) → AnyActor → Bool → Type 0
+CanServeNext space written seen actor served = (task : Task) × (stand : Stand) × (h : List Item) × (g : AbstractState) × IsServingNext task space written seen stand actor served h g
+
+-- in each such run it has been answered
+abbrev pub NextIsAnswered : Space → Option (List ℕ) → Option (List Sight) → AnyActor → Bool → Space → Option (List ℕ) → Option (List Sight) → AnyActor → Bool → Type 0
+NextIsAnswered space written seen actor served space' written' seen' actor' served' = (task : Task) (stand : Stand) (h : List Item) (g : AbstractState)
+    → IsServingNext task space written seen stand actor served h g
+    → (h' : List Item) × (g' : AbstractState) × IsServing task space' written' seen' stand.before stand.paused (slice_set stand.actors stand.first actor') (stand.first + 1) served' h' g'
+    × AnswersActor (stand.first + 1) actor actor' space space' served served' h h'
+
+-- each such run was cut off
+abbrev pub NextIsCutOff : Space → Option (List ℕ) → Option (List Sight) → AnyActor → Bool → Space → Option (List ℕ) → Type 0
+NextIsCutOff space written seen actor served space' written' = (task : Task) (stand : Stand) (h : List Item) (g : AbstractState)
+    → IsServingNext task space written seen stand actor served h g → WasCutOff task space' written'
+
+-- ---- all actors
+
+-- a run begins to serve its actors
+abbrev pub BeginsServing : Task → Space → Option (List ℕ) → Option (List Sight) → List AnyActor → List Item → AbstractState → Type 0
+BeginsServing task space written seen actors h g = IsServing task space written seen actors space.pauses actors 0 false h g
+
+abbrev pub CanServeAll : Space → Option (List ℕ) → Option (List Sight) → List AnyActor → Type 0
+CanServeAll space written seen actors = (task : Task) × (h : List Item) × (g : AbstractState) × BeginsServing task space written seen actors h g
+
+-- in each such run all were answered, in order of threads
+abbrev pub AllAreAnswered : Space → Option (List ℕ) → Option (List Sight) → List AnyActor → Space → Option (List ℕ) → Option (List Sight) → List AnyActor → Type 0
+AllAreAnswered space written seen actors space' written' seen' actors' = (task : Task) (h : List Item) (g : AbstractState) → BeginsServing task space written seen actors h g
+    → (served : Bool) × (h' : List Item) × (g' : AbstractState) × IsServing task space' written' seen' actors space.pauses actors' (length actors') served h' g'
+    × AnswersFirst actors space h (length actors') actors' space' served h'
+
+-- each such run was cut off
+abbrev pub AllAreCutOff : Space → Option (List ℕ) → Option (List Sight) → List AnyActor → Space → Option (List ℕ) → Type 0
+AllAreCutOff space written seen actors space' written' = (task : Task) (h : List Item) (g : AbstractState) → BeginsServing task space written seen actors h g → WasCutOff task space' written'

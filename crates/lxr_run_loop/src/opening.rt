@@ -1,0 +1,65 @@
+//! The opening of a run: the space and the threads, with all the memory that the run takes.
+ghost use Rattle.std.specs.Prelude.{◌≡◌, ℕ, ◌≤◌, [], IfOk, List, OnErr, Option, length};
+ghost use Rattle.lxr_layout.specs.Spaces.{AreLimits};
+ghost use Rattle.lxr_text_script.specs.Limits.{IsScript};
+ghost use Rattle.lxr_text_script.specs.Reading.{lists_in};
+ghost use Rattle.lxr_run_words.specs.CommandLines.{AreInRange};
+ghost use Rattle.lxr_run_watch.specs.Sights.{Sight};
+ghost use Rattle.lxr_run_loop.specs.Opening.{AreMade, IsOpenedRun};
+
+use lxr_core::AnyActor;
+use lxr_image::Space;
+use lxr_layout::Limits;
+use lxr_mutator::Mutator;
+use lxr_run_words::RunOptions;
+use lxr_text_script::Lists;
+use std::alloc::{AllocError, Global};
+
+/// The entries of the remembered set. Nothing is entered yet.
+const REMEMBER: u32 = 4096;
+
+/// A mutator for each thread of a script, in order.
+fn make_actors(
+    alloc: Global,
+    script: Lists,
+    limits: Limits,
+    every: u32,
+) -> Result<Vec<AnyActor>, AllocError>
+    requires script { IsScript (lists_in script) }
+    requires limits { AreLimits limits }
+    requires threads { limits.threads ≡ length script.items }
+    requires every { (1 ≤ every) × (every ≤ 1048576) }
+    ensures { IfOk result (λ actors. AreMade limits every (lists_in script) actors.items) }
+{
+    let mut actors = Vec::with_capacity(alloc, script.len())?;
+    for operations in script.into_vec() {
+        let thread = actors.len() as u8 + 1;
+        let mutator = Mutator::new(alloc, thread, operations, limits, every)?;
+        actors.push_reserved(AnyActor::Mutator(mutator));
+    }
+    Ok(actors)
+}
+
+/// Opens the space for the threads of a script, and makes their mutators, with room for all their replies and logs.
+pub fn open(
+    alloc: Global,
+    space: &mut Space,
+    options: RunOptions,
+    script: Lists,
+) -> Result<Vec<AnyActor>, AllocError>
+    requires empty { space.old.words ≡ [] }
+    requires options { AreInRange options }
+    requires script { IsScript (lists_in script) }
+    ensures opened { IfOk result (λ actors. (written : Option (List ℕ)) (seen : Option (List Sight)) → IsOpenedRun options (lists_in script) space.new written seen actors.items) }
+    ensures err { OnErr result (space.new.words ≡ []) }
+{
+    let limits = Limits {
+        blocks: options.blocks,
+        threads: script.len() as u8,
+        log: options.log,
+        remember: REMEMBER,
+    };
+    let actors = make_actors(alloc, script, limits, options.every)?;
+    space.open(alloc, limits)?;
+    Ok(actors)
+}

@@ -1,0 +1,40 @@
+-- Names put in order are the same names, each once.
+use Rattle.std.proofs.Common.{◌≡◌, refl, sym, ap, ◌∙◌, arith, List, [], IsTrue}
+use Rattle.std.specs.Prelude.{◌↔◌}
+use Rattle.lxr_layout.specs.declared.Name.{Name}
+use Rattle.lxr_base.specs.Roomy.{Roomy}
+use Rattle.lxr_graph.specs.Names.{AreInOrder, IsSetOf, has, union}
+use Rattle.lxr_graph.specs.State.{Graph}
+use Rattle.lxr_graph.proofs.NameSets.{has-union, in_order-none, in_order-union, one_list}
+use Rattle.lxr_model.specs.References.{references_from}
+use Rattle.lxr_model_counting.specs.Distinct.{IsDistinct}
+use Rattle.lxr_model_counting.proofs.BalanceLemmas.{references_union}
+use Rattle.lxr_invariant.proofs.NameLemmas.{or_nothing}
+use Rattle.lxr_run_pause.specs.Steps.{in_order}
+
+pub has_in_order : (ns : List Name) (n : Name) → has (union ns []) n ≡ has ns n
+has_in_order ns n = has-union ns [] n ∙ or_nothing (has ns n)
+
+pub are_in_order : (ns : List Name) → AreInOrder (union ns [])
+are_in_order ns = in_order-union ns [] in_order-none
+
+-- names that stand in order and are those of a list are that list put in order
+pub put_in_order : (before after : Roomy Name) → AreInOrder after.items → ((n : Name) → has after.items n ≡ has before.items n) → after.room ≡ before.room → after ≡ in_order before
+put_in_order before after sorted members room =
+    let same : (n : Name) → has after.items n ≡ has (union before.items []) n = λ n. members n ∙ sym (has_in_order before.items n) in
+    let items : after.items ≡ union before.items [] = one_list after.items (union before.items []) sorted (are_in_order before.items) (λ n. (λ h. sym (same n) ∙ h, λ h. same n ∙ h)) in
+    λ i. record { items = items i; room = room i }
+
+-- what a list of names has, the list put in order is the set of
+pub set_in_order : (ns : List Name) (P : Name → Type 0) → ((n : Name) → IsTrue (has ns n) ↔ P n) → IsSetOf (union ns []) P
+set_in_order ns P are = record {
+  in_order = are_in_order ns;
+  members = λ n. (λ h. (are n).0 (sym (has_in_order ns n) ∙ h), λ p. has_in_order ns n ∙ (are n).1 p);
+}
+
+-- the references from names are as many in any order
+pub references_in_order : (g : Graph) (ns : List Name) (o : Name) → IsDistinct ns → references_from g (union ns []) o ≡ references_from g ns o
+references_in_order g ns o once = let e = references_union g ns [] o once (λ n h. refl) in omega (arith, e)
+
+pub none_in_order : (ns : List Name) → ns ≡ [] → union ns [] ≡ []
+none_in_order ns e = ap (λ xs. union xs []) e

@@ -1,0 +1,49 @@
+-- What the small steps of a pause do: how its report begins, how its names are put in order, and how it is counted.
+use Rattle.std.specs.Prelude.{ℕ, ◌+◌, []}
+use Rattle.lxr_layout.specs.declared.Name.{Name}
+use Rattle.lxr_base.specs.Roomy.{Roomy, emptied}
+use Rattle.lxr_graph.specs.declared.report.Kind.TheVariants.{Plain}
+use Rattle.lxr_graph.specs.declared.report.Report.{Report}
+use Rattle.lxr_graph.specs.Names.{union}
+use Rattle.lxr_image.specs.declared.space.Space.{Space}
+use Rattle.lxr_graph.specs.Distinct.{IsDistinct}
+
+-- a report of a plain pause of this number, in which nothing is reported yet
+abbrev pub begun : Report → ℕ → Report
+begun r number = record {
+  number = number;
+  kind = Plain;
+  promoted = emptied r.promoted;
+  dead = emptied r.dead;
+  stuck = emptied r.stuck;
+  swept = emptied r.swept;
+  counts = emptied r.counts;
+}
+
+-- the space once the report of its next pause has begun
+abbrev pub with_report_begun : Space → Space
+with_report_begun s = record s { report = begun s.report (s.pauses + 1) }
+
+-- the same names in order, in the same room
+abbrev pub in_order : Roomy Name → Roomy Name
+in_order names = record names { items = union names.items [] }
+
+-- no list of a report has a name twice
+pub record HasDistinctNames (r : Report) : Type 0 where
+  pub promoted : IsDistinct r.promoted.items
+  pub dead : IsDistinct r.dead.items
+  pub stuck : IsDistinct r.stuck.items
+  pub swept : IsDistinct r.swept.items
+
+-- the report with the names of each list in order
+abbrev pub with_names_in_order : Report → Report
+with_names_in_order r = record r {
+  promoted = in_order r.promoted;
+  dead = in_order r.dead;
+  stuck = in_order r.stuck;
+  swept = in_order r.swept;
+}
+
+-- the space once its pause is counted
+abbrev pub with_pause_counted : Space → Space
+with_pause_counted s = record s { pauses = s.pauses + 1; tally = record s.tally { pauses = s.tally.pauses + 1 } }

@@ -1,0 +1,23 @@
+//! The counting of a pause, in its order.
+ghost use Rattle.lxr_invariant.specs.AbstractState.{AbstractState};
+ghost use Rattle.lxr_run_pause.specs.Pausing.{CanPause};
+ghost use Rattle.lxr_run_pause.specs.Settling.{Settles};
+
+use crate::report::begin_report;
+use lxr_image::Space;
+use lxr_pause_decrements::finish_decrements;
+use lxr_pause_increments::increments;
+use lxr_pause_queue::{defer_roots, queue_decrements};
+
+/// Begins the report, lowers the counts that wait, raises counts, queues what is to be lowered next, and defers what
+/// registers hold.
+pub(crate) fn settle_counts(space: &mut Space)
+    requires { (g : AbstractState) × CanPause space.old g }
+    ensures { (g : AbstractState) → CanPause space.old g → Settles space.old space.new g }
+{
+    begin_report(space);
+    finish_decrements(space);
+    increments(space);
+    queue_decrements(space);
+    defer_roots(space);
+}

@@ -1,0 +1,34 @@
+-- What the invariant of an epoch says of its replay: it can be made, and the epoch may be closed behind it.
+use Rattle.std.proofs.Common.{◌≡◌, Some, [], map, sym, ap, subst, ◌∙◌}
+use Rattle.std.specs.Prelude.{slice_get}
+use Rattle.lxr_actor.specs.declared.Core.{Core}
+use Rattle.lxr_actor.specs.declared.Event.TheVariants.{Step}
+use Rattle.lxr_actor.specs.Run.{run}
+use Rattle.lxr_image.specs.declared.space.Space.{Space}
+use Rattle.lxr_core_events.specs.EpochStates.{Beginning}
+use Rattle.lxr_core.specs.declared.actors.AnyActor.{AnyActor}
+use Rattle.lxr_core.specs.Actors.{any_machine}
+use Rattle.lxr_core.specs.Executions.{Execution, HoldsExecution}
+use Rattle.lxr_core.proofs.ExecutionLemmas.{epoch_invariant_holds}
+use Rattle.lxr_mutator.specs.Mutating.{rests_in}
+use Rattle.lxr_run_replay.specs.Replaying.{CanBeReplayed, ReplaysMayClose}
+
+-- the core of an execution of which the invariant holds can be replayed
+pub can_be_replayed : (b : Beginning) (execution : Execution) → HoldsExecution b execution → CanBeReplayed execution.core
+can_be_replayed b execution holds = record {
+  fits = (epoch_invariant_holds b execution [] holds).fits;
+  mutators = λ schedule i a at.
+      let on = epoch_invariant_holds b execution schedule holds in
+      (on.holds.1.mutators i a (subst (λ (core : Core AnyActor). slice_get core.actors i ≡ Some a) (sym on.core) at)).sound;
+}
+
+-- behind its replay the epoch may be closed
+pub may_close : ReplaysMayClose
+may_close b execution schedule before after actors actors' has =
+    let on = epoch_invariant_holds b execution (map Step schedule) has.holds in
+    record {
+      holds = on.holds;
+      core = on.core ∙ (ap (λ (core : Core AnyActor). run any_machine core (map Step schedule)) has.core ∙ sym has.replayed);
+      space_is = has.rest ∙ ap (λ (s : Space). record s { words = after.words }) has.space_is;
+      resting = λ i a there. ap rests_in (has.finished i a there);
+    }

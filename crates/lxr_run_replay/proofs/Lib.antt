@@ -1,0 +1,7 @@
+pub mod WorkLemmas
+pub mod NumberLemmas
+pub mod PickLemmas
+pub mod TurnLemmas
+pub mod ReplayLemmas
+pub mod ShiftLemmas
+pub mod ClosingLemmas

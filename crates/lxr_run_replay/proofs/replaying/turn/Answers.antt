@@ -1,0 +1,50 @@
+use Rattle.std.proofs.Common.{length, refl, sym, subst, ap, ◌∙◌}
+use Rattle.std.proofs.lemmas.Option.{slice_get_read}
+use Rattle.lxr_actor.specs.Machine.{Fits}
+use Rattle.lxr_actor.specs.Run.{stepped}
+use Rattle.lxr_core.specs.declared.actors.AnyActor.{AnyActor}
+use Rattle.lxr_core.specs.Actors.{any_machine}
+use Rattle.lxr_run_replay.proofs.TurnLemmas.{after_turn, left_out, left_so, picked_there, picked_within}
+use Rattle.lxr_run_replay.proofs.replaying.turn.Goals as goal
+
+pub bounds-actors-number : goal.bounds-actors-number
+bounds-actors-number g c =
+    picked_within c.draw.new.x c.args.actors.now c.from-number.result
+    (picked_there c.draw.new.x c.args.actors.now c.args.numbers.now c.draw.result c.len.result c.at.result c.from-number.result c.requires.numbers c.draw.ensures.drawn c.len.ensures c.at.ensures c.from-number.ensures)
+
+pub advance-requires-after_bounds : goal.advance-requires-after_bounds
+advance-requires-after_bounds g c κs lives =
+    let within = picked_within c.draw.new.x c.args.actors.now c.from-number.result
+    (picked_there c.draw.new.x c.args.actors.now c.args.numbers.now c.draw.result c.len.result c.at.result c.from-number.result c.requires.numbers c.draw.ensures.drawn c.len.ensures c.at.ensures c.from-number.ensures) in
+    let at = slice_get_read c.args.actors.now (length c.args.actors.now) _ c.index-actors-number.result refl within c.index-actors-number.is in
+    subst (λ (a : AnyActor). Fits any_machine c.args.words.now a) c.index-actors-number.is (c.requires.fits c.from-number.result c.index-actors-number.result at)
+
+pub returns-then-not-advance-clause-step : goal.returns-then-not-advance-clause-step
+returns-then-not-advance-clause-step g c =
+    let picked = picked_there c.draw.new.x c.args.actors.now c.args.numbers.now c.draw.result c.len.result c.at.result c.from-number.result c.requires.numbers c.draw.ensures.drawn c.len.ensures c.at.ensures c.from-number.ensures in
+    let within = picked_within c.draw.new.x c.args.actors.now c.from-number.result picked in
+    let at = slice_get_read c.args.actors.now (length c.args.actors.now) _ c.index-actors-number.result refl within c.index-actors-number.is in (
+      c.from-number.result,
+      picked,
+      after_turn c.args.words.now c.args.actors.now c.from-number.result c.index-actors-number.result c.advance.new.words c.advance.new.actor at
+          (c.advance.ensures.done ∙ ap (stepped any_machine c.args.words.now) (sym c.index-actors-number.is)),
+    )
+
+pub returns-else-not-advance-clause-step : goal.returns-else-not-advance-clause-step
+returns-else-not-advance-clause-step g c =
+    let picked = picked_there c.draw.new.x c.args.actors.now c.args.numbers.now c.draw.result c.len.result c.at.result c.from-number.result c.requires.numbers c.draw.ensures.drawn c.len.ensures c.at.ensures c.from-number.ensures in
+    let within = picked_within c.draw.new.x c.args.actors.now c.from-number.result picked in
+    let at = slice_get_read c.args.actors.now (length c.args.actors.now) _ c.index-actors-number.result refl within c.index-actors-number.is in (
+      c.from-number.result,
+      picked,
+      after_turn c.args.words.now c.args.actors.now c.from-number.result c.index-actors-number.result c.advance.new.words c.advance.new.actor at
+          (c.advance.ensures.done ∙ ap (stepped any_machine c.args.words.now) (sym c.index-actors-number.is)),
+    )
+
+pub returns-then-not-advance-clause-numbers : goal.returns-then-not-advance-clause-numbers
+returns-then-not-advance-clause-numbers g c =
+    c.remove.ensures ∙ left_out c.args.actors.now c.args.numbers.now _ c.at.result c.from-number.result c.advance.new.actor c.requires.numbers c.at.ensures c.from-number.ensures (sym c.advance.ensures.goes_on ∙ c.if-not-advance.true)
+
+pub returns-else-not-advance-clause-numbers : goal.returns-else-not-advance-clause-numbers
+returns-else-not-advance-clause-numbers g c =
+    left_so c.args.actors.now c.args.numbers.now _ c.at.result c.from-number.result c.advance.new.actor c.requires.numbers c.at.ensures c.from-number.ensures (sym c.advance.ensures.goes_on ∙ c.if-not-advance.false)

@@ -1,0 +1,58 @@
+-- What a replay of an epoch does: a generator of numbers picks who makes each step.
+use Rattle.std.specs.Prelude.{◌≡◌, ℕ, ◌+◌, ◌%◌, Bool, if◌then◌else◌, Some, is_some, List, [], ◌∷◌, length, map, slice_get}
+use Rattle.lxr_base.specs.Draws.{draw, step}
+use Rattle.lxr_actor.specs.declared.Core.{Core}
+use Rattle.lxr_actor.specs.declared.Event.{Event}
+use Rattle.lxr_actor.specs.declared.Event.TheVariants.{Step}
+use Rattle.lxr_actor.specs.Run.{AlwaysFits, core_of, event, run}
+use Rattle.lxr_image.specs.declared.space.Space.{Space}
+use Rattle.lxr_mutator.specs.Mutators.{IsMutator}
+use Rattle.lxr_core_events.specs.EpochStates.{Beginning}
+use Rattle.lxr_core.specs.declared.actors.AnyActor.{AnyActor}
+use Rattle.lxr_core.specs.Actors.{any_machine, mutator_in}
+use Rattle.lxr_core.specs.Executions.{HoldsExecution, Execution, tell_all}
+use Rattle.lxr_core.specs.Closing.{AreFinished, MayClose}
+
+-- it has a next action
+abbrev pub acts : AnyActor → Bool
+acts a = is_some (any_machine.action a)
+
+-- the numbers, from this one on, of those actors that have a next action
+abbrev pub unfinished_from : ℕ → List AnyActor → List ℕ
+unfinished_from number [] = []
+unfinished_from number (a ∷ actors) = if acts a then number ∷ unfinished_from (number + 1) actors else unfinished_from (number + 1) actors
+
+-- the numbers of the actors that have a next action, in order
+abbrev pub unfinished : List AnyActor → List ℕ
+unfinished actors = unfinished_from 0 actors
+
+-- the generator, which has come to x, picks the actor of this number: among those that have a next action it stands at the
+-- place, from 0, that is the draw modulo how many these are
+abbrev pub IsPicked : ℕ → List AnyActor → ℕ → Type 0
+IsPicked x actors number = slice_get (unfinished actors) (draw x % length (unfinished actors)) ≡ Some number
+
+-- The replay from a generator's x: while some actor has a next action, x makes a step, and the actor that it picks then makes
+-- its next one. These are the numbers of those that were picked, and x comes to x'.
+abbrev pub Replays : ℕ → Core AnyActor → List ℕ → ℕ → Type 0
+Replays x core [] x' = (unfinished core.actors ≡ []) × (x ≡ x')
+Replays x core (number ∷ numbers) x' = IsPicked (step x) core.actors number × Replays (step x) (event any_machine core (Step number)) numbers x'
+
+-- whatever the schedule, each next step fits, and the actors are mutators
+pub record CanBeReplayed (core : Core AnyActor) : Type 0 where
+  pub fits : AlwaysFits any_machine core
+  pub mutators : (schedule : List Event) (i : ℕ) (a : AnyActor) → slice_get (run any_machine core schedule).actors i ≡ Some a → IsMutator (mutator_in a)
+
+-- The execution has led to words and actors of a space of this beginning, and a schedule has gone on from there until all actors
+-- are through; of the space only the words have changed.
+pub record HasReplayed (b : Beginning) (execution : Execution) (schedule : List ℕ) (before after : Space) (actors actors' : List AnyActor) : Type 0 where
+  pub holds : HoldsExecution b execution
+  pub core : execution.core ≡ core_of before.words actors
+  pub space_is : before ≡ record b.space { words = before.words }
+  pub replayed : core_of after.words actors' ≡ run any_machine (core_of before.words actors) (map Step schedule)
+  pub finished : AreFinished actors'
+  pub rest : after ≡ record before { words = after.words }
+
+-- then the epoch may be closed, with the execution that the schedule has told
+abbrev pub ReplaysMayClose : Type 0
+ReplaysMayClose = (b : Beginning) (execution : Execution) (schedule : List ℕ) (before after : Space) (actors actors' : List AnyActor)
+    → HasReplayed b execution schedule before after actors actors' → MayClose b (tell_all b execution (map Step schedule)) after actors'

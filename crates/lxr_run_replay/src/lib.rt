@@ -1,0 +1,28 @@
+//! The replay of an epoch on one thread, by the draws of a generator.
+//!
+//! While some actor has a next action, a draw picks one of those that have one, and it makes a single atomic step. So a
+//! number determines the schedule, and the same number gives the same run again. What is proved is that the replay ends
+//! with all actors finished, and that its words and actors are those of the fold over the schedule that the generator
+//! picks.
+#![tactic(auto)]
+
+mod gates;
+mod numbers;
+mod replaying;
+
+ghost use Rattle.lxr_core_events.specs.EpochStates.{Beginning};
+ghost use Rattle.lxr_core.specs.Executions.{HoldsExecution, Execution};
+ghost use Rattle.lxr_run_replay.specs.Replaying.{CanBeReplayed, ReplaysMayClose};
+
+pub use gates::{Gate, Open};
+pub use replaying::replay_epoch;
+
+/// The core of each execution of which the invariant of its epoch holds can be replayed.
+pub fn executions_can_be_replayed()
+    ensures { (b : Beginning) (execution : Execution) → HoldsExecution b execution → CanBeReplayed execution.core }
+{}
+
+/// Where an epoch was replayed, it may be closed: its execution has gone on by the schedule.
+pub fn replays_may_close()
+    ensures { ReplaysMayClose }
+{}

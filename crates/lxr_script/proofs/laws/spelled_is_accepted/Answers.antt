@@ -1,5 +1,0 @@
-use Rattle.lxr_script.proofs.Spelled.{text_taken}
-use Rattle.lxr_script.proofs.laws.spelled_is_accepted.Goals as goal
-
-pub returns : goal.returns
-returns c = text_taken

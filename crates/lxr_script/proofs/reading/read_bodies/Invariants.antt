@@ -1,6 +1,0 @@
-use Rattle.std.proofs.Common.{map}
-use Rattle.lxr_script.proofs.Loops.{ThreadsOn}
-use Rattle.lxr_script.proofs.reading.read_bodies.Given as goal
-
-abbrev pub invariant-loop-done : goal.invariant-loop-done
-invariant-loop-done l = ThreadsOn l.initial.lines l.lines l.count l.done (map (λ operations. operations.items) l.bodies.items)

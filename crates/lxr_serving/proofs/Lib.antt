@@ -1,5 +1,0 @@
-pub mod PlacingLemmas
-pub mod StateLemmas
-pub mod NewLemmas
-pub mod ServingLemmas
-pub mod OpeningLemmas

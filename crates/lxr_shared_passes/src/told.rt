@@ -1,0 +1,63 @@
+//! Offers to a pass's actor and what it gives up, each at one load of word 0, so that they stand in the schedule.
+ghost use Rattle.std.specs.Prelude.{◌≡◌, ◌<◌, []};
+ghost use Rattle.lxr_actor.specs.declared.Event.TheVariants.{Give, Out};
+ghost use Rattle.lxr_shared_passes.specs.Rule.{one, seen_in, TakesOffer, GivesUp};
+ghost use Rattle.lxr_shared_passes.specs.Passing.{IsSamePass, Told};
+
+use crate::pass::{Epoch, Pass};
+use crate::rule::{Given, Offering, Spared, View};
+use atomic_table::Seat;
+use lxr_actor::Actor;
+use lxr_layout::Place;
+use std::marker::Brand;
+
+impl<A: Actor> Pass<A> {
+    /// Offers the actor a place. Whether it took the place.
+    pub fn offer(&mut self, epoch: &Epoch<A>, place: Place) -> bool
+        requires { self.old.epoch ≡ epoch.now.id }
+        ensures pass { IsSamePass self.old self.new }
+        ensures answer { (self.new.actor, result) ≡ A.machine.offered self.old.actor place }
+        ensures event { Told A.machine self.old (Give self.old.number place) self.new }
+    {
+        say_given::<A, Brand>(epoch, &mut self.seat, self.number, &self.actor, place);
+        self.actor.offer(place)
+    }
+
+    /// Takes one of the actor's places out, if it has one.
+    pub fn surplus(&mut self, epoch: &Epoch<A>) -> Option<Place>
+        requires { self.old.epoch ≡ epoch.now.id }
+        ensures pass { IsSamePass self.old self.new }
+        ensures answer { (self.new.actor, result) ≡ A.machine.spared self.old.actor }
+        ensures event { Told A.machine self.old (Out self.old.number) self.new }
+    {
+        say_spared(epoch, &mut self.seat, self.number, &self.actor);
+        self.actor.surplus()
+    }
+}
+
+/// Notes at the table that the actor is offered a place.
+fn say_given<A: Actor, O: Offering>(
+    epoch: &Epoch<A>,
+    seat: &mut Seat<(), View<A>>,
+    number: usize,
+    actor: &A,
+    place: Place,
+)
+    requires epoch { (seat.old.table_id ≡ epoch.now.id) × (0 < seat.old.table_id.words) }
+    requires holds { seat.old.me ≡ (one seat.old.me.0.core number actor.now (seen_in seat.old.me.0), []) }
+    requires place { place ≡ O.place }
+    ensures seat { (seat.new.table_id ≡ seat.old.table_id) × (seat.new.me.1 ≡ []) }
+    ensures told { TakesOffer A.machine place seat.old.me.0 seat.new.me.0 }
+{
+    epoch.table.shared.load::<Given<A, O>>(seat, 0);
+}
+
+/// Notes at the table that the actor gives up a place.
+fn say_spared<A: Actor>(epoch: &Epoch<A>, seat: &mut Seat<(), View<A>>, number: usize, actor: &A)
+    requires epoch { (seat.old.table_id ≡ epoch.now.id) × (0 < seat.old.table_id.words) }
+    requires holds { seat.old.me ≡ (one seat.old.me.0.core number actor.now (seen_in seat.old.me.0), []) }
+    ensures seat { (seat.new.table_id ≡ seat.old.table_id) × (seat.new.me.1 ≡ []) }
+    ensures told { GivesUp A.machine seat.old.me.0 seat.new.me.0 }
+{
+    epoch.table.shared.load::<Spared<A>>(seat, 0);
+}

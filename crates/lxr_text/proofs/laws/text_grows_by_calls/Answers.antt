@@ -1,5 +1,0 @@
-use Rattle.lxr_text.proofs.HistoryLemmas.{grows_by_calls}
-use Rattle.lxr_text.proofs.laws.text_grows_by_calls.Goals as goal
-
-pub returns : goal.returns
-returns c = grows_by_calls

@@ -1,0 +1,41 @@
+use Rattle.std.proofs.Common.{arith}
+use Rattle.std.specs.List.{zip}
+use Rattle.std.proofs.lemmas.Result.{on_err_weaker, on_ok_weaker}
+use Rattle.std.proofs.lemmas.Slice.Zip.{length-zip}
+use Rattle.lxr_graph.specs.declared.Op.{Op}
+use Rattle.lxr_graph.specs.declared.Reply.{Reply}
+use Rattle.lxr_text_print.specs.Replies.{call_text, heading_text}
+use Rattle.lxr_text_print.proofs.PageLemmas.{Appends-moved, AppendsFront-moved, OnErr-always}
+use Rattle.lxr_text_print.proofs.TextLemmas.{AppendsFront-items, Moves-call, Moves-items}
+use Rattle.lxr_text_print.proofs.replies.print_replies.Goals as goal
+
+pub returns-in_err-make_room-clause-err : goal.returns-in_err-make_room-clause-err
+returns-in_err-make_room-clause-err g c =
+    OnErr-always _ (AppendsFront-items (heading_text c.args.thread) (λ (x : Op × Reply). call_text x.0 x.1) (zip c.args.operations.now.items c.args.replies.now.items) c.loop-i.i c.loop-i.invariant.moved c.in_err-make_room.ensures.err)
+
+pub loop-i-preserved : goal.loop-i-preserved
+loop-i-preserved g c =
+    let os = c.args.operations.now.items in
+    let rs = c.args.replies.now.items in
+    let below = c.loop-i-test.true in
+    record {
+      moved = Moves-call (heading_text c.args.thread) os rs c.loop-i.i _ _ (omega (arith, c.len-i-end.ensures)) (omega (arith, c.len-i-end.ensures, c.requires.replied))
+          c.loop-i.invariant.moved c.in_ok-make_room.ensures.ok (rw (c.as_slice.ensures, c.as_slice-in-loop-i.ensures) at c.push_call.ensures);
+      faults = omega (arith, c.in_ok-make_room.ensures.faults);
+    }
+
+pub returns-clause-ok : goal.returns-clause-ok
+returns-clause-ok g c =
+    let os = c.args.operations.now.items in
+    let rs = c.args.replies.now.items in
+    let all = Moves-items (heading_text c.args.thread) (λ (x : Op × Reply). call_text x.0 x.1) (zip os rs) c.loop-i.i
+    (omega (arith, length-zip os rs, c.len-i-end.ensures)) c.loop-i.invariant.moved in
+    on_ok_weaker c.flush.result (Appends-moved all) c.flush.ensures.ok
+
+pub returns-clause-err : goal.returns-clause-err
+returns-clause-err g c =
+    let os = c.args.operations.now.items in
+    let rs = c.args.replies.now.items in
+    let all = Moves-items (heading_text c.args.thread) (λ (x : Op × Reply). call_text x.0 x.1) (zip os rs) c.loop-i.i
+    (omega (arith, length-zip os rs, c.len-i-end.ensures)) c.loop-i.invariant.moved in
+    on_err_weaker c.flush.result (AppendsFront-moved all) c.flush.ensures.err

@@ -1,0 +1,14 @@
+//! The printed texts: the replies of a thread, the report of a pause, the summary of a run. Each is defined byte for
+//! byte in `specs/`, and written to a sink in large pieces. After an error a front of the text is written.
+#![tactic(auto)]
+
+mod laws;
+mod pages;
+mod pauses;
+mod replies;
+mod summary;
+
+pub use laws::{text_grows_by_calls, text_is_of_operations};
+pub use pauses::print_pause;
+pub use replies::print_replies;
+pub use summary::{Sums, print_summary};

@@ -1,0 +1,117 @@
+//! Masks of free lines, by hand and against a test of line after line.
+ghost use Rattle.std.specs.Prelude.{◌≡◌, ◌*◌, ◌<◌, ◌≤◌};
+ghost use Rattle.lxr_layout.specs.declared.TheConstants.{LINES_IN_BLOCK};
+ghost use Rattle.lxr_image.specs.Spaces.{IsSpace};
+
+use crate::spaces::opened;
+use lxr_base::draw;
+use lxr_blocks::{free_mask, place_now};
+use lxr_image::Space;
+use lxr_layout::{GRANULES_IN_BLOCK, GRANULES_IN_LINE, LINES_IN_BLOCK, Name, Place, Shape};
+use lxr_sweep::zero_lines;
+
+/// The world has three lines. The two that an object takes behind it are free no more.
+#[test]
+fn masks_of_an_opened_space(rt: HostRuntime) {
+    let mut space = opened(&rt, rt.alloc(), 2);
+    let world = free_mask(&space, 0);
+    assert!(rt; world == u128::MAX - 7);
+    assert!(rt; free_mask(&space, 1) == u128::MAX);
+    let shape = Shape {
+        refs: 0,
+        values: 63,
+    };
+    let name = Name {
+        thread: 1,
+        serial: 1,
+    };
+    assert!(rt; place_now(&mut space, name, shape) == Some(Place(49)));
+    assert!(rt; free_mask(&space, 0) == u128::MAX - 31);
+}
+
+/// Words of which only those from one index up to another are 0.
+fn zero_between(first: usize, end: usize) -> [u32; 128]
+    requires first { first ≤ end }
+    requires end { end ≤ LINES_IN_BLOCK }
+{
+    let mut words = [1 << 30; 128];
+    words[first..end].fill(0);
+    words
+}
+
+/// Each bit is that of its own word.
+#[test]
+fn lines_whose_words_are_zero(rt: HostRuntime) {
+    for (first, end, zeros) in [
+        (1, 127, (1_u128 << 127) - 2),
+        (0, 128, u128::MAX),
+        (0, 0, 0),
+        (63, 65, 3 << 63),
+        (127, 128, 1_u128 << 127),
+    ] {
+        assert!(rt;
+            zero_lines(&zero_between(first, end)) == zeros,
+            "zeros from {first} to {end}"
+        );
+    }
+}
+
+/// Whether a line, counted over the whole heap, is free, by a look at each of its counts.
+fn is_free(space: &Space, line: u32) -> bool
+    requires space { IsSpace space.now }
+    requires line { line < LINES_IN_BLOCK * space.now.limits.blocks }
+{
+    for granule in GRANULES_IN_LINE * line..GRANULES_IN_LINE * (line + 1) {
+        if space.count(granule) != 0 {
+            return false;
+        }
+    }
+    !space.has_out(line)
+}
+
+/// The free lines of a block, one after another.
+fn plain_mask(space: &Space, block: u32) -> u128
+    requires space { IsSpace space.now }
+    requires block { block < space.now.limits.blocks }
+{
+    let mut mask = 0;
+    for line in 0..LINES_IN_BLOCK {
+        if is_free(space, LINES_IN_BLOCK * block + line) {
+            mask |= 1_u128 << line;
+        }
+    }
+    mask
+}
+
+/// Writes a count and an out bit of block 1 that are drawn.
+fn change(space: &mut Space, state: &mut u64)
+    requires space { IsSpace space.old }
+    requires blocks { space.old.limits.blocks ≡ 2 }
+    ensures space { IsSpace space.new }
+    ensures blocks { space.new.limits.blocks ≡ 2 }
+{
+    let granule = GRANULES_IN_BLOCK + draw(state) % GRANULES_IN_BLOCK;
+    let count = draw(state) % 4;
+    space.set_count(granule, count as u8);
+    let line = LINES_IN_BLOCK + draw(state) % LINES_IN_BLOCK;
+    if draw(state) % 4 == 0 {
+        space.set_out(line);
+    } else {
+        space.clear_out(line);
+    }
+}
+
+/// The mask of a block tells the same as a test of line after line, over 10,000 blocks each of which has a count and an
+/// out bit that the one before it had not.
+#[test]
+fn masks_of_drawn_blocks(rt: HostRuntime) {
+    let mut space = opened(&rt, rt.alloc(), 2);
+    let mut state = 1;
+    for block in 0..10_000_u32 {
+        change(&mut space, &mut state);
+        assert!(rt;
+            free_mask(&space, 1) == plain_mask(&space, 1),
+            "block {block}"
+        );
+    }
+}
