@@ -1,8 +1,9 @@
 //! How long a pause takes, by what there is to do at it.
 //!
 //! A run does work on a list of objects that the world holds, and pauses after each piece of work. `--time` prints the
-//! microseconds of each pause, the least of several runs, for lists of several lengths and heaps of several sizes. With no
-//! word the program does one short run and prints what its pauses found, which is always the same.
+//! microseconds of each pause, the least of several runs, for lists of several lengths and heaps of several sizes; and for a list
+//! that dies before decrementers had time to work and after they had. With no word the program does two short runs and prints what
+//! their pauses found, which is always the same.
 #![tactic(auto)]
 
 mod watch;
@@ -32,6 +33,19 @@ const BUSY: [Work; 7] = [
     Work::Nothing,
 ];
 
+/// A list in the order of its objects, which dies before decrementers had time, and after they had.
+const KILLED: [Work; 3] = [Work::Promote, Work::LetGo, Work::Kill];
+
+const HELPED: [Work; 3] = [Work::Promote, Work::LetGo, Work::Help(300_000)];
+
+/// The same for a list whose neighbours lie far apart.
+const KILLED_FAR: [Work; 3] = [Work::Scatter, Work::LetGo, Work::Kill];
+
+const HELPED_FAR: [Work; 3] = [Work::Scatter, Work::LetGo, Work::Help(300_000)];
+
+/// A short one, for which decrementers have more than enough time.
+const SHORT: [Work; 3] = [Work::Scatter, Work::LetGo, Work::Help(100)];
+
 /// A run: so many blocks, and a list of so many objects on which this work is done.
 #[derive(Clone, Copy)]
 struct Run {
@@ -46,6 +60,15 @@ fn busy(blocks: &'static str, objects: u32) -> Run {
         blocks,
         objects,
         works: &BUSY,
+    }
+}
+
+/// A run in which a list of 100,000 objects dies.
+fn dying(blocks: &'static str, works: &'static [Work]) -> Run {
+    Run {
+        blocks,
+        objects: 100_000,
+        works,
     }
 }
 
@@ -66,15 +89,23 @@ fn main(rt: HostRuntime) -> Result<()> {
     if timed {
         time_all(&rt)
     } else {
-        tell(&rt, busy("1", 10))
+        tell(&rt, busy("1", 10))?;
+        tell(
+            &rt,
+            Run {
+                blocks: "4",
+                objects: 10,
+                works: &SHORT,
+            },
+        )
     }
 }
 
 /// Times all runs, and prints a table with a line for each pause.
 fn time_all<R: AllocGlobal + Clock + Print + Threads + Sync>(rt: &R) -> Result<()> {
     println!(rt;
-        "{:<8} {:>6} {:>8} {:>14} {:>16}",
-        "work", "blocks", "objects", "microseconds", "nanoseconds each"
+        "{:<8} {:>6} {:>8} {:>14} {:>16} {:>16}",
+        "work", "blocks", "objects", "microseconds", "nanoseconds each", "thread's steps"
     )?;
     for run in [
         idle("1"),
@@ -85,6 +116,10 @@ fn time_all<R: AllocGlobal + Clock + Print + Threads + Sync>(rt: &R) -> Result<(
         busy("64", 10_000),
         busy("64", 100_000),
         busy("1024", 100_000),
+        dying("1024", &KILLED),
+        dying("1024", &HELPED),
+        dying("1024", &KILLED_FAR),
+        dying("1024", &HELPED_FAR),
     ] {
         time(rt, run)?;
     }
@@ -127,8 +162,12 @@ fn print_time(rt: &impl Print, run: Run, work: Work, nanos: u128) -> Result<()> 
         run.blocks, run.objects
     )?;
     match work.units(run.objects) {
-        0 => println!(rt; "")?,
-        units => println!(rt; " {:>16}", nanos / u128::from(units))?,
+        0 => (),
+        units => print!(rt; " {:>16}", nanos / u128::from(units))?,
+    }
+    match work.steps() {
+        None => println!(rt; "")?,
+        Some(steps) => println!(rt; " {steps:>16}")?,
     }
     Ok(())
 }

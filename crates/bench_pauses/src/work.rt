@@ -4,6 +4,13 @@ use std::alloc::{AllocError, Global};
 /// The most fields that a log of 65,536 entries takes between two pauses.
 const MOST_LOGGED: u32 = 65_536;
 
+/// The references of an object of the greatest size, which holds scattered objects until they are linked.
+const ROW: u32 = 1_023;
+
+/// How far apart in the heap, counted in objects, the neighbours of a scattered list lie. It has no divisor in common with the
+/// lengths of the lists, so that each object comes up once.
+const STRIDE: u64 = 40_503;
+
 /// What the pause finds to do.
 #[derive(Clone, Copy)]
 pub(crate) enum Work {
@@ -17,8 +24,12 @@ pub(crate) enum Work {
     Lower,
     /// The world let go of the list.
     LetGo,
-    /// The list dies, one pause after it was let go.
+    /// The list dies, one pause after it was let go, and decrementers had no time.
     Kill,
+    /// The list dies, and decrementers had the time of so many operations of the thread, of three steps each.
+    Help(u32),
+    /// A list whose objects lie in no order is held by the world: each takes a line.
+    Scatter,
 }
 
 impl Work {
@@ -30,6 +41,8 @@ impl Work {
             Work::Lower => "lower",
             Work::LetGo => "let go",
             Work::Kill => "kill",
+            Work::Help(_) => "help",
+            Work::Scatter => "scatter",
         }
     }
 
@@ -37,9 +50,18 @@ impl Work {
     pub(crate) fn units(self, objects: u32) -> u32 {
         match self {
             Work::Nothing => 0,
-            Work::Promote | Work::Kill => objects,
+            Work::Promote | Work::Kill | Work::Help(_) | Work::Scatter => objects,
             Work::Log | Work::Lower => objects.min(MOST_LOGGED),
             Work::LetGo => 1,
+        }
+    }
+
+    /// How many steps the thread makes between the pause before and this one, where that is of interest.
+    pub(crate) fn steps(self) -> Option<u32> {
+        match self {
+            Work::Kill => Some(2),
+            Work::Help(operations) => Some(operations.saturating_mul(3).saturating_add(2)),
+            _ => None,
         }
     }
 
@@ -50,6 +72,8 @@ impl Work {
             Work::Promote => write_promote(script, objects),
             Work::Log => write_log(script, self.units(objects)),
             Work::LetGo => script.push_str("store r0 0 r1\n"),
+            Work::Help(operations) => write_help(script, operations),
+            Work::Scatter => write_scatter(script, objects),
         }
     }
 }
@@ -60,6 +84,46 @@ fn write_promote(script: &mut String, objects: u32) -> Result<(), AllocError> {
         script.push_str("new r2 1 0\nstore r2 0 r1\nmove r1 r2\n")?;
     }
     script.push_str("store r0 0 r1\nnil r1\nnil r2\n")
+}
+
+/// Makes so many objects of a line each, links them to a list in an order in which neighbours lie far apart, and leaves it to the
+/// world.
+fn write_scatter(script: &mut String, objects: u32) -> Result<(), AllocError> {
+    script.push_str("new r1 1023 0\n")?;
+    for object in 0..objects {
+        write_scattered(script, object)?;
+    }
+    for place in 0..u64::from(objects) {
+        let object = place * STRIDE % u64::from(objects);
+        write_link(script, object as u32)?;
+    }
+    script.push_str("store r0 0 r4\nnil r1\nnil r2\nnil r3\nnil r4\n")
+}
+
+/// Makes an object and holds it in its row.
+fn write_scattered(script: &mut String, object: u32) -> Result<(), AllocError> {
+    let (row, index) = (object / ROW, object % ROW);
+    if index == 0 {
+        write!(script, "new r2 1023 0\nstore r1 {row} r2\n")?;
+    }
+    write!(script, "new r3 1 30\nstore r2 {index} r3\n")
+}
+
+/// Puts an object before the list so far.
+fn write_link(script: &mut String, object: u32) -> Result<(), AllocError> {
+    let (row, index) = (object / ROW, object % ROW);
+    write!(
+        script,
+        "load r2 r1 {row}\nload r3 r2 {index}\nstore r3 0 r4\nmove r4 r3\n"
+    )
+}
+
+/// Goes on for so many operations of three steps each.
+fn write_help(script: &mut String, operations: u32) -> Result<(), AllocError> {
+    for _ in 0..operations {
+        script.push_str("load r2 r0 1\n")?;
+    }
+    Ok(())
 }
 
 /// Stores into so many objects of the list what is there already.

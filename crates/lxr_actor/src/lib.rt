@@ -142,6 +142,7 @@ pub fn step<A: Actor>(words: &mut PlainWords, actor: &mut A) -> bool
     requires { Fits A.machine words.old actor.old }
     ensures told { IsTrue result ↔ IsSome (A.machine.action actor.old) }
     ensures done { (words.new, actor.new) ≡ stepped A.machine words.old actor.old }
+    ensures nearer { IsSome (A.machine.action actor.old) → to_go A.machine actor.new < A.machine.left actor.old }
 {
     let Some(action) = actor.next() else {
         return false;

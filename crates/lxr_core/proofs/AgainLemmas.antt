@@ -1,14 +1,17 @@
 -- Actors that begin again, one after another.
-use Rattle.std.proofs.Common.{◌≡◌, ℕ, ◌+◌, ◌*◌, ◌<◌, refl, sym, ap, ◌∙◌, inl, inr, arith, List, length, length-set}
+use Rattle.std.proofs.Common.{◌≡◌, ℕ, ◌+◌, ◌*◌, ◌<◌, ◌≤◌, refl, sym, ap, ◌∙◌, inl, inr, arith, List, length, length-set}
 use Rattle.std.specs.Prelude.{All, Some, slice_get, slice_set, slice_index_or, drop}
 use Rattle.std.proofs.lemmas.List.Elements.{All-drop, All-take}
 use Rattle.std.proofs.lemmas.Bool.Decides.{eqb_tells}
-use Rattle.std.proofs.lemmas.Option.{slice_get-get_or}
+use Rattle.std.proofs.lemmas.Option.{slice_get-get_or, slice_get_within}
 use Rattle.lxr_layout.specs.declared.Place.{Place}
 use Rattle.lxr_actor.proofs.Runs.{slice_get-set_other, slice_get-set_same}
 use Rattle.lxr_mutator.specs.Mutators.{IsHeld}
 use Rattle.lxr_core.specs.declared.actors.AnyActor.{AnyActor}
-use Rattle.lxr_core.specs.Starting.{HaveStarted, MayAllStart, MayStart, registers_in, started_again}
+use Rattle.lxr_core.specs.declared.actors.AnyActor.TheVariants as any
+use Rattle.lxr_core.specs.Actors.{AreInOrder, mutators_in}
+use Rattle.lxr_core.proofs.OrderLemmas.{mutator_at}
+use Rattle.lxr_core.specs.Starting.{HasRegisters, HaveStarted, MayAllStart, MayStart, registers_in, started_again}
 
 -- at first none has
 pub none_started : (places : List Place) (before : List AnyActor) → HaveStarted places before before 0
@@ -26,6 +29,18 @@ next_before places before after n d is less =
 pub next_may : (places : List Place) (before after : List AnyActor) (n : ℕ) (d : AnyActor) → HaveStarted places before after n → n < length before → MayAllStart before
     → MayStart (slice_index_or after n d)
 next_may places before after n d is less may = may n (slice_index_or after n d) (next_before places before after n d is less)
+
+-- and its registers are there
+registers_at : (places : List Place) (actors : List AnyActor) (n : ℕ) (a : AnyActor) → AreInOrder actors → length places ≡ 16 * length (mutators_in actors) → length (mutators_in actors) ≤ 16
+    → slice_get actors n ≡ Some a → HasRegisters places n a
+registers_at places actors n (any.Mutator m) order many few there =
+    let inside = slice_get_within (mutators_in actors) n m (mutator_at actors n m order there) in
+    (omega (arith, inside, few), omega (arith, inside, many))
+registers_at places actors n (any.Decrementer d) order many few there = tt
+
+pub next_registers : (places : List Place) (before after : List AnyActor) (n : ℕ) (d : AnyActor) → HaveStarted places before after n → n < length before
+    → AreInOrder before → length places ≡ 16 * length (mutators_in before) → length (mutators_in before) ≤ 16 → HasRegisters places n (slice_index_or after n d)
+next_registers places before after n d is less order many few = registers_at places before n (slice_index_or after n d) order many few (next_before places before after n d is less)
 
 -- the registers of a thread are held places
 pub registers_held : (places : List Place) (n : ℕ) → All IsHeld places → All IsHeld (registers_in places n)

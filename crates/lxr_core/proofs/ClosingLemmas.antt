@@ -1,6 +1,7 @@
 -- From actors at rest in an epoch to the epoch's safepoint before a pause; where all are through, that pause has a cause.
-use Rattle.std.proofs.Common.{◌≡◌, ℕ, zero, suc, ◌+◌, ◌*◌, ◌≤◌, refl, sym, ap, subst, ◌∙◌, inl, inr, arith, false, true, List, [], ◌∷◌, length, map, take}
+use Rattle.std.proofs.Common.{◌≡◌, ℕ, ◌+◌, ◌*◌, ◌≤◌, refl, sym, ap, subst, ◌∙◌, inl, inr, arith, false, true, List, [], ◌∷◌, length, map, take}
 use Rattle.std.specs.Prelude.{Option, Some, None, slice_get}
+use Rattle.std.proofs.lemmas.List.{length-map}
 use Rattle.std.proofs.lemmas.List.Folds.{flat_map-map}
 use Rattle.std.proofs.lemmas.Option.{slice_get_within}
 use Rattle.lxr_layout.specs.declared.limits.Limits.{Limits}
@@ -22,13 +23,20 @@ use Rattle.lxr_actor.specs.declared.Core.{Core}
 use Rattle.lxr_mutator.specs.Mutating.{IsWaiting, Mutating, rests_in, tally_of}
 use Rattle.lxr_mutator.specs.Mutators.{IsIn, IsThrough, no_spans}
 use Rattle.lxr_mutator.specs.Steps.{shape_now}
+use Rattle.lxr_decrement.specs.declared.phases.DecrementerPhase.{DecrementerPhase}
+use Rattle.lxr_decrement.specs.declared.phases.DecrementerPhase.TheVariants as dec_phase
+use Rattle.lxr_decrement.specs.Decrementing.{DecrementerState}
+use Rattle.lxr_decrement.specs.Decrementing as decrement
+use Rattle.lxr_decrement.specs.Steps.{decrementer_machine}
+use Rattle.lxr_core_access.specs.Decrementers as decrementing
 use Rattle.lxr_core_events.specs.ThreadStates.{Reason, Stage, ThreadState, Through, all_of}
 use Rattle.lxr_core_events.specs.ThreadStates as why
 use Rattle.lxr_core_events.specs.EpochStates.{Beginning, EpochState, limits_of}
 use Rattle.lxr_core_events.specs.Called.{IsWithinTurn, HasReason}
 use Rattle.lxr_core_events.specs.Logged.{logs_of}
-use Rattle.lxr_core_events.specs.Epoch.{AreResting as StatesRest, AreThrough, IsEpoch, IsResting}
+use Rattle.lxr_core_events.specs.Epoch.{AreResting as StatesRest, AreThrough, DecrementersRest, IsEpoch, IsResting}
 use Rattle.lxr_core_events.specs.Through.{IsAsHistory}
+use Rattle.lxr_core_inv_counts.proofs.KeepingLemmas.{closing_counts}
 use Rattle.lxr_core_inv_history.proofs.EndLemmas.{ends_are_counted}
 use Rattle.lxr_core_inv_history.proofs.ThroughLemmas.{rest_is_history, through_has_cause}
 use Rattle.lxr_core_inv_memory.proofs.ClosingLemmas.{all_blocks_are_taken}
@@ -40,15 +48,18 @@ use Rattle.lxr_core_close.proofs.SafepointLemmas.{closing_reaches_safepoint, dra
 use Rattle.lxr_core_close.proofs.CauseLemmas.{cause_follows}
 use Rattle.lxr_core_close.proofs.ProgressLemmas.{epoch_has_progress}
 use Rattle.lxr_core_sim_mutator.specs.Showing.{IsMutatorOf, IsNew, IsSteadyIn, reason_by, stage_in, thread_state_of}
+use Rattle.lxr_core_sim_decrementer.specs.Showing.{IsDecrementerOf, decrementing_in, decrementing_of}
 use Rattle.lxr_core.specs.declared.actors.AnyActor.{AnyActor}
-use Rattle.lxr_core.specs.Actors.{mutator_in, mutators_in, script_of}
+use Rattle.lxr_core.specs.declared.actors.AnyActor.TheVariants as any
+use Rattle.lxr_core.specs.Actors.{AreInOrder, decrementers_in, mutators_in, script_of}
 use Rattle.lxr_core.specs.Executions.{IsExecution, Execution, epoch_state_of}
-use Rattle.lxr_core.specs.Resting.{RestAfter, RestsAfter}
+use Rattle.lxr_core.specs.Resting.{ActorsRestAfter, HelperRests, RestAfter, RestsAfter}
 use Rattle.lxr_core.specs.Collecting.{HaveGiven, MayAllGive, actor_given_up, all_entries, all_registers, given_up, holding, loads_of, news_of, stores_of, tally_with}
 use Rattle.lxr_core.specs.Closing.{AreFinished, AreResting, Closes, HasProgress, MayClose}
 use Rattle.lxr_core.proofs.CollectingLemmas.{all_given}
-use Rattle.lxr_core.proofs.OpenedLemmas.{thread_state_at, thread_states_length, waits_for_new}
-use Rattle.lxr_core.proofs.ExecutionLemmas.{shown_by}
+use Rattle.lxr_core.proofs.MappedLemmas.{first_item, mapped, mapped_from, same_by_index}
+use Rattle.lxr_core.proofs.OpenedLemmas.{waits_for_new}
+use Rattle.lxr_core.proofs.OrderLemmas.{SameKind, alike_order, helper_from, mutator_from, two_helpers, two_mutators}
 
 -- ---- what is known where an epoch may be closed
 
@@ -57,7 +68,10 @@ pub record IsEnd (b : Beginning) (s : EpochState) (space : Space) (actors : List
   pub epoch : IsEpoch b s
   pub tables : tables_of space ≡ s.tables
   pub thread_states : s.thread_states ≡ map thread_state_of (mutators_in actors)
-  pub mutators : (i : ℕ) (a : AnyActor) → slice_get actors i ≡ Some a → IsMutatorOf (limits_of b) (mutator_in a)
+  pub decrementers : s.decrementers ≡ map decrementing_of (decrementers_in actors)
+  pub order : AreInOrder actors
+  pub mutators : (i : ℕ) (m : Mutating) → slice_get (mutators_in actors) i ≡ Some m → IsMutatorOf (limits_of b) m
+  pub helpers : (i : ℕ) (d : DecrementerState) → slice_get (decrementers_in actors) i ≡ Some d → IsDecrementerOf (limits_of b) d
   pub space_is : space ≡ record b.space { words = space.words }
   pub resting : AreResting actors
 
@@ -70,81 +84,102 @@ is_end b execution cleared space actors may is =
       epoch = is.epoch;
       tables = ap (λ (l : Limits). tables_in l space.words) (ap (λ (z : Space). z.limits) may.space_is) ∙ ap (tables_in (limits_of b)) (sym words);
       thread_states = ap (λ z. map thread_state_of (mutators_in z)) held;
-      mutators = λ i a there. is.mutators i a (ap (λ z. slice_get z i) held ∙ there);
+      decrementers = ap (λ z. map decrementing_of (decrementers_in z)) held;
+      order = subst AreInOrder held is.order;
+      mutators = λ i m there. is.mutators i m (ap (λ z. slice_get (mutators_in z) i) held ∙ there);
+      helpers = λ i d there. is.decrementers i d (ap (λ z. slice_get (decrementers_in z) i) held ∙ there);
       space_is = may.space_is;
       resting = may.resting;
     }
 
--- the thread state of an actor
-shown_end : (b : Beginning) (s : EpochState) (space : Space) (actors : List AnyActor) (i : ℕ) (a : AnyActor) → IsEnd b s space actors → slice_get actors i ≡ Some a → slice_get s.thread_states i ≡ Some (thread_state_of (mutator_in a))
-shown_end b s space actors i a is there = ap (λ z. slice_get z i) is.thread_states ∙ shown_by actors i a there
+-- the thread state of a mutator
+shown_end : (b : Beginning) (s : EpochState) (space : Space) (actors : List AnyActor) (i : ℕ) (m : Mutating) → IsEnd b s space actors → slice_get (mutators_in actors) i ≡ Some m → slice_get s.thread_states i ≡ Some (thread_state_of m)
+shown_end b s space actors i m is there = ap (λ z. slice_get z i) is.thread_states ∙ mapped thread_state_of (mutators_in actors) i m there
 
 -- whose thread state it is
 shown_of : (b : Beginning) (s : EpochState) (space : Space) (actors : List AnyActor) (i : ℕ) (v : ThreadState) → IsEnd b s space actors → slice_get s.thread_states i ≡ Some v
-    → (a : AnyActor) × (slice_get actors i ≡ Some a) × (v ≡ thread_state_of (mutator_in a))
-shown_of b s space actors i v is shown = thread_state_at actors i v (sym (ap (λ z. slice_get z i) is.thread_states) ∙ shown)
+    → (m : Mutating) × (slice_get (mutators_in actors) i ≡ Some m) × (v ≡ thread_state_of m)
+shown_of b s space actors i v is shown = mapped_from thread_state_of (mutators_in actors) i v (sym (ap (λ z. slice_get z i) is.thread_states) ∙ shown)
 
--- it rests
+-- a mutator rests, and so does a helper
+mutator_rests : (b : Beginning) (s : EpochState) (space : Space) (actors : List AnyActor) (i : ℕ) (m : Mutating) → IsEnd b s space actors → slice_get (mutators_in actors) i ≡ Some m → rests_in m.phase ≡ true
+mutator_rests b s space actors i m is there = is.resting i (any.Mutator m) (mutator_from actors i m is.order there)
+
+helper_rests : (b : Beginning) (s : EpochState) (space : Space) (actors : List AnyActor) (i : ℕ) (d : DecrementerState) → IsEnd b s space actors → slice_get (decrementers_in actors) i ≡ Some d → decrementer_machine.rests d ≡ true
+helper_rests b s space actors i d is there = let (n, at) = helper_from actors i d there in is.resting n (any.Decrementer d) at
+
+-- so their stages do
 stage_rests : (m : Mutating) (p : MutatorPhase) → rests_in p ≡ true → IsResting (stage_in m p)
 stage_rests m phase.Ready rests = tt
 stage_rests m phase.Finished rests = tt
 stage_rests m p rests = absurd (cc)
 
+decrementing_rests : (p : DecrementerPhase) → decrement.rests_in p ≡ true → decrementing_in p ≡ decrementing.Rests
+decrementing_rests dec_phase.Resting rests = refl
+decrementing_rests p rests = absurd (cc)
+
 -- all rest
 states_rest : (b : Beginning) (s : EpochState) (space : Space) (actors : List AnyActor) → IsEnd b s space actors → StatesRest s
 states_rest b s space actors is i v shown =
-    let a = shown_of b s space actors i v is shown in
-    subst (λ (w : ThreadState). IsResting w.stage) (sym a.2) (stage_rests (mutator_in a.0) (mutator_in a.0).phase (is.resting i a.0 a.1))
+    let (m, there, same) = shown_of b s space actors i v is shown in
+    subst (λ (w : ThreadState). IsResting w.stage) (sym same) (stage_rests m m.phase (mutator_rests b s space actors i m is there))
+
+-- all helpers are between two units
+all_helpers_rest : (b : Beginning) (s : EpochState) (space : Space) (actors : List AnyActor) → IsEnd b s space actors → DecrementersRest s
+all_helpers_rest b s space actors is i shows at =
+    let (d, there, same) = mapped_from decrementing_of (decrementers_in actors) i shows (sym (ap (λ z. slice_get z i) is.decrementers) ∙ at) in
+    same ∙ decrementing_rests d.phase (helper_rests b s space actors i d is there)
 
 -- the stage of one that is through
 stage_end : (m : Mutating) → m.phase ≡ phase.Finished → (thread_state_of m).stage ≡ Through (reason_by m.end)
 stage_end m finished = ap (stage_in m) finished
 
--- where all actors are, all are through
-all_through : (b : Beginning) (s : EpochState) (space : Space) (actors : List AnyActor) → IsEnd b s space actors → AreFinished actors → AreThrough s
+-- where all mutators are, all are through
+all_through : (b : Beginning) (s : EpochState) (space : Space) (actors : List AnyActor) → IsEnd b s space actors → AreFinished (mutators_in actors) → AreThrough s
 all_through b s space actors is finished i v shown =
-    let a = shown_of b s space actors i v is shown in
-    (reason_by (mutator_in a.0).end, ap (λ (w : ThreadState). w.stage) a.2 ∙ stage_end (mutator_in a.0) (finished i a.0 a.1))
+    let (m, there, same) = shown_of b s space actors i v is shown in
+    (reason_by m.end, ap (λ (w : ThreadState). w.stage) same ∙ stage_end m (finished i m there))
 
 -- why it is through is so
-reason_so : (b : Beginning) (s : EpochState) (space : Space) (actors : List AnyActor) (i : ℕ) (a : AnyActor) → IsEnd b s space actors → slice_get actors i ≡ Some a → (mutator_in a).phase ≡ phase.Finished
-    → HasReason s (thread_state_of (mutator_in a)) (reason_by (mutator_in a).end)
-reason_so b s space actors i a is there finished =
-    (subst (IsWithinTurn s (thread_state_of (mutator_in a))) (stage_end (mutator_in a) finished) (is.epoch.called.each i (thread_state_of (mutator_in a)) (shown_end b s space actors i a is there)).within_turn).2
+reason_so : (b : Beginning) (s : EpochState) (space : Space) (actors : List AnyActor) (i : ℕ) (m : Mutating) → IsEnd b s space actors → slice_get (mutators_in actors) i ≡ Some m → m.phase ≡ phase.Finished
+    → HasReason s (thread_state_of m) (reason_by m.end)
+reason_so b s space actors i m is there finished =
+    (subst (IsWithinTurn s (thread_state_of m)) (stage_end m finished) (is.epoch.called.each i (thread_state_of m) (shown_end b s space actors i m is there)).within_turn).2
 
--- there are as many actors as threads
-actor_count : (b : Beginning) (s : EpochState) (space : Space) (actors : List AnyActor) → IsEnd b s space actors → length actors ≡ (limits_of b).threads
-actor_count b s space actors is = sym (thread_states_length actors) ∙ ap length (sym is.thread_states) ∙ is.epoch.called.as_many
+-- there are as many mutators as threads
+mutator_count : (b : Beginning) (s : EpochState) (space : Space) (actors : List AnyActor) → IsEnd b s space actors → length (mutators_in actors) ≡ (limits_of b).threads
+mutator_count b s space actors is = sym (length-map (mutators_in actors) thread_state_of) ∙ ap length (sym is.thread_states) ∙ is.epoch.called.as_many
 
 -- ---- collecting
 
 -- its log has the room of all logs
-log_room : (b : Beginning) (s : EpochState) (space : Space) (actors : List AnyActor) (i : ℕ) (a : AnyActor) → IsEnd b s space actors → slice_get actors i ≡ Some a
-    → ((mutator_in a).log.room ≡ (limits_of b).log) × (length (mutator_in a).log.items ≤ (mutator_in a).log.room)
-log_room b s space actors i a is there = is.epoch.logged.rooms i (thread_state_of (mutator_in a)) (shown_end b s space actors i a is there)
+log_room : (b : Beginning) (s : EpochState) (space : Space) (actors : List AnyActor) (i : ℕ) (m : Mutating) → IsEnd b s space actors → slice_get (mutators_in actors) i ≡ Some m
+    → (m.log.room ≡ (limits_of b).log) × (length m.log.items ≤ m.log.room)
+log_room b s space actors i m is there = is.epoch.logged.rooms i (thread_state_of m) (shown_end b s space actors i m is there)
 
 -- all actors may give up what they have, and the space has room for it
 pub may_all_give : (b : Beginning) (s : EpochState) (space : Space) (actors : List AnyActor) → IsEnd b s space actors → MayAllGive space actors
 may_all_give b s space actors is =
     let opened = is.epoch.begins.between.safepoint.holds in
-    let many = actor_count b s space actors is in
+    let many = mutator_count b s space actors is in
     let few = opened.space.limits.threads.1 in
     let limits : space.limits ≡ limits_of b = ap (λ (z : Space). z.limits) is.space_is in
     let registers : space.registers.room ≡ 16 * (limits_of b).threads = ap (λ (z : Space). z.registers.room) is.space_is ∙ opened.room.registers in
     let logged : space.logged.room ≡ (limits_of b).threads * (limits_of b).log = ap (λ (z : Space). z.logged.room) is.space_is ∙ opened.room.logged in
-    let entries : length actors * space.limits.log ≡ (limits_of b).threads * (limits_of b).log = ap (λ n. n * space.limits.log) many ∙ ap (λ (l : Limits). (limits_of b).threads * l.log) limits in
+    let entries : length (mutators_in actors) * space.limits.log ≡ (limits_of b).threads * (limits_of b).log = ap (λ n. n * space.limits.log) many ∙ ap (λ (l : Limits). (limits_of b).threads * l.log) limits in
     let log : space.limits.log ≡ (limits_of b).log = ap (λ (l : Limits). l.log) limits in
     record {
+      order = is.order;
       few = omega (arith, many, few);
       registers = omega (arith, many, registers);
       logged = omega (arith, entries, logged);
-      each = λ i a there.
-          let m = is.mutators i a there in
-          let room = log_room b s space actors i a is there in
+      each = λ i x there.
+          let m = is.mutators i x there in
+          let room = log_room b s space actors i x is there in
           let fits = room.1 in let same = room.0 in
           let replies = m.sound.few_replies in let few_operations = m.sound.few in
           record {
-            rests = is.resting i a there;
+            rests = mutator_rests b s space actors i x is there;
             sixteen = m.sound.registers;
             log = omega (arith, fits, same, log);
             replies = omega (arith, replies, few_operations);
@@ -152,20 +187,20 @@ may_all_give b s space actors is =
     }
 
 -- what is collected is that of all thread states
-same_registers : (actors : List AnyActor) → all_registers actors ≡ registers_of (map thread_state_of (mutators_in actors))
-same_registers actors = sym (flat_map-map (λ (v : ThreadState). v.registers) thread_state_of (mutators_in actors) ∙ flat_map-map (λ (m : Mutating). m.registers) mutator_in actors)
+same_registers : (mutators : List Mutating) → all_registers mutators ≡ registers_of (map thread_state_of mutators)
+same_registers mutators = sym (flat_map-map (λ (v : ThreadState). v.registers) thread_state_of mutators)
 
 -- so it is with entries
-same_entries : (actors : List AnyActor) → all_entries actors ≡ logs_of (map thread_state_of (mutators_in actors))
-same_entries actors = sym (flat_map-map (λ (v : ThreadState). v.log.items) thread_state_of (mutators_in actors) ∙ flat_map-map (λ (m : Mutating). m.log.items) mutator_in actors)
+same_entries : (mutators : List Mutating) → all_entries mutators ≡ logs_of (map thread_state_of mutators)
+same_entries mutators = sym (flat_map-map (λ (v : ThreadState). v.log.items) thread_state_of mutators)
 
 -- a space that has what the actors had has collected it
-pub has_collected : (b : Beginning) (s : EpochState) (space now : Space) (actors : List AnyActor) → IsEnd b s space actors → now ≡ holding space actors → HasCollected b s now
+pub has_collected : (b : Beginning) (s : EpochState) (space now : Space) (actors : List AnyActor) → IsEnd b s space actors → now ≡ holding space (mutators_in actors) → HasCollected b s now
 has_collected b s space now actors is has = record {
   tables = ap tables_of has ∙ is.tables;
-  registers = ap (λ (z : Space). z.registers) has ∙ ap (λ (z : Space). places_in z (all_registers actors)) is.space_is ∙ ap (places_in b.space) (same_registers actors ∙ ap registers_of (sym is.thread_states));
-  logged = ap (λ (z : Space). z.logged) has ∙ ap (λ (z : Space). entries_in z (all_entries actors)) is.space_is ∙ ap (entries_in b.space) (same_entries actors ∙ ap logs_of (sym is.thread_states));
-  rest = has ∙ subst (λ z. holding z actors ≡ refitted (holding z actors)) (sym is.space_is) refl ∙ ap refitted (sym has);
+  registers = ap (λ (z : Space). z.registers) has ∙ ap (λ (z : Space). places_in z (all_registers (mutators_in actors))) is.space_is ∙ ap (places_in b.space) (same_registers (mutators_in actors) ∙ ap registers_of (sym is.thread_states));
+  logged = ap (λ (z : Space). z.logged) has ∙ ap (λ (z : Space). entries_in z (all_entries (mutators_in actors))) is.space_is ∙ ap (entries_in b.space) (same_entries (mutators_in actors) ∙ ap logs_of (sym is.thread_states));
+  rest = has ∙ subst (λ z. holding z (mutators_in actors) ≡ refitted (holding z (mutators_in actors))) (sym is.space_is) refl ∙ ap refitted (sym has);
 }
   where
     refitted : Space → Space
@@ -178,64 +213,69 @@ has_collected b s space now actors is has = record {
     entries_in z items = record z.logged { items = items }
 
 -- what was drawn may be handed out
-pub may_hand_out : (b : Beginning) (s : EpochState) (space now : Space) (actors : List AnyActor) → IsEnd b s space actors → now ≡ holding space actors → MayHandOut b.space now
+pub may_hand_out : (b : Beginning) (s : EpochState) (space now : Space) (actors : List AnyActor) → IsEnd b s space actors → now ≡ holding space (mutators_in actors) → MayHandOut b.space now
 may_hand_out b s space now actors is has = drawn_may_be_handed_out b s now is.epoch (has_collected b s space now actors is has)
 
 -- ---- the actors
 
--- lists that have the same at each index
-same_by_index : {X : Type 0} (xs ys : List X) → length xs ≡ length ys → ((i : ℕ) (y : X) → slice_get ys i ≡ Some y → slice_get xs i ≡ Some y) → xs ≡ ys
-same_by_index [] [] many each = refl
-same_by_index [] (y ∷ ys) many each = absurd (omega arith)
-same_by_index (x ∷ xs) [] many each = absurd (omega arith)
-same_by_index (x ∷ xs) (y ∷ ys) many each =
-    let first : Some x ≡ Some y = each 0 y refl in
-    let here : x ≡ y = cc in
-    ap (λ z. z ∷ xs) here ∙ ap (λ z. y ∷ z) (same_by_index xs ys (omega (arith, many)) (λ i z e. each (suc i) z e))
-
--- what stands in a mapped list is mapped
-mapped_at : (actors : List AnyActor) (i : ℕ) (x : AnyActor) → slice_get (map actor_given_up actors) i ≡ Some x → (a : AnyActor) × (slice_get actors i ≡ Some a) × (x ≡ actor_given_up a)
-mapped_at [] i x e = cc
-mapped_at (a ∷ actors) zero x e = (a, refl, cc)
-mapped_at (a ∷ actors) (suc i) x e = mapped_at actors i x e
-
--- a mapped list is as long
-mapped_length : (actors : List AnyActor) → length (map actor_given_up actors) ≡ length actors
-mapped_length [] = refl
-mapped_length (a ∷ actors) = ap suc (mapped_length actors)
-
 -- all actors have given up what they had
 all_gave : (start : Space) (before : List AnyActor) (now : Space) (after : List AnyActor) → HaveGiven start before now after (length before) → after ≡ map actor_given_up before
-all_gave start before now after is = same_by_index after (map actor_given_up before) (is.as_many ∙ sym (mapped_length before)) (λ i x e.
-    let a = mapped_at before i x e in
-    is.given i a.0 a.1 (slice_get_within before i a.0 a.1) ∙ ap Some (sym a.2))
+all_gave start before now after is = same_by_index after (map actor_given_up before) (is.as_many ∙ sym (length-map before actor_given_up)) (λ i x e.
+    let (a, there, same) = mapped_from actor_given_up before i x e in
+    is.given i a there (slice_get_within before i a there) ∙ ap Some (sym same))
+
+-- the mutators have, and the helpers are those that they were
+pub given_mutators : (actors : List AnyActor) → mutators_in (map actor_given_up actors) ≡ map given_up (mutators_in actors)
+given_mutators [] = refl
+given_mutators (any.Mutator m ∷ actors) = ap (λ z. given_up m ∷ z) (given_mutators actors)
+given_mutators (any.Decrementer d ∷ actors) = given_mutators actors
+
+pub given_helpers : (actors : List AnyActor) → decrementers_in (map actor_given_up actors) ≡ decrementers_in actors
+given_helpers [] = refl
+given_helpers (any.Mutator m ∷ actors) = given_helpers actors
+given_helpers (any.Decrementer d ∷ actors) = ap (λ z. d ∷ z) (given_helpers actors)
+
+-- so they are in order
+given_order : (actors : List AnyActor) → AreInOrder actors → AreInOrder (map actor_given_up actors)
+given_order actors order = alike_order actors (map actor_given_up actors) (record {
+  as_many = length-map actors actor_given_up;
+  each = λ i a there. (actor_given_up a, mapped actor_given_up actors i a there, of_kind a);
+}) order
+  where
+    of_kind : (a : AnyActor) → SameKind a (actor_given_up a)
+    of_kind (any.Mutator m) = two_mutators m (given_up m)
+    of_kind (any.Decrementer d) = two_helpers d d
 
 -- their operations and what those did are what they were
-same_script : (actors : List AnyActor) → script_of (map actor_given_up actors) ≡ script_in (map thread_state_of (mutators_in actors))
+same_script : (ms : List Mutating) → script_of (map given_up ms) ≡ script_of ms
 same_script [] = refl
-same_script (a ∷ actors) = ap (λ z. (mutator_in a).operations ∷ z) (same_script actors)
+same_script (m ∷ ms) = ap (λ z. m.operations ∷ z) (same_script ms)
+
+shown_script : (ms : List Mutating) → script_of ms ≡ script_in (map thread_state_of ms)
+shown_script [] = refl
+shown_script (m ∷ ms) = ap (λ z. m.operations ∷ z) (shown_script ms)
 
 -- so they made as many objects
-same_news : (actors : List AnyActor) → news_of (map actor_given_up actors) ≡ news_of actors
+same_news : (ms : List Mutating) → news_of (map given_up ms) ≡ news_of ms
 same_news [] = refl
-same_news (a ∷ actors) = ap (λ z. (tally_of (mutator_in a).replies.items).news + z) (same_news actors)
+same_news (m ∷ ms) = ap (λ z. (tally_of m.replies.items).news + z) (same_news ms)
 
 -- they loaded as many references
-same_loads : (actors : List AnyActor) → loads_of (map actor_given_up actors) ≡ loads_of actors
+same_loads : (ms : List Mutating) → loads_of (map given_up ms) ≡ loads_of ms
 same_loads [] = refl
-same_loads (a ∷ actors) = ap (λ z. (tally_of (mutator_in a).replies.items).loads + z) (same_loads actors)
+same_loads (m ∷ ms) = ap (λ z. (tally_of m.replies.items).loads + z) (same_loads ms)
 
 -- they stored as many
-same_stores : (actors : List AnyActor) → stores_of (map actor_given_up actors) ≡ stores_of actors
+same_stores : (ms : List Mutating) → stores_of (map given_up ms) ≡ stores_of ms
 same_stores [] = refl
-same_stores (a ∷ actors) = ap (λ z. (tally_of (mutator_in a).replies.items).stores + z) (same_stores actors)
+same_stores (m ∷ ms) = ap (λ z. (tally_of m.replies.items).stores + z) (same_stores ms)
 
 -- and a tally with them is the same
-same_tally : (t : Tally) (actors : List AnyActor) → tally_with t actors ≡ tally_with t (map actor_given_up actors)
-same_tally t actors =
-    ap (λ z. sums t z (loads_of actors) (stores_of actors)) (sym (same_news actors))
-    ∙ ap (λ z. sums t (news_of (map actor_given_up actors)) z (stores_of actors)) (sym (same_loads actors))
-    ∙ ap (λ z. sums t (news_of (map actor_given_up actors)) (loads_of (map actor_given_up actors)) z) (sym (same_stores actors))
+same_tally : (t : Tally) (ms : List Mutating) → tally_with t ms ≡ tally_with t (map given_up ms)
+same_tally t ms =
+    ap (λ z. sums t z (loads_of ms) (stores_of ms)) (sym (same_news ms))
+    ∙ ap (λ z. sums t (news_of (map given_up ms)) z (stores_of ms)) (sym (same_loads ms))
+    ∙ ap (λ z. sums t (news_of (map given_up ms)) (loads_of (map given_up ms)) z) (sym (same_stores ms))
   where
     sums : Tally → ℕ → ℕ → ℕ → Tally
     sums z news loads stores = record z { news = news; loads = loads; stores = stores }
@@ -279,50 +319,60 @@ mutator_still l m is rests =
     }
 
 -- where its end is done, all operations and the end have replies
-ended_all : (b : Beginning) (s : EpochState) (space : Space) (actors : List AnyActor) (i : ℕ) (a : AnyActor) (p : MutatorPhase) → IsEnd b s space actors → slice_get actors i ≡ Some a
-    → (mutator_in a).phase ≡ p → rests_in p ≡ true → IsSteadyIn (mutator_in a) p → (mutator_in a).end ≡ Some ends.Ended → length (mutator_in a).replies.items ≡ length (mutator_in a).operations + 1
-ended_all b s space actors i a phase.Ready is there at rests steady ended = absurd (steady.0 ended)
-ended_all b s space actors i a phase.Finished is there at rests steady ended = subst (λ (z : Reason). HasReason s (thread_state_of (mutator_in a)) z) (ap reason_by ended) (reason_so b s space actors i a is there at)
-ended_all b s space actors i a p is there at rests steady ended = absurd (cc)
+ended_all : (b : Beginning) (s : EpochState) (space : Space) (actors : List AnyActor) (i : ℕ) (m : Mutating) (p : MutatorPhase) → IsEnd b s space actors → slice_get (mutators_in actors) i ≡ Some m
+    → m.phase ≡ p → rests_in p ≡ true → IsSteadyIn m p → m.end ≡ Some ends.Ended → length m.replies.items ≡ length m.operations + 1
+ended_all b s space actors i m phase.Ready is there at rests steady ended = absurd (steady.0 ended)
+ended_all b s space actors i m phase.Finished is there at rests steady ended = subst (λ (z : Reason). HasReason s (thread_state_of m) z) (ap reason_by ended) (reason_so b s space actors i m is there at)
+ended_all b s space actors i m p is there at rests steady ended = absurd (cc)
 
 -- it rests for the history
-rests_after : (b : Beginning) (s : EpochState) (space : Space) (actors : List AnyActor) (i : ℕ) (a : AnyActor) → IsEnd b s space actors → slice_get actors i ≡ Some a
-    → RestsAfter (limits_of b) b.every s.history (i + 1) (given_up (mutator_in a))
-rests_after b s space actors i a is there =
-    let m : Mutating = mutator_in a in
-    let shown = shown_end b s space actors i a is there in
+rests_after : (b : Beginning) (s : EpochState) (space : Space) (actors : List AnyActor) (i : ℕ) (m : Mutating) → IsEnd b s space actors → slice_get (mutators_in actors) i ≡ Some m
+    → RestsAfter (limits_of b) b.every s.history (i + 1) (given_up m)
+rests_after b s space actors i m is there =
+    let shown = shown_end b s space actors i m is there in
     let has = is.epoch.called.each i (thread_state_of m) shown in
     let thread : m.thread ≡ i + 1 = is.epoch.called.threads i (thread_state_of m) shown in
     let done : IsAsHistory s (thread_state_of m) = rest_is_history b s i (thread_state_of m) is.epoch (states_rest b s space actors is) shown in
-    let room = (log_room b s space actors i a is there).0 in
+    let room = (log_room b s space actors i m is there).0 in
+    let rests = mutator_rests b s space actors i m is there in
     record {
-      mutator = mutator_still (limits_of b) m (is.mutators i a there) (is.resting i a there);
+      mutator = mutator_still (limits_of b) m (is.mutators i m there) rests;
       thread = thread;
       every = has.every;
       log = ap empty room;
       spans = refl;
-      rests = is.resting i a there;
+      rests = rests;
       calls = subst (λ t. calls_of t s.history ≡ take (length m.replies.items) (all_of m.operations)) thread done.calls;
       replies = subst (λ t. replies_of t s.history ≡ m.replies.items) thread done.replies;
-      ended = ended_all b s space actors i a m.phase is there refl (is.resting i a there) (is.mutators i a there).steady;
+      ended = ended_all b s space actors i m m.phase is there refl rests (is.mutators i m there).steady;
     }
   where
     empty : ℕ → Roomy LogEntry
     empty room = record { items = []; room = room }
 
--- all rest for it
-all_rest : (b : Beginning) (s : EpochState) (space : Space) (actors : List AnyActor) → IsEnd b s space actors → RestAfter (limits_of b) b.every s.history (map actor_given_up actors)
-all_rest b s space actors is = record {
-  as_many = mapped_length actors ∙ actor_count b s space actors is;
+-- all mutators rest for it
+mutators_rest : (b : Beginning) (s : EpochState) (space : Space) (actors : List AnyActor) → IsEnd b s space actors → RestAfter (limits_of b) b.every s.history (map given_up (mutators_in actors))
+mutators_rest b s space actors is = record {
+  as_many = length-map (mutators_in actors) given_up ∙ mutator_count b s space actors is;
   each = λ i x e.
-      let a = mapped_at actors i x e in
-      subst (λ z. RestsAfter (limits_of b) b.every s.history (i + 1) (mutator_in z)) (sym a.2) (rests_after b s space actors i a.0 is a.1);
+      let (m, there, same) = mapped_from given_up (mutators_in actors) i x e in
+      subst (RestsAfter (limits_of b) b.every s.history (i + 1)) (sym same) (rests_after b s space actors i m is there);
+}
+
+-- and so do all actors
+all_rest : (b : Beginning) (s : EpochState) (space : Space) (actors : List AnyActor) → IsEnd b s space actors → ActorsRestAfter (limits_of b) b.every s.history (map actor_given_up actors)
+all_rest b s space actors is = record {
+  mutators = subst (RestAfter (limits_of b) b.every s.history) (sym (given_mutators actors)) (mutators_rest b s space actors is);
+  helpers = record {
+    order = given_order actors is.order;
+    each = subst (λ ds. (i : ℕ) (d : DecrementerState) → slice_get ds i ≡ Some d → HelperRests (limits_of b) d) (sym (given_helpers actors))
+        (λ i d there. record { decrementer = is.helpers i d there; rests = helper_rests b s space actors i d is there });
+  };
 }
 
 -- the operations are those that they were
-pub given_script : (actors : List AnyActor) → script_of (map actor_given_up actors) ≡ script_of actors
-given_script [] = refl
-given_script (a ∷ actors) = ap (λ z. (mutator_in a).operations ∷ z) (given_script actors)
+pub given_script : (actors : List AnyActor) → script_of (mutators_in (map actor_given_up actors)) ≡ script_of (mutators_in actors)
+given_script actors = ap script_of (given_mutators actors) ∙ same_script (mutators_in actors)
 
 -- ---- progress
 
@@ -346,19 +396,14 @@ has_ended (Some ends.Turns) same = absurd (cc)
 has_ended (Some (ends.OpDone r)) same = absurd (cc)
 has_ended None same = absurd (cc)
 
--- the first item of a list that has some
-first_item : {X : Type 0} (xs : List X) → 1 ≤ length xs → (x : X) × (slice_get xs 0 ≡ Some x)
-first_item [] some = absurd (omega arith)
-first_item (x ∷ xs) some = (x, refl)
-
 -- mutators may do an operation in an epoch
 some_turns : (b : Beginning) (s : EpochState) (space : Space) (actors : List AnyActor) → IsEnd b s space actors → 1 ≤ b.every
 some_turns b s space actors is =
-    let many = actor_count b s space actors is in
+    let many = mutator_count b s space actors is in
     let some = is.epoch.begins.between.safepoint.holds.space.limits.threads.0 in
-    let a = first_item actors (omega (arith, many, some)) in
-    let turns = (is.mutators 0 a.0 a.1).sound.every.0 in
-    let same = (is.epoch.called.each 0 (thread_state_of (mutator_in a.0)) (shown_end b s space actors 0 a.0 is a.1)).every in
+    let (m, there) = first_item (mutators_in actors) (omega (arith, many, some)) in
+    let turns = (is.mutators 0 m there).sound.every.0 in
+    let same = (is.epoch.called.each 0 (thread_state_of m) (shown_end b s space actors 0 m is there)).every in
     omega (arith, turns, same)
 
 -- its stage tells why it is through
@@ -367,28 +412,33 @@ reason_told m v reason finished same stage =
     let e : Through (reason_by m.end) ≡ Through reason = sym (stage_end m finished) ∙ ap (λ (w : ThreadState). w.stage) (sym same) ∙ stage in
     cc
 
--- where a mutator has given up what it had
-given_at : (actors : List AnyActor) (i : ℕ) (a : AnyActor) → slice_get actors i ≡ Some a → slice_get (map actor_given_up actors) i ≡ Some (actor_given_up a)
-given_at [] i a e = absurd (cc)
-given_at (x ∷ actors) zero a e = let same : x ≡ a = cc in ap (λ z. Some (actor_given_up z)) same
-given_at (x ∷ actors) (suc i) a e = given_at actors i a e
-
 -- the epoch has done something
-has_progress : (b : Beginning) (execution : Execution) (cleared : List Field) (space : Space) (actors : List AnyActor) → IsEnd b (epoch_state_of b execution cleared) space actors → AreFinished actors
-    → ((t : ℕ) → has_asked t b.history ≡ false) → HasProgress b execution (map actor_given_up actors)
+has_progress : (b : Beginning) (execution : Execution) (cleared : List Field) (space : Space) (actors : List AnyActor) → IsEnd b (epoch_state_of b execution cleared) space actors → AreFinished (mutators_in actors)
+    → ((t : ℕ) → has_asked t b.history ≡ false) → HasProgress b execution (map given_up (mutators_in actors))
 has_progress b execution cleared space actors is finished unasked =
     let s : EpochState = epoch_state_of b execution cleared in
     elim (epoch_has_progress b s is.epoch (all_through b s space actors is finished) (closing_logs b s is.epoch (states_rest b s space actors is)) unasked (some_turns b s space actors is)) [
       | inl longer ↦ inl longer
       | inr (inl lacks) ↦
-          let a = shown_of b s space actors lacks.number lacks.thread_state is lacks.shows in
-          inr (inl (lacks.number, actor_given_up a.0, given_at actors lacks.number a.0 a.1, (no_run (mutator_in a.0).end (reason_told (mutator_in a.0) lacks.thread_state why.NoRun (finished lacks.number a.0 a.1) a.2 lacks.stage), is.resting lacks.number a.0 a.1)))
+          let m = shown_of b s space actors lacks.number lacks.thread_state is lacks.shows in
+          inr (inl (
+            lacks.number,
+            given_up m.0,
+            mapped given_up (mutators_in actors) lacks.number m.0 m.1,
+            (no_run m.0.end (reason_told m.0 lacks.thread_state why.NoRun (finished lacks.number m.0 m.1) m.2 lacks.stage), mutator_rests b s space actors lacks.number m.0 is m.1),
+          ))
       | inr (inr ended) ↦ inr (inr (λ i x e.
-          let a = mapped_at actors i x e in
-          let stage = ended i (thread_state_of (mutator_in a.0)) (shown_end b s space actors i a.0 is a.1) in
-          let end = has_ended (mutator_in a.0).end (reason_told (mutator_in a.0) (thread_state_of (mutator_in a.0)) why.Ended (finished i a.0 a.1) refl stage) in
-          subst (λ z. IsThrough (mutator_in z)) (sym a.2) (finished i a.0 a.1, end)))
+          let m = mapped_from given_up (mutators_in actors) i x e in
+          let stage = ended i (thread_state_of m.0) (shown_end b s space actors i m.0 is m.1) in
+          let end = has_ended m.0.end (reason_told m.0 (thread_state_of m.0) why.Ended (finished i m.0 m.1) refl stage) in
+          subst IsThrough (sym m.2) (finished i m.0 m.1, end)))
     ]
+
+-- what waits is a `new`
+news_wait : (b : Beginning) (s : EpochState) (space : Space) (actors : List AnyActor) → IsEnd b s space actors → (i : ℕ) (m : Mutating) → slice_get (map given_up (mutators_in actors)) i ≡ Some m → IsWaiting m → IsNew m
+news_wait b s space actors is i x e waits =
+    let (m, there, same) = mapped_from given_up (mutators_in actors) i x e in
+    subst IsNew (sym same) (waits_for_new m m.phase (mutator_rests b s space actors i m is there) (is.mutators i m there).steady (subst IsWaiting same waits).0)
 
 -- ---- the whole
 
@@ -401,27 +451,25 @@ closes b execution space now after before given may gave out =
     let is = is_end b execution cleared space before may may.holds.1 in
     let has = all_given space before now given gave in
     let logs = closing_logs b s is.epoch (states_rest b s space before is) in
-    let closed = closing_reaches_safepoint b s now after is.epoch logs (has_collected b s space now before is has) out in
+    let counts = closing_counts b s is.epoch (all_helpers_rest b s space before is) in
+    let closed = closing_reaches_safepoint b s now after is.epoch logs counts (has_collected b s space now before is has) out in
     let held : execution.core.actors ≡ before = ap (λ (c : Core AnyActor). c.actors) may.core in
+    let gives = given_mutators before in
     subst (Closes b execution space after) (sym (all_gave space before now given gave)) (record {
       safepoint = closed.safepoint;
-      undecremented = closed.undecremented;
       hands_out = subst (λ t. AreHandedOut (IsDrawnLine (tables_of b.space) b.space.limits.blocks (drawn_runs t) (drawn_blocks t)) t (tables_of after)) (ap tables_of has) out.hands;
       free = λ line drawn. drawn_was_free b s space line is.epoch is.tables drawn;
       extends = is.epoch.extends;
       unmoved = is.epoch.image.placed.unmoved;
       gave = ap (map actor_given_up) (sym held);
       actors_rest = all_rest b s space before is;
-      news = λ i x e waits.
-          let a = mapped_at before i x e in
-          let steady = (is.mutators i a.0 a.1).steady in
-          subst (λ z. IsNew (mutator_in z)) (sym a.2) (waits_for_new (mutator_in a.0) (mutator_in a.0).phase (is.resting i a.0 a.1) steady (subst (λ z. IsWaiting (mutator_in z)) a.2 waits).0);
-      cause = λ finished terms are legal. subst (λ z. HasCause terms z s.history) (ap script_in is.thread_states ∙ sym (same_script before))
-          (cause_follows through_has_cause ends_are_counted all_blocks_are_taken b s terms is.epoch (all_through b s space before is (subst AreFinished held finished)) logs are legal);
-      progress = λ finished. has_progress b execution cleared space before is (subst AreFinished held finished);
-      registers = ap (λ (z : Space). z.registers.items) out.rest ∙ ap (λ (z : Space). z.registers.items) has ∙ ap all_registers (sym held);
-      logged = ap (λ (z : Space). z.logged.items) out.rest ∙ ap (λ (z : Space). z.logged.items) has ∙ ap all_entries (sym held);
-      tally = ap (λ (z : Space). z.tally) out.rest ∙ ap (λ (z : Space). z.tally) has ∙ same_tally space.tally before;
+      news = subst (λ ms. (i : ℕ) (m : Mutating) → slice_get ms i ≡ Some m → IsWaiting m → IsNew m) (sym gives) (news_wait b s space before is);
+      cause = λ finished terms are legal. subst (λ z. HasCause terms z s.history) (ap script_in is.thread_states ∙ sym (given_script before ∙ shown_script (mutators_in before)))
+          (cause_follows through_has_cause ends_are_counted all_blocks_are_taken b s terms is.epoch (all_through b s space before is (subst (λ z. AreFinished (mutators_in z)) held finished)) logs are legal);
+      progress = λ finished unasked. subst (HasProgress b execution) (sym gives) (has_progress b execution cleared space before is (subst (λ z. AreFinished (mutators_in z)) held finished) unasked);
+      registers = ap (λ (z : Space). z.registers.items) out.rest ∙ ap (λ (z : Space). z.registers.items) has ∙ ap (λ z. all_registers (mutators_in z)) (sym held);
+      logged = ap (λ (z : Space). z.logged.items) out.rest ∙ ap (λ (z : Space). z.logged.items) has ∙ ap (λ z. all_entries (mutators_in z)) (sym held);
+      tally = ap (λ (z : Space). z.tally) out.rest ∙ ap (λ (z : Space). z.tally) has ∙ same_tally space.tally (mutators_in before) ∙ ap (tally_with space.tally) (sym gives);
       rest = out.rest ∙ ap (λ z. with_words z after.words) has ∙ sym (ap fitted (out.rest ∙ ap (λ z. with_words z after.words) has));
     })
   where

@@ -1,13 +1,11 @@
--- The invariant of an epoch holds after each event of a schedule, and each next step fits.
-use Rattle.std.proofs.Common.{◌≡◌, ℕ, zero, suc, ◌+◌, ◌<◌, refl, sym, ap, subst, ◌∙◌, inl, inr, arith, false, cond, List, [], ◌∷◌, length, nat_eq}
-use Rattle.std.specs.Prelude.{Option, Some, None, IsSome, map, slice_get, slice_set, if◌then◌else◌}
-use Rattle.std.proofs.lemmas.Bool.Decides.{eqb_tells}
-use Rattle.std.proofs.lemmas.Option.{slice_get_within}
+-- The invariant of an epoch holds after each event of a schedule, and each next step fits: the step of a mutator is an event of the
+-- epoch, and that of a decrementer a step that keeps it.
+use Rattle.std.proofs.Common.{◌≡◌, ℕ, ◌≤◌, refl, sym, ap, subst, ◌∙◌, arith, List, [], ◌∷◌}
+use Rattle.std.specs.Prelude.{Option, Some, None, IsSome, map, slice_get, slice_set}
+use Rattle.std.proofs.lemmas.List.{map-set}
 use Rattle.lxr_layout.specs.declared.Name.{Name}
 use Rattle.lxr_layout.specs.declared.Place.{Place}
-use Rattle.lxr_graph.specs.History.{Item, Call}
-use Rattle.lxr_graph.specs.Step.{step}
-use Rattle.lxr_graph.proofs.RowLemmas.{slice_get-set}
+use Rattle.lxr_graph.specs.History.{Item}
 use Rattle.lxr_image.specs.Tables.{Tables, tables_in}
 use Rattle.lxr_model.specs.Moments.{Field}
 use Rattle.lxr_actor.specs.declared.Action.{Action}
@@ -15,200 +13,285 @@ use Rattle.lxr_actor.specs.declared.Core.{Core}
 use Rattle.lxr_actor.specs.declared.Event.{Event}
 use Rattle.lxr_actor.specs.declared.Event.TheVariants.{Step, Give, Out}
 use Rattle.lxr_actor.specs.Machine.{Fits}
-use Rattle.lxr_actor.specs.Run.{AlwaysFits, FitsAt, acted, core_of, happened, run, stepped}
-use Rattle.lxr_invariant.proofs.EntryLemmas.{unlike_number}
+use Rattle.lxr_actor.specs.Run.{AlwaysFits, FitsAt, core_of, happened, run, stepped}
 use Rattle.lxr_mutator.specs.declared.phases.MutatorPhase.{MutatorPhase}
 use Rattle.lxr_mutator.specs.declared.phases.MutatorPhase.TheVariants as phase
-use Rattle.lxr_mutator.specs.Mutating.{Mutating, op_now}
-use Rattle.lxr_mutator.specs.Steps.{action, action_in, mutator_machine}
+use Rattle.lxr_mutator.specs.Mutating.{Mutating}
+use Rattle.lxr_mutator.specs.Steps.{action, mutator_machine}
+use Rattle.lxr_decrement.specs.Decrementing.{DecrementerState}
+use Rattle.lxr_decrement.specs.Steps.{decrementer_machine}
+use Rattle.lxr_core_access.specs.Decrementers.{Decrementing}
 use Rattle.lxr_core_events.specs.ThreadStates.{ThreadState}
-use Rattle.lxr_core_events.specs.EpochStates.{Beginning, EpochState, limits_of, moment_of}
+use Rattle.lxr_core_events.specs.EpochStates.{Beginning, EpochState, limits_of}
+use Rattle.lxr_core_events.specs.Events as event
+use Rattle.lxr_core_events.specs.Decremented.{decremented}
 use Rattle.lxr_core_events.specs.Happening.{happen}
 use Rattle.lxr_core_events.specs.Epoch.{IsEpoch}
+use Rattle.lxr_core_events.specs.Laws.{HaveNotFallen}
+use Rattle.lxr_core_inv_memory.proofs.RaisingLemmas.{cursors_dont_fall}
 use Rattle.lxr_core_sim_mutator.specs.Showing.{IsMutatorOf, thread_state_of}
-use Rattle.lxr_core_sim_mutator.specs.Stepping.{ShowsAs, history_after, places_after, places_in, stands_in}
+use Rattle.lxr_core_sim_mutator.specs.Stepping.{ShowsAs, history_after, places_after, places_in}
 use Rattle.lxr_core_sim_mutator.proofs.StepLemmas.{each_step}
+use Rattle.lxr_core_sim_decrementer.specs.Showing.{IsDecrementerOf, decrementing_of}
+use Rattle.lxr_core_sim_decrementer.specs.Stepping.{ShowsDecrementer}
+use Rattle.lxr_core_sim_decrementer.proofs.HintLemmas.{hints_stay}
+use Rattle.lxr_core_sim_decrementer.proofs.StepLemmas.{each_step as helper_step}
 use Rattle.lxr_core.specs.declared.actors.AnyActor.{AnyActor}
 use Rattle.lxr_core.specs.declared.actors.AnyActor.TheVariants as any
-use Rattle.lxr_core.specs.Actors.{any_machine, mutator_in, mutators_in}
-use Rattle.lxr_core.specs.Executions.{HoldsExecution, IsExecution, EpochInvariantHolds, Execution, after_step, epoch_state_of, tell, tell_all}
-use Rattle.lxr_core.proofs.KeptLemmas.{epoch_is_kept}
+use Rattle.lxr_core.specs.Actors.{any_machine, decrementers_in, mutators_in}
+use Rattle.lxr_core.specs.Executions.{HoldsExecution, IsExecution, EpochInvariantHolds, Execution, epoch_state_of, tell, tell_all}
+use Rattle.lxr_core.proofs.KeptLemmas.{decrementers_keep_epoch, epoch_is_kept}
+use Rattle.lxr_core.proofs.MappedLemmas.{each_set, mapped, set_itself}
+use Rattle.lxr_core.proofs.OrderLemmas.{IsHelperAt, helper_at, helpers_stay, mutator_at, mutators_put, mutators_stay, put_order, two_helpers, two_mutators}
+use Rattle.lxr_core.proofs.TurnLemmas.{at_rest, helper_at_rest, helper_moved, moved, tell_helper, tell_step, told_with}
 
--- ---- lists of actors and of what they show
-
--- an element put where it stands
-set_itself : {A : Type 0} (xs : List A) (n : ℕ) (a : A) → slice_get xs n ≡ Some a → slice_set xs n a ≡ xs
-set_itself [] n a e = cc
-set_itself (x ∷ xs) zero a e = let same : a ≡ x = cc in ap (λ y. y ∷ xs) same
-set_itself (x ∷ xs) (suc n) a e = ap (λ ys. x ∷ ys) (set_itself xs n a e)
-
--- what the mutator of a number shows
-pub shown_by : (actors : List AnyActor) (n : ℕ) (a : AnyActor) → slice_get actors n ≡ Some a → slice_get (map thread_state_of (mutators_in actors)) n ≡ Some (thread_state_of (mutator_in a))
-shown_by [] n a e = cc
-shown_by (x ∷ xs) zero a e = let same : x ≡ a = cc in ap (λ y. Some (thread_state_of (mutator_in y))) same
-shown_by (x ∷ xs) (suc n) a e = shown_by xs n a e
-
--- what all show where one has changed
-shown_set : (actors : List AnyActor) (n : ℕ) (a : AnyActor) → map thread_state_of (mutators_in (slice_set actors n a)) ≡ slice_set (map thread_state_of (mutators_in actors)) n (thread_state_of (mutator_in a))
-shown_set [] n a = refl
-shown_set (x ∷ xs) zero a = refl
-shown_set (x ∷ xs) (suc n) a = ap (λ vs. thread_state_of (mutator_in x) ∷ vs) (shown_set xs n a)
-
--- ---- a step of an actor is one of its mutator
-
--- the words and the mutator after an action, as those of an actor of any kind
-same_acted : (words : List ℕ) (m : Mutating) (o : Option Action) → acted any_machine words (any.Mutator m) o ≡ ((acted mutator_machine words m o).0, any.Mutator (acted mutator_machine words m o).1)
-same_acted words m None = refl
-same_acted words m (Some act) = refl
-
--- so after its next step
-same_step : (words : List ℕ) (m : Mutating) → stepped any_machine words (any.Mutator m) ≡ ((stepped mutator_machine words m).0, any.Mutator (stepped mutator_machine words m).1)
-same_step words m = same_acted words m (action m)
-
--- the execution once the mutator of a number has made a step
-abbrev moved : Beginning → Execution → ℕ → Mutating → Execution
-moved b execution n m = record {
-  core = core_of (stepped mutator_machine execution.core.words m).0 (slice_set execution.core.actors n (any.Mutator (stepped mutator_machine execution.core.words m).1));
-  history = history_after b (epoch_state_of b execution []) m (stepped mutator_machine execution.core.words m).1;
-  at = places_after b (epoch_state_of b execution []) m;
-}
-
--- the execution by the actor of a number, where there is one
-abbrev told_with : Beginning → Execution → ℕ → Option AnyActor → Execution
-told_with b execution n o = record { core = happened any_machine execution.core (Step n) o; history = (after_step b execution o).0; at = (after_step b execution o).1 }
-
--- which is what is told of its turn
-tell_step : (b : Beginning) (execution : Execution) (n : ℕ) (m : Mutating) → slice_get execution.core.actors n ≡ Some (any.Mutator m) → tell b execution (Step n) ≡ moved b execution n m
-tell_step b execution n m there =
-    ap (told_with b execution n) there
-    ∙ ap (λ (p : List ℕ × AnyActor). record (moved b execution n m) { core = core_of p.0 (slice_set execution.core.actors n p.1) }) (same_step execution.core.words m)
-
--- ---- a mutator that makes no further step
-
--- a list is not one longer than itself
-longer : (n : ℕ) → nat_eq n (n + 1) ≡ false
-longer n = unlike_number n (n + 1) (λ e. omega (arith, e))
-
--- nothing comes to stand in the history, and no object is placed
-none_stands : (m : Mutating) (p : MutatorPhase) → action_in m p ≡ None → stands_in p m m ≡ false
-none_stands m (phase.Reference base) e = cc
-none_stands m (phase.Referent place) e = refl
-none_stands m p e = longer (length m.replies.items)
-
--- no object is placed
-none_placed : (b : Beginning) (s : EpochState) (m : Mutating) (p : MutatorPhase) → action_in m p ≡ None → places_in p b s m ≡ s.at
-none_placed b s m (phase.Heading place) e = cc
-none_placed b s m p e = refl
-
--- the execution stays
-at_rest : (b : Beginning) (execution : Execution) (n : ℕ) (m : Mutating) → slice_get execution.core.actors n ≡ Some (any.Mutator m) → action m ≡ None → moved b execution n m ≡ execution
-at_rest b execution n m there e =
-    let still : stepped mutator_machine execution.core.words m ≡ (execution.core.words, m) = ap (acted mutator_machine execution.core.words m) e in
-    let history : history_after b (epoch_state_of b execution []) m m ≡ execution.history = ap (λ c. if c then (Call m.thread (op_now m) (step (moment_of b (epoch_state_of b execution [])).state m.thread (op_now m)).1 ∷ execution.history) else execution.history) (none_stands m m.phase e) in
-    ap (λ (p : List ℕ × Mutating). record (moved b execution n m) {
-      core = core_of p.0 (slice_set execution.core.actors n (any.Mutator p.1));
-      history = history_after b (epoch_state_of b execution []) m p.1;
-    }) still
-    ∙ (ap (λ (actors : List AnyActor). record (moved b execution n m) { core = core_of execution.core.words actors; history = history_after b (epoch_state_of b execution []) m m }) (set_itself execution.core.actors n (any.Mutator m) there)
-    ∙ (ap (λ (h : List Item). record (moved b execution n m) { core = execution.core; history = h }) history
-    ∙ ap (λ (at : Name → ℕ). record execution { at = at }) (none_placed b (epoch_state_of b execution []) m m.phase e)))
-
--- ---- a mutator that makes a step
+-- ---- epoch states
 
 -- the epoch state by its parts
-abbrev epoch_state_by : Tables → List ThreadState → List Item → (Name → ℕ) → List Field → EpochState
-epoch_state_by t thread_states h at cleared = record { tables = t; thread_states = thread_states; history = h; at = at; cleared = cleared }
+abbrev epoch_state_by : Tables → List ThreadState → List Decrementing → List Item → (Name → ℕ) → List Field → EpochState
+epoch_state_by t thread_states ds h at cleared = record { tables = t; thread_states = thread_states; decrementers = ds; history = h; at = at; cleared = cleared }
 
 -- an epoch state is that of its parts
-epoch_state_same : (s : EpochState) (t : Tables) (thread_states : List ThreadState) (h : List Item) (at : Name → ℕ) → s.tables ≡ t → s.thread_states ≡ thread_states → s.history ≡ h → s.at ≡ at → s ≡ epoch_state_by t thread_states h at s.cleared
-epoch_state_same s t thread_states h at tables shown history places =
-    ap (λ z. epoch_state_by z s.thread_states s.history s.at s.cleared) tables
-    ∙ (ap (λ z. epoch_state_by t z s.history s.at s.cleared) shown
-    ∙ (ap (λ z. epoch_state_by t thread_states z s.at s.cleared) history ∙ ap (λ z. epoch_state_by t thread_states h z s.cleared) places))
+epoch_state_same : (s : EpochState) (t : Tables) (thread_states : List ThreadState) (ds : List Decrementing) (h : List Item) (at : Name → ℕ)
+    → s.tables ≡ t → s.thread_states ≡ thread_states → s.decrementers ≡ ds → s.history ≡ h → s.at ≡ at → s ≡ epoch_state_by t thread_states ds h at s.cleared
+epoch_state_same s t thread_states ds h at tables shown decrementers history places =
+    ap (λ z. epoch_state_by z s.thread_states s.decrementers s.history s.at s.cleared) tables
+    ∙ (ap (λ z. epoch_state_by t z s.decrementers s.history s.at s.cleared) shown
+    ∙ (ap (λ z. epoch_state_by t thread_states z s.history s.at s.cleared) decrementers
+    ∙ (ap (λ z. epoch_state_by t thread_states ds z s.at s.cleared) history ∙ ap (λ z. epoch_state_by t thread_states ds h z s.cleared) places)))
+
+-- what decrementers are about to do stays at events of mutators
+decrementers_stay : (b : Beginning) (s : EpochState) (i : ℕ) (v : ThreadState) (e : event.Event) → (happen b s i v e).decrementers ≡ s.decrementers
+decrementers_stay b s i v event.Stays = refl
+decrementers_stay b s i v event.Obeys = refl
+decrementers_stay b s i v event.Begins = refl
+decrementers_stay b s i v event.BeginsBlock = refl
+decrementers_stay b s i v (event.Bumps from shape) = refl
+decrementers_stay b s i v (event.DoesAtOnce o r registers) = refl
+decrementers_stay b s i v (event.FindsReference place index) = refl
+decrementers_stay b s i v (event.FindsValue place refs index) = refl
+decrementers_stay b s i v (event.FindsNone o) = refl
+decrementers_stay b s i v (event.LoadsReference o dest place index) = refl
+decrementers_stay b s i v (event.TellsName o n) = refl
+decrementers_stay b s i v (event.GetsValue o place refs index) = refl
+decrementers_stay b s i v (event.PutsValue o place refs index value) = refl
+decrementers_stay b s i v (event.SeesClear place index) = refl
+decrementers_stay b s i v (event.SeesFull place index) = refl
+decrementers_stay b s i v (event.LoadsOld place index) = refl
+decrementers_stay b s i v (event.ClearsFirst e n) = refl
+decrementers_stay b s i v (event.ClearsLate e) = refl
+decrementers_stay b s i v (event.StoresReference o place index value) = refl
+decrementers_stay b s i v event.DrawsRun = refl
+decrementers_stay b s i v event.MissesRun = refl
+decrementers_stay b s i v (event.SeesRun number) = refl
+decrementers_stay b s i v (event.TakesRun r shape) = refl
+decrementers_stay b s i v event.DrawsBlock = refl
+decrementers_stay b s i v event.MissesBlock = refl
+decrementers_stay b s i v (event.SeesBlock number) = refl
+decrementers_stay b s i v (event.TakesBlock block shape) = refl
+decrementers_stay b s i v (event.Wipes place shape wiped) = refl
+decrementers_stay b s i v (event.MakesObject o dest place shape) = refl
+decrementers_stay b s i v (event.Asks o r) = refl
+decrementers_stay b s i v (event.Leaves why) = refl
 
 -- which references' bits were cleared says nothing of places
 places_uncleared : (b : Beginning) (execution : Execution) (cleared : List Field) (m : Mutating) (p : MutatorPhase) → places_in p b (epoch_state_of b execution cleared) m ≡ places_in p b (epoch_state_of b execution []) m
 places_uncleared b execution cleared m (phase.Heading place) = refl
 places_uncleared b execution cleared m p = refl
 
+-- ---- what actors show
+
 -- the mutator of a number in an epoch state
 shows_as : (b : Beginning) (execution : Execution) (cleared : List Field) (n : ℕ) (m : Mutating) → IsExecution b execution cleared → slice_get execution.core.actors n ≡ Some (any.Mutator m)
     → ShowsAs b (epoch_state_of b execution cleared) execution.core.words n m
-shows_as b execution cleared n m is there = record {
+shows_as b execution cleared n m is there =
+    let stands = mutator_at execution.core.actors n m is.order there in
+    record {
+      epoch = is.epoch;
+      size = is.size;
+      tables = refl;
+      thread_state = mapped thread_state_of (mutators_in execution.core.actors) n m stands;
+      mutator = is.mutators n m stands;
+    }
+
+-- and the helper of a number among helpers
+shows_decrementer : (b : Beginning) (execution : Execution) (cleared : List Field) (n : ℕ) (d : DecrementerState) → IsExecution b execution cleared → (at : IsHelperAt execution.core.actors n d)
+    → ShowsDecrementer b (epoch_state_of b execution cleared) execution.core.words at.number d
+shows_decrementer b execution cleared n d is at = record {
   epoch = is.epoch;
   size = is.size;
   tables = refl;
-  thread_state = shown_by execution.core.actors n (any.Mutator m) there;
-  mutator = is.mutators n (any.Mutator m) there;
+  shows = mapped decrementing_of (decrementers_in execution.core.actors) at.number d at.stands;
+  decrementer = is.decrementers at.number d at.stands;
 }
 
--- one has changed, and is a mutator still
-mutators_set : (b : Beginning) (actors : List AnyActor) (n : ℕ) (x : AnyActor) → n < length actors → IsMutatorOf (limits_of b) (mutator_in x)
-    → ((i : ℕ) (a : AnyActor) → slice_get actors i ≡ Some a → IsMutatorOf (limits_of b) (mutator_in a))
-    → (i : ℕ) (a : AnyActor) → slice_get (slice_set actors n x) i ≡ Some a → IsMutatorOf (limits_of b) (mutator_in a)
-mutators_set b actors n x inside is all i a there = elim (eqb_tells i n) [
-  | inl q ↦
-      let same : Some x ≡ Some a = sym (slice_get-set actors n x i inside ∙ ap (λ c. cond c (Some x) (slice_get actors i)) q.0) ∙ there in
-      let same_actor : x ≡ a = cc in
-      subst (λ y. IsMutatorOf (limits_of b) (mutator_in y)) same_actor is
-  | inr q ↦ all i a (sym (slice_get-set actors n x i inside ∙ ap (λ c. cond c (Some x) (slice_get actors i)) q.0) ∙ there)
-]
+-- ---- places offered and given up
 
--- a mutator takes no offers
-offer_stays : (core : Core AnyActor) (n : ℕ) (place : Place) (o : Option AnyActor) → slice_get core.actors n ≡ o → happened any_machine core (Give n place) o ≡ core
-offer_stays core n place None e = refl
-offer_stays core n place (Some a) e = ap (core_of core.words) (set_itself core.actors n a e)
+-- a mutator takes no offers and gives nothing up
+offer_stays : (core : Core AnyActor) (n : ℕ) (place : Place) (m : Mutating) → slice_get core.actors n ≡ Some (any.Mutator m) → happened any_machine core (Give n place) (Some (any.Mutator m)) ≡ core
+offer_stays core n place m e = ap (core_of core.words) (set_itself core.actors n (any.Mutator m) e)
 
--- it gives nothing up
-spare_stays : (core : Core AnyActor) (n : ℕ) (o : Option AnyActor) → slice_get core.actors n ≡ o → happened any_machine core (Out n) o ≡ core
-spare_stays core n None e = refl
-spare_stays core n (Some a) e = ap (core_of core.words) (set_itself core.actors n a e)
+spare_stays : (core : Core AnyActor) (n : ℕ) (m : Mutating) → slice_get core.actors n ≡ Some (any.Mutator m) → happened any_machine core (Out n) (Some (any.Mutator m)) ≡ core
+spare_stays core n m e = ap (core_of core.words) (set_itself core.actors n (any.Mutator m) e)
 
--- of an epoch: steps are events, and events keep the invariant
+-- the execution where the helper of a number is another
+abbrev with_helper : Execution → ℕ → DecrementerState → Execution
+with_helper execution n e = record execution { core = core_of execution.core.words (slice_set execution.core.actors n (any.Decrementer e)) }
+
+-- one that is about to do the same keeps the invariant
+hint_kept : (b : Beginning) (execution : Execution) (n : ℕ) (d e : DecrementerState) → HoldsExecution b execution → slice_get execution.core.actors n ≡ Some (any.Decrementer d)
+    → IsDecrementerOf (limits_of b) e → decrementing_of e ≡ decrementing_of d → HoldsExecution b (with_helper execution n e)
+hint_kept b execution n d e (cleared, is) there of same =
+    let actors : List AnyActor = execution.core.actors in
+    let at = helper_at actors n d there in
+    let shown : map decrementing_of (decrementers_in (slice_set actors n (any.Decrementer e))) ≡ map decrementing_of (decrementers_in actors) =
+    ap (map decrementing_of) (at.put e)
+    ∙ (map-set decrementing_of (decrementers_in actors) at.number e
+    ∙ (ap (slice_set (map decrementing_of (decrementers_in actors)) at.number) same
+    ∙ set_itself (map decrementing_of (decrementers_in actors)) at.number (decrementing_of d) (mapped decrementing_of (decrementers_in actors) at.number d at.stands))) in
+    let mutators_same = mutators_stay actors n d e there in
+    let state : EpochState = epoch_state_of b execution cleared in (
+      cleared,
+      record {
+        epoch = subst (IsEpoch b) (epoch_state_same state state.tables (map thread_state_of (mutators_in (slice_set actors n (any.Decrementer e)))) (map decrementing_of (decrementers_in (slice_set actors n (any.Decrementer e))))
+            state.history state.at refl (ap (map thread_state_of) (sym mutators_same)) (sym shown) refl refl) is.epoch;
+        size = is.size;
+        order = put_order actors n (any.Decrementer d) (any.Decrementer e) there (two_helpers d e) is.order;
+        mutators = subst (λ ms. (i : ℕ) (m : Mutating) → slice_get ms i ≡ Some m → IsMutatorOf (limits_of b) m) (sym mutators_same) is.mutators;
+        decrementers = subst (λ ds. (i : ℕ) (x : DecrementerState) → slice_get ds i ≡ Some x → IsDecrementerOf (limits_of b) x) (sym (at.put e))
+            (each_set (IsDecrementerOf (limits_of b)) (decrementers_in actors) at.number e of is.decrementers);
+      },
+    )
+
+-- ---- schedules
+
+-- no cursor has fallen from an execution to another
+abbrev HasRisen : Beginning → Execution → Execution → Type 0
+HasRisen b before after = HaveNotFallen (tables_in (limits_of b) before.core.words) (tables_in (limits_of b) after.core.words)
+
+-- the invariant holds of an execution, to which no cursor has fallen from another
+abbrev HoldsRisen : Beginning → Execution → Execution → Type 0
+HoldsRisen b before after = HoldsExecution b after × HasRisen b before after
+
+-- an execution that is another one
+stays_risen : (b : Beginning) (before after : Execution) → after ≡ before → HoldsExecution b before → HoldsRisen b before after
+stays_risen b before after same holds = subst (HoldsRisen b before) (sym same) (holds, λ c. omega arith)
+
+-- of an epoch: steps of mutators are events, and events keep the invariant; steps of decrementers keep it too
 module _ (b : Beginning) where
-  -- a step keeps the invariant
+  -- a step of a mutator keeps the invariant
   step_kept : (execution : Execution) (cleared : List Field) (n : ℕ) (m : Mutating) → IsExecution b execution cleared → slice_get execution.core.actors n ≡ Some (any.Mutator m) → IsSome (action m)
-      → HoldsExecution b (moved b execution n m)
+      → HoldsRisen b execution (moved b execution n m)
   step_kept execution cleared n m is there some =
       let s : EpochState = epoch_state_of b execution cleared in
+      let actors : List AnyActor = execution.core.actors in
       let shows = shows_as b execution cleared n m is there in
       let by = each_step b s execution.core.words n m shows some in
       let after : EpochState = happen b s n (thread_state_of m) by.event in
       let epoch : IsEpoch b after = epoch_is_kept b s n (thread_state_of m) by.event is.epoch shows.thread_state by.may in
       let m' : Mutating = (stepped mutator_machine execution.core.words m).1 in
-      let thread_states = by.thread_states ∙ sym (shown_set execution.core.actors n (any.Mutator m')) in
-      let same = epoch_state_same after (tables_in (limits_of b) (stepped mutator_machine execution.core.words m).0) (map thread_state_of (mutators_in (slice_set execution.core.actors n (any.Mutator m'))))
-      (history_after b s m m') (places_after b (epoch_state_of b execution []) m) by.tables thread_states by.history (by.places ∙ places_uncleared b execution cleared m m.phase) in (
-        after.cleared,
-        record {
-          epoch = subst (IsEpoch b) same epoch;
-          size = by.size ∙ is.size;
-          mutators = mutators_set b execution.core.actors n (any.Mutator m') (slice_get_within execution.core.actors n (any.Mutator m) there) by.mutator is.mutators;
-        },
+      let put = mutators_put actors n m m' is.order there in
+      let stay = helpers_stay actors n m m' there in
+      let thread_states = by.thread_states ∙ (sym (map-set thread_state_of (mutators_in actors) n m') ∙ ap (map thread_state_of) (sym put)) in
+      let decrementers = decrementers_stay b s n (thread_state_of m) by.event ∙ ap (map decrementing_of) (sym stay) in
+      let same = epoch_state_same after (tables_in (limits_of b) (stepped mutator_machine execution.core.words m).0) (map thread_state_of (mutators_in (slice_set actors n (any.Mutator m'))))
+      (map decrementing_of (decrementers_in (slice_set actors n (any.Mutator m'))))
+      (history_after b s m m') (places_after b (epoch_state_of b execution []) m) by.tables thread_states decrementers by.history (by.places ∙ places_uncleared b execution cleared m m.phase) in (
+        (
+          after.cleared,
+          record {
+            epoch = subst (IsEpoch b) same epoch;
+            size = by.size ∙ is.size;
+            order = put_order actors n (any.Mutator m) (any.Mutator m') there (two_mutators m m') is.order;
+            mutators = subst (λ ms. (i : ℕ) (x : Mutating) → slice_get ms i ≡ Some x → IsMutatorOf (limits_of b) x) (sym put) (each_set (IsMutatorOf (limits_of b)) (mutators_in actors) n m' by.mutator is.mutators);
+            decrementers = subst (λ ds. (i : ℕ) (x : DecrementerState) → slice_get ds i ≡ Some x → IsDecrementerOf (limits_of b) x) (sym stay) is.decrementers;
+          },
+        ),
+        λ c. subst (λ (t : Tables). s.tables.cursors c ≤ t.cursors c) by.tables (cursors_dont_fall.mutators b s n (thread_state_of m) by.event is.epoch by.may c),
       )
 
-  -- so does the turn of a mutator, whether it makes a step or not
-  turn_kept : (execution : Execution) (n : ℕ) (m : Mutating) (o : Option Action) → action m ≡ o → HoldsExecution b execution → slice_get execution.core.actors n ≡ Some (any.Mutator m) → HoldsExecution b (moved b execution n m)
-  turn_kept execution n m None e holds there = subst (HoldsExecution b) (sym (at_rest b execution n m there e)) holds
+  -- so does a step of a decrementer
+  helper_kept : (execution : Execution) (cleared : List Field) (n : ℕ) (d : DecrementerState) → IsExecution b execution cleared → slice_get execution.core.actors n ≡ Some (any.Decrementer d)
+      → IsSome (decrementer_machine.action d) → HoldsRisen b execution (helper_moved execution n d)
+  helper_kept execution cleared n d is there some =
+      let s : EpochState = epoch_state_of b execution cleared in
+      let actors : List AnyActor = execution.core.actors in
+      let at = helper_at actors n d there in
+      let by = helper_step b s execution.core.words at.number d (shows_decrementer b execution cleared n d is at) some in
+      let d' : DecrementerState = (stepped decrementer_machine execution.core.words d).1 in
+      let after : EpochState = decremented s at.number by.access (decrementing_of d') in
+      let epoch : IsEpoch b after = decrementers_keep_epoch b s at.number by.access (decrementing_of d') is.epoch by.may in
+      let stay = mutators_stay actors n d d' there in
+      let decrementers = sym (map-set decrementing_of (decrementers_in actors) at.number d') ∙ ap (map decrementing_of) (sym (at.put d')) in
+      let same = epoch_state_same after (tables_in (limits_of b) (stepped decrementer_machine execution.core.words d).0) (map thread_state_of (mutators_in (slice_set actors n (any.Decrementer d'))))
+      (map decrementing_of (decrementers_in (slice_set actors n (any.Decrementer d')))) execution.history execution.at by.tables (ap (map thread_state_of) (sym stay)) decrementers refl refl in (
+        (
+          cleared,
+          record {
+            epoch = subst (IsEpoch b) same epoch;
+            size = by.size ∙ is.size;
+            order = put_order actors n (any.Decrementer d) (any.Decrementer d') there (two_helpers d d') is.order;
+            mutators = subst (λ ms. (i : ℕ) (m : Mutating) → slice_get ms i ≡ Some m → IsMutatorOf (limits_of b) m) (sym stay) is.mutators;
+            decrementers = subst (λ ds. (i : ℕ) (x : DecrementerState) → slice_get ds i ≡ Some x → IsDecrementerOf (limits_of b) x) (sym (at.put d'))
+                (each_set (IsDecrementerOf (limits_of b)) (decrementers_in actors) at.number d' by.decrementer is.decrementers);
+          },
+        ),
+        λ c. subst (λ (t : Tables). s.tables.cursors c ≤ t.cursors c) by.tables (cursors_dont_fall.decrementers b s at.number by.access (decrementing_of d') by.may c),
+      )
+
+  -- so does the turn of an actor, whether it makes a step or not
+  turn_kept : (execution : Execution) (n : ℕ) (m : Mutating) (o : Option Action) → action m ≡ o → HoldsExecution b execution → slice_get execution.core.actors n ≡ Some (any.Mutator m)
+      → HoldsRisen b execution (moved b execution n m)
+  turn_kept execution n m None e holds there = stays_risen b execution (moved b execution n m) (at_rest b execution n m there e) holds
   turn_kept execution n m (Some act) e holds there = step_kept execution holds.0 n m holds.1 there (subst IsSome (sym e) refl)
 
+  helper_turn_kept : (execution : Execution) (n : ℕ) (d : DecrementerState) (o : Option Action) → decrementer_machine.action d ≡ o → HoldsExecution b execution
+      → slice_get execution.core.actors n ≡ Some (any.Decrementer d) → HoldsRisen b execution (helper_moved execution n d)
+  helper_turn_kept execution n d None e holds there = stays_risen b execution (helper_moved execution n d) (helper_at_rest execution n d there e) holds
+  helper_turn_kept execution n d (Some act) e holds there = helper_kept execution holds.0 n d holds.1 there (subst IsSome (sym e) refl)
+
   -- the step of the actor of a number, where there is one
-  number_kept : (execution : Execution) (n : ℕ) (o : Option AnyActor) → slice_get execution.core.actors n ≡ o → HoldsExecution b execution → HoldsExecution b (tell b execution (Step n))
-  number_kept execution n None e holds = subst (HoldsExecution b) (sym (ap (told_with b execution n) e)) holds
-  number_kept execution n (Some (any.Mutator m)) e holds = subst (HoldsExecution b) (sym (tell_step b execution n m e)) (turn_kept execution n m (action m) refl holds e)
+  number_kept : (execution : Execution) (n : ℕ) (o : Option AnyActor) → slice_get execution.core.actors n ≡ o → HoldsExecution b execution → HoldsRisen b execution (tell b execution (Step n))
+  number_kept execution n None e holds = stays_risen b execution (tell b execution (Step n)) (ap (told_with b execution n) e) holds
+  number_kept execution n (Some (any.Mutator m)) e holds = subst (HoldsRisen b execution) (sym (tell_step b execution n m e)) (turn_kept execution n m (action m) refl holds e)
+  number_kept execution n (Some (any.Decrementer d)) e holds =
+      subst (HoldsRisen b execution) (sym (tell_helper b execution n d e)) (helper_turn_kept execution n d (decrementer_machine.action d) refl holds e)
+
+  -- a place that is offered to the actor of a number keeps it
+  offer_kept : (execution : Execution) (n : ℕ) (place : Place) (o : Option AnyActor) → slice_get execution.core.actors n ≡ o → HoldsExecution b execution
+      → HoldsRisen b execution (record execution { core = happened any_machine execution.core (Give n place) o })
+  offer_kept execution n place None e holds = (holds, λ c. omega arith)
+  offer_kept execution n place (Some (any.Mutator m)) e holds =
+      stays_risen b execution (record execution { core = happened any_machine execution.core (Give n place) (Some (any.Mutator m)) }) (ap (λ core. record execution { core = core }) (offer_stays execution.core n place m e)) holds
+  offer_kept execution n place (Some (any.Decrementer d)) e holds =
+      let at = helper_at execution.core.actors n d e in
+      let stay = (hints_stay (limits_of b) d (holds.1.decrementers at.number d at.stands)).offered place in
+      (hint_kept b execution n d (decrementer_machine.offered d place).0 holds e stay.0 stay.1, λ c. omega arith)
+
+  -- and so does one that it gives up
+  spare_kept : (execution : Execution) (n : ℕ) (o : Option AnyActor) → slice_get execution.core.actors n ≡ o → HoldsExecution b execution
+      → HoldsRisen b execution (record execution { core = happened any_machine execution.core (Out n) o })
+  spare_kept execution n None e holds = (holds, λ c. omega arith)
+  spare_kept execution n (Some (any.Mutator m)) e holds =
+      stays_risen b execution (record execution { core = happened any_machine execution.core (Out n) (Some (any.Mutator m)) }) (ap (λ core. record execution { core = core }) (spare_stays execution.core n m e)) holds
+  spare_kept execution n (Some (any.Decrementer d)) e holds =
+      let at = helper_at execution.core.actors n d e in
+      let stay = (hints_stay (limits_of b) d (holds.1.decrementers at.number d at.stands)).spared in
+      (hint_kept b execution n d (decrementer_machine.spared d).0 holds e stay.0 stay.1, λ c. omega arith)
 
   -- each event keeps it
-  event_kept : (execution : Execution) (e : Event) → HoldsExecution b execution → HoldsExecution b (tell b execution e)
+  event_kept : (execution : Execution) (e : Event) → HoldsExecution b execution → HoldsRisen b execution (tell b execution e)
   event_kept execution (Step n) holds = number_kept execution n (slice_get execution.core.actors n) refl holds
-  event_kept execution (Give n place) holds =
-      subst (λ core. HoldsExecution b (record execution { core = core })) (sym (offer_stays execution.core n place (slice_get execution.core.actors n) refl)) holds
-  event_kept execution (Out n) holds =
-      subst (λ core. HoldsExecution b (record execution { core = core })) (sym (spare_stays execution.core n (slice_get execution.core.actors n) refl)) holds
+  event_kept execution (Give n place) holds = offer_kept execution n place (slice_get execution.core.actors n) refl holds
+  event_kept execution (Out n) holds = spare_kept execution n (slice_get execution.core.actors n) refl holds
 
   -- each schedule keeps it
-  pub all_kept : (execution : Execution) (schedule : List Event) → HoldsExecution b execution → HoldsExecution b (tell_all b execution schedule)
-  all_kept execution [] holds = holds
-  all_kept execution (e ∷ es) holds = all_kept (tell b execution e) es (event_kept execution e holds)
+  pub all_kept : (execution : Execution) (schedule : List Event) → HoldsExecution b execution → HoldsRisen b execution (tell_all b execution schedule)
+  all_kept execution [] holds = (holds, λ c. omega arith)
+  all_kept execution (e ∷ es) holds =
+      let first = event_kept execution e holds in
+      let rest = all_kept (tell b execution e) es first.0 in
+      (rest.0, λ c. (let low = first.1 c in let high = rest.1 c in omega (arith, low, high)))
 
   -- the core is that of the fold
   pub same_core : (execution : Execution) (schedule : List Event) → (tell_all b execution schedule).core ≡ run any_machine execution.core schedule
@@ -219,18 +302,24 @@ module _ (b : Beginning) where
   fits_now : (execution : Execution) (n : ℕ) (a : AnyActor) → HoldsExecution b execution → slice_get execution.core.actors n ≡ Some a → Fits any_machine execution.core.words a
   fits_now execution n (any.Mutator m) holds there act e =
       (each_step b (epoch_state_of b execution holds.0) execution.core.words n m (shows_as b execution holds.0 n m holds.1 there) (subst IsSome (sym e) refl)).fits act e
+  fits_now execution n (any.Decrementer d) holds there act e =
+      let at = helper_at execution.core.actors n d there in
+      (helper_step b (epoch_state_of b execution holds.0) execution.core.words at.number d (shows_decrementer b execution holds.0 n d holds.1 at) (subst IsSome (sym e) refl)).fits act e
 
   -- after every schedule
   fits_always : (execution : Execution) → HoldsExecution b execution → AlwaysFits any_machine execution.core
   unfolding AlwaysFits
   fits_always execution holds schedule n =
       subst (λ core. FitsAt any_machine core n) (same_core execution schedule)
-      (λ a there. fits_now (tell_all b execution schedule) n a (all_kept execution schedule holds) there)
+      (λ a there. fits_now (tell_all b execution schedule) n a (all_kept execution schedule holds).0 there)
 
 -- the law
 pub epoch_invariant_holds : EpochInvariantHolds
-epoch_invariant_holds b execution schedule holds = record {
-  holds = all_kept b execution schedule holds;
-  core = same_core b execution schedule;
-  fits = fits_always b execution holds;
-}
+epoch_invariant_holds b execution schedule holds =
+    let kept = all_kept b execution schedule holds in
+    record {
+      holds = kept.0;
+      core = same_core b execution schedule;
+      risen = kept.1;
+      fits = fits_always b execution holds;
+    }

@@ -1,10 +1,13 @@
+pub mod OrderLemmas
+pub mod MappedLemmas
 pub mod StartingLemmas
 pub mod OwnerLemmas
 pub mod OpeningLemmas
 pub mod AgainLemmas
 pub mod OpenedLemmas
 pub mod ScriptLemmas
-pub mod ExecutionLemmas
 pub mod CollectingLemmas
 pub mod ClosingLemmas
 pub mod KeptLemmas
+pub mod TurnLemmas
+pub mod ExecutionLemmas

@@ -1,8 +1,8 @@
 -- An epoch that is opened: what its actors show, and that its invariant holds of the execution that begins.
-use Rattle.std.proofs.Common.{◌≡◌, ◌≢◌, ℕ, zero, suc, ◌+◌, ◌-◌, ◌*◌, ◌/◌, ◌%◌, ◌^◌, ◌<◌, ◌≤◌, refl, sym, ap, subst, ◌∙◌, inl, inr, arith, true, false, List, [], ◌∷◌, length}
+use Rattle.std.proofs.Common.{◌≡◌, ◌≢◌, ℕ, ◌+◌, ◌-◌, ◌*◌, ◌/◌, ◌%◌, ◌^◌, ◌<◌, ◌≤◌, refl, sym, ap, subst, ◌∙◌, inl, inr, arith, true, false, List, [], length}
 use Rattle.std.specs.Prelude.{All, Option, Some, None, map, slice_get, slice_index_or, take, drop}
 use Rattle.std.proofs.Math.ListN.{get_or-map}
-use Rattle.std.proofs.lemmas.List.{get_or-drop, get_or-take, length-drop, length-take-le}
+use Rattle.std.proofs.lemmas.List.{get_or-drop, get_or-take, length-drop, length-map, length-take-le}
 use Rattle.std.proofs.lemmas.List.Elements.{All-from_get_or}
 use Rattle.std.proofs.lemmas.Option.{slice_get-get_or, slice_get_within}
 use Rattle.lxr_layout.specs.declared.TheConstants.{PAUSE_WORD}
@@ -27,6 +27,11 @@ use Rattle.lxr_mutator.specs.declared.phases.MutatorPhase.{MutatorPhase}
 use Rattle.lxr_mutator.specs.declared.phases.MutatorPhase.TheVariants as phase
 use Rattle.lxr_mutator.specs.Mutating.{Mutating, nil, rests_in}
 use Rattle.lxr_mutator.specs.Mutators.{IsHeld, IsMutator, MayBeIn, again, phase_again}
+use Rattle.lxr_decrement.specs.Decrementing.{DecrementerState}
+use Rattle.lxr_decrement.specs.Decrementers.{again as empty_again}
+use Rattle.lxr_core_access.specs.Decrementers.{Decrementing}
+use Rattle.lxr_core_sim_decrementer.specs.Showing.{IsDecrementerOf, decrementing_of}
+use Rattle.lxr_core_sim_decrementer.proofs.HintLemmas.{hints_stay}
 use Rattle.lxr_core_events.specs.ThreadStates.{ThreadState, Through, all_of}
 use Rattle.lxr_core_events.specs.EpochStates.{Beginning, IsBeginning, EpochState, limits_of}
 use Rattle.lxr_core_events.specs.Imaged.{HoldsRegisters}
@@ -36,13 +41,16 @@ use Rattle.lxr_core_events.proofs.HeldLemmas as model
 use Rattle.lxr_core_sim_mutator.specs.Showing.{IsMutatorOf, IsSteadyIn, WaitsForNew, reason_by, stage_in, thread_state_of}
 use Rattle.lxr_core_sim_mutator.proofs.NamingLemmas.{named_after}
 use Rattle.lxr_core.specs.declared.actors.AnyActor.{AnyActor}
-use Rattle.lxr_core.specs.Actors.{mutator_in, mutators_in}
-use Rattle.lxr_core.specs.Resting.{FitsThread, RestAfter, RestsAfter}
+use Rattle.lxr_core.specs.declared.actors.AnyActor.TheVariants as any
+use Rattle.lxr_core.specs.Actors.{AreInOrder, decrementers_in, mutators_in}
+use Rattle.lxr_core.specs.Resting.{ActorsRestAfter, FitsThread, RestsAfter}
 use Rattle.lxr_core.specs.Starting.{HaveStarted, MayAllStart, registers_in, started_again}
 use Rattle.lxr_core.specs.Executions.{HoldsExecution, epoch_state_of}
 use Rattle.lxr_core.specs.Opening.{Begins, MayOpen, Opens, execution_at}
 use Rattle.lxr_core.proofs.AgainLemmas.{registers_held}
-use Rattle.lxr_core.proofs.StartingLemmas.{AllStart, Starts, StartsIn, anew, opening_epoch_state, over}
+use Rattle.lxr_core.proofs.MappedLemmas.{mapped_from}
+use Rattle.lxr_core.proofs.OrderLemmas.{AreAlike, SameKind, alike_counts, alike_order, helper_at, helper_from, lengths_add, mutator_at, mutator_from, two_helpers, two_mutators}
+use Rattle.lxr_core.proofs.StartingLemmas.{AllRest, AllStart, Starts, StartsIn, anew, opening_epoch_state, over}
 use Rattle.lxr_core.proofs.OpeningLemmas.{opens}
 
 -- ---- registers
@@ -163,17 +171,6 @@ again_starts b places i m are many less rests =
 
 -- ---- all of them
 
--- whose thread state it is
-pub thread_state_at : (actors : List AnyActor) (i : ℕ) (v : ThreadState) → slice_get (map thread_state_of (mutators_in actors)) i ≡ Some v → (a : AnyActor) × (slice_get actors i ≡ Some a) × (v ≡ thread_state_of (mutator_in a))
-thread_state_at [] i v e = cc
-thread_state_at (a ∷ actors) zero v e = (a, refl, cc)
-thread_state_at (a ∷ actors) (suc i) v e = thread_state_at actors i v e
-
--- as many thread states as actors
-pub thread_states_length : (actors : List AnyActor) → length (map thread_state_of (mutators_in actors)) ≡ length actors
-thread_states_length [] = refl
-thread_states_length (a ∷ actors) = ap suc (thread_states_length actors)
-
 -- what it was
 was_at : (places : List Place) (before after : List AnyActor) (i : ℕ) (x : AnyActor) → HaveStarted places before after (length before) → slice_get after i ≡ Some x
     → (a : AnyActor) × (slice_get before i ≡ Some a) × (x ≡ started_again a (registers_in places i))
@@ -186,8 +183,61 @@ was_at places before after i x is there =
     let same : Some x ≡ Some (started_again (slice_index_or before i x) (registers_in places i)) = sym there ∙ now in
     (slice_index_or before i x, was, cc)
 
+-- a mutator that has begun again was a mutator
+mutator_was : (a : AnyActor) (registers : List Place) (m : Mutating) → any.Mutator m ≡ started_again a registers → (x : Mutating) × (a ≡ any.Mutator x) × (m ≡ again x registers)
+mutator_was (any.Mutator x) registers m e = (x, refl, cc)
+mutator_was (any.Decrementer d) registers m e = absurd (cc)
+
+-- and a helper a helper
+helper_was : (a : AnyActor) (registers : List Place) (d : DecrementerState) → any.Decrementer d ≡ started_again a registers → (x : DecrementerState) × (a ≡ any.Decrementer x) × (d ≡ empty_again x)
+helper_was (any.Mutator m) registers d e = absurd (cc)
+helper_was (any.Decrementer x) registers d e = (x, refl, cc)
+
+-- one that begins again is of the kind that it was
+again_alike : (places : List Place) (before after : List AnyActor) → HaveStarted places before after (length before) → AreAlike before after
+again_alike places before after is = record {
+  as_many = is.as_many;
+  each = λ i a there. (started_again a (registers_in places i), is.started i a there (slice_get_within before i a there), of_kind a (registers_in places i));
+}
+  where
+    of_kind : (a : AnyActor) (registers : List Place) → SameKind a (started_again a registers)
+    of_kind (any.Mutator m) registers = two_mutators m (again m registers)
+    of_kind (any.Decrementer d) registers = two_helpers d (empty_again d)
+
+-- a mutator and a helper that have begun again, with what they were
+pub record WasMutator (places : List Place) (before : List AnyActor) (i : ℕ) (m : Mutating) : Type 0 where
+  pub was : Mutating
+  pub stood : slice_get (mutators_in before) i ≡ Some was
+  pub is : m ≡ again was (registers_in places i)
+
+pub record WasHelper (before : List AnyActor) (d : DecrementerState) : Type 0 where
+  pub was : DecrementerState
+  pub number : ℕ
+  pub stood : slice_get (decrementers_in before) number ≡ Some was
+  pub is : d ≡ empty_again was
+
+-- of actors in order that have all begun again
+module _ (places : List Place) (before after : List AnyActor) (order : AreInOrder before) (started : HaveStarted places before after (length before)) where
+  -- they are in order
+  pub started_order : AreInOrder after
+  started_order = alike_order before after (again_alike places before after started) order
+
+  pub mutator_started : (i : ℕ) (m : Mutating) → slice_get (mutators_in after) i ≡ Some m → WasMutator places before i m
+  mutator_started i m there =
+      let (a, stood, e) = was_at places before after i (any.Mutator m) started (mutator_from after i m started_order there) in
+      let (x, kind, same) = mutator_was a (registers_in places i) m e in
+      record { was = x; stood = mutator_at before i x order (stood ∙ ap Some kind); is = same }
+
+  pub helper_started : (i : ℕ) (d : DecrementerState) → slice_get (decrementers_in after) i ≡ Some d → WasHelper before d
+  helper_started i d there =
+      let (n, at) = helper_from after i d there in
+      let (a, stood, e) = was_at places before after n (any.Decrementer d) started at in
+      let (x, kind, same) = helper_was a (registers_in places n) d e in
+      let old = helper_at before n x (stood ∙ ap Some kind) in
+      record { was = x; number = old.number; stood = old.stands; is = same }
+
 -- of the actors of an epoch that may be opened, once all have begun again
-module _ (b : Beginning) (before after : List AnyActor) (begins : IsBeginning b) (rest : RestAfter (limits_of b) b.every b.history before)
+module _ (b : Beginning) (before after : List AnyActor) (begins : IsBeginning b) (rest : ActorsRestAfter (limits_of b) b.every b.history before)
     (started : HaveStarted b.space.registers.items before after (length before)) where
   -- the registers of the space
   are : ArePlacesOf b.abstract_state.at b.space.registers.items b.abstract_state.moment.state.registers
@@ -202,28 +252,55 @@ module _ (b : Beginning) (before after : List AnyActor) (begins : IsBeginning b)
   places_held = all_held (tables_of b.space) b.space.limits.blocks b.abstract_state.at b.abstract_state.moment b.space.registers.items begins.between.safepoint.holds.follows begins.between.safepoint.holds.image.image
       begins.between.safepoint.holds.space.limits.blocks.1 are
 
-  -- each actor is one that has begun again
-  below_threads : (i : ℕ) (a : AnyActor) → slice_get before i ≡ Some a → i < (limits_of b).threads
-  below_threads i a there = let inside = slice_get_within before i a there in let all = rest.as_many in omega (arith, inside, all)
+  -- each mutator is one of a thread
+  below_threads : (i : ℕ) (m : Mutating) → slice_get (mutators_in before) i ≡ Some m → i < (limits_of b).threads
+  below_threads i m there = let inside = slice_get_within (mutators_in before) i m there in let all = rest.mutators.as_many in omega (arith, inside, all)
+
+  -- what a mutator was
+  abbrev was_mutator : (i : ℕ) (m : Mutating) → slice_get (mutators_in after) i ≡ Some m → WasMutator b.space.registers.items before i m
+  was_mutator i m there = mutator_started b.space.registers.items before after rest.helpers.order started i m there
+
+  -- and a helper
+  abbrev was_helper : (i : ℕ) (d : DecrementerState) → slice_get (decrementers_in after) i ≡ Some d → WasHelper before d
+  was_helper i d there = helper_started b.space.registers.items before after rest.helpers.order started i d there
 
   -- all show what mutators show as an epoch opens
   pub all_start : AllStart b (map thread_state_of (mutators_in after))
   all_start = record {
-    as_many = thread_states_length after ∙ (started.as_many ∙ rest.as_many);
+    as_many = length-map (mutators_in after) thread_state_of ∙ (alike_counts before after (again_alike b.space.registers.items before after started) ∙ rest.mutators.as_many);
     each = λ i v shown.
-        let x = thread_state_at after i v shown in
-        let a = was_at b.space.registers.items before after i x.0 started x.1 in
-        let same : v ≡ thread_state_of (again (mutator_in a.0) (registers_in b.space.registers.items i)) = x.2 ∙ ap (λ z. thread_state_of (mutator_in z)) a.2 in
-        subst (Starts b i) (sym same) (again_starts b b.space.registers.items i (mutator_in a.0) are many (below_threads i a.0 a.1) (rest.each i a.0 a.1));
+        let (m, there, same) = mapped_from thread_state_of (mutators_in after) i v shown in
+        let old = was_mutator i m there in
+        subst (Starts b i) (sym (same ∙ ap thread_state_of old.is)) (again_starts b b.space.registers.items i old.was are many (below_threads i old.was old.stood) (rest.mutators.each i old.was old.stood));
   }
 
   -- all are mutators still
-  pub all_mutators : (i : ℕ) (x : AnyActor) → slice_get after i ≡ Some x → IsMutatorOf (limits_of b) (mutator_in x)
-  all_mutators i x there =
-      let a = was_at b.space.registers.items before after i x started there in
-      subst (λ z. IsMutatorOf (limits_of b) (mutator_in z)) (sym a.2)
-      (again_mutator (limits_of b) (mutator_in a.0) (registers_in b.space.registers.items i) (rest.each i a.0 a.1).mutator (rest.each i a.0 a.1).rests
-      (sixteen_of b.space.registers.items (limits_of b).threads i many (below_threads i a.0 a.1)) (registers_held b.space.registers.items i places_held))
+  pub all_mutators : (i : ℕ) (m : Mutating) → slice_get (mutators_in after) i ≡ Some m → IsMutatorOf (limits_of b) m
+  all_mutators i m there =
+      let old = was_mutator i m there in
+      let rests = rest.mutators.each i old.was old.stood in
+      subst (IsMutatorOf (limits_of b)) (sym old.is)
+      (again_mutator (limits_of b) old.was (registers_in b.space.registers.items i) rests.mutator rests.rests
+      (sixteen_of b.space.registers.items (limits_of b).threads i many (below_threads i old.was old.stood)) (registers_held b.space.registers.items i places_held))
+
+  -- all helpers are decrementers still
+  pub all_helpers : (i : ℕ) (d : DecrementerState) → slice_get (decrementers_in after) i ≡ Some d → IsDecrementerOf (limits_of b) d
+  all_helpers i d there =
+      let old = was_helper i d there in
+      subst (IsDecrementerOf (limits_of b)) (sym old.is) (hints_stay (limits_of b) old.was (rest.helpers.each old.number old.was old.stood).decrementer).again
+
+  -- and rest
+  pub helpers_rest : length before < 2 ^ 63 → AllRest (map decrementing_of (decrementers_in after))
+  helpers_rest few = record {
+    few =
+        let shown = length-map (decrementers_in after) decrementing_of in
+        let sum = lengths_add after in
+        let as_many = started.as_many in
+        omega (arith, shown, sum, as_many, few);
+    each = λ i shows at.
+        let (d, there, same) = mapped_from decrementing_of (decrementers_in after) i shows at in
+        same ∙ ap decrementing_of (was_helper i d there).is;
+  }
 
 -- what opening the epoch asks of the space and the actors
 pub held_before : (g : AbstractState) (before : Space) (actors : List AnyActor) → MayOpen g before actors → All IsHeld before.registers.items
@@ -233,7 +310,10 @@ held_before g before actors may =
 
 -- the actors rest, and have given up what they drew
 pub may_all_start : (g : AbstractState) (before : Space) (actors : List AnyActor) → MayOpen g before actors → MayAllStart actors
-may_all_start g before actors may i a there = record { rests = (may.fit.each i a there).rests; spans = (may.fit.each i a there).spans }
+may_all_start g before actors may i (any.Mutator m) there =
+    let fits = may.fit.each i m (mutator_at actors i m may.fit.helpers.order there) in
+    record { rests = fits.rests; spans = fits.spans }
+may_all_start g before actors may i (any.Decrementer d) there = tt
 
 -- what rests after a history fits what it led to
 fits_after : (b : Beginning) (t : ℕ) (m : Mutating) → IsBeginning b → 1 ≤ t → t ≤ (limits_of b).threads → RestsAfter (limits_of b) b.every b.history t m → FitsThread (limits_of b) b.abstract_state.moment.state.graph t m
@@ -257,11 +337,12 @@ may_open b space actors is = subst (λ s. MayOpen b.abstract_state s actors) is.
   between = is.begins.between;
   listed = is.begins.listed;
   fit = record {
-    as_many = is.actors_rest.as_many;
-    each = λ i a there.
-        let within = slice_get_within actors i a there in
-        let many = is.actors_rest.as_many in
-        fits_after b (i + 1) (mutator_in a) is.begins (omega arith) (omega (arith, within, many)) (is.actors_rest.each i a there);
+    as_many = is.actors_rest.mutators.as_many;
+    each = λ i m there.
+        let within = slice_get_within (mutators_in actors) i m there in
+        let many = is.actors_rest.mutators.as_many in
+        fits_after b (i + 1) m is.begins (omega arith) (omega (arith, within, many)) (is.actors_rest.mutators.each i m there);
+    helpers = is.actors_rest.helpers;
   };
 })
 
@@ -270,38 +351,40 @@ size_is : (l : Limits) (words : List ℕ) → (tables_in l words).size ≡ lengt
 unfolding tables_in
 size_is l words = refl
 
--- the epoch state of these tables and thread states
-abbrev epoch_state_with : Beginning → Tables → List ThreadState → EpochState
-epoch_state_with b t thread_states = record { tables = t; thread_states = thread_states; history = b.history; at = b.abstract_state.at; cleared = [] }
+-- the epoch state of these tables, thread states and decrementers
+abbrev epoch_state_with : Beginning → Tables → List ThreadState → List Decrementing → EpochState
+epoch_state_with b t thread_states ds = record { tables = t; thread_states = thread_states; decrementers = ds; history = b.history; at = b.abstract_state.at; cleared = [] }
 
 -- the epoch state of the execution that begins
 epoch_state_opened : (b : Beginning) (after : Space) (actors : List AnyActor) → after.limits ≡ b.space.limits
     → tables_of after ≡ record (tables_of b.space) { cursors = changed (tables_of b.space).cursors PAUSE_WORD 0 }
-    → opening_epoch_state b (map thread_state_of (mutators_in actors)) ≡ epoch_state_of b (execution_at b after actors) []
+    → opening_epoch_state b (map thread_state_of (mutators_in actors)) (map decrementing_of (decrementers_in actors)) ≡ epoch_state_of b (execution_at b after actors) []
 epoch_state_opened b after actors limits tables =
     let same : tables_in b.space.limits after.words ≡ record (tables_of b.space) { cursors = changed (tables_of b.space).cursors PAUSE_WORD 0 } =
     ap (λ l. tables_in l after.words) (sym limits) ∙ tables in
-    ap (λ t. epoch_state_with b t (map thread_state_of (mutators_in actors))) (sym same)
+    ap (λ t. epoch_state_with b t (map thread_state_of (mutators_in actors)) (map decrementing_of (decrementers_in actors))) (sym same)
 
 -- the invariant of the epoch holds
-holds : (b : Beginning) (after : Space) (before now : List AnyActor) → Begins b b.space before → Opens b.space after before now → HoldsExecution b (execution_at b after now)
-holds b after before now is opened =
+holds : (b : Beginning) (after : Space) (before now : List AnyActor) → length before < 2 ^ 63 → Begins b b.space before → Opens b.space after before now → HoldsExecution b (execution_at b after now)
+holds b after before now few is opened =
     let limits : after.limits ≡ b.space.limits = ap (λ s. s.limits) opened.space.rest in
     let start = all_start b before now is.begins is.actors_rest opened.actors in
-    let epoch = opens b (map thread_state_of (mutators_in now)) is.begins start is.served.few is.served.unasked in
+    let epoch = opens b (map thread_state_of (mutators_in now)) (map decrementing_of (decrementers_in now)) is.begins start (helpers_rest b before now is.begins is.actors_rest opened.actors few) is.served.few is.served.unasked in
     let size : (tables_in after.limits after.words).size ≡ region_begin b.space.limits 15 = ap (λ t. t.size) opened.space.tables ∙ is.begins.between.safepoint.holds.space.size in (
       [],
       record {
         epoch = subst (IsEpoch b) (epoch_state_opened b after now limits opened.space.tables) epoch;
         size = sym (size_is after.limits after.words) ∙ size;
+        order = started_order b.space.registers.items before now is.actors_rest.helpers.order opened.actors;
         mutators = all_mutators b before now is.begins is.actors_rest opened.actors;
+        decrementers = all_helpers b before now is.begins is.actors_rest opened.actors;
       },
     )
 
 -- the same of the space as it stood before
-pub holds_at : (b : Beginning) (before after : Space) (actors now : List AnyActor) → Begins b before actors → Opens before after actors now → HoldsExecution b (execution_at b after now)
-holds_at b before after actors now is opened =
-    subst (λ s. Begins b s actors → Opens s after actors now → HoldsExecution b (execution_at b after now)) is.space_is (holds b after actors now) is opened
+pub holds_at : (b : Beginning) (before after : Space) (actors now : List AnyActor) → length actors < 2 ^ 63 → Begins b before actors → Opens before after actors now → HoldsExecution b (execution_at b after now)
+holds_at b before after actors now few is opened =
+    subst (λ s. Begins b s actors → Opens s after actors now → HoldsExecution b (execution_at b after now)) is.space_is (holds b after actors now few) is opened
 
 -- the registers that the space has are those that it had
 pub opened_at : (before after : Space) (actors now : List AnyActor) → Turns before after (record (tables_of before) { cursors = changed (tables_of before).cursors PAUSE_WORD 0 })

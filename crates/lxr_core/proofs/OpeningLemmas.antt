@@ -1,6 +1,6 @@
 -- The invariant of an epoch holds as it opens.
-use Rattle.std.proofs.Common.{◌≡◌, ◌≢◌, ℕ, ◌+◌, ◌≤◌, refl, sym, ap, subst, ◌∙◌, inl, arith, true, false, List, [], ◌∷◌, ◌++◌, length}
-use Rattle.std.specs.Prelude.{Some, IsTrue, slice_get, take, suc, if◌then◌else◌}
+use Rattle.std.proofs.Common.{◌≡◌, ℕ, ◌+◌, ◌≤◌, refl, sym, ap, subst, ◌∙◌, inl, arith, true, false, List, [], ◌∷◌, ◌++◌, length}
+use Rattle.std.specs.Prelude.{Some, IsTrue, slice_get, take, suc}
 use Rattle.std.specs.List.Sorted.{IsPermutation}
 use Rattle.std.proofs.lemmas.List.Sorted.{IsPermutation-refl}
 use Rattle.std.proofs.lemmas.List.Concat.{flat_map-cons}
@@ -18,6 +18,7 @@ use Rattle.lxr_invariant.specs.Standing.{HasBits}
 use Rattle.lxr_invariant.specs.Lines.{KeepLines, LinesAreOut}
 use Rattle.lxr_invariant.proofs.EntryLemmas.{changed_other}
 use Rattle.lxr_invariant.proofs.FrameLemmas.{bits_still, image_still}
+use Rattle.lxr_core_access.specs.Decrementers.{Decrementing}
 use Rattle.lxr_core_events.specs.ThreadStates.{Stage, ThreadState, Rests, Through, Works, all_of}
 use Rattle.lxr_core_events.specs.ThreadStates as intent
 use Rattle.lxr_core_events.specs.EpochStates.{Beginning, IsBeginning, EpochState, limits_of, moment_of, opening_tables, same}
@@ -28,7 +29,8 @@ use Rattle.lxr_core_events.specs.Logged.{AreBitsAndLogs, logs_of, with_cleared}
 use Rattle.lxr_core_events.specs.Drawn.{AreFixed, Drawers, HasDrawn, IsDrawnMemory}
 use Rattle.lxr_core_events.specs.Called.{AreCalled, AreReplies, IsWithinTurn, HasCalled, uncounted, waiting_in}
 use Rattle.lxr_core_events.specs.Epoch.{IsEpoch}
-use Rattle.lxr_core.proofs.StartingLemmas.{AllStart, Starts, StartsIn, anew, over, no_work, opening_epoch_state}
+use Rattle.lxr_core_inv_counts.proofs.KeepingLemmas.{opening_counts}
+use Rattle.lxr_core.proofs.StartingLemmas.{AllRest, AllStart, Starts, StartsIn, anew, over, no_work, opening_epoch_state}
 use Rattle.lxr_core.proofs.OwnerLemmas.{one_owner}
 
 -- no field is in an empty list
@@ -38,10 +40,10 @@ no_field fields w e h = let k : false ≡ true = sym (ap (λ z. has_field z w) e
 -- ---- stages
 
 -- nothing is known of objects
-knows_at_start : (b : Beginning) (thread_states : List ThreadState) (v : ThreadState) (stage : Stage) → StartsIn v stage
-    → Knows (opening_epoch_state b thread_states).tables (moment_of b (opening_epoch_state b thread_states)) b.abstract_state.at v stage
-knows_at_start b thread_states v stage (anew _) = tt
-knows_at_start b thread_states v stage (over _) = tt
+knows_at_start : (b : Beginning) (thread_states : List ThreadState) (ds : List Decrementing) (v : ThreadState) (stage : Stage) → StartsIn v stage
+    → Knows (opening_epoch_state b thread_states ds).tables (moment_of b (opening_epoch_state b thread_states ds)) b.abstract_state.at v stage
+knows_at_start b thread_states ds v stage (anew _) = tt
+knows_at_start b thread_states ds v stage (over _) = tt
 
 -- no number is drawn
 abbrev none_drawn : Drawers
@@ -81,12 +83,12 @@ no_logs [] empty = refl
 no_logs (v ∷ thread_states) empty =
     flat_map-cons (λ w. w.log.items) v thread_states ∙ (ap (λ z. z ++ logs_of thread_states) (empty 0 v refl) ∙ no_logs thread_states (λ i. empty (suc i)))
 
--- of an epoch that opens with these thread states
-module _ (b : Beginning) (thread_states : List ThreadState) (begins : IsBeginning b) (starts : AllStart b thread_states)
+-- of an epoch that opens with these thread states and these decrementers
+module _ (b : Beginning) (thread_states : List ThreadState) (ds : List Decrementing) (begins : IsBeginning b) (starts : AllStart b thread_states) (rest : AllRest ds)
     (few : (t : ℕ) → calls_since_pause t b.history ≤ 1) (unasked : (t : ℕ) → has_asked t b.history ≡ false) where
   -- its epoch state
   abbrev s : EpochState
-  s = opening_epoch_state b thread_states
+  s = opening_epoch_state b thread_states ds
 
   -- its moment
   abbrev m : Moment
@@ -126,7 +128,7 @@ module _ (b : Beginning) (thread_states : List ThreadState) (begins : IsBeginnin
     image = image_still (opening_tables b) s.tables (limits_of b).blocks b.abstract_state.at m.state.graph (members m) (members m) refl (λ n h. h) image;
     world = begins.between.safepoint.holds.image.world;
     unmoved = λ n h. refl;
-    knows = λ i v shown. knows_at_start b thread_states v v.stage (starts.each i v shown).stage;
+    knows = λ i v shown. knows_at_start b thread_states ds v v.stage (starts.each i v shown).stage;
   }
 
   -- and registers hold their places
@@ -164,7 +166,7 @@ module _ (b : Beginning) (thread_states : List ThreadState) (begins : IsBeginnin
   drawn = record {
     drawers = none_drawn;
     numbers = record { runs = sym begins.listed.no_runs_drawn; blocks = sym begins.listed.no_blocks_drawn };
-    one = one_owner b thread_states begins.listed starts image lines;
+    one = one_owner b thread_states ds begins.listed starts image lines;
     hands = λ i v shown. none_in_hand b none_drawn (i + 1) v v.stage (starts.each i v shown).stage;
     spans = λ i v from shown. inl (no_spans i v from shown);
     makes = λ i v place shape wiped shown stage. no_work v (intent.Makes place shape wiped) v.stage (starts.each i v shown).stage stage;
@@ -176,7 +178,8 @@ module _ (b : Beginning) (thread_states : List ThreadState) (begins : IsBeginnin
   fixed : AreFixed b s
   fixed = record {
     tables = refl;
-    cursors = λ c other _ _. changed_other (opening_tables b).cursors PAUSE_WORD 0 c other;
+    counts = λ k unstarted. refl;
+    cursors = λ c other _ _ _. changed_other (opening_tables b).cursors PAUSE_WORD 0 c other;
     word = inl refl;
     runs = let none = begins.listed.no_runs_drawn in omega (arith, none);
     blocks = let none = begins.listed.no_blocks_drawn in omega (arith, none);
@@ -219,6 +222,7 @@ module _ (b : Beginning) (thread_states : List ThreadState) (begins : IsBeginnin
     lives = follows;
     image = imaged;
     logged = logged;
+    counted = opening_counts b ds begins rest.each rest.few;
     drawn = drawn;
     fixed = fixed;
     called = called;

@@ -1,5 +1,5 @@
 -- Neither an epoch nor what comes before and behind it changes the operations of a thread.
-use Rattle.std.proofs.Common.{◌≡◌, ℕ, zero, suc, ◌<◌, refl, sym, ap, ◌∙◌, arith, Bool, true, false, List, [], ◌∷◌, length, cond, nat_eq}
+use Rattle.std.proofs.Common.{◌≡◌, ℕ, zero, suc, ◌<◌, refl, sym, ap, subst, ◌∙◌, arith, Bool, true, false, List, [], ◌∷◌, length, cond, nat_eq}
 use Rattle.std.specs.Prelude.{Option, Some, None, slice_get, slice_index, slice_set, if◌then◌else◌, nat_lt, ◌&&◌}
 use Rattle.std.proofs.lemmas.Bool.Decides.{nat_tests}
 use Rattle.std.proofs.lemmas.Option.{slice_get-get_or, slice_get_within}
@@ -23,11 +23,15 @@ use Rattle.lxr_mutator.specs.declared.phases.MutatorPhase.{MutatorPhase}
 use Rattle.lxr_mutator.specs.declared.phases.MutatorPhase.TheVariants as phase
 use Rattle.lxr_mutator.specs.Mutating.{Mutating, op_now, register}
 use Rattle.lxr_mutator.specs.Operating.{indexed_fields, index_of}
-use Rattle.lxr_mutator.specs.Steps.{accepts_in, after_in, based, has_room, is_medium, placed, started, stored}
+use Rattle.lxr_mutator.specs.Steps.{accepts_in, after_in, based, has_room, is_medium, mutator_machine, placed, started, stored}
+use Rattle.lxr_mutator.specs.Mutators.{again}
+use Rattle.lxr_decrement.specs.Decrementing.{DecrementerState}
+use Rattle.lxr_decrement.specs.Decrementers.{again as empty_again}
+use Rattle.lxr_decrement.specs.Steps.{decrementer_machine}
 use Rattle.lxr_core_events.specs.ThreadStates.{all_of}
 use Rattle.lxr_core.specs.declared.actors.AnyActor.{AnyActor}
 use Rattle.lxr_core.specs.declared.actors.AnyActor.TheVariants as any
-use Rattle.lxr_core.specs.Actors.{any_machine, mutator_in, script_of}
+use Rattle.lxr_core.specs.Actors.{any_machine, mutators_in, script_of}
 use Rattle.lxr_core.specs.Starting.{HaveStarted, registers_in, started_again}
 
 -- the operation whose turn it is stands behind those that have replies
@@ -40,31 +44,55 @@ op_is_next m more =
 
 -- ---- lists of actors
 
+-- an actor has the operations of another of its kind
+pub data KeepsOperations : AnyActor → AnyActor → Type 0 where
+  mutator : (m x : Mutating) → x.operations ≡ m.operations → KeepsOperations (any.Mutator m) (any.Mutator x)
+  helper : (d x : DecrementerState) → KeepsOperations (any.Decrementer d) (any.Decrementer x)
+
+-- the first of some actors has
+first_keeps : (a b : AnyActor) (actors : List AnyActor) → KeepsOperations a b → script_of (mutators_in (b ∷ actors)) ≡ script_of (mutators_in (a ∷ actors))
+first_keeps a b actors (mutator m x same) = ap (λ os. os ∷ script_of (mutators_in actors)) same
+first_keeps a b actors (helper d x) = refl
+
+-- what stands behind the first
+behind_first : (a : AnyActor) (before after : List AnyActor) → script_of (mutators_in after) ≡ script_of (mutators_in before) → script_of (mutators_in (a ∷ after)) ≡ script_of (mutators_in (a ∷ before))
+behind_first (any.Mutator m) before after same = ap (λ s. m.operations ∷ s) same
+behind_first (any.Decrementer d) before after same = same
+
 -- the same operations, actor by actor
 pub same_operations : (before after : List AnyActor) → length after ≡ length before
-    → ((i : ℕ) (a : AnyActor) → slice_get before i ≡ Some a → (c : AnyActor) × (slice_get after i ≡ Some c) × ((mutator_in c).operations ≡ (mutator_in a).operations)) → script_of after ≡ script_of before
+    → ((i : ℕ) (a : AnyActor) → slice_get before i ≡ Some a → (c : AnyActor) × (slice_get after i ≡ Some c) × KeepsOperations a c) → script_of (mutators_in after) ≡ script_of (mutators_in before)
 same_operations [] [] many each = refl
 same_operations [] (c ∷ after) many each = absurd (omega arith)
 same_operations (a ∷ before) [] many each = absurd (omega arith)
 same_operations (a ∷ before) (c ∷ after) many each =
-    let (d, there, same) = each 0 a refl in
-    let is : c ≡ d = cc in
-    let rest = same_operations before after (omega arith) (λ i b at. each (suc i) b at) in
-    ap (λ os. os ∷ script_of after) (ap (λ (z : AnyActor). (mutator_in z).operations) is ∙ same) ∙ ap (λ s. (mutator_in a).operations ∷ s) rest
+    let (d, there, keeps) = each 0 a refl in
+    let same : d ≡ c = cc in
+    behind_first c before after (same_operations before after (omega arith) (λ i b at. each (suc i) b at)) ∙ first_keeps a c before (subst (KeepsOperations a) same keeps)
 
--- one actor with the operations that it had
-pub script_set : (actors : List AnyActor) (i : ℕ) (a b : AnyActor) → slice_get actors i ≡ Some a → (mutator_in b).operations ≡ (mutator_in a).operations → script_of (slice_set actors i b) ≡ script_of actors
-script_set [] i a b at same = refl
-script_set (x ∷ actors) zero a b at same =
-    let is : x ≡ a = cc in
-    ap (λ os. os ∷ script_of actors) (same ∙ ap (λ (z : AnyActor). (mutator_in z).operations) (sym is))
-script_set (x ∷ actors) (suc i) a b at same = ap (λ s. (mutator_in x).operations ∷ s) (script_set actors i a b at same)
+-- one mutator with the operations that it had
+pub script_set : (mutators : List Mutating) (i : ℕ) (m x : Mutating) → slice_get mutators i ≡ Some m → x.operations ≡ m.operations → script_of (slice_set mutators i x) ≡ script_of mutators
+script_set [] i m x at same = refl
+script_set (y ∷ mutators) zero m x at same =
+    let is : y ≡ m = cc in
+    ap (λ os. os ∷ script_of mutators) (same ∙ ap (λ (z : Mutating). z.operations) (sym is))
+script_set (y ∷ mutators) (suc i) m x at same = ap (λ s. y.operations ∷ s) (script_set mutators i m x at same)
+
+-- one actor with those that it had
+actor_set : (actors : List AnyActor) (i : ℕ) (a b : AnyActor) → slice_get actors i ≡ Some a → KeepsOperations a b → script_of (mutators_in (slice_set actors i b)) ≡ script_of (mutators_in actors)
+actor_set [] i a b at keeps = refl
+actor_set (x ∷ actors) zero a b at keeps = let same : a ≡ x = cc in first_keeps x b actors (subst (λ z. KeepsOperations z b) same keeps)
+actor_set (x ∷ actors) (suc i) a b at keeps = behind_first x actors (slice_set actors i b) (actor_set actors i a b at keeps)
 
 -- those that begin again have theirs
-pub started_script : (places : List Place) (before after : List AnyActor) → HaveStarted places before after (length before) → script_of after ≡ script_of before
+started_keep : (a : AnyActor) (registers : List Place) → KeepsOperations a (started_again a registers)
+started_keep (any.Mutator m) registers = mutator m (again m registers) refl
+started_keep (any.Decrementer d) registers = helper d (empty_again d)
+
+pub started_script : (places : List Place) (before after : List AnyActor) → HaveStarted places before after (length before) → script_of (mutators_in after) ≡ script_of (mutators_in before)
 started_script places before after have =
     same_operations before after have.as_many
-    (λ i a at. (started_again a (registers_in places i), have.started i a at (slice_get_within before i a at), refl))
+    (λ i a at. (started_again a (registers_in places i), have.started i a at (slice_get_within before i a at), started_keep a (registers_in places i)))
 
 -- ---- a step
 
@@ -125,20 +153,26 @@ after_keeps m (phase.GivingUp why) old = refl
 -- ---- a schedule
 
 -- so does each event of an actor
-acted_keeps : (words : List ℕ) (a : AnyActor) (o : Option Action) → (mutator_in (acted any_machine words a o).1).operations ≡ (mutator_in a).operations
-acted_keeps words a None = refl
-acted_keeps words (any.Mutator m) (Some act) = let old = slice_index words act.word in either_keeps (accepts_in m m.phase old) m _ _ (after_keeps m m.phase old) refl
+acted_keeps : (words : List ℕ) (a : AnyActor) (o : Option Action) → KeepsOperations a (acted any_machine words a o).1
+acted_keeps words (any.Mutator m) None = mutator m m refl
+acted_keeps words (any.Mutator m) (Some act) =
+    let old = slice_index words act.word in
+    mutator m (mutator_machine.after m old) (either_keeps (accepts_in m m.phase old) m _ _ (after_keeps m m.phase old) refl)
+acted_keeps words (any.Decrementer d) None = helper d d
+acted_keeps words (any.Decrementer d) (Some act) = helper d (decrementer_machine.after d (slice_index words act.word))
 
-change_keeps : (e : Event) (words : List ℕ) (a : AnyActor) → (mutator_in (change any_machine e words a).1).operations ≡ (mutator_in a).operations
+change_keeps : (e : Event) (words : List ℕ) (a : AnyActor) → KeepsOperations a (change any_machine e words a).1
 change_keeps (Step number) words a = acted_keeps words a (any_machine.action a)
-change_keeps (Give number place) words a = refl
-change_keeps (Out number) words a = refl
+change_keeps (Give number place) words (any.Mutator m) = mutator m m refl
+change_keeps (Give number place) words (any.Decrementer d) = helper d (decrementer_machine.offered d place).0
+change_keeps (Out number) words (any.Mutator m) = mutator m m refl
+change_keeps (Out number) words (any.Decrementer d) = helper d (decrementer_machine.spared d).0
 
-happened_keeps : (core : Core AnyActor) (e : Event) (o : Option AnyActor) → slice_get core.actors (of_event e) ≡ o → script_of (happened any_machine core e o).actors ≡ script_of core.actors
+happened_keeps : (core : Core AnyActor) (e : Event) (o : Option AnyActor) → slice_get core.actors (of_event e) ≡ o → script_of (mutators_in (happened any_machine core e o).actors) ≡ script_of (mutators_in core.actors)
 happened_keeps core e None at = refl
-happened_keeps core e (Some a) at = script_set core.actors (of_event e) a (change any_machine e core.words a).1 at (change_keeps e core.words a)
+happened_keeps core e (Some a) at = actor_set core.actors (of_event e) a (change any_machine e core.words a).1 at (change_keeps e core.words a)
 
 -- after each schedule the operations of each thread are what they were
-pub script_runs : (core : Core AnyActor) (schedule : List Event) → script_of (run any_machine core schedule).actors ≡ script_of core.actors
+pub script_runs : (core : Core AnyActor) (schedule : List Event) → script_of (mutators_in (run any_machine core schedule).actors) ≡ script_of (mutators_in core.actors)
 script_runs core [] = refl
 script_runs core (e ∷ es) = script_runs (event any_machine core e) es ∙ happened_keeps core e (slice_get core.actors (of_event e)) refl

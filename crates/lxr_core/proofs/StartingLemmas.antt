@@ -1,11 +1,13 @@
 -- What mutators show as an epoch opens.
-use Rattle.std.proofs.Common.{◌≡◌, ◌≢◌, ℕ, ◌+◌, ◌≤◌, List, [], length}
+use Rattle.std.proofs.Common.{◌≡◌, ◌≢◌, ℕ, ◌+◌, ◌^◌, ◌<◌, ◌≤◌, List, [], length}
 use Rattle.std.specs.Prelude.{All, Some, slice_get, take}
 use Rattle.lxr_layout.specs.declared.TheConstants.{PAUSE_WORD}
 use Rattle.lxr_graph.specs.declared.Op.TheVariants as op
 use Rattle.lxr_graph.specs.History.{calls_of, replies_of}
 use Rattle.lxr_graph.specs.Step.{IsWellFormed}
-use Rattle.lxr_image.specs.Tables.{changed}
+use Rattle.lxr_core_access.specs.Decrementers.{Decrementing}
+use Rattle.lxr_core_access.specs.Decrementers as decrementing
+use Rattle.lxr_core_events.specs.Happening.{with_cursor}
 use Rattle.lxr_alloc.specs.Spans.{empty_span}
 use Rattle.lxr_core_events.specs.ThreadStates.{Stage, ThreadState, Rests, Through, Works, Intent, all_of}
 use Rattle.lxr_core_events.specs.ThreadStates as why
@@ -38,14 +40,20 @@ pub record AllStart (b : Beginning) (thread_states : List ThreadState) : Type 0 
   pub each : (i : ℕ) (v : ThreadState) → slice_get thread_states i ≡ Some v → Starts b i v
 
 -- the epoch state that an epoch opens with: no pause is asked for
-abbrev pub opening_epoch_state : Beginning → List ThreadState → EpochState
-opening_epoch_state b thread_states = record {
-  tables = record (opening_tables b) { cursors = changed (opening_tables b).cursors PAUSE_WORD 0 };
+abbrev pub opening_epoch_state : Beginning → List ThreadState → List Decrementing → EpochState
+opening_epoch_state b thread_states ds = record {
+  tables = with_cursor (opening_tables b) PAUSE_WORD 0;
   thread_states = thread_states;
+  decrementers = ds;
   history = b.history;
   at = b.abstract_state.at;
   cleared = [];
 }
+
+-- all decrementers are between two units, and they are no more than a list has in memory
+pub record AllRest (ds : List Decrementing) : Type 0 where
+  pub few : length ds < 2 ^ 63
+  pub each : (i : ℕ) (d : Decrementing) → slice_get ds i ≡ Some d → d ≡ decrementing.Rests
 
 -- nobody works on anything
 pub no_work : {P : Type 0} (v : ThreadState) (intent : Intent) → (stage : Stage) → StartsIn v stage → stage ≡ Works intent → P

@@ -1,31 +1,71 @@
 -- All kinds of actor as one machine.
-use Rattle.std.specs.Prelude.{false, None, List, map}
+use Rattle.std.specs.Prelude.{◌≡◌, ℕ, Bool, false, Option, None, List, [], ◌∷◌, ◌++◌, map}
+use Rattle.lxr_layout.specs.declared.Place.{Place}
 use Rattle.lxr_graph.specs.declared.Op.{Op}
+use Rattle.lxr_actor.specs.declared.Action.{Action}
 use Rattle.lxr_actor.specs.Machine.{Machine}
 use Rattle.lxr_mutator.specs.Mutating.{Mutating}
 use Rattle.lxr_mutator.specs.Steps.{mutator_machine}
+use Rattle.lxr_decrement.specs.Decrementing.{DecrementerState}
+use Rattle.lxr_decrement.specs.Steps.{decrementer_machine}
 use Rattle.lxr_core.specs.declared.actors.AnyActor.{AnyActor}
 use Rattle.lxr_core.specs.declared.actors.AnyActor.TheVariants as any
 
--- the mutator that an actor is
-abbrev pub mutator_in : AnyActor → Mutating
-mutator_in (any.Mutator m) = m
-
--- the mutators of all actors
+-- the mutators among actors, and the decrementers
 abbrev pub mutators_in : List AnyActor → List Mutating
-mutators_in actors = map mutator_in actors
+mutators_in [] = []
+mutators_in (any.Mutator m ∷ actors) = m ∷ mutators_in actors
+mutators_in (any.Decrementer d ∷ actors) = mutators_in actors
 
--- what an actor means: what the machine of its kind does
+abbrev pub decrementers_in : List AnyActor → List DecrementerState
+decrementers_in [] = []
+decrementers_in (any.Mutator m ∷ actors) = decrementers_in actors
+decrementers_in (any.Decrementer d ∷ actors) = d ∷ decrementers_in actors
+
+-- mutators come first, and helpers behind them
+abbrev pub in_order : List Mutating → List DecrementerState → List AnyActor
+in_order mutators decrementers = map any.Mutator mutators ++ map any.Decrementer decrementers
+
+abbrev pub AreInOrder : List AnyActor → Type 0
+AreInOrder actors = actors ≡ in_order (mutators_in actors) (decrementers_in actors)
+
+-- ---- what an actor means: what the machine of its kind does
+
+abbrev pub action_of : AnyActor → Option Action
+action_of (any.Mutator m) = mutator_machine.action m
+action_of (any.Decrementer d) = decrementer_machine.action d
+
+abbrev pub actor_after : AnyActor → ℕ → AnyActor
+actor_after (any.Mutator m) old = any.Mutator (mutator_machine.after m old)
+actor_after (any.Decrementer d) old = any.Decrementer (decrementer_machine.after d old)
+
+abbrev pub actor_rests : AnyActor → Bool
+actor_rests (any.Mutator m) = mutator_machine.rests m
+actor_rests (any.Decrementer d) = decrementer_machine.rests d
+
+abbrev pub steps_left : AnyActor → ℕ
+steps_left (any.Mutator m) = mutator_machine.left m
+steps_left (any.Decrementer d) = decrementer_machine.left d
+
+-- a mutator takes no offers, and has no place to spare
+abbrev pub offered_to : AnyActor → Place → AnyActor × Bool
+offered_to (any.Mutator m) place = (any.Mutator m, false)
+offered_to (any.Decrementer d) place = (any.Decrementer (decrementer_machine.offered d place).0, (decrementer_machine.offered d place).1)
+
+abbrev pub spared_by : AnyActor → AnyActor × Option Place
+spared_by (any.Mutator m) = (any.Mutator m, None)
+spared_by (any.Decrementer d) = (any.Decrementer (decrementer_machine.spared d).0, (decrementer_machine.spared d).1)
+
 abbrev pub any_machine : Machine AnyActor
 any_machine = record {
-  action = λ a. mutator_machine.action (mutator_in a);
-  after = λ a old. any.Mutator (mutator_machine.after (mutator_in a) old);
-  rests = λ a. mutator_machine.rests (mutator_in a);
-  left = λ a. mutator_machine.left (mutator_in a);
-  offered = λ a place. (a, false);
-  spared = λ a. (a, None);
+  action = action_of;
+  after = actor_after;
+  rests = actor_rests;
+  left = steps_left;
+  offered = offered_to;
+  spared = spared_by;
 }
 
 -- the operations of each thread
-abbrev pub script_of : List AnyActor → List (List Op)
-script_of actors = map (λ a. (mutator_in a).operations) actors
+abbrev pub script_of : List Mutating → List (List Op)
+script_of mutators = map (λ m. m.operations) mutators

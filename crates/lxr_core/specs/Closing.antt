@@ -10,10 +10,9 @@ use Rattle.lxr_model.specs.Moments.{moment}
 use Rattle.lxr_model.specs.Terms.{Terms}
 use Rattle.lxr_actor.specs.Run.{core_of}
 use Rattle.lxr_invariant.specs.AbstractState.{AbstractState, members}
-use Rattle.lxr_invariant.specs.Counting.{IsUndecremented}
 use Rattle.lxr_invariant.specs.Quiescent.{IsAtSafepoint}
 use Rattle.lxr_mutator.specs.declared.phases.MutatorPhase.TheVariants as phase
-use Rattle.lxr_mutator.specs.Mutating.{IsWaiting}
+use Rattle.lxr_mutator.specs.Mutating.{IsWaiting, Mutating}
 use Rattle.lxr_mutator.specs.Mutators.{IsThrough}
 use Rattle.lxr_core_events.specs.EpochStates.{Beginning, Extends, limits_of}
 use Rattle.lxr_core_close.specs.HandingOut.{AreHandedOut, IsDrawn}
@@ -21,18 +20,18 @@ use Rattle.lxr_core_close.specs.Safepoint.{WasFree}
 use Rattle.lxr_core_close.specs.Cause.{AreTermsOf}
 use Rattle.lxr_core_sim_mutator.specs.Showing.{IsNew}
 use Rattle.lxr_core.specs.declared.actors.AnyActor.{AnyActor}
-use Rattle.lxr_core.specs.Actors.{any_machine, mutator_in, script_of}
+use Rattle.lxr_core.specs.Actors.{any_machine, mutators_in, script_of}
 use Rattle.lxr_core.specs.Collecting.{actor_given_up, all_entries, all_registers, tally_with}
 use Rattle.lxr_core.specs.Executions.{HoldsExecution, Execution}
-use Rattle.lxr_core.specs.Resting.{RestAfter}
+use Rattle.lxr_core.specs.Resting.{ActorsRestAfter}
 
 -- all actors rest
 abbrev pub AreResting : List AnyActor → Type 0
 AreResting actors = (i : ℕ) (a : AnyActor) → slice_get actors i ≡ Some a → any_machine.rests a ≡ true
 
--- all actors are through with the epoch
-abbrev pub AreFinished : List AnyActor → Type 0
-AreFinished actors = (i : ℕ) (a : AnyActor) → slice_get actors i ≡ Some a → (mutator_in a).phase ≡ phase.Finished
+-- all mutators are through with the epoch
+abbrev pub AreFinished : List Mutating → Type 0
+AreFinished mutators = (i : ℕ) (m : Mutating) → slice_get mutators i ≡ Some m → m.phase ≡ phase.Finished
 
 -- An epoch may be closed: the words and the actors are those that some schedule has led to, be it one of no steps, and all
 -- actors rest.
@@ -47,17 +46,16 @@ abbrev pub closed_state : Beginning → Execution → AbstractState
 closed_state b execution = record b.abstract_state { moment = moment (limits_of b).threads execution.history; at = execution.at }
 
 -- an epoch has done something: the history is longer, or a `new` waits, or all threads have ended
-abbrev pub HasProgress : Beginning → Execution → List AnyActor → Type 0
-HasProgress b execution actors =
+abbrev pub HasProgress : Beginning → Execution → List Mutating → Type 0
+HasProgress b execution mutators =
     (length b.history < length execution.history)
-    ⊎ ((i : ℕ) × (a : AnyActor) × (slice_get actors i ≡ Some a) × IsWaiting (mutator_in a))
-    ⊎ ((i : ℕ) (a : AnyActor) → slice_get actors i ≡ Some a → IsThrough (mutator_in a))
+    ⊎ ((i : ℕ) × (m : Mutating) × (slice_get mutators i ≡ Some m) × IsWaiting m)
+    ⊎ ((i : ℕ) (m : Mutating) → slice_get mutators i ≡ Some m → IsThrough m)
 
 -- The epoch is closed.
 pub record Closes (b : Beginning) (execution : Execution) (before after : Space) (actors : List AnyActor) : Type 0 where
-  -- the space is at a safepoint before a pause for what the history has led to, and no decrementer has worked
+  -- the space is at a safepoint before a pause for what the history has led to
   pub safepoint : IsAtSafepoint after (closed_state b execution)
-  pub undecremented : IsUndecremented (tables_of after) (closed_state b execution).moment execution.at
   -- the lines that were drawn are handed out, each once, and no others; all other tables are as they were
   pub hands_out : AreHandedOut (IsDrawn b.space before) (tables_of before) (tables_of after)
   -- these lines were free as the epoch opened, so that no object that stood in the heap then overlaps one of them
@@ -68,16 +66,16 @@ pub record Closes (b : Beginning) (execution : Execution) (before after : Space)
   pub unmoved : (n : Name) → IsTrue (has (members b.abstract_state.moment) n) → execution.at n ≡ b.abstract_state.at n
   -- the actors have given up what they had; they rest for the history, and what waits is a `new`
   pub gave : actors ≡ map actor_given_up execution.core.actors
-  pub actors_rest : RestAfter (limits_of b) b.every execution.history actors
-  pub news : (i : ℕ) (a : AnyActor) → slice_get actors i ≡ Some a → IsWaiting (mutator_in a) → IsNew (mutator_in a)
+  pub actors_rest : ActorsRestAfter (limits_of b) b.every execution.history actors
+  pub news : (i : ℕ) (m : Mutating) → slice_get (mutators_in actors) i ≡ Some m → IsWaiting m → IsNew m
   -- where all are through, a pause has a cause; and where nobody had asked for one before, the epoch has done something
-  pub cause : AreFinished execution.core.actors → (terms : Terms) → AreTermsOf b terms → IsLegalSoFar terms b.history → HasCause terms (script_of actors) execution.history
-  pub progress : AreFinished execution.core.actors → ((t : ℕ) → has_asked t b.history ≡ false) → HasProgress b execution actors
-  -- the space has the registers and the entries of all actors, those of thread 1 first
-  pub registers : after.registers.items ≡ all_registers execution.core.actors
-  pub logged : after.logged.items ≡ all_entries execution.core.actors
+  pub cause : AreFinished (mutators_in execution.core.actors) → (terms : Terms) → AreTermsOf b terms → IsLegalSoFar terms b.history → HasCause terms (script_of (mutators_in actors)) execution.history
+  pub progress : AreFinished (mutators_in execution.core.actors) → ((t : ℕ) → has_asked t b.history ≡ false) → HasProgress b execution (mutators_in actors)
+  -- the space has the registers and the entries of all mutators, those of thread 1 first
+  pub registers : after.registers.items ≡ all_registers (mutators_in execution.core.actors)
+  pub logged : after.logged.items ≡ all_entries (mutators_in execution.core.actors)
   -- of the space, words, registers, entries and the tally of operations alone have changed
-  pub tally : after.tally ≡ tally_with before.tally actors
+  pub tally : after.tally ≡ tally_with before.tally (mutators_in actors)
   pub rest : after ≡ record before {
     words = after.words;
     registers = after.registers;

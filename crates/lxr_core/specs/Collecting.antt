@@ -1,5 +1,5 @@
 -- What a space takes of mutators as an epoch closes.
-use Rattle.std.specs.Prelude.{◌≡◌, ℕ, ◌+◌, ◌*◌, ◌^◌, ◌<◌, ◌≤◌, true, Some, List, [], ◌∷◌, ◌++◌, length, slice_get, take}
+use Rattle.std.specs.Prelude.{◌≡◌, ℕ, ◌+◌, ◌*◌, ◌^◌, ◌<◌, ◌≤◌, ⊤, true, Some, List, [], ◌∷◌, ◌++◌, length, slice_get, take}
 use Rattle.std.specs.List.{flat_map}
 use Rattle.lxr_layout.specs.declared.runs.LogEntry.{LogEntry}
 use Rattle.lxr_layout.specs.declared.Place.{Place}
@@ -11,7 +11,7 @@ use Rattle.lxr_mutator.specs.Mutating.{Mutating, rests_in, tally_of}
 use Rattle.lxr_mutator.specs.Mutators.{no_spans}
 use Rattle.lxr_core.specs.declared.actors.AnyActor.{AnyActor}
 use Rattle.lxr_core.specs.declared.actors.AnyActor.TheVariants as any
-use Rattle.lxr_core.specs.Actors.{mutator_in}
+use Rattle.lxr_core.specs.Actors.{AreInOrder, mutators_in}
 
 -- ---- one mutator
 
@@ -19,9 +19,10 @@ use Rattle.lxr_core.specs.Actors.{mutator_in}
 abbrev pub given_up : Mutating → Mutating
 given_up m = record m { log = emptied m.log; spans = no_spans }
 
--- an actor that has
+-- an actor that has: a helper has neither
 abbrev pub actor_given_up : AnyActor → AnyActor
-actor_given_up a = any.Mutator (given_up (mutator_in a))
+actor_given_up (any.Mutator m) = any.Mutator (given_up m)
+actor_given_up (any.Decrementer d) = any.Decrementer d
 
 -- a tally with what the operations of a thread did
 abbrev pub tallied : Tally → MutTally → Tally
@@ -34,6 +35,11 @@ taken_of s m = record s {
   logged = record s.logged { items = s.logged.items ++ m.log.items };
   tally = tallied s.tally (tally_of m.replies.items);
 }
+
+-- a space that has taken what an actor has
+abbrev pub taken_of_actor : Space → AnyActor → Space
+taken_of_actor s (any.Mutator m) = taken_of s m
+taken_of_actor s (any.Decrementer d) = s
 
 -- a mutator may give up what it has, in a space where logs have so much room
 pub record MayGive (room : ℕ) (m : Mutating) : Type 0 where
@@ -50,53 +56,63 @@ pub record MayTake (s : Space) (m : Mutating) : Type 0 where
   pub loads : s.tally.loads ≤ 2 ^ 32
   pub stores : s.tally.stores ≤ 2 ^ 32
 
+-- an actor may give up what it has, and a space has room for it: a helper gives nothing
+abbrev pub ActorMayGive : ℕ → AnyActor → Type 0
+ActorMayGive room (any.Mutator m) = MayGive room m
+ActorMayGive room (any.Decrementer d) = ⊤
+
+abbrev pub MayTakeOf : Space → AnyActor → Type 0
+MayTakeOf s (any.Mutator m) = MayTake s m
+MayTakeOf s (any.Decrementer d) = ⊤
+
 -- ---- all mutators
 
 -- how many objects all threads together made
-abbrev pub news_of : List AnyActor → ℕ
+abbrev pub news_of : List Mutating → ℕ
 news_of [] = 0
-news_of (a ∷ actors) = (tally_of (mutator_in a).replies.items).news + news_of actors
+news_of (m ∷ mutators) = (tally_of m.replies.items).news + news_of mutators
 
 -- how many references they loaded
-abbrev pub loads_of : List AnyActor → ℕ
+abbrev pub loads_of : List Mutating → ℕ
 loads_of [] = 0
-loads_of (a ∷ actors) = (tally_of (mutator_in a).replies.items).loads + loads_of actors
+loads_of (m ∷ mutators) = (tally_of m.replies.items).loads + loads_of mutators
 
 -- how many they stored
-abbrev pub stores_of : List AnyActor → ℕ
+abbrev pub stores_of : List Mutating → ℕ
 stores_of [] = 0
-stores_of (a ∷ actors) = (tally_of (mutator_in a).replies.items).stores + stores_of actors
+stores_of (m ∷ mutators) = (tally_of m.replies.items).stores + stores_of mutators
 
 -- the tally with what the operations of these threads did
-abbrev pub tally_with : Tally → List AnyActor → Tally
-tally_with t actors = record t { news = news_of actors; loads = loads_of actors; stores = stores_of actors }
+abbrev pub tally_with : Tally → List Mutating → Tally
+tally_with t mutators = record t { news = news_of mutators; loads = loads_of mutators; stores = stores_of mutators }
 
 -- the registers of all mutators, thread 1 first
-abbrev pub all_registers : List AnyActor → List Place
-all_registers actors = flat_map (λ a. (mutator_in a).registers) actors
+abbrev pub all_registers : List Mutating → List Place
+all_registers mutators = flat_map (λ m. m.registers) mutators
 
 -- the entries of all mutators
-abbrev pub all_entries : List AnyActor → List LogEntry
-all_entries actors = flat_map (λ a. (mutator_in a).log.items) actors
+abbrev pub all_entries : List Mutating → List LogEntry
+all_entries mutators = flat_map (λ m. m.log.items) mutators
 
 -- a space that has the registers, the entries and the tally of these mutators
-abbrev pub holding : Space → List AnyActor → Space
-holding s actors = record s {
-  registers = record s.registers { items = all_registers actors };
-  logged = record s.logged { items = all_entries actors };
-  tally = tally_with s.tally actors;
+abbrev pub holding : Space → List Mutating → Space
+holding s mutators = record s {
+  registers = record s.registers { items = all_registers mutators };
+  logged = record s.logged { items = all_entries mutators };
+  tally = tally_with s.tally mutators;
 }
 
 -- there are no more mutators than a space has room for, and each may give up what it has
 pub record MayAllGive (s : Space) (actors : List AnyActor) : Type 0 where
-  pub few : length actors ≤ 16
-  pub registers : 16 * length actors ≤ s.registers.room
-  pub logged : length actors * s.limits.log ≤ s.logged.room
-  pub each : (i : ℕ) (a : AnyActor) → slice_get actors i ≡ Some a → MayGive s.limits.log (mutator_in a)
+  pub order : AreInOrder actors
+  pub few : length (mutators_in actors) ≤ 16
+  pub registers : 16 * length (mutators_in actors) ≤ s.registers.room
+  pub logged : length (mutators_in actors) * s.limits.log ≤ s.logged.room
+  pub each : (i : ℕ) (m : Mutating) → slice_get (mutators_in actors) i ≡ Some m → MayGive s.limits.log m
 
--- the first so many mutators have given up what they had, and the space has it
+-- the first so many actors have given up what they had, and the space has it
 pub record HaveGiven (start : Space) (before : List AnyActor) (now : Space) (after : List AnyActor) (count : ℕ) : Type 0 where
   pub as_many : length after ≡ length before
   pub given : (i : ℕ) (a : AnyActor) → slice_get before i ≡ Some a → i < count → slice_get after i ≡ Some (actor_given_up a)
   pub others : (i : ℕ) → count ≤ i → slice_get after i ≡ slice_get before i
-  pub space : now ≡ holding start (take count before)
+  pub space : now ≡ holding start (mutators_in (take count before))

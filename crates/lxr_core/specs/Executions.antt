@@ -10,13 +10,18 @@ use Rattle.lxr_actor.specs.declared.Core.{Core}
 use Rattle.lxr_actor.specs.declared.Event.{Event}
 use Rattle.lxr_actor.specs.declared.Event.TheVariants.{Step, Give, Out}
 use Rattle.lxr_actor.specs.Run.{AlwaysFits, event, run, stepped}
+use Rattle.lxr_mutator.specs.Mutating.{Mutating}
 use Rattle.lxr_mutator.specs.Steps.{mutator_machine}
+use Rattle.lxr_decrement.specs.Decrementing.{DecrementerState}
 use Rattle.lxr_core_events.specs.EpochStates.{Beginning, EpochState, limits_of}
 use Rattle.lxr_core_events.specs.Epoch.{IsEpoch}
+use Rattle.lxr_core_events.specs.Laws.{HaveNotFallen}
 use Rattle.lxr_core_sim_mutator.specs.Showing.{IsMutatorOf, thread_state_of}
 use Rattle.lxr_core_sim_mutator.specs.Stepping.{history_after, places_after}
+use Rattle.lxr_core_sim_decrementer.specs.Showing.{IsDecrementerOf, decrementing_of}
 use Rattle.lxr_core.specs.declared.actors.AnyActor.{AnyActor}
-use Rattle.lxr_core.specs.Actors.{any_machine, mutator_in, mutators_in}
+use Rattle.lxr_core.specs.declared.actors.AnyActor.TheVariants as any
+use Rattle.lxr_core.specs.Actors.{AreInOrder, any_machine, decrementers_in, mutators_in}
 
 -- a core, with the history that led to it and the places of the objects that stand in it
 pub record Execution : Type 0 where
@@ -29,18 +34,19 @@ abbrev pub epoch_state_of : Beginning → Execution → List Field → EpochStat
 epoch_state_of b execution cleared = record {
   tables = tables_in (limits_of b) execution.core.words;
   thread_states = map thread_state_of (mutators_in execution.core.actors);
+  decrementers = map decrementing_of (decrementers_in execution.core.actors);
   history = execution.history;
   at = execution.at;
   cleared = cleared;
 }
 
--- the history and the places after the next step of this actor
+-- the history and the places after the next step of this actor: steps of helpers don't change them
 abbrev pub after_step : Beginning → Execution → Option AnyActor → List Item × (Name → ℕ)
 after_step b execution None = (execution.history, execution.at)
-after_step b execution (Some a) =
-    let m = mutator_in a in
+after_step b execution (Some (any.Mutator m)) =
     let m' = (stepped mutator_machine execution.core.words m).1 in
     (history_after b (epoch_state_of b execution []) m m', places_after b (epoch_state_of b execution []) m)
+after_step b execution (Some (any.Decrementer d)) = (execution.history, execution.at)
 
 -- the history and the places after an event: only steps of actors are told of
 abbrev pub told_of : Beginning → Execution → Event → List Item × (Name → ℕ)
@@ -61,17 +67,20 @@ tell_all b execution (e ∷ es) = tell_all b (tell b execution e) es
 pub record IsExecution (b : Beginning) (execution : Execution) (cleared : List Field) : Type 0 where
   pub epoch : IsEpoch b (epoch_state_of b execution cleared)
   pub size : length execution.core.words ≡ region_begin (limits_of b) 15
-  pub mutators : (i : ℕ) (a : AnyActor) → slice_get execution.core.actors i ≡ Some a → IsMutatorOf (limits_of b) (mutator_in a)
+  pub order : AreInOrder execution.core.actors
+  pub mutators : (i : ℕ) (m : Mutating) → slice_get (mutators_in execution.core.actors) i ≡ Some m → IsMutatorOf (limits_of b) m
+  pub decrementers : (i : ℕ) (d : DecrementerState) → slice_get (decrementers_in execution.core.actors) i ≡ Some d → IsDecrementerOf (limits_of b) d
 
 -- it holds with some references
 abbrev pub HoldsExecution : Beginning → Execution → Type 0
 HoldsExecution b execution = (cleared : List Field) × IsExecution b execution cleared
 
--- after a schedule of events it holds, the core is that of the fold over the schedule, and at each moment on the way the next
--- step of each actor fits
+-- after a schedule of events it holds, the core is that of the fold over the schedule, no cursor has fallen, and at each moment on
+-- the way the next step of each actor fits
 pub record HoldsAfter (b : Beginning) (execution : Execution) (schedule : List Event) : Type 0 where
   pub holds : HoldsExecution b (tell_all b execution schedule)
   pub core : (tell_all b execution schedule).core ≡ run any_machine execution.core schedule
+  pub risen : HaveNotFallen (tables_in (limits_of b) execution.core.words) (tables_in (limits_of b) (tell_all b execution schedule).core.words)
   pub fits : AlwaysFits any_machine execution.core
 
 -- so it is of every execution for which the invariant holds, and every schedule

@@ -10,8 +10,9 @@ use Rattle.lxr_invariant.specs.Listed.{IsListed}
 use Rattle.lxr_invariant.specs.Quiescent.{IsQuiescent}
 use Rattle.lxr_core_events.specs.EpochStates.{Beginning, IsBeginning, limits_of}
 use Rattle.lxr_core.specs.declared.actors.AnyActor.{AnyActor}
+use Rattle.lxr_core.specs.Actors.{mutators_in}
 use Rattle.lxr_core.specs.Executions.{Execution}
-use Rattle.lxr_core.specs.Resting.{AreServed, FitSpace, RestAfter}
+use Rattle.lxr_core.specs.Resting.{ActorsRestAfter, AreServed, FitSpace}
 use Rattle.lxr_core.specs.Starting.{HaveStarted}
 
 -- An epoch may be opened: the space is between epochs and listed, and the actors rest and fit it.
@@ -20,8 +21,8 @@ pub record MayOpen (g : AbstractState) (space : Space) (actors : List AnyActor) 
   pub listed : IsListed space
   pub fit : FitSpace space.limits g.moment.state.graph actors
 
--- It is opened: the pause word is clear, and each mutator has begun again with its sixteen registers. Nothing else of the space
--- or of the actors has changed.
+-- It is opened: the pause word is clear, each mutator has begun again with its sixteen registers, and each helper with an empty
+-- pocket and without an end. Nothing else of the space or of the actors has changed.
 pub record Opens (before after : Space) (resting started : List AnyActor) : Type 0 where
   pub space : Turns before after (record (tables_of before) { cursors = changed (tables_of before).cursors PAUSE_WORD 0 })
   pub actors : HaveStarted before.registers.items resting started (length resting)
@@ -30,8 +31,8 @@ pub record Opens (before after : Space) (resting started : List AnyActor) : Type
 pub record Begins (b : Beginning) (space : Space) (actors : List AnyActor) : Type 0 where
   pub space_is : b.space ≡ space
   pub begins : IsBeginning b
-  pub actors_rest : RestAfter (limits_of b) b.every b.history actors
-  pub served : AreServed b.history actors
+  pub actors_rest : ActorsRestAfter (limits_of b) b.every b.history actors
+  pub served : AreServed b.history (mutators_in actors)
 
 -- the execution that begins with a space and actors
 abbrev pub execution_at : Beginning → Space → List AnyActor → Execution

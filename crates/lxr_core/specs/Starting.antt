@@ -1,28 +1,39 @@
 -- Actors that begin an epoch again, with their registers.
-use Rattle.std.specs.Prelude.{◌≡◌, ℕ, ◌*◌, ◌<◌, ◌≤◌, true, Some, List, length, slice_get, take, drop}
+use Rattle.std.specs.Prelude.{◌≡◌, ℕ, ◌+◌, ◌*◌, ◌<◌, ◌≤◌, ⊤, true, Some, List, length, slice_get, take, drop}
 use Rattle.lxr_layout.specs.declared.Place.{Place}
 use Rattle.lxr_mutator.specs.Mutators.{again, no_spans}
-use Rattle.lxr_mutator.specs.Mutating.{rests_in}
+use Rattle.lxr_mutator.specs.Mutating.{Mutating, rests_in}
+use Rattle.lxr_decrement.specs.Decrementers.{again as empty_again}
 use Rattle.lxr_core.specs.declared.actors.AnyActor.{AnyActor}
 use Rattle.lxr_core.specs.declared.actors.AnyActor.TheVariants as any
-use Rattle.lxr_core.specs.Actors.{mutator_in}
 
 -- the sixteen registers of the thread of a number, thread 1 having number 0
 abbrev pub registers_in : List Place → ℕ → List Place
 registers_in places number = take 16 (drop (16 * number) places)
 
--- an actor that begins again, with these registers
+-- an actor that begins again: a mutator with these registers, a helper with an empty pocket
 abbrev pub started_again : AnyActor → List Place → AnyActor
-started_again a registers = any.Mutator (again (mutator_in a) registers)
+started_again (any.Mutator m) registers = any.Mutator (again m registers)
+started_again (any.Decrementer d) registers = any.Decrementer (empty_again d)
 
--- an actor may begin again: it rests, and has given up what it drew
-pub record MayStart (a : AnyActor) : Type 0 where
-  pub rests : rests_in (mutator_in a).phase ≡ true
-  pub spans : (mutator_in a).spans ≡ no_spans
+-- a mutator may begin again: it rests, and has given up what it drew
+pub record MutatorMayStart (m : Mutating) : Type 0 where
+  pub rests : rests_in m.phase ≡ true
+  pub spans : m.spans ≡ no_spans
+
+-- an actor may; a helper always may
+abbrev pub MayStart : AnyActor → Type 0
+MayStart (any.Mutator m) = MutatorMayStart m
+MayStart (any.Decrementer d) = ⊤
 
 -- all may
 abbrev pub MayAllStart : List AnyActor → Type 0
 MayAllStart actors = (i : ℕ) (a : AnyActor) → slice_get actors i ≡ Some a → MayStart a
+
+-- these places have the registers of the mutator of a number; a helper has none
+abbrev pub HasRegisters : List Place → ℕ → AnyActor → Type 0
+HasRegisters places number (any.Mutator m) = (number < 16) × (16 * (number + 1) ≤ length places)
+HasRegisters places number (any.Decrementer d) = ⊤
 
 -- the first so many actors have begun again, each with its registers
 pub record HaveStarted (places : List Place) (before after : List AnyActor) (count : ℕ) : Type 0 where

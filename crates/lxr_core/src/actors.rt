@@ -2,12 +2,13 @@
 ghost use Rattle.std.specs.Prelude.{◌≡◌};
 ghost use Rattle.std.specs.List.{All};
 ghost use Rattle.lxr_mutator.specs.Mutators.{IsHeld};
-ghost use Rattle.lxr_core.specs.Actors.{mutator_in};
-ghost use Rattle.lxr_core.specs.Collecting.{MayGive, MayTake, actor_given_up, taken_of};
-ghost use Rattle.lxr_core.specs.Starting.{MayStart, started_again};
+ghost use Rattle.lxr_core.specs.Collecting.{ActorMayGive, MayTakeOf, actor_given_up, taken_of_actor};
+ghost use Rattle.lxr_core.specs.Starting.{HasRegisters, MayStart, registers_in, started_again};
 
 use crate::closing::collect;
+use crate::opening::registers_of;
 use lxr_actor::{Action, Actor};
+use lxr_decrement::Decrementer;
 use lxr_image::Space;
 use lxr_layout::Place;
 use lxr_mutator::Mutator;
@@ -16,29 +17,33 @@ use lxr_mutator::Mutator;
 #[derive(Drop)]
 pub enum AnyActor {
     Mutator(Mutator),
+    Decrementer(Decrementer),
 }
 
 impl AnyActor {
-    /// A new epoch begins, with these registers.
-    pub(crate) fn start_again(&mut self, registers: [Place; 16])
+    /// A new epoch begins: the mutator of a number has its registers of these places, and a helper has an empty pocket.
+    pub(crate) fn start_again(&mut self, places: &[Place], number: usize)
         requires rests { MayStart self.old }
-        requires held { All IsHeld registers }
-        ensures { self.new ≡ started_again self.old registers }
+        requires registers { HasRegisters places.now number self.old }
+        requires held { All IsHeld places.now }
+        ensures { self.new ≡ started_again self.old (registers_in places.now number) }
     {
         match self {
-            AnyActor::Mutator(mutator) => mutator.start_again(registers),
+            AnyActor::Mutator(mutator) => mutator.start_again(registers_of(places, number)),
+            AnyActor::Decrementer(decrementer) => decrementer.start_again(),
         }
     }
 
-    /// Gives up what it has: its registers, its log and its tally go to the space.
+    /// Gives up what it has: a mutator's registers, its log and its tally go to the space. A helper stays as it is.
     pub(crate) fn give_up(&mut self, space: &mut Space)
-        requires gives { MayGive space.old.limits.log (mutator_in self.old) }
-        requires takes { MayTake space.old (mutator_in self.old) }
-        ensures space { space.new ≡ taken_of space.old (mutator_in self.old) }
+        requires gives { ActorMayGive space.old.limits.log self.old }
+        requires takes { MayTakeOf space.old self.old }
+        ensures space { space.new ≡ taken_of_actor space.old self.old }
         ensures actor { self.new ≡ actor_given_up self.old }
     {
         match self {
             AnyActor::Mutator(mutator) => collect(space, mutator),
+            AnyActor::Decrementer(_decrementer) => {}
         }
     }
 }
@@ -52,6 +57,7 @@ impl Actor for AnyActor {
     fn next(&self) -> Option<Action> {
         match self {
             AnyActor::Mutator(mutator) => mutator.next(),
+            AnyActor::Decrementer(decrementer) => decrementer.next(),
         }
     }
 
@@ -59,6 +65,7 @@ impl Actor for AnyActor {
     fn take(&mut self, old: u64) {
         match self {
             AnyActor::Mutator(mutator) => mutator.take(old),
+            AnyActor::Decrementer(decrementer) => decrementer.take(old),
         }
     }
 
@@ -66,6 +73,7 @@ impl Actor for AnyActor {
     fn resting(&self) -> bool {
         match self {
             AnyActor::Mutator(mutator) => mutator.resting(),
+            AnyActor::Decrementer(decrementer) => decrementer.resting(),
         }
     }
 
@@ -73,6 +81,7 @@ impl Actor for AnyActor {
     fn offer(&mut self, place: Place) -> bool {
         match self {
             AnyActor::Mutator(mutator) => mutator.offer(place),
+            AnyActor::Decrementer(decrementer) => decrementer.offer(place),
         }
     }
 
@@ -80,6 +89,7 @@ impl Actor for AnyActor {
     fn surplus(&mut self) -> Option<Place> {
         match self {
             AnyActor::Mutator(mutator) => mutator.surplus(),
+            AnyActor::Decrementer(decrementer) => decrementer.surplus(),
         }
     }
 }

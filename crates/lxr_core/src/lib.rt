@@ -15,7 +15,7 @@ pub use actors::AnyActor;
 pub use closing::close_epoch;
 pub use opening::open_epoch;
 
-/// After every schedule of an epoch its invariant holds, and each next step fits.
+/// After every schedule of an epoch its invariant holds, no cursor has fallen, and each next step fits.
 pub fn epoch_invariant_holds()
     ensures { EpochInvariantHolds }
 {}

@@ -4,6 +4,7 @@ ghost use Rattle.std.specs.List.{All};
 ghost use Rattle.lxr_mutator.specs.Mutators.{IsHeld};
 ghost use Rattle.lxr_invariant.specs.AbstractState.{AbstractState};
 ghost use Rattle.lxr_core_events.specs.EpochStates.{Beginning};
+ghost use Rattle.lxr_core.specs.Actors.{AreInOrder, mutators_in};
 ghost use Rattle.lxr_core.specs.Executions.{HoldsExecution};
 ghost use Rattle.lxr_core.specs.Opening.{Begins, MayOpen, Opens, execution_at};
 ghost use Rattle.lxr_core.specs.Starting.{HaveStarted, MayAllStart, registers_in};
@@ -12,9 +13,9 @@ use crate::actors::AnyActor;
 use lxr_image::Space;
 use lxr_layout::{PAUSE_WORD, Place};
 
-/// Opens an epoch: no pause is asked for, and each mutator has its registers again and begins anew with no operation
-/// done in this epoch, unless it has done its end. No step is made yet. Where a history so far led to this space and
-/// these actors, the invariant of the epoch holds from here on.
+/// Opens an epoch: no pause is asked for, each mutator has its registers again and begins anew with no operation done
+/// in this epoch, unless it has done its end, and each helper has an empty pocket. No step is made yet. Where a history
+/// so far led to this space and these actors, the invariant of the epoch holds from here on.
 pub fn open_epoch(space: &mut Space, actors: &mut [AnyActor])
     requires { (g : AbstractState) × MayOpen g space.old actors.old }
     ensures opens { Opens space.old space.new actors.old actors.new }
@@ -24,21 +25,22 @@ pub fn open_epoch(space: &mut Space, actors: &mut [AnyActor])
     start_all(actors, space.registers.as_slice());
 }
 
-/// Each actor begins again with its sixteen registers.
+/// Each actor begins again, a mutator with its sixteen registers.
 fn start_all(actors: &mut [AnyActor], places: &[Place])
-    requires registers { length places.now ≡ 16 * length actors.old }
-    requires few { length actors.old ≤ 16 }
+    requires order { AreInOrder actors.old }
+    requires registers { length places.now ≡ 16 * length (mutators_in actors.old) }
+    requires few { length (mutators_in actors.old) ≤ 16 }
     requires held { All IsHeld places.now }
     requires rest { MayAllStart actors.old }
     ensures { HaveStarted places.now actors.old actors.new (length actors.old) }
 {
     for number in 0..actors.len() {
-        actors[number].start_again(registers_of(places, number));
+        actors[number].start_again(places, number);
     }
 }
 
 /// The registers of the thread of a number.
-fn registers_of(places: &[Place], number: usize) -> [Place; 16]
+pub(crate) fn registers_of(places: &[Place], number: usize) -> [Place; 16]
     requires number { number < 16 }
     requires registers { 16 * (number + 1) ≤ length places.now }
     ensures { result ≡ registers_in places.now number }

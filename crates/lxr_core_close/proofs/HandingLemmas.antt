@@ -274,13 +274,13 @@ still_free listed blocks runs frees t u r is later free none = record {
       let was : IsFreeLine listed n = (free_line_is_told listed n).0 (free.free i low high) in
       let line : IsLineOf r n = record { first = omega (arith, low); behind = omega (arith, high) } in
       let outs : t.outs ≡ listed.outs = ap (λ z. z.outs) later.rest in
-      let counts : u.counts ≡ listed.counts = ap (λ z. z.counts) is.rest ∙ ap (λ z. z.counts) later.rest in
+      let counts : u.counts ≡ t.counts = ap (λ z. z.counts) is.rest in
       (free_line_is_told u n).1 (record {
         in_hand = false_from_ne_true (u.outs n) (λ out. elim (out_before (IsDrawnLine listed blocks runs frees) t u n is out) [
           | inl start ↦ not_both (listed.outs n) (subst (λ f. IsTrue (f n)) outs start) was.in_hand
           | inr drawn ↦ none n line drawn
         ]);
-        uncounted = λ k h. ap (λ f. f (16 * n + k)) counts ∙ was.uncounted k h;
+        uncounted = λ k h. ap (λ f. f (16 * n + k)) counts ∙ later.uncounted (16 * n + k) (was.uncounted k h);
       });
 }
 

@@ -2,9 +2,10 @@
 use Rattle.std.proofs.Common.{◌≡◌, ◌≢◌, ℕ, ◌+◌, ◌-◌, ◌*◌, ◌/◌, ◌<◌, ◌≤◌, refl, sym, ap, subst, ◌∙◌, inl, inr, arith, Bool, false, List, length}
 use Rattle.std.specs.Prelude.{Option, IsTrue}
 use Rattle.std.specs.Option.{option_map}
+use Rattle.std.proofs.lemmas.Bool.{false_from_ne_true}
 use Rattle.std.proofs.lemmas.Bool.Decides.{leb_tells}
 use Rattle.std.proofs.lemmas.List.{length-map}
-use Rattle.lxr_layout.specs.declared.TheConstants.{DECREMENT_COUNT, DECREMENT_CURSOR, FREE_BLOCK_COUNT, GRANULES_IN_BLOCK, RUN_COUNT}
+use Rattle.lxr_layout.specs.declared.TheConstants.{DECREMENT_COUNT, DECREMENT_CURSOR, FREE_BLOCK_COUNT, GRANULES_IN_BLOCK, RUN_COUNT, TRACING_WORD}
 use Rattle.lxr_layout.specs.declared.limits.Limits.{Limits}
 use Rattle.lxr_layout.specs.declared.LogEntry.{LogEntry}
 use Rattle.lxr_layout.specs.declared.Place.{Place}
@@ -26,32 +27,44 @@ use Rattle.lxr_blocks.specs.States.{state_in, state_of}
 use Rattle.lxr_model.specs.Moments.{Moment, Trace}
 use Rattle.lxr_model.specs.Reachable.{held}
 use Rattle.lxr_invariant.specs.AbstractState.{members}
-use Rattle.lxr_invariant.specs.Lines.{AvoidChosen, HasBlocks, LinesAreOut}
+use Rattle.lxr_invariant.specs.Lines.{AvoidChosen, HasBlocks, HasMarks, LinesAreOut}
 use Rattle.lxr_invariant.specs.Quiescent.{HoldsMoment}
-use Rattle.lxr_invariant.proofs.FrameLemmas.{bits_still, blocks_still, counts_still, decrements_still, image_still, marks_still, undecremented_still}
+use Rattle.lxr_invariant.proofs.FrameLemmas.{bits_still, blocks_still, counts_still, decrements_still, image_still, marks_still}
 use Rattle.lxr_invariant.proofs.BlockLemmas.{blocks_kept, none_chosen, still_not}
 use Rattle.lxr_invariant.proofs.MemberLemmas.{untraced}
 use Rattle.lxr_invariant.proofs.NameLemmas.{in_first, in_second}
+use Rattle.lxr_invariant.proofs.PlaceLemmas.{marks_stay}
 use Rattle.lxr_core_events.specs.EpochStates.{Beginning, EpochState, limits_of, moment_of, opening_tables}
 use Rattle.lxr_core_events.specs.Logged.{logs_of}
 use Rattle.lxr_core_events.specs.Drawn.{IsDrawnMemory, LieInDrawn}
 use Rattle.lxr_core_events.specs.Epoch.{IsEpoch}
-use Rattle.lxr_core_events.specs.Laws.{HasClosingLogs}
+use Rattle.lxr_core_events.specs.Laws.{HasClosingCounts, HasClosingLogs}
 use Rattle.lxr_core_close.specs.HandingOut.{AreHandedOut, AreLater, DrawnIsOut, IsDrawnLine, drawn_blocks, drawn_runs}
 use Rattle.lxr_core_close.specs.Safepoint.{ClosingReachesSafepoint, DrawnMayBeHandedOut, DrawnWasFree, HasCollected, IsClosed, closed_state, registers_of}
 use Rattle.lxr_core_close.proofs.HandingLemmas.{drawn_is_out, keeps_state, listed_was_free, still_out}
 use Rattle.lxr_core_events.proofs.DrawnLemmas.{block_below, run_below}
+use Rattle.lxr_core_events.proofs.PauseLemmas.{one_pause, unmoved}
 use Rattle.lxr_core_close.proofs.ListLemmas.{few_entries, registers_are_places}
-use Rattle.lxr_core_close.proofs.StillLemmas.{AreUnmoved, HaveOnePause, counts_unmoved, decrements_unmoved, marks_unmoved, pause_stays, undecremented_unmoved}
+use Rattle.lxr_core_close.proofs.StillLemmas.{marks_unmoved}
 
 -- ---- the end of an epoch
+
+-- what had no count as the epoch opened has none: objects had counts then, and elsewhere counts stay
+still_uncounted : (b : Beginning) (s : EpochState) (k : ℕ) → IsEpoch b s → (opening_tables b).counts k ≡ 0 → s.tables.counts k ≡ 0
+still_uncounted b s k is none =
+    let between = is.begins.between in
+    let bare : (opening_tables b).starts k ≡ false = false_from_ne_true ((opening_tables b).starts k) (λ start.
+    let begins = between.safepoint.holds.bits.starts.only k start in
+    between.undecremented.positive begins.0 begins.1 (ap (opening_tables b).counts begins.2 ∙ none)) in
+    is.fixed.counts k bare ∙ none
 
 -- the tables are later than those that were listed
 later : (b : Beginning) (s : EpochState) → IsEpoch b s → AreLater (tables_of b.space) s.tables
 later b s is = record {
   rest = is.fixed.tables;
-  runs = is.fixed.cursors RUN_COUNT (λ e. absurd (omega arith)) (λ e. absurd (omega arith)) (λ e. absurd (omega arith));
-  frees = is.fixed.cursors FREE_BLOCK_COUNT (λ e. absurd (omega arith)) (λ e. absurd (omega arith)) (λ e. absurd (omega arith));
+  uncounted = λ k none. still_uncounted b s k is none;
+  runs = is.fixed.cursors RUN_COUNT (λ e. absurd (omega arith)) (λ e. absurd (omega arith)) (λ e. absurd (omega arith)) (λ e. absurd (omega arith));
+  frees = is.fixed.cursors FREE_BLOCK_COUNT (λ e. absurd (omega arith)) (λ e. absurd (omega arith)) (λ e. absurd (omega arith)) (λ e. absurd (omega arith));
 }
 
 -- a drawn line was free as it was listed, and objects keep their lines
@@ -62,10 +75,6 @@ drawn_was_free b s space line is tables drawn =
       free = free;
       untaken = λ taken. not_both (is_free (opening_tables b) line) free (subst (λ z. is_free (opening_tables b) z ≡ false) taken.5 (is.begins.between.lines taken.0 taken.1 taken.2 taken.3 taken.4));
     }
-
--- a cursor that no mutator moves
-cursor_stays : (b : Beginning) (s : EpochState) (c : ℕ) → IsEpoch b s → 4 ≤ c → s.tables.cursors c ≡ (opening_tables b).cursors c
-cursor_stays b s c is high = is.fixed.cursors c (λ e. omega arith) (λ e. omega arith) (λ e. omega arith)
 
 -- the space is one, with the lists of the opening
 pub drawn_may_be_handed_out : DrawnMayBeHandedOut
@@ -81,14 +90,6 @@ drawn_may_be_handed_out b s now is has =
       limits = limits;
       tables = subst (AreLater (tables_of b.space)) (sym has.tables) (later b s is);
     }
-
--- the last pause is that of the opening
-one_pause : (b : Beginning) (s : EpochState) → IsEpoch b s → HaveOnePause b.abstract_state.moment (moment_of b s)
-one_pause b s is = subst (λ (m : Moment). HaveOnePause m (moment_of b s)) (sym is.begins.moment) (pause_stays (limits_of b).threads b.every b.history s.history is.extends)
-
--- what is unreclaimed stands where it did
-unmoved : (b : Beginning) (s : EpochState) → IsEpoch b s → AreUnmoved b.abstract_state.moment.unreclaimed b.abstract_state.at s.at
-unmoved b s is n h = is.image.placed.unmoved n (in_first b.abstract_state.moment.unreclaimed b.abstract_state.moment.made n h)
 
 -- ---- lines and blocks
 
@@ -196,9 +197,9 @@ deferred_held b s is =
     (opened.image.deferred ∙ places_still b.abstract_state.at s.at b.abstract_state.moment.last.registers (λ i n e. unmoved b s is n (opened.follows.kept n (held (i, e)))))
 
 -- the closed space holds the moment to which the history has led
-holds_closed : (b : Beginning) (s : EpochState) (words : List ℕ) (tally : Tally) → IsEpoch b s → HasClosingLogs b s → DrawnAreOut b s (tables_in (limits_of b) words)
+holds_closed : (b : Beginning) (s : EpochState) (words : List ℕ) (tally : Tally) → IsEpoch b s → HasClosingLogs b s → HasClosingCounts b s → DrawnAreOut b s (tables_in (limits_of b) words)
     → HoldsMoment (closed_space b s words tally) (moment_of b s) s.at
-holds_closed b s words tally is closing hands =
+holds_closed b s words tally is closing counted hands =
     let o : Tables = opening_tables b in
     let t : Tables = s.tables in
     let u : Tables = tables_in (limits_of b) words in
@@ -207,17 +208,19 @@ holds_closed b s words tally is closing hands =
     let one = one_pause b s is in
     let still = unmoved b s is in
     let late = is.fixed.tables in
-    let counts : u.counts ≡ o.counts = ap (λ (z : Tables). z.counts) hands.rest ∙ ap (λ (z : Tables). z.counts) late in
-    let dones : u.dones ≡ o.dones = ap (λ (z : Tables). z.dones) hands.rest ∙ ap (λ (z : Tables). z.dones) late in
-    let decs : u.decs ≡ o.decs = ap (λ (z : Tables). z.decs) hands.rest ∙ ap (λ (z : Tables). z.decs) late in
+    let counts : u.counts ≡ t.counts = ap (λ (z : Tables). z.counts) hands.rest in
+    let dones : u.dones ≡ t.dones = ap (λ (z : Tables). z.dones) hands.rest in
+    let decs : u.decs ≡ t.decs = ap (λ (z : Tables). z.decs) hands.rest in
     let cursors : u.cursors ≡ t.cursors = ap (λ (z : Tables). z.cursors) hands.rest in
-    let drawn : u.cursors DECREMENT_CURSOR ≡ o.cursors DECREMENT_CURSOR = ap (λ f. f 5) cursors ∙ cursor_stays b s 5 is (omega arith) in
-    let waiting : u.cursors DECREMENT_COUNT ≡ o.cursors DECREMENT_COUNT = ap (λ f. f 6) cursors ∙ cursor_stays b s 6 is (omega arith) in
-    let counted = counts_unmoved o b.abstract_state.moment m b.abstract_state.at s.at one still is.begins.between.undecremented opened.counts in
-    let lowered = decrements_unmoved (limits_of b) o b.abstract_state.moment m b.abstract_state.at s.at one still opened.decrements in
-    let marked = marks_unmoved o b.abstract_state.moment m b.abstract_state.at s.at opened.follows is.lives one still opened.marks in
+    let drawn : u.cursors DECREMENT_CURSOR ≡ t.cursors DECREMENT_CURSOR = ap (λ f. f 5) cursors in
+    let waiting : u.cursors DECREMENT_COUNT ≡ t.cursors DECREMENT_COUNT = ap (λ f. f 6) cursors in
+    let before : Moment = b.abstract_state.moment in
+    let bare : HasMarks t before.state.graph b.abstract_state.at before.unreclaimed =
+    marks_stay o t (limits_of b).blocks b.abstract_state.at before.state.graph (members before) before.unreclaimed opened.image.image (λ n h. in_first before.unreclaimed before.made n h) opened.bits.starts is.fixed.counts opened.marks in
+    let marked = marks_unmoved t before m b.abstract_state.at s.at opened.follows is.lives one still bare in
     let blocks : HasBlocks t (limits_of b).blocks b.abstract_state.moment.trace =
-    blocks_still o t (limits_of b).blocks b.abstract_state.moment.trace (ap (λ (z : Tables). z.states) late) (cursor_stays b s 8 is (omega arith)) opened.blocks in
+    blocks_still o t (limits_of b).blocks b.abstract_state.moment.trace (ap (λ (z : Tables). z.states) late)
+    (is.fixed.cursors TRACING_WORD (λ e. absurd (omega arith)) (λ e. absurd (omega arith)) (λ e. absurd (omega arith)) (λ e. absurd (omega arith))) opened.blocks in
     record {
       space = record { limits = opened.space.limits; size = ap (λ (z : Tables). z.size) hands.rest ∙ ap (λ (z : Tables). z.size) late ∙ opened.space.size };
       room = record { registers = opened.room.registers; deferred = opened.room.deferred; logged = opened.room.logged; work = opened.room.work; report = opened.room.report };
@@ -233,9 +236,9 @@ holds_closed b s words tally is closing hands =
           (ap (λ (z : Tables). z.dones) hands.rest) (ap (λ (z : Tables). z.unlogged) hands.rest) closing.bits;
       logs = closing.logs;
       few_logs = logs_fit b s is;
-      counts = counts_still o u m s.at counts dones decs drawn waiting counted;
-      decrements = decrements_still (limits_of b) (limits_of b) o u m s.at refl decs waiting lowered;
-      marks = marks_still o u m.state.graph s.at m.unreclaimed counts marked;
+      counts = counts_still t u m s.at counts dones decs drawn waiting counted.counts;
+      decrements = decrements_still (limits_of b) (limits_of b) t u m s.at refl decs waiting counted.decrements;
+      marks = marks_still t u m.state.graph s.at m.unreclaimed counts marked;
       lines = lines_out b s u is hands;
       unchosen = unchosen b s u is hands;
       blocks = subst (λ (z : Option Trace). HasBlocks u (limits_of b).blocks z) (sym one.trace) (blocks_kept t u (limits_of b).blocks b.abstract_state.moment.trace (λ c. keeps_state (drawn_in b s) t u c hands) (ap (λ f. f 8) cursors) blocks);
@@ -247,26 +250,20 @@ holds_closed b s words tally is closing hands =
     }
 
 -- the closed space is at a safepoint before a pause
-is_at_safepoint : (b : Beginning) (s : EpochState) (words : List ℕ) (tally : Tally) → IsEpoch b s → HasClosingLogs b s → DrawnAreOut b s (tables_in (limits_of b) words) → IsClosed b s (closed_space b s words tally)
-is_at_safepoint b s words tally is closing hands =
-    let o : Tables = opening_tables b in
-    let u : Tables = tables_in (limits_of b) words in
+is_at_safepoint : (b : Beginning) (s : EpochState) (words : List ℕ) (tally : Tally) → IsEpoch b s → HasClosingLogs b s → HasClosingCounts b s → DrawnAreOut b s (tables_in (limits_of b) words) → IsClosed b s (closed_space b s words tally)
+is_at_safepoint b s words tally is closing counted hands =
     let numbers = is.begins.between.safepoint.numbers in
     let one = one_pause b s is in
-    let counts : u.counts ≡ o.counts = ap (λ (z : Tables). z.counts) hands.rest ∙ ap (λ (z : Tables). z.counts) is.fixed.tables in
-    let dones : u.dones ≡ o.dones = ap (λ (z : Tables). z.dones) hands.rest ∙ ap (λ (z : Tables). z.dones) is.fixed.tables in
-    let drawn : u.cursors DECREMENT_CURSOR ≡ o.cursors DECREMENT_CURSOR = ap (λ (z : Tables). z.cursors DECREMENT_CURSOR) hands.rest ∙ cursor_stays b s 5 is (omega arith) in
     record {
       safepoint = record {
-        holds = holds_closed b s words tally is closing hands;
+        holds = holds_closed b s words tally is closing counted hands;
         numbers = record {
           pauses = numbers.pauses ∙ sym one.number;
           trace = numbers.trace ∙ ap (λ z. option_map (λ (trace : Trace). trace.began) z) (sym one.trace);
           report = numbers.report;
         };
-        traced = untraced (limits_of b) u (logs_of s.thread_states) (closed_state b s) (moment_of b s).trace (one.trace ∙ is.begins.no_trace);
+        traced = untraced (limits_of b) (tables_in (limits_of b) words) (logs_of s.thread_states) (closed_state b s) (moment_of b s).trace (one.trace ∙ is.begins.no_trace);
       };
-      undecremented = undecremented_still o u (moment_of b s) s.at dones counts drawn (undecremented_unmoved o b.abstract_state.moment (moment_of b s) b.abstract_state.at s.at one (unmoved b s is) is.begins.between.undecremented);
     }
 
 -- the space is the closed one of its words
@@ -282,7 +279,7 @@ is_closed b s now after has out =
 
 -- so the space is at a safepoint before a pause
 pub closing_reaches_safepoint : ClosingReachesSafepoint
-closing_reaches_safepoint b s now after is closing has out =
+closing_reaches_safepoint b s now after is closing counted has out =
     let same = is_closed b s now after has out in
     let hands : DrawnAreOut b s (tables_of after) = subst (λ z. AreHandedOut (IsDrawnLine (opening_tables b) (limits_of b).blocks (drawn_runs z) (drawn_blocks z)) z (tables_of after)) has.tables out.hands in
-    subst (IsClosed b s) (sym same) (is_at_safepoint b s after.words now.tally is closing (subst (DrawnAreOut b s) (ap tables_of same) hands))
+    subst (IsClosed b s) (sym same) (is_at_safepoint b s after.words now.tally is closing counted (subst (DrawnAreOut b s) (ap tables_of same) hands))

@@ -1,42 +1,17 @@
--- What stays from the opening of an epoch to its end: the last pause, the shapes of what was unreclaimed, and what
--- tables tell of them.
-use Rattle.std.proofs.Common.{◌≡◌, ℕ, ◌+◌, ◌<◌, refl, sym, ap, subst, ◌∙◌, arith, false, List}
+-- What stays from the opening of an epoch to its end: the shapes of what was unreclaimed, and their line marks.
+use Rattle.std.proofs.Common.{◌≡◌, ℕ, sym, ap, subst, ◌∙◌, arith}
 use Rattle.std.specs.Prelude.{Some, IsTrue}
-use Rattle.lxr_layout.specs.declared.limits.Limits.{Limits}
 use Rattle.lxr_layout.specs.declared.Name.{Name}
-use Rattle.lxr_layout.specs.declared.TheConstants.{STUCK}
-use Rattle.lxr_graph.specs.History.{Item}
 use Rattle.lxr_graph.specs.Names.{has}
 use Rattle.lxr_graph.specs.State.{Graph, Object, object_at}
-use Rattle.lxr_graph.proofs.NameSets.{not_both}
 use Rattle.lxr_image.specs.Tables.{Tables}
 use Rattle.lxr_image.specs.Reads.{granule_of}
 use Rattle.lxr_image.specs.Image.{granules_of}
-use Rattle.lxr_model.specs.Moments.{Moment, moment}
-use Rattle.lxr_model.specs.References.{references}
+use Rattle.lxr_model.specs.Moments.{Moment}
 use Rattle.lxr_model_counting.specs.Following.{FollowsPause, HasShapeOf}
-use Rattle.lxr_invariant.specs.Counting.{HasCounts, HasDecrements, IsUndecremented, undone, waiting_at}
 use Rattle.lxr_invariant.specs.Lines.{HasMarks, IsMarkOf}
-use Rattle.lxr_invariant.proofs.MemberLemmas.{undone_all}
 use Rattle.lxr_invariant.proofs.PlaceLemmas.{same_object}
-use Rattle.lxr_core_events.specs.EpochStates.{Extends, same, called}
-
--- ---- the last pause
-
--- two moments since one pause
-pub record HaveOnePause (m k : Moment) : Type 0 where
-  pub last : k.last ≡ m.last
-  pub number : k.number ≡ m.number
-  pub unreclaimed : k.unreclaimed ≡ m.unreclaimed
-  pub stuck : k.stuck ≡ m.stuck
-  pub trace : k.trace ≡ m.trace
-
--- calls leave the last pause
-pub pause_stays : (threads every : ℕ) (h k : List Item) → Extends threads every h k → HaveOnePause (moment threads h) (moment threads k)
-pause_stays threads every h k (same) = record { last = refl; number = refl; unreclaimed = refl; stuck = refl; trace = refl }
-pause_stays threads every h k (called j t o r before is) =
-    let rest = pause_stays threads every h j before in
-    record { last = rest.last; number = rest.number; unreclaimed = rest.unreclaimed; stuck = rest.stuck; trace = rest.trace }
+use Rattle.lxr_core_events.proofs.PauseLemmas.{AreUnmoved, HaveOnePause}
 
 -- ---- shapes
 
@@ -63,44 +38,7 @@ same_size m k n o was now last in_m in_k there =
     let a = shape.refs in let b = shape.values in let c = old.4.refs in let d = old.4.values in
     (old.1, old.3, omega (arith, a, b, c, d))
 
--- ---- counts, decrements and marks
-
--- what stands where it did
-abbrev pub AreUnmoved : List Name → (Name → ℕ) → (Name → ℕ) → Type 0
-AreUnmoved us at to = (n : Name) → IsTrue (has us n) → to n ≡ at n
-
--- counts are those of what stands where it did
-pub counts_unmoved : (t : Tables) (m k : Moment) (at to : Name → ℕ) → HaveOnePause m k → AreUnmoved m.unreclaimed at to → IsUndecremented t m at → HasCounts t m at → HasCounts t k to
-counts_unmoved t m k at to one still none is =
-    let in_m : (n : Name) → IsTrue (has k.unreclaimed n) → IsTrue (has m.unreclaimed n) = λ n h. subst (λ z. IsTrue (has z n)) one.unreclaimed h in
-    let loose : (n : Name) → has k.stuck n ≡ false → has m.stuck n ≡ false = λ n h. subst (λ z. has z n ≡ false) one.stuck h in
-    record {
-      stuck = λ n h stuck. ap (λ z. t.counts (granule_of z)) (still n (in_m n h)) ∙ is.stuck n (in_m n h) (subst (λ z. IsTrue (has z n)) one.stuck stuck);
-      below = λ n h l. subst (λ z. t.counts (granule_of z) < STUCK) (sym (still n (in_m n h))) (is.below n (in_m n h) (loose n l));
-      exact = λ n h l. ap (λ z. t.counts (granule_of z)) (still n (in_m n h)) ∙ is.exact n (in_m n h) (loose n l)
-          ∙ ap (λ z. references m.last z n + waiting_at t (at n)) (undone_all t at to m.unreclaimed none.none_done)
-          ∙ ap (λ z. references m.last (undone t to m.unreclaimed) n + waiting_at t z) (sym (still n (in_m n h)))
-          ∙ ap (λ z. references z (undone t to m.unreclaimed) n + waiting_at t (to n)) (sym one.last)
-          ∙ ap (λ z. references k.last (undone t to z) n + waiting_at t (to n)) (sym one.unreclaimed);
-      done = λ n h done. absurd (not_both (t.dones (granule_of (to n))) done (none.none_done (granule_of (to n))));
-    }
-
--- so are decrements that wait
-pub decrements_unmoved : (l : Limits) (t : Tables) (m k : Moment) (at to : Name → ℕ) → HaveOnePause m k → AreUnmoved m.unreclaimed at to → HasDecrements l t m at → HasDecrements l t k to
-decrements_unmoved l t m k at to one still is = record {
-  fits = is.fits;
-  places = λ i low. let a = is.places i low in (a.0, subst (λ z. IsTrue (has z a.0)) (sym one.unreclaimed) a.1, a.2 ∙ sym (still a.0 a.1));
-}
-
--- nothing was decremented still
-pub undecremented_unmoved : (t : Tables) (m k : Moment) (at to : Name → ℕ) → HaveOnePause m k → AreUnmoved m.unreclaimed at to → IsUndecremented t m at → IsUndecremented t k to
-undecremented_unmoved t m k at to one still is = record {
-  none_done = is.none_done;
-  none_drawn = is.none_drawn;
-  positive = λ n h e.
-      let member = subst (λ z. IsTrue (has z n)) one.unreclaimed h in
-      is.positive n member (ap (λ z. t.counts (granule_of z)) (sym (still n member)) ∙ e);
-}
+-- ---- marks
 
 -- a mark of an object is that of another as long at the same place
 mark_of_same : (at to : Name → ℕ) (n : Name) (o a : Object) (k : ℕ) → to n ≡ at n → granules_of o ≡ granules_of a → IsMarkOf to n o k → IsMarkOf at n a k

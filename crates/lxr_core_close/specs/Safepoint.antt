@@ -6,14 +6,13 @@ use Rattle.lxr_image.specs.declared.space.Space.{Space}
 use Rattle.lxr_image.specs.Spaces.{tables_of}
 use Rattle.lxr_blocks.specs.Lines.{is_free}
 use Rattle.lxr_invariant.specs.AbstractState.{AbstractState, members}
-use Rattle.lxr_invariant.specs.Counting.{IsUndecremented}
 use Rattle.lxr_invariant.specs.Lines.{IsTakenBy}
 use Rattle.lxr_invariant.specs.Quiescent.{IsAtSafepoint}
 use Rattle.lxr_core_events.specs.ThreadStates.{ThreadState}
 use Rattle.lxr_core_events.specs.EpochStates.{Beginning, EpochState, moment_of, opening_tables}
 use Rattle.lxr_core_events.specs.Logged.{logs_of}
 use Rattle.lxr_core_events.specs.Epoch.{IsEpoch}
-use Rattle.lxr_core_events.specs.Laws.{HasClosingLogs}
+use Rattle.lxr_core_events.specs.Laws.{HasClosingCounts, HasClosingLogs}
 use Rattle.lxr_core_close.specs.HandingOut.{DrawnIsOut, IsDrawn, MayHandOut}
 
 -- the registers of all mutators, thread 1 first
@@ -32,10 +31,9 @@ pub record HasCollected (b : Beginning) (s : EpochState) (now : Space) : Type 0 
   pub logged : now.logged ≡ record { items = logs_of s.thread_states; room = b.space.logged.room }
   pub rest : now ≡ record b.space { words = now.words; registers = now.registers; logged = now.logged; tally = now.tally }
 
--- the epoch is closed: the space is at a safepoint before a pause, where no decrementer has worked
+-- the epoch is closed: the space is at a safepoint before a pause
 pub record IsClosed (b : Beginning) (s : EpochState) (after : Space) : Type 0 where
   pub safepoint : IsAtSafepoint after (closed_state b s)
-  pub undecremented : IsUndecremented (tables_of after) (moment_of b s) s.at
 
 -- a line was free as the epoch opened, so that no object that stood in the heap then overlaps it
 pub record WasFree (b : Beginning) (line : ℕ) : Type 0 where
@@ -50,6 +48,7 @@ DrawnWasFree = (b : Beginning) (s : EpochState) (space : Space) (line : ℕ) →
 abbrev pub DrawnMayBeHandedOut : Type 0
 DrawnMayBeHandedOut = (b : Beginning) (s : EpochState) (now : Space) → IsEpoch b s → HasCollected b s now → MayHandOut b.space now
 
--- Once it is, the epoch is closed, where bits and logs are those of the references that were stored to.
+-- Once it is, the epoch is closed, where bits and logs are those of the references that were stored to, and counts those of a
+-- safepoint.
 abbrev pub ClosingReachesSafepoint : Type 0
-ClosingReachesSafepoint = (b : Beginning) (s : EpochState) (now after : Space) → IsEpoch b s → HasClosingLogs b s → HasCollected b s now → DrawnIsOut b.space now after → IsClosed b s after
+ClosingReachesSafepoint = (b : Beginning) (s : EpochState) (now after : Space) → IsEpoch b s → HasClosingLogs b s → HasClosingCounts b s → HasCollected b s now → DrawnIsOut b.space now after → IsClosed b s after

@@ -4,3 +4,4 @@ pub mod ShowingLemmas
 pub mod ActingLemmas
 pub mod ObjectLemmas
 pub mod DrawnLemmas
+pub mod PauseLemmas

@@ -25,8 +25,8 @@ set_elsewhere (z ∷ xs) zero (suc j) x differ = refl
 set_elsewhere (z ∷ xs) (suc i) zero x differ = refl
 set_elsewhere (z ∷ xs) (suc i) (suc j) x differ = set_elsewhere xs i j x (λ e. differ (ap suc e))
 
--- one mutator shows the new thread state, the others what they showed
-pub shown_cases : (thread_states : List ThreadState) (i : ℕ) (v w : ThreadState) (j : ℕ) (u : ThreadState) → slice_get thread_states i ≡ Some v → slice_get (slice_set thread_states i w) j ≡ Some u
+-- one mutator, or decrementer, shows the new thread state, the others what they showed
+pub shown_cases : {A : Type 0} (thread_states : List A) (i : ℕ) (v w : A) (j : ℕ) (u : A) → slice_get thread_states i ≡ Some v → slice_get (slice_set thread_states i w) j ≡ Some u
     → ((j ≡ i) × (u ≡ w)) ⊎ ((j ≢ i) × (slice_get thread_states j ≡ Some u))
 shown_cases thread_states i v w j u shown now =
     let set = slice_get-set thread_states i w j (slice_get_within thread_states i v shown) in

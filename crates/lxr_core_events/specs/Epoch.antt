@@ -1,10 +1,13 @@
 -- What holds after every step of every schedule of an epoch.
 use Rattle.std.specs.Prelude.{◌≡◌, ℕ, ⊤, Some, slice_get}
 use Rattle.lxr_model_counting.specs.Following.{FollowsPause}
+use Rattle.lxr_core_access.specs.Decrementers.{Decrementing}
+use Rattle.lxr_core_access.specs.Decrementers as decrementing
 use Rattle.lxr_core_events.specs.ThreadStates.{Reason, Rests, Stage, ThreadState, Through}
 use Rattle.lxr_core_events.specs.EpochStates.{Beginning, Extends, IsBeginning, EpochState, limits_of, moment_of}
 use Rattle.lxr_core_events.specs.Imaged.{IsImagedIn}
 use Rattle.lxr_core_events.specs.Logged.{AreBitsAndLogs}
+use Rattle.lxr_core_events.specs.Counted.{AreCountedIn}
 use Rattle.lxr_core_events.specs.Drawn.{AreFixed, IsDrawnMemory}
 use Rattle.lxr_core_events.specs.Called.{AreCalled}
 
@@ -17,6 +20,8 @@ pub record IsEpoch (b : Beginning) (s : EpochState) : Type 0 where
   pub image : IsImagedIn b s
   -- unlogged bits and logs
   pub logged : AreBitsAndLogs b s
+  -- counts and pending decrements
+  pub counted : AreCountedIn b s
   -- drawn memory is one maker's
   pub drawn : IsDrawnMemory b s
   -- cursors and fixed tables
@@ -29,6 +34,10 @@ abbrev pub IsResting : Stage → Type 0
 IsResting Rests = ⊤
 IsResting (Through why) = ⊤
 IsResting _ = ⊥
+
+-- all decrementers are between two units
+abbrev pub DecrementersRest : EpochState → Type 0
+DecrementersRest s = (i : ℕ) (d : Decrementing) → slice_get s.decrementers i ≡ Some d → d ≡ decrementing.Rests
 
 -- all mutators rest
 abbrev pub AreResting : EpochState → Type 0

@@ -17,6 +17,7 @@ use Rattle.lxr_model.specs.Belongs.{calls_since_pause, has_asked}
 use Rattle.lxr_invariant.specs.AbstractState.{AbstractState}
 use Rattle.lxr_invariant.specs.Quiescent.{IsQuiescent}
 use Rattle.lxr_invariant.specs.Listed.{FreeBlocksAreListed, IsListed}
+use Rattle.lxr_core_access.specs.Decrementers.{Decrementing}
 use Rattle.lxr_core_events.specs.ThreadStates.{ThreadState}
 
 -- What an epoch begins with: a space, what it stands for, the history that led there, and how many operations a thread may
@@ -53,11 +54,13 @@ pub record IsBeginning (b : Beginning) : Type 0 where
   pub no_trace : b.abstract_state.moment.trace ≡ None
   pub counted : CountsObjects b.space.limits.threads b.history
 
--- What there is at a moment of an epoch: the tables, what each mutator shows, thread 1 first, the history so far, the place of
--- each object that stands in the heap, and the references of unreclaimed objects whose unlogged bits were cleared.
+-- What there is at a moment of an epoch: the tables, what each mutator shows, thread 1 first, what each decrementer is about to do,
+-- the history so far, the place of each object that stands in the heap, and the references of unreclaimed objects whose unlogged
+-- bits were cleared.
 pub record EpochState : Type 0 where
   pub tables : Tables
   pub thread_states : List ThreadState
+  pub decrementers : List Decrementing
   pub history : List Item
   pub at : Name → ℕ
   pub cleared : List Field

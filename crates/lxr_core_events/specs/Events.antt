@@ -1,5 +1,5 @@
 -- The single atomic steps of mutators, in their finest granularity: what each does to the tables, to what its mutator shows,
--- and to the history. Decrementers and tracers will add events of their own.
+-- and to the history. The steps of decrementers stand in a file of their own.
 use Rattle.std.specs.Prelude.{◌≡◌, ◌≢◌, ℕ, ◌+◌, ◌%◌, ◌^◌, Bool, true, false, nat_eq, Option, Some, None, List, [], ◌∷◌, ◌++◌, replicate, slice_set, if◌then◌else◌}
 use Rattle.lxr_layout.specs.declared.LogEntry.{LogEntry}
 use Rattle.lxr_layout.specs.declared.Name.{Name}

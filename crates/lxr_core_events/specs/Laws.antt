@@ -1,30 +1,45 @@
 -- What every event keeps, and that replies are those of the model.
-use Rattle.std.specs.Prelude.{◌≡◌, ℕ, ◌+◌, ◌^◌, ◌<◌, ◌≤◌, ⊤, Option, Some, length, slice_get}
+use Rattle.std.specs.Prelude.{◌≡◌, ◌≢◌, ℕ, ◌+◌, ◌^◌, ◌<◌, ◌≤◌, ⊤, Option, Some, List, length, slice_get, false, IsTrue}
 use Rattle.lxr_layout.specs.Places.{field_word, place_in}
-use Rattle.lxr_layout.specs.declared.TheConstants.{FREE_BLOCK_COUNT, FREE_BLOCK_CURSOR, RUN_CURSOR}
+use Rattle.lxr_layout.specs.declared.TheConstants.{FREE_BLOCK_COUNT, FREE_BLOCK_CURSOR, PAUSE_WORD, RUN_CURSOR}
 use Rattle.lxr_layout.specs.declared.Name.{Name}
 use Rattle.lxr_graph.specs.declared.Op.{Op}
 use Rattle.lxr_graph.specs.declared.Reply.{Reply}
 use Rattle.lxr_graph.specs.declared.Reply.TheVariants as reply
 use Rattle.lxr_graph.specs.State.{next_name}
 use Rattle.lxr_graph.specs.Step.{IsReply}
+use Rattle.lxr_graph.specs.Names.{has}
 use Rattle.lxr_image.specs.Image.{place_word}
-use Rattle.lxr_model_counting.specs.Following.{FollowsPause}
+use Rattle.lxr_image.specs.Tables.{Tables}
+use Rattle.lxr_model_counting.specs.Following.{FollowsPause, IsLive}
+use Rattle.lxr_invariant.specs.Counting.{HasCounts, HasDecrements, is_done}
 use Rattle.lxr_invariant.specs.Standing.{AreLogged, HasBits}
+use Rattle.lxr_core_access.specs.declared.Access.{Access}
+use Rattle.lxr_core_access.specs.Decrementers.{Decrementing, Rests}
 use Rattle.lxr_core_events.specs.ThreadStates.{ThreadState}
-use Rattle.lxr_core_events.specs.EpochStates.{Beginning, Extends, EpochState, limits_of, moment_of}
+use Rattle.lxr_core_events.specs.EpochStates.{Beginning, Extends, EpochState, IsBeginning, limits_of, moment_of, opening_tables}
 use Rattle.lxr_core_events.specs.Events.{Event, value_word}
 use Rattle.lxr_core_events.specs.Events as event
-use Rattle.lxr_core_events.specs.Happening.{May, happen}
+use Rattle.lxr_core_events.specs.Happening.{May, happen, with_cursor}
 use Rattle.lxr_core_events.specs.Imaged.{HaveRegisters, IsPlacedIn}
 use Rattle.lxr_core_events.specs.Logged.{AreBitsAndLogs, logs_of}
+use Rattle.lxr_core_events.specs.Decremented.{IsSound, LeavesTables, MayDecrement, decremented}
+use Rattle.lxr_core_events.specs.Counted.{AreCounted, AreCountedIn}
 use Rattle.lxr_core_events.specs.Drawn.{AreFixed, IsDrawnMemory}
 use Rattle.lxr_core_events.specs.Called.{AreCalled}
-use Rattle.lxr_core_events.specs.Epoch.{AreResting, AreThrough, IsEpoch}
+use Rattle.lxr_core_events.specs.Epoch.{AreResting, AreThrough, DecrementersRest, IsEpoch}
 
 -- Every event keeps this, where all parts hold before it.
 abbrev pub IsKept : (Beginning → EpochState → Type 0) → Type 0
 IsKept P = (b : Beginning) (s : EpochState) (i : ℕ) (v : ThreadState) (e : Event) → IsEpoch b s → slice_get s.thread_states i ≡ Some v → May b s v e → P b (happen b s i v e)
+
+-- Every step of a decrementer keeps this, where all parts hold before it.
+abbrev pub DecrementersKeep : (Beginning → EpochState → Type 0) → Type 0
+DecrementersKeep P = (b : Beginning) (s : EpochState) (i : ℕ) (access : Access) (after : Decrementing) → IsEpoch b s → MayDecrement b s i access after → P b (decremented s i access after)
+
+-- It reads nothing that decrementers change, nor what they are about to do.
+abbrev pub IsLeft : (Beginning → EpochState → Type 0) → Type 0
+IsLeft P = (b : Beginning) (s : EpochState) (u : Tables) (ds : List Decrementing) → IsEpoch b s → LeavesTables s.tables u → P b (record s { tables = u; decrementers = ds })
 
 -- the mutator's reply is that of a step of the model
 abbrev pub RepliesAs : Beginning → EpochState → ThreadState → Op → Reply → Type 0
@@ -56,11 +71,47 @@ RepliesAreSteps = (b : Beginning) (s : EpochState) (i : ℕ) (v : ThreadState) (
 abbrev pub PlacedIsKept : Type 0
 PlacedIsKept = RepliesAreSteps → IsKept IsPlacedIn
 
+abbrev pub PlacedIsLeft : Type 0
+PlacedIsLeft = IsLeft IsPlacedIn
+
 abbrev pub RegistersAreKept : Type 0
 RegistersAreKept = IsKept HaveRegisters
 
+abbrev pub RegistersAreLeft : Type 0
+RegistersAreLeft = IsLeft HaveRegisters
+
 abbrev pub BitsAndLogsAreKept : Type 0
 BitsAndLogsAreKept = IsKept AreBitsAndLogs
+
+abbrev pub BitsAndLogsAreLeft : Type 0
+BitsAndLogsAreLeft = IsLeft AreBitsAndLogs
+
+-- Counts and pending decrements are kept by mutators and by decrementers, whose steps are sound.
+abbrev pub CountsAreKept : Type 0
+CountsAreKept = IsKept AreCountedIn
+
+abbrev pub DecrementersKeepCounts : Type 0
+DecrementersKeepCounts = DecrementersKeep AreCountedIn
+
+abbrev pub DecrementersAreSound : Type 0
+DecrementersAreSound = (b : Beginning) (s : EpochState) (i : ℕ) (access : Access) (after : Decrementing) → IsEpoch b s → MayDecrement b s i access after → IsSound b s access
+
+-- As an epoch opens, with its pause word clear and all decrementers between two units, nothing is in hand.
+abbrev pub OpeningCounts : Type 0
+OpeningCounts = (b : Beginning) (ds : List Decrementing) → IsBeginning b → ((i : ℕ) (d : Decrementing) → slice_get ds i ≡ Some d → d ≡ Rests) → length ds < 2 ^ 63
+    → AreCounted (limits_of b).blocks (with_cursor (opening_tables b) PAUSE_WORD 0) ds b.abstract_state.moment b.abstract_state.at
+
+-- no live object is done
+abbrev pub LiveIsUndone : Type 0
+LiveIsUndone = (b : Beginning) (s : EpochState) (n : Name) → IsEpoch b s → IsLive (moment_of b s) n → IsTrue (has (moment_of b s).unreclaimed n) → is_done s.tables s.at n ≡ false
+
+-- Where all decrementers are between two units, counts are those of a safepoint.
+pub record HasClosingCounts (b : Beginning) (s : EpochState) : Type 0 where
+  pub counts : HasCounts s.tables (moment_of b s) s.at
+  pub decrements : HasDecrements (limits_of b) s.tables (moment_of b s) s.at
+
+abbrev pub ClosingCounts : Type 0
+ClosingCounts = (b : Beginning) (s : EpochState) → IsEpoch b s → DecrementersRest s → HasClosingCounts b s
 
 -- Where all mutators rest, bits and logs are those of the references that were stored to since the last pause, each
 -- with one entry, so that no log has more entries than there are such references.
@@ -76,8 +127,24 @@ ClosingLogs = (b : Beginning) (s : EpochState) → IsEpoch b s → AreResting s 
 abbrev pub DrawnMemoryIsKept : Type 0
 DrawnMemoryIsKept = IsKept IsDrawnMemory
 
+abbrev pub DrawnMemoryIsLeft : Type 0
+DrawnMemoryIsLeft = IsLeft IsDrawnMemory
+
 abbrev pub FixedTablesAreKept : Type 0
 FixedTablesAreKept = IsKept AreFixed
+
+abbrev pub FixedTablesAreLeft : Type 0
+FixedTablesAreLeft = IsLeft AreFixed
+
+-- What a mutator's event leaves of tables: it changes the heap, unlogged bits, the pause word and the two cursors of what is drawn
+-- alone. So whatever helpers work on stays.
+pub record LeavesToHelpers (t u : Tables) : Type 0 where
+  pub rest : u ≡ record t { heap = u.heap; unlogged = u.unlogged; cursors = u.cursors }
+  pub cursors : (c : ℕ) → c ≢ PAUSE_WORD → c ≢ RUN_CURSOR → c ≢ FREE_BLOCK_CURSOR → u.cursors c ≡ t.cursors c
+
+-- each event leaves this
+abbrev pub MutatorsLeave : Type 0
+MutatorsLeave = (b : Beginning) (s : EpochState) (i : ℕ) (v : ThreadState) (e : Event) → LeavesToHelpers s.tables (happen b s i v e).tables
 
 -- what holds of the history: it goes on by steps of the model, follows the last pause, and is what the mutators show
 pub record HasHistory (b : Beginning) (s : EpochState) : Type 0 where
@@ -88,9 +155,21 @@ pub record HasHistory (b : Beginning) (s : EpochState) : Type 0 where
 abbrev pub HistoryIsKept : Type 0
 HistoryIsKept = IsKept HasHistory
 
+abbrev pub HistoryIsLeft : Type 0
+HistoryIsLeft = IsLeft HasHistory
+
 -- the cursors by which mutators draw have not come round
 abbrev pub CursorsAreFar : Type 0
 CursorsAreFar = (b : Beginning) (s : EpochState) → IsEpoch b s → (s.tables.cursors RUN_CURSOR < 2 ^ 63) × (s.tables.cursors FREE_BLOCK_CURSOR < 2 ^ 63)
+
+-- no cursor has fallen from tables t to tables u
+abbrev pub HaveNotFallen : Tables → Tables → Type 0
+HaveNotFallen t u = (c : ℕ) → t.cursors c ≤ u.cursors c
+
+-- No cursor falls: neither by an event of a mutator nor by a step of a decrementer.
+pub record CursorsDontFall : Type 0 where
+  pub mutators : (b : Beginning) (s : EpochState) (i : ℕ) (v : ThreadState) (e : Event) → IsEpoch b s → May b s v e → HaveNotFallen s.tables (happen b s i v e).tables
+  pub decrementers : (b : Beginning) (s : EpochState) (i : ℕ) (access : Access) (after : Decrementing) → MayDecrement b s i access after → HaveNotFallen s.tables (decremented s i access after).tables
 
 -- Where all mutators are through and each listed block is drawn, each block has an object. So objects are at least as many
 -- as blocks.
@@ -101,3 +180,6 @@ AllBlocksAreTaken = (b : Beginning) (s : EpochState) → IsEpoch b s → AreThro
 -- all of it
 abbrev pub EpochIsKept : Type 0
 EpochIsKept = IsKept IsEpoch
+
+abbrev pub DecrementersKeepEpoch : Type 0
+DecrementersKeepEpoch = DecrementersKeep IsEpoch

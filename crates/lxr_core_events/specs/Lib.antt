@@ -2,8 +2,10 @@ pub mod ThreadStates
 pub mod EpochStates
 pub mod Events
 pub mod Happening
+pub mod Decremented
 pub mod Imaged
 pub mod Logged
+pub mod Counted
 pub mod Drawn
 pub mod Called
 pub mod Epoch

@@ -67,7 +67,7 @@ called_kept b s after v keeps same has =
     }
 
 -- who set the pause word did so
-sets_kept : (s after : EpochState) (v : ThreadState) (stage : Stage) → SaySame v.thread s.history after.history → SetsPauseWord s v stage → SetsPauseWord after v stage
+pub sets_kept : (s after : EpochState) (v : ThreadState) (stage : Stage) → SaySame v.thread s.history after.history → SetsPauseWord s v stage → SetsPauseWord after v stage
 sets_kept s after v (Through why.NoRun) same sets = tt
 sets_kept s after v (Through why.LogFull) same sets = tt
 sets_kept s after v (Through why.Asked) same sets = same.asked ∙ sets

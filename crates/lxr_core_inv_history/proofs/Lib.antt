@@ -6,3 +6,4 @@ pub mod EventLemmas
 pub mod ThroughLemmas
 pub mod EndLemmas
 pub mod ProgressLemmas
+pub mod LeftLemmas

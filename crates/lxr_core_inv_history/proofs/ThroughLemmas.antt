@@ -1,11 +1,11 @@
 -- Where all mutators rest: what the history has of each thread. Where all are through: the cause of the pause.
-use Rattle.std.proofs.Common.{◌≡◌, ℕ, zero, suc, ◌+◌, refl, sym, ap, subst, ◌∙◌, inl, inr, ◌⊎◌, arith, List, [], ◌∷◌, length, take}
+use Rattle.std.proofs.Common.{◌≡◌, ℕ, zero, suc, refl, sym, ap, subst, ◌∙◌, inl, inr, ◌⊎◌, arith, List, [], ◌∷◌, length, take}
 use Rattle.std.specs.Prelude.{Option, Some, slice_get}
 use Rattle.std.proofs.lemmas.List.{length-take-le}
 use Rattle.std.proofs.lemmas.Option.{slice_get_within}
 use Rattle.lxr_graph.specs.declared.Op.{Op}
 use Rattle.lxr_graph.specs.declared.Op.TheVariants as op
-use Rattle.lxr_graph.specs.History.{calls_of, replies_of}
+use Rattle.lxr_graph.specs.History.{replies_of}
 use Rattle.lxr_core_events.specs.ThreadStates.{Reason, Stage, ThreadState, all_of, Rests, Works, Names, Through}
 use Rattle.lxr_core_events.specs.ThreadStates as why
 use Rattle.lxr_core_events.specs.EpochStates.{Beginning, EpochState}

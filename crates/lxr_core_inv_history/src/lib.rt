@@ -5,12 +5,17 @@
 //! this crate do nothing: the contract of each is a law.
 #![tactic(auto)]
 
-ghost use Rattle.lxr_core_events.specs.Laws.{HistoryIsKept, RepliesAreSteps};
+ghost use Rattle.lxr_core_events.specs.Laws.{HistoryIsKept, HistoryIsLeft, RepliesAreSteps};
 ghost use Rattle.lxr_core_events.specs.Through.{CallsAreBeginnings, EndsAreCounted, EpochProgresses, RestIsHistory, ThroughHasCause};
 
 /// Each event keeps the history and the replies, where replies are those of the model's steps.
 pub fn history_is_kept()
     ensures { RepliesAreSteps → HistoryIsKept }
+{}
+
+/// So does a step of a decrementer.
+pub fn history_is_left()
+    ensures { HistoryIsLeft }
 {}
 
 /// Where all threads are through, all have ended or one of them is a cause for a pause.

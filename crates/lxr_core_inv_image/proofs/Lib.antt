@@ -4,3 +4,4 @@ pub mod StayLemmas
 pub mod WriteLemmas
 pub mod MakeLemmas
 pub mod PlacedLemmas
+pub mod LeftLemmas

@@ -52,7 +52,7 @@ world_member m follows = in_first m.unreclaimed m.made world_name (follows.stuck
 -- ---- events that change no heap word and no history
 
 -- what is wiped stays so where no heap word is written
-same_wiped : (t u : Tables) (v : ThreadState) → u.heap ≡ t.heap → KeepsWiped t u v.stage
+pub same_wiped : (t u : Tables) (v : ThreadState) → u.heap ≡ t.heap → KeepsWiped t u v.stage
 same_wiped t u v heap place shape wiped e is = record { within = is.within; zeros = λ k h. ap (λ f. f (first_word place + 1 + k)) heap ∙ is.zeros k h }
 
 -- what there is after an event that changes what its mutator shows, and tables beside the heap

@@ -3,12 +3,18 @@
 //!
 //! The heap is the image of the model's graph at each moment of an epoch: a step writes a data word or a reference of
 //! the object that its mutator works on, wipes words that are its maker's alone, or makes an object of them by its
-//! header; all other steps leave the heap as it is. The function of this crate does nothing: its contract is a law.
+//! header; all other steps leave the heap as it is. The functions of this crate do nothing: the contract of
+//! each is a law.
 #![tactic(auto)]
 
-ghost use Rattle.lxr_core_events.specs.Laws.{PlacedIsKept};
+ghost use Rattle.lxr_core_events.specs.Laws.{PlacedIsKept, PlacedIsLeft};
 
 /// Where replies are those of the model, each event leaves objects at their places.
 pub fn placed_is_kept()
     ensures { PlacedIsKept }
+{}
+
+/// A step of a decrementer leaves them there.
+pub fn placed_is_left()
+    ensures { PlacedIsLeft }
 {}

@@ -7,3 +7,4 @@ pub mod FirstLemmas
 pub mod StoreLemmas
 pub mod EventLemmas
 pub mod ClosingLemmas
+pub mod LeftLemmas

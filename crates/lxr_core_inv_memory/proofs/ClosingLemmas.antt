@@ -175,7 +175,7 @@ block_has b s is through drawn (suc n) below = elim (free_or_taken b s (suc n) i
   | inr taken ↦ taken
   | inl free ↦
       let k = is.begins.all_listed (suc n) below free in
-      let fixed = is.fixed.cursors FREE_BLOCK_COUNT (λ e. cc) (λ e. cc) (λ e. cc) in
+      let fixed = is.fixed.cursors FREE_BLOCK_COUNT (λ e. cc) (λ e. cc) (λ e. cc) (λ e. cc) in
       let listed = k.1 in
       used_has b s k.0 (suc n) through k.2 (is.drawn.used k.0 (omega (arith, listed, fixed, drawn)) listed)
 ]

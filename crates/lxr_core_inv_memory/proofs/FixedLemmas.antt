@@ -1,21 +1,22 @@
 -- Cursors and fixed tables, event by event.
-use Rattle.std.proofs.Common.{lit≤, ◌≡◌, ◌≢◌, ℕ, ◌+◌, ◌≤◌, refl, sym, ap, subst, ◌∙◌, inr, ◌⊎◌, arith, cond, true, false, List, [], ◌∷◌, ◌++◌, length, nat_eq}
-use Rattle.std.specs.Prelude.{Some, None, slice_get, slice_set}
+use Rattle.std.proofs.Common.{lit≤, ◌≡◌, ℕ, ◌+◌, ◌≤◌, refl, sym, ap, subst, ◌∙◌, inl, inr, ◌⊎◌, arith, cond, Bool, true, false, List, [], ◌∷◌, ◌++◌, length, nat_eq}
+use Rattle.std.specs.Prelude.{Some, None, IsTrue, slice_get, slice_set}
 use Rattle.std.proofs.lemmas.List.{length-append}
 use Rattle.lxr_layout.specs.declared.TheConstants.{FREE_BLOCK_CURSOR, PAUSE_WORD, RUN_CURSOR}
 use Rattle.lxr_layout.specs.declared.Place.{Place}
 use Rattle.lxr_graph.specs.declared.Op.{Op}
 use Rattle.lxr_graph.specs.declared.Reply.{Reply}
 use Rattle.lxr_graph.specs.declared.Reply.TheVariants as reply
+use Rattle.lxr_graph.proofs.NameSets.{not_both}
 use Rattle.lxr_image.specs.Tables.{Tables}
 use Rattle.lxr_invariant.proofs.EntryLemmas.{changed_other}
 use Rattle.lxr_core_events.specs.ThreadStates.{Stage, ThreadState, Plain, AtReference, AtValue, Clears, Stores, DrewRun, HasRun, NeedsBlock, DrewBlock, HasBlock, Makes, GivesUp, Rests, Works, Names, Through}
-use Rattle.lxr_core_events.specs.EpochStates.{Beginning, EpochState}
+use Rattle.lxr_core_events.specs.EpochStates.{Beginning, EpochState, opening_tables}
 use Rattle.lxr_core_events.specs.Events.{Event, done_with}
 use Rattle.lxr_core_events.specs.Events as event
 use Rattle.lxr_core_events.specs.Happening.{May, at_stage, happen, loaded_with}
 use Rattle.lxr_core_events.specs.Drawn.{AreFixed, block_draws, run_draws, total}
-use Rattle.lxr_core_events.specs.Laws.{FixedTablesAreKept}
+use Rattle.lxr_core_events.specs.Laws.{FixedTablesAreKept, FixedTablesAreLeft, LeavesToHelpers, MutatorsLeave}
 use Rattle.lxr_core_inv_memory.proofs.ThreadStateLemmas.{total_kept}
 
 -- ---- what a mutator has drawn at most
@@ -93,24 +94,42 @@ grows_loaded v o dest p place index was =
       | false ↦ grows_by v (at_stage held (Names p.0)) (Works (AtReference place index)) (Names p.0) 0 0 was refl refl (lit≤ tt) (lit≤ tt)
     ]
 
+-- ---- what mutators leave
+
+-- each event leaves all but the heap, unlogged bits and three cursors
+pub mutators_leave : MutatorsLeave
+mutators_leave b s i v event.DrawsRun = record { rest = refl; cursors = λ c _ d _. changed_other s.tables.cursors RUN_CURSOR (s.tables.cursors RUN_CURSOR + 1) c d }
+mutators_leave b s i v event.DrawsBlock = record { rest = refl; cursors = λ c _ _ d. changed_other s.tables.cursors FREE_BLOCK_CURSOR (s.tables.cursors FREE_BLOCK_CURSOR + 1) c d }
+mutators_leave b s i v (event.Asks o r) = record { rest = refl; cursors = λ c d _ _. changed_other s.tables.cursors PAUSE_WORD 1 c d }
+mutators_leave b s i v (event.Leaves reason) = record { rest = refl; cursors = λ c d _ _. changed_other s.tables.cursors PAUSE_WORD 1 c d }
+mutators_leave b s i v _ = record { rest = refl; cursors = λ c _ _ _. refl }
+
 -- ---- tables
 
--- only the heap, unlogged bits and cursors differ
-abbrev IsWithin : Tables → Tables → Type 0
-IsWithin t u = u ≡ record t { heap = u.heap; unlogged = u.unlogged; cursors = u.cursors }
+-- tables of which no more differs than in an epoch are fixed as others are
+within_fixed : (o t u : Tables) → u ≡ record t { heap = u.heap; unlogged = u.unlogged; counts = u.counts; grays = u.grays; dones = u.dones; cursors = u.cursors }
+    → t ≡ record o { heap = t.heap; unlogged = t.unlogged; counts = t.counts; grays = t.grays; dones = t.dones; cursors = t.cursors }
+    → u ≡ record o { heap = u.heap; unlogged = u.unlogged; counts = u.counts; grays = u.grays; dones = u.dones; cursors = u.cursors }
+within_fixed o t u within fixed =
+    within ∙ ap (λ (z : Tables). record z { heap = u.heap; unlogged = u.unlogged; counts = u.counts; grays = u.grays; dones = u.dones; cursors = u.cursors }) fixed
+
+-- so are those of which fewer tables differ
+fewer_differ : (t u : Tables) → LeavesToHelpers t u → u ≡ record t { heap = u.heap; unlogged = u.unlogged; counts = u.counts; grays = u.grays; dones = u.dones; cursors = u.cursors }
+fewer_differ t u leaves = ap (λ (z : Tables). record z { heap = u.heap; unlogged = u.unlogged; counts = u.counts; grays = u.grays; dones = u.dones; cursors = u.cursors }) leaves.rest
 
 -- the mutator shows another thread state, and cursors are these
-fixed_after : (b : Beginning) (s u : EpochState) (i : ℕ) (v w : ThreadState) (runs blocks : ℕ) → AreFixed b s → slice_get s.thread_states i ≡ Some v → u.thread_states ≡ slice_set s.thread_states i w → IsWithin s.tables u.tables
-    → ((c : ℕ) → c ≢ PAUSE_WORD → c ≢ RUN_CURSOR → c ≢ FREE_BLOCK_CURSOR → u.tables.cursors c ≡ s.tables.cursors c) → (u.tables.cursors PAUSE_WORD ≡ 0) ⊎ (u.tables.cursors PAUSE_WORD ≡ 1)
+fixed_after : (b : Beginning) (s u : EpochState) (i : ℕ) (v w : ThreadState) (runs blocks : ℕ) → AreFixed b s → slice_get s.thread_states i ≡ Some v → u.thread_states ≡ slice_set s.thread_states i w → LeavesToHelpers s.tables u.tables
+    → (u.tables.cursors PAUSE_WORD ≡ 0) ⊎ (u.tables.cursors PAUSE_WORD ≡ 1)
     → u.tables.cursors RUN_CURSOR ≤ runs + s.tables.cursors RUN_CURSOR → u.tables.cursors FREE_BLOCK_CURSOR ≤ blocks + s.tables.cursors FREE_BLOCK_CURSOR → Grows v w runs blocks → AreFixed b u
-fixed_after b s u i v w runs blocks is there thread_states within others word more_runs more_blocks draws =
+fixed_after b s u i v w runs blocks is there thread_states leaves word more_runs more_blocks draws =
     let all_runs = is.runs in
     let all_blocks = is.blocks in
     let own_runs = draws.more_runs in
     let own_blocks = draws.more_blocks in
     record {
-      tables = within ∙ ap (λ (t : Tables). record t { heap = u.tables.heap; unlogged = u.tables.unlogged; cursors = u.tables.cursors }) is.tables;
-      cursors = λ c a d e. others c a d e ∙ is.cursors c a d e;
+      tables = within_fixed (opening_tables b) s.tables u.tables (fewer_differ s.tables u.tables leaves) is.tables;
+      counts = λ k e. ap (λ (t : Tables). t.counts k) leaves.rest ∙ is.counts k e;
+      cursors = λ c a d e f. leaves.cursors c a d e ∙ is.cursors c a d e f;
       word = word;
       runs = subst (λ thread_states. u.tables.cursors RUN_CURSOR ≤ total (λ v. length v.replies + run_draws v.stage) thread_states) (sym thread_states)
           (total_grown (λ v. length v.replies + run_draws v.stage) s.thread_states i v w (u.tables.cursors RUN_CURSOR) (s.tables.cursors RUN_CURSOR) runs there all_runs more_runs own_runs);
@@ -122,12 +141,12 @@ fixed_after b s u i v w runs blocks is there thread_states within others word mo
     total_grown f thread_states i v w c d more there bound grown own = total_kept f thread_states i v w c d there (omega (arith, grown, own)) bound
 
 -- no cursor moves
-fixed_still : (b : Beginning) (s u : EpochState) (i : ℕ) (v w : ThreadState) → AreFixed b s → slice_get s.thread_states i ≡ Some v → u.thread_states ≡ slice_set s.thread_states i w → IsWithin s.tables u.tables
-    → u.tables.cursors ≡ s.tables.cursors → Grows v w 0 0 → AreFixed b u
+fixed_still : (b : Beginning) (s u : EpochState) (i : ℕ) (v w : ThreadState) → AreFixed b s → slice_get s.thread_states i ≡ Some v → u.thread_states ≡ slice_set s.thread_states i w
+    → u.tables ≡ record s.tables { heap = u.tables.heap; unlogged = u.tables.unlogged; cursors = u.tables.cursors } → u.tables.cursors ≡ s.tables.cursors → Grows v w 0 0 → AreFixed b u
 fixed_still b s u i v w is there thread_states within cursors draws =
     let runs : u.tables.cursors RUN_CURSOR ≡ s.tables.cursors RUN_CURSOR = ap (λ f. f 1) cursors in
     let blocks : u.tables.cursors FREE_BLOCK_CURSOR ≡ s.tables.cursors FREE_BLOCK_CURSOR = ap (λ f. f 3) cursors in
-    fixed_after b s u i v w 0 0 is there thread_states within (λ c _ _ _. ap (λ f. f c) cursors) (subst (λ f. (f 0 ≡ 0) ⊎ (f 0 ≡ 1)) (sym cursors) is.word) (omega (arith, runs)) (omega (arith, blocks)) draws
+    fixed_after b s u i v w 0 0 is there thread_states (record { rest = within; cursors = λ c _ _ _. ap (λ f. f c) cursors }) (subst (λ f. (f 0 ≡ 0) ⊎ (f 0 ≡ 1)) (sym cursors) is.word) (omega (arith, runs)) (omega (arith, blocks)) draws
 
 -- ---- each event
 
@@ -153,13 +172,13 @@ kept b s i v (event.ClearsFirst e n) is there may = fixed_still b s _ i v _ is t
 kept b s i v (event.ClearsLate e) is there may = fixed_still b s _ i v _ is there refl refl refl (grows v _ _ may.stage (lit≤ tt) (lit≤ tt))
 kept b s i v (event.StoresReference o place index value) is there may = fixed_still b s _ i v _ is there refl refl refl (grows_done v _ _ refl)
 kept b s i v event.DrawsRun is there may =
-    fixed_after b s _ i v _ 1 0 is there refl refl (λ c _ d _. changed_other s.tables.cursors RUN_CURSOR (s.tables.cursors RUN_CURSOR + 1) c d) is.word (omega arith) (omega arith)
+    fixed_after b s _ i v _ 1 0 is there refl (mutators_leave b s i v event.DrawsRun) is.word (omega arith) (omega arith)
     (grows_by v _ _ _ 1 0 may.stage refl refl (lit≤ tt) (lit≤ tt))
 kept b s i v event.MissesRun is there may = fixed_still b s _ i v _ is there refl refl refl (grows v _ _ may.stage (lit≤ tt) (lit≤ tt))
 kept b s i v (event.SeesRun number) is there may = fixed_still b s _ i v _ is there refl refl refl (grows v _ _ may.stage (lit≤ tt) (lit≤ tt))
 kept b s i v (event.TakesRun r shape) is there may = fixed_still b s _ i v _ is there refl refl refl (grows_by v _ _ _ 0 0 may.stage refl refl (lit≤ tt) (lit≤ tt))
 kept b s i v event.DrawsBlock is there may =
-    fixed_after b s _ i v _ 0 1 is there refl refl (λ c _ _ d. changed_other s.tables.cursors FREE_BLOCK_CURSOR (s.tables.cursors FREE_BLOCK_CURSOR + 1) c d) is.word (omega arith) (omega arith)
+    fixed_after b s _ i v _ 0 1 is there refl (mutators_leave b s i v event.DrawsBlock) is.word (omega arith) (omega arith)
     (grows_by v _ _ _ 0 1 may.0 refl refl (lit≤ tt) (lit≤ tt))
 kept b s i v event.MissesBlock is there may = fixed_still b s _ i v _ is there refl refl refl (grows v _ _ may.stage (lit≤ tt) (lit≤ tt))
 kept b s i v (event.SeesBlock number) is there may = fixed_still b s _ i v _ is there refl refl refl (grows v _ _ may.stage (lit≤ tt) (lit≤ tt))
@@ -167,11 +186,35 @@ kept b s i v (event.TakesBlock block shape) is there may = fixed_still b s _ i v
 kept b s i v (event.Wipes place shape wiped) is there may = fixed_still b s _ i v _ is there refl refl refl (grows v _ _ may.stage (lit≤ tt) (lit≤ tt))
 kept b s i v (event.MakesObject o dest place shape) is there may = fixed_still b s _ i v _ is there refl refl refl (grows_done v _ _ refl)
 kept b s i v (event.Asks o r) is there may =
-    fixed_after b s _ i v _ 0 0 is there refl refl (λ c d _ _. changed_other s.tables.cursors PAUSE_WORD 1 c d) (inr refl) (omega arith) (omega arith) (grows_done v _ r refl)
+    fixed_after b s _ i v _ 0 0 is there refl (mutators_leave b s i v (event.Asks o r)) (inr refl) (omega arith) (omega arith) (grows_done v _ r refl)
 kept b s i v (event.Leaves reason) is there may =
-    fixed_after b s _ i v _ 0 0 is there refl refl (λ c d _ _. changed_other s.tables.cursors PAUSE_WORD 1 c d) (inr refl) (omega arith) (omega arith)
+    fixed_after b s _ i v _ 0 0 is there refl (mutators_leave b s i v (event.Leaves reason)) (inr refl) (omega arith) (omega arith)
     (grows v _ _ may (lit≤ tt) (lit≤ tt))
 
 -- so it is in each epoch
 pub fixed_tables_are_kept : FixedTablesAreKept
 fixed_tables_are_kept b s i v e is there may = kept b s i v e is.fixed there may
+
+-- ---- decrementers
+
+-- counts change where an unreclaimed object begins, and cursors of mutators stay
+pub fixed_tables_are_left : FixedTablesAreLeft
+fixed_tables_are_left b s u ds is leaves =
+    let o : Tables = opening_tables b in
+    let fixed = is.fixed in
+    let starts : s.tables.starts ≡ o.starts = ap (λ (z : Tables). z.starts) fixed.tables in
+    let runs = leaves.cursors RUN_CURSOR (λ e. absurd (omega arith)) in
+    let blocks = leaves.cursors FREE_BLOCK_CURSOR (λ e. absurd (omega arith)) in
+    let all_runs = fixed.runs in
+    let all_blocks = fixed.blocks in
+    record {
+      tables = within_fixed o s.tables u (ap (λ (z : Tables). record z { heap = u.heap; unlogged = u.unlogged; counts = u.counts; grays = u.grays; dones = u.dones; cursors = u.cursors }) leaves.rest) fixed.tables;
+      counts = λ k e. elim (leaves.counts k) [
+        | inl same ↦ same ∙ fixed.counts k e
+        | inr begins ↦ absurd (not_both (o.starts k) (subst (λ (f : ℕ → Bool). IsTrue (f k)) starts begins) e)
+      ];
+      cursors = λ c a d e f. leaves.cursors c f ∙ fixed.cursors c a d e f;
+      word = subst (λ z. (z ≡ 0) ⊎ (z ≡ 1)) (sym (leaves.cursors PAUSE_WORD (λ e. absurd (omega arith)))) fixed.word;
+      runs = omega (arith, runs, all_runs);
+      blocks = omega (arith, blocks, all_blocks);
+    }

@@ -6,4 +6,6 @@ pub mod QuietLemmas
 pub mod TakingLemmas
 pub mod MakingLemmas
 pub mod DrawnLemmas
+pub mod LeftLemmas
 pub mod ClosingLemmas
+pub mod RaisingLemmas

@@ -8,11 +8,22 @@
 //! nothing: the contract of each is a law.
 #![tactic(auto)]
 
-ghost use Rattle.lxr_core_events.specs.Laws.{AllBlocksAreTaken, CursorsAreFar, DrawnMemoryIsKept, FixedTablesAreKept};
+ghost use Rattle.lxr_core_events.specs.Laws.{AllBlocksAreTaken, CursorsAreFar, CursorsDontFall, DrawnMemoryIsKept, DrawnMemoryIsLeft, FixedTablesAreKept, FixedTablesAreLeft, MutatorsLeave};
+
+/// An event of a mutator changes the heap, unlogged bits, the pause word and the two cursors of what is drawn alone: what
+/// decrementers and tracers work on stays.
+pub fn mutators_leave()
+    ensures { MutatorsLeave }
+{}
 
 /// Mutators change the heap, unlogged bits and the pause word and the two cursors of what is drawn alone, and no cursor outruns what mutators draw.
 pub fn fixed_tables_are_kept()
     ensures { FixedTablesAreKept }
+{}
+
+/// Decrementers change counts, grays, dones and the cursor of decrements alone, and counts only where an unreclaimed object begins.
+pub fn fixed_tables_are_left()
+    ensures { FixedTablesAreLeft }
 {}
 
 /// No granule has two owners, each object that is made lies in what its maker drew, and each drawn block is in a
@@ -21,9 +32,19 @@ pub fn drawn_memory_is_kept()
     ensures { DrawnMemoryIsKept }
 {}
 
+/// So it is after a step of a decrementer.
+pub fn drawn_memory_is_left()
+    ensures { DrawnMemoryIsLeft }
+{}
+
 /// The cursors by which mutators draw stay below 2^63.
 pub fn cursors_are_far()
     ensures { CursorsAreFar }
+{}
+
+/// No cursor falls, neither by an event of a mutator nor by a step of a decrementer.
+pub fn cursors_dont_fall()
+    ensures { CursorsDontFall }
 {}
 
 /// Where all mutators are through and each listed block is drawn, there are at least as many objects as blocks.

@@ -6,3 +6,4 @@ mod ObjectLemmas
 mod MakingLemmas
 pub mod ReplyLemmas
 pub mod KeepingLemmas
+pub mod LeftLemmas

@@ -7,7 +7,7 @@
 //! contract of each is a law.
 #![tactic(auto)]
 
-ghost use Rattle.lxr_core_events.specs.Laws.{RegistersAreKept, RepliesAreSteps};
+ghost use Rattle.lxr_core_events.specs.Laws.{RegistersAreKept, RegistersAreLeft, RepliesAreSteps};
 
 /// Where an operation comes to stand in the history, its reply is that of a step of the model.
 pub fn replies_are_steps()
@@ -17,4 +17,9 @@ pub fn replies_are_steps()
 /// After each event the registers hold the places of what those of the model hold.
 pub fn registers_are_kept()
     ensures { RegistersAreKept }
+{}
+
+/// So they do after a step of a decrementer.
+pub fn registers_are_left()
+    ensures { RegistersAreLeft }
 {}

@@ -1,6 +1,7 @@
 -- The steps that draw lines for a new object.
 use Rattle.std.proofs.Common.{◌≡◌, ℕ, ◌+◌, ◌-◌, ◌*◌, ◌/◌, ◌%◌, ◌^◌, ◌<◌, ◌≤◌, Bool, true, false, arith, refl, sym, subst, ap, ◌∙◌, length}
 use Rattle.std.specs.Prelude.{List, IsTrue, nat_eq, nat_le, nat_lt, slice_set, if◌then◌else◌}
+use Rattle.std.proofs.lemmas.Bool.{ltb-false}
 use Rattle.lxr_layout.specs.Spaces.{regions_of}
 use Rattle.lxr_layout.specs.declared.TheConstants.{FREE_BLOCK_COUNT, FREE_BLOCK_CURSOR, GRANULES_IN_BLOCK, GRANULES_IN_LINE, LINES_IN_BLOCK, RUN_COUNT, RUN_CURSOR}
 use Rattle.lxr_layout.specs.declared.Shape.{Shape}
@@ -82,7 +83,7 @@ run_told b s words i m number false shows few e =
     let goes = goes_on n shows.mutator.sound (λ q. cc) in
     record {
       event = epoch.MissesRun;
-      may = record { number = number; stage = refl; none = grind (arith, e) };
+      may = record { number = number; stage = refl; none = ltb-false number (s.tables.cursors RUN_COUNT) e };
       tables = refl;
       thread_states = refl;
       mutator = to_phase (limits_of b) n phase.DrawsBlock goes shows.mutator.regions (shows.mutator.sound.busy refl) shows.mutator.sound.phase.1 shows.mutator.steady.0;
@@ -248,7 +249,7 @@ block_told b s words i m number false shows few e =
     let goes = goes_on n shows.mutator.sound (λ q. cc) in
     record {
       event = epoch.MissesBlock;
-      may = record { number = number; stage = refl; none = grind (arith, e); shape = shape_now n; does = new_shown n goes shows.mutator.steady };
+      may = record { number = number; stage = refl; none = ltb-false number (s.tables.cursors FREE_BLOCK_COUNT) e; shape = shape_now n; does = new_shown n goes shows.mutator.steady };
       tables = refl;
       thread_states = refl;
       mutator = to_phase (limits_of b) n (phase.GivingUp stop.NoRun) goes shows.mutator.regions (shows.mutator.sound.busy refl) tt tt;

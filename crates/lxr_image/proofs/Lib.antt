@@ -2,6 +2,7 @@ pub mod RegionLemmas
 pub mod HalfLemmas
 pub mod TableLaws
 pub mod OutLemmas
+pub mod UncountedLemmas
 pub mod SpaceLemmas
 pub mod OpenLemmas
 pub mod ImageLemmas

@@ -1,5 +1,5 @@
 -- The out bits of a block are two words.
-use Rattle.std.proofs.Common.{◌≡◌, ℕ, ◌+◌, ◌-◌, ◌*◌, ◌/◌, ◌%◌, ◌^◌, ◌<◌, ◌≤◌, refl, sym, ap, ◌∙◌, inl, inr, arith, Bool, true, false, cond, nat_eq, List, [], length, lit<, eq-eqb, eqb-true}
+use Rattle.std.proofs.Common.{◌≡◌, ℕ, ◌+◌, ◌-◌, ◌*◌, ◌/◌, ◌%◌, ◌^◌, ◌<◌, sym, ap, ◌∙◌, inl, inr, arith, Bool, false, cond, List, [], length, lit<, eq-eqb, eqb-true}
 use Rattle.std.specs.Prelude.{◌==◌, ◌↔◌, IsBitSet, IsTrue, if◌then◌else◌, slice_index, slice_index_or, slice_set}
 use Rattle.std.specs.Int.{bit_at}
 use Rattle.std.specs.Int.Bits.{bit_or}
@@ -13,28 +13,11 @@ use Rattle.lxr_tables.specs.Entries.{table}
 use Rattle.lxr_tables.proofs.BitLemmas.{joined_above, joined_below, one_is_set, set_is_one}
 use Rattle.lxr_tables.proofs.EntryLemmas.{entry_read, length-table, others_stay}
 use Rattle.lxr_image.specs.declared.tables.BitTable.TheVariants.{Outs}
-use Rattle.lxr_image.specs.Tables.{Tables, bits_in, cut, tables_in, tables_from}
-use Rattle.lxr_image.proofs.RegionLemmas.{length_region, region_within, region_word_written}
-use Rattle.lxr_image.proofs.TableLaws.{bit_read, rebuilt}
+use Rattle.lxr_image.specs.Tables.{bits_in, cut, tables_in, tables_from}
+use Rattle.lxr_image.proofs.RegionLemmas.{length_region, region_word_written}
+use Rattle.lxr_image.proofs.TableLaws.{bit_word_within, rebuilt}
 
 -- ---- bits of a word
-
--- the word of so many out bits is one of the words
-pub out_word_within : (l : Limits) (ws : List ℕ) (at : ℕ) → (tables_in l ws).size ≡ region_begin l 15 → at < 2 * l.blocks → region_begin l 8 + at < length ws
-unfolding tables_in
-out_word_within l ws at size within = region_within (region_sizes l) ws 8 at (lit< tt) (omega arith) (omega arith)
-
--- a bit of it tells of one line
-pub out_bit : (l : Limits) (ws : List ℕ) (at i : ℕ) → (tables_in l ws).size ≡ region_begin l 15 → at < 2 * l.blocks → i < 64
-    → (tables_in l ws).outs (64 * at + i) ≡ (bit_at (slice_index ws (region_begin l 8 + at)) i == 1)
-out_bit l ws at i size within in_word =
-    let k : ℕ = 64 * at + i in
-    let word : k / 64 ≡ at = omega arith in
-    let place : 1 * (k % 64) ≡ i = omega arith in
-    let there = out_word_within l ws at size within in
-    bit_read l ws Outs k (omega arith)
-    ∙ ap (λ x. x == 1) (entry_read 1 64 (region_begin l 8) k ws (lit< tt) (omega arith)
-    ∙ ap (λ x. slice_index ws (region_begin l 8 + x) / 2 ^ (1 * (k % 64)) % 2 ^ 1) word ∙ ap (λ x. slice_index ws (region_begin l 8 + at) / 2 ^ x % 2 ^ 1) place)
 
 -- a bit of a word, by what it tells
 pub told_by_bit : (out : Bool) (word i : ℕ) → out ≡ (bit_at word i == 1) → (IsBitSet word i → IsTrue out) × (IsTrue out → IsBitSet word i)
@@ -101,5 +84,5 @@ out_word_cleared l ws at size within =
     let len = length_region sizes ws 8 (lit< tt) (omega arith) in
     let is : new ≡ slice_set old at 0 = region_word_written sizes ws 8 at 0 (lit< tt) within in
     let bits : (i : ℕ) → bits_in new i ≡ (if i / 64 == at then false else bits_in old i) = λ i. ap (λ x. bits_in x i) is ∙ cleared_bits old at i (omega arith) in
-    rebuilt l ws (slice_set ws (region_begin l 8 + at) 0) 8 at (lit< tt) within (others_stay ws (region_begin l 8 + at) 0 (out_word_within l ws at size within))
+    rebuilt l ws (slice_set ws (region_begin l 8 + at) 0) 8 at (lit< tt) within (others_stay ws (region_begin l 8 + at) 0 (bit_word_within l ws Outs at size within))
     ∙ (λ j. record (tables_from (length ws) (cut sizes ws)) { outs = λ i. bits i j })

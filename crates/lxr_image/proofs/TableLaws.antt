@@ -1,6 +1,7 @@
 -- One bit, count, half or word that is written in its region changes one entry of one table.
 use Rattle.std.proofs.Common.{◌≡◌, ℕ, ◌+◌, ◌*◌, ◌/◌, ◌%◌, ◌^◌, ◌<◌, ◌≤◌, refl, sym, ap, subst, ◌∙◌, inl, inr, arith, Bool, true, false, cond, List, [], length, drop, lit<, eq-eqb}
 use Rattle.std.specs.Prelude.{◌==◌, ◌↔◌, IsTrue, slice_index, slice_index_or, slice_set}
+use Rattle.std.specs.Int.{bit_at}
 use Rattle.std.proofs.lemmas.Bool.Decides.{eqb_tells}
 use Rattle.std.proofs.lemmas.List.{get_or-set_same, get_or-set_other}
 use Rattle.std.proofs.Math.ListN.{get_or-eq_default, length-set}
@@ -8,7 +9,7 @@ use Rattle.lxr_layout.specs.declared.TheConstants.{GRANULES_IN_BLOCK, LINES_IN_B
 use Rattle.lxr_layout.specs.declared.limits.Limits.{Limits}
 use Rattle.lxr_layout.specs.Spaces.{region_begin, region_sizes}
 use Rattle.lxr_tables.specs.Entries.{OthersStay, table}
-use Rattle.lxr_tables.proofs.EntryLemmas.{IsWritten, entry_below, others_stay, read_at, written_at}
+use Rattle.lxr_tables.proofs.EntryLemmas.{IsWritten, entry_below, entry_read, others_stay, read_at, written_at}
 use Rattle.lxr_image.specs.declared.tables.BitTable.{BitTable}
 use Rattle.lxr_image.specs.declared.tables.BitTable.TheVariants.{Starts, Marks, Grays, Dones, Unlogged, Outs}
 use Rattle.lxr_image.specs.declared.tables.WordTable.{WordTable}
@@ -88,6 +89,24 @@ pub bit_within : (l : Limits) (ws : List ℕ) (t : BitTable) (k : ℕ) → (tabl
 unfolding tables_in
 bit_within l ws t k size within = region_within (region_sizes l) ws (bit_region t) (k / 64) (bit_region_known t) (omega arith) (omega arith)
 
+-- a word of bits is one of the words
+pub bit_word_within : (l : Limits) (ws : List ℕ) (t : BitTable) (at : ℕ) → (tables_in l ws).size ≡ region_begin l 15 → at < slice_index (region_sizes l) (bit_region t)
+    → region_begin l (bit_region t) + at < length ws
+unfolding tables_in
+bit_word_within l ws t at size within = region_within (region_sizes l) ws (bit_region t) at (bit_region_known t) within (omega arith)
+
+-- and each of its bits is one of the table
+pub bit_of_word : (l : Limits) (ws : List ℕ) (t : BitTable) (at i : ℕ) → (tables_in l ws).size ≡ region_begin l 15 → at < slice_index (region_sizes l) (bit_region t) → i < 64
+    → bit_table (tables_in l ws) t (64 * at + i) ≡ (bit_at (slice_index ws (region_begin l (bit_region t) + at)) i == 1)
+bit_of_word l ws t at i size within in_word =
+    let k : ℕ = 64 * at + i in
+    let word : k / 64 ≡ at = omega arith in
+    let place : 1 * (k % 64) ≡ i = omega arith in
+    let begin : ℕ = region_begin l (bit_region t) in
+    bit_read l ws t k (omega arith)
+    ∙ ap (λ x. x == 1) (entry_read 1 64 begin k ws (lit< tt) (subst (λ x. begin + x < length ws) (sym word) (bit_word_within l ws t at size within))
+    ∙ ap (λ x. slice_index ws (begin + x) / 2 ^ (1 * (k % 64)) % 2 ^ 1) word ∙ ap (λ x. slice_index ws (begin + at) / 2 ^ x % 2 ^ 1) place)
+
 -- ---- whole words
 
 words_replaced : (l : Limits) (ws : List ℕ) (t : WordTable) (k v : ℕ) (region : List ℕ)
@@ -155,6 +174,20 @@ count_read l ws g within = region_read 2 32 (region_sizes l) ws 1 g (lit< tt) (o
 pub count_within : (l : Limits) (ws : List ℕ) (g : ℕ) → (tables_in l ws).size ≡ region_begin l 15 → g < GRANULES_IN_BLOCK * l.blocks → region_begin l 1 + g / 32 < length ws
 unfolding tables_in
 count_within l ws g size within = region_within (region_sizes l) ws 1 (g / 32) (lit< tt) (omega arith) (omega arith)
+
+-- a count by the word that it stands in
+pub count_of_word : (l : Limits) (ws : List ℕ) (at i : ℕ) → (tables_in l ws).size ≡ region_begin l 15 → at < 64 * l.blocks → i < 32
+    → slice_index ws (region_begin l 1 + at) / 2 ^ (2 * i) % 4 ≡ (tables_in l ws).counts (32 * at + i)
+count_of_word l ws at i size within in_word =
+    let g : ℕ = 32 * at + i in
+    let word : g / 32 ≡ at = omega arith in
+    let place : g % 32 ≡ i = omega arith in
+    sym (ap (λ x. slice_index ws (region_begin l 1 + x) / 2 ^ (2 * (g % 32)) % 2 ^ 2) word ∙ ap (λ x. slice_index ws (region_begin l 1 + at) / 2 ^ (2 * x) % 2 ^ 2) place)
+    ∙ sym (entry_read 2 32 (region_begin l 1) g ws (lit< tt) (count_within l ws g size (omega arith))) ∙ count_read l ws g (omega arith)
+
+pub count_word_within : (l : Limits) (ws : List ℕ) (at : ℕ) → (tables_in l ws).size ≡ region_begin l 15 → at < 64 * l.blocks → region_begin l 1 + at < length ws
+unfolding tables_in
+count_word_within l ws at size within = region_within (region_sizes l) ws 1 at (lit< tt) (omega arith) (omega arith)
 
 pub count_written : (l : Limits) (ws vs : List ℕ) (g e : ℕ) → (tables_in l ws).size ≡ region_begin l 15 → g < GRANULES_IN_BLOCK * l.blocks
     → table 2 32 (drop (region_begin l 1) vs) ≡ slice_set (table 2 32 (drop (region_begin l 1) ws)) g e → OthersStay ws vs (region_begin l 1 + g / 32)

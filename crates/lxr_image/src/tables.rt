@@ -15,7 +15,7 @@ use crate::Space;
 use lxr_layout::{Limits, STUCK, regions};
 use lxr_tables::{
     Lowered, Raised, Words, bit, clear_bit, lower_two, raise_two, set_bit, set_two, two,
-    uncounted_lines,
+    uncounted_lines, zero_counts,
 };
 
 /// A table of bits.
@@ -90,6 +90,16 @@ impl Space {
         ensures { result ≡ bit_table (tables_of self.now) table index }
     {
         bit(&self.words, table.begin(self.limits), index)
+    }
+
+    /// A word of a table of bits: those of 64 entries in a row.
+    #[inline(always)]
+    fn bit_word_in(&self, table: BitTable, at: u32) -> u64
+        requires space { IsSpace self.now }
+        requires at { at < slice_index (region_sizes self.now.limits) (bit_region table) }
+        ensures { (i : ℕ) → i < 64 → bit_table (tables_of self.now) table (64 * at + i) ≡ (bit_at result i == 1) }
+    {
+        self.words.get(table.begin(self.limits) + at as usize)
     }
 
     #[inline(always)]
@@ -237,6 +247,16 @@ impl Space {
         self.bit_in(BitTable::Dones, granule as usize)
     }
 
+    /// Which of 64 granules in a row have dead objects that are claimed for handling.
+    #[inline(always)]
+    pub fn done_word(&self, at: u32) -> u64
+        requires space { IsSpace self.now }
+        requires at { at < 32 * self.now.limits.blocks }
+        ensures { (i : ℕ) → i < 64 → (tables_of self.now).dones (64 * at + i) ≡ (bit_at result i == 1) }
+    {
+        self.bit_word_in(BitTable::Dones, at)
+    }
+
     /// Claims the dead object at the granule for handling.
     #[inline(always)]
     pub fn set_done(&mut self, granule: u32)
@@ -343,8 +363,7 @@ impl Space {
         requires at { at < 2 * self.now.limits.blocks }
         ensures { (i : ℕ) → i < 64 → (tables_of self.now).outs (64 * at + i) ≡ (bit_at result i == 1) }
     {
-        let base = BitTable::Outs.begin(self.limits);
-        self.words.get(base + at as usize)
+        self.bit_word_in(BitTable::Outs, at)
     }
 
     /// Forgets that 64 lines in a row were handed out: those whose out bits are one word.
@@ -568,6 +587,34 @@ impl Space {
         ensures { (i : ℕ) → i < LINES_IN_BLOCK → (IsBitSet result i ↔ ((k : ℕ) → k < GRANULES_IN_LINE → (tables_of self.now).counts (GRANULES_IN_BLOCK * block + GRANULES_IN_LINE * i + k) ≡ 0)) }
     {
         uncounted_lines(&self.words, self.counts_begin(), block as usize)
+    }
+
+    /// Which of 32 granules in a row have count 0: bit i of the answer is set exactly where that of granule i of them is 0.
+    #[inline(always)]
+    fn uncounted_word(&self, at: u32) -> u32
+        requires space { IsSpace self.now }
+        requires at { at < 64 * self.now.limits.blocks }
+        ensures { (i : ℕ) → i < 32 → (IsBitSet result i ↔ ((tables_of self.now).counts (32 * at + i) ≡ 0)) }
+    {
+        zero_counts(self.words.get(self.counts_begin() + at as usize))
+    }
+
+    /// The objects without a count among those that begin at 64 granules in a row: bit i of the answer is set exactly where
+    /// one begins at granule i of them and its count is 0. It looks at a word of start bits, and at two words of counts where
+    /// an object begins there.
+    #[inline(always)]
+    pub fn uncounted_starts(&self, at: u32) -> u64
+        requires space { IsSpace self.now }
+        requires at { at < 32 * self.now.limits.blocks }
+        ensures { (i : ℕ) → i < 64 → (IsBitSet result i ↔ (IsTrue ((tables_of self.now).starts (64 * at + i)) × ((tables_of self.now).counts (64 * at + i) ≡ 0))) }
+    {
+        let starts = self.bit_word_in(BitTable::Starts, at);
+        if starts == 0 {
+            return 0;
+        }
+        let low = self.uncounted_word(2 * at);
+        let high = self.uncounted_word(2 * at + 1);
+        starts & (u64::from(high) << 32 | u64::from(low))
     }
 
     /// The first word of the reference counts.

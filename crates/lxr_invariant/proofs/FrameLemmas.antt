@@ -124,6 +124,7 @@ counts_still t u m at counts dones decs drawn waiting is = record {
       ∙ ap (λ f. references m.last (filter (λ x. not (f (granule_of (at x)))) m.unreclaimed) n + waiting_at t (at n)) (sym dones)
       ∙ ap (λ w. references m.last (undone u at m.unreclaimed) n + w) (sym (waiting_still t u (at n) decs drawn waiting));
   done = λ n h k. ap (λ f. f (granule_of (at n))) counts ∙ is.done n h (sym (ap (λ f. f (granule_of (at n))) dones) ∙ k);
+  dead = λ n h k. is.dead n h (sym (ap (λ f. f (granule_of (at n))) dones) ∙ k);
 }
   where
     waiting_still : (t u : Tables) (p : ℕ) → u.decs ≡ t.decs → u.cursors DECREMENT_CURSOR ≡ t.cursors DECREMENT_CURSOR → u.cursors DECREMENT_COUNT ≡ t.cursors DECREMENT_COUNT → waiting_at u p ≡ waiting_at t p

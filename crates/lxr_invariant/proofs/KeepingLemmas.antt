@@ -10,7 +10,7 @@ keeps_same t u e = record {
   runs = ap (λ x. x.runs) e;
   frees = ap (λ x. x.frees) e;
   remembered = ap (λ x. x.remembered) e;
-  cursors = λ k h. ap (λ x. x.cursors k) e;
+  cursors = λ k h j. ap (λ x. x.cursors k) e;
 }
 
 pub keeps_both : (t u v : Tables) → KeepsListsAndCounters t u → KeepsListsAndCounters u v → KeepsListsAndCounters t v
@@ -20,5 +20,5 @@ keeps_both t u v x y = record {
   runs = y.runs ∙ x.runs;
   frees = y.frees ∙ x.frees;
   remembered = y.remembered ∙ x.remembered;
-  cursors = λ k h. y.cursors k h ∙ x.cursors k h;
+  cursors = λ k h j. y.cursors k h j ∙ x.cursors k h j;
 }

@@ -68,6 +68,7 @@ opening_counts l threads = record {
   below = λ n member loose. not_both (has (world_name ∷ []) n) member loose;
   exact = λ n member loose. not_both (has (world_name ∷ []) n) member loose;
   done = λ n member done. absurd (let k : false ≡ true = done in cc);
+  dead = λ n member done. absurd (let k : false ≡ true = done in cc);
 }
 
 in_bits : (w : ℕ) → 1 ≤ w → w ≤ 64 → (nat_le 1 w && nat_le w 64) ≡ true

@@ -6,6 +6,7 @@ use Rattle.lxr_layout.specs.declared.TheConstants.{DECREMENT_COUNT, DECREMENT_CU
 use Rattle.lxr_graph.specs.Names.{has}
 use Rattle.lxr_image.specs.Tables.{Tables}
 use Rattle.lxr_image.specs.Reads.{granule_of}
+use Rattle.lxr_model.specs.Dead.{Dead}
 use Rattle.lxr_model.specs.References.{occurrences, references}
 use Rattle.lxr_model.specs.Moments.{Moment}
 
@@ -24,7 +25,7 @@ occurrences_from (r ∷ rs) (suc i) o = occurrences_from rs i o
 abbrev pub count_at : Tables → (Name → ℕ) → Name → ℕ
 count_at t at n = t.counts (granule_of (at n))
 
--- a decrementer has claimed the object, which is dead, and has lowered what it refers to
+-- a decrementer has claimed the object, which is dead, and lowers, or has lowered, what it refers to
 abbrev pub is_done : Tables → (Name → ℕ) → Name → Bool
 is_done t at n = t.dones (granule_of (at n))
 
@@ -43,13 +44,14 @@ abbrev pub waiting_at : Tables → ℕ → ℕ
 waiting_at t p = entries_between t.decs (t.cursors DECREMENT_CURSOR) (t.cursors DECREMENT_COUNT) p
 
 -- The count of a stuck object is STUCK. That of another is below it, and is the references to the object at the last
--- pause, without those of what is done, and the decrements of it that wait. What is done has count 0.
+-- pause, without those of what is done, and the decrements of it that wait. What is done is dead and has count 0.
 pub record HasCounts (t : Tables) (m : Moment) (at : Name → ℕ) : Type 0 where
   pub stuck : (n : Name) → IsTrue (has m.unreclaimed n) → IsTrue (has m.stuck n) → count_at t at n ≡ STUCK
   pub below : (n : Name) → IsTrue (has m.unreclaimed n) → has m.stuck n ≡ false → count_at t at n < STUCK
   pub exact : (n : Name) → IsTrue (has m.unreclaimed n) → has m.stuck n ≡ false
       → count_at t at n ≡ references m.last (undone t at m.unreclaimed) n + waiting_at t (at n)
   pub done : (n : Name) → IsTrue (has m.unreclaimed n) → IsTrue (is_done t at n) → count_at t at n ≡ 0
+  pub dead : (n : Name) → IsTrue (has m.unreclaimed n) → IsTrue (is_done t at n) → Dead m.last m.unreclaimed m.stuck n
 
 -- the list of decrements has no more entries than it has room for, and each is the place of an unreclaimed object
 pub record HasDecrements (l : Limits) (t : Tables) (m : Moment) (at : Name → ℕ) : Type 0 where

@@ -18,6 +18,7 @@ use Rattle.lxr_blocks.specs.States.{state_in}
 use Rattle.lxr_model.specs.Reachable.{Holds, Reachable, Refers}
 use Rattle.lxr_model.specs.Moments.{Moment, Trace, rememberable}
 use Rattle.lxr_model_counting.specs.Following.{IsLive}
+pub use Rattle.lxr_model_counting.specs.Garbage.{IsGarbageOf}
 use Rattle.lxr_invariant.specs.AbstractState.{AbstractState}
 use Rattle.lxr_invariant.specs.Counting.{is_done}
 
@@ -62,11 +63,6 @@ pub record SnapshotIsCovered (t : Tables) (m : Moment) (at : Name → ℕ) (entr
 -- a name belongs to the snapshot or is younger
 abbrev pub IsInSnapshot : Moment → Trace → Name → Type 0
 IsInSnapshot m trace n = Reachable trace.state n ⊎ IsYounger m trace n
-
--- what was unreclaimed and unreachable when the trace began
-pub record IsGarbageOf (trace : Trace) (n : Name) : Type 0 where
-  pub member : IsTrue (has trace.unreclaimed n)
-  pub unreachable : ¬ Reachable trace.state n
 
 -- garbage of a trace stays: it is unreclaimed, not live, not done, refers to what it referred to, and where it isn't stuck
 -- some garbage refers to it

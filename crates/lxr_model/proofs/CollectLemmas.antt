@@ -16,26 +16,30 @@ use Rattle.lxr_model.specs.Reports.{PauseParts, IsReportWith, IsSwept, kept_name
 use Rattle.lxr_model.specs.Kinds.{MustCollect, MayStand}
 use Rattle.lxr_model.specs.Belongs.{EarlierPausesWereEarly, EndsWithPause}
 use Rattle.lxr_model.specs.HistoryLaws.{CollectingKeepsTheReachable, LastUnreclaimedAreReachable, WholeHistoriesAreSoFar}
-use Rattle.lxr_model.proofs.HistoryLemmas.{GoodAt, good_history, reachable_kept, reachable_are_kept}
+use Rattle.lxr_model.proofs.HistoryLemmas.{good_history, reachable_kept, reachable_are_kept}
 use Rattle.lxr_model.proofs.DrainLemmas.{left_remain}
 use Rattle.lxr_model.proofs.DecideLemmas.{decide_reachable}
 
-pub collected_reachable : (threads : ℕ) (m : Moment) (report : PauseReport) (parts : PauseParts) → IsReportWith m parts report → GoodAt threads m → report.kind ≡ kind.Collect
+pub collected_reachable : (m : Moment) (report : PauseReport) (parts : PauseParts) → IsReportWith m parts report
+    → ((n : Name) → Reachable m.state n → IsTrue (has (kept_names m parts report) n)) → report.kind ≡ kind.Collect
     → (n : Name) → IsTrue (has (unreclaimed_after m report) n) → Reachable m.state n
-collected_reachable threads m report parts is good collects n k =
+collected_reachable m report parts is kept collects n k =
     let swept : IsSwept m (without (kept_names m parts report) parts.second_dead) report.swept kind.Collect =
     subst (IsSwept m (without (kept_names m parts report) parts.second_dead) report.swept) collects is.swept in
-    let a = without_parts (without (kept_names m parts report) parts.second_dead) report.swept n (left_remain threads m report parts is good n k) in
-    elim (decide_reachable m.state (kept_names m parts report) (reachable_kept threads m report parts is good) n) [
+    let a = without_parts (without (kept_names m parts report) parts.second_dead) report.swept n (left_remain m report parts is n k) in
+    elim (decide_reachable m.state (kept_names m parts report) kept n) [
       | inl r ↦ r
       | inr u ↦ not_both (has report.swept n) ((swept.members n).1 (a.0, u)) a.1
     ]
 
 pub collecting_keeps : CollectingKeepsTheReachable
-collecting_keeps terms h report legal collects n = (
-  collected_reachable terms.threads (moment terms.threads h) report legal.2.reports.0 legal.2.reports.1 (good_history terms h legal.0) collects n,
-  reachable_are_kept terms h report legal n,
-)
+collecting_keeps terms h report legal collects n =
+    let m = moment terms.threads h in
+    let parts = legal.2.reports.0 in
+    let is = legal.2.reports.1 in (
+      collected_reachable m report parts is (reachable_kept terms.threads m report parts is (good_history terms h legal.0)) collects n,
+      reachable_are_kept terms h report legal n,
+    )
 
 -- where a pause must collect and not all are plain, it does
 must_collect : (terms : Terms) (h : List Item) (m : Moment) (k : ℕ) (kd : Kind) → terms.kinds ≢ OnlyPlain → MustCollect terms h → MayStand terms h m k kd → kd ≡ kind.Collect

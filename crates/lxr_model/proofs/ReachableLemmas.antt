@@ -38,11 +38,7 @@ pub record DeadParts (s : State) (us stuck : List Name) (o : Name) : Type 0 wher
 pub dead_parts : {s : State} {us stuck : List Name} {o : Name} → Dead s us stuck o → DeadParts s us stuck o
 dead_parts (dead member unstuck unheld each) = record { member = member; unstuck = unstuck; unheld = unheld; each = each }
 
-pub dead_apart : (s : State) (us stuck : List Name) → ((n : Name) → Reachable s n → IsTrue (has us n)) → IsTrue (has stuck world_name)
-    → (o : Name) → Dead s us stuck o → Reachable s o → ⊥
+pub dead_apart : DeadAreUnreachable
 dead_apart s us stuck within ws o d the_world = not_both (has stuck world_name) ws (dead_parts d).unstuck
 dead_apart s us stuck within ws o d (held h) = (dead_parts d).unheld h
 dead_apart s us stuck within ws o d (referred {m = m} r f) = dead_apart s us stuck within ws m ((dead_parts d).each m (within m r) f) r
-
-pub dead_unreachable : DeadAreUnreachable
-dead_unreachable s us stuck c ws = dead_apart s us stuck (reachable_within s (has us) c) ws

@@ -29,12 +29,11 @@ PromotedIsLeast =
 
 -- ---- the dead
 
--- the dead of U aren't reachable, where U has the world, what registers hold and the references of its members, and the
--- world is stuck
+-- the dead of U aren't reachable, where U has all that is reachable and the world is stuck
 abbrev pub DeadAreUnreachable : Type 0
 DeadAreUnreachable =
-    (s : State) (us stuck : List Name) → IsClosed s (has us) → IsTrue (has stuck world_name) → (o : Name)
-    → Dead s us stuck o → ¬ Reachable s o
+    (s : State) (us stuck : List Name) → ((n : Name) → Reachable s n → IsTrue (has us n)) → IsTrue (has stuck world_name)
+    → (o : Name) → Dead s us stuck o → ¬ Reachable s o
 
 -- ---- a step
 

@@ -16,7 +16,7 @@ pub fn promoted_is_least()
     ensures { PromotedIsLeast }
 {}
 
-/// A dead name isn't reachable, where the unreclaimed names have the roots and the references of their members.
+/// A dead name isn't reachable, where the unreclaimed names have all that is reachable.
 pub fn dead_are_unreachable()
     ensures { DeadAreUnreachable }
 {}

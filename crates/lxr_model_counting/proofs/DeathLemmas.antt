@@ -1,42 +1,36 @@
--- Removing what nothing left refers to, until no more can be removed, removes the least set; and the dead at the last
--- pause are apart from what is live.
-use Rattle.std.proofs.Common.{◌≡◌, refl, sym, subst, inl, inr, Bool, true, false, List, [], ◌∷◌, IsTrue, ◌↔◌}
-use Rattle.std.proofs.lemmas.Bool.{or_cases, false_from_ne_true}
+-- A member to which only dead names refer is dead, and where no member without references is left, all dead are gone; and the
+-- dead at the last pause are apart from what is live.
+use Rattle.std.proofs.Common.{◌≡◌, ◌≢◌, ℕ, refl, ◌∙◌, inl, inr, Bool, true, false, List, IsTrue, ◌↔◌}
+use Rattle.std.proofs.lemmas.Bool.{false_from_ne_true}
 use Rattle.lxr_layout.specs.declared.Name.{Name}
-use Rattle.lxr_graph.specs.Names.{same_name, has, without}
+use Rattle.lxr_graph.specs.Names.{has, without}
 use Rattle.lxr_graph.specs.State.{State}
-use Rattle.lxr_graph.proofs.NameSets.{same_names, without_parts, in_without, in_order-without, not_both}
+use Rattle.lxr_graph.proofs.NameSets.{without_parts, in_without, in_order-without, not_both}
 use Rattle.lxr_model.specs.Reachable.{Refers}
 use Rattle.lxr_model.specs.Dead.{Dead, dead}
+use Rattle.lxr_model.specs.References.{references}
 use Rattle.lxr_model.specs.Moments.{Moment}
 use Rattle.lxr_model.proofs.ReachableLemmas.{dead_parts, dead_apart}
 use Rattle.lxr_model.proofs.CountLemmas.{references_zero, references_none}
+use Rattle.lxr_model_counting.specs.Distinct.{has_field}
 use Rattle.lxr_model_counting.specs.Following.{FollowsPause, IsLive}
-use Rattle.lxr_model_counting.specs.Lowering.{IsCascade, IsOver}
-use Rattle.lxr_model_counting.specs.Laws.{CascadeIsDead, DeathLeavesTheLiving}
+use Rattle.lxr_model_counting.specs.Laws.{DeathLeavesTheLiving}
 
 -- ---- one after another
 
--- a member that refers to a name without references was removed before
-removed : (us gone : List Name) (u : Name) (P : Type 0) → (IsTrue (has (without us gone) u) → ⊥) → IsTrue (has us u) → (IsTrue (has gone u) → P) → (b : Bool) → has gone u ≡ b → P
-removed us gone u P unreferred in_u gone_there true e = gone_there e
-removed us gone u P unreferred in_u gone_there false e = absurd (unreferred (in_without us gone u in_u (λ k. not_both (has gone u) k e)))
+-- what the names that are left don't refer to is dead, where what is gone is dead
+pub unreferred_dead : (s : State) (us stuck gone : List Name) → ((u : Name) → IsTrue (has gone u) → Dead s us stuck u)
+    → (o : Name) → IsTrue (has us o) → has stuck o ≡ false → references s (without us gone) o ≡ 0 → Dead s us stuck o
+unreferred_dead s us stuck gone each o member unstuck zero =
+    let none = references_zero s (without us gone) o zero in
+    dead member unstuck none.0 (λ u in_u f. elim (has gone u) as (λ b. has gone u ≡ b → Dead s us stuck u) [
+      | true ↦ λ e. each u e
+      | false ↦ λ e. absurd (none.1 u (in_without us gone u in_u (λ k. not_both (has gone u) k e)) f)
+    ] refl)
 
--- what is gone is dead
-pub cascade_dead : (s : State) (us stuck gone : List Name) → IsCascade s us stuck gone → (o : Name) → IsTrue (has gone o) → Dead s us stuck o
-cascade_dead s us stuck [] c o h = absurd (cc)
-cascade_dead s us stuck (x ∷ gone) c o h =
-    let before : (u : Name) → IsTrue (has gone u) → Dead s us stuck u = λ u k. cascade_dead s us stuck gone c.0 u k in
-    let none = references_zero s (without us gone) x c.3 in
-    elim (or_cases (same_name o x) (has gone o) h) [
-      | inr k ↦ before o k
-      | inl k ↦
-          subst (Dead s us stuck) (sym (same_names o x k))
-          (dead c.1 c.2 none.0 (λ u in_u f. removed us gone u (Dead s us stuck u) (λ z. none.1 u z f) in_u (before u) (has gone u) refl))
-    ]
-
--- where no more can be removed, what is dead is gone
-pub over_dead : (s : State) (us stuck gone : List Name) → IsOver s us stuck gone → (o : Name) → Dead s us stuck o → (b : Bool) → has gone o ≡ b → IsTrue (has gone o)
+-- where each unstuck member that is left is referred to, what is dead is gone
+pub over_dead : (s : State) (us stuck gone : List Name) → ((o : Name) → IsTrue (has us o) → has stuck o ≡ false → has gone o ≡ false → references s (without us gone) o ≢ 0)
+    → (o : Name) → Dead s us stuck o → (b : Bool) → has gone o ≡ b → IsTrue (has gone o)
 over_dead s us stuck gone over o d true e = e
 over_dead s us stuck gone over o (dead member unstuck unheld each) false e =
     absurd (over o member unstuck e
@@ -44,8 +38,10 @@ over_dead s us stuck gone over o (dead member unstuck unheld each) false e =
     let at = without_parts us gone u in_w in
     not_both (has gone u) (over_dead s us stuck gone over u (each u at.0 f) (has gone u) refl) at.1)))
 
-pub cascade_is_dead : CascadeIsDead
-cascade_is_dead s us stuck gone c over o = (cascade_dead s us stuck gone c o, λ d. over_dead s us stuck gone over o d (has gone o) refl)
+-- death hangs on which names are stuck, and not on their order
+pub dead_by_names : (s : State) (us stuck others : List Name) → ((n : Name) → has others n ≡ has stuck n) → {o : Name} → Dead s us stuck o → Dead s us others o
+dead_by_names s us stuck others same (dead member unstuck unheld each) =
+    dead member (same _ ∙ unstuck) unheld (λ u in_u f. dead_by_names s us stuck others same (each u in_u f))
 
 -- ---- the living
 
@@ -56,6 +52,10 @@ AreTheDead m gone = (n : Name) → IsTrue (has gone n) ↔ Dead m.last m.unrecla
 pub live_not_dead : (m : Moment) → FollowsPause m → (n : Name) → IsLive m n → Dead m.last m.unreclaimed m.stuck n → ⊥
 live_not_dead m follows n (inl r) d = dead_apart m.last m.unreclaimed m.stuck follows.kept follows.world n d r
 live_not_dead m follows n (inr h) d = not_both (has m.unreclaimed n) (dead_parts d).member (follows.apart n h)
+
+-- no reference of a dead object was stored to since the last pause
+pub dead_unwritten : (m : Moment) (n : Name) (i : ℕ) → FollowsPause m → Dead m.last m.unreclaimed m.stuck n → has_field m.written (n, i) ≡ false
+dead_unwritten m n i follows d = false_from_ne_true (has_field m.written (n, i)) (λ k. live_not_dead m follows n (inl (follows.written n i k).1) d)
 
 pub live_not_gone : (m : Moment) (gone : List Name) → FollowsPause m → AreTheDead m gone → (n : Name) → IsLive m n → IsTrue (has gone n) → ⊥
 live_not_gone m gone follows are n live h = live_not_dead m follows n live ((are n).0 h)

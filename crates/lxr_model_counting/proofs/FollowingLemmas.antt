@@ -1,6 +1,6 @@
--- The state follows the last pause: at the opening, after each call, and anew after a plain pause. What is reachable is
+-- The state follows the last pause: at the opening, after each call, and anew after a pause. What is reachable is
 -- live, since registers hold live names and live names refer to live names.
-use Rattle.std.proofs.Common.{false, ◌≡◌, ℕ, zero, suc, ◌+◌, ◌-◌, ◌*◌, ◌<◌, ◌≤◌, refl, sym, ap, subst, ◌∙◌, inl, inr, ◌⊎◌, arith, List, [], IsTrue, ◌↔◌, length}
+use Rattle.std.proofs.Common.{◌≡◌, ℕ, zero, suc, ◌+◌, ◌-◌, ◌*◌, ◌<◌, ◌≤◌, refl, sym, ap, subst, ◌∙◌, inl, inr, ◌⊎◌, arith, List, [], IsTrue, ◌↔◌, length}
 use Rattle.std.specs.Prelude.{Option, Some, None, is_some, slice_get}
 use Rattle.std.proofs.lemmas.Bool.{false_from_ne_true}
 use Rattle.std.proofs.lemmas.List.{length-append}
@@ -9,27 +9,23 @@ use Rattle.lxr_graph.specs.declared.Op.{Op}
 use Rattle.lxr_graph.specs.declared.Op.TheVariants as op
 use Rattle.lxr_graph.specs.declared.Reply.{Reply}
 use Rattle.lxr_graph.specs.declared.Reply.TheVariants as reply
-use Rattle.lxr_graph.specs.declared.report.Kind.TheVariants as kind
-use Rattle.lxr_graph.specs.Names.{has, without, union, AreInOrder}
+use Rattle.lxr_graph.specs.Names.{has, union, AreInOrder}
 use Rattle.lxr_graph.specs.State.{Graph, Object, HasObject, object_at, refs_of, world_name, opening, opening_row, opening_registers}
 use Rattle.lxr_graph.specs.Step.{step}
-use Rattle.lxr_graph.specs.History.{PauseReport}
-use Rattle.lxr_graph.proofs.NameSets.{one_list, not_both, has_one, insert_new, in_order-none, in_order-one, in_order-insert, in_order-union, in_order-without, union_cases, union_left, union_right, without_parts, in_without}
+use Rattle.lxr_graph.proofs.NameSets.{not_both, has_one, insert_new, in_order-none, in_order-one, in_order-insert, in_order-union, union_cases, union_left, union_right}
 use Rattle.lxr_graph.proofs.RowCounts.{step_rows}
-use Rattle.lxr_model.specs.Reachable.{Reachable, the_world, held, referred, Refers, Holds}
-use Rattle.lxr_model.specs.Dead.{Dead, Promoted, by_register, by_kept, by_promoted}
+use Rattle.lxr_model.specs.Reachable.{Reachable, the_world, held, referred, Refers, Holds, IsClosed}
+use Rattle.lxr_model.specs.Dead.{Promoted, by_register, by_kept, by_promoted}
 use Rattle.lxr_model.specs.Terms.{FlatSpaceIsFull, OnlyPlain}
-use Rattle.lxr_model.specs.Moments.{Trace, Moment, trace_after, opening_moment, made_after, written_after, after_pause, left_by, unreclaimed_after, stuck_after}
-use Rattle.lxr_model.specs.Reports.{PauseParts, IsReportWith, kept_names}
-use Rattle.lxr_model.proofs.ReachableLemmas.{dead_parts, promoted_made}
+use Rattle.lxr_model.specs.Moments.{Trace, Moment, opening_moment, made_after, written_after}
+use Rattle.lxr_model.proofs.ReachableLemmas.{promoted_made, reachable_within}
 use Rattle.lxr_model.proofs.StepLemmas.{gets-replicate, step_reaches, step_refers}
 use Rattle.lxr_model.proofs.ObjectLemmas.{step_facts, no_object}
 use Rattle.lxr_model.proofs.HistoryLemmas.{GoodAt, good_history, made_cases, made_old}
 use Rattle.lxr_model_counting.specs.Distinct.{has_field}
 use Rattle.lxr_model_counting.specs.Following.{FollowsPause, IsLive}
-use Rattle.lxr_model_counting.specs.Laws.{OpeningFollows, CallKeepsFollowing, PlainPauseRestartsFollowing}
-use Rattle.lxr_model_counting.proofs.DistinctLemmas.{tested, without_apart}
-use Rattle.lxr_model_counting.proofs.DeathLemmas.{live_not_dead, left_follows}
+use Rattle.lxr_model_counting.specs.Laws.{OpeningFollows, CallKeepsFollowing}
+use Rattle.lxr_model_counting.proofs.DistinctLemmas.{tested}
 use Rattle.lxr_model_counting.proofs.StoreLemmas.{WritesField, step_keeps, same_shape, shape_through, written_split, written_there, written_old, written_distinct}
 
 -- ---- objects
@@ -127,7 +123,7 @@ module _ (m : Moment) (t : ℕ) (o : Op) (r : Reply) (follows : FollowsPause m) 
   ]
 
   -- what is live after a step was so before, or is new
-  live_before : (n : Name) → IsLive (stepped m t o r) n → IsLive m n ⊎ (object_at m.state.graph n ≡ None)
+  pub live_before : (n : Name) → IsLive (stepped m t o r) n → IsLive m n ⊎ (object_at m.state.graph n ≡ None)
   live_before n (inl q) = inl (inl q)
   live_before n (inr k) = elim (made_cases m.made r n k) [
     | inl q ↦ inl (inr q)
@@ -202,171 +198,80 @@ call_follows m t o r follows formed is = step_follows m t o r follows is.0 is.1 
 
 -- ---- a pause
 
--- The state now becomes that of the last pause, where the dead are gone: what is unreclaimed then is what was, and what is
--- promoted; and what is stuck is some of it, with the world.
-module _ (m : Moment) (promoted us stuck : List Name) (follows : FollowsPause m) (promoted_are : (n : Name) → IsTrue (has promoted n) ↔ Promoted m.state m.unreclaimed m.made n)
-    (in_order : AreInOrder us) (are : (n : Name) → IsTrue (has us n) ↔ (IsTrue (has promoted n) ⊎ IsTrue (has m.unreclaimed n)))
-    (world_stuck : IsTrue (has stuck world_name)) (stuck_within : (n : Name) → IsTrue (has stuck n) → IsTrue (has us n)) where
-  promoted_live : (n : Name) → IsTrue (has promoted n) → IsLive m n
-  promoted_live n p = inr (promoted_made ((promoted_are n).0 p))
+-- The promoted names join those that were unreclaimed: these have all that is reachable, and what their objects refer to.
+module _ (m : Moment) (promoted : List Name) (follows : FollowsPause m) (promoted_are : (n : Name) → IsTrue (has promoted n) ↔ Promoted m.state m.unreclaimed m.made n) where
+  new_joins : (n : Name) → Promoted m.state m.unreclaimed m.made n → IsTrue (has (union promoted m.unreclaimed) n)
+  new_joins n p = union_left promoted m.unreclaimed n ((promoted_are n).1 p)
 
-  old_kept : (n : Name) → Reachable m.last n → IsTrue (has us n)
-  old_kept n r = (are n).1 (inr (follows.kept n r))
+  old_joins : (n : Name) → IsTrue (has m.unreclaimed n) → IsTrue (has (union promoted m.unreclaimed) n)
+  old_joins n h = union_right promoted m.unreclaimed n h
 
-  -- what is live, and what a name that is kept refers to, is kept
-  live_kept : (u n : Name) → IsTrue (has us u) → Refers m.state.graph u n → IsLive m n → IsTrue (has us n)
-  live_kept u n k f (inl r) = old_kept n r
-  live_kept u n k f (inr q) = (are n).1 (inl ((promoted_are n).1 (elim ((are u).0 k) [
+  -- what is live joins where a register or one of these names holds it
+  live_joins : (u n : Name) → IsTrue (has (union promoted m.unreclaimed) u) → Refers m.state.graph u n → IsLive m n → IsTrue (has (union promoted m.unreclaimed) n)
+  live_joins u n k f (inl r) = old_joins n (follows.kept n r)
+  live_joins u n k f (inr q) = new_joins n (elim (union_cases promoted m.unreclaimed u k) [
     | inl p ↦ by_promoted q ((promoted_are u).0 p) f
     | inr x ↦ by_kept u q x f
-  ])))
+  ])
 
-  held_kept : (n : Name) → Holds m.state n → IsLive m n → IsTrue (has us n)
-  held_kept n k (inl r) = old_kept n r
-  held_kept n k (inr q) = (are n).1 (inl ((promoted_are n).1 (by_register q k)))
+  held_joins : (n : Name) → Holds m.state n → IsLive m n → IsTrue (has (union promoted m.unreclaimed) n)
+  held_joins n k (inl r) = old_joins n (follows.kept n r)
+  held_joins n k (inr q) = new_joins n (by_register q k)
 
-  pub reachable_kept : (n : Name) → Reachable m.state n → IsTrue (has us n)
-  reachable_kept n the_world = old_kept world_name the_world
-  reachable_kept n (held k) = held_kept n k (follows.held n k)
-  reachable_kept n (referred {m = u} r f) = live_kept u n (reachable_kept u r) f (follows.referred u n (live_reachable m follows u r) f)
-
-  pub kept_closed : (u n : Name) → IsTrue (has us u) → Refers m.state.graph u n → IsTrue (has us n)
-  kept_closed u n k f = elim ((are u).0 k) [
-    | inl p ↦ live_kept u n k f (follows.referred u n (promoted_live u p) f)
+  referred_joins : (u n : Name) → IsTrue (has (union promoted m.unreclaimed) u) → Refers m.state.graph u n → IsTrue (has (union promoted m.unreclaimed) n)
+  referred_joins u n k f = elim (union_cases promoted m.unreclaimed u k) [
+    | inl p ↦ live_joins u n k f (follows.referred u n (inr (promoted_made ((promoted_are u).0 p))) f)
     | inr old ↦ elim (tested (has_field m.written (u, f.0))) [
-      | inl w ↦ live_kept u n k f (follows.referred u n (inl (follows.written u f.0 w).1) f)
-      | inr e ↦ (are n).1 (inr (follows.closed u n old (f.0, sym (follows.unwritten u f.0 old e) ∙ f.1)))
+      | inl w ↦ live_joins u n k f (follows.referred u n (inl (follows.written u f.0 w).1) f)
+      | inr e ↦ old_joins n (follows.closed u n old (f.0, sym (follows.unwritten u f.0 old e) ∙ f.1))
     ]
   ]
 
-  pub kept_object : (n : Name) → IsTrue (has us n) → HasObject m.state.graph n
-  kept_object n k = elim ((are n).0 k) [
+  pub joined_closed : IsClosed m.state (has (union promoted m.unreclaimed))
+  joined_closed = record {
+    world = old_joins world_name (follows.kept world_name the_world);
+    registers = λ n k. held_joins n k (follows.held n k);
+    references = referred_joins;
+  }
+
+  pub joined_object : (n : Name) → IsTrue (has (union promoted m.unreclaimed) n) → HasObject m.state.graph n
+  joined_object n k = elim (union_cases promoted m.unreclaimed n k) [
     | inl p ↦ (follows.young n (promoted_made ((promoted_are n).0 p))).1
     | inr x ↦ unreclaimed_object m follows n x
   ]
 
-  pub follows_anew : (number : ℕ) (trace : Option Trace)
-      → FollowsPause (record { state = m.state; last = m.state; number = number; unreclaimed = us; stuck = stuck; trace = trace; made = []; written = [] })
-  follows_anew number trace = record {
-    unreclaimed = in_order;
-    made = in_order-none;
-    apart = λ n h. absurd (cc);
-    kept = reachable_kept;
-    closed = kept_closed;
-    world = world_stuck;
-    stuck = stuck_within;
-    held = λ n h. inl (held h);
-    referred = λ u n l f. elim l [ inl r ↦ inl (referred r f) | inr k ↦ absurd (cc) ];
-    grows = λ n h. h;
-    objects = λ n h. let a = object_of (object_at m.state.graph n) (kept_object n h) in (a.0, a.0, a.1, a.1, same_shape a.0);
-    young = λ n h. absurd (cc);
-    unwritten = λ n i h e. refl;
-    written_once = tt;
-    written = λ n i h. absurd (cc);
-    rows = refl;
-    registers = follows.registers;
-    registers_were = follows.registers;
-  }
+-- The state now becomes that of the last pause, and any names with what is reachable are unreclaimed there.
+pub follows_anew : (m : Moment) (us stuck : List Name) (number : ℕ) (trace : Option Trace) → FollowsPause m → AreInOrder us → IsClosed m.state (has us)
+    → ((n : Name) → IsTrue (has us n) → HasObject m.state.graph n) → IsTrue (has stuck world_name) → ((n : Name) → IsTrue (has stuck n) → IsTrue (has us n))
+    → FollowsPause (record { state = m.state; last = m.state; number = number; unreclaimed = us; stuck = stuck; trace = trace; made = []; written = [] })
+follows_anew m us stuck number trace follows in_order closed objects world_stuck stuck_within = record {
+  unreclaimed = in_order;
+  made = in_order-none;
+  apart = λ n h. absurd (cc);
+  kept = reachable_within m.state (has us) closed;
+  closed = closed.references;
+  world = world_stuck;
+  stuck = stuck_within;
+  held = λ n h. inl (held h);
+  referred = λ u n l f. elim l [ inl r ↦ inl (referred r f) | inr k ↦ absurd (cc) ];
+  grows = λ n h. h;
+  objects = λ n h. let a = object_of (object_at m.state.graph n) (objects n h) in (a.0, a.0, a.1, a.1, same_shape a.0);
+  young = λ n h. absurd (cc);
+  unwritten = λ n i h e. refl;
+  written_once = tt;
+  written = λ n i h. absurd (cc);
+  rows = refl;
+  registers = follows.registers;
+  registers_were = follows.registers;
+}
 
 -- so it is where the promoted join the unreclaimed names, and some of both the stuck ones
 pub promoted_follow : (m : Moment) (promoted stuck : List Name) → FollowsPause m → ((n : Name) → IsTrue (has promoted n) ↔ Promoted m.state m.unreclaimed m.made n)
     → ((n : Name) → IsTrue (has stuck n) → IsTrue (has (union promoted m.unreclaimed) n))
     → FollowsPause (record m { last = m.state; unreclaimed = union promoted m.unreclaimed; stuck = union stuck m.stuck; made = []; written = [] })
 promoted_follow m promoted stuck follows promoted_are within =
-    follows_anew m promoted (union promoted m.unreclaimed) (union stuck m.stuck) follows promoted_are (in_order-union promoted m.unreclaimed follows.unreclaimed)
-    (λ n. (union_cases promoted m.unreclaimed n, λ h. elim h [ inl p ↦ union_left promoted m.unreclaimed n p | inr x ↦ union_right promoted m.unreclaimed n x ]))
+    follows_anew m (union promoted m.unreclaimed) (union stuck m.stuck) m.number m.trace follows (in_order-union promoted m.unreclaimed follows.unreclaimed)
+    (joined_closed m promoted follows promoted_are)
+    (joined_object m promoted follows promoted_are)
     (union_right stuck m.stuck world_name follows.world)
     (λ n h. elim (union_cases stuck m.stuck n h) [ inl k ↦ within n k | inr k ↦ union_right promoted m.unreclaimed n (follows.stuck n k) ])
-    m.number m.trace
-
-module _ (m : Moment) (report : PauseReport) (parts : PauseParts) (follows : FollowsPause m) (is : IsReportWith m parts report) (plain : report.kind ≡ kind.Plain) where
-  nothing_swept : report.swept ≡ []
-  nothing_swept = let k = rw plain at is.swept in k
-
-  -- a plain pause reports exactly the dead at the last pause
-  pub plain_dead : (n : Name) → IsTrue (has report.dead n) → Dead m.last m.unreclaimed m.stuck n
-  plain_dead n d =
-      let drained = rw plain at is.drained in
-      elim ((is.dead.members n).0 d) [
-        | inl q ↦ (is.first_dead.members n).0 q
-        | inr q ↦ elim q [
-          | inl p ↦ absurd (let k = rw drained.0 at p in cc)
-          | inr p ↦ absurd (let k = rw drained.1 at p in cc)
-        ]
-      ]
-
-  pub dead_plain : (n : Name) → Dead m.last m.unreclaimed m.stuck n → IsTrue (has report.dead n)
-  dead_plain n d = (is.dead.members n).1 (inl ((is.first_dead.members n).1 d))
-
-  -- it leaves of a list what isn't dead
-  pub left_plain : (ns : List Name) (n : Name) → IsTrue (has ns n) → (Dead m.last m.unreclaimed m.stuck n → ⊥) → IsTrue (has (left_by report ns) n)
-  left_plain ns n k alive = in_without (without ns report.dead) report.swept n (in_without ns report.dead n k (λ d. alive (plain_dead n d))) (λ d. let e = nothing_swept in let z = rw e at d in cc)
-
-  pub plain_left : (ns : List Name) (n : Name) → IsTrue (has (left_by report ns) n) → IsTrue (has ns n) × (Dead m.last m.unreclaimed m.stuck n → ⊥)
-  plain_left ns n k =
-      let a = without_parts ns report.dead n (without_parts (without ns report.dead) report.swept n k).0 in
-      (a.0, λ d. not_both (has report.dead n) (dead_plain n d) a.1)
-
-  -- what it leaves are the promoted names, and those that were unreclaimed and aren't dead
-  pub left_are : (n : Name) → IsTrue (has (unreclaimed_after m report) n) ↔ (IsTrue (has report.promoted n) ⊎ IsTrue (has (without m.unreclaimed parts.first_dead) n))
-  left_are n = (
-    λ k.
-        let at = plain_left (union report.promoted m.unreclaimed) n k in
-        elim (union_cases report.promoted m.unreclaimed n at.0) [
-          | inl p ↦ inl p
-          | inr x ↦ inr (in_without m.unreclaimed parts.first_dead n x (λ d. at.1 ((is.first_dead.members n).0 d)))
-        ],
-    λ h. elim h [
-      | inl p ↦ left_plain (union report.promoted m.unreclaimed) n (union_left report.promoted m.unreclaimed n p) (live_not_dead m follows n (inr (promoted_made ((is.promoted.members n).0 p))))
-      | inr x ↦
-          let at = without_parts m.unreclaimed parts.first_dead n x in
-          left_plain (union report.promoted m.unreclaimed) n (union_right report.promoted m.unreclaimed n at.0) (λ d. not_both (has parts.first_dead n) ((is.first_dead.members n).1 d) at.1)
-    ],
-  )
-
-  left_in_order : AreInOrder (unreclaimed_after m report)
-  left_in_order =
-      in_order-without (without (union report.promoted m.unreclaimed) report.dead) report.swept
-      (in_order-without (union report.promoted m.unreclaimed) report.dead (in_order-union report.promoted m.unreclaimed follows.unreclaimed))
-
-  left_stuck : (n : Name) → IsTrue (has (stuck_after m report) n) → IsTrue (has (unreclaimed_after m report) n)
-  left_stuck n k =
-      let at = plain_left (union report.stuck m.stuck) n k in
-      (left_are n).1 (elim (union_cases report.stuck m.stuck n at.0) [
-        | inl q ↦ union_cases report.promoted (without m.unreclaimed parts.first_dead) n ((is.stuck.members n).0 q).0
-        | inr q ↦ inr (in_without m.unreclaimed parts.first_dead n (follows.stuck n q) (λ d. at.1 ((is.first_dead.members n).0 d)))
-      ])
-
-  -- so the unreclaimed names after it are the kept ones, and what was stuck or becomes so stays
-  pub unreclaimed_are_kept : unreclaimed_after m report ≡ kept_names m parts report
-  unreclaimed_are_kept =
-      one_list (unreclaimed_after m report) (kept_names m parts report) left_in_order
-      (in_order-union report.promoted (without m.unreclaimed parts.first_dead) (in_order-without m.unreclaimed parts.first_dead follows.unreclaimed))
-      (λ n. (
-        λ h. elim ((left_are n).0 h) [
-          | inl p ↦ union_left report.promoted (without m.unreclaimed parts.first_dead) n p
-          | inr x ↦ union_right report.promoted (without m.unreclaimed parts.first_dead) n x
-        ],
-        λ h. (left_are n).1 (union_cases report.promoted (without m.unreclaimed parts.first_dead) n h),
-      ))
-
-  pub stuck_stay : stuck_after m report ≡ union report.stuck m.stuck
-  stuck_stay =
-      let alive : (n : Name) → IsTrue (has (union report.stuck m.stuck) n) → has report.dead n ≡ false = λ n h. false_from_ne_true (has report.dead n) (λ d. elim (union_cases report.stuck m.stuck n h) [
-        | inl q ↦ (plain_left (union report.promoted m.unreclaimed) n ((left_are n).1 (union_cases report.promoted (without m.unreclaimed parts.first_dead) n ((is.stuck.members n).0 q).0))).1 (plain_dead n d)
-        | inr q ↦ not_both (has m.stuck n) q (dead_parts (plain_dead n d)).unstuck
-      ]) in
-      ap (without (without (union report.stuck m.stuck) report.dead)) nothing_swept
-      ∙ without_apart (without (union report.stuck m.stuck) report.dead) [] (λ n h. refl)
-      ∙ without_apart (union report.stuck m.stuck) report.dead alive
-
-  pub pause_follows : FollowsPause (after_pause m report)
-  pause_follows =
-      follows_anew (record m { unreclaimed = without m.unreclaimed parts.first_dead }) report.promoted (unreclaimed_after m report) (stuck_after m report)
-      (left_follows m parts.first_dead follows is.first_dead.members) is.promoted.members
-      left_in_order left_are
-      (left_plain (union report.stuck m.stuck) world_name (union_right report.stuck m.stuck world_name follows.world) (live_not_dead m follows world_name (inl the_world)))
-      left_stuck report.number (trace_after m report report.kind)
-
-pub plain_pause_follows : PlainPauseRestartsFollowing
-plain_pause_follows m report follows is plain = pause_follows m report is.0 follows is.1 plain

@@ -1,5 +1,8 @@
 pub mod DistinctLemmas
 pub mod DeathLemmas
+pub mod LeavingLemmas
+pub mod PauseLemmas
+pub mod GarbageLemmas
 pub mod LoweringLemmas
 pub mod RaisingLemmas
 pub mod SumLemmas

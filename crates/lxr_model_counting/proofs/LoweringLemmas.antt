@@ -1,17 +1,19 @@
--- Each lowering keeps what holds: a name whose count falls to zero had no reference left, and puts its own references in line.
-use Rattle.std.proofs.Common.{◌≡◌, ◌≢◌, ℕ, ◌+◌, ◌≤◌, refl, sym, ap, subst, ◌∙◌, inl, inr, arith, Bool, true, false, cond, List, [], ◌∷◌, IsTrue}
+-- Each lowering keeps what holds: a name whose count is zero has no reference left, and puts its own references in line.
+use Rattle.std.proofs.Common.{◌≡◌, ℕ, ◌+◌, ◌≤◌, refl, sym, ap, subst, ◌∙◌, inl, inr, arith, Bool, true, false, cond, List, [], ◌∷◌, IsTrue}
 use Rattle.std.specs.Prelude.{not, ◌||◌}
-use Rattle.std.proofs.lemmas.Bool.{or_cases, or_left, or_right, false_from_ne_true}
+use Rattle.std.proofs.lemmas.Bool.{or_cases}
 use Rattle.lxr_layout.specs.declared.Name.{Name}
 use Rattle.lxr_graph.specs.Names.{same_name, has, without}
 use Rattle.lxr_graph.specs.State.{State, Graph, object_at, refs_of}
-use Rattle.lxr_graph.proofs.NameSets.{same_itself, same_names, not_both}
+use Rattle.lxr_graph.proofs.NameSets.{same_names, not_both}
+use Rattle.lxr_model.specs.Dead.{Dead}
 use Rattle.lxr_model.specs.References.{occurrences, references_from, references}
+use Rattle.lxr_model.proofs.ReachableLemmas.{dead_parts}
 use Rattle.lxr_model_counting.specs.Distinct.{IsDistinct}
-use Rattle.lxr_model_counting.specs.Lowering.{IsCascade, IsLowered, TakenFrom, LoweredAt, WithReferences, once}
+use Rattle.lxr_model_counting.specs.Lowering.{IsLowered, TakenFrom, LoweredAt, WithReferences, once}
 use Rattle.lxr_model_counting.specs.Laws.{LoweringKills}
 use Rattle.lxr_model_counting.proofs.DistinctLemmas.{without_apart, tested, or_false, same_flip}
-use Rattle.lxr_model_counting.proofs.DeathLemmas.{cascade_is_dead}
+use Rattle.lxr_model_counting.proofs.DeathLemmas.{over_dead, unreferred_dead}
 
 pub once_same : (o r : Name) → same_name o r ≡ true → once o r ≡ 1
 once_same o r e = ap (λ b. cond b 1 0) e
@@ -74,97 +76,64 @@ refs_out g o r (x ∷ xs) gone d h k =
 
 -- ---- the steps
 
--- at the start nothing is gone, and each count is the references and what waits
-pub start : (s : State) (us stuck : List Name) (count pending : Name → ℕ)
-    → ((o : Name) → IsTrue (has us o) → has stuck o ≡ false → count o ≡ references s us o + pending o)
-    → ((o : Name) → IsTrue (has us o) → has stuck o ≡ false → count o ≢ 0) → IsLowered s us stuck [] count pending
-start s us stuck count pending exact counted = record {
-  cascade = tt;
-  exact = λ o in_us unstuck. subst (λ x. count o ≡ references s x o + pending o) (sym (without_none us)) (exact o in_us unstuck);
-  empty = λ o in_us unstuck none. absurd (counted o in_us unstuck none);
-  zero = λ o dead. absurd (cc);
+-- nothing but counts and waits of the list is asked
+pub lowered_still : (s : State) (us stuck gone : List Name) (count other pending waits : Name → ℕ) → ((o : Name) → IsTrue (has us o) → other o ≡ count o)
+    → ((o : Name) → IsTrue (has us o) → waits o ≡ pending o) → IsLowered s us stuck gone count pending → IsLowered s us stuck gone other waits
+lowered_still s us stuck gone count other pending waits counted waited is = record {
+  dead = is.dead;
+  zero = λ o h. counted o (dead_parts (is.dead o h)).member ∙ is.zero o h;
+  exact = λ o in_us unstuck. let e = is.exact o in_us unstuck in let c = counted o in_us in let w = waited o in_us in omega (arith, e, c, w);
 }
 
--- a count that stays above zero
-pub stays : (s : State) (us stuck gone : List Name) (count pending after rest : Name → ℕ) (r : Name) → IsLowered s us stuck gone count pending → 2 ≤ count r
-    → TakenFrom pending r rest → LoweredAt us count r after → ((o : Name) → IsTrue (has gone o) → IsTrue (has us o)) → IsLowered s us stuck gone after rest
-stays s us stuck gone count pending after rest r is two taken lowered members =
+-- a count of some is lowered
+pub lowers : (s : State) (us stuck gone : List Name) (count pending after rest : Name → ℕ) (r : Name) → IsLowered s us stuck gone count pending → 1 ≤ count r
+    → TakenFrom pending r rest → LoweredAt us count r after → IsLowered s us stuck gone after rest
+lowers s us stuck gone count pending after rest r is some taken lowered =
     record {
-      cascade = is.cascade;
+      dead = is.dead;
+      zero = λ o h. let z = is.zero o h in let l = lowered o (dead_parts (is.dead o h)).member in omega (arith, z, l);
       exact = λ o in_us unstuck. let e = is.exact o in_us unstuck in let t = taken o in let l = lowered o in_us in
           elim (tested (same_name o r)) [
-            | inl k ↦ let c : count o ≡ count r = ap count (same_names o r k) in let n = once_same o r k in omega (arith, e, t, l, c, n, two)
+            | inl k ↦ let c : count o ≡ count r = ap count (same_names o r k) in let n = once_same o r k in omega (arith, e, t, l, c, n, some)
             | inr k ↦ let n = once_other o r k in omega (arith, e, t, l, n)
           ];
-      empty = λ o in_us unstuck zero_now. elim (tested (same_name o r)) [
-        | inl k ↦ let c : count o ≡ count r = ap count (same_names o r k) in let l = lowered o in_us in let n = once_same o r k in absurd (omega (arith, c, l, n, two, zero_now))
-        | inr k ↦ let l = lowered o in_us in let n = once_other o r k in is.empty o in_us unstuck (omega (arith, l, n, zero_now))
-      ];
-      zero = λ o dead. let z = is.zero o dead in let l = lowered o (members o dead) in omega (arith, z, l);
     }
 
 -- a stuck name is never lowered, and what waits for it may be left out
 pub stuck_stays : (s : State) (us stuck gone : List Name) (count pending rest : Name → ℕ) (r : Name) → IsLowered s us stuck gone count pending → IsTrue (has stuck r)
     → TakenFrom pending r rest → IsLowered s us stuck gone count rest
 stuck_stays s us stuck gone count pending rest r is stuck_r taken = record {
-  cascade = is.cascade;
+  dead = is.dead;
+  zero = is.zero;
   exact = λ o in_us unstuck. let e = is.exact o in_us unstuck in let t = taken o in elim (tested (same_name o r)) [
     | inl k ↦ not_both (has stuck o) (ap (has stuck) (same_names o r k) ∙ stuck_r) unstuck
     | inr k ↦ let n = once_other o r k in omega (arith, e, t, n)
   ];
-  empty = is.empty;
-  zero = is.zero;
 }
 
--- what is gone is a member, and isn't stuck
-pub gone_members : (s : State) (us stuck gone : List Name) → IsCascade s us stuck gone → (o : Name) → IsTrue (has gone o) → IsTrue (has us o) × (has stuck o ≡ false)
-gone_members s us stuck [] c o h = absurd (cc)
-gone_members s us stuck (x ∷ gone) c o h = elim (or_cases (same_name o x) (has gone o) h) [
-  | inl k ↦ let e : o ≡ x = same_names o x k in (ap (has us) e ∙ c.1, ap (has stuck) e ∙ c.2)
-  | inr k ↦ gone_members s us stuck gone c.0 o k
-]
-
--- a name whose last count goes is gone, and its references wait
-pub dies : (s : State) (us stuck gone : List Name) (count pending after rest more : Name → ℕ) (r : Name) → IsLowered s us stuck gone count pending → IsDistinct us
-    → IsTrue (has us r) → has stuck r ≡ false → count r ≡ 1 → TakenFrom pending r rest → LoweredAt us count r after → WithReferences s rest r more
-    → IsLowered s us stuck (r ∷ gone) after more
-dies s us stuck gone count pending after rest more r is distinct in_r unstuck_r one taken lowered with =
-    let not_gone : has gone r ≡ false = false_from_ne_true (has gone r) (λ h. let z = is.zero r h in absurd (omega (arith, z, one))) in
+-- a name without a count goes, and its references wait
+pub drops : (s : State) (us stuck gone : List Name) (count pending more : Name → ℕ) (r : Name) → IsLowered s us stuck gone count pending → IsDistinct us
+    → IsTrue (has us r) → has stuck r ≡ false → has gone r ≡ false → count r ≡ 0 → WithReferences s pending r more → IsLowered s us stuck (r ∷ gone) count more
+drops s us stuck gone count pending more r is distinct in_r unstuck_r not_gone none with =
     let exact_r = is.exact r in_r unstuck_r in
-    let taken_r = taken r in
-    let once_r = once_same r r (same_itself r) in
-    let none : references s (without us gone) r ≡ 0 = omega (arith, exact_r, taken_r, once_r, one) in
+    let unreferred : references s (without us gone) r ≡ 0 = omega (arith, exact_r, none) in
     record {
-      cascade = (is.cascade, in_r, unstuck_r, none);
+      dead = λ o h. elim (or_cases (same_name o r) (has gone o) h) [
+        | inl k ↦ subst (Dead s us stuck) (sym (same_names o r k)) (unreferred_dead s us stuck gone is.dead r in_r unstuck_r unreferred)
+        | inr k ↦ is.dead o k
+      ];
+      zero = λ o h. elim (or_cases (same_name o r) (has gone o) h) [ inl k ↦ ap count (same_names o r k) ∙ none | inr k ↦ is.zero o k ];
       exact = λ o in_us unstuck.
           let e = is.exact o in_us unstuck in
-          let t = taken o in
-          let l = lowered o in_us in
           let w = with o in
           let out = refs_out s.graph o r us gone distinct in_r not_gone in
-          elim (tested (same_name o r)) [
-            | inl k ↦
-                let c : count o ≡ count r = ap count (same_names o r k) in
-                let n = once_same o r k in
-                omega (arith, e, t, l, w, out, c, n, one)
-            | inr k ↦ let n = once_other o r k in omega (arith, e, t, l, w, out, n)
-          ];
-      empty = λ o in_us unstuck zero_now. elim (tested (same_name o r)) [
-        | inl k ↦ or_left (same_name o r) (has gone o) k
-        | inr k ↦ let l = lowered o in_us in let n = once_other o r k in or_right (same_name o r) (has gone o) (is.empty o in_us unstuck (omega (arith, l, n, zero_now)))
-      ];
-      zero = λ o dead. elim (or_cases (same_name o r) (has gone o) dead) [
-        | inl k ↦
-            let c : count o ≡ count r = ap count (same_names o r k) in
-            let n = once_same o r k in
-            let l = lowered o (ap (has us) (same_names o r k) ∙ in_r) in
-            omega (arith, c, n, l, one)
-        | inr k ↦ let z = is.zero o k in let l = lowered o (gone_members s us stuck gone is.cascade o k).0 in omega (arith, z, l)
-      ];
+          omega (arith, e, w, out);
     }
 
--- where nothing waits, exactly the dead are gone
+-- where nothing waits and what has no count is gone, exactly the dead are gone
 pub over : LoweringKills
-over s us stuck gone count pending is none o =
-    cascade_is_dead s us stuck gone is.cascade
-    (λ u in_us unstuck there zero_refs. let e = is.exact u in_us unstuck in let n = none u in not_both (has gone u) (is.empty u in_us unstuck (omega (arith, e, n, zero_refs))) there) o
+over s us stuck gone count pending is none empty o = (
+  is.dead o,
+  λ d. over_dead s us stuck gone
+      (λ u in_us unstuck there zero_refs. let e = is.exact u in_us unstuck in let n = none u in not_both (has gone u) (empty u in_us unstuck (omega (arith, e, n, zero_refs))) there) o d (has gone o) refl,
+)

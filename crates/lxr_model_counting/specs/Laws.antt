@@ -15,7 +15,7 @@ use Rattle.lxr_model.specs.Dead.{Dead, Promoted}
 use Rattle.lxr_model.specs.Moments.{Moment, after_call, after_pause, opening_moment}
 use Rattle.lxr_model.specs.Reports.{IsReport, raised}
 use Rattle.lxr_model_counting.specs.Following.{FollowsPause, IsLive, IsStepReply}
-use Rattle.lxr_model_counting.specs.Lowering.{IsCascade, IsLowered, IsOver}
+use Rattle.lxr_model_counting.specs.Lowering.{IsLowered, IsOver}
 use Rattle.lxr_model_counting.specs.Raising.{IsGrowth, IsGrown}
 use Rattle.lxr_model_counting.specs.Balance.{lowered}
 
@@ -46,14 +46,10 @@ DeathLeavesTheLiving = (m : Moment) (gone : List Name) → FollowsPause m → ((
 
 -- ---- lowering
 
--- where nothing waits, exactly the dead are gone
+-- where nothing waits and what has no count is gone, exactly the dead are gone
 abbrev pub LoweringKills : Type 0
 LoweringKills = (s : State) (us stuck gone : List Name) (count pending : Name → ℕ) → IsLowered s us stuck gone count pending → ((o : Name) → pending o ≡ 0)
-    → (o : Name) → IsTrue (has gone o) ↔ Dead s us stuck o
-
--- removing names to which nothing refers, one after another until none is left, removes exactly the least set
-abbrev pub CascadeIsDead : Type 0
-CascadeIsDead = (s : State) (us stuck gone : List Name) → IsCascade s us stuck gone → IsOver s us stuck gone → (o : Name) → IsTrue (has gone o) ↔ Dead s us stuck o
+    → IsOver us stuck gone count → (o : Name) → IsTrue (has gone o) ↔ Dead s us stuck o
 
 -- ---- raising
 

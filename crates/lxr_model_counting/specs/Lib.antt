@@ -3,4 +3,7 @@ pub mod Following
 pub mod Lowering
 pub mod Raising
 pub mod Balance
+pub mod Draining
+pub mod Garbage
+pub mod GarbageLaws
 pub mod Laws

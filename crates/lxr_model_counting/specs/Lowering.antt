@@ -1,32 +1,27 @@
 -- Lowering counts one after another: what holds while some names wait to be lowered.
-use Rattle.std.specs.Prelude.{◌≡◌, ◌≢◌, ℕ, ◌+◌, ◌-◌, false, List, [], ◌∷◌, IsTrue, if◌then◌else◌}
+use Rattle.std.specs.Prelude.{◌≡◌, ℕ, ◌+◌, ◌-◌, false, List, IsTrue, if◌then◌else◌}
 use Rattle.lxr_layout.specs.declared.Name.{Name}
 use Rattle.lxr_graph.specs.Names.{has, same_name, without}
 use Rattle.lxr_graph.specs.State.{State, object_at, refs_of}
+use Rattle.lxr_model.specs.Dead.{Dead}
 use Rattle.lxr_model.specs.References.{occurrences, references}
-
--- one after another, newest first, each removed name was an unstuck member of U that nothing left referred to
-abbrev pub IsCascade : State → List Name → List Name → List Name → Type 0
-IsCascade s us stuck [] = Unit {0}
-IsCascade s us stuck (o ∷ gone) = IsCascade s us stuck gone × IsTrue (has us o) × (has stuck o ≡ false) × (references s (without us gone) o ≡ 0)
-
--- no more can be removed
-abbrev pub IsOver : State → List Name → List Name → List Name → Type 0
-IsOver s us stuck gone = (o : Name) → IsTrue (has us o) → has stuck o ≡ false → has gone o ≡ false → references s (without us gone) o ≢ 0
 
 -- one for the same name, and else nothing
 abbrev pub once : Name → Name → ℕ
 once o r = if same_name o r then 1 else 0
 
--- Names are gone; `count` is what is written at a name, `pending` how often it waits to be lowered.
+-- Names are gone, in whatever order they went; `count` is what is written at a name, `pending` how often it waits to be
+-- lowered.
 pub record IsLowered (s : State) (us stuck gone : List Name) (count pending : Name → ℕ) : Type 0 where
-  -- each was gone when nothing that was left referred to it
-  pub cascade : IsCascade s us stuck gone
+  -- what is gone is dead, and has no count
+  pub dead : (o : Name) → IsTrue (has gone o) → Dead s us stuck o
+  pub zero : (o : Name) → IsTrue (has gone o) → count o ≡ 0
   -- a count is the references from what is left, and what waits
   pub exact : (o : Name) → IsTrue (has us o) → has stuck o ≡ false → count o ≡ references s (without us gone) o + pending o
-  -- what has no count is gone, and what is gone has none
-  pub empty : (o : Name) → IsTrue (has us o) → has stuck o ≡ false → count o ≡ 0 → IsTrue (has gone o)
-  pub zero : (o : Name) → IsTrue (has gone o) → count o ≡ 0
+
+-- what has no count is gone
+abbrev pub IsOver : List Name → List Name → List Name → (Name → ℕ) → Type 0
+IsOver us stuck gone count = (o : Name) → IsTrue (has us o) → has stuck o ≡ false → count o ≡ 0 → IsTrue (has gone o)
 
 -- r waits no longer
 abbrev pub TakenFrom : (Name → ℕ) → Name → (Name → ℕ) → Type 0

@@ -22,8 +22,8 @@ use Rattle.lxr_model.specs.Reports.{PauseParts, IsReportWith, AreDrained, IsSwep
 use Rattle.lxr_model.specs.Legal.{IsLegalSoFar, Replies}
 use Rattle.lxr_model.proofs.ReachableLemmas.{dead_apart, dead_parts, promoted_made}
 use Rattle.lxr_model.proofs.StepLemmas.{gets-replicate, step_refers}
-use Rattle.lxr_model.proofs.HistoryLemmas.{RunningGood, GoodAt, good_history, call_cases, made_old}
-use Rattle.lxr_model.proofs.DrainLemmas.{kept_all, left_parts, left_remain, remain_left}
+use Rattle.lxr_model.proofs.HistoryLemmas.{RunningGood, GoodAt, good_history, call_cases, made_old, reachable_kept}
+use Rattle.lxr_model.proofs.DrainLemmas.{kept_all, left_parts, left_remain, promoted_fresh, remain_left}
 use Rattle.lxr_model.proofs.CollectLemmas.{collected_reachable}
 use Rattle.lxr_model_laws.specs.UnreclaimedLaws.{IsGarbage, ReachableWereSoOrAreYounger, UnreclaimedWereSoOrAreYounger, UnreclaimedRemain, UnreclaimedAreClosed, UnreclaimedHaveObjects, StuckAreUnreclaimed, OnlyGarbageRefersToGarbage}
 use Rattle.lxr_model_laws.proofs.ReportLemmas.{moments_in_order}
@@ -154,15 +154,15 @@ module _ (threads : ℕ) (m : Moment) (report : PauseReport) (parts : PauseParts
   swept_closed kind.Begin e swept u n left k f d = let x = rw swept at d in absurd (cc)
   swept_closed (kind.End j) e swept u n left k f d = end_closed m.trace closed.running swept u n k f d
   swept_closed kind.Collect e swept u n left k f d =
-      absurd (((swept.members n).0 d).1 (referred (collected_reachable threads m report parts is good e u left) f))
+      absurd (((swept.members n).0 d).1 (referred (collected_reachable m report parts is (reachable_kept threads m report parts is good) e u left) f))
 
   left_closed : (u n : Name) → IsTrue (has (unreclaimed_after m report) u) → Refers m.state.graph u n → IsTrue (has (unreclaimed_after m report) n)
   left_closed u n left f =
-      let remains = left_remain threads m report parts is good u left in
+      let remains = left_remain m report parts is u left in
       let a = without_parts (without (kept_names m parts report) parts.second_dead) report.swept u remains in
       let b = without_parts (kept_names m parts report) parts.second_dead u a.0 in
       let alive : IsTrue (has parts.third_dead u) → ⊥ = λ d. not_both (has report.dead u) ((is.dead.members u).1 (inr (inr d))) (left_parts m report u left).1 in
-      remain_left threads m report parts is good n
+      remain_left m report parts is (promoted_fresh threads m report parts is good) n
       (in_without (without (kept_names m parts report) parts.second_dead) report.swept n
       (in_without (kept_names m parts report) parts.second_dead n (kept_closed u n b.0 f) (second_closed _ is.drained u n b.0 b.1 f))
       (λ d. not_both (has report.swept u) (swept_closed report.kind refl is.swept u n left b.0 f d) a.1))
@@ -244,10 +244,10 @@ remain terms h report parts legal is =
     (in_order-without (remaining_names m parts report) parts.third_dead
     (in_order-without (without (kept_names m parts report) parts.second_dead) report.swept (in_order-without (kept_names m parts report) parts.second_dead kept)))
     (λ n. (
-      λ k. in_without (remaining_names m parts report) parts.third_dead n (left_remain terms.threads m report parts is good n k)
+      λ k. in_without (remaining_names m parts report) parts.third_dead n (left_remain m report parts is n k)
           (λ d. not_both (has report.dead n) ((is.dead.members n).1 (inr (inr d))) (left_parts m report n k).1),
       λ k. let a = without_parts (remaining_names m parts report) parts.third_dead n k in
-          remain_left terms.threads m report parts is good n a.0 (λ d. not_both (has parts.third_dead n) d a.1),
+          remain_left m report parts is (promoted_fresh terms.threads m report parts is good) n a.0 (λ d. not_both (has parts.third_dead n) d a.1),
     ))
 
 stuck_left : (threads : ℕ) (m : Moment) (report : PauseReport) (parts : PauseParts) → IsReportWith m parts report → GoodAt threads m
@@ -258,7 +258,7 @@ stuck_left threads m report parts is good before n s =
     in_without (without (union report.promoted m.unreclaimed) report.dead) report.swept n
     (in_without (union report.promoted m.unreclaimed) report.dead n
     (elim (union_cases report.stuck m.stuck n b.0) [
-      | inl k ↦ kept_all threads m report parts is good n ((is.stuck.members n).0 k).0
+      | inl k ↦ kept_all m report parts is n ((is.stuck.members n).0 k).0
       | inr k ↦ union_right report.promoted m.unreclaimed n (before n k)
     ])
     (λ d. not_both (has report.dead n) d b.1))

@@ -18,7 +18,7 @@ use Rattle.lxr_model.specs.Legal.{IsLegalSoFar}
 use Rattle.lxr_model_laws.specs.OnceLaws.{reclaimed_by, names_reclaimed, names_promoted, ReclaimedOnce, DeadAreNotSwept, PromotedOnce}
 use Rattle.lxr_model.proofs.ReachableLemmas.{dead_parts, promoted_made}
 use Rattle.lxr_model.proofs.HistoryLemmas.{GoodAt, good_history}
-use Rattle.lxr_model.proofs.DrainLemmas.{not_first, kept_all, left_parts}
+use Rattle.lxr_model.proofs.DrainLemmas.{not_first, kept_all, left_parts, promoted_fresh}
 use Rattle.lxr_model_laws.proofs.TraceLemmas.{RunningGarbage, running_garbage, garbage_not_first, garbage_not_second}
 
 has-append : (ns ms : List Name) (q : Name) → IsTrue (has (ns ++ ms) q) → IsTrue (has ns q) ⊎ IsTrue (has ms q)
@@ -45,7 +45,7 @@ module _ (threads : ℕ) (m : Moment) (report : PauseReport) (parts : PauseParts
   dead_within : (n : Name) → IsTrue (has report.dead n) → IsTrue (has (union report.promoted m.unreclaimed) n)
   dead_within n d = elim ((is.dead.members n).0 d) [
     | inl q ↦ union_right report.promoted m.unreclaimed n (dead_parts ((is.first_dead.members n).0 q)).member
-    | inr q ↦ kept_all threads m report parts is good n (elim q [ inl p ↦ second_kept _ is.drained n p | inr p ↦ (third_kept _ is.drained n p).0 ])
+    | inr q ↦ kept_all m report parts is n (elim q [ inl p ↦ second_kept _ is.drained n p | inr p ↦ (third_kept _ is.drained n p).0 ])
   ]
 
   end_within : (trace : Option Trace) → RunningGarbage trace m → IsSweptAtEnd report.swept trace → (n : Name) → IsTrue (has report.swept n) → IsTrue (has m.unreclaimed n)
@@ -58,7 +58,7 @@ module _ (threads : ℕ) (m : Moment) (report : PauseReport) (parts : PauseParts
   swept_within kind.Begin swept n d = let k = rw swept at d in cc
   swept_within (kind.End j) swept n d = union_right report.promoted m.unreclaimed n (end_within m.trace stays swept n d)
   swept_within kind.Collect swept n d =
-      kept_all threads m report parts is good n (without_parts (kept_names m parts report) parts.second_dead n ((swept.members n).0 d).0).0
+      kept_all m report parts is n (without_parts (kept_names m parts report) parts.second_dead n ((swept.members n).0 d).0).0
 
   pub reclaimed_within : (n : Name) → IsTrue (has (reclaimed_by report) n) → IsTrue (has (union report.promoted m.unreclaimed) n)
   reclaimed_within n h = elim (has-append report.dead report.swept n h) [ inl d ↦ dead_within n d | inr d ↦ swept_within report.kind is.swept n d ]
@@ -79,7 +79,7 @@ module _ (threads : ℕ) (m : Moment) (report : PauseReport) (parts : PauseParts
   early_apart (kind.End j) swept n d early = end_apart m.trace stays swept n d early
   early_apart kind.Collect swept n d early =
       let at = without_parts (kept_names m parts report) parts.second_dead n ((swept.members n).0 d).0 in
-      elim early [ inl q ↦ not_first threads m report parts is good n at.0 q | inr q ↦ not_both (has parts.second_dead n) q at.1 ]
+      elim early [ inl q ↦ not_first m report parts is (promoted_fresh threads m report parts is good) n at.0 q | inr q ↦ not_both (has parts.second_dead n) q at.1 ]
 
   pub apart : (n : Name) → IsTrue (has report.dead n) → has report.swept n ≡ false
   apart n d = elim ((is.dead.members n).0 d) [

@@ -24,7 +24,7 @@ use Rattle.lxr_model_laws.specs.UnreclaimedLaws.{IsGarbage, GarbageStays, Unstuc
 use Rattle.lxr_model.proofs.ObjectLemmas.{step_facts}
 use Rattle.lxr_model.proofs.HistoryLemmas.{TraceGood, RunningGood, GoodAt, good_history, call_cases}
 use Rattle.lxr_model.proofs.DecideLemmas.{find_referrer}
-use Rattle.lxr_model.proofs.DrainLemmas.{nothing_dead, still_stuck}
+use Rattle.lxr_model.proofs.DrainLemmas.{nothing_dead, promoted_fresh, still_stuck}
 
 -- nothing unstuck was dead when it began, and garbage that was stuck there still is
 pub record Undead (trace : Trace) (stuck : List Name) : Type 0 where
@@ -142,7 +142,7 @@ begun threads m report parts is good drains = record {
   kept = λ n g. g.0;
   last = λ n g. refl;
   now = λ n g. refl;
-  undead = record { before = stuck_after m report; none = nothing_dead threads m report parts is good drains; stays = λ n g b. b };
+  undead = record { before = stuck_after m report; none = nothing_dead m report parts is (promoted_fresh threads m report parts is good) drains; stays = λ n g b. b };
 }
 
 running_pause : (threads : ℕ) (m : Moment) (report : PauseReport) (parts : PauseParts) → IsReportWith m parts report → GoodAt threads m → RunningGarbage m.trace m

@@ -1,7 +1,8 @@
 //! The pause: what counting does while all threads rest.
 //!
-//! A pause comes in the order of LXR (Zhao, Blackburn and McKinley, 2022). The counts that wait since the last pause are
-//! lowered, and what comes to 0 is reclaimed with all that dies by it ([`finish_decrements`]). Counts are raised for the
+//! A pause comes in the order of LXR (Zhao, Blackburn and McKinley, 2022). What decrementers have handled since the last
+//! pause is reclaimed, the counts that still wait are lowered, and what comes or came to 0 is reclaimed with all that dies by
+//! it ([`finish_decrements`]). Counts are raised for the
 //! references that were stored and the registers that changed, and new objects that are held get their first count and
 //! stay ([`increments`], [`promote`]). What was overwritten waits for the next pause to be lowered
 //! ([`queue_decrements`]), and registers are kept as they are now, to be compared with then ([`defer_roots`]).

@@ -1,5 +1,5 @@
 -- What holds of a moment is what the decrements need, and what they leave.
-use Rattle.std.proofs.Common.{◌≡◌, ℕ, ◌*◌, ◌≤◌, refl, sym, ap, subst, ◌∙◌, inl, inr, arith, false, List, [], ◌∷◌, ◌++◌, IsTrue, length}
+use Rattle.std.proofs.Common.{◌≡◌, ℕ, ◌+◌, ◌*◌, ◌≤◌, refl, sym, ap, subst, ◌∙◌, inl, inr, arith, false, List, [], ◌∷◌, ◌++◌, IsTrue, length}
 use Rattle.std.specs.Prelude.{not, filter, reverse, slice_get}
 use Rattle.lxr_layout.specs.declared.TheConstants.{GRANULES_IN_BLOCK, TRACING_WORD}
 use Rattle.lxr_layout.specs.declared.Name.{Name}
@@ -20,25 +20,26 @@ use Rattle.lxr_model.proofs.ReachableLemmas.{dead_apart, dead_parts}
 use Rattle.lxr_model_counting.specs.Distinct.{has_field}
 use Rattle.lxr_model_counting.specs.Following.{FollowsPause}
 use Rattle.lxr_model_counting.proofs.DistinctLemmas.{in_order_distinct, tested}
-use Rattle.lxr_model_counting.proofs.LoweringLemmas.{start, without_none}
+use Rattle.lxr_model_counting.proofs.LoweringLemmas.{without_none}
 use Rattle.lxr_model_counting.proofs.DeathLemmas.{left_follows}
 use Rattle.lxr_invariant.specs.AbstractState.{leaving}
 use Rattle.lxr_invariant.specs.Standing.{AreLogged, HasBits, IsUnwritten}
-use Rattle.lxr_invariant.specs.Counting.{HasCounts, IsUndecremented, count_at, is_done}
+use Rattle.lxr_invariant.specs.Counting.{HasCounts, IsUndecremented, is_done, undone, waiting_at}
 use Rattle.lxr_invariant.specs.Lines.{HasBlocks, HasMarks}
 use Rattle.lxr_invariant.specs.Quiescent.{HoldsMoment}
 use Rattle.lxr_invariant.proofs.NameLemmas.{in_first}
 use Rattle.lxr_invariant.proofs.EntryLemmas.{passing_few}
 use Rattle.lxr_invariant.proofs.FrameLemmas.{AreAsMany, blocks_still, imaged_left, none_undone, out_still, rest_left, unchosen_still}
 use Rattle.lxr_pause_decrements.specs.Finishing.{CanFinish, Finishes}
-use Rattle.lxr_pause_decrements.specs.Cascade.{Ground, IsFinished, IsOpening, Leaves, CascadeStage, later, waits, with_lists}
+use Rattle.lxr_pause_decrements.specs.Cascade.{CascadeStage, Ground, IsFinished, IsHandling, Leaves, come_to, later, with_lists}
+use Rattle.lxr_pause_decrements.proofs.WipeLemmas.{loses_none, loses_same}
 use Rattle.lxr_pause_decrements.proofs.CascadeLemmas.{has_reversed}
 
 -- ---- into the decrements
 
 -- the stage at which the decrements begin
 abbrev pub first_stage : Space → Moment → (Name → ℕ) → CascadeStage
-first_stage s m at = record { moment = m; at = at; before = s.report.dead.items; gone = []; work = []; extra = λ o. 0 }
+first_stage s m at = record { moment = m; at = at; was = tables_of s; before = s.report.dead.items; gone = []; work = []; extra = λ o. 0; passed = 0 }
 
 append_nothing : {A : Type 0} (xs : List A) → xs ≡ xs ++ []
 append_nothing [] = refl
@@ -71,42 +72,37 @@ ground_of s m at is =
       closed = follows.closed;
     }
 
-pub opening : (s : Space) (m : Moment) (at : Name → ℕ) → CanFinish s m at → IsOpening s (first_stage s m at)
+-- what is handled may be reclaimed
+pub opening : (s : Space) (m : Moment) (at : Name → ℕ) → CanFinish s m at → IsHandling s (first_stage s m at)
 opening s m at can =
     let is = can.holds in
     let t : Tables = tables_of s in
-    let st : CascadeStage = first_stage s m at in
     let all = without_none m.unreclaimed in
-    let none = can.undecremented.none_done in
-    let empty = is.no_work in
+    let few = passing_few t.starts (GRANULES_IN_BLOCK * s.limits.blocks) in
     record {
-      stage = record {
-        space = is.space;
-        cascade = record {
+      space = is.space;
+      handling = record {
+        remains = record {
           ground = ground_of s m at is;
-          lowered = start m.last m.unreclaimed m.stuck (count_at t at) (waits t st)
-              (λ o in_o unstuck.
-              let e = is.counts.exact o in_o unstuck in
-              let k = ap (λ z. references m.last z o) (none_undone t at m.unreclaimed none) in
-              omega (arith, e, k))
-              (λ o in_o unstuck. can.undecremented.positive o in_o);
           stuck = is.counts.stuck;
           below = is.counts.below;
           bits = subst (HasBits t m at) (sym all) is.bits;
           marks = subst (HasMarks t m.state.graph at) (sym all) is.marks;
-          none_done = none;
-          none_drawn = can.undecremented.none_drawn;
+          lost_marks = loses_none t.marks at;
+          lost_grays = loses_none t.grays at;
           decrements = is.decrements;
           once = tt;
-          work = empty;
-          work_gone = λ n h. absurd (cc);
           reported = append_nothing s.report.dead.items;
-          work_room = let k = passing_few t.starts (GRANULES_IN_BLOCK * s.limits.blocks) in let r = is.room.work in let e : length s.work.items ≡ 0 = ap length empty in omega (arith, k, r, e);
-          dead_room = let k = passing_few t.starts (GRANULES_IN_BLOCK * s.limits.blocks) in let r = can.room in omega (arith, k, r);
+          dead_room = let r = can.room in omega (arith, few, r);
         };
+        exact = λ o in_o unstuck. is.counts.exact o in_o unstuck ∙ ap (λ us. references m.last (undone t at us) o + waiting_at t (at o)) (sym all);
+        dead = λ o h. absurd (cc);
+        zero = λ o h. absurd (cc);
+        done_dead = is.counts.dead;
+        done_zero = is.counts.done;
+        no_work = is.no_work;
+        work_room = let r = is.room.work in omega (arith, r);
       };
-      work = refl;
-      extra = λ o. refl;
     }
 
 -- ---- out of the decrements
@@ -146,80 +142,81 @@ bits_leaving t m at vs us is = record {
   unlogged = λ w. (λ h. unwritten_leaving m at vs us w ((is.unlogged w).0 h), λ h. (is.unlogged w).1 (leaving_unwritten m at vs us w h));
 }
 
--- the last stage, whose list of decrements is empty
-abbrev last_stage : Space → Moment → (Name → ℕ) → List Name → CascadeStage
-last_stage s m at gone = later (first_stage s m at) gone [] (λ o. 0)
+-- the last stage, at which the pass over the heap has come to a granule
+abbrev pub last_stage : Space → Moment → (Name → ℕ) → List Name → ℕ → CascadeStage
+last_stage s m at gone passed = come_to (later (first_stage s m at) gone [] (λ o. 0)) passed
 
 -- the counts of what is left
-counts_left : (s after : Space) (m : Moment) (at : Name → ℕ) (gone : List Name) → IsFinished after (last_stage s m at gone) → HasCounts (tables_of after) (leaving m (without m.unreclaimed gone)) at
-counts_left s after m at gone fin =
+counts_left : (s after : Space) (m : Moment) (at : Name → ℕ) (gone : List Name) (passed : ℕ) → IsFinished after (last_stage s m at gone passed) → HasCounts (tables_of after) (leaving m (without m.unreclaimed gone)) at
+counts_left s after m at gone passed fin =
     let u : Tables = tables_of after in
-    let is = fin.stage.cascade in
+    let is = fin.emptied.opening.stage.cascade in
     let within : (n : Name) → IsTrue (has (without m.unreclaimed gone) n) → IsTrue (has m.unreclaimed n) = λ n h. (without_parts m.unreclaimed gone n h).0 in
     record {
-      stuck = λ n h k. is.stuck n (within n h) k;
-      below = λ n h k. is.below n (within n h) k;
+      stuck = λ n h k. is.remains.stuck n (within n h) k;
+      below = λ n h k. is.remains.below n (within n h) k;
       exact = λ n h k.
           let e = is.lowered.exact n (within n h) k in
           let q = ap (λ z. references m.last z n) (none_undone u at (without m.unreclaimed gone) is.none_done) in
           omega (arith, e, q);
       done = λ n h k. not_both (is_done u at n) k (is.none_done (granule_of (at n)));
+      dead = λ n h k. not_both (is_done u at n) k (is.none_done (granule_of (at n)));
     }
 
-undecremented_left : (s after : Space) (m : Moment) (at : Name → ℕ) (gone : List Name) → IsFinished after (last_stage s m at gone)
+undecremented_left : (s after : Space) (m : Moment) (at : Name → ℕ) (gone : List Name) (passed : ℕ) → IsFinished after (last_stage s m at gone passed)
     → IsUndecremented (tables_of after) (leaving m (without m.unreclaimed gone)) at
-undecremented_left s after m at gone fin =
-    let is = fin.stage.cascade in
+undecremented_left s after m at gone passed fin =
+    let is = fin.emptied.opening.stage.cascade in
     record {
       none_done = is.none_done;
-      none_drawn = is.none_drawn;
+      none_drawn = fin.emptied.drawn;
       positive = λ n h z.
           let k = without_parts m.unreclaimed gone n h in
           elim (tested (has m.stuck n)) [
-            | inl q ↦ let e = is.stuck n k.0 q in omega (arith, e, z)
-            | inr q ↦ not_both (has gone n) (is.lowered.empty n k.0 q z) k.1
+            | inl q ↦ let e = is.remains.stuck n k.0 q in omega (arith, e, z)
+            | inr q ↦ not_both (has gone n) (fin.empty n k.0 q z) k.1
           ];
     }
 
 -- nothing but the words and the dead of the report has changed
-done_space : (s after : Space) (m : Moment) (at : Name → ℕ) (gone : List Name) → CanFinish s m at → IsFinished after (last_stage s m at gone) → Leaves s after
+done_space : (s after : Space) (m : Moment) (at : Name → ℕ) (gone : List Name) (passed : ℕ) → CanFinish s m at → IsFinished after (last_stage s m at gone passed) → Leaves s after
     → after ≡ with_dead s after.words (s.report.dead.items ++ reverse gone)
-done_space s after m at gone can fin leaves =
-    let is = fin.stage.cascade in
+done_space s after m at gone passed can fin leaves =
+    let is = fin.emptied.opening.stage.cascade in
     let items : after.work.items ≡ s.work.items = is.work ∙ sym can.holds.no_work in
     let work : after.work ≡ s.work = λ i. record { items = items i; room = leaves.work_room i } in
-    let dead : after.report.dead ≡ record s.report.dead { items = s.report.dead.items ++ reverse gone } = λ i. record { items = is.reported i; room = leaves.dead_room i } in
+    let dead : after.report.dead ≡ record s.report.dead { items = s.report.dead.items ++ reverse gone } = λ i. record { items = is.remains.reported i; room = leaves.dead_room i } in
     leaves.rest ∙ ap {A = Roomy Place} (λ w. with_lists s after.words w after.report.dead) work ∙ ap {A = Roomy Name} (λ d. with_lists s after.words s.work d) dead
 
-holds_left : (s after : Space) (m : Moment) (at : Name → ℕ) (gone : List Name) → CanFinish s m at → IsFinished after (last_stage s m at gone) → Leaves s after
+holds_left : (s after : Space) (m : Moment) (at : Name → ℕ) (gone : List Name) (passed : ℕ) → CanFinish s m at → IsFinished after (last_stage s m at gone passed) → Leaves s after
     → HoldsMoment after (leaving m (without m.unreclaimed gone)) at
-holds_left s after m at gone can fin leaves =
+holds_left s after m at gone passed can fin leaves =
     let b = can.holds in
-    let is = fin.stage.cascade in
+    let is = fin.emptied.opening.stage.cascade in
     let stay = leaves.tables in
     let vs : List Name = without m.unreclaimed gone in
     let t : Tables = tables_of s in
     let u : Tables = tables_of after in
-    let same = done_space s after m at gone can fin leaves in
+    let same = done_space s after m at gone passed can fin leaves in
     let limits : after.limits ≡ s.limits = ap (λ z. z.limits) same in
     let within : (n : Name) → IsTrue (has vs n) → IsTrue (has m.unreclaimed n) = λ n h. (without_parts m.unreclaimed gone n h).0 in
     let logged : after.logged ≡ s.logged = ap (λ z. z.logged) same in
-    let waiting = fin.waiting in
+    let waiting = fin.emptied.waiting in
     record {
-      space = fin.stage.space;
+      space = fin.emptied.opening.stage.space;
       room = subst HasRoom (sym same) (room_stays s after.words (s.report.dead.items ++ reverse gone) b.room);
       as_many = subst AreAsMany (sym same) b.as_many;
       follows = left_follows m gone b.follows fin.gone;
       image = imaged_left s after m at vs within stay.keeps.heap limits (ap (λ z. z.registers) same) (ap (λ z. z.deferred) same) b.image;
-      bits = bits_leaving u m at vs vs is.bits;
+      bits = bits_leaving u m at vs vs is.remains.bits;
       logs = subst (λ l. AreLogged m at l.items) (sym logged) b.logs;
       few_logs = let f = b.few_logs in let l = ap (λ z. length z.items) logged in subst (λ z. length after.logged.items ≤ z.threads * z.log) (sym limits) (omega (arith, f, l));
-      counts = counts_left s after m at gone fin;
-      decrements = record { fits = is.decrements.fits; places = λ k h. absurd (omega (arith, h, waiting)) };
-      marks = is.marks;
+      counts = counts_left s after m at gone passed fin;
+      decrements = record { fits = is.remains.decrements.fits; places = λ k h. absurd (omega (arith, h, waiting)) };
+      marks = is.remains.marks;
       lines = out_still t u m.state.graph at m.made stay.outs b.lines;
       unchosen = unchosen_still t u at m.made stay.states b.unchosen;
-      blocks = subst (λ l. HasBlocks u l.blocks m.trace) (sym limits) (blocks_still t u s.limits.blocks m.trace stay.states (stay.keeps.cursors TRACING_WORD (λ e. omega arith)) b.blocks);
+      blocks = subst (λ l. HasBlocks u l.blocks m.trace) (sym limits) (blocks_still t u s.limits.blocks m.trace stay.states (stay.keeps.cursors TRACING_WORD (λ e. omega arith) (λ e. omega arith)) b.blocks);
       rest = rest_left s after m at vs within (ap (λ z. z.rest_next) same) (ap (λ z. z.rest_end) same) limits stay.outs stay.states b.rest;
       no_work = is.work;
     }
@@ -230,17 +227,20 @@ without_reversed us gone =
     let same : (λ (n : Name). not (has gone n)) ≡ λ n. not (has (reverse gone) n) = λ i n. not (sym (has_reversed gone n) i) in
     ap (λ f. filter f us) same
 
-pub finishes : (s after : Space) (m : Moment) (at : Name → ℕ) (gone : List Name) → CanFinish s m at → IsFinished after (last_stage s m at gone) → Leaves s after → Finishes s after m at (reverse gone)
-finishes s after m at gone can fin leaves =
+pub finishes : (s after : Space) (m : Moment) (at : Name → ℕ) (gone : List Name) (passed : ℕ) → CanFinish s m at → IsFinished after (last_stage s m at gone passed) → Leaves s after → Finishes s after m at (reverse gone)
+finishes s after m at gone passed can fin leaves =
     let left = without_reversed m.unreclaimed gone in
     record {
       dead = λ n. let e = has_reversed gone n in (λ h. (fin.gone n).0 (sym e ∙ h), λ d. e ∙ (fin.gone n).1 d);
-      once = fin.stage.cascade.once;
-      holds = subst (λ z. HoldsMoment after (leaving m z) at) left (holds_left s after m at gone can fin leaves);
-      undecremented = subst (λ z. IsUndecremented (tables_of after) (leaving m z) at) left (undecremented_left s after m at gone fin);
-      empty = fin.waiting;
+      once = fin.emptied.opening.stage.cascade.remains.once;
+      holds = subst (λ z. HoldsMoment after (leaving m z) at) left (holds_left s after m at gone passed can fin leaves);
+      undecremented = subst (λ z. IsUndecremented (tables_of after) (leaving m z) at) left (undecremented_left s after m at gone passed fin);
+      empty = fin.emptied.waiting;
       keeps = leaves.tables.keeps;
+      marks = loses_same (tables_of s).marks (tables_of after).marks at gone (reverse gone) (has_reversed gone) fin.emptied.opening.stage.cascade.remains.lost_marks;
+      grays = loses_same (tables_of s).grays (tables_of after).grays at gone (reverse gone) (has_reversed gone) fin.emptied.opening.stage.cascade.remains.lost_grays;
+      decs = leaves.tables.decs;
       states = leaves.tables.states;
       outs = leaves.tables.outs;
-      space = done_space s after m at gone can fin leaves;
+      space = done_space s after m at gone passed can fin leaves;
     }

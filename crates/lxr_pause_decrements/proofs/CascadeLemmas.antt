@@ -1,5 +1,5 @@
 -- One lowering on the tables is one lowering of the names.
-use Rattle.std.proofs.Common.{◌≡◌, ◌≢◌, ℕ, ◌+◌, ◌-◌, ◌*◌, ◌<◌, ◌≤◌, refl, sym, ap, subst, ◌∙◌, inl, inr, ◌⊎◌, arith, Bool, true, false, cond, List, [], ◌∷◌, ◌++◌, IsTrue, length, length-append, nat_eq}
+use Rattle.std.proofs.Common.{◌≡◌, ◌≢◌, ℕ, ◌+◌, ◌-◌, ◌*◌, ◌/◌, ◌<◌, ◌≤◌, refl, sym, ap, subst, ◌∙◌, inl, inr, ◌⊎◌, arith, Bool, true, false, cond, List, [], ◌∷◌, ◌++◌, IsTrue, length, length-append, nat_eq}
 use Rattle.std.specs.Prelude.{◌||◌, map, reverse, Some}
 use Rattle.std.proofs.lemmas.List.{reverse-append}
 use Rattle.std.proofs.lemmas.Bool.{or_cases, or_left, or_right}
@@ -8,6 +8,7 @@ use Rattle.lxr_layout.specs.declared.Name.{Name}
 use Rattle.lxr_layout.specs.declared.Place.{Place}
 use Rattle.lxr_layout.specs.declared.limits.Limits.{Limits}
 use Rattle.lxr_layout.specs.declared.TheConstants.{GRANULES_IN_BLOCK, STUCK}
+use Rattle.lxr_layout.specs.Objects.{word_count}
 use Rattle.lxr_layout.specs.Places.{first_word}
 use Rattle.lxr_base.specs.Roomy.{Roomy, pushed}
 use Rattle.lxr_graph.specs.Names.{has, same_name, without}
@@ -21,9 +22,9 @@ use Rattle.lxr_image.specs.Image.{granules_of}
 use Rattle.lxr_model.specs.Moments.{Moment}
 use Rattle.lxr_model.specs.References.{occurrences, references_from}
 use Rattle.lxr_model_counting.specs.Distinct.{IsDistinct}
-use Rattle.lxr_model_counting.specs.Lowering.{TakenFrom, LoweredAt}
+use Rattle.lxr_model_counting.specs.Lowering.{IsLowered, LoweredAt, TakenFrom}
 use Rattle.lxr_model_counting.proofs.DistinctLemmas.{tested, or_false}
-use Rattle.lxr_model_counting.proofs.LoweringLemmas.{once_same, once_other, stays, stuck_stays, dies, gone_members}
+use Rattle.lxr_model_counting.proofs.LoweringLemmas.{drops, lowered_still, lowers, once_other, once_same, stuck_stays}
 use Rattle.lxr_invariant.specs.Counting.{count_at}
 use Rattle.lxr_invariant.specs.Lines.{HasMarks, IsMarkOf, line_behind, next_line}
 use Rattle.lxr_invariant.specs.Standing.{HasBits, IsUnwritten, place_of, word_of_field}
@@ -31,8 +32,8 @@ use Rattle.lxr_invariant.proofs.NameLemmas.{distinct_more, has_more}
 use Rattle.lxr_invariant.proofs.EntryLemmas.{changed_here, changed_other, passing_cleared, unlike_number}
 use Rattle.lxr_invariant.proofs.PlaceLemmas.{line_mark, mark_line, same_object}
 use Rattle.lxr_invariant.proofs.FrameLemmas.{bits_still}
-use Rattle.lxr_pause_decrements.specs.Cascade.{CascadeStage, Ground, Cascade, without_object, kept, waits, later}
-use Rattle.lxr_pause_decrements.proofs.WipeLemmas.{wiped_in, wiped_out, wipe_cases, cleared_in, cleared_out, range_cases}
+use Rattle.lxr_pause_decrements.specs.Cascade.{Cascade, CascadeStage, Ground, IsHeader, Remains, come_to, kept, later, waits, without_object}
+use Rattle.lxr_pause_decrements.proofs.WipeLemmas.{cleared_in, cleared_out, loses_more, range_cases, wipe_cases, wiped_in, wiped_out}
 
 -- ---- places
 
@@ -56,6 +57,13 @@ pub written_same : {A : Type 0} (at : Name → ℕ) (f : ℕ → A) (v : A) (o r
 written_same at f v o r e =
     let k : granule_of (at o) ≡ granule_of (at r) = ap (λ z. granule_of (at z)) (same_names o r e) in
     ap (λ z. changed f (granule_of (at r)) v z) k ∙ changed_here f (granule_of (at r)) v (granule_of (at r)) refl
+
+-- an entry written with what it was
+rewritten : {A : Type 0} (f : ℕ → A) (g : ℕ) (v : A) → v ≡ f g → (k : ℕ) → changed f g v k ≡ f k
+rewritten f g v is k = elim (eqb_tells k g) [
+  | inl q ↦ ap (λ b. cond b v (f k)) q.0 ∙ is ∙ ap f (sym q.1)
+  | inr q ↦ ap (λ b. cond b v (f k)) q.0
+]
 
 -- ---- lists
 
@@ -121,6 +129,39 @@ lowered_at heap blocks m at ground t v r in_r is o in_o = elim (tested (same_nam
       omega (arith, a, n)
 ]
 
+-- what stands at the place of an unreclaimed name: its header, and all its granules in the heap
+pub record IsPlaced (u : Tables) (blocks : ℕ) (r : Name) (o : Object) (p : ℕ) : Type 0 where
+  pub place : (1 ≤ p) × (granule_of p < GRANULES_IN_BLOCK * blocks)
+  pub header : IsHeader u p r (shape_of o)
+  pub fits : p - 1 + word_count (shape_of o) / 2 ≤ GRANULES_IN_BLOCK * blocks
+
+pub placed : (heap : ℕ → ℕ) (blocks : ℕ) (m : Moment) (at : Name → ℕ) → (ground : Ground heap blocks m at) → (u : Tables) → u.heap ≡ heap → (r : Name) → (in_r : IsTrue (has m.unreclaimed r))
+    → (p : ℕ) → p ≡ at r → IsPlaced u blocks r (ground.stands r in_r).0 p
+placed heap blocks m at ground u same r in_r p stands =
+    let a = ground.stands r in_r in
+    let h = in_heap heap blocks m at ground r in_r in
+    let f = a.2.fits in
+    record {
+      place = (omega (arith, stands, h.0), omega (arith, stands, h.1));
+      header = record { name = a.2.name; fits = a.2.shape; header = ap (λ k. k (first_word p)) same ∙ ap (λ z. heap (first_word z)) stands ∙ a.2.header };
+      fits = omega (arith, f, stands);
+    }
+
+-- the unreclaimed name whose object begins at a granule
+pub record BeginsAt (m : Moment) (at : Name → ℕ) (gone : List Name) (k : ℕ) (r : Name) : Type 0 where
+  pub member : IsTrue (has m.unreclaimed r)
+  pub left : has gone r ≡ false
+  pub place : k + 1 ≡ at r
+  pub granule : granule_of (at r) ≡ k
+
+pub started : (l : Limits) (t : Tables) (d : Roomy Name) (st : CascadeStage) (granule : ℕ) → Remains l t d st → IsTrue (t.starts granule) → (r : Name) × BeginsAt st.moment st.at st.gone granule r
+started l t d st granule is start =
+    let x = is.bits.starts.only granule start in
+    let a = without_parts st.moment.unreclaimed st.gone x.0 x.1 in
+    let h = in_heap t.heap l.blocks st.moment st.at is.ground x.0 a.0 in
+    let e = x.2 in
+    (x.0, record { member = a.0; left = a.1; place = omega (arith, e, h.0); granule = e })
+
 -- the waiting names without r
 taken_out : (t : Tables) (st : CascadeStage) (r : Name) (rest : Name → ℕ) → TakenFrom st.extra r rest → TakenFrom (waits t st) r (waits t (later st st.gone st.work rest))
 taken_out t st r rest taken o = let e = taken o in omega (arith, e)
@@ -129,7 +170,7 @@ taken_out t st r rest taken o = let e = taken o in omega (arith, e)
 pub counted : (l : Limits) (t : Tables) (w : Roomy Place) (d : Roomy Name) (st : CascadeStage) (r : Name) (rest : Name → ℕ) → Cascade l t w d st → IsTrue (has st.moment.unreclaimed r)
     → TakenFrom st.extra r rest → 1 ≤ count_at t st.at r
 counted l t w d st r rest is in_r taken = elim (tested (has st.moment.stuck r)) [
-  | inl k ↦ let e = is.stuck r in_r k in omega (arith, e)
+  | inl k ↦ let e = is.remains.stuck r in_r k in omega (arith, e)
   | inr k ↦ let e = is.lowered.exact r in_r k in let t = taken r in let n = once_same r r (same_itself r) in omega (arith, e, t, n)
 ]
 
@@ -185,6 +226,23 @@ marks_other heap blocks m at ground t v r gone in_r left_r is = record {
   elsewhere = λ g nobody nothing. changed_other t.counts (granule_of (at r)) v g (λ e. nobody r left_r (sym e)) ∙ is.elsewhere g nobody nothing;
 }
 
+-- what is left, at another stage at which the same names are gone
+pub remains_still : (l : Limits) (t : Tables) (d : Roomy Name) (st : CascadeStage) (work : List Name) (extra : Name → ℕ) (passed : ℕ) → Remains l t d st
+    → Remains l t d (come_to (later st st.gone work extra) passed)
+remains_still l t d st work extra passed is = record {
+  ground = is.ground;
+  stuck = is.stuck;
+  below = is.below;
+  bits = is.bits;
+  marks = is.marks;
+  lost_marks = is.lost_marks;
+  lost_grays = is.lost_grays;
+  decrements = is.decrements;
+  once = is.once;
+  reported = is.reported;
+  dead_room = is.dead_room;
+}
+
 -- a count that stays above zero
 pub sinks : (l : Limits) (t : Tables) (w : Roomy Place) (d : Roomy Name) (st : CascadeStage) (r : Name) (rest : Name → ℕ) (v : ℕ) → Cascade l t w d st → IsTrue (has st.moment.unreclaimed r)
     → TakenFrom st.extra r rest → has st.moment.stuck r ≡ false → 2 ≤ count_at t st.at r → v ≡ count_at t st.at r - 1
@@ -192,29 +250,36 @@ pub sinks : (l : Limits) (t : Tables) (w : Roomy Place) (d : Roomy Name) (st : C
 sinks l t w d st r rest v is in_r taken unstuck two v_is =
     let m : Moment = st.moment in
     let t2 : Tables = record t { counts = changed t.counts (granule_of (st.at r)) v } in
-    let b = is.below r in_r unstuck in
+    let ground = is.remains.ground in
+    let b = is.remains.below r in_r unstuck in
     record {
-      ground = is.ground;
-      lowered = stays m.last m.unreclaimed m.stuck st.gone (count_at t st.at) (waits t st)
-          (count_at t2 st.at) (waits t (later st st.gone st.work rest)) r is.lowered two
-          (taken_out t st r rest taken) (lowered_at t.heap l.blocks m st.at is.ground t v r in_r v_is)
-          (λ o h. (gone_members m.last m.unreclaimed m.stuck st.gone is.lowered.cascade o h).0);
-      stuck = stuck_other t.heap l.blocks m st.at is.ground t v r in_r unstuck is.stuck;
-      below = below_other t.heap l.blocks m st.at is.ground t v r in_r (omega (arith, b, v_is)) is.below;
-      bits = bits_still t t2 m st.at (kept st) refl refl refl refl refl is.bits;
-      marks = marks_other t.heap l.blocks m st.at is.ground t v r st.gone in_r (counted_left l t w d st r is in_r (omega (arith, two))).1 is.marks;
+      remains = record {
+        ground = ground;
+        stuck = stuck_other t.heap l.blocks m st.at ground t v r in_r unstuck is.remains.stuck;
+        below = below_other t.heap l.blocks m st.at ground t v r in_r (omega (arith, b, v_is)) is.remains.below;
+        bits = bits_still t t2 m st.at (kept st) refl refl refl refl refl is.remains.bits;
+        marks = marks_other t.heap l.blocks m st.at ground t v r st.gone in_r (counted_left l t w d st r is in_r (omega (arith, two))).1 is.remains.marks;
+        lost_marks = is.remains.lost_marks;
+        lost_grays = is.remains.lost_grays;
+        decrements = record { fits = is.remains.decrements.fits; places = is.remains.decrements.places };
+        once = is.remains.once;
+        reported = is.remains.reported;
+        dead_room = is.remains.dead_room;
+      };
+      lowered = lowers m.last m.unreclaimed m.stuck st.gone (count_at t st.at) (waits t st)
+          (count_at t2 st.at) (waits t (later st st.gone st.work rest)) r is.lowered (omega (arith, two))
+          (taken_out t st r rest taken) (lowered_at t.heap l.blocks m st.at ground t v r in_r v_is);
+      passed = λ n in_n loose before none. elim (tested (same_name n r)) [
+        | inl k ↦ let here = written_same st.at t.counts v n r k in absurd (omega (arith, here, none, two, v_is))
+        | inr k ↦ is.passed n in_n loose before (sym (written_other t.heap l.blocks m st.at ground t.counts v n r in_n in_r k) ∙ none)
+      ];
       none_done = is.none_done;
-      none_drawn = is.none_drawn;
-      decrements = record { fits = is.decrements.fits; places = is.decrements.places };
-      once = is.once;
       work = is.work;
       work_gone = is.work_gone;
-      reported = is.reported;
       work_room = is.work_room;
-      dead_room = is.dead_room;
     }
 
--- ---- the last count goes
+-- ---- an object goes
 
 -- a member's references are outside the words of another's
 logs_apart : (heap : ℕ → ℕ) (blocks : ℕ) (m : Moment) (at : Name → ℕ) → Ground heap blocks m at → (n r : Name) (q : Object) (i : ℕ) → IsTrue (has m.unreclaimed n) → IsTrue (has m.unreclaimed r)
@@ -336,74 +401,125 @@ marks_fall heap blocks m at ground t r gone ro in_r has_ro is =
       ];
     }
 
--- the last count goes
-pub falls : (l : Limits) (t : Tables) (w : Roomy Place) (d : Roomy Name) (st : CascadeStage) (r : Name) (rest : Name → ℕ) (ro : Object) → Cascade l t w d st → IsTrue (has st.moment.unreclaimed r)
-    → TakenFrom st.extra r rest → has st.moment.stuck r ≡ false → count_at t st.at r ≡ 1 → object_at st.moment.state.graph r ≡ Some ro
-    → Cascade l (bare t st.at r ro) (pushed w (place_of st.at r)) (pushed d r) (later st (r ∷ st.gone) (st.work ++ r ∷ []) rest)
-falls l t w d st r rest ro is in_r taken unstuck one has_ro =
+-- the counts of what was unreclaimed stay but for r's
+count_bare : (heap : ℕ → ℕ) (blocks : ℕ) (m : Moment) (at : Name → ℕ) → Ground heap blocks m at → (t : Tables) (r : Name) (ro : Object) → IsTrue (has m.unreclaimed r)
+    → object_at m.state.graph r ≡ Some ro → (n : Name) → IsTrue (has m.unreclaimed n) → count_at (bare t at r ro) at n ≡ changed t.counts (granule_of (at r)) 0 (granule_of (at n))
+count_bare heap blocks m at ground t r ro in_r has_ro n in_n =
+    let g : ℕ = granule_of (at r) in
+    wiped_out (changed t.counts g 0) (next_line g) (line_behind g (granules_of ro)) (granule_of (at n))
+    (λ k. mark_apart heap blocks m at ground r n ro (granule_of (at n)) in_r in_n has_ro (line_mark at r ro (granule_of (at n)) k) refl)
+
+-- where it had none, they all stay
+pub count_stays : (heap : ℕ → ℕ) (blocks : ℕ) (m : Moment) (at : Name → ℕ) → Ground heap blocks m at → (t : Tables) (r : Name) (ro : Object) → IsTrue (has m.unreclaimed r)
+    → object_at m.state.graph r ≡ Some ro → count_at t at r ≡ 0 → (n : Name) → IsTrue (has m.unreclaimed n) → count_at (bare t at r ro) at n ≡ count_at t at n
+count_stays heap blocks m at ground t r ro in_r has_ro none n in_n =
+    count_bare heap blocks m at ground t r ro in_r has_ro n in_n ∙ rewritten t.counts (granule_of (at r)) 0 (sym none) (granule_of (at n))
+
+-- and its own is cleared already
+pub bare_uncounted : (t : Tables) (at : Name → ℕ) (r : Name) (o : Object) → count_at t at r ≡ 0 → without_object t (at r) (shape_of o) ≡ bare t at r o
+bare_uncounted t at r o none =
+    let same : t.counts ≡ changed t.counts (granule_of (at r)) 0 = λ i k. sym (rewritten t.counts (granule_of (at r)) 0 (sym none) k) i in
+    ap (λ z. without_object (record t { counts = z }) (at r) (shape_of o)) same
+
+-- r goes: what is left without it
+pub remains_fall : (l : Limits) (t : Tables) (d : Roomy Name) (st : CascadeStage) (r : Name) (work : List Name) (extra : Name → ℕ) (ro : Object) → Remains l t d st
+    → IsTrue (has st.moment.unreclaimed r) → has st.gone r ≡ false → has st.moment.stuck r ≡ false → t.dones (granule_of (st.at r)) ≡ false → object_at st.moment.state.graph r ≡ Some ro
+    → Remains l (bare t st.at r ro) (pushed d r) (later st (r ∷ st.gone) work extra)
+remains_fall l t d st r work extra ro is in_r not_gone unstuck not_done has_ro =
     let m : Moment = st.moment in
     let g : ℕ = granule_of (st.at r) in
-    let a : ℕ = next_line g in
-    let b : ℕ = line_behind g (granules_of ro) in
-    let lows : ℕ → ℕ = changed t.counts g 0 in
-    let t2 : Tables = bare t st.at r ro in
+    let left_r : IsTrue (has (kept st) r) = in_without m.unreclaimed st.gone r in_r (λ k. not_both (has st.gone r) k not_gone) in
     let within = in_heap t.heap l.blocks m st.at is.ground r in_r in
-    let left_r = counted_left l t w d st r is in_r (omega (arith, one)) in
-    let fewer = passing_cleared t.starts g (GRANULES_IN_BLOCK * l.blocks) (is.bits.starts.each r left_r.1) within.1 in
-    let unwiped : (n : Name) → IsTrue (has m.unreclaimed n) → count_at t2 st.at n ≡ lows (granule_of (st.at n)) =
-    λ n in_n. wiped_out lows a b (granule_of (st.at n)) (λ k. mark_apart t.heap l.blocks m st.at is.ground r n ro (granule_of (st.at n)) in_r in_n has_ro (line_mark st.at r ro (granule_of (st.at n)) k) refl) in
+    let fewer = passing_cleared t.starts g (GRANULES_IN_BLOCK * l.blocks) (is.bits.starts.each r left_r) within.1 in
+    let unwiped = count_bare t.heap l.blocks m st.at is.ground t r ro in_r has_ro in
     record {
       ground = is.ground;
-      lowered = dies m.last m.unreclaimed m.stuck st.gone (count_at t st.at) (waits t st)
-          (count_at t2 st.at) (waits t (later st st.gone st.work rest)) (waits t (later st (r ∷ st.gone) (st.work ++ r ∷ []) rest)) r
-          is.lowered is.ground.distinct in_r unstuck one (taken_out t st r rest taken)
-          (λ o in_o. unwiped o in_o ∙ lowered_at t.heap l.blocks m st.at is.ground t 0 r in_r (omega (arith, one)) o in_o)
-          (λ o. let e = refs_more m.last.graph st.work r o in omega (arith, e));
       stuck = λ n in_n k. unwiped n in_n ∙ stuck_other t.heap l.blocks m st.at is.ground t 0 r in_r unstuck is.stuck n in_n k;
       below = λ n in_n k. let e = unwiped n in_n in let z = below_other t.heap l.blocks m st.at is.ground t 0 r in_r (omega arith) is.below n in_n k in omega (arith, e, z);
-      bits = bits_fall t.heap l.blocks m st.at is.ground t r st.gone ro in_r has_ro (is.none_done g) is.bits;
+      bits = bits_fall t.heap l.blocks m st.at is.ground t r st.gone ro in_r has_ro not_done is.bits;
       marks = marks_fall t.heap l.blocks m st.at is.ground t r st.gone ro in_r has_ro is.marks;
-      none_done = is.none_done;
-      none_drawn = is.none_drawn;
+      lost_marks = loses_more st.was.marks t.marks st.at st.gone r is.lost_marks;
+      lost_grays = loses_more st.was.grays t.grays st.at st.gone r is.lost_grays;
       decrements = record { fits = is.decrements.fits; places = is.decrements.places };
-      once = subst IsDistinct (sym (reverse-append (r ∷ []) st.gone)) (distinct_more (reverse st.gone) r is.once (has_reversed st.gone r ∙ left_r.0));
+      once = subst IsDistinct (sym (reverse-append (r ∷ []) st.gone)) (distinct_more (reverse st.gone) r is.once (has_reversed st.gone r ∙ not_gone));
+      reported = ap (λ xs. xs ++ r ∷ []) is.reported ∙ sym (append_group st.before (reverse st.gone) (r ∷ [])) ∙ ap (λ z. st.before ++ z) (sym (reverse-append (r ∷ []) st.gone));
+      dead_room = let k = is.dead_room in let z = length-append d.items (r ∷ []) in omega (arith, k, z, fewer);
+    }
+
+-- r goes and waits in the worklist, where its count is lowered already
+goes : (l : Limits) (t : Tables) (w : Roomy Place) (d : Roomy Name) (st : CascadeStage) (r : Name) (rest : Name → ℕ) (ro : Object) (passed : ℕ) → Cascade l t w d st
+    → IsTrue (has st.moment.unreclaimed r) → has st.gone r ≡ false → has st.moment.stuck r ≡ false → object_at st.moment.state.graph r ≡ Some ro
+    → IsLowered st.moment.last st.moment.unreclaimed st.moment.stuck st.gone (count_at (bare t st.at r ro) st.at) (waits t (later st st.gone st.work rest))
+    → ((n : Name) → IsTrue (has st.moment.unreclaimed n) → same_name n r ≡ false → granule_of (st.at n) < passed → granule_of (st.at n) < st.passed)
+    → Cascade l (bare t st.at r ro) (pushed w (place_of st.at r)) (pushed d r) (come_to (later st (r ∷ st.gone) (st.work ++ r ∷ []) rest) passed)
+goes l t w d st r rest ro passed is in_r not_gone unstuck has_ro lowered before =
+    let m : Moment = st.moment in
+    let g : ℕ = granule_of (st.at r) in
+    let ground = is.remains.ground in
+    let t2 : Tables = bare t st.at r ro in
+    let within = in_heap t.heap l.blocks m st.at ground r in_r in
+    let left_r : IsTrue (has (kept st) r) = in_without m.unreclaimed st.gone r in_r (λ k. not_both (has st.gone r) k not_gone) in
+    let fewer = passing_cleared t.starts g (GRANULES_IN_BLOCK * l.blocks) (is.remains.bits.starts.each r left_r) within.1 in
+    let unwiped = count_bare t.heap l.blocks m st.at ground t r ro in_r has_ro in
+    let cleared_r : count_at t2 st.at r ≡ 0 = unwiped r in_r ∙ written_same st.at t.counts 0 r r (same_itself r) in
+    record {
+      remains = remains_still l t2 (pushed d r) (later st (r ∷ st.gone) (st.work ++ r ∷ []) rest) (st.work ++ r ∷ []) rest passed
+          (remains_fall l t d st r (st.work ++ r ∷ []) rest ro is.remains in_r not_gone unstuck (is.none_done g) has_ro);
+      lowered = drops m.last m.unreclaimed m.stuck st.gone (count_at t2 st.at) (waits t (later st st.gone st.work rest)) (waits t (later st (r ∷ st.gone) (st.work ++ r ∷ []) rest)) r
+          lowered ground.distinct in_r unstuck not_gone cleared_r (λ o. let e = refs_more m.last.graph st.work r o in omega (arith, e));
+      passed = λ n in_n loose below none. elim (tested (same_name n r)) [
+        | inl k ↦ or_left (same_name n r) (has st.gone n) k
+        | inr k ↦ or_right (same_name n r) (has st.gone n) (is.passed n in_n loose (before n in_n k below)
+            (sym (written_other t.heap l.blocks m st.at ground t.counts 0 n r in_n in_r k) ∙ sym (unwiped n in_n) ∙ none))
+      ];
+      none_done = is.none_done;
       work = ap (λ xs. xs ++ place_of st.at r ∷ []) is.work ∙ sym (places_more st.at st.work r);
       work_gone = λ n h. elim (or_cases (has st.work n) (same_name n r) (sym (has_more st.work r n) ∙ h)) [
         | inl k ↦ or_right (same_name n r) (has st.gone n) (is.work_gone n k)
         | inr k ↦ or_left (same_name n r) (has st.gone n) k
       ];
-      reported = ap (λ xs. xs ++ r ∷ []) is.reported ∙ sym (append_group st.before (reverse st.gone) (r ∷ [])) ∙ ap (λ z. st.before ++ z) (sym (reverse-append (r ∷ []) st.gone));
       work_room = let k = is.work_room in let z = length-append w.items (place_of st.at r ∷ []) in omega (arith, k, z, fewer);
-      dead_room = let k = is.dead_room in let z = length-append d.items (r ∷ []) in omega (arith, k, z, fewer);
     }
 
--- ---- every lowering but the last
+-- the last count goes
+pub falls : (l : Limits) (t : Tables) (w : Roomy Place) (d : Roomy Name) (st : CascadeStage) (r : Name) (rest : Name → ℕ) (ro : Object) → Cascade l t w d st → IsTrue (has st.moment.unreclaimed r)
+    → TakenFrom st.extra r rest → has st.moment.stuck r ≡ false → count_at t st.at r ≡ 1 → object_at st.moment.state.graph r ≡ Some ro
+    → Cascade l (bare t st.at r ro) (pushed w (place_of st.at r)) (pushed d r) (come_to (later st (r ∷ st.gone) (st.work ++ r ∷ []) rest) st.passed)
+falls l t w d st r rest ro is in_r taken unstuck one has_ro =
+    let m : Moment = st.moment in
+    let ground = is.remains.ground in
+    let not_gone = (counted_left l t w d st r is in_r (omega (arith, one))).0 in
+    goes l t w d st r rest ro st.passed is in_r not_gone unstuck has_ro
+    (lowers m.last m.unreclaimed m.stuck st.gone (count_at t st.at) (waits t st) (count_at (bare t st.at r ro) st.at) (waits t (later st st.gone st.work rest)) r is.lowered (omega (arith, one))
+    (taken_out t st r rest taken)
+    (λ o in_o. count_bare t.heap l.blocks m st.at ground t r ro in_r has_ro o in_o ∙ lowered_at t.heap l.blocks m st.at ground t 0 r in_r (omega (arith, one)) o in_o))
+    (λ n in_n other below. below)
 
--- an entry written with what it was
-rewritten : {A : Type 0} (f : ℕ → A) (g : ℕ) (v : A) → v ≡ f g → (k : ℕ) → changed f g v k ≡ f k
-rewritten f g v is k = elim (eqb_tells k g) [
-  | inl q ↦ ap (λ b. cond b v (f k)) q.0 ∙ is ∙ ap f (sym q.1)
-  | inr q ↦ ap (λ b. cond b v (f k)) q.0
-]
+-- an object without a count goes, at the granule that a pass has come to
+pub dropped : (l : Limits) (t : Tables) (w : Roomy Place) (d : Roomy Name) (st : CascadeStage) (r : Name) (ro : Object) → Cascade l t w d st → IsTrue (has st.moment.unreclaimed r)
+    → has st.gone r ≡ false → count_at t st.at r ≡ 0 → st.passed ≡ granule_of (st.at r) → object_at st.moment.state.graph r ≡ Some ro
+    → Cascade l (bare t st.at r ro) (pushed w (place_of st.at r)) (pushed d r) (come_to (later st (r ∷ st.gone) (st.work ++ r ∷ []) st.extra) (granule_of (st.at r) + 1))
+dropped l t w d st r ro is in_r not_gone none come has_ro =
+    let m : Moment = st.moment in
+    let ground = is.remains.ground in
+    let unstuck : has m.stuck r ≡ false = elim (tested (has m.stuck r)) [ inl k ↦ absurd (let e = is.remains.stuck r in_r k in omega (arith, e, none)) | inr k ↦ k ] in
+    goes l t w d st r st.extra ro (granule_of (st.at r) + 1) is in_r not_gone unstuck has_ro
+    (lowered_still m.last m.unreclaimed m.stuck st.gone (count_at t st.at) (count_at (bare t st.at r ro) st.at) (waits t st) (waits t (later st st.gone st.work st.extra))
+    (count_stays t.heap l.blocks m st.at ground t r ro in_r has_ro none) (λ o in_o. refl) is.lowered)
+    (λ n in_n other below. let apart = granules_differ t.heap l.blocks m st.at ground n r in_n in_r other in omega (arith, below, apart, come))
+
+-- ---- every lowering but the last
 
 is_stuck : (l : Limits) (t : Tables) (w : Roomy Place) (d : Roomy Name) (st : CascadeStage) (r : Name) (rest : Name → ℕ) → Cascade l t w d st → TakenFrom st.extra r rest
     → IsTrue (has st.moment.stuck r) → Cascade l t w d (later st st.gone st.work rest)
 is_stuck l t w d st r rest is taken stuck_r = record {
-  ground = is.ground;
+  remains = remains_still l t d st st.work rest st.passed is.remains;
   lowered = stuck_stays st.moment.last st.moment.unreclaimed st.moment.stuck st.gone (count_at t st.at) (waits t st) (waits t (later st st.gone st.work rest)) r is.lowered stuck_r (taken_out t st r rest taken);
-  stuck = is.stuck;
-  below = is.below;
-  bits = is.bits;
-  marks = is.marks;
+  passed = is.passed;
   none_done = is.none_done;
-  none_drawn = is.none_drawn;
-  decrements = is.decrements;
-  once = is.once;
   work = is.work;
   work_gone = is.work_gone;
-  reported = is.reported;
   work_room = is.work_room;
-  dead_room = is.dead_room;
 }
 
 -- what an answer tells of the count
@@ -427,12 +543,12 @@ pub goes_on : (l : Limits) (t : Tables) (w : Roomy Place) (d : Roomy Name) (st :
     → Cascade l (record t { counts = changed t.counts (granule_of (st.at r)) (lowered_count (count_at t st.at r)) }) w d (later st st.gone st.work rest)
 goes_on l t w d st r rest is in_r taken more = elim (tested (has st.moment.stuck r)) [
   | inl k ↦
-      let e : lowered_count (count_at t st.at r) ≡ count_at t st.at r = ap lowered_count (is.stuck r in_r k) ∙ sym (is.stuck r in_r k) in
+      let e : lowered_count (count_at t st.at r) ≡ count_at t st.at r = ap lowered_count (is.remains.stuck r in_r k) ∙ sym (is.remains.stuck r in_r k) in
       let same : changed t.counts (granule_of (st.at r)) (lowered_count (count_at t st.at r)) ≡ t.counts = λ i z. rewritten t.counts (granule_of (st.at r)) (lowered_count (count_at t st.at r)) e z i in
       subst (λ z. Cascade l (record t { counts = z }) w d (later st st.gone st.work rest)) (sym same) (is_stuck l t w d st r rest is taken k)
   | inr k ↦
       let c = counted l t w d st r rest is in_r taken in
-      let b = is.below r in_r k in
+      let b = is.remains.below r in_r k in
       let n = not_zero_means (count_at t st.at r) more in
       sinks l t w d st r rest (lowered_count (count_at t st.at r)) is in_r taken k (omega (arith, c, n)) (to_less (count_at t st.at r) b)
 ]
@@ -440,7 +556,7 @@ goes_on l t w d st r rest is in_r taken more = elim (tested (has st.moment.stuck
 -- a name of which the last count goes isn't stuck
 pub last_unstuck : (l : Limits) (t : Tables) (w : Roomy Place) (d : Roomy Name) (st : CascadeStage) (r : Name) → Cascade l t w d st → IsTrue (has st.moment.unreclaimed r) → count_at t st.at r ≡ 1
     → has st.moment.stuck r ≡ false
-last_unstuck l t w d st r is in_r one = elim (tested (has st.moment.stuck r)) [ inl k ↦ absurd (let e = is.stuck r in_r k in omega (arith, e, one)) | inr k ↦ k ]
+last_unstuck l t w d st r is in_r one = elim (tested (has st.moment.stuck r)) [ inl k ↦ absurd (let e = is.remains.stuck r in_r k in omega (arith, e, one)) | inr k ↦ k ]
 
 pub same_parts : (l m : Limits) (t u : Tables) (w x : Roomy Place) (d e : Roomy Name) (st : CascadeStage) → m ≡ l → u ≡ t → x ≡ w → e ≡ d → Cascade l t w d st → Cascade m u x e st
 same_parts l m t u w x d e st a b c f is =

@@ -1,15 +1,15 @@
 -- The loops of the decrements: references of one object, the worklist, the list.
-use Rattle.std.proofs.Common.{◌≡◌, ◌≢◌, ℕ, zero, suc, ◌+◌, ◌-◌, ◌*◌, ◌<◌, ◌≤◌, refl, sym, ap, subst, ◌∙◌, inl, inr, ◌^◌, arith, Bool, cond, List, [], ◌∷◌, ◌++◌, IsTrue, length, length-append, nat_eq, nat_le, true}
+use Rattle.std.proofs.Common.{◌≡◌, ◌≢◌, ℕ, zero, suc, ◌+◌, ◌-◌, ◌*◌, ◌<◌, ◌≤◌, refl, sym, ap, subst, ◌∙◌, inl, inr, ◌^◌, arith, Bool, cond, List, [], ◌∷◌, ◌++◌, IsTrue, length, length-append, nat_eq, nat_le, false, true}
 use Rattle.std.specs.Prelude.{◌&&◌, Option, Some, None, slice_get}
 use Rattle.std.proofs.lemmas.Bool.{or_left, or_right}
+use Rattle.std.proofs.lemmas.Bool.Decides.{nat_tests}
 use Rattle.lxr_layout.specs.declared.TheConstants.{DECREMENT_COUNT, DECREMENT_CURSOR, GRANULES_IN_BLOCK, WORDS_IN_BLOCK}
 use Rattle.lxr_layout.specs.declared.Name.{Name}
 use Rattle.lxr_layout.specs.declared.Place.{Place}
 use Rattle.lxr_layout.specs.declared.Shape.{Shape}
-use Rattle.lxr_layout.specs.Spaces.{AreLimits, region_begin}
 use Rattle.lxr_base.specs.Roomy.{pushed}
 use Rattle.lxr_graph.specs.Names.{has, same_name}
-use Rattle.lxr_graph.specs.State.{State, shape_of}
+use Rattle.lxr_graph.specs.State.{shape_of}
 use Rattle.lxr_graph.proofs.NameSets.{same_itself, same_names}
 use Rattle.lxr_image.specs.declared.space.Space.{Space}
 use Rattle.lxr_image.specs.Tables.{Tables, changed}
@@ -20,19 +20,19 @@ use Rattle.lxr_image.proofs.SpaceLemmas.{same_limits, still_space}
 use Rattle.lxr_model.specs.Dead.{Dead}
 use Rattle.lxr_model.specs.Moments.{Moment}
 use Rattle.lxr_model.specs.References.{occurrences, references_from}
-use Rattle.lxr_model_counting.specs.Lowering.{IsLowered, once}
+use Rattle.lxr_model.proofs.ReachableLemmas.{dead_parts}
+use Rattle.lxr_model_counting.specs.Lowering.{once}
 use Rattle.lxr_model_counting.proofs.DistinctLemmas.{tested}
-use Rattle.lxr_model_counting.proofs.LoweringLemmas.{gone_members, once_other, once_same, over}
-use Rattle.lxr_model_counting.proofs.DeathLemmas.{cascade_dead}
+use Rattle.lxr_model_counting.proofs.LoweringLemmas.{lowered_still, once_other, once_same}
 use Rattle.lxr_invariant.specs.Counting.{count_at, entries_between, occurrences_from, passing, waiting_at}
 use Rattle.lxr_invariant.specs.Standing.{place_of}
 use Rattle.lxr_invariant.proofs.NameLemmas.{has_more, map_empty, occurrences_end, occurrences_step, split_last}
 use Rattle.lxr_invariant.proofs.EntryLemmas.{changed_here, changed_other, same_number, unlike_number}
 use Rattle.lxr_invariant.proofs.FrameLemmas.{bits_still, marks_still}
 use Rattle.lxr_invariant.proofs.KeepingLemmas.{keeps_same}
-use Rattle.lxr_pause_decrements.specs.Cascade.{CascadeStage, Cascade, IsAt, Waiting, Reaches, Releasing, FieldWaits, Drains, IsOpening, IsFinished, IsHeader, Leaves, held_by, kept, later, to_do, waits, with_lists}
-use Rattle.lxr_pause_decrements.proofs.CascadeLemmas.{granules_differ, in_heap, refs_more, same_parts}
-use Rattle.lxr_pause_decrements.proofs.SpaceLemmas.{leaves_by, turned_leaves}
+use Rattle.lxr_pause_decrements.specs.Cascade.{Cascade, CascadeStage, Drains, FieldWaits, IsAt, IsEmptied, IsHeader, IsOpening, Leaves, Reaches, Releasing, Waiting, held_by, kept, later, to_do, waits, with_lists}
+use Rattle.lxr_pause_decrements.proofs.CascadeLemmas.{granules_differ, in_heap, refs_more, remains_still, same_parts}
+use Rattle.lxr_pause_decrements.proofs.SpaceLemmas.{leaves_by, limits_space, turned_leaves}
 
 -- ---- references from a number on
 
@@ -51,12 +51,12 @@ extra_same s st f g e (gone, work, at) = let same : f ≡ g = λ i o. e o i in (
 released_dead : (s : Space) (p : ℕ) (st : CascadeStage) (r : Name) (rest : Name → ℕ) → Releasing s p st r rest
     → IsTrue (has st.moment.unreclaimed r) × Dead st.moment.last st.moment.unreclaimed st.moment.stuck r
 released_dead s p st r rest re =
-    let c = re.stage.cascade.lowered.cascade in
-    ((gone_members st.moment.last st.moment.unreclaimed st.moment.stuck st.gone c r re.gone).0, cascade_dead st.moment.last st.moment.unreclaimed st.moment.stuck st.gone c r re.gone)
+    let d = re.stage.cascade.lowered.dead r re.gone in
+    ((dead_parts d).member, d)
 
 pub released_place : (s : Space) (p : Place) (st : CascadeStage) (r : Name) (rest : Name → ℕ) → Releasing s p.0 st r rest → (1 ≤ p.0) × (p.0 ≤ 2 ^ 21) × (p.0 ≤ GRANULES_IN_BLOCK * s.limits.blocks)
 released_place s p st r rest re =
-    let h = in_heap (tables_of s).heap s.limits.blocks st.moment st.at re.stage.cascade.ground r (released_dead s p.0 st r rest re).0 in
+    let h = in_heap (tables_of s).heap s.limits.blocks st.moment st.at re.stage.cascade.remains.ground r (released_dead s p.0 st r rest re).0 in
     let e = re.stands in
     let b = re.stage.space.limits.blocks in
     (omega (arith, e, h.0), omega (arith, e, h.1, h.0, b.1), omega (arith, e, h.1, h.0))
@@ -64,7 +64,7 @@ released_place s p st r rest re =
 pub released_header : (s : Space) (p : Place) (st : CascadeStage) (r : Name) (rest : Name → ℕ) → Releasing s p.0 st r rest
     → (shape : Shape) × IsHeader (tables_of s) p.0 r shape × (shape.refs ≡ length (held_by st r))
 released_header s p st r rest re =
-    let a = re.stage.cascade.ground.stands r (released_dead s p.0 st r rest re).0 in (
+    let a = re.stage.cascade.remains.ground.stands r (released_dead s p.0 st r rest re).0 in (
       shape_of a.0,
       record {
         name = a.2.name;
@@ -78,7 +78,7 @@ released_header s p st r rest re =
 pub field_place : (s : Space) (p : Place) (i : ℕ) (st : CascadeStage) (r : Name) (rest : Name → ℕ) → FieldWaits s p.0 i st r rest
     → (1 ≤ p.0) × (p.0 ≤ 2 ^ 21) × (2 * (p.0 - 1) + 1 + i < WORDS_IN_BLOCK * s.limits.blocks) × (i < 1024)
 field_place s p i st r rest w =
-    let a = w.stage.cascade.ground.stands r w.member in
+    let a = w.stage.cascade.remains.ground.stands r w.member in
     let f = a.2.fits in
     let q = a.2.placed in
     let k = a.2.shape.0 in
@@ -90,7 +90,7 @@ field_place s p i st r rest w =
 
 field_holds : (s : Space) (p : Place) (i : ℕ) (st : CascadeStage) (r : Name) (rest : Name → ℕ) (ref : Option Name) → FieldWaits s p.0 i st r rest
     → slice_get (held_by st r) i ≡ Some ref → (tables_of s).heap (2 * (p.0 - 1) + 1 + i) ≡ place_word st.at ref
-field_holds s p i st r rest ref w e = ap (λ z. (tables_of s).heap (2 * (z - 1) + 1 + i)) w.stands ∙ w.stage.cascade.ground.fields r i ref w.dead e
+field_holds s p i st r rest ref w e = ap (λ z. (tables_of s).heap (2 * (z - 1) + 1 + i)) w.stands ∙ w.stage.cascade.remains.ground.fields r i ref w.dead e
 
 -- a reference that is nil waits for nothing
 nil_step : (s : Space) (p : Place) (i : ℕ) (st : CascadeStage) (r : Name) (rest : Name → ℕ) (ref : Option Name) → slice_get (held_by st r) i ≡ Some ref → FieldWaits s p.0 i st r rest
@@ -98,8 +98,8 @@ nil_step : (s : Space) (p : Place) (i : ℕ) (st : CascadeStage) (r : Name) (res
 nil_step s p i st r rest None e w zero_word =
     extra_same s st st.extra _ (λ o. let k = occurrences_step (held_by st r) i None o e in let x = w.extra o in omega (arith, k, x)) (st.gone, st.work, w.stage)
 nil_step s p i st r rest (Some n) e w zero_word =
-    let member : IsTrue (has st.moment.unreclaimed n) = w.stage.cascade.ground.closed r n w.member (i, e) in
-    let h = (in_heap (tables_of s).heap s.limits.blocks st.moment st.at w.stage.cascade.ground n member).0 in
+    let member : IsTrue (has st.moment.unreclaimed n) = w.stage.cascade.remains.ground.closed r n w.member (i, e) in
+    let h = (in_heap (tables_of s).heap s.limits.blocks st.moment st.at w.stage.cascade.remains.ground n member).0 in
     absurd (omega (arith, h, zero_word))
 
 pub nil_reference : (s : Space) (p : Place) (i word : ℕ) (st : CascadeStage) (r : Name) (rest : Name → ℕ) → FieldWaits s p.0 i st r rest
@@ -116,7 +116,7 @@ held_step s p i word st r rest (Some n) e w some_word is = (
   n,
   record {
     stage = w.stage;
-    member = w.stage.cascade.ground.closed r n w.member (i, e);
+    member = w.stage.cascade.remains.ground.closed r n w.member (i, e);
     stands = is;
     taken = λ o. let k = occurrences_step (held_by st r) i (Some n) o e in let x = w.extra o in omega (arith, k, x);
   },
@@ -144,15 +144,6 @@ ends now i st r rest e reaches = extra_same now st _ rest (λ o. let k = occurre
 
 -- ---- the worklist
 
--- another name for what waits
-repended : (s : State) (us stuck gone : List Name) (count f g : Name → ℕ) → ((o : Name) → IsTrue (has us o) → g o ≡ f o) → IsLowered s us stuck gone count f → IsLowered s us stuck gone count g
-repended s us stuck gone count f g e is = record {
-  cascade = is.cascade;
-  exact = λ o in_us unstuck. let k = is.exact o in_us unstuck in let q = e o in_us in omega (arith, k, q);
-  empty = is.empty;
-  zero = is.zero;
-}
-
 -- the tables of a space of which the worklist changed
 still_tables : (s now : Space) → now ≡ record s { work = now.work } → tables_of now ≡ tables_of s
 still_tables s now rest = ap (λ z. tables_of z) rest
@@ -172,32 +163,21 @@ popped s now p st at work rest =
     let longer : length s.work.items ≡ length now.work.items + 1 = ap length items ∙ length-append now.work.items (p ∷ []) in
     let st2 : CascadeStage = later st st.gone x.0 (λ o. st.extra o + occurrences (held_by st x.1) o) in
     let cascade : Cascade s.limits (tables_of s) now.work s.report.dead st2 = record {
-      ground = is.ground;
-      lowered = repended m.last m.unreclaimed m.stuck st.gone (count_at (tables_of s) st.at) (waits (tables_of s) st) (waits (tables_of s) st2)
+      remains = remains_still s.limits (tables_of s) s.report.dead st x.0 (λ o. st.extra o + occurrences (held_by st x.1) o) st.passed is.remains;
+      lowered = lowered_still m.last m.unreclaimed m.stuck st.gone (count_at (tables_of s) st.at) (count_at (tables_of s) st.at) (waits (tables_of s) st) (waits (tables_of s) st2) (λ o _. refl)
           (λ o _. let k = refs_more m.last.graph x.0 x.1 o in let q : references_from m.last.graph st.work o ≡ references_from m.last.graph (x.0 ++ x.1 ∷ []) o = ap (λ z. references_from m.last.graph z o) x.2 in omega (arith, k, q)) is.lowered;
-      stuck = is.stuck;
-      below = is.below;
-      bits = is.bits;
-      marks = is.marks;
+      passed = is.passed;
       none_done = is.none_done;
-      none_drawn = is.none_drawn;
-      decrements = is.decrements;
-      once = is.once;
       work = x.3;
       work_gone = λ n h. is.work_gone n (ap (λ z. has z n) x.2 ∙ has_more x.0 x.1 n ∙ or_left (has x.0 n) (same_name n x.1) h);
-      reported = is.reported;
       work_room = let k = is.work_room in omega (arith, k, room, longer);
-      dead_room = is.dead_room;
     } in
     let tables = still_tables s now rest in (
       x.0,
       x.1,
       record {
         stage = record {
-          space = record {
-            limits = subst AreLimits (sym limits) at.space.limits;
-            size = ap (λ z. z.size) tables ∙ at.space.size ∙ ap (λ z. region_begin z 15) (sym limits);
-          };
+          space = limits_space s now limits (ap (λ z. z.size) tables) at.space;
           cascade = same_parts s.limits now.limits (tables_of s) (tables_of now) now.work now.work s.report.dead now.report.dead st2 limits tables refl dead cascade;
         };
         gone = is.work_gone x.1 r_there;
@@ -221,13 +201,13 @@ popped_leaves s now p work rest =
     leaves_by s now now.work s.report.dead (rest ∙ ap {A = List ℕ} (λ w. with_lists s w now.work s.report.dead) (sym words)) (sym (ap (λ z. z.room) work)) refl
     (record {
       keeps = keeps_same (tables_of s) (tables_of now) tables;
-      dones = ap (λ t. t.dones) tables;
+      decs = ap (λ t. t.decs) tables;
       outs = ap (λ t. t.outs) tables;
       states = ap (λ t. t.states) tables;
     })
 
-pub popped_cursors : (s now : Space) → now ≡ record s { work = now.work } → (tables_of now).cursors DECREMENT_COUNT ≡ (tables_of s).cursors DECREMENT_COUNT
-popped_cursors s now rest = ap (λ t. t.cursors DECREMENT_COUNT) (still_tables s now rest)
+pub popped_cursors : (s now : Space) → now ≡ record s { work = now.work } → (tables_of now).cursors ≡ (tables_of s).cursors
+popped_cursors s now rest = ap (λ t. t.cursors) (still_tables s now rest)
 
 -- an empty worklist
 pub emptied : (s : Space) (st : CascadeStage) → s.work.items ≡ [] → Reaches s st st.extra → Drains s st
@@ -241,25 +221,25 @@ emptied s st empty (gone, work, at) =
 abbrev pub with_length : Tables → ℕ → Tables
 with_length t n = record t { cursors = changed t.cursors DECREMENT_COUNT n }
 
--- a list that isn't drawn from: its last entry, and those before it
-waiting_more : (t : Tables) (n p : ℕ) → t.cursors DECREMENT_CURSOR ≡ 0 → t.cursors DECREMENT_COUNT ≡ suc n → waiting_at t p ≡ cond (nat_eq (t.decs n) p) 1 0 + waiting_at (with_length t n) p
+-- the last entry of a list, where it isn't drawn, and those before it
+waiting_more : (t : Tables) (n p : ℕ) → t.cursors DECREMENT_CURSOR ≤ n → t.cursors DECREMENT_COUNT ≡ suc n → waiting_at t p ≡ cond (nat_eq (t.decs n) p) 1 0 + waiting_at (with_length t n) p
 waiting_more t n p undrawn some =
-    let from : entries_between t.decs (t.cursors DECREMENT_CURSOR) (t.cursors DECREMENT_COUNT) p ≡ entries_between t.decs 0 (suc n) p = ap (λ z. entries_between t.decs z (t.cursors DECREMENT_COUNT) p) undrawn ∙ ap (λ z. entries_between t.decs 0 z p) some in
-    let here : nat_le 0 n ≡ true = grind arith in
-    let head : entries_between t.decs 0 (suc n) p ≡ cond (nat_eq (t.decs n) p) 1 0 + entries_between t.decs 0 n p = ap (λ b. cond (b && nat_eq (t.decs n) p) 1 0 + entries_between t.decs 0 n p) here in
-    let drawn : changed t.cursors DECREMENT_COUNT n 5 ≡ 0 = changed_other t.cursors DECREMENT_COUNT n 5 (λ e. omega arith) ∙ undrawn in
+    let c : ℕ = t.cursors DECREMENT_CURSOR in
+    let here : nat_le c n ≡ true = grind (arith, nat_tests) in
+    let head : entries_between t.decs c (suc n) p ≡ cond (nat_eq (t.decs n) p) 1 0 + entries_between t.decs c n p = ap (λ b. cond (b && nat_eq (t.decs n) p) 1 0 + entries_between t.decs c n p) here in
+    let drawn : changed t.cursors DECREMENT_COUNT n 5 ≡ c = changed_other t.cursors DECREMENT_COUNT n 5 (λ e. omega arith) in
     let long : changed t.cursors DECREMENT_COUNT n 6 ≡ n = changed_here t.cursors DECREMENT_COUNT n 6 refl in
-    let tail : waiting_at (with_length t n) p ≡ entries_between t.decs 0 n p = ap (λ z. entries_between t.decs z (changed t.cursors DECREMENT_COUNT n 6) p) drawn ∙ ap (λ z. entries_between t.decs 0 z p) long in
-    from ∙ head ∙ ap (λ z. cond (nat_eq (t.decs n) p) 1 0 + z) (sym tail)
+    let tail : waiting_at (with_length t n) p ≡ entries_between t.decs c n p = ap (λ z. entries_between t.decs z (changed t.cursors DECREMENT_COUNT n 6) p) drawn ∙ ap (λ z. entries_between t.decs c z p) long in
+    ap (λ z. entries_between t.decs c z p) some ∙ head ∙ ap (λ z. cond (nat_eq (t.decs n) p) 1 0 + z) (sym tail)
 
 -- the last of the list is taken out
-pub last_taken : (s now : Space) (st : CascadeStage) (n : ℕ) → IsAt s st → (tables_of s).cursors DECREMENT_COUNT ≡ suc n → Turns s now (with_length (tables_of s) n)
+pub last_taken : (s now : Space) (st : CascadeStage) (n : ℕ) → IsAt s st → (tables_of s).cursors DECREMENT_CURSOR ≤ n → (tables_of s).cursors DECREMENT_COUNT ≡ suc n → Turns s now (with_length (tables_of s) n)
     → (r : Name) × Waiting now ((tables_of s).decs n) (later st st.gone st.work (λ o. st.extra o + once o r)) r st.extra
-last_taken s now st n at some turns =
+last_taken s now st n at undrawn some turns =
     let t : Tables = tables_of s in
     let is = at.cascade in
     let m : Moment = st.moment in
-    let x = is.decrements.places n (omega (arith, some)) in
+    let x = is.remains.decrements.places n (omega (arith, some)) in
     let st2 : CascadeStage = later st st.gone st.work (λ o. st.extra o + once o x.0) in
     let t2 : Tables = with_length t n in
     let number : Bool → ℕ = λ b. cond b 1 0 in
@@ -270,33 +250,37 @@ last_taken s now st n at some turns =
           let e : t.decs n ≡ st.at o = x.2 ∙ sym (ap st.at (same_names o x.0 k)) in
           ap number (ap (λ z. nat_eq z (st.at o)) e ∙ same_number (st.at o) (st.at o) refl) ∙ sym (once_same o x.0 k)
       | inr k ↦
-          let ne = granules_differ t.heap s.limits.blocks m st.at is.ground o x.0 in_o x.1 k in
+          let ne = granules_differ t.heap s.limits.blocks m st.at is.remains.ground o x.0 in_o x.1 k in
           let e = x.2 in
           ap number (unlike_number (t.decs n) (st.at o) (λ q. ne (ap granule_of (sym q ∙ e)))) ∙ sym (once_other o x.0 k)
     ] in
     let cascade : Cascade s.limits t2 s.work s.report.dead st2 = record {
-      ground = is.ground;
-      lowered = repended m.last m.unreclaimed m.stuck st.gone (count_at t st.at) (waits t st) (waits t2 st2)
+      remains = record {
+        ground = is.remains.ground;
+        stuck = is.remains.stuck;
+        below = is.remains.below;
+        bits = bits_still t t2 m st.at (kept st) refl refl refl refl refl is.remains.bits;
+        marks = marks_still t t2 m.state.graph st.at (kept st) refl is.remains.marks;
+        lost_marks = is.remains.lost_marks;
+        lost_grays = is.remains.lost_grays;
+        decrements = record {
+          fits = let d = is.remains.decrements.fits in omega (arith, d, some, shorter);
+          places = λ k h. is.remains.decrements.places k (omega (arith, h, some, shorter));
+        };
+        once = is.remains.once;
+        reported = is.remains.reported;
+        dead_room = is.remains.dead_room;
+      };
+      lowered = lowered_still m.last m.unreclaimed m.stuck st.gone (count_at t st.at) (count_at t2 st.at) (waits t st) (waits t2 st2) (λ o _. refl)
           (λ o in_o.
-          let q = waiting_more t n (st.at o) is.none_drawn some in
+          let q = waiting_more t n (st.at o) undrawn some in
           let k = one o in_o in
           omega (arith, q, k)) is.lowered;
-      stuck = is.stuck;
-      below = is.below;
-      bits = bits_still t t2 m st.at (kept st) refl refl refl refl refl is.bits;
-      marks = marks_still t t2 m.state.graph st.at (kept st) refl is.marks;
+      passed = is.passed;
       none_done = is.none_done;
-      none_drawn = changed_other t.cursors DECREMENT_COUNT n 5 (λ e. omega arith) ∙ is.none_drawn;
-      decrements = record {
-        fits = let d = is.decrements.fits in omega (arith, d, some, shorter);
-        places = λ k h. is.decrements.places k (omega (arith, h, some, shorter));
-      };
-      once = is.once;
       work = is.work;
       work_gone = is.work_gone;
-      reported = is.reported;
       work_room = is.work_room;
-      dead_room = is.dead_room;
     } in (
       x.0,
       record {
@@ -313,8 +297,8 @@ last_taken s now st n at some turns =
 -- the last decrement is the place of an object, which is small
 pub last_place : (s : Space) (st : CascadeStage) (n : ℕ) → IsAt s st → (tables_of s).cursors DECREMENT_COUNT ≡ suc n → (tables_of s).decs n ≤ 2 ^ 21
 last_place s st n at some =
-    let x = at.cascade.decrements.places n (omega (arith, some)) in
-    let h = in_heap (tables_of s).heap s.limits.blocks st.moment st.at at.cascade.ground x.0 x.1 in
+    let x = at.cascade.remains.decrements.places n (omega (arith, some)) in
+    let h = in_heap (tables_of s).heap s.limits.blocks st.moment st.at at.cascade.remains.ground x.0 x.1 in
     let e = x.2 in
     let b = at.space.limits.blocks in
     omega (arith, e, h.0, h.1, b.1)
@@ -322,7 +306,7 @@ last_place s st n at some =
 -- the list has room for its entries
 pub list_fits : (s : Space) (st : CascadeStage) → IsAt s st → ((tables_of s).cursors DECREMENT_COUNT ≤ s.limits.threads * (s.limits.log + 16)) × ((tables_of s).cursors DECREMENT_COUNT < 2 ^ 32)
 list_fits s st at =
-    let f = at.cascade.decrements.fits in
+    let f = at.cascade.remains.decrements.fits in
     let a = at.space.limits.threads in
     let b = at.space.limits.log in
     (f, small s.limits.threads s.limits.log ((tables_of s).cursors DECREMENT_COUNT) a.1 b.1 f)
@@ -333,27 +317,110 @@ list_fits s st at =
 pub taken_leaves : (s now : Space) (n : ℕ) → Turns s now (with_length (tables_of s) n) → Leaves s now
 taken_leaves s now n turns = turned_leaves s now (with_length (tables_of s) n) turns
     (record {
-      keeps = record { heap = refl; reuse = refl; runs = refl; frees = refl; remembered = refl; cursors = λ k ne. changed_other (tables_of s).cursors DECREMENT_COUNT n k ne };
-      dones = refl;
+      keeps = record { heap = refl; reuse = refl; runs = refl; frees = refl; remembered = refl; cursors = λ k h ne. changed_other (tables_of s).cursors DECREMENT_COUNT n k ne };
+      decs = refl;
       outs = refl;
       states = refl;
     })
 
+pub taken_drawn : (s now : Space) (n : ℕ) → Turns s now (with_length (tables_of s) n) → (tables_of now).cursors DECREMENT_CURSOR ≡ (tables_of s).cursors DECREMENT_CURSOR
+taken_drawn s now n turns = ap (λ t. t.cursors DECREMENT_CURSOR) turns.tables ∙ changed_other (tables_of s).cursors DECREMENT_COUNT n 5 (λ e. omega arith)
+
 pub taken_length : (s now : Space) (n : ℕ) → Turns s now (with_length (tables_of s) n) → (tables_of now).cursors DECREMENT_COUNT ≡ n
 taken_length s now n turns = ap (λ t. t.cursors DECREMENT_COUNT) turns.tables ∙ changed_here (tables_of s).cursors DECREMENT_COUNT n 6 refl
 
--- ---- the beginning and the end
+-- a list of which nothing waits
+none_between : (f : ℕ → ℕ) (from n p : ℕ) → n ≤ from → entries_between f from n p ≡ 0
+none_between f from zero p past = refl
+none_between f from (suc n) p past =
+    let over : nat_le from n ≡ false = grind (arith, nat_tests) in
+    let before = none_between f from n p (omega (arith, past)) in
+    let head : entries_between f from (suc n) p ≡ 0 + entries_between f from n p = ap (λ b. cond (b && nat_eq (f n) p) 1 0 + entries_between f from n p) over in
+    omega (arith, head, before)
+
+-- the tables with an empty list
+abbrev pub with_none : Tables → Tables
+with_none t = record t { cursors = changed (changed t.cursors DECREMENT_CURSOR 0) DECREMENT_COUNT 0 }
+
+none_drawn : (t : Tables) → (with_none t).cursors DECREMENT_CURSOR ≡ 0
+none_drawn t = changed_other (changed t.cursors DECREMENT_CURSOR 0) DECREMENT_COUNT 0 5 (λ e. omega arith) ∙ changed_here t.cursors DECREMENT_CURSOR 0 5 refl
+
+none_waits : (t : Tables) → (with_none t).cursors DECREMENT_COUNT ≡ 0
+none_waits t = changed_here (changed t.cursors DECREMENT_CURSOR 0) DECREMENT_COUNT 0 6 refl
+
+-- it is emptied
+pub list_emptied : (s now : Space) (st : CascadeStage) → IsOpening s st → (tables_of s).cursors DECREMENT_COUNT ≤ (tables_of s).cursors DECREMENT_CURSOR → Turns s now (with_none (tables_of s)) → IsEmptied now st
+list_emptied s now st is past turns =
+    let t : Tables = tables_of s in
+    let t2 : Tables = with_none t in
+    let m : Moment = st.moment in
+    let c = is.stage.cascade in
+    let waiting = none_waits t in
+    let cascade : Cascade s.limits t2 s.work s.report.dead st = record {
+      remains = record {
+        ground = c.remains.ground;
+        stuck = c.remains.stuck;
+        below = c.remains.below;
+        bits = bits_still t t2 m st.at (kept st) refl refl refl refl refl c.remains.bits;
+        marks = marks_still t t2 m.state.graph st.at (kept st) refl c.remains.marks;
+        lost_marks = c.remains.lost_marks;
+        lost_grays = c.remains.lost_grays;
+        decrements = record { fits = omega (arith, waiting); places = λ k h. absurd (omega (arith, h, waiting)) };
+        once = c.remains.once;
+        reported = c.remains.reported;
+        dead_room = c.remains.dead_room;
+      };
+      lowered = lowered_still m.last m.unreclaimed m.stuck st.gone (count_at t st.at) (count_at t2 st.at) (waits t st) (waits t2 st) (λ o _. refl)
+          (λ o _.
+          let before = none_between t.decs (t.cursors DECREMENT_CURSOR) (t.cursors DECREMENT_COUNT) (st.at o) past in
+          let after = none_between t.decs (t2.cursors DECREMENT_CURSOR) (t2.cursors DECREMENT_COUNT) (st.at o) (omega (arith, waiting)) in
+          omega (arith, before, after)) c.lowered;
+      passed = c.passed;
+      none_done = c.none_done;
+      work = c.work;
+      work_gone = c.work_gone;
+      work_room = c.work_room;
+    } in
+    record {
+      opening = record {
+        stage = record {
+          space = still_space s now t2 is.stage.space turns refl;
+          cascade = same_parts s.limits now.limits t2 (tables_of now) s.work now.work s.report.dead now.report.dead st (same_limits s now t2 turns) turns.tables (ap (λ z. z.work) turns.rest) (ap (λ z. z.report.dead) turns.rest) cascade;
+        };
+        work = is.work;
+        extra = is.extra;
+      };
+      drawn = ap (λ z. z.cursors DECREMENT_CURSOR) turns.tables ∙ none_drawn t;
+      waiting = ap (λ z. z.cursors DECREMENT_COUNT) turns.tables ∙ waiting;
+    }
+
+pub emptied_leaves : (s now : Space) → Turns s now (with_none (tables_of s)) → Leaves s now
+emptied_leaves s now turns = turned_leaves s now (with_none (tables_of s)) turns
+    (record {
+      keeps = record {
+        heap = refl;
+        reuse = refl;
+        runs = refl;
+        frees = refl;
+        remembered = refl;
+        cursors = λ k other ne. changed_other (changed (tables_of s).cursors DECREMENT_CURSOR 0) DECREMENT_COUNT 0 k ne ∙ changed_other (tables_of s).cursors DECREMENT_CURSOR 0 k other;
+      };
+      decs = refl;
+      outs = refl;
+      states = refl;
+    })
+
+-- two writes of cursors are one call
+pub both_cursors : (a b c : Space) → Turns a b (record (tables_of a) { cursors = changed (tables_of a).cursors DECREMENT_CURSOR 0 })
+    → Turns b c (record (tables_of b) { cursors = changed (tables_of b).cursors DECREMENT_COUNT 0 }) → Turns a c (with_none (tables_of a))
+both_cursors a b c first second = record {
+  tables = second.tables ∙ ap {A = Tables} (λ t. record t { cursors = changed t.cursors DECREMENT_COUNT 0 }) first.tables;
+  rest = second.rest ∙ ap {A = Space} (λ s. record s { words = c.words }) first.rest;
+}
+
+-- ---- the list of decrements is done
 
 pub opened : (s : Space) (st : CascadeStage) → IsOpening s st → (gone : List Name) × IsAt s (later st gone [] (λ o. 0))
 opened s st is =
     let none : st.extra ≡ λ o. 0 = λ i o. is.extra o i in
     (st.gone, subst (λ z. IsAt s (later st st.gone [] z)) none (subst (λ z. IsAt s (later st st.gone z st.extra)) is.work is.stage))
-
--- where nothing waits, exactly the dead are gone
-pub finished : (s : Space) (st : CascadeStage) (gone : List Name) → IsAt s (later st gone [] (λ o. 0)) → (tables_of s).cursors DECREMENT_COUNT ≡ 0 → IsFinished s (later st gone [] (λ o. 0))
-finished s st gone at none_waits = record {
-  stage = at;
-  waiting = none_waits;
-  gone = λ o. over st.moment.last st.moment.unreclaimed st.moment.stuck gone (count_at (tables_of s) st.at) (waits (tables_of s) (later st gone [] (λ o. 0))) at.cascade.lowered
-      (λ u. let q : waiting_at (tables_of s) (st.at u) ≡ 0 = ap (λ z. entries_between (tables_of s).decs ((tables_of s).cursors DECREMENT_CURSOR) z (st.at u)) none_waits in omega (arith, q)) o;
-}

@@ -1,6 +1,9 @@
 pub mod WipeLemmas
+pub mod WantedLemmas
 pub mod CascadeLemmas
 pub mod SpaceLemmas
+pub mod HandlingLemmas
 pub mod DrainLemmas
+pub mod DropLemmas
 pub mod BridgeLemmas
 pub mod OpenedLemmas

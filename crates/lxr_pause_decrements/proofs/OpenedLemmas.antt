@@ -1,7 +1,7 @@
 -- An opened space holds the opening moment, and nothing is reported as dead.
 use Rattle.std.proofs.Common.{ap, refl, arith, length}
 use Rattle.lxr_image.proofs.OpeningLemmas.{opened_is_image, opened_is_space}
-use Rattle.lxr_invariant.proofs.OpeningLemmas.{opening_holds, opening_undecremented}
+use Rattle.lxr_invariant.proofs.OpeningLemmas.{opening_holds}
 use Rattle.lxr_pause_decrements.specs.Opened.{OpenedCanFinish}
 
 pub opened_can_finish : OpenedCanFinish
@@ -10,7 +10,6 @@ opened_can_finish s l allowed is =
     let room = is.room.report.dead in
     record {
       holds = opening_holds s l (opened_is_space s l allowed is) is (opened_is_image s l allowed is);
-      undecremented = opening_undecremented s l is;
       no_trace = refl;
       room = omega (arith, dead, room);
     }

@@ -1,11 +1,10 @@
 -- The lemmas on tables, at the spaces that the calls leave.
-use Rattle.std.proofs.Common.{◌≡◌, ◌≢◌, ℕ, ◌+◌, ◌-◌, ◌*◌, ◌/◌, ◌<◌, ◌≤◌, refl, sym, ap, subst, ◌∙◌, ◌^◌, arith, true, false, [], ◌∷◌, ◌++◌, length, length-append}
-use Rattle.lxr_layout.specs.declared.TheConstants.{DECREMENT_COUNT, GRANULES_IN_BLOCK}
+use Rattle.std.proofs.Common.{◌≡◌, ◌≢◌, ℕ, ◌+◌, ◌*◌, ◌<◌, ◌≤◌, refl, sym, ap, subst, ◌∙◌, ◌^◌, arith, true, false, [], ◌∷◌, ◌++◌, length, length-append}
+use Rattle.lxr_layout.specs.declared.TheConstants.{GRANULES_IN_BLOCK}
 use Rattle.lxr_layout.specs.declared.Name.{Name}
 use Rattle.lxr_layout.specs.declared.Place.{Place}
 use Rattle.lxr_layout.specs.declared.Shape.{Shape}
-use Rattle.lxr_layout.specs.Objects.{word_count}
-use Rattle.lxr_layout.specs.Places.{IsPlace, first_word}
+use Rattle.lxr_layout.specs.Places.{IsPlace}
 use Rattle.lxr_layout.specs.Spaces.{AreLimits, region_begin}
 use Rattle.lxr_base.specs.Roomy.{Roomy, pushed}
 use Rattle.lxr_graph.specs.State.{shape_of}
@@ -20,8 +19,8 @@ use Rattle.lxr_invariant.specs.Counting.{count_at, passing}
 use Rattle.lxr_invariant.specs.Standing.{place_of}
 use Rattle.lxr_invariant.proofs.EntryLemmas.{passing_cleared}
 use Rattle.lxr_invariant.proofs.KeepingLemmas.{keeps_both as lists_both, keeps_same}
-use Rattle.lxr_pause_decrements.specs.Cascade.{Keeps, Leaves, TablesStay, CascadeStage, without_object, with_lists, Waiting, Reaches, Reclaims, IsHeader, to_do, later}
-use Rattle.lxr_pause_decrements.proofs.CascadeLemmas.{bare, falls, goes_on, same_parts, zero_means, last_unstuck, in_heap, counted, counted_left}
+use Rattle.lxr_pause_decrements.specs.Cascade.{Buries, CascadeStage, Keeps, Leaves, Reaches, Reclaims, TablesStay, Waiting, later, to_do, with_lists, without_object}
+use Rattle.lxr_pause_decrements.proofs.CascadeLemmas.{IsPlaced, bare, counted, counted_left, falls, goes_on, in_heap, last_unstuck, placed, same_parts, zero_means}
 
 -- ---- what is left as it was
 
@@ -35,12 +34,12 @@ leaves_by a e w d rest work_room dead_room tables = record {
 }
 
 pub leaves_none : (a : Space) → Leaves a a
-leaves_none a = record { tables = record { keeps = keeps_same (tables_of a) (tables_of a) refl; dones = refl; outs = refl; states = refl }; rest = refl; work_room = refl; dead_room = refl }
+leaves_none a = record { tables = record { keeps = keeps_same (tables_of a) (tables_of a) refl; decs = refl; outs = refl; states = refl }; rest = refl; work_room = refl; dead_room = refl }
 
 tables_both : (t u v : Tables) → TablesStay t u → TablesStay u v → TablesStay t v
 tables_both t u v x y = record {
   keeps = lists_both t u v x.keeps y.keeps;
-  dones = y.dones ∙ x.dones;
+  decs = y.decs ∙ x.decs;
   outs = y.outs ∙ x.outs;
   states = y.states ∙ x.states;
 }
@@ -54,10 +53,10 @@ leaves_both a b c x y = record {
 }
 
 pub keeps_none : (a : Space) → Keeps a a
-keeps_none a = record { leaves = leaves_none a; waiting = refl }
+keeps_none a = record { leaves = leaves_none a; cursors = refl }
 
 pub keeps_both : (a b c : Space) → Keeps a b → Keeps b c → Keeps a c
-keeps_both a b c x y = record { leaves = leaves_both a b c x.leaves y.leaves; waiting = y.waiting ∙ x.waiting }
+keeps_both a b c x y = record { leaves = leaves_both a b c x.leaves y.leaves; cursors = y.cursors ∙ x.cursors }
 
 -- a call that writes none of the tables that stay
 pub turned_leaves : (a b : Space) (t : Tables) → Turns a b t → TablesStay (tables_of a) t → Leaves a b
@@ -70,30 +69,37 @@ with_lowered t g = record t { counts = changed t.counts g (lowered_count (t.coun
 
 pub lowered_keeps : (a b : Space) (g : ℕ) → Turns a b (with_lowered (tables_of a) g) → Keeps a b
 lowered_keeps a b g turns = record {
-  leaves = turned_leaves a b _ turns (record { keeps = record { heap = refl; reuse = refl; runs = refl; frees = refl; remembered = refl; cursors = λ k h. refl }; dones = refl; outs = refl; states = refl });
-  waiting = ap (λ t. t.cursors DECREMENT_COUNT) turns.tables;
+  leaves = turned_leaves a b _ turns (record { keeps = record { heap = refl; reuse = refl; runs = refl; frees = refl; remembered = refl; cursors = λ k h j. refl }; decs = refl; outs = refl; states = refl });
+  cursors = ap (λ t. t.cursors) turns.tables;
 }
+
+-- an object's tables go
+pub without_leaves : (t : Tables) (p : ℕ) (shape : Shape) → TablesStay t (without_object t p shape)
+without_leaves t p shape = record { keeps = record { heap = refl; reuse = refl; runs = refl; frees = refl; remembered = refl; cursors = λ k h j. refl }; decs = refl; outs = refl; states = refl }
 
 pub reclaimed_keeps : (a b : Space) (p : Place) (n : Name) (shape : Shape) → Reclaims a b p n shape → Keeps a b
 reclaimed_keeps a b p n shape re = record {
-  leaves = leaves_by a b (pushed a.work p) (pushed a.report.dead n) re.rest refl refl
-      (subst (TablesStay (tables_of a)) (sym re.tables) (record { keeps = record { heap = refl; reuse = refl; runs = refl; frees = refl; remembered = refl; cursors = λ k h. refl }; dones = refl; outs = refl; states = refl }));
-  waiting = ap (λ t. t.cursors DECREMENT_COUNT) re.tables;
+  leaves = leaves_by a b (pushed a.work p) (pushed a.report.dead n) re.rest refl refl (subst (TablesStay (tables_of a)) (sym re.tables) (without_leaves (tables_of a) p.0 shape));
+  cursors = ap (λ t. t.cursors) re.tables;
 }
 
-reclaimed_space : (a b : Space) (p : Place) (n : Name) (shape : Shape) → Reclaims a b p n shape → IsSpace a → IsSpace b
-reclaimed_space a b p n shape re is =
-    let limits : b.limits ≡ a.limits = ap (λ s. s.limits) re.rest in
-    record {
-      limits = subst AreLimits (sym limits) is.limits;
-      size = ap (λ z. z.size) re.tables ∙ is.size ∙ ap (λ z. region_begin z 15) (sym limits);
-    }
+pub buried_keeps : (a b : Space) (p : Place) (n : Name) (shape : Shape) → Buries a b p n shape → Keeps a b
+buried_keeps a b p n shape buries = record {
+  leaves = leaves_by a b a.work (pushed a.report.dead n) buries.rest refl refl (subst (TablesStay (tables_of a)) (sym buries.tables) (without_leaves (tables_of a) p.0 shape));
+  cursors = ap (λ t. t.cursors) buries.tables;
+}
+
+pub limits_space : (a b : Space) → b.limits ≡ a.limits → (tables_of b).size ≡ (tables_of a).size → IsSpace a → IsSpace b
+limits_space a b limits size is = record { limits = subst AreLimits (sym limits) is.limits; size = size ∙ is.size ∙ ap (λ z. region_begin z 15) (sym limits) }
+
+pub reclaimed_space : (a b : Space) (p : Place) (n : Name) (shape : Shape) → Reclaims a b p n shape → IsSpace a → IsSpace b
+reclaimed_space a b p n shape re is = limits_space a b (ap (λ s. s.limits) re.rest) (ap (λ z. z.size) re.tables) is
 
 -- ---- what waits at a place
 
 pub at_place : (s : Space) (p : Place) (st : CascadeStage) (r : Name) (rest : Name → ℕ) → Waiting s p.0 st r rest → (IsPlace p) × (granule_of p.0 < GRANULES_IN_BLOCK * s.limits.blocks) × (p ≡ place_of st.at r)
 at_place s p st r rest w =
-    let h = in_heap (tables_of s).heap s.limits.blocks st.moment st.at w.stage.cascade.ground r w.member in
+    let h = in_heap (tables_of s).heap s.limits.blocks st.moment st.at w.stage.cascade.remains.ground r w.member in
     let e = w.stands in
     let b = w.stage.space.limits.blocks in
     (let k : (1 ≤ p.0) × (p.0 ≤ 2 ^ 21) = (omega (arith, e, h.0), omega (arith, e, h.1, h.0, b.1)) in k, omega (arith, e, h.1), λ i. record { 0 = e i })
@@ -101,34 +107,21 @@ at_place s p st r rest w =
 -- a place that waits is small
 pub waiting_place : (s : Space) (p : ℕ) (st : CascadeStage) (r : Name) (rest : Name → ℕ) → Waiting s p st r rest → p ≤ 2 ^ 21
 waiting_place s p st r rest w =
-    let h = in_heap (tables_of s).heap s.limits.blocks st.moment st.at w.stage.cascade.ground r w.member in
+    let h = in_heap (tables_of s).heap s.limits.blocks st.moment st.at w.stage.cascade.remains.ground r w.member in
     let e = w.stands in
     let b = w.stage.space.limits.blocks in
     omega (arith, e, h.1, h.0, b.1)
 
 -- the shape of r's object
 abbrev pub shape_there : (s : Space) (p : Place) (st : CascadeStage) (r : Name) (rest : Name → ℕ) → Waiting s p.0 st r rest → Shape
-shape_there s p st r rest w = shape_of (w.stage.cascade.ground.stands r w.member).0
+shape_there s p st r rest w = shape_of (w.stage.cascade.remains.ground.stands r w.member).0
 
--- r's header stands at its place, also after a call that leaves the heap
-pub header_there : (s b : Space) (t : Tables) (p : Place) (st : CascadeStage) (r : Name) (rest : Name → ℕ) → (w : Waiting s p.0 st r rest) → Turns s b t → t.heap ≡ (tables_of s).heap
-    → IsHeader (tables_of b) p.0 r (shape_there s p st r rest w)
-header_there s b t p st r rest w turns same =
-    let a = w.stage.cascade.ground.stands r w.member in
-    let heap : (tables_of b).heap ≡ (tables_of s).heap = ap (λ z. z.heap) turns.tables ∙ same in
-    record {
-      name = a.2.name;
-      fits = a.2.shape;
-      header = ap (λ f. f (first_word p.0)) heap ∙ ap (λ z. (tables_of s).heap (first_word z)) w.stands ∙ a.2.header;
-    }
-
-pub shape_fits : (s b : Space) (t : Tables) (p : Place) (st : CascadeStage) (r : Name) (rest : Name → ℕ) → (w : Waiting s p.0 st r rest) → Turns s b t
-    → p.0 - 1 + word_count (shape_there s p st r rest w) / 2 ≤ GRANULES_IN_BLOCK * b.limits.blocks
-shape_fits s b t p st r rest w turns =
-    let f = (w.stage.cascade.ground.stands r w.member).2.fits in
-    let e = w.stands in
-    let l = ap (λ z. z.blocks) (same_limits s b t turns) in
-    omega (arith, f, e, l)
+-- r stands at its place, also after a call that leaves the heap
+pub placed_there : (s b : Space) (t : Tables) (p : Place) (st : CascadeStage) (r : Name) (rest : Name → ℕ) → (w : Waiting s p.0 st r rest) → Turns s b t → t.heap ≡ (tables_of s).heap
+    → IsPlaced (tables_of b) b.limits.blocks r (w.stage.cascade.remains.ground.stands r w.member).0 p.0
+placed_there s b t p st r rest w turns same =
+    subst (λ l. IsPlaced (tables_of b) l.blocks r (w.stage.cascade.remains.ground.stands r w.member).0 p.0) (sym (same_limits s b t turns))
+    (placed (tables_of s).heap s.limits.blocks st.moment st.at w.stage.cascade.remains.ground (tables_of b) (ap (λ z. z.heap) turns.tables ∙ same) r w.member p.0 w.stands)
 
 -- ---- the count is lowered
 
@@ -145,7 +138,7 @@ fell a b e p st r rest w zero turns re =
     let at = at_place a p st r rest w in
     let one = was_one a p st r rest w zero in
     let gone : lowered_count (t.counts (granule_of p.0)) ≡ 0 = ap lowered_count (zero_means (t.counts (granule_of p.0)) zero) in
-    let o = w.stage.cascade.ground.stands r w.member in
+    let o = w.stage.cascade.remains.ground.stands r w.member in
     let cut : Tables → Tables = λ z. without_object z p.0 (shape_of o.0) in
     let lower : ℕ → ℕ → Tables = λ n z. without_object (record t { counts = changed t.counts (granule_of n) z }) n (shape_of o.0) in
     let tables : tables_of e ≡ bare t st.at r o.0 = re.tables ∙ ap cut turns.tables ∙ ap (lower p.0) gone ∙ ap (λ z. lower z 0) w.stands in
@@ -183,7 +176,7 @@ fewer_starts a p st r rest w zero =
     let t : Tables = tables_of a in
     let one = was_one a p st r rest w zero in
     let left_r = counted_left a.limits t a.work a.report.dead st r w.stage.cascade w.member (omega (arith, one)) in
-    let started : t.starts (granule_of p.0) ≡ true = ap (λ z. t.starts (granule_of z)) w.stands ∙ w.stage.cascade.bits.starts.each r left_r.1 in
+    let started : t.starts (granule_of p.0) ≡ true = ap (λ z. t.starts (granule_of z)) w.stands ∙ w.stage.cascade.remains.bits.starts.each r left_r.1 in
     passing_cleared t.starts (granule_of p.0) (GRANULES_IN_BLOCK * a.limits.blocks) started (at_place a p st r rest w).1
 
 -- what is left to do is as much as before: one object fewer to reclaim, one more in the worklist
@@ -215,7 +208,7 @@ pub room_left : (a : Space) (p : Place) (st : CascadeStage) (r : Name) (rest : N
 room_left a p st r rest w zero =
     let fewer = fewer_starts a p st r rest w zero in
     let x = w.stage.cascade.work_room in
-    let y = w.stage.cascade.dead_room in
+    let y = w.stage.cascade.remains.dead_room in
     (omega (arith, fewer, x), omega (arith, fewer, y))
 
 -- what waits can be lowered

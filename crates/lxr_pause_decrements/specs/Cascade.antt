@@ -18,26 +18,29 @@ use Rattle.lxr_image.specs.Image.{AreApart, granules_of, place_word}
 use Rattle.lxr_model.specs.Dead.{Dead}
 use Rattle.lxr_model.specs.Moments.{Moment}
 use Rattle.lxr_model.specs.Reachable.{Refers}
-use Rattle.lxr_model.specs.References.{occurrences, references_from}
+use Rattle.lxr_model.specs.References.{occurrences, references, references_from}
 use Rattle.lxr_model_counting.specs.Distinct.{IsDistinct}
-use Rattle.lxr_model_counting.specs.Lowering.{IsLowered, TakenFrom}
+use Rattle.lxr_model_counting.specs.Lowering.{IsLowered, IsOver, TakenFrom}
 use Rattle.lxr_invariant.specs.Keeping.{KeepsListsAndCounters}
-use Rattle.lxr_invariant.specs.Counting.{HasDecrements, count_at, occurrences_from, passing, waiting_at}
+use Rattle.lxr_invariant.specs.Counting.{HasDecrements, count_at, is_done, occurrences_from, passing, undone, waiting_at}
 use Rattle.lxr_invariant.specs.Lines.{HasMarks, line_behind, next_line}
 use Rattle.lxr_invariant.specs.Standing.{HasBits, place_of}
-use Rattle.lxr_pause_decrements.specs.Wipe.{cleared, wiped}
+use Rattle.lxr_pause_decrements.specs.Wipe.{LosesBits, cleared, wiped}
 
 -- A stage of the decrements: what stands for the space while they are done. No code holds it.
 pub record CascadeStage : Type 0 where
   pub moment : Moment
   pub at : Name → ℕ
-  -- names that the report had before
+  -- the tables as they were when decrements began, and the names that the report had then
+  pub was : Tables
   pub before : List Name
   -- what is reclaimed so far, newest first, and of it what still lies in the worklist
   pub gone : List Name
   pub work : List Name
   -- what waits to be lowered beside the list of decrements and the references of `work`
   pub extra : Name → ℕ
+  -- below this granule no object without a count is left
+  pub passed : ℕ
 
 -- the unreclaimed names that are left
 abbrev pub kept : CascadeStage → List Name
@@ -67,29 +70,55 @@ pub record Ground (heap : ℕ → ℕ) (blocks : ℕ) (m : Moment) (at : Name �
 abbrev pub waits : Tables → CascadeStage → Name → ℕ
 waits t st n = waiting_at t (st.at n) + references_from st.moment.last.graph st.work n + st.extra n
 
--- Some decrements are done: what is gone was removed one after another; what is left has its bits and marks, and a count of
--- its references from what is left and of what waits; and there is room for what may still go.
-pub record Cascade (l : Limits) (t : Tables) (w : Roomy Place) (d : Roomy Name) (st : CascadeStage) : Type 0 where
+-- Some objects are reclaimed: what is left has its bits and marks, what is gone is reported, each once, and there is room to
+-- report what may still go.
+pub record Remains (l : Limits) (t : Tables) (d : Roomy Name) (st : CascadeStage) : Type 0 where
   pub ground : Ground t.heap l.blocks st.moment st.at
-  pub lowered : IsLowered st.moment.last st.moment.unreclaimed st.moment.stuck st.gone (count_at t st.at) (waits t st)
   pub stuck : (n : Name) → IsTrue (has st.moment.unreclaimed n) → IsTrue (has st.moment.stuck n) → count_at t st.at n ≡ STUCK
   pub below : (n : Name) → IsTrue (has st.moment.unreclaimed n) → has st.moment.stuck n ≡ false → count_at t st.at n < STUCK
   pub bits : HasBits t st.moment st.at (kept st)
   pub marks : HasMarks t st.moment.state.graph st.at (kept st)
-  pub none_done : (k : ℕ) → t.dones k ≡ false
-  pub none_drawn : t.cursors DECREMENT_CURSOR ≡ 0
+  pub lost_marks : LosesBits st.was.marks t.marks st.at st.gone
+  pub lost_grays : LosesBits st.was.grays t.grays st.at st.gone
   pub decrements : HasDecrements l t st.moment st.at
   pub once : IsDistinct (reverse st.gone)
+  pub reported : d.items ≡ st.before ++ reverse st.gone
+  pub dead_room : length d.items + passing t.starts (GRANULES_IN_BLOCK * l.blocks) ≤ d.room
+
+-- Some of what decrementers have handled is reclaimed. A count is the references from what is left and isn't done, and what
+-- waits in the list of decrements; what is gone or done is dead, and has no count.
+pub record Handling (l : Limits) (t : Tables) (w : Roomy Place) (d : Roomy Name) (st : CascadeStage) : Type 0 where
+  pub remains : Remains l t d st
+  pub exact : (n : Name) → IsTrue (has st.moment.unreclaimed n) → has st.moment.stuck n ≡ false
+      → count_at t st.at n ≡ references st.moment.last (undone t st.at (kept st)) n + waiting_at t (st.at n)
+  pub dead : (n : Name) → IsTrue (has st.gone n) → Dead st.moment.last st.moment.unreclaimed st.moment.stuck n
+  pub zero : (n : Name) → IsTrue (has st.gone n) → count_at t st.at n ≡ 0
+  pub done_dead : (n : Name) → IsTrue (has st.moment.unreclaimed n) → IsTrue (is_done t st.at n) → Dead st.moment.last st.moment.unreclaimed st.moment.stuck n
+  pub done_zero : (n : Name) → IsTrue (has st.moment.unreclaimed n) → IsTrue (is_done t st.at n) → count_at t st.at n ≡ 0
+  pub no_work : w.items ≡ []
+  pub work_room : GRANULES_IN_BLOCK * l.blocks ≤ w.room
+
+-- Some counts are lowered, and no done bit is set any more: what is left has a count of its references from what is left and of
+-- what waits, and what has none is gone, where a pass has come by. There is room in the worklist for what may still go.
+pub record Cascade (l : Limits) (t : Tables) (w : Roomy Place) (d : Roomy Name) (st : CascadeStage) : Type 0 where
+  pub remains : Remains l t d st
+  pub lowered : IsLowered st.moment.last st.moment.unreclaimed st.moment.stuck st.gone (count_at t st.at) (waits t st)
+  pub passed : (n : Name) → IsTrue (has st.moment.unreclaimed n) → has st.moment.stuck n ≡ false → granule_of (st.at n) < st.passed
+      → count_at t st.at n ≡ 0 → IsTrue (has st.gone n)
+  pub none_done : (k : ℕ) → t.dones k ≡ false
   pub work : w.items ≡ map (place_of st.at) st.work
   pub work_gone : (n : Name) → IsTrue (has st.work n) → IsTrue (has st.gone n)
-  pub reported : d.items ≡ st.before ++ reverse st.gone
   pub work_room : length w.items + passing t.starts (GRANULES_IN_BLOCK * l.blocks) ≤ w.room
-  pub dead_room : length d.items + passing t.starts (GRANULES_IN_BLOCK * l.blocks) ≤ d.room
 
 -- a space at a stage
 pub record IsAt (s : Space) (st : CascadeStage) : Type 0 where
   pub space : IsSpace s
   pub cascade : Cascade s.limits (tables_of s) s.work s.report.dead st
+
+-- a space while what is handled is reclaimed
+pub record IsHandling (s : Space) (st : CascadeStage) : Type 0 where
+  pub space : IsSpace s
+  pub handling : Handling s.limits (tables_of s) s.work s.report.dead st
 
 -- what is left to do: each object that isn't reclaimed may come into the worklist once
 abbrev pub to_do : Space → ℕ
@@ -98,6 +127,10 @@ to_do s = passing (tables_of s).starts (GRANULES_IN_BLOCK * s.limits.blocks) + l
 -- the stage with other names gone and in the worklist, and other names waiting
 abbrev pub later : CascadeStage → List Name → List Name → (Name → ℕ) → CascadeStage
 later st gone work extra = record st { gone = gone; work = work; extra = extra }
+
+-- the stage at which a pass has come to another granule
+abbrev pub come_to : CascadeStage → ℕ → CascadeStage
+come_to st granule = record st { passed = granule }
 
 -- a name at its place waits once more than the rest says
 pub record Waiting (s : Space) (place : ℕ) (st : CascadeStage) (r : Name) (rest : Name → ℕ) : Type 0 where
@@ -130,15 +163,20 @@ without_object t p shape = record t {
 abbrev pub with_lists : Space → List ℕ → Roomy Place → Roomy Name → Space
 with_lists s words work dead = record s { words = words; work = work; report = record s.report { dead = dead } }
 
--- the object at a place begins no more, waits in the worklist, and is reported
+-- the object at a place begins no more, and is reported
+pub record Buries (before after : Space) (p : Place) (n : Name) (shape : Shape) : Type 0 where
+  pub tables : tables_of after ≡ without_object (tables_of before) p.0 shape
+  pub rest : after ≡ with_lists before after.words before.work (pushed before.report.dead n)
+
+-- so it is, and it waits in the worklist
 pub record Reclaims (before after : Space) (p : Place) (n : Name) (shape : Shape) : Type 0 where
   pub tables : tables_of after ≡ without_object (tables_of before) p.0 shape
   pub rest : after ≡ with_lists before after.words (pushed before.work p) (pushed before.report.dead n)
 
--- the tables that decrements never write, and the cursors but for the length of their list
+-- the tables that decrements never write, and the cursors but for those of their list
 pub record TablesStay (t u : Tables) : Type 0 where
   pub keeps : KeepsListsAndCounters t u
-  pub dones : u.dones ≡ t.dones
+  pub decs : u.decs ≡ t.decs
   pub outs : u.outs ≡ t.outs
   pub states : u.states ≡ t.states
 
@@ -152,7 +190,7 @@ pub record Leaves (before after : Space) : Type 0 where
 -- what one lowering leaves
 pub record Keeps (before after : Space) : Type 0 where
   pub leaves : Leaves before after
-  pub waiting : (tables_of after).cursors DECREMENT_COUNT ≡ (tables_of before).cursors DECREMENT_COUNT
+  pub cursors : (tables_of after).cursors ≡ (tables_of before).cursors
 
 -- the references that a name's object had at the last pause
 abbrev pub held_by : CascadeStage → Name → List (Option Name)
@@ -178,14 +216,32 @@ pub record FieldWaits (s : Space) (place i : ℕ) (st : CascadeStage) (r : Name)
 abbrev pub Drains : Space → CascadeStage → Type 0
 Drains s st = (gone : List Name) × IsAt s (later st gone [] st.extra)
 
+-- an object that a decrementer has handled begins at a granule
+pub record HandledAt (s : Space) (granule : ℕ) (st : CascadeStage) : Type 0 where
+  pub stage : IsHandling s st
+  pub done : IsTrue ((tables_of s).dones granule)
+
+-- an object without a count begins at the granule that a pass has come to
+pub record DroppedAt (s : Space) (granule : ℕ) (st : CascadeStage) : Type 0 where
+  pub stage : IsAt s st
+  pub come : st.passed ≡ granule
+  pub start : IsTrue ((tables_of s).starts granule)
+  pub uncounted : (tables_of s).counts granule ≡ 0
+
 -- nothing waits but in the list of decrements
 pub record IsOpening (s : Space) (st : CascadeStage) : Type 0 where
   pub stage : IsAt s st
   pub work : st.work ≡ []
   pub extra : (o : Name) → st.extra o ≡ 0
 
--- exactly the dead are gone, and nothing waits
-pub record IsFinished (s : Space) (st : CascadeStage) : Type 0 where
-  pub stage : IsAt s st
+-- nothing waits, and the list of decrements is empty
+pub record IsEmptied (s : Space) (st : CascadeStage) : Type 0 where
+  pub opening : IsOpening s st
+  pub drawn : (tables_of s).cursors DECREMENT_CURSOR ≡ 0
   pub waiting : (tables_of s).cursors DECREMENT_COUNT ≡ 0
+
+-- so it is, and exactly the dead are gone
+pub record IsFinished (s : Space) (st : CascadeStage) : Type 0 where
+  pub emptied : IsEmptied s st
+  pub empty : IsOver st.moment.unreclaimed st.moment.stuck st.gone (count_at (tables_of s) st.at)
   pub gone : (o : Name) → IsTrue (has st.gone o) ↔ Dead st.moment.last st.moment.unreclaimed st.moment.stuck o

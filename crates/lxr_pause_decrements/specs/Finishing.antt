@@ -12,18 +12,19 @@ use Rattle.lxr_invariant.specs.AbstractState.{leaving}
 use Rattle.lxr_invariant.specs.Counting.{IsUndecremented}
 use Rattle.lxr_invariant.specs.Keeping.{KeepsListsAndCounters}
 use Rattle.lxr_invariant.specs.Quiescent.{HoldsMoment}
+use Rattle.lxr_pause_decrements.specs.Wipe.{LosesBits}
 
--- The decrements may be finished: the space holds a moment, no decrementer has worked and no trace runs, and the report has
--- room for the names of all objects that may die.
+-- The decrements may be finished: the space holds a moment, whatever decrementers have done since the last pause, no trace
+-- runs, and the report has room for the names of all objects that may die.
 pub record CanFinish (s : Space) (m : Moment) (at : Name → ℕ) : Type 0 where
   pub holds : HoldsMoment s m at
-  pub undecremented : IsUndecremented (tables_of s) m at
   pub no_trace : m.trace ≡ None
   pub room : length s.report.dead.items + GRANULES_IN_BLOCK * s.limits.blocks ≤ s.report.dead.room
 
--- The decrements are finished: exactly the dead are gone, each is reported once, what is left stands as before with its
--- bits, marks and counts, and no decrement waits. States of blocks and the lines that are out stay, and so do lists and
--- counters. Nothing else has changed.
+-- The decrements are finished: exactly the dead are gone, each is reported once, what is left stands as before, its count is
+-- its references, nothing is done, and no decrement waits. A reclaimed object loses its mark and gray bits, and all
+-- others are as they were. States of blocks, the lines that are out and the entries of the table of decrements stay, and so do
+-- lists and counters. Nothing else has changed.
 pub record Finishes (before after : Space) (m : Moment) (at : Name → ℕ) (gone : List Name) : Type 0 where
   pub dead : (n : Name) → IsTrue (has gone n) ↔ Dead m.last m.unreclaimed m.stuck n
   pub once : IsDistinct gone
@@ -31,6 +32,9 @@ pub record Finishes (before after : Space) (m : Moment) (at : Name → ℕ) (gon
   pub undecremented : IsUndecremented (tables_of after) (leaving m (without m.unreclaimed gone)) at
   pub empty : (tables_of after).cursors DECREMENT_COUNT ≡ 0
   pub keeps : KeepsListsAndCounters (tables_of before) (tables_of after)
+  pub marks : LosesBits (tables_of before).marks (tables_of after).marks at gone
+  pub grays : LosesBits (tables_of before).grays (tables_of after).grays at gone
+  pub decs : (tables_of after).decs ≡ (tables_of before).decs
   pub states : (tables_of after).states ≡ (tables_of before).states
   pub outs : (tables_of after).outs ≡ (tables_of before).outs
   pub space : after ≡ record before {

@@ -1,4 +1,5 @@
 pub mod Wipe
+pub mod Wanted
 pub mod Cascade
 pub mod Steps
 pub mod Finishing

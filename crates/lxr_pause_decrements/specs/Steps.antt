@@ -1,10 +1,25 @@
 -- What each step of the decrements asks, and from which stage to which it leads.
-use Rattle.std.specs.Prelude.{ℕ, ◌+◌, List, []}
+use Rattle.std.specs.Prelude.{ℕ, ◌+◌, ◌*◌, List, [], ◌∷◌}
 use Rattle.lxr_layout.specs.declared.Name.{Name}
+use Rattle.lxr_layout.specs.declared.TheConstants.{GRANULES_IN_BLOCK}
 use Rattle.lxr_image.specs.declared.space.Space.{Space}
 use Rattle.lxr_model_counting.specs.Lowering.{once}
 use Rattle.lxr_invariant.specs.Counting.{occurrences_from}
-use Rattle.lxr_pause_decrements.specs.Cascade.{CascadeStage, Drains, FieldWaits, IsAt, IsFinished, IsOpening, Reaches, Releasing, Waiting, held_by, later}
+use Rattle.lxr_pause_decrements.specs.Cascade.{CascadeStage, Drains, DroppedAt, FieldWaits, HandledAt, IsAt, IsEmptied, IsFinished, IsHandling, IsOpening, Reaches, Releasing, Waiting, come_to, held_by, later}
+
+-- an object that was handled is to be reclaimed; then it is
+abbrev pub MayReclaimHandled : Space → ℕ → Type 0
+MayReclaimHandled s granule = (st : CascadeStage) × HandledAt s granule st
+
+abbrev pub ReclaimsHandled : Space → Space → ℕ → Type 0
+ReclaimsHandled before after granule = (st : CascadeStage) → HandledAt before granule st → (n : Name) × IsHandling after (later st (n ∷ st.gone) st.work st.extra)
+
+-- all that was handled is to be reclaimed; then nothing is done, and all waits in the list of decrements
+abbrev pub MayReclaimAllHandled : Space → Type 0
+MayReclaimAllHandled s = (st : CascadeStage) × IsHandling s st
+
+abbrev pub ReclaimsAllHandled : Space → Space → Type 0
+ReclaimsAllHandled before after = (st : CascadeStage) → IsHandling before st → (gone : List Name) × IsOpening after (come_to (later st gone [] (λ o. 0)) 0)
 
 -- the space is at some stage
 abbrev pub IsMidway : Space → Type 0
@@ -36,13 +51,32 @@ Releases before after place = (st : CascadeStage) (r : Name) (rest : Name → �
 abbrev pub Empties : Space → Space → Type 0
 Empties before after = (st : CascadeStage) → IsAt before st → Drains after st
 
+-- an object without a count is to be reclaimed; then it is, with what dies by it
+abbrev pub MayDrop : Space → ℕ → Type 0
+MayDrop s granule = (st : CascadeStage) × DroppedAt s granule st
+
+abbrev pub Drops : Space → Space → ℕ → Type 0
+Drops before after granule = (st : CascadeStage) → DroppedAt before granule st → Drains after (come_to st (granule + 1))
+
 -- the last decrement of the list is taken out of it, and the object at its place waits
 abbrev pub TakesLast : Space → Space → ℕ → Type 0
 TakesLast before after place = (st : CascadeStage) → IsAt before st → (r : Name) × Waiting after place (later st st.gone st.work (λ o. st.extra o + once o r)) r st.extra
 
--- nothing waits but in the list of decrements; then exactly the dead are gone, and nothing waits
+-- the rest of the list of decrements, of which nothing waits, is taken out of it
+abbrev pub EmptiesList : Space → Space → Type 0
+EmptiesList before after = (st : CascadeStage) → IsOpening before st → IsEmptied after st
+
+-- nothing waits but in the list of decrements; then it is empty
 abbrev pub MayLowerAll : Space → Type 0
 MayLowerAll s = (st : CascadeStage) × IsOpening s st
 
 abbrev pub LowersAll : Space → Space → Type 0
-LowersAll before after = (st : CascadeStage) → IsOpening before st → (gone : List Name) × IsFinished after (later st gone [] (λ o. 0))
+LowersAll before after = (st : CascadeStage) → IsOpening before st → (gone : List Name) × IsEmptied after (later st gone [] (λ o. 0))
+
+-- nothing waits, and no granule is passed; then exactly the dead are gone
+abbrev pub MayDropAll : Space → Type 0
+MayDropAll s = (st : CascadeStage) × IsEmptied s (come_to st 0)
+
+abbrev pub DropsAll : Space → Space → Type 0
+DropsAll before after = (st : CascadeStage) → IsEmptied before (come_to st 0)
+    → (gone : List Name) × IsFinished after (come_to (later st gone [] (λ o. 0)) (GRANULES_IN_BLOCK * before.limits.blocks))

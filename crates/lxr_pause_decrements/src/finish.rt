@@ -1,18 +1,20 @@
 //! Lowering counts, one after another, until nothing waits.
-ghost use Rattle.std.specs.Prelude.{◌≡◌, ℕ, ◌+◌, ◌*◌, ◌≤◌, List};
-ghost use Rattle.lxr_layout.specs.declared.TheConstants.{DECREMENT_COUNT, GRANULES_IN_BLOCK};
+ghost use Rattle.std.specs.Prelude.{◌≡◌, ℕ, ◌+◌, ◌*◌, ◌<◌, ◌≤◌, List, false};
+ghost use Rattle.lxr_layout.specs.declared.TheConstants.{DECREMENT_COUNT, DECREMENT_CURSOR, GRANULES_IN_BLOCK};
 ghost use Rattle.lxr_layout.specs.declared.Name.{Name as NameOf};
 ghost use Rattle.lxr_layout.specs.declared.Shape.{Shape as ShapeOf};
 ghost use Rattle.lxr_layout.specs.Places.{IsPlace};
 ghost use Rattle.lxr_image.specs.Spaces.{IsSpace, tables_of};
+ghost use Rattle.lxr_image.specs.Tables.{changed};
 ghost use Rattle.lxr_model.specs.Moments.{Moment};
 ghost use Rattle.lxr_pause_decrements.specs.Finishing.{CanFinish, Finishes};
 ghost use Rattle.lxr_pause_decrements.specs.Cascade.{IsHeader, Keeps, Leaves, to_do};
-ghost use Rattle.lxr_pause_decrements.specs.Steps.{Empties, IsMidway, Lowers, LowersAll, LowersField, MayLower, MayLowerAll, MayLowerField, MayRelease, Releases, TakesLast};
+ghost use Rattle.lxr_pause_decrements.specs.Steps.{Drops, DropsAll, Empties, EmptiesList, IsMidway, Lowers, LowersAll, LowersField, MayDrop, MayDropAll, MayLower, MayLowerAll, MayLowerField, MayReclaimAllHandled, MayReclaimHandled, MayRelease, ReclaimsAllHandled, ReclaimsHandled, Releases, TakesLast};
 
-use crate::reclaim::reclaim;
+use crate::reclaim::{bury, reclaim};
+use crate::wanted::{Wanted, next_wanted};
 use lxr_image::Space;
-use lxr_layout::{DECREMENT_COUNT, Header, Place, unpack, word_of};
+use lxr_layout::{DECREMENT_COUNT, DECREMENT_CURSOR, Header, Place, unpack, word_of};
 use lxr_tables::Lowered;
 
 /// Lowers the count of the object at a place; a stuck count stays. With its last count the object is reclaimed, and what it
@@ -78,11 +80,36 @@ fn drain(space: &mut Space)
     }
 }
 
+/// Reclaims the object that begins at a granule and that a decrementer has handled. What it referred to was lowered then.
+fn reclaim_handled(space: &mut Space, granule: u32)
+    requires { MayReclaimHandled space.old granule }
+    ensures reclaims { ReclaimsHandled space.old space.new granule }
+    ensures dones { (tables_of space.new).dones ≡ changed (tables_of space.old).dones granule false }
+    ensures keeps { Keeps space.old space.new }
+{
+    bury(space, Place(granule + 1));
+    space.clear_done(granule);
+}
+
+/// Reclaims each object that a decrementer has handled.
+fn reclaim_all_handled(space: &mut Space)
+    requires { MayReclaimAllHandled space.old }
+    ensures reclaims { ReclaimsAllHandled space.old space.new }
+    ensures keeps { Keeps space.old space.new }
+{
+    let mut from = 0;
+    while let Some(granule) = next_wanted(space, Wanted::Handled, from) {
+        reclaim_handled(space, granule);
+        from = granule + 1;
+    }
+}
+
 /// Takes the last of the waiting decrements, of which there is one.
 fn take_decrement(space: &mut Space) -> Place
-    requires waiting { 1 ≤ (tables_of space.old).cursors DECREMENT_COUNT }
+    requires waiting { (tables_of space.old).cursors DECREMENT_CURSOR < (tables_of space.old).cursors DECREMENT_COUNT }
     requires stage { IsMidway space.old }
     ensures taken { TakesLast space.old space.new result.0 }
+    ensures drawn { (tables_of space.new).cursors DECREMENT_CURSOR ≡ (tables_of space.old).cursors DECREMENT_CURSOR }
     ensures fewer { (tables_of space.new).cursors DECREMENT_COUNT + 1 ≡ (tables_of space.old).cursors DECREMENT_COUNT }
     ensures leaves { Leaves space.old space.new }
 {
@@ -92,25 +119,63 @@ fn take_decrement(space: &mut Space) -> Place
     Place(place as u32)
 }
 
-/// Does every decrement of the list, with what each brings about.
-fn lower_all(space: &mut Space)
-    requires { MayLowerAll space.old }
-    ensures finished { LowersAll space.old space.new }
+/// Empties the list of decrements, all entries of which are drawn or done.
+fn empty_list(space: &mut Space)
+    requires drawn { (tables_of space.old).cursors DECREMENT_COUNT ≤ (tables_of space.old).cursors DECREMENT_CURSOR }
+    requires opening { MayLowerAll space.old }
+    ensures empties { EmptiesList space.old space.new }
     ensures leaves { Leaves space.old space.new }
 {
-    while space.cursor(DECREMENT_COUNT) != 0 {
+    space.put_cursor(DECREMENT_CURSOR, 0);
+    space.put_cursor(DECREMENT_COUNT, 0);
+}
+
+/// Does every decrement of the list that no decrementer drew, with what each brings about.
+fn lower_all(space: &mut Space)
+    requires { MayLowerAll space.old }
+    ensures lowers { LowersAll space.old space.new }
+    ensures leaves { Leaves space.old space.new }
+{
+    while space.cursor(DECREMENT_CURSOR) < space.cursor(DECREMENT_COUNT) {
         let place = take_decrement(space);
         lower_place(space, place);
         drain(space);
     }
+    empty_list(space);
 }
 
-/// Does every waiting decrement, and those that follow from it: the count of the object at each place of the list is lowered,
-/// and an object whose count falls to 0 is reclaimed, which lowers what its references hold in turn. What is reclaimed is
-/// reported as dead, in that order. It takes no memory, and no more of the machine's stack for a longer chain of objects.
+/// Reclaims the object without a count that begins at a granule, and what dies by it.
+fn reclaim_dropped(space: &mut Space, granule: u32)
+    requires { MayDrop space.old granule }
+    ensures drops { Drops space.old space.new granule }
+    ensures keeps { Keeps space.old space.new }
+{
+    reclaim(space, Place(granule + 1));
+    drain(space);
+}
+
+/// Reclaims each object that decrementers lowered to 0 and dropped, and what dies by it.
+fn reclaim_all_dropped(space: &mut Space)
+    requires { MayDropAll space.old }
+    ensures drops { DropsAll space.old space.new }
+    ensures keeps { Keeps space.old space.new }
+{
+    let mut from = 0;
+    while let Some(granule) = next_wanted(space, Wanted::Dropped, from) {
+        reclaim_dropped(space, granule);
+        from = granule + 1;
+    }
+}
+
+/// Finishes what decrementers have left, whatever they did. What they handled is reclaimed. The count of the object at each
+/// place of the list that none of them drew is lowered, and an object whose count falls to 0 is reclaimed, which lowers what
+/// its references hold in turn; and so is each object that they lowered to 0 and dropped. What is reclaimed is reported as
+/// dead. It takes no memory, and no more of the machine's stack for a longer chain of objects.
 pub fn finish_decrements(space: &mut Space)
     requires { (m : Moment) × (at : NameOf → ℕ) × CanFinish space.old m at }
     ensures { (m : Moment) (at : NameOf → ℕ) → CanFinish space.old m at → (gone : List NameOf) × Finishes space.old space.new m at gone }
 {
+    reclaim_all_handled(space);
     lower_all(space);
+    reclaim_all_dropped(space);
 }

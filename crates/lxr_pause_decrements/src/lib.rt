@@ -1,13 +1,15 @@
 //! Finishing the decrements of a pause: objects to which nothing refers any more are reclaimed, and so is what they alone
 //! referred to.
 //!
-//! Counts are lowered late, as in LXR (Zhao, Blackburn and McKinley, 2022): a pause queues what was overwritten, and the next
-//! one finishes what is left of the list.
+//! Counts are lowered late, as in LXR (Zhao, Blackburn and McKinley, 2022): a pause queues what was overwritten, decrementers
+//! lower some of it beside the mutators, and the next pause finishes what is left. It reclaims what decrementers have handled,
+//! lowers the entries of the list that none of them drew, and reclaims what they lowered to 0 and dropped.
 #![tactic(auto)]
 
 mod finish;
 mod laws;
 mod reclaim;
+mod wanted;
 
 pub use finish::finish_decrements;
 pub use laws::opened_can_finish;

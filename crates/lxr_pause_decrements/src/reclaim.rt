@@ -7,7 +7,7 @@ ghost use Rattle.lxr_layout.specs.Objects.{FitsShape, word_count};
 ghost use Rattle.lxr_layout.specs.Places.{IsPlace};
 ghost use Rattle.lxr_image.specs.Spaces.{IsSpace, Turns, tables_of};
 ghost use Rattle.lxr_invariant.specs.Lines.{line_behind, next_line};
-ghost use Rattle.lxr_pause_decrements.specs.Cascade.{IsHeader, Reclaims, without_object};
+ghost use Rattle.lxr_pause_decrements.specs.Cascade.{Buries, IsHeader, Reclaims, without_object};
 ghost use Rattle.lxr_pause_decrements.specs.Wipe.{cleared, wiped};
 
 use lxr_image::Space;
@@ -52,7 +52,21 @@ fn clear_object(space: &mut Space, place: Place, shape: Shape)
     clear_logs(space, 2 * granule + 1, shape.refs);
 }
 
-/// Reclaims the object at a place, whose count is 0: it begins no more, waits in the worklist, and is reported.
+/// Clears what an object at a place leaves, whose count is 0, and reports it: it begins no more.
+pub(crate) fn bury(space: &mut Space, place: Place)
+    requires space { IsSpace space.old }
+    requires place { IsPlace place }
+    requires header { (n : NameOf) × (shape : ShapeOf) × IsHeader (tables_of space.old) place.0 n shape × (place.0 - 1 + word_count shape / 2 ≤ GRANULES_IN_BLOCK * space.old.limits.blocks) }
+    requires dead { length space.old.report.dead.items < space.old.report.dead.room }
+    ensures { (n : NameOf) (shape : ShapeOf) → IsHeader (tables_of space.old) place.0 n shape → Buries space.old space.new place n shape }
+{
+    if let Header::Object(name, shape) = unpack(space.heap_word(word_of(place))) {
+        clear_object(space, place, shape);
+        space.report.dead.push(name);
+    }
+}
+
+/// Reclaims the object at a place, whose count is 0: it begins no more, is reported, and waits in the worklist.
 pub(crate) fn reclaim(space: &mut Space, place: Place)
     requires space { IsSpace space.old }
     requires place { IsPlace place }
@@ -61,9 +75,6 @@ pub(crate) fn reclaim(space: &mut Space, place: Place)
     requires dead { length space.old.report.dead.items < space.old.report.dead.room }
     ensures { (n : NameOf) (shape : ShapeOf) → IsHeader (tables_of space.old) place.0 n shape → Reclaims space.old space.new place n shape }
 {
-    if let Header::Object(name, shape) = unpack(space.heap_word(word_of(place))) {
-        clear_object(space, place, shape);
-        space.report.dead.push(name);
-        space.work.push(place);
-    }
+    bury(space, place);
+    space.work.push(place);
 }

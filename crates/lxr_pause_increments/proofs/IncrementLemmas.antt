@@ -27,14 +27,13 @@ use Rattle.lxr_model_counting.proofs.LoweringLemmas.{once_other}
 use Rattle.lxr_invariant.specs.AbstractState.{members}
 use Rattle.lxr_invariant.specs.Standing.{AreLogged, HasBits, place_of}
 use Rattle.lxr_invariant.specs.Counting.{count_at, passing}
-use Rattle.lxr_invariant.specs.Keeping.{KeepsListsAndCounters}
 use Rattle.lxr_invariant.specs.Lines.{HasBlocks, HasMarks, line_behind, next_line}
 use Rattle.lxr_invariant.specs.Raised.{with_promoted}
 use Rattle.lxr_invariant.proofs.NameLemmas.{distinct_more, has_more}
 use Rattle.lxr_invariant.proofs.EntryLemmas.{changed_cases, changed_here, changed_other, passing_few, passing_more, passing_one_more, passing_set}
 use Rattle.lxr_invariant.proofs.PlaceLemmas.{granules_differ, line_mark, mark_apart}
 use Rattle.lxr_invariant.proofs.FrameLemmas.{blocks_still}
-use Rattle.lxr_pause_increments.specs.Increments.{HasCountsSoFar, HasRoomToRaise, IsIncrementing, MayBeRaised, RaisingLeaves, IncrementStage, is_unpromoted, left, stage_with, count_so_far}
+use Rattle.lxr_pause_increments.specs.Increments.{HasCountsSoFar, HasRoomToRaise, IsIncrementing, MayBeRaised, RaisingLeaves, RaisingLeavesTables, IncrementStage, is_unpromoted, left, stage_with, count_so_far}
 use Rattle.lxr_pause_increments.specs.Promotion.{RaisesAt, TakesIn, fills, stuck_with, with_promotion, with_raised}
 use Rattle.lxr_pause_increments.proofs.RangeLemmas.{fill_cases, marked_cases, raised_full}
 use Rattle.lxr_pause_increments.proofs.FrameLemmas.{LeavesTables, imaged_stays, room_stays, same_blocks, space_stays}
@@ -56,12 +55,12 @@ spread a c work promoted stuck = record a {
   };
 }
 
-pub leaves_spread : (a c : Space) (work : List Place) (promoted stuck : List Name) → c ≡ spread a c work promoted stuck → KeepsListsAndCounters (tables_of a) (tables_of c) → (tables_of c).states ≡ (tables_of a).states → RaisingLeaves a c
-leaves_spread a c work promoted stuck rest keeps states =
+pub leaves_spread : (a c : Space) (work : List Place) (promoted stuck : List Name) → c ≡ spread a c work promoted stuck → RaisingLeavesTables (tables_of a) (tables_of c) → RaisingLeaves a c
+leaves_spread a c work promoted stuck rest tables =
     let w : work ≡ c.work.items = sym (ap (λ s. s.work.items) rest) in
     let p : promoted ≡ c.report.promoted.items = sym (ap (λ s. s.report.promoted.items) rest) in
     let q : stuck ≡ c.report.stuck.items = sym (ap (λ s. s.report.stuck.items) rest) in
-    record { space = rest ∙ (λ i. spread a c (w i) (p i) (q i)); keeps = keeps; states = states }
+    record { space = rest ∙ (λ i. spread a c (w i) (p i) (q i)); tables = tables }
 
 -- the names that are reported as stuck once o's count at a granule is raised
 abbrev names_at : Space → ℕ → Name → List Name
@@ -78,10 +77,16 @@ taken_spread a b c p o shape raised taken =
 pub raised_leaves : (a b : Space) (p : ℕ) (o : Name) → RaisesAt a b p o → RaisingLeaves a b
 raised_leaves a b p o raised =
     leaves_spread a b a.work.items a.report.promoted.items (names_at a p o) (raised_spread a b p o raised)
-    (subst (KeepsListsAndCounters (tables_of a)) (sym raised.tables) unwritten) (ap (λ t. t.states) raised.tables)
+    (subst (RaisingLeavesTables (tables_of a)) (sym raised.tables) unwritten)
   where
-    unwritten : KeepsListsAndCounters (tables_of a) (with_raised (tables_of a) (granule_of p))
-    unwritten = record { heap = refl; reuse = refl; runs = refl; frees = refl; remembered = refl; cursors = λ k h. refl }
+    unwritten : RaisingLeavesTables (tables_of a) (with_raised (tables_of a) (granule_of p))
+    unwritten = record {
+      keeps = record { heap = refl; reuse = refl; runs = refl; frees = refl; remembered = refl; cursors = λ k h j. refl };
+      states = refl;
+      marks = refl;
+      grays = refl;
+      decs = refl;
+    }
 
 -- the tables once a new object is promoted and raised
 abbrev pub with_first : Tables → ℕ → Shape → Tables
@@ -93,13 +98,19 @@ taken_tables a b c p o shape raised taken = taken.tables ∙ ap (λ t. with_prom
 pub taken_leaves : (a b c : Space) (p : Place) (o : Name) (shape : Shape) → RaisesAt a b p.0 o → TakesIn b c p o shape → RaisingLeaves a c
 taken_leaves a b c p o shape raised taken =
     leaves_spread a c (a.work.items ++ p ∷ []) (a.report.promoted.items ++ o ∷ []) (names_at a p.0 o) (taken_spread a b c p o shape raised taken)
-    (subst (KeepsListsAndCounters (tables_of a)) (sym tables) unwritten) (ap (λ t. t.states) tables)
+    (subst (RaisingLeavesTables (tables_of a)) (sym tables) unwritten)
   where
     tables : tables_of c ≡ with_first (tables_of a) p.0 shape
     tables = taken_tables a b c p o shape raised taken
 
-    unwritten : KeepsListsAndCounters (tables_of a) (with_first (tables_of a) p.0 shape)
-    unwritten = record { heap = refl; reuse = refl; runs = refl; frees = refl; remembered = refl; cursors = λ k h. refl }
+    unwritten : RaisingLeavesTables (tables_of a) (with_first (tables_of a) p.0 shape)
+    unwritten = record {
+      keeps = record { heap = refl; reuse = refl; runs = refl; frees = refl; remembered = refl; cursors = λ k h j. refl };
+      states = refl;
+      marks = refl;
+      grays = refl;
+      decs = refl;
+    }
 
 raised_tables : (a b : Space) (k : ℕ) → tables_of b ≡ with_raised (tables_of a) k → LeavesTables (tables_of a) (tables_of b)
 raised_tables a b k e = record { size = ap (λ t. t.size) e; heap = ap (λ t. t.heap) e; dones = ap (λ t. t.dones) e; states = ap (λ t. t.states) e; cursors = ap (λ t. t.cursors) e }

@@ -22,17 +22,16 @@ use Rattle.lxr_model_counting.proofs.BalanceLemmas.{has_permuted, references_per
 use Rattle.lxr_model_counting.proofs.DistinctLemmas.{distinct_permuted, or_false, union_same}
 use Rattle.lxr_model_counting.proofs.LoweringLemmas.{without_none}
 use Rattle.lxr_model_counting.proofs.RaisingLemmas.{growth_is_promoted}
-use Rattle.lxr_invariant.specs.Keeping.{KeepsListsAndCounters}
 use Rattle.lxr_invariant.specs.AbstractState.{members}
 use Rattle.lxr_invariant.specs.Standing.{HasBits, place_of}
 use Rattle.lxr_invariant.specs.Counting.{count_at, entries_between, undone, waiting_at}
 use Rattle.lxr_invariant.specs.Lines.{HasMarks}
 use Rattle.lxr_invariant.specs.Raised.{AreRaised, CountsAreRaised, IsRaised, count_found, count_raised, with_promoted}
 use Rattle.lxr_invariant.proofs.FrameLemmas.{bits_still, blocks_still, image_still, marks_still, none_undone}
-use Rattle.lxr_invariant.proofs.KeepingLemmas.{keeps_both}
-use Rattle.lxr_pause_increments.specs.Increments.{IsIncrementing, RaisingLeaves, IncrementStage, count_so_far}
+use Rattle.lxr_pause_increments.specs.Increments.{IsIncrementing, RaisingLeaves, RaisingLeavesTables, IncrementStage, count_so_far}
 use Rattle.lxr_pause_increments.specs.Accounted.{IsSettled, roots_held}
 use Rattle.lxr_pause_increments.specs.Raising.{CanRaise, Raises}
+use Rattle.lxr_pause_increments.proofs.ScanLemmas.{tables_both}
 use Rattle.lxr_pause_increments.proofs.GrownLemmas.{grown}
 use Rattle.lxr_pause_increments.proofs.StageLemmas.{promoted_within}
 
@@ -229,13 +228,24 @@ ended s w m at st tables is =
 pub raises : (before s b : Space) (m : Moment) (at : Name → ℕ) (st : IncrementStage) → CanRaise before m at → RaisingLeaves before s → IsSettled s m at st (roots_held m (length s.registers.items))
     → Turns s b (record (tables_of s) { outs = λ line. false }) → Raises before (record b { rest_next = 0; rest_end = 0 }) m at
 raises before s b m at st can leaves is turns =
-    let tables : tables_in s.limits b.words ≡ record (tables_of s) { outs = λ line. false } = ap {A = Space} (λ x. tables_in x.limits b.words) (sym turns.rest) ∙ turns.tables in
+    let words : tables_in s.limits b.words ≡ record (tables_of s) { outs = λ line. false } = ap {A = Space} (λ x. tables_in x.limits b.words) (sym turns.rest) ∙ turns.tables in
+    let brought_in : RaisingLeavesTables (tables_of s) (record (tables_of s) { outs = λ line. false }) = record {
+      keeps = record { heap = refl; reuse = refl; runs = refl; frees = refl; remembered = refl; cursors = λ k h j. refl };
+      states = refl;
+      marks = refl;
+      grays = refl;
+      decs = refl;
+    } in
+    let tables = tables_both (tables_of before) (tables_of s) (tables_of b) leaves.tables (subst (RaisingLeavesTables (tables_of s)) (sym turns.tables) brought_in) in
     let same : record s { words = b.words; rest_next = 0; rest_end = 0 } ≡ record b { rest_next = 0; rest_end = 0 } = sym (ap {A = Space} (λ x. record x { rest_next = 0; rest_end = 0 }) turns.rest) in
     let work : s.work.items ≡ before.work.items = is.accounted.incrementing.worklist ∙ ap (map (place_of at)) is.no_work ∙ sym can.holds.no_work in
     record {
-      raised = subst (λ x. IsRaised x m at x.report.promoted.items x.report.stuck.items) same (ended s b.words m at st tables is);
-      keeps = keeps_both (tables_of before) (tables_of s) (tables_of b) leaves.keeps (subst (KeepsListsAndCounters (tables_of s)) (sym turns.tables) (record { heap = refl; reuse = refl; runs = refl; frees = refl; remembered = refl; cursors = λ k h. refl }));
-      states = ap (λ t. t.states) turns.tables ∙ leaves.states;
+      raised = subst (λ x. IsRaised x m at x.report.promoted.items x.report.stuck.items) same (ended s b.words m at st words is);
+      keeps = tables.keeps;
+      states = tables.states;
+      marks = tables.marks;
+      grays = tables.grays;
+      decs = tables.decs;
       space = sym same
           ∙ ap {A = Space} (λ x. record x { words = b.words; rest_next = 0; rest_end = 0 }) leaves.space
           ∙ (λ i. record before {

@@ -14,6 +14,7 @@ use Rattle.lxr_graph.specs.State as state
 use Rattle.lxr_graph.specs.State.{object_at, refs_of, shape_of}
 use Rattle.lxr_image.specs.declared.space.Space.{Space}
 use Rattle.lxr_image.specs.Spaces.{tables_of}
+use Rattle.lxr_image.specs.Tables.{Tables}
 use Rattle.lxr_image.proofs.ReadLemmas.{header_unpacked}
 use Rattle.lxr_model.specs.Moments.{Moment}
 use Rattle.lxr_model_counting.specs.Distinct.{IsDistinct}
@@ -24,7 +25,7 @@ use Rattle.lxr_invariant.specs.Counting.{occurrences_from, passing}
 use Rattle.lxr_invariant.specs.Standing.{place_of}
 use Rattle.lxr_invariant.proofs.NameLemmas.{has_last, live_member, map_empty, occurrences_end, occurrences_step, split_last}
 use Rattle.lxr_invariant.proofs.KeepingLemmas.{keeps_both, keeps_same}
-use Rattle.lxr_pause_increments.specs.Increments.{IsIncrementing, MayBeRaised, RaisingLeaves, IncrementStage, is_unpromoted, left}
+use Rattle.lxr_pause_increments.specs.Increments.{IsIncrementing, MayBeRaised, RaisingLeaves, RaisingLeavesTables, IncrementStage, is_unpromoted, left}
 use Rattle.lxr_pause_increments.specs.Accounted.{IsAccounted, IsHolder, IsScanning, HeldMayBeRaised, Reaches, Settles, references_at, stage_with_held}
 use Rattle.lxr_pause_increments.proofs.OrderLemmas.{accounts_held, accounts_popped, accounts_same, distinct_last, has_before}
 
@@ -116,8 +117,21 @@ held_some m at st (Some o) w may some = (o, refl, record { member = may.member o
 
 -- ---- what raising leaves
 
+-- the same tables, and one step after another
+pub tables_same : (t u : Tables) → u ≡ t → RaisingLeavesTables t u
+tables_same t u e = record { keeps = keeps_same t u e; states = ap (λ x. x.states) e; marks = ap (λ x. x.marks) e; grays = ap (λ x. x.grays) e; decs = ap (λ x. x.decs) e }
+
+pub tables_both : (t u v : Tables) → RaisingLeavesTables t u → RaisingLeavesTables u v → RaisingLeavesTables t v
+tables_both t u v x y = record {
+  keeps = keeps_both t u v x.keeps y.keeps;
+  states = y.states ∙ x.states;
+  marks = y.marks ∙ x.marks;
+  grays = y.grays ∙ x.grays;
+  decs = y.decs ∙ x.decs;
+}
+
 pub leaves_none : (s : Space) → RaisingLeaves s s
-leaves_none s = record { space = refl; keeps = keeps_same (tables_of s) (tables_of s) refl; states = refl }
+leaves_none s = record { space = refl; tables = tables_same (tables_of s) (tables_of s) refl }
 
 pub leaves_both : (a b c : Space) → RaisingLeaves a b → RaisingLeaves b c → RaisingLeaves a c
 leaves_both a b c x y = record {
@@ -129,8 +143,7 @@ leaves_both a b c x y = record {
       stuck = record s.report.stuck { items = c.report.stuck.items };
     };
   }) x.space;
-  keeps = keeps_both (tables_of a) (tables_of b) (tables_of c) x.keeps y.keeps;
-  states = y.states ∙ x.states;
+  tables = tables_both (tables_of a) (tables_of b) (tables_of c) x.tables y.tables;
 }
 
 -- ---- references of one object
@@ -249,8 +262,7 @@ popped_leaves s now p work rest =
           stuck = record s.report.stuck { items = x.report.stuck.items };
         };
       }) (sym rest);
-      keeps = keeps_same (tables_of s) (tables_of now) (ap {A = Space} tables_of rest);
-      states = ap {A = Space} (λ x. (tables_of x).states) rest;
+      tables = tables_same (tables_of s) (tables_of now) (ap {A = Space} tables_of rest);
     }
 
 -- an empty worklist, as `pop` leaves it

@@ -5,6 +5,7 @@ use Rattle.lxr_layout.specs.declared.TheConstants.{DECREMENT_COUNT, DECREMENT_CU
 use Rattle.lxr_graph.specs.Names.{has, without}
 use Rattle.lxr_image.specs.declared.space.Space.{Space}
 use Rattle.lxr_image.specs.Spaces.{IsSpace, tables_of}
+use Rattle.lxr_image.specs.Tables.{Tables}
 use Rattle.lxr_image.specs.Opened.{HasRoom}
 use Rattle.lxr_model.specs.References.{references_from}
 use Rattle.lxr_model.specs.Moments.{Moment}
@@ -107,8 +108,15 @@ left s = (GRANULES_IN_BLOCK * s.limits.blocks - passing (tables_of s).starts (GR
 abbrev pub Accounts : Moment → IncrementStage → (Name → ℕ) → (Name → ℕ) → Type 0
 Accounts m st base pending = (o : Name) → st.added o + pending o ≡ base o + references_from m.state.graph (without st.promoted st.work) o
 
--- What raising leaves of a space: all but its words, the worklist, and the promoted and stuck names of the report; of tables,
--- lists, counters and states of blocks.
+-- Lists and counters, states of blocks, mark and gray bits and the entries of the table of decrements are as they were.
+pub record RaisingLeavesTables (t u : Tables) : Type 0 where
+  pub keeps : KeepsListsAndCounters t u
+  pub states : u.states ≡ t.states
+  pub marks : u.marks ≡ t.marks
+  pub grays : u.grays ≡ t.grays
+  pub decs : u.decs ≡ t.decs
+
+-- What raising leaves of a space: all but its words, the worklist, and the promoted and stuck names of the report.
 pub record RaisingLeaves (before after : Space) : Type 0 where
   pub space : after ≡ record before {
     words = after.words;
@@ -118,5 +126,4 @@ pub record RaisingLeaves (before after : Space) : Type 0 where
       stuck = record before.report.stuck { items = after.report.stuck.items };
     };
   }
-  pub keeps : KeepsListsAndCounters (tables_of before) (tables_of after)
-  pub states : (tables_of after).states ≡ (tables_of before).states
+  pub tables : RaisingLeavesTables (tables_of before) (tables_of after)

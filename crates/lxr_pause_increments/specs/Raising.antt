@@ -20,12 +20,16 @@ pub record CanRaise (s : Space) (m : Moment) (at : Name → ℕ) : Type 0 where
   pub none_promoted : s.report.promoted.items ≡ []
   pub none_stuck : s.report.stuck.items ≡ []
 
--- Counts are raised, and what the report has is what was promoted and became stuck. Lists, counters and states of blocks stay.
--- Nothing else has changed, but that no line is out, and no rest is left of the lines that a pause placed on last.
+-- Counts are raised, and what the report has is what was promoted and became stuck. Lists, counters, states of blocks, mark and
+-- gray bits and the entries of the table of decrements stay. Nothing else has changed, but that no line is out, and no rest is
+-- left of the lines that a pause placed on last.
 pub record Raises (before after : Space) (m : Moment) (at : Name → ℕ) : Type 0 where
   pub raised : IsRaised after m at after.report.promoted.items after.report.stuck.items
   pub keeps : KeepsListsAndCounters (tables_of before) (tables_of after)
   pub states : (tables_of after).states ≡ (tables_of before).states
+  pub marks : (tables_of after).marks ≡ (tables_of before).marks
+  pub grays : (tables_of after).grays ≡ (tables_of before).grays
+  pub decs : (tables_of after).decs ≡ (tables_of before).decs
   pub space : after ≡ record before {
     words = after.words;
     report = record before.report {

@@ -78,6 +78,7 @@ module _ (s : Space) (m : Moment) (at : Name → ℕ) (promoted stuck : List Nam
         is.counts.exact n h unstuck ∙ raised_balance m promoted stuck n is.follows is.raised
         ∙ (λ j. references m.state (sym (none_undone u at us is.none_done) j) n + sym (waits_lowered n h) j);
     done = λ n h done. let none = is.none_done (granule_of (at n)) in absurd (cc);
+    dead = λ n h done. let none = is.none_done (granule_of (at n)) in absurd (cc);
   }
 
   has_decrements : HasDecrements s.limits u then at
@@ -161,7 +162,7 @@ cursors_keep s k ne =
 
 -- so lists and counters do
 all_kept : (s : Space) → KeepsListsAndCounters (tables_of s) (appended (tables_of s) (all_queued s).decs (all_queued s).cursors (all_queued s).unlogged)
-all_kept s = record { heap = refl; reuse = refl; runs = refl; frees = refl; remembered = refl; cursors = cursors_keep s }
+all_kept s = record { heap = refl; reuse = refl; runs = refl; frees = refl; remembered = refl; cursors = λ k other. cursors_keep s k }
 
 -- entries, registers, and then the logs are emptied
 pub queues : (s e r : Space) (logs : Roomy LogEntry) (m : Moment) (at : Name → ℕ) (promoted stuck : List Name) → IsRaised s m at promoted stuck

@@ -7,9 +7,10 @@ use Rattle.lxr_image.specs.declared.space.Space.{Space}
 use Rattle.lxr_invariant.specs.AbstractState.{AbstractState}
 use Rattle.lxr_run_watch.specs.Sights.{Sight}
 use Rattle.lxr_text_print.specs.Replies.{ArePrintable, replies_text, thread_text}
+use Rattle.lxr_mutator.specs.Mutating.{Mutating}
 use Rattle.lxr_core_events.specs.ThreadStates.{all_of}
 use Rattle.lxr_core.specs.declared.actors.AnyActor.{AnyActor}
-use Rattle.lxr_core.specs.Actors.{mutator_in}
+use Rattle.lxr_core.specs.Actors.{mutators_in}
 use Rattle.lxr_run_history.specs.Run.{threads_text}
 use Rattle.lxr_run_history.proofs.HistoryLemmas.{history_whole}
 use Rattle.lxr_run_history.proofs.ReplyLemmas.{printable, text_of_thread}
@@ -20,11 +21,11 @@ use Rattle.lxr_run_invariant.proofs.PauseLemmas.{actors_paused}
 
 -- the pause behind the epoch in which the last thread ended is the last
 pub run_to : (task : Task) (safepoint space : Space) (written written' : Option (List ℕ)) (seen seen' : Option (List Sight)) (before actors : List AnyActor) (h : List Item) (g m : AbstractState) (report : PauseReport)
-    → HasRunEpoch task safepoint written seen before actors h g → HaveEnded actors → HasPaused task space written' seen' h report m → HasRunTo task space written' seen' actors (Pause report ∷ h)
+    → HasRunEpoch task safepoint written seen before actors h g → HaveEnded (mutators_in actors) → HasPaused task space written' seen' h report m → HasRunTo task space written' seen' actors (Pause report ∷ h)
 run_to task safepoint space written written' seen seen' before actors h g m report ran ended paused = record {
   history = history_whole task.options task.script h report paused.come.history (record {
-    calls = threads_are_done task h actors ran.come.history.0 ran.actors_rest ended;
-    ended = ends_are_all task h actors ran.come.history.0 ran.actors_rest ended;
+    calls = threads_are_done task h (mutators_in actors) ran.come.history.0 ran.actors_rest.mutators ended;
+    ended = ends_are_all task h (mutators_in actors) ran.come.history.0 ran.actors_rest.mutators ended;
   });
   left = (m, record { stands = paused.come.stands; between = paused.between; limits = paused.come.limits; tally = paused.come.tally });
   text = paused.come.text;
@@ -39,36 +40,36 @@ runs_end task safepoint space written written' seen seen' before actors h g ran 
 -- ---- the text of the replies
 
 -- what a whole history has of a thread
-pub record HasThread (h : List Item) (t : ℕ) (a : AnyActor) : Type 0 where
-  pub calls : calls_of t h ≡ all_of (mutator_in a).operations
-  pub replies : replies_of t h ≡ (mutator_in a).replies.items
+pub record HasThread (h : List Item) (t : ℕ) (a : Mutating) : Type 0 where
+  pub calls : calls_of t h ≡ all_of a.operations
+  pub replies : replies_of t h ≡ a.replies.items
 
 -- it has all operations and the end of each, and the replies that its mutator keeps
 pub thread_of_run : (task : Task) (space : Space) (written : Option (List ℕ)) (seen : Option (List Sight)) (actors : List AnyActor) (h : List Item) → HasRunTo task space written seen actors h
-    → (i : ℕ) (a : AnyActor) → slice_get actors i ≡ Some a → HasThread h (i + 1) a
+    → (i : ℕ) (a : Mutating) → slice_get (mutators_in actors) i ≡ Some a → HasThread h (i + 1) a
 thread_of_run task space written seen actors h run i a at =
-    let within = slice_get_within actors i a at in
-    let many = as_many task h actors run.actors_rest in
+    let within = slice_get_within (mutators_in actors) i a at in
+    let many = as_many task h (mutators_in actors) run.actors_rest.mutators in
     record {
-      calls = run.history.belongs.calls (i + 1) (omega arith) (omega arith) ∙ operations_at task.script actors i a run.actors_rest.script at;
-      replies = (run.actors_rest.rest.each i a at).replies;
+      calls = run.history.belongs.calls (i + 1) (omega arith) (omega arith) ∙ operations_at task.script (mutators_in actors) i a run.actors_rest.mutators.script at;
+      replies = (run.actors_rest.mutators.rest.each i a at).replies;
     }
 
 -- its replies can be printed
 pub replies_printable : (task : Task) (space : Space) (written : Option (List ℕ)) (seen : Option (List Sight)) (actors : List AnyActor) (h : List Item) → HasRunTo task space written seen actors h
-    → (i : ℕ) (a : AnyActor) → slice_get actors i ≡ Some a → ArePrintable (mutator_in a).operations (mutator_in a).replies.items
+    → (i : ℕ) (a : Mutating) → slice_get (mutators_in actors) i ≡ Some a → ArePrintable a.operations a.replies.items
 replies_printable task space written seen actors h run i a at =
     let thread = thread_of_run task space written seen actors h run i a at in
-    printable task.options (threads_of task) (i + 1) h (mutator_in a).operations (mutator_in a).replies.items run.history.legal.0
-    (none_end (mutator_in a) (run.actors_rest.rest.each i a at).mutator.sound) thread.calls thread.replies
+    printable task.options (threads_of task) (i + 1) h a.operations a.replies.items run.history.legal.0
+    (none_end a (run.actors_rest.mutators.rest.each i a at).mutator.sound) thread.calls thread.replies
 
 -- the text of one thread more
-pub text_of_actor : (task : Task) (space : Space) (written : Option (List ℕ)) (seen : Option (List Sight)) (actors : List AnyActor) (h : List Item) → HasRunTo task space written seen actors h
-    → (i : ℕ) (a : AnyActor) → slice_get actors i ≡ Some a
-    → threads_text (i + 1) h ≡ threads_text i h ++ replies_text (i + 1) (mutator_in a).operations (mutator_in a).replies.items
-text_of_actor task space written seen actors h run i a at =
+pub text_of_mutator : (task : Task) (space : Space) (written : Option (List ℕ)) (seen : Option (List Sight)) (actors : List AnyActor) (h : List Item) → HasRunTo task space written seen actors h
+    → (i : ℕ) (a : Mutating) → slice_get (mutators_in actors) i ≡ Some a
+    → threads_text (i + 1) h ≡ threads_text i h ++ replies_text (i + 1) a.operations a.replies.items
+text_of_mutator task space written seen actors h run i a at =
     let thread = thread_of_run task space written seen actors h run i a at in
     let next : i + 1 ≡ suc i = omega arith in
     ap (λ n. threads_text n h) next
     ∙ ap (λ n. threads_text i h ++ thread_text n h) (sym next)
-    ∙ ap (λ z. threads_text i h ++ z) (text_of_thread (i + 1) h (mutator_in a).operations (mutator_in a).replies.items thread.calls thread.replies)
+    ∙ ap (λ z. threads_text i h ++ z) (text_of_thread (i + 1) h a.operations a.replies.items thread.calls thread.replies)

@@ -1,5 +1,5 @@
 -- What an epoch does to a run: it may be opened where the run is between epochs, and once it is closed a pause has a cause.
-use Rattle.std.proofs.Common.{◌≡◌, ℕ, suc, ◌+◌, ◌<◌, ◌≤◌, ◌⊎◌, refl, sym, ap, subst, ◌∙◌, inl, inr, arith, IsTrue, List, ◌∷◌, length}
+use Rattle.std.proofs.Common.{◌≡◌, ℕ, suc, ◌+◌, ◌<◌, ◌≤◌, ◌⊎◌, refl, sym, ap, subst, ◌∙◌, inl, inr, arith, IsTrue, List, [], ◌∷◌, length, map}
 use Rattle.std.specs.Prelude.{Option}
 use Rattle.lxr_layout.specs.declared.Name.{Name}
 use Rattle.lxr_layout.specs.declared.limits.Limits.{Limits}
@@ -18,15 +18,16 @@ use Rattle.lxr_invariant.specs.AbstractState.{AbstractState}
 use Rattle.lxr_invariant.proofs.NameLemmas.{in_first}
 use Rattle.lxr_text_stream.specs.Streams.{Appends}
 use Rattle.lxr_run_watch.specs.Sights.{Sight}
-use Rattle.lxr_mutator.specs.Mutating.{is_loaded, is_new, is_stored}
+use Rattle.lxr_mutator.specs.Mutating.{Mutating, is_loaded, is_new, is_stored}
 use Rattle.lxr_core_events.specs.EpochStates.{CountsObjects, Extends, called, same}
 use Rattle.lxr_core_events.proofs.ObjectLemmas.{legal_counts}
 use Rattle.lxr_core.specs.declared.actors.AnyActor.{AnyActor}
-use Rattle.lxr_core.specs.Actors.{script_of}
+use Rattle.lxr_core.specs.declared.actors.AnyActor.TheVariants as any
+use Rattle.lxr_core.specs.Actors.{decrementers_in, mutators_in, script_of}
 use Rattle.lxr_core.specs.Closing.{AreFinished, Closes, HasProgress}
-use Rattle.lxr_core.specs.Collecting.{loads_of, news_of, stores_of, tally_with}
+use Rattle.lxr_core.specs.Collecting.{actor_given_up, loads_of, news_of, stores_of, tally_with}
 use Rattle.lxr_core.specs.Opening.{Begins}
-use Rattle.lxr_core.specs.Resting.{RestAfter}
+use Rattle.lxr_core.specs.Resting.{ActorsRestAfter, HelpersRest, RestAfter}
 use Rattle.lxr_core.specs.Executions.{Execution}
 use Rattle.lxr_core.proofs.ClosingLemmas.{given_script}
 use Rattle.lxr_run_history.specs.Left.{last_report}
@@ -36,7 +37,7 @@ use Rattle.lxr_run_history.proofs.HistoryLemmas.{early_extends, history_extends,
 use Rattle.lxr_run_history.proofs.SightLemmas.{sees_epoch}
 use Rattle.lxr_run_history.proofs.TallyLemmas.{loads_are, news_are, stores_are}
 use Rattle.lxr_run_history.proofs.ThreadSums.{counted_in, one}
-use Rattle.lxr_run_invariant.specs.LoopInvariant.{HasCome, HasMore, HasRunEpoch, HaveActors, HaveEnded, IsBetweenEpochs, SomeWait, Task, done_of, task_limits, terms_of, threads_of}
+use Rattle.lxr_run_invariant.specs.LoopInvariant.{HasCome, HasMore, HasRunEpoch, HaveActors, HaveEnded, HaveMutators, IsBetweenEpochs, SomeWait, Task, done_of, task_limits, terms_of, threads_of}
 use Rattle.lxr_run_invariant.specs.Laws.{EpochsRun, beginning_of}
 use Rattle.lxr_run_invariant.proofs.ActorLemmas.{calls_are_done, ends_are_all, ends_are_fewer, has_begun, kind_is}
 
@@ -58,7 +59,7 @@ may_open task space written seen actors h g amid =
         no_trace = come.no_trace;
         counted = subst (λ n. CountsObjects n h) threads (legal_counts (terms_of task) h come.history.0);
       };
-      actors_rest = subst (λ l. RestAfter l task.options.every h actors) (sym come.limits) amid.actors_rest.rest;
+      actors_rest = subst (λ l. ActorsRestAfter l task.options.every h actors) (sym come.limits) (record { mutators = amid.actors_rest.mutators.rest; helpers = amid.actors_rest.helpers });
       served = amid.served;
     }
 
@@ -106,18 +107,18 @@ tally_extends threads every h k (same) = refl
 tally_extends threads every h k (called l t o r before is) = counted_rest (tally_of threads l) (tally_of threads h) r (tally_extends threads every h l before)
 
 -- and these are the sums over the threads
-tally_told : (task : Task) (h k : List Item) (actors : List AnyActor) → IsHistorySoFar (terms_of task) task.script k → Extends (threads_of task) task.options.every h k → HaveActors task k actors
-    → tally_with (tally_of (threads_of task) h) actors ≡ tally_of (threads_of task) k
-tally_told task h k actors history extends have =
+tally_told : (task : Task) (h k : List Item) (mutators : List Mutating) → IsHistorySoFar (terms_of task) task.script k → Extends (threads_of task) task.options.every h k → HaveMutators task k mutators
+    → tally_with (tally_of (threads_of task) h) mutators ≡ tally_of (threads_of task) k
+tally_told task h k mutators history extends have =
     let legal = history.0 in
-    let news : (tally_of (threads_of task) k).news ≡ news_of actors = news_are (threads_of task) k ∙ kind_is task k actors legal have is_new news_of refl (λ a actors. refl) in
-    let loads : (tally_of (threads_of task) k).loads ≡ loads_of actors = loads_are (threads_of task) k ∙ kind_is task k actors legal have is_loaded loads_of refl (λ a actors. refl) in
-    let stores : (tally_of (threads_of task) k).stores ≡ stores_of actors = stores_are (threads_of task) k ∙ kind_is task k actors legal have is_stored stores_of refl (λ a actors. refl) in
+    let news : (tally_of (threads_of task) k).news ≡ news_of mutators = news_are (threads_of task) k ∙ kind_is task k mutators legal have is_new news_of refl (λ a mutators. refl) in
+    let loads : (tally_of (threads_of task) k).loads ≡ loads_of mutators = loads_are (threads_of task) k ∙ kind_is task k mutators legal have is_loaded loads_of refl (λ a mutators. refl) in
+    let stores : (tally_of (threads_of task) k).stores ≡ stores_of mutators = stores_are (threads_of task) k ∙ kind_is task k mutators legal have is_stored stores_of refl (λ a mutators. refl) in
     sym (
     tally_extends (threads_of task) task.options.every h k extends
     ∙ ap (λ n. sums (tally_of (threads_of task) h) n (tally_of (threads_of task) k).loads (tally_of (threads_of task) k).stores) news
-    ∙ ap (λ n. sums (tally_of (threads_of task) h) (news_of actors) n (tally_of (threads_of task) k).stores) loads
-    ∙ ap (λ n. sums (tally_of (threads_of task) h) (news_of actors) (loads_of actors) n) stores
+    ∙ ap (λ n. sums (tally_of (threads_of task) h) (news_of mutators) n (tally_of (threads_of task) k).stores) loads
+    ∙ ap (λ n. sums (tally_of (threads_of task) h) (news_of mutators) (loads_of mutators) n) stores
     )
   where
     sums : Tally → ℕ → ℕ → ℕ → Tally
@@ -125,12 +126,18 @@ tally_told task h k actors history extends have =
 
 -- ---- the closing of an epoch
 
+-- helpers give up nothing
+given_helpers : (actors : List AnyActor) → decrementers_in (map actor_given_up actors) ≡ decrementers_in actors
+given_helpers [] = refl
+given_helpers (any.Mutator m ∷ actors) = given_helpers actors
+given_helpers (any.Decrementer d ∷ actors) = ap (λ z. d ∷ z) (given_helpers actors)
+
 -- once all are through, and not all were before, something was done
-all_through_did : (task : Task) (h k : List Item) (before actors : List AnyActor) → IsHistorySoFar (terms_of task) task.script h → IsHistorySoFar (terms_of task) task.script k
-    → Extends (threads_of task) task.options.every h k → HaveActors task h before → HaveActors task k actors → HasMore before → HaveEnded actors → length h < length k
-all_through_did task h k before actors history history' extends have have' more ended =
+all_through_did : (task : Task) (h k : List Item) (before mutators : List Mutating) → IsHistorySoFar (terms_of task) task.script h → IsHistorySoFar (terms_of task) task.script k
+    → Extends (threads_of task) task.options.every h k → HaveMutators task h before → HaveMutators task k mutators → HasMore before → HaveEnded mutators → length h < length k
+all_through_did task h k before mutators history history' extends have have' more ended =
     let fewer = ends_are_fewer task h before history.0 have more in
-    let all = ends_are_all task k actors history'.0 have' ended in
+    let all = ends_are_all task k mutators history'.0 have' ended in
     let grow = ends_extend (threads_of task) task.options.every h k extends in
     omega arith
   where
@@ -144,8 +151,8 @@ all_through_did task h k before actors history history' extends have have' more 
         ends_one t o r l = omega arith
 
 module _ (task : Task) (space mid after : Space) (written : Option (List ℕ)) (seen : Option (List Sight)) (before actors : List AnyActor) (h : List Item) (g : AbstractState) (execution : Execution)
-    (amid : IsBetweenEpochs task space written seen before h g) (mid_is : mid ≡ record space { words = mid.words }) (script : script_of execution.core.actors ≡ task.script)
-    (finished : AreFinished execution.core.actors) (closes : Closes (beginning_of task space h g) execution mid after actors) where
+    (amid : IsBetweenEpochs task space written seen before h g) (mid_is : mid ≡ record space { words = mid.words }) (script : script_of (mutators_in execution.core.actors) ≡ task.script)
+    (workers : length (decrementers_in execution.core.actors) ≡ task.options.workers) (finished : AreFinished (mutators_in execution.core.actors)) (closes : Closes (beginning_of task space h g) execution mid after actors) where
   -- the limits, the threads and the calls of the epoch are those of the run
   limits : space.limits ≡ task_limits task
   limits = amid.come.limits
@@ -167,13 +174,18 @@ module _ (task : Task) (space mid after : Space) (written : Option (List ℕ)) (
   -- the actors are those of the script still
   have : HaveActors task execution.history actors
   have = record {
-    rest = subst (λ l. RestAfter l task.options.every execution.history actors) limits closes.actors_rest;
-    script = ap script_of closes.gave ∙ given_script execution.core.actors ∙ script;
+    mutators = record {
+      rest = subst (λ l. RestAfter l task.options.every execution.history (mutators_in actors)) limits closes.actors_rest.mutators;
+      script = ap (λ z. script_of (mutators_in z)) closes.gave ∙ given_script execution.core.actors ∙ script;
+    };
+    helpers = subst (λ l. HelpersRest l actors) limits closes.actors_rest.helpers;
+    workers = ap (λ z. length (decrementers_in z)) closes.gave ∙ ap length (given_helpers execution.core.actors) ∙ workers;
+    few = amid.actors_rest.few;
   }
 
   -- the history is one so far
   history : IsHistorySoFar (terms_of task) task.script execution.history
-  history = history_extends task.options task.script h execution.history amid.come.history extends (has_begun task execution.history actors have)
+  history = history_extends task.options task.script h execution.history amid.come.history extends (has_begun task execution.history (mutators_in actors) have.mutators)
 
   same_limits : after.limits ≡ space.limits
   same_limits = ap (λ (s : Space). s.limits) closes.rest ∙ ap (λ (s : Space). s.limits) mid_is
@@ -182,8 +194,8 @@ module _ (task : Task) (space mid after : Space) (written : Option (List ℕ)) (
   tally : after.tally ≡ tally_of (threads_of task) execution.history
   tally =
       closes.tally
-      ∙ ap (λ (t : Tally). tally_with t actors) (ap (λ (s : Space). s.tally) mid_is ∙ amid.come.tally)
-      ∙ tally_told task h execution.history actors history extends have
+      ∙ ap (λ (t : Tally). tally_with t (mutators_in actors)) (ap (λ (s : Space). s.tally) mid_is ∙ amid.come.tally)
+      ∙ tally_told task h execution.history (mutators_in actors) history extends have.mutators
 
   -- a member then was a member before
   still : (n : Name) → IsTrue (has safepoint_state.moment.unreclaimed n) → IsTrue (has g.moment.unreclaimed n)
@@ -196,7 +208,6 @@ module _ (task : Task) (space mid after : Space) (written : Option (List ℕ)) (
     history = history;
     stands = record { moment = moment_is; reported = amid.come.stands.reported ∙ sym (report_extends (threads_of task) task.options.every h execution.history extends) };
     safepoint = closes.safepoint;
-    undecremented = closes.undecremented;
     no_trace = ap (λ (m : Moment). m.trace) moment_is ∙ trace_extends (threads_of task) task.options.every h execution.history extends ∙ ap (λ (m : Moment). m.trace) (sym amid.come.stands.moment) ∙ amid.come.no_trace;
     limits = same_limits ∙ limits;
     tally = tally;
@@ -207,19 +218,19 @@ module _ (task : Task) (space mid after : Space) (written : Option (List ℕ)) (
   }
 
   -- the actors have done as many calls more as the history is longer
-  grown : length h + done_of actors ≡ length execution.history + done_of before
+  grown : length h + done_of (mutators_in actors) ≡ length execution.history + done_of (mutators_in before)
   grown =
-      let now = calls_are_done task execution.history actors history.0 have in
-      let was = calls_are_done task h before amid.come.history.0 amid.actors_rest in
+      let now = calls_are_done task execution.history (mutators_in actors) history.0 have.mutators in
+      let was = calls_are_done task h (mutators_in before) amid.come.history.0 amid.actors_rest.mutators in
       let more = calls_extend (threads_of task) task.options.every h execution.history extends in
       omega arith
 
   -- the epoch has done something, or a `new` waits
-  progress : HasProgress (beginning_of task space h g) execution actors → (done_of before < done_of actors) ⊎ SomeWait actors
+  progress : HasProgress (beginning_of task space h g) execution (mutators_in actors) → (done_of (mutators_in before) < done_of (mutators_in actors)) ⊎ SomeWait (mutators_in actors)
   progress (inl longer) = inl (let more = grown in omega arith)
   progress (inr (inl waits)) = inr waits
   progress (inr (inr ended)) =
-      let longer = all_through_did task h execution.history before actors amid.come.history history extends amid.actors_rest have amid.more ended in
+      let longer = all_through_did task h execution.history (mutators_in before) (mutators_in actors) amid.come.history history extends amid.actors_rest.mutators have.mutators amid.more ended in
       inl (let more = grown in omega arith)
 
   -- an epoch has run
@@ -229,10 +240,10 @@ module _ (task : Task) (space mid after : Space) (written : Option (List ℕ)) (
     actors_rest = have;
     news = closes.news;
     due = (
-      subst (λ s. HasCause (terms_of task) s execution.history) have.script
+      subst (λ s. HasCause (terms_of task) s execution.history) have.mutators.script
           (closes.cause finished (terms_of task) (record { threads = sym threads; blocks = ap (λ (l : Limits). l.blocks) (sym limits); log = ap (λ (l : Limits). l.log) (sym limits); every = refl }) amid.come.history.0),
       early_extends task.options task.script task.options.every h execution.history extends
-          (was_early task.options task.script h (ends_are_fewer task h before amid.come.history.0 amid.actors_rest amid.more)),
+          (was_early task.options task.script h (ends_are_fewer task h (mutators_in before) amid.come.history.0 amid.actors_rest.mutators amid.more)),
     );
     progress = progress (closes.progress finished amid.served.unasked);
     grows = let more = grown in let longer = length_extends (threads_of task) task.options.every h execution.history extends in omega arith;
@@ -246,4 +257,4 @@ module _ (task : Task) (space mid after : Space) (written : Option (List ℕ)) (
 -- so it is of each epoch
 pub epochs_run : EpochsRun
 epochs_run task space mid after written seen before actors h g execution amid closed =
-    (safepoint_state task space mid after written seen before actors h g execution amid closed.words closed.script closed.finished closed.closes, epoch_run task space mid after written seen before actors h g execution amid closed.words closed.script closed.finished closed.closes)
+    (safepoint_state task space mid after written seen before actors h g execution amid closed.words closed.script closed.workers closed.finished closed.closes, epoch_run task space mid after written seen before actors h g execution amid closed.words closed.script closed.workers closed.finished closed.closes)

@@ -15,12 +15,12 @@ use Rattle.lxr_text_stream.proofs.StreamLemmas.{Appends-nil}
 use Rattle.lxr_mutator.specs.Mutating.{Mutating}
 use Rattle.lxr_mutator.specs.Mutators.{IsMutator, first}
 use Rattle.lxr_core.specs.declared.actors.AnyActor.{AnyActor}
-use Rattle.lxr_core.specs.Actors.{mutator_in, script_of}
-use Rattle.lxr_core.specs.Resting.{RestsAfter}
+use Rattle.lxr_core.specs.Actors.{decrementers_in, mutators_in, script_of}
+use Rattle.lxr_core.specs.Resting.{HelpersRest, RestsAfter}
 use Rattle.lxr_graph.specs.declared.Op.{Op}
 use Rattle.lxr_run_history.proofs.SightLemmas.{sees_none}
 use Rattle.lxr_run_invariant.proofs.ActorLemmas.{found}
-use Rattle.lxr_run_invariant.specs.LoopInvariant.{HaveActors, IsBetweenEpochs, Task, task_limits, threads_of}
+use Rattle.lxr_run_invariant.specs.LoopInvariant.{HaveActors, HaveMutators, IsBetweenEpochs, Task, task_limits, threads_of}
 
 -- a space that was just opened, for so many threads: what it stands for, and what is listed
 pub record IsOpenedFor (task : Task) (space : Space) (g : AbstractState) : Type 0 where
@@ -48,34 +48,43 @@ first_rests l every t operations is = record {
   ended = λ e. absurd (cc);
 }
 
--- each actor is the mutator of its thread as it is made
-pub record AreFirst (task : Task) (actors : List AnyActor) : Type 0 where
-  pub script : script_of actors ≡ task.script
-  pub each : (i : ℕ) (a : AnyActor) → slice_get actors i ≡ Some a → mutator_in a ≡ first (i + 1) (mutator_in a).operations (task_limits task) task.options.every
-  pub sound : (i : ℕ) (a : AnyActor) → slice_get actors i ≡ Some a → IsMutator (mutator_in a)
+-- each mutator is that of its thread as it is made
+pub record AreFirst (task : Task) (mutators : List Mutating) : Type 0 where
+  pub script : script_of mutators ≡ task.script
+  pub each : (i : ℕ) (m : Mutating) → slice_get mutators i ≡ Some m → m ≡ first (i + 1) m.operations (task_limits task) task.options.every
+  pub sound : (i : ℕ) (m : Mutating) → slice_get mutators i ≡ Some m → IsMutator m
 
 -- so do all of them
-first_have : (task : Task) (actors : List AnyActor) → AreFirst task actors → HaveActors task [] actors
-first_have task actors are = record {
+first_mutators : (task : Task) (mutators : List Mutating) → AreFirst task mutators → HaveMutators task [] mutators
+first_mutators task mutators are = record {
   rest = record {
-    as_many = sym (length-map actors (λ (a : AnyActor). (mutator_in a).operations)) ∙ ap length are.script;
-    each = λ i a at.
-        let is = are.each i a at in
+    as_many = sym (length-map mutators (λ (m : Mutating). m.operations)) ∙ ap length are.script;
+    each = λ i m at.
+        let is = are.each i m at in
         subst (RestsAfter (task_limits task) task.options.every [] (i + 1)) (sym is)
-        (first_rests (task_limits task) task.options.every (i + 1) (mutator_in a).operations (subst IsMutator is (are.sound i a at)));
+        (first_rests (task_limits task) task.options.every (i + 1) m.operations (subst IsMutator is (are.sound i m at)));
   };
   script = are.script;
 }
 
+-- and behind them stand as many decrementers as the options ask for, each as it is made
+pub record AreAsMade (task : Task) (actors : List AnyActor) : Type 0 where
+  pub mutators : AreFirst task (mutators_in actors)
+  pub helpers : HelpersRest (task_limits task) actors
+  pub workers : length (decrementers_in actors) ≡ task.options.workers
+  pub few : task.options.workers ≤ 8
+
+first_have : (task : Task) (actors : List AnyActor) → AreAsMade task actors → HaveActors task [] actors
+first_have task actors are = record { mutators = first_mutators task (mutators_in actors) are.mutators; helpers = are.helpers; workers = are.workers; few = are.few }
+
 -- the run is between epochs, with the empty history
-pub between_opened : (task : Task) (space : Space) (g : AbstractState) (actors : List AnyActor) → 1 ≤ threads_of task → IsOpenedFor task space g → AreFirst task actors
+pub between_opened : (task : Task) (space : Space) (g : AbstractState) (actors : List AnyActor) → 1 ≤ threads_of task → IsOpenedFor task space g → AreAsMade task actors
     → IsBetweenEpochs task space task.written task.seen actors [] g
 between_opened task space g actors some opened are = record {
   come = record {
     history = (tt, record { calls = λ t low high. (operations_of task.script t, refl); asked = tt; turns = tt; causes = tt; early = tt });
     stands = record { moment = opened.moment; reported = opened.reported };
     safepoint = opened.between.safepoint;
-    undecremented = opened.between.undecremented;
     no_trace = ap (λ m. m.trace) opened.moment;
     limits = opened.limits;
     tally = opened.tally;
@@ -89,13 +98,13 @@ between_opened task space g actors some opened are = record {
   all_listed = opened.all_listed;
   actors_rest = first_have task actors are;
   served = record {
-    unwaiting = λ i a at waits. let e = sym (ap (λ (m : Mutating). m.end) (are.each i a at)) ∙ waits.0 in cc;
+    unwaiting = λ i a at waits. let e = sym (ap (λ (m : Mutating). m.end) (are.mutators.each i a at)) ∙ waits.0 in cc;
     few = λ t. omega arith;
     unasked = λ t. refl;
   };
   few = let none = opened.pauses in omega arith;
   more =
-      let many : length actors ≡ threads_of task = sym (length-map actors (λ (a : AnyActor). (mutator_in a).operations)) ∙ ap length are.script in
-      let (a, at) = found actors 0 (omega arith) in
-      (0, a, at, λ through. let e = sym (ap (λ (m : Mutating). m.end) (are.each 0 a at)) ∙ through.1 in cc);
+      let many : length (mutators_in actors) ≡ threads_of task = sym (length-map (mutators_in actors) (λ (m : Mutating). m.operations)) ∙ ap length are.mutators.script in
+      let (a, at) = found (mutators_in actors) 0 (omega arith) in
+      (0, a, at, λ through. let e = sym (ap (λ (m : Mutating). m.end) (are.mutators.each 0 a at)) ∙ through.1 in cc);
 }

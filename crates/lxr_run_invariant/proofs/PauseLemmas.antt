@@ -16,7 +16,7 @@ use Rattle.lxr_text_stream.proofs.StreamLemmas.{Appends-append, AppendsFront-aft
 use Rattle.lxr_text_print.specs.Reports.{report_text}
 use Rattle.lxr_run_watch.specs.Sights.{Looks, Sight, sight_of}
 use Rattle.lxr_core.specs.declared.actors.AnyActor.{AnyActor}
-use Rattle.lxr_core.specs.Actors.{mutator_in}
+use Rattle.lxr_core.specs.Actors.{mutators_in}
 use Rattle.lxr_core.specs.Resting.{RestsAfter}
 use Rattle.lxr_mutator.specs.Mutating.{Mutating}
 use Rattle.lxr_run_history.specs.Left.{StandsAfter}
@@ -28,24 +28,24 @@ use Rattle.lxr_run_history.proofs.SightLemmas.{sees_pause}
 use Rattle.lxr_run_history.proofs.SpaceLemmas.{safepoint_tallied}
 use Rattle.lxr_run_history.proofs.TallyLemmas.{logs_few, pauses_are, replies_few}
 use Rattle.lxr_run_history.proofs.ThreadSums.{counted_in, one}
-use Rattle.lxr_run_invariant.specs.LoopInvariant.{FitsCounts, HasCome, HaveActors, IsPauseDue, IsPaused, Task, WasCutOff, done_of, task_limits, terms_of, threads_of}
+use Rattle.lxr_run_invariant.specs.LoopInvariant.{FitsCounts, HasCome, HaveActors, HaveMutators, IsPauseDue, IsPaused, Task, WasCutOff, done_of, task_limits, terms_of, threads_of}
 use Rattle.lxr_run_invariant.proofs.ActorLemmas.{as_many, calls_are_done, done_few}
 
 -- ---- numbers
 
 -- each thread keeps so many replies at most
-replies_within : (task : Task) (h : List Item) (actors : List AnyActor) → HaveActors task h actors → (i : ℕ) (a : AnyActor) → slice_get actors i ≡ Some a → length (mutator_in a).replies.items ≤ 1048577
-replies_within task h actors have i a at =
+replies_within : (task : Task) (h : List Item) (mutators : List Mutating) → HaveMutators task h mutators → (i : ℕ) (a : Mutating) → slice_get mutators i ≡ Some a → length a.replies.items ≤ 1048577
+replies_within task h mutators have i a at =
     let sound = (have.rest.each i a at).mutator.sound in
     let few = sound.few in
     let replies = sound.few_replies in
     omega arith
 
 -- so they do little together
-pub all_done_few : (task : Task) (h : List Item) (actors : List AnyActor) → HaveActors task h actors → threads_of task ≤ 16 → done_of actors ≤ 16777232
-all_done_few task h actors have threads =
-    let each = done_few actors (replies_within task h actors have) in
-    let many = as_many task h actors have in
+pub all_done_few : (task : Task) (h : List Item) (mutators : List Mutating) → HaveMutators task h mutators → threads_of task ≤ 16 → done_of mutators ≤ 16777232
+all_done_few task h mutators have threads =
+    let each = done_few mutators (replies_within task h mutators have) in
+    let many = as_many task h mutators have in
     omega arith
 
 -- pauses are numbered from 1, and those of a history are counted in the tally
@@ -67,12 +67,12 @@ few_threads task space written seen h g come =
     omega arith
 
 -- so the numbers fit, and one pause more does
-pub counts_fit : (task : Task) (space : Space) (written : Option (List ℕ)) (seen : Option (List Sight)) (h : List Item) (g : AbstractState) (actors : List AnyActor)
-    → HasCome task space written seen h g → HaveActors task h actors → space.pauses ≤ 2 * done_of actors + 1 → FitsCounts space
-counts_fit task space written seen h g actors come have few =
-    let all = all_done_few task h actors have (few_threads task space written seen h g come) in
+pub counts_fit : (task : Task) (space : Space) (written : Option (List ℕ)) (seen : Option (List Sight)) (h : List Item) (g : AbstractState) (mutators : List Mutating)
+    → HasCome task space written seen h g → HaveMutators task h mutators → space.pauses ≤ 2 * done_of mutators + 1 → FitsCounts space
+counts_fit task space written seen h g mutators come have few =
+    let all = all_done_few task h mutators have (few_threads task space written seen h g come) in
     let told = pauses_counted task space written seen h g come in
-    let calls = calls_are_done task h actors come.history.0 have in
+    let calls = calls_are_done task h mutators come.history.0 have in
     let replies : space.tally.news + space.tally.loads + space.tally.stores ≤ counted_in one h =
     subst (λ (t : Tally). t.news + t.loads + t.stores ≤ counted_in one h) (sym come.tally) (replies_few (threads_of task) h) in
     let stored : space.tally.logs + length (moment (threads_of task) h).written ≤ space.tally.stores =
@@ -94,7 +94,6 @@ pub can_pause : (task : Task) (space : Space) (written : Option (List ℕ)) (see
     → HasCome task space written seen h g → FitsCounts space → CanPause (at_safepoint space) g
 can_pause task space written seen h g come fits = record {
   safepoint = safepoint_tallied space g (record space.tally { logs = space.tally.logs + length space.logged.items }) come.safepoint;
-  undecremented = come.undecremented;
   no_trace = come.no_trace;
   counted = fits.pauses;
 }
@@ -150,7 +149,6 @@ module _ (task : Task) (before after : Space) (written : Option (List ℕ)) (see
           history = history;
           stands = stands;
           safepoint = pauses.between.safepoint;
-          undecremented = pauses.between.undecremented;
           no_trace = no_trace;
           limits = limits ∙ come.limits;
           tally = tally;
@@ -190,12 +188,16 @@ rests_paused l every h last t m rests = record {
   ended = rests.ended;
 }
 
--- so all actors rest
-pub actors_paused : (task : Task) (h : List Item) (last : PauseReport) (actors : List AnyActor) → HaveActors task h actors → HaveActors task (Pause last ∷ h) actors
-actors_paused task h last actors have = record {
+-- so all mutators rest
+pub mutators_paused : (task : Task) (h : List Item) (last : PauseReport) (mutators : List Mutating) → HaveMutators task h mutators → HaveMutators task (Pause last ∷ h) mutators
+mutators_paused task h last mutators have = record {
   rest = record {
     as_many = have.rest.as_many;
-    each = λ i a at. rests_paused (task_limits task) task.options.every h last (i + 1) (mutator_in a) (have.rest.each i a at);
+    each = λ i m at. rests_paused (task_limits task) task.options.every h last (i + 1) m (have.rest.each i m at);
   };
   script = have.script;
 }
+
+-- and all actors
+pub actors_paused : (task : Task) (h : List Item) (last : PauseReport) (actors : List AnyActor) → HaveActors task h actors → HaveActors task (Pause last ∷ h) actors
+actors_paused task h last actors have = record { mutators = mutators_paused task h last (mutators_in actors) have.mutators; helpers = have.helpers; workers = have.workers; few = have.few }

@@ -131,7 +131,6 @@ come_with_new task before after written seen t h g g' name dest shape p come cal
     reported = serves.reported ∙ come.stands.reported;
   };
   safepoint = serves.between.safepoint;
-  undecremented = serves.between.undecremented;
   no_trace = ap (λ (m : Moment). m.trace) serves.moment ∙ come.no_trace;
   limits = serves.limits ∙ come.limits;
   tally = serves.tally ∙ ap (λ t. counted t (reply.New name)) come.tally;
@@ -175,7 +174,6 @@ come_refused task space written seen t m h g dest shape may is full =
       history = history_with_call task.options task.script h t (op.New dest shape) reply.Full come.history call;
       stands = record { moment = come.stands.moment; reported = come.stands.reported };
       safepoint = come.safepoint;
-      undecremented = come.undecremented;
       no_trace = come.no_trace;
       limits = come.limits;
       tally = come.tally;

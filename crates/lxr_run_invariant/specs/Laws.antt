@@ -8,11 +8,11 @@ use Rattle.lxr_invariant.specs.Listed.{FreeBlocksAreListed, IsListed}
 use Rattle.lxr_run_watch.specs.Sights.{Sight}
 use Rattle.lxr_core_events.specs.EpochStates.{Beginning}
 use Rattle.lxr_core.specs.declared.actors.AnyActor.{AnyActor}
-use Rattle.lxr_core.specs.Actors.{script_of}
+use Rattle.lxr_core.specs.Actors.{decrementers_in, mutators_in, script_of}
 use Rattle.lxr_core.specs.Closing.{AreFinished, Closes}
 use Rattle.lxr_core.specs.Opening.{Begins}
 use Rattle.lxr_core.specs.Executions.{Execution}
-use Rattle.lxr_run_invariant.specs.LoopInvariant.{HasRun, HasRunEpoch, HaveEnded, IsBetweenEpochs, IsPaused, IsServing, Task, done_of}
+use Rattle.lxr_run_invariant.specs.LoopInvariant.{HasRun, HasRunEpoch, HaveEnded, IsBetweenEpochs, IsPaused, IsServing, KeepsHelpers, Task, done_of}
 
 -- ---- epochs
 
@@ -28,8 +28,9 @@ EpochsMayOpen = (task : Task) (space : Space) (written : Option (List ℕ)) (see
 -- an epoch that began so, in which nothing but words changed, is closed once all threads are through with it
 pub record HasClosed (task : Task) (space mid after : Space) (actors : List AnyActor) (h : List Item) (g : AbstractState) (execution : Execution) : Type 0 where
   pub words : mid ≡ record space { words = mid.words }
-  pub script : script_of execution.core.actors ≡ task.script
-  pub finished : AreFinished execution.core.actors
+  pub script : script_of (mutators_in execution.core.actors) ≡ task.script
+  pub workers : length (decrementers_in execution.core.actors) ≡ task.options.workers
+  pub finished : AreFinished (mutators_in execution.core.actors)
   pub closes : Closes (beginning_of task space h g) execution mid after actors
 
 -- then a pause has a cause
@@ -52,16 +53,16 @@ pub record ListsAnew (before after : Space) (g : AbstractState) : Type 0 where
 -- refused, and runs and free blocks are listed.
 pub record IsAgain (task : Task) (space : Space) (written : Option (List ℕ)) (seen : Option (List Sight)) (before actors : List AnyActor) (h : List Item) (g : AbstractState) : Type 0 where
   pub amid : IsBetweenEpochs task space written seen actors h g
-  pub more : done_of before < done_of actors
+  pub more : done_of (mutators_in before) < done_of (mutators_in actors)
 
 abbrev pub RunsGoOn : Type 0
 RunsGoOn = (task : Task) (safepoint space after : Space) (written written' : Option (List ℕ)) (seen seen' : Option (List Sight)) (before actors actors' : List AnyActor) (paused first : ℕ) (served : Bool) (h h' : List Item) (g g' : AbstractState)
-    → HasRunEpoch task safepoint written seen before actors h g → paused ≡ safepoint.pauses + 1 → IsServing task space written' seen' actors paused actors' first served h' g' → first ≡ length actors'
-    → ListsAnew space after g' → IsAgain task after written' seen' before actors' h' g'
+    → HasRunEpoch task safepoint written seen before actors h g → paused ≡ safepoint.pauses + 1 → IsServing task space written' seen' (mutators_in actors) paused (mutators_in actors') first served h' g' → first ≡ length (mutators_in actors')
+    → KeepsHelpers actors actors' → ListsAnew space after g' → IsAgain task after written' seen' before actors' h' g'
 
 -- ---- the end
 
 -- where all threads have ended, the pause behind the epoch is the last, and the history is whole
 abbrev pub RunsEnd : Type 0
 RunsEnd = (task : Task) (safepoint space : Space) (written written' : Option (List ℕ)) (seen seen' : Option (List Sight)) (before actors : List AnyActor) (h : List Item) (g : AbstractState)
-    → HasRunEpoch task safepoint written seen before actors h g → HaveEnded actors → IsPaused task space written' seen' h → HasRun task space written' seen' actors
+    → HasRunEpoch task safepoint written seen before actors h g → HaveEnded (mutators_in actors) → IsPaused task space written' seen' h → HasRun task space written' seen' actors

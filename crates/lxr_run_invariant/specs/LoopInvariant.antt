@@ -6,14 +6,12 @@ use Rattle.lxr_graph.specs.declared.Op.{Op}
 use Rattle.lxr_graph.specs.declared.Reply.{Reply}
 use Rattle.lxr_graph.specs.History.{Item, Call, Pause, PauseReport}
 use Rattle.lxr_image.specs.declared.space.Space.{Space}
-use Rattle.lxr_image.specs.Spaces.{tables_of}
 use Rattle.lxr_text_stream.specs.Streams.{Appends, AppendsFront}
 use Rattle.lxr_model.specs.Belongs.{HasCause, IsHistorySoFar, LastPauseWasEarly, Script, calls_since_pause, has_asked, operations_of}
 use Rattle.lxr_model.specs.Full.{IsRightAfterPause}
 use Rattle.lxr_model.specs.Kinds.{ends}
 use Rattle.lxr_model.specs.Terms.{Terms}
 use Rattle.lxr_invariant.specs.AbstractState.{AbstractState}
-use Rattle.lxr_invariant.specs.Counting.{IsUndecremented}
 use Rattle.lxr_invariant.specs.Quiescent.{IsAtSafepoint, IsQuiescent}
 use Rattle.lxr_invariant.specs.Listed.{FreeBlocksAreListed, IsListed}
 use Rattle.lxr_run_watch.specs.Sights.{Sight}
@@ -22,8 +20,8 @@ use Rattle.lxr_mutator.specs.Mutators.{IsAnswered, IsThrough}
 use Rattle.lxr_core_events.specs.ThreadStates.{all_of}
 use Rattle.lxr_core_sim_mutator.specs.Showing.{IsNew}
 use Rattle.lxr_core.specs.declared.actors.AnyActor.{AnyActor}
-use Rattle.lxr_core.specs.Actors.{mutator_in, script_of}
-use Rattle.lxr_core.specs.Resting.{AreServed, RestAfter, RestsAfter}
+use Rattle.lxr_core.specs.Actors.{AreInOrder, decrementers_in, mutators_in, script_of}
+use Rattle.lxr_core.specs.Resting.{AreServed, HelpersRest, RestAfter, RestsAfter}
 use Rattle.lxr_run_words.specs.declared.RunOptions.{RunOptions}
 use Rattle.lxr_run_history.specs.Left.{IsLeftBy, StandsAfter, run_limits}
 use Rattle.lxr_run_history.specs.Run.{IsHistoryOf, reports_text, script_terms}
@@ -53,7 +51,6 @@ pub record HasCome (task : Task) (space : Space) (written : Option (List ℕ)) (
   pub history : IsHistorySoFar (terms_of task) task.script h
   pub stands : StandsAfter (threads_of task) h g
   pub safepoint : IsAtSafepoint space g
-  pub undecremented : IsUndecremented (tables_of space) g.moment g.at
   pub no_trace : g.moment.trace ≡ None
   pub limits : space.limits ≡ task_limits task
   pub tally : space.tally ≡ tally_of (threads_of task) h
@@ -70,34 +67,46 @@ pub record FitsCounts (space : Space) : Type 0 where
   pub loads : space.tally.loads < 2 ^ 63
   pub stores : space.tally.stores < 2 ^ 63
 
--- the actors are those of the script's threads, and rest for a history
+-- the mutators are those of the script's threads, and rest for a history
+pub record HaveMutators (task : Task) (h : List Item) (mutators : List Mutating) : Type 0 where
+  pub rest : RestAfter (task_limits task) task.options.every h mutators
+  pub script : script_of mutators ≡ task.script
+
+-- the mutators among the actors are those, and behind them rest as many decrementers as the options ask for: eight at most
 pub record HaveActors (task : Task) (h : List Item) (actors : List AnyActor) : Type 0 where
-  pub rest : RestAfter (task_limits task) task.options.every h actors
-  pub script : script_of actors ≡ task.script
+  pub mutators : HaveMutators task h (mutators_in actors)
+  pub helpers : HelpersRest (task_limits task) actors
+  pub workers : length (decrementers_in actors) ≡ task.options.workers
+  pub few : task.options.workers ≤ 8
+
+-- mutators alone are other than they were: the helpers stand behind them as before
+pub record KeepsHelpers (before after : List AnyActor) : Type 0 where
+  pub order : AreInOrder after
+  pub same : decrementers_in after ≡ decrementers_in before
 
 -- how many operations and ends are done
-abbrev pub done_of : List AnyActor → ℕ
+abbrev pub done_of : List Mutating → ℕ
 done_of [] = 0
-done_of (a ∷ actors) = length (mutator_in a).replies.items + done_of actors
+done_of (m ∷ mutators) = length m.replies.items + done_of mutators
 
 -- how many operations and ends are left
-abbrev pub left_of : List AnyActor → ℕ
+abbrev pub left_of : List Mutating → ℕ
 left_of [] = 0
-left_of (a ∷ actors) = (length (mutator_in a).operations + 1 - length (mutator_in a).replies.items) + left_of actors
+left_of (m ∷ mutators) = (length m.operations + 1 - length m.replies.items) + left_of mutators
 
 -- not all threads have ended; all have
-abbrev pub HasMore : List AnyActor → Type 0
-HasMore actors = (i : ℕ) × (a : AnyActor) × (slice_get actors i ≡ Some a) × ¬ IsThrough (mutator_in a)
+abbrev pub HasMore : List Mutating → Type 0
+HasMore mutators = (i : ℕ) × (m : Mutating) × (slice_get mutators i ≡ Some m) × ¬ IsThrough m
 
-abbrev pub HaveEnded : List AnyActor → Type 0
-HaveEnded actors = (i : ℕ) (a : AnyActor) → slice_get actors i ≡ Some a → IsThrough (mutator_in a)
+abbrev pub HaveEnded : List Mutating → Type 0
+HaveEnded mutators = (i : ℕ) (m : Mutating) → slice_get mutators i ≡ Some m → IsThrough m
 
 -- some `new` waits; what waits is a `new`
-abbrev pub SomeWait : List AnyActor → Type 0
-SomeWait actors = (i : ℕ) × (a : AnyActor) × (slice_get actors i ≡ Some a) × IsWaiting (mutator_in a)
+abbrev pub SomeWait : List Mutating → Type 0
+SomeWait mutators = (i : ℕ) × (m : Mutating) × (slice_get mutators i ≡ Some m) × IsWaiting m
 
-abbrev pub NewsWait : List AnyActor → Type 0
-NewsWait actors = (i : ℕ) (a : AnyActor) → slice_get actors i ≡ Some a → IsWaiting (mutator_in a) → IsNew (mutator_in a)
+abbrev pub NewsWait : List Mutating → Type 0
+NewsWait mutators = (i : ℕ) (m : Mutating) → slice_get mutators i ≡ Some m → IsWaiting m → IsNew m
 
 -- Between two epochs: the space is between epochs and listed, nobody waits, and not all threads have ended. Two pauses at
 -- most were made for each operation or end.
@@ -107,9 +116,9 @@ pub record IsBetweenEpochs (task : Task) (space : Space) (written : Option (List
   pub listed : IsListed space
   pub all_listed : FreeBlocksAreListed space
   pub actors_rest : HaveActors task h actors
-  pub served : AreServed h actors
-  pub few : space.pauses ≤ 2 * done_of actors
-  pub more : HasMore actors
+  pub served : AreServed h (mutators_in actors)
+  pub few : space.pauses ≤ 2 * done_of (mutators_in actors)
+  pub more : HasMore (mutators_in actors)
 
 -- a pause is due: it has a cause, and at the last one not all threads had ended
 abbrev pub IsPauseDue : Task → List Item → Type 0
@@ -119,12 +128,12 @@ IsPauseDue task h = HasCause (terms_of task) task.script h × LastPauseWasEarly 
 pub record HasRunEpoch (task : Task) (space : Space) (written : Option (List ℕ)) (seen : Option (List Sight)) (before actors : List AnyActor) (h : List Item) (g : AbstractState) : Type 0 where
   pub come : HasCome task space written seen h g
   pub actors_rest : HaveActors task h actors
-  pub news : NewsWait actors
+  pub news : NewsWait (mutators_in actors)
   pub due : IsPauseDue task h
   -- something was done, or some `new` waits
-  pub progress : (done_of before < done_of actors) ⊎ SomeWait actors
-  pub grows : done_of before ≤ done_of actors
-  pub few : space.pauses ≤ 2 * done_of before
+  pub progress : (done_of (mutators_in before) < done_of (mutators_in actors)) ⊎ SomeWait (mutators_in actors)
+  pub grows : done_of (mutators_in before) ≤ done_of (mutators_in actors)
+  pub few : space.pauses ≤ 2 * done_of (mutators_in before)
 
 -- a pause was made after h
 pub record HasPaused (task : Task) (space : Space) (written : Option (List ℕ)) (seen : Option (List Sight)) (h : List Item) (report : PauseReport) (g : AbstractState) : Type 0 where
@@ -166,23 +175,23 @@ pub record HasAnswered (task : Task) (space : Space) (written : Option (List ℕ
   pub mutator : IsAnswered m m' reply
   pub unserved : served ≡ false → IsRefusedSince h'
 
--- While waiting `new`s are served: those of the first threads are served or refused. The actors were `before` when it began,
+-- While waiting `new`s are served: those of the first threads are served or refused. The mutators were `before` when it began,
 -- and so many pauses had been made; since then one at most was made for each `new`.
-pub record IsServing (task : Task) (space : Space) (written : Option (List ℕ)) (seen : Option (List Sight)) (before : List AnyActor) (paused : ℕ) (actors : List AnyActor) (first : ℕ) (served : Bool) (h : List Item) (g : AbstractState) : Type 0 where
+pub record IsServing (task : Task) (space : Space) (written : Option (List ℕ)) (seen : Option (List Sight)) (before : List Mutating) (paused : ℕ) (mutators : List Mutating) (first : ℕ) (served : Bool) (h : List Item) (g : AbstractState) : Type 0 where
   pub come : HasCome task space written seen h g
   pub between : IsQuiescent space g
-  pub actors_rest : HaveActors task h actors
-  pub news : NewsWait actors
-  pub untouched : (i : ℕ) → first ≤ i → slice_get actors i ≡ slice_get before i
-  pub unwaiting : (i : ℕ) (a : AnyActor) → slice_get actors i ≡ Some a → i < first → ¬ IsWaiting (mutator_in a)
+  pub mutators_rest : HaveMutators task h mutators
+  pub news : NewsWait mutators
+  pub untouched : (i : ℕ) → first ≤ i → slice_get mutators i ≡ slice_get before i
+  pub unwaiting : (i : ℕ) (m : Mutating) → slice_get mutators i ≡ Some m → i < first → ¬ IsWaiting m
   pub short : (t : ℕ) → t ≤ first → calls_since_pause t h ≤ 1
   pub none_yet : (t : ℕ) → first < t → calls_since_pause t h ≡ 0
   pub unasked : (t : ℕ) → has_asked t h ≡ false
   pub unserved : served ≡ false → IsRefusedSince h
-  pub more : HasMore actors
-  pub few : space.pauses + done_of before ≤ paused + done_of actors
-  pub grows : done_of before ≤ done_of actors
-  pub done : (i : ℕ) (a : AnyActor) → slice_get before i ≡ Some a → i < first → IsWaiting (mutator_in a) → done_of before < done_of actors
+  pub more : HasMore mutators
+  pub few : space.pauses + done_of before ≤ paused + done_of mutators
+  pub grows : done_of before ≤ done_of mutators
+  pub done : (i : ℕ) (m : Mutating) → slice_get before i ≡ Some m → i < first → IsWaiting m → done_of before < done_of mutators
 
 -- a run that was cut off at a report: a front of the reports of a history so far was written, and the space is left by it
 pub record WasCutOffAt (task : Task) (space : Space) (written : Option (List ℕ)) (h : List Item) : Type 0 where

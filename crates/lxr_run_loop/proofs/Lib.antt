@@ -3,3 +3,4 @@ pub mod ServeLemmas
 pub mod ProgressLemmas
 pub mod PrintLemmas
 pub mod PrintedLemmas
+pub mod ThreadLemmas

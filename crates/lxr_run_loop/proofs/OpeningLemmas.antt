@@ -1,8 +1,8 @@
 -- A run begins between two epochs: the space is opened, and each thread has its mutator.
-use Rattle.std.proofs.Common.{⊎_elim, inl, inr, ◌⊎◌, ◌≡◌, ◌≢◌, ℕ, zero, suc, ◌+◌, ◌*◌, ◌≤◌, refl, sym, ap, subst, ◌∙◌, arith, List, [], ◌∷◌, ◌++◌, map, length, length-append}
-use Rattle.std.specs.Prelude.{Option, Some, slice_get}
+use Rattle.std.proofs.Common.{⊎_elim, inl, inr, ◌⊎◌, ◌≡◌, ◌≢◌, ℕ, zero, suc, ◌+◌, ◌*◌, ◌≤◌, refl, sym, ap, subst, ◌∙◌, arith, List, [], ◌∷◌, ◌++◌, map, length, append_assoc, length-append}
+use Rattle.std.specs.Prelude.{Option, Some, replicate, slice_get}
 use Rattle.std.specs.List.{All}
-use Rattle.std.proofs.lemmas.List.{length-map, map-append}
+use Rattle.std.proofs.lemmas.List.{append-nil, length-map, length-replicate, map-append}
 use Rattle.std.proofs.lemmas.List.Elements.{All-head, All-replicate, All-tail, All-weaker}
 use Rattle.std.proofs.Math.Nat.{mul-le-mul}
 use Rattle.lxr_layout.specs.declared.limits.Limits.{Limits}
@@ -16,7 +16,14 @@ use Rattle.lxr_mutator.specs.Mutating.{Mutating}
 use Rattle.lxr_mutator.specs.Mutators.{HaveIndexes, IsHeld, IsMutator, IsOperation, first}
 use Rattle.lxr_core.specs.declared.actors.AnyActor.{AnyActor}
 use Rattle.lxr_core.specs.declared.actors.AnyActor.TheVariants as any
-use Rattle.lxr_core.specs.Actors.{mutator_in}
+use Rattle.lxr_core.specs.Actors.{decrementers_in, in_order, mutators_in}
+use Rattle.lxr_core.specs.Resting.{HelperRests, HelpersRest}
+use Rattle.lxr_core.proofs.OrderLemmas.{decrementers_of_order, mutators_of_both}
+use Rattle.lxr_decrement.specs.Decrementing.{DecrementerState}
+use Rattle.lxr_decrement.specs.Decrementers.{first as first_decrementer}
+use Rattle.lxr_decrement.proofs.StayLemmas.{stay_so}
+use Rattle.lxr_model.specs.Belongs.{Script}
+use Rattle.lxr_run_words.specs.CommandLines.{AreInRange}
 use Rattle.lxr_image.specs.declared.space.Space.{Space}
 use Rattle.lxr_image.specs.Opened.{IsOpened}
 use Rattle.lxr_model.specs.Moments.{opening_moment}
@@ -29,7 +36,7 @@ use Rattle.lxr_run_history.specs.Left.{run_limits}
 use Rattle.lxr_run_invariant.specs.LoopInvariant.{Task, task_limits, threads_of}
 use Rattle.lxr_run_invariant.proofs.OpeningLemmas.{between_opened}
 use Rattle.lxr_run_loop.specs.Drawing.{at_opening}
-use Rattle.lxr_run_loop.specs.Opening.{AreMade, IsOpenedRun}
+use Rattle.lxr_run_loop.specs.Opening.{AreMade, IsOpenedRun, MutatorsAreMade}
 
 -- ---- a mutator as it is made
 
@@ -85,7 +92,7 @@ thread_in (x ∷ taken) rest o each = thread_in taken rest o (All-tail IsThread 
 pub thread_of : (threads taken rest : List (Roomy Op)) (o : Roomy Op) → threads ≡ taken ++ o ∷ rest → IsScript (map (λ (x : Roomy Op). x.items) threads) → IsThread o.items
 thread_of threads taken rest o split is = thread_in taken rest o (subst (λ (z : List (Roomy Op)). All IsThread (map (λ (x : Roomy Op). x.items) z)) split is.each)
 
--- ---- one actor more
+-- ---- one mutator more
 
 -- what stands in a list with one element more: an element of the list, or the one more
 pushed_at : {X : Type 0} (xs : List X) (x y : X) (i : ℕ) → slice_get (xs ++ x ∷ []) i ≡ Some y → (slice_get xs i ≡ Some y) ⊎ ((i ≡ length xs) × (x ≡ y))
@@ -99,54 +106,129 @@ pushed_at (z ∷ xs) x y (suc i) at =
     (pushed_at xs x y i at)
 
 -- the mutators of so many threads, and that of the next
-made_more : (l : Limits) (every : ℕ) (taken : List (Roomy Op)) (o : Roomy Op) (actors : List AnyActor) (m : Mutating) → AreMade l every (map (λ (x : Roomy Op). x.items) taken) actors
-    → m ≡ first (length actors + 1) o.items l every → IsMutator m → AreMade l every (map (λ (x : Roomy Op). x.items) (taken ++ o ∷ [])) (actors ++ any.Mutator m ∷ [])
-made_more l every taken o actors m made is sound = record {
+made_more : (l : Limits) (every : ℕ) (taken : List (Roomy Op)) (o : Roomy Op) (mutators : List Mutating) (m : Mutating) → MutatorsAreMade l every (map (λ (x : Roomy Op). x.items) taken) mutators
+    → m ≡ first (length mutators + 1) o.items l every → IsMutator m → MutatorsAreMade l every (map (λ (x : Roomy Op). x.items) (taken ++ o ∷ [])) (mutators ++ m ∷ [])
+made_more l every taken o mutators m made is sound = record {
   script =
-      map-append (λ (a : AnyActor). (mutator_in a).operations) actors (any.Mutator m ∷ [])
+      map-append (λ (n : Mutating). n.operations) mutators (m ∷ [])
       ∙ ap (λ (z : List (List Op)). z ++ m.operations ∷ []) made.script
       ∙ ap (λ (z : Mutating). map (λ (x : Roomy Op). x.items) taken ++ z.operations ∷ []) is
       ∙ sym (map-append (λ (x : Roomy Op). x.items) taken (o ∷ []));
-  each = λ i a at.
+  each = λ i n at.
       ⊎_elim
-      (λ (before : slice_get actors i ≡ Some a). made.each i a before)
-      (λ (last : (i ≡ length actors) × (any.Mutator m ≡ a)).
-      subst (λ (z : AnyActor). mutator_in z ≡ first (i + 1) (mutator_in z).operations l every) last.1
-      (is ∙ ap (λ n. first (n + 1) o.items l every) (sym last.0) ∙ ap (λ (z : List Op). first (i + 1) z l every) (sym (ap (λ (z : Mutating). z.operations) is))))
-      (pushed_at actors (any.Mutator m) a i at);
-  sound = λ i a at.
+      (λ (before : slice_get mutators i ≡ Some n). made.each i n before)
+      (λ (last : (i ≡ length mutators) × (m ≡ n)).
+      subst (λ (z : Mutating). z ≡ first (i + 1) z.operations l every) last.1
+      (is ∙ ap (λ k. first (k + 1) o.items l every) (sym last.0) ∙ ap (λ (z : List Op). first (i + 1) z l every) (sym (ap (λ (z : Mutating). z.operations) is))))
+      (pushed_at mutators m n i at);
+  sound = λ i n at.
       ⊎_elim
-      (λ (before : slice_get actors i ≡ Some a). made.sound i a before)
-      (λ (last : (i ≡ length actors) × (any.Mutator m ≡ a)). subst (λ (z : AnyActor). IsMutator (mutator_in z)) last.1 sound)
-      (pushed_at actors (any.Mutator m) a i at);
+      (λ (before : slice_get mutators i ≡ Some n). made.sound i n before)
+      (λ (last : (i ≡ length mutators) × (m ≡ n)). subst IsMutator last.1 sound)
+      (pushed_at mutators m n i at);
 }
 
 -- there are as many as threads
-as_many : (l : Limits) (every : ℕ) (taken : List (Roomy Op)) (actors : List AnyActor) → AreMade l every (map (λ (x : Roomy Op). x.items) taken) actors → length actors ≡ length taken
-as_many l every taken actors made =
-    sym (length-map actors (λ (a : AnyActor). (mutator_in a).operations)) ∙ ap length made.script ∙ length-map taken (λ (x : Roomy Op). x.items)
+as_many : (l : Limits) (every : ℕ) (taken : List (Roomy Op)) (mutators : List Mutating) → MutatorsAreMade l every (map (λ (x : Roomy Op). x.items) taken) mutators → length mutators ≡ length taken
+as_many l every taken mutators made =
+    sym (length-map mutators (λ (m : Mutating). m.operations)) ∙ ap length made.script ∙ length-map taken (λ (x : Roomy Op). x.items)
+
+-- before there are helpers, a further mutator stands behind the others
+mutator_pushed : (actors : List AnyActor) (m : Mutating) → actors ≡ in_order (mutators_in actors) [] → actors ++ any.Mutator m ∷ [] ≡ in_order (mutators_in actors ++ m ∷ []) []
+mutator_pushed actors m is =
+    ap (λ (z : List AnyActor). z ++ any.Mutator m ∷ []) (is ∙ append-nil (map any.Mutator (mutators_in actors)))
+    ∙ (sym (map-append any.Mutator (mutators_in actors) (m ∷ [])) ∙ sym (append-nil (map any.Mutator (mutators_in actors ++ m ∷ []))))
+
+-- then there are no helpers
+mutators_alone : (actors : List AnyActor) → actors ≡ in_order (mutators_in actors) [] → length actors ≡ length (mutators_in actors)
+mutators_alone actors is = ap length is ∙ (ap length (append-nil (map any.Mutator (mutators_in actors))) ∙ length-map (mutators_in actors) any.Mutator)
 
 -- the mutators of so many threads of a script, and that of the next
 pub made_pushed : (l : Limits) (every : ℕ) (script taken rest : List (Roomy Op)) (o : Roomy Op) (actors actors' : List AnyActor) (m : Mutating) → script ≡ taken ++ o ∷ rest
     → IsScript (map (λ (x : Roomy Op). x.items) script) → AreLimits l → l.threads ≡ length script → (1 ≤ every) × (every ≤ 1048576)
-    → AreMade l every (map (λ (x : Roomy Op). x.items) taken) actors → m ≡ first (length actors + 1) o.items l every → actors' ≡ actors ++ any.Mutator m ∷ []
-    → AreMade l every (map (λ (x : Roomy Op). x.items) (taken ++ o ∷ [])) actors'
+    → AreMade l every 0 (map (λ (x : Roomy Op). x.items) taken) actors → m ≡ first (length actors + 1) o.items l every → actors' ≡ actors ++ any.Mutator m ∷ []
+    → AreMade l every 0 (map (λ (x : Roomy Op). x.items) (taken ++ o ∷ [])) actors'
 made_pushed l every script taken rest o actors actors' m split is limits threads range made first_one pushed =
     let thread = thread_of script taken rest o split is in
-    let many = as_many l every taken actors made in
+    let alone = mutators_alone actors made.helpers in
+    let many = as_many l every taken (mutators_in actors) made.mutators in
     let long = ap length split ∙ length-append taken (o ∷ rest) in
     let sound = first_is l every (length actors + 1) o.items limits (omega arith, omega arith) (all_operations o.items thread) thread.count range in
-    subst (AreMade l every (map (λ (x : Roomy Op). x.items) (taken ++ o ∷ []))) (sym pushed)
-    (made_more l every taken o actors m made first_one (subst IsMutator (sym first_one) sound))
+    let one_more = made_more l every taken o (mutators_in actors) m made.mutators (first_one ∙ ap (λ n. first (n + 1) o.items l every) alone) (subst IsMutator (sym first_one) sound) in
+    let mutators : mutators_in (actors ++ any.Mutator m ∷ []) ≡ mutators_in actors ++ m ∷ [] = mutators_of_both actors (any.Mutator m ∷ []) in
+    subst (AreMade l every 0 (map (λ (x : Roomy Op). x.items) (taken ++ o ∷ []))) (sym pushed)
+    (record {
+      mutators = subst (MutatorsAreMade l every (map (λ (x : Roomy Op). x.items) (taken ++ o ∷ []))) (sym mutators) one_more;
+      helpers = mutator_pushed actors m made.helpers ∙ ap (λ (ms : List Mutating). in_order ms []) (sym mutators);
+    })
+
+-- none is made at first
+pub none_made : (l : Limits) (every : ℕ) → AreMade l every 0 [] []
+none_made l every = record { mutators = record { script = refl; each = λ i m at. absurd (cc); sound = λ i m at. absurd (cc) }; helpers = refl }
+
+-- ---- one helper more
+
+-- one element more of the same
+same_more : {X : Type 0} (n : ℕ) (x : X) → replicate n x ++ x ∷ [] ≡ replicate (suc n) x
+same_more zero x = refl
+same_more (suc n) x = ap (λ z. x ∷ z) (same_more n x)
+
+-- a further helper stands behind the others
+pub helper_pushed : (l : Limits) (every n k : ℕ) (script : Script) (actors actors' : List AnyActor) (d : DecrementerState) → AreMade l every n script actors → d ≡ first_decrementer l → k ≡ n + 1
+    → actors' ≡ actors ++ any.Decrementer d ∷ [] → AreMade l every k script actors'
+helper_pushed l every n k script actors actors' d made is next pushed =
+    let mutators : mutators_in (actors ++ any.Decrementer d ∷ []) ≡ mutators_in actors = mutators_of_both actors (any.Decrementer d ∷ []) ∙ append-nil (mutators_in actors) in
+    let fresh : List DecrementerState = replicate n (first_decrementer l) in
+    let more : fresh ++ d ∷ [] ≡ replicate k (first_decrementer l) =
+    ap (λ (e : DecrementerState). fresh ++ e ∷ []) is ∙ (same_more n (first_decrementer l) ∙ (let one : suc n ≡ k = omega arith in ap (λ j. replicate j (first_decrementer l)) one)) in
+    let behind : in_order (mutators_in actors) fresh ++ any.Decrementer d ∷ [] ≡ in_order (mutators_in actors) (fresh ++ d ∷ []) =
+    append_assoc (map any.Mutator (mutators_in actors)) (map any.Decrementer fresh) (any.Decrementer d ∷ [])
+    ∙ ap (λ (z : List AnyActor). map any.Mutator (mutators_in actors) ++ z) (sym (map-append any.Decrementer fresh (d ∷ []))) in
+    subst (AreMade l every k script) (sym pushed)
+    (record {
+      mutators = subst (MutatorsAreMade l every script) (sym mutators) made.mutators;
+      helpers = ap (λ (z : List AnyActor). z ++ any.Decrementer d ∷ []) made.helpers ∙ (behind ∙ (ap (in_order (mutators_in actors)) more ∙ ap (λ (ms : List Mutating). in_order ms (replicate k (first_decrementer l))) (sym mutators)));
+    })
+
+-- ---- the helpers rest
+
+-- what stands in a list of the same
+same_each : {X : Type 0} (n i : ℕ) (x y : X) → slice_get (replicate n x) i ≡ Some y → y ≡ x
+same_each zero i x y at = absurd (cc)
+same_each (suc n) zero x y at = cc
+same_each (suc n) (suc i) x y at = same_each n i x y at
+
+-- so do those that were made
+made_rest : (l : Limits) (every n : ℕ) (script : Script) (actors : List AnyActor) → AreLimits l → AreMade l every n script actors → HelpersRest l actors
+made_rest l every n script actors limits made =
+    let helpers : decrementers_in actors ≡ replicate n (first_decrementer l) = ap decrementers_in made.helpers ∙ decrementers_of_order (mutators_in actors) (replicate n (first_decrementer l)) in
+    record {
+      order = made.helpers ∙ ap (in_order (mutators_in actors)) (sym helpers);
+      each = λ i d at.
+          let is = same_each n i (first_decrementer l) d (subst (λ ds. slice_get ds i ≡ Some d) helpers at) in
+          subst (HelperRests l) (sym is) (record { decrementer = record { sound = stay_so.first l limits; regions = refl }; rests = refl });
+    }
+
+made_workers : (l : Limits) (every n : ℕ) (script : Script) (actors : List AnyActor) → AreMade l every n script actors → length (decrementers_in actors) ≡ n
+made_workers l every n script actors made =
+    ap (λ (z : List AnyActor). length (decrementers_in z)) made.helpers ∙ (ap length (decrementers_of_order (mutators_in actors) (replicate n (first_decrementer l))) ∙ length-replicate n (first_decrementer l))
 
 -- ---- the opened run
 
+-- the limits of a run are such as a space has
+run_fits : (options : RunOptions) (script : List (Roomy Op)) → AreInRange options → IsScript (map (λ (x : Roomy Op). x.items) script) → AreLimits (run_limits options (length script))
+run_fits options script ranges is =
+    let many = length-map script (λ (x : Roomy Op). x.items) in
+    let least = is.least in
+    let greatest = is.greatest in
+    record { blocks = ranges.blocks; threads = (omega arith, omega arith); log = ranges.log; remember = (omega arith, omega arith) }
+
 -- between two epochs, with the empty history, before the first draw
 pub opened_run : (options : RunOptions) (script : List (Roomy Op)) (limits : Limits) (space : Space) (actors : List AnyActor) → limits ≡ run_limits options (length script)
-    → IsScript (map (λ (x : Roomy Op). x.items) script) → AreMade limits options.every (map (λ (x : Roomy Op). x.items) script) actors
+    → AreInRange options → IsScript (map (λ (x : Roomy Op). x.items) script) → AreMade limits options.every options.workers (map (λ (x : Roomy Op). x.items) script) actors
     → IsOpened space limits → IsQuiescent space (opening_abstract_state limits.threads) → IsListedWhole space → (written : Option (List ℕ)) (seen : Option (List Sight))
     → IsOpenedRun options (map (λ (x : Roomy Op). x.items) script) space written seen actors
-opened_run options script limits space actors same is made opened between listed written seen =
+opened_run options script limits space actors same ranges is made opened between listed written seen =
     let task : Task = record { options = options; script = map (λ (x : Roomy Op). x.items) script; written = written; seen = seen } in
     let many : length (map (λ (x : Roomy Op). x.items) script) ≡ length script = length-map script (λ (x : Roomy Op). x.items) in
     let of_task : limits ≡ task_limits task = same ∙ ap (run_limits options) (sym many) in
@@ -164,8 +246,13 @@ opened_run options script limits space actors same is made opened between listed
       pauses = opened.pauses;
     })
     (record {
-      script = made.script;
-      each = λ i a at. made.each i a at ∙ ap (λ (l : Limits). first (i + 1) (mutator_in a).operations l options.every) of_task;
-      sound = made.sound;
+      mutators = record {
+        script = made.mutators.script;
+        each = λ i m at. made.mutators.each i m at ∙ ap (λ (l : Limits). first (i + 1) m.operations l options.every) of_task;
+        sound = made.mutators.sound;
+      };
+      helpers = subst (λ l. HelpersRest l actors) of_task (made_rest limits options.every options.workers task.script actors (subst AreLimits (sym same) (run_fits options script ranges is)) made);
+      workers = made_workers limits options.every options.workers task.script actors made;
+      few = ranges.workers.1;
     }) in
     ([], opening_abstract_state limits.threads, between_epochs, at_opening)

@@ -1,19 +1,20 @@
 -- How a run goes from one epoch to the next, and that less is left then.
-use Rattle.std.proofs.Common.{◌≡◌, ℕ, suc, ◌+◌, ◌<◌, ◌≤◌, ◌⊎◌, refl, sym, ap, subst, ◌∙◌, inl, inr, ⊎_elim, arith, Bool, true, false, ◌↔◌, IsTrue, List, [], ◌∷◌, cond}
+use Rattle.std.proofs.Common.{◌≡◌, ℕ, zero, suc, ◌+◌, ◌<◌, ◌≤◌, ◌⊎◌, refl, sym, ap, subst, ◌∙◌, inl, inr, ⊎_elim, arith, Bool, true, false, ◌↔◌, IsTrue, List, [], ◌∷◌, cond}
 use Rattle.std.specs.Prelude.{Option, Some, None, slice_get}
 use Rattle.std.specs.List.{All}
-use Rattle.std.proofs.lemmas.List.Elements.{All-nil, All-cons, All-get_or}
-use Rattle.std.proofs.lemmas.Option.{slice_get_within, get_or_from_slice_get}
+use Rattle.std.proofs.lemmas.List.Elements.{All-nil, All-cons, All-head, All-tail}
 use Rattle.lxr_graph.specs.History.{Item}
 use Rattle.lxr_image.specs.declared.space.Space.{Space}
 use Rattle.lxr_run_watch.specs.Sights.{Sight}
 use Rattle.lxr_mutator.specs.declared.phases.MutEnd.{MutEnd}
 use Rattle.lxr_mutator.specs.declared.phases.MutEnd.TheVariants as ends
+use Rattle.lxr_mutator.specs.Mutating.{Mutating}
 use Rattle.lxr_core.specs.declared.actors.AnyActor.{AnyActor}
-use Rattle.lxr_core.specs.Actors.{mutator_in, script_of}
-use Rattle.lxr_run_invariant.specs.LoopInvariant.{HasMore, HaveActors, HaveEnded, Task, done_of, left_of}
+use Rattle.lxr_core.specs.declared.actors.AnyActor.TheVariants as any
+use Rattle.lxr_core.specs.Actors.{mutators_in, script_of}
+use Rattle.lxr_run_invariant.specs.LoopInvariant.{HasMore, HaveActors, HaveEnded, HaveMutators, Task, done_of, left_of}
 use Rattle.lxr_run_invariant.proofs.ActorLemmas.{are_within, done_and_left, steps_of}
-use Rattle.lxr_run_loop.specs.Progress.{HasEnded, HasMadeRound, IsComplete, IsUnderWay}
+use Rattle.lxr_run_loop.specs.Progress.{HasEnded, HasMadeRound, IsComplete, IsUnderWay, NoneGoesOn}
 
 -- ---- whether all have ended
 
@@ -27,39 +28,43 @@ ended_or_not (Some ends.NoRun) = inr (λ e. cc)
 ended_or_not (Some ends.LogFull) = inr (λ e. cc)
 ended_or_not (Some ends.Asked) = inr (λ e. cc)
 
-abbrev pub AllHaveEnded : List AnyActor → Type 0
-AllHaveEnded actors = All (λ a. HasEnded (mutator_in a)) actors
-
 -- where not all have, some thread hasn't
-pub some_has_not : (actors : List AnyActor) → ¬ AllHaveEnded actors → (i : ℕ) × (a : AnyActor) × (slice_get actors i ≡ Some a) × ¬ HasEnded (mutator_in a)
-some_has_not [] not_all = absurd (not_all (All-nil (λ a. HasEnded (mutator_in a))))
-some_has_not (a ∷ actors) not_all =
+pub some_has_not : (actors : List AnyActor) → ¬ All NoneGoesOn actors → (i : ℕ) × (m : Mutating) × (slice_get (mutators_in actors) i ≡ Some m) × ¬ HasEnded m
+some_has_not [] not_all = absurd (not_all (All-nil NoneGoesOn))
+some_has_not (any.Mutator m ∷ actors) not_all =
     ⊎_elim
     (λ here.
-    let (i, b, at, unended) = some_has_not actors (λ rest. not_all (All-cons (λ x. HasEnded (mutator_in x)) a actors here rest)) in
-    (suc i, b, at, unended))
-    (λ unended. (0, a, refl, unended))
-    (ended_or_not (mutator_in a).end)
+    let (i, n, at, unended) = some_has_not actors (λ rest. not_all (All-cons NoneGoesOn (any.Mutator m) actors here rest)) in
+    (suc i, n, at, unended))
+    (λ unended. (0, m, refl, unended))
+    (ended_or_not m.end)
+some_has_not (any.Decrementer d ∷ actors) not_all = some_has_not actors (λ rest. not_all (All-cons NoneGoesOn (any.Decrementer d) actors tt rest))
 
 -- so there is more to do
-pub has_more : (actors : List AnyActor) → ¬ AllHaveEnded actors → HasMore actors
+pub has_more : (actors : List AnyActor) → ¬ All NoneGoesOn actors → HasMore (mutators_in actors)
 has_more actors not_all =
-    let (i, a, at, unended) = some_has_not actors not_all in
-    (i, a, at, λ through. unended through.1)
+    let (i, m, at, unended) = some_has_not actors not_all in
+    (i, m, at, λ through. unended through.1)
 
--- where all have, all are through
-pub have_all_ended : (task : Task) (h : List Item) (actors : List AnyActor) → HaveActors task h actors → AllHaveEnded actors → HaveEnded actors
-have_all_ended task h actors have all = λ i a at.
-    let within = slice_get_within actors i a at in
-    let is = get_or_from_slice_get actors i a a at in
-    let ended : HasEnded (mutator_in a) = subst (λ x. HasEnded (mutator_in x)) is (All-get_or (λ x. HasEnded (mutator_in x)) actors i a within all) in
-    let rests = have.rest.each i a at in
-    let many = rests.ended ended in
+-- where all have, each thread has
+each_has : (actors : List AnyActor) → All NoneGoesOn actors → (i : ℕ) (m : Mutating) → slice_get (mutators_in actors) i ≡ Some m → HasEnded m
+each_has [] all i m at = absurd (cc)
+each_has (any.Mutator x ∷ actors) all zero m at =
+    let is : x ≡ m = cc in
+    subst HasEnded is (All-head NoneGoesOn (any.Mutator x) actors all)
+each_has (any.Mutator x ∷ actors) all (suc i) m at = each_has actors (All-tail NoneGoesOn (any.Mutator x) actors all) i m at
+each_has (any.Decrementer d ∷ actors) all i m at = each_has actors (All-tail NoneGoesOn (any.Decrementer d) actors all) i m at
+
+-- and all are through
+pub have_all_ended : (task : Task) (h : List Item) (actors : List AnyActor) → HaveActors task h actors → All NoneGoesOn actors → HaveEnded (mutators_in actors)
+have_all_ended task h actors have all = λ i m at.
+    let rests = have.mutators.rest.each i m at in
+    let many = rests.ended (each_has actors all i m at) in
     ⊎_elim (λ through. through) (λ few. absurd (omega arith)) rests.mutator.sound.replies
 
 -- ---- what is left
 
-pub left_no_more : (task : Task) (h h' : List Item) (before after : List AnyActor) → HaveActors task h before → HaveActors task h' after → done_of before ≤ done_of after → left_of after ≤ left_of before
+pub left_no_more : (task : Task) (h h' : List Item) (before after : List Mutating) → HaveMutators task h before → HaveMutators task h' after → done_of before ≤ done_of after → left_of after ≤ left_of before
 left_no_more task h h' before after have have' grows =
     let e = done_and_left before (are_within task h before have) in
     let e' = done_and_left after (are_within task h' after have') in
@@ -84,7 +89,7 @@ complete_from task space written seen before after x false e made = absurd (cc)
 
 -- in each round less is left, and in the last one the test that ends the loop
 pub nearer : (task : Task) (space : Space) (written : Option (List ℕ)) (seen : Option (List Sight)) (before after : List AnyActor) (x : ℕ) (was ended : Bool) → was ≡ false
-    → HasMadeRound task space written seen before after x ended → left_of after + cond {A = ℕ} ended 0 1 < left_of before + cond {A = ℕ} was 0 1
+    → HasMadeRound task space written seen before after x ended → left_of (mutators_in after) + cond {A = ℕ} ended 0 1 < left_of (mutators_in before) + cond {A = ℕ} was 0 1
 nearer task space written seen before after x false true e made = let no_more = made.no_more in omega arith
 nearer task space written seen before after x false false e made = let less = made.less in omega arith
 nearer task space written seen before after x true ended e made = absurd (cc)

@@ -10,8 +10,6 @@ use Rattle.lxr_run_resume.specs.Serving.{IsServed}
 use Rattle.lxr_mutator.specs.declared.phases.Waiting.{Waiting}
 use Rattle.lxr_mutator.specs.Mutating.{IsWaiting, Mutating, next_name, op_now, waiting_by}
 use Rattle.lxr_mutator.specs.Mutators.{answered, served as given}
-use Rattle.lxr_core.specs.declared.actors.AnyActor.{AnyActor}
-use Rattle.lxr_core.specs.Actors.{mutator_in}
 use Rattle.lxr_run_loop.specs.Pausing.{MakesPause}
 
 -- ---- one `new`
@@ -62,15 +60,15 @@ pub data Answers (t : ℕ) (m m' : Mutating) (w : Waiting) : Space → Space →
 
 -- ---- all of them
 
--- an actor of which no `new` waits stays as it is, and one that waits is answered
-pub data AnswersActor (t : ℕ) : AnyActor → AnyActor → Space → Space → Bool → Bool → List Item → List Item → Type 0 where
-  passes : (a : AnyActor) (space : Space) (served : Bool) (h : List Item) → ¬ IsWaiting (mutator_in a) → AnswersActor t a a space space served served h h
-  waits : (a a' : AnyActor) (w : Waiting) (before after : Space) (served served' : Bool) (h h' : List Item) → waiting_by (mutator_in a) (mutator_in a).end ≡ Some w
-      → Answers t (mutator_in a) (mutator_in a') w before after served served' h h' → AnswersActor t a a' before after served served' h h'
+-- a thread of which no `new` waits stays as it is, and one that waits is answered
+pub data AnswersThread (t : ℕ) : Mutating → Mutating → Space → Space → Bool → Bool → List Item → List Item → Type 0 where
+  passes : (m : Mutating) (space : Space) (served : Bool) (h : List Item) → ¬ IsWaiting m → AnswersThread t m m space space served served h h
+  waits : (m m' : Mutating) (w : Waiting) (before after : Space) (served served' : Bool) (h h' : List Item) → waiting_by m m.end ≡ Some w
+      → Answers t m m' w before after served served' h h' → AnswersThread t m m' before after served served' h h'
 
--- From these actors, this space and this history, right behind a pause, so many threads were answered, in order. So the actors,
--- the space and the history have become these, and this tells whether some `new` was served since the last pause.
-pub data AnswersFirst (actors : List AnyActor) (space : Space) (h : List Item) : ℕ → List AnyActor → Space → Bool → List Item → Type 0 where
-  begins : AnswersFirst actors space h 0 actors space false h
-  next : (n : ℕ) (now : List AnyActor) (before after : Space) (served served' : Bool) (k k' : List Item) (a a' : AnyActor) → AnswersFirst actors space h n now before served k
-      → slice_get now n ≡ Some a → AnswersActor (n + 1) a a' before after served served' k k' → AnswersFirst actors space h (n + 1) (slice_set now n a') after served' k'
+-- From these mutators, this space and this history, right behind a pause, so many threads were answered, in order. So the
+-- mutators, the space and the history have become these, and this tells whether some `new` was served since the last pause.
+pub data AnswersFirst (mutators : List Mutating) (space : Space) (h : List Item) : ℕ → List Mutating → Space → Bool → List Item → Type 0 where
+  begins : AnswersFirst mutators space h 0 mutators space false h
+  next : (n : ℕ) (now : List Mutating) (before after : Space) (served served' : Bool) (k k' : List Item) (m m' : Mutating) → AnswersFirst mutators space h n now before served k
+      → slice_get now n ≡ Some m → AnswersThread (n + 1) m m' before after served served' k k' → AnswersFirst mutators space h (n + 1) (slice_set now n m') after served' k'

@@ -6,7 +6,8 @@ use Rattle.lxr_invariant.specs.AbstractState.{AbstractState}
 use Rattle.lxr_actor.specs.declared.Event.TheVariants.{Step}
 use Rattle.lxr_actor.specs.Run.{core_of}
 use Rattle.lxr_core.specs.declared.actors.AnyActor.{AnyActor}
-use Rattle.lxr_core.specs.Actors.{script_of}
+use Rattle.lxr_mutator.specs.Mutating.{Mutating}
+use Rattle.lxr_core.specs.Actors.{decrementers_in, mutators_in, script_of}
 use Rattle.lxr_core.specs.Executions.{tell_all}
 use Rattle.lxr_core.specs.Opening.{Begins, Opens, execution_at}
 use Rattle.lxr_run_replay.specs.Replaying.{Replays}
@@ -16,11 +17,13 @@ use Rattle.lxr_run_watch.specs.Sights.{Sight}
 use Rattle.lxr_run_loop.specs.Answering.{AnswersFirst}
 use Rattle.lxr_run_loop.specs.Serving.{BeginsServing}
 
--- An epoch of this space and these actors, behind a history h, was replayed: the actors have the operations of the task, and from
--- its opening on the draws of the generator, which had come to x, picked who made each step, until none had a next one. This has
--- led to the history h', and the generator to x'.
+-- An epoch of this space and these actors, behind a history h, was replayed: the mutators have the operations of the task, and
+-- there are as many decrementers as its options ask for. From its opening on the draws of the generator, which had come to x,
+-- picked who made each step, until no mutator had a next one, and helpers finished their units. This has led to the history h',
+-- and the generator to x'.
 pub record ReplaysEpoch (task : Task) (space : Space) (actors : List AnyActor) (h : List Item) (x : ℕ) (h' : List Item) (x' : ℕ) : Type 0 where
-  pub script : script_of actors ≡ task.script
+  pub script : script_of (mutators_in actors) ≡ task.script
+  pub workers : length (decrementers_in actors) ≡ task.options.workers
   pub abstract_state : AbstractState
   pub begins : Begins (beginning_of task space h abstract_state) space actors
   pub opened : Space
@@ -36,5 +39,5 @@ pub data IsDrawn (task : Task) : List Item → ℕ → Type 0 where
   at_opening : IsDrawn task [] task.options.replay
   by_epoch : (h h' : List Item) (x x' : ℕ) (space : Space) (actors : List AnyActor) → IsDrawn task h x → ReplaysEpoch task space actors h x h' x' → IsDrawn task h' x'
   by_pause : (h : List Item) (report : PauseReport) (x : ℕ) → IsDrawn task h x → IsDrawn task (Pause report ∷ h) x
-  by_answers : (h h' : List Item) (x : ℕ) (g : AbstractState) (actors actors' : List AnyActor) (space space' : Space) (written : Option (List ℕ)) (seen : Option (List Sight)) (served : Bool) → IsDrawn task h x
-      → BeginsServing task space written seen actors h g → AnswersFirst actors space h (length actors') actors' space' served h' → IsDrawn task h' x
+  by_answers : (h h' : List Item) (x : ℕ) (g : AbstractState) (mutators mutators' : List Mutating) (space space' : Space) (written : Option (List ℕ)) (seen : Option (List Sight)) (served : Bool) → IsDrawn task h x
+      → BeginsServing task space written seen mutators h g → AnswersFirst mutators space h (length mutators') mutators' space' served h' → IsDrawn task h' x

@@ -1,19 +1,24 @@
 -- The text of the replies of all threads, by their mutators.
-use Rattle.std.specs.Prelude.{◌≡◌, ℕ, zero, suc, Option, Some, None, List, [], ◌++◌, slice_get}
+use Rattle.std.specs.Prelude.{◌≡◌, ℕ, ⊤, Some, List, [], ◌∷◌, ◌++◌, slice_get}
 use Rattle.lxr_text_print.specs.Replies.{ArePrintable, replies_text}
+use Rattle.lxr_mutator.specs.Mutating.{Mutating}
 use Rattle.lxr_core.specs.declared.actors.AnyActor.{AnyActor}
-use Rattle.lxr_core.specs.Actors.{mutator_in}
+use Rattle.lxr_core.specs.declared.actors.AnyActor.TheVariants as any
 
--- the text of the replies of an actor, if there is one
-abbrev pub actor_text : Option AnyActor → List ℕ
-actor_text None = []
-actor_text (Some a) = replies_text (mutator_in a).thread (mutator_in a).operations (mutator_in a).replies.items
+-- the text of the replies of a thread
+abbrev pub mutator_text : Mutating → List ℕ
+mutator_text m = replies_text m.thread m.operations m.replies.items
 
--- the texts of the first so many actors, in order
-abbrev pub actors_text : ℕ → List AnyActor → List ℕ
-actors_text zero actors = []
-actors_text (suc n) actors = actors_text n actors ++ actor_text (slice_get actors n)
+-- the texts of all threads, in order
+abbrev pub mutators_text : List Mutating → List ℕ
+mutators_text [] = []
+mutators_text (m ∷ mutators) = mutator_text m ++ mutators_text mutators
 
--- the replies of each can be printed
+-- the replies of an actor can be printed; a helper has none
+abbrev pub IsPrintable : AnyActor → Type 0
+IsPrintable (any.Mutator m) = ArePrintable m.operations m.replies.items
+IsPrintable (any.Decrementer d) = ⊤
+
+-- those of each can be
 abbrev pub CanBePrinted : List AnyActor → Type 0
-CanBePrinted actors = (i : ℕ) (a : AnyActor) → slice_get actors i ≡ Some a → ArePrintable (mutator_in a).operations (mutator_in a).replies.items
+CanBePrinted actors = (i : ℕ) (a : AnyActor) → slice_get actors i ≡ Some a → IsPrintable a

@@ -1,5 +1,5 @@
 -- How a run goes on from one epoch to the next.
-use Rattle.std.specs.Prelude.{◌≡◌, ℕ, ◌<◌, ◌≤◌, Bool, true, false, Option, Some, List}
+use Rattle.std.specs.Prelude.{◌≡◌, ℕ, ◌<◌, ◌≤◌, ⊤, Bool, true, false, Option, Some, List}
 use Rattle.lxr_graph.specs.History.{Item}
 use Rattle.lxr_image.specs.declared.space.Space.{Space}
 use Rattle.lxr_invariant.specs.AbstractState.{AbstractState}
@@ -7,12 +7,19 @@ use Rattle.lxr_run_watch.specs.Sights.{Sight}
 use Rattle.lxr_mutator.specs.declared.phases.MutEnd.TheVariants as ends
 use Rattle.lxr_mutator.specs.Mutating.{Mutating}
 use Rattle.lxr_core.specs.declared.actors.AnyActor.{AnyActor}
+use Rattle.lxr_core.specs.declared.actors.AnyActor.TheVariants as any
+use Rattle.lxr_core.specs.Actors.{mutators_in}
 use Rattle.lxr_run_invariant.specs.LoopInvariant.{HasRunEpoch, HasRunTo, IsBetweenEpochs, Task, WasCutOff, left_of}
 use Rattle.lxr_run_loop.specs.Drawing.{IsDrawn, ReplaysEpoch}
 
 -- its end is done
 abbrev pub HasEnded : Mutating → Type 0
 HasEnded m = m.end ≡ Some ends.Ended
+
+-- the thread of an actor has ended; a helper has none that goes on
+abbrev pub NoneGoesOn : AnyActor → Type 0
+NoneGoesOn (any.Mutator m) = HasEnded m
+NoneGoesOn (any.Decrementer d) = ⊤
 
 -- ---- the run
 
@@ -45,12 +52,12 @@ RunsEpoch space actors x space' actors' x' = (task : Task) (written : Option (Li
 -- the run is between two epochs again, and less is left to do
 pub record IsNearer (task : Task) (space : Space) (written : Option (List ℕ)) (seen : Option (List Sight)) (before after : List AnyActor) (x : ℕ) : Type 0 where
   pub under_way : IsUnderWay task space written seen after x
-  pub less : left_of after < left_of before
+  pub less : left_of (mutators_in after) < left_of (mutators_in before)
 
 -- all threads have ended, and the run is done
 pub record IsThere (task : Task) (space : Space) (written : Option (List ℕ)) (seen : Option (List Sight)) (before after : List AnyActor) (x : ℕ) : Type 0 where
   pub complete : IsComplete task space written seen after x
-  pub no_more : left_of after ≤ left_of before
+  pub no_more : left_of (mutators_in after) ≤ left_of (mutators_in before)
 
 -- what a run is by one round more, and whether all threads have ended
 abbrev pub HasMadeRound : Task → Space → Option (List ℕ) → Option (List Sight) → List AnyActor → List AnyActor → ℕ → Bool → Type 0

@@ -7,8 +7,9 @@ use Rattle.lxr_run_watch.specs.Sights.{Sight}
 use Rattle.lxr_mutator.specs.declared.phases.Waiting.{Waiting}
 use Rattle.lxr_mutator.specs.Mutating.{Mutating}
 use Rattle.lxr_core.specs.declared.actors.AnyActor.{AnyActor}
+use Rattle.lxr_core.specs.declared.actors.AnyActor.TheVariants as any
 use Rattle.lxr_run_invariant.specs.LoopInvariant.{HasAnswered, IsServing, MayServe, Task, WasCutOff}
-use Rattle.lxr_run_loop.specs.Answering.{Answers, AnswersActor, AnswersFirst}
+use Rattle.lxr_run_loop.specs.Answering.{Answers, AnswersFirst, AnswersThread}
 
 -- ---- one `new`
 
@@ -29,50 +30,61 @@ IsAnsweredIn space written seen m served w space' written' seen' m' served' = (t
 abbrev pub IsCutOffServing : Space → Option (List ℕ) → Option (List Sight) → Mutating → Bool → Space → Option (List ℕ) → Type 0
 IsCutOffServing space written seen m served space' written' = (task : Task) (t : ℕ) (h : List Item) (g : AbstractState) → MayServe task space written seen t m served h g → WasCutOff task space' written'
 
--- ---- one actor
+-- ---- one thread
 
--- where serving has come to: the actors that there were, how many pauses had been made then, the actors now and the next of them
+-- where serving has come to: the mutators that there were, how many pauses had been made then, the mutators now and the next of
+-- them
 pub record Stand : Type 0 where
-  pub before : List AnyActor
+  pub before : List Mutating
   pub paused : ℕ
-  pub actors : List AnyActor
+  pub mutators : List Mutating
   pub first : ℕ
 
--- a run serves its actors, and this one is the next
-abbrev pub IsServingNext : Task → Space → Option (List ℕ) → Option (List Sight) → Stand → AnyActor → Bool → List Item → AbstractState → Type 0
-IsServingNext task space written seen stand actor served h g =
-    IsServing task space written seen stand.before stand.paused stand.actors stand.first served h g × (slice_get stand.actors stand.first ≡ Some actor)
+-- a run serves its threads, and this mutator is the next
+abbrev pub IsServingNext : Task → Space → Option (List ℕ) → Option (List Sight) → Stand → Mutating → Bool → List Item → AbstractState → Type 0
+IsServingNext task space written seen stand m served h g =
+    IsServing task space written seen stand.before stand.paused stand.mutators stand.first served h g × (slice_get stand.mutators stand.first ≡ Some m)
 
-abbrev pub CanServeNext : Space → Option (List ℕ) → Option (List Sight) → AnyActor → Bool → Type 0
-CanServeNext space written seen actor served = (task : Task) × (stand : Stand) × (h : List Item) × (g : AbstractState) × IsServingNext task space written seen stand actor served h g
+abbrev pub CanServeNext : Space → Option (List ℕ) → Option (List Sight) → Mutating → Bool → Type 0
+CanServeNext space written seen m served = (task : Task) × (stand : Stand) × (h : List Item) × (g : AbstractState) × IsServingNext task space written seen stand m served h g
 
 -- in each such run it has been answered
-abbrev pub NextIsAnswered : Space → Option (List ℕ) → Option (List Sight) → AnyActor → Bool → Space → Option (List ℕ) → Option (List Sight) → AnyActor → Bool → Type 0
-NextIsAnswered space written seen actor served space' written' seen' actor' served' = (task : Task) (stand : Stand) (h : List Item) (g : AbstractState)
-    → IsServingNext task space written seen stand actor served h g
-    → (h' : List Item) × (g' : AbstractState) × IsServing task space' written' seen' stand.before stand.paused (slice_set stand.actors stand.first actor') (stand.first + 1) served' h' g'
-    × AnswersActor (stand.first + 1) actor actor' space space' served served' h h'
+abbrev pub NextIsAnswered : Space → Option (List ℕ) → Option (List Sight) → Mutating → Bool → Space → Option (List ℕ) → Option (List Sight) → Mutating → Bool → Type 0
+NextIsAnswered space written seen m served space' written' seen' m' served' = (task : Task) (stand : Stand) (h : List Item) (g : AbstractState)
+    → IsServingNext task space written seen stand m served h g
+    → (h' : List Item) × (g' : AbstractState) × IsServing task space' written' seen' stand.before stand.paused (slice_set stand.mutators stand.first m') (stand.first + 1) served' h' g'
+    × AnswersThread (stand.first + 1) m m' space space' served served' h h'
 
 -- each such run was cut off
-abbrev pub NextIsCutOff : Space → Option (List ℕ) → Option (List Sight) → AnyActor → Bool → Space → Option (List ℕ) → Type 0
-NextIsCutOff space written seen actor served space' written' = (task : Task) (stand : Stand) (h : List Item) (g : AbstractState)
-    → IsServingNext task space written seen stand actor served h g → WasCutOff task space' written'
+abbrev pub NextIsCutOff : Space → Option (List ℕ) → Option (List Sight) → Mutating → Bool → Space → Option (List ℕ) → Type 0
+NextIsCutOff space written seen m served space' written' = (task : Task) (stand : Stand) (h : List Item) (g : AbstractState)
+    → IsServingNext task space written seen stand m served h g → WasCutOff task space' written'
 
--- ---- all actors
+-- an actor is a mutator of which this holds
+abbrev pub IsMutatorWith : (Mutating → Type 0) → AnyActor → Type 0
+IsMutatorWith P (any.Mutator m) = P m
+IsMutatorWith P (any.Decrementer d) = ⊥
 
--- a run begins to serve its actors
-abbrev pub BeginsServing : Task → Space → Option (List ℕ) → Option (List Sight) → List AnyActor → List Item → AbstractState → Type 0
-BeginsServing task space written seen actors h g = IsServing task space written seen actors space.pauses actors 0 false h g
+-- two actors are mutators between which this holds
+abbrev pub AreMutatorsWith : (Mutating → Mutating → Type 0) → AnyActor → AnyActor → Type 0
+AreMutatorsWith R (any.Mutator m) (any.Mutator m') = R m m'
+AreMutatorsWith R a a' = ⊥
 
-abbrev pub CanServeAll : Space → Option (List ℕ) → Option (List Sight) → List AnyActor → Type 0
-CanServeAll space written seen actors = (task : Task) × (h : List Item) × (g : AbstractState) × BeginsServing task space written seen actors h g
+-- ---- all threads
+
+-- a run begins to serve its threads
+abbrev pub BeginsServing : Task → Space → Option (List ℕ) → Option (List Sight) → List Mutating → List Item → AbstractState → Type 0
+BeginsServing task space written seen mutators h g = IsServing task space written seen mutators space.pauses mutators 0 false h g
+
+abbrev pub CanServeAll : Space → Option (List ℕ) → Option (List Sight) → List Mutating → Type 0
+CanServeAll space written seen mutators = (task : Task) × (h : List Item) × (g : AbstractState) × BeginsServing task space written seen mutators h g
 
 -- in each such run all were answered, in order of threads
-abbrev pub AllAreAnswered : Space → Option (List ℕ) → Option (List Sight) → List AnyActor → Space → Option (List ℕ) → Option (List Sight) → List AnyActor → Type 0
-AllAreAnswered space written seen actors space' written' seen' actors' = (task : Task) (h : List Item) (g : AbstractState) → BeginsServing task space written seen actors h g
-    → (served : Bool) × (h' : List Item) × (g' : AbstractState) × IsServing task space' written' seen' actors space.pauses actors' (length actors') served h' g'
-    × AnswersFirst actors space h (length actors') actors' space' served h'
+abbrev pub AllAreAnswered : Space → Option (List ℕ) → Option (List Sight) → List Mutating → Space → Option (List ℕ) → Option (List Sight) → List Mutating → Type 0
+AllAreAnswered space written seen mutators space' written' seen' mutators' = (task : Task) (h : List Item) (g : AbstractState) → BeginsServing task space written seen mutators h g
+    → (served : Bool) × (h' : List Item) × (g' : AbstractState) × IsServing task space' written' seen' mutators space.pauses mutators' (length mutators') served h' g'
+    × AnswersFirst mutators space h (length mutators') mutators' space' served h'
 
 -- each such run was cut off
-abbrev pub AllAreCutOff : Space → Option (List ℕ) → Option (List Sight) → List AnyActor → Space → Option (List ℕ) → Type 0
-AllAreCutOff space written seen actors space' written' = (task : Task) (h : List Item) (g : AbstractState) → BeginsServing task space written seen actors h g → WasCutOff task space' written'
+abbrev pub AllAreCutOff : Space → Option (List ℕ) → Option (List Sight) → List Mutating → Space → Option (List ℕ) → Type 0
+AllAreCutOff space written seen mutators space' written' = (task : Task) (h : List Item) (g : AbstractState) → BeginsServing task space written seen mutators h g → WasCutOff task space' written'

@@ -17,7 +17,6 @@ mod pauses;
 mod printing;
 mod run;
 mod serving;
-mod waiting;
 
 use lxr_core::AnyActor;
 use lxr_image::Space;
@@ -29,7 +28,7 @@ use printing::print_threads;
 use run::run_threads;
 
 /// Runs the threads in a space that was just opened, and then prints their replies. The reports of the pauses are printed
-/// as they come. A generator that begins with `seed` draws which thread makes the next step.
+/// as they come. A generator that begins with `seed` draws who makes the next step.
 pub fn run_and_print<G: Gate, W: Watch, O: Sink>(
     space: &mut Space,
     actors: &mut [AnyActor],

@@ -1,5 +1,5 @@
 //! The opening of a run: the space and the threads, with all the memory that the run takes.
-ghost use Rattle.std.specs.Prelude.{◌≡◌, ℕ, ◌≤◌, [], IfOk, List, OnErr, Option, length};
+ghost use Rattle.std.specs.Prelude.{◌≡◌, ℕ, ◌+◌, ◌≤◌, [], IfOk, List, OnErr, Option, length, vec_capacity, vec_len};
 ghost use Rattle.lxr_layout.specs.Spaces.{AreLimits};
 ghost use Rattle.lxr_text_script.specs.Limits.{IsScript};
 ghost use Rattle.lxr_text_script.specs.Reading.{lists_in};
@@ -8,6 +8,7 @@ ghost use Rattle.lxr_run_watch.specs.Sights.{Sight};
 ghost use Rattle.lxr_run_loop.specs.Opening.{AreMade, IsOpenedRun};
 
 use lxr_core::AnyActor;
+use lxr_decrement::Decrementer;
 use lxr_image::Space;
 use lxr_layout::Limits;
 use lxr_mutator::Mutator;
@@ -18,20 +19,23 @@ use std::alloc::{AllocError, Global};
 /// The entries of the remembered set. Nothing is entered yet.
 const REMEMBER: u32 = 4096;
 
-/// A mutator for each thread of a script, in order.
-fn make_actors(
+/// A mutator for each thread of a script, in order, in a list with room for some more actors.
+fn make_mutators(
     alloc: Global,
     script: Lists,
     limits: Limits,
     every: u32,
+    more: usize,
 ) -> Result<Vec<AnyActor>, AllocError>
     requires script { IsScript (lists_in script) }
     requires limits { AreLimits limits }
     requires threads { limits.threads ≡ length script.items }
     requires every { (1 ≤ every) × (every ≤ 1048576) }
-    ensures { IfOk result (λ actors. AreMade limits every (lists_in script) actors.items) }
+    requires more { more ≤ 8 }
+    ensures made { IfOk result (λ actors. AreMade limits every 0 (lists_in script) actors.items) }
+    ensures room { IfOk result (λ actors. vec_len actors + more ≤ vec_capacity actors) }
 {
-    let mut actors = Vec::with_capacity(alloc, script.len())?;
+    let mut actors = Vec::with_capacity(alloc, script.len() + more)?;
     for operations in script.into_vec() {
         let thread = actors.len() as u8 + 1;
         let mutator = Mutator::new(alloc, thread, operations, limits, every)?;
@@ -40,7 +44,31 @@ fn make_actors(
     Ok(actors)
 }
 
-/// Opens the space for the threads of a script, and makes their mutators, with room for all their replies and logs.
+/// A mutator for each thread of a script, in order, and behind them so many decrementers.
+fn make_actors(
+    alloc: Global,
+    script: Lists,
+    limits: Limits,
+    every: u32,
+    workers: u8,
+) -> Result<Vec<AnyActor>, AllocError>
+    requires script { IsScript (lists_in script) }
+    requires limits { AreLimits limits }
+    requires threads { limits.threads ≡ length script.items }
+    requires every { (1 ≤ every) × (every ≤ 1048576) }
+    requires workers { workers ≤ 8 }
+    ensures { IfOk result (λ actors. AreMade limits every workers (lists_in script) actors.items) }
+{
+    let mut actors = make_mutators(alloc, script, limits, every, usize::from(workers))?;
+    for _ in 0..workers {
+        let decrementer = Decrementer::new(alloc, limits)?;
+        actors.push_reserved(AnyActor::Decrementer(decrementer));
+    }
+    Ok(actors)
+}
+
+/// Opens the space for the threads of a script, and makes their mutators, with room for all their replies and logs, and the
+/// decrementers that the options ask for.
 pub fn open(
     alloc: Global,
     space: &mut Space,
@@ -59,7 +87,7 @@ pub fn open(
         log: options.log,
         remember: REMEMBER,
     };
-    let actors = make_actors(alloc, script, limits, options.every)?;
+    let actors = make_actors(alloc, script, limits, options.every, options.workers)?;
     space.open(alloc, limits)?;
     Ok(actors)
 }

@@ -2,9 +2,8 @@
 ghost use Rattle.std.specs.Prelude.{◌≡◌, ℕ, ◌≤◌, ◌↔◌, IfOk, IsTrue, OnErr, OnOk};
 ghost use Rattle.std.specs.List.{All};
 ghost use Rattle.lxr_text_stream.specs.Streams.{Rose};
-ghost use Rattle.lxr_core.specs.Actors.{mutator_in};
 ghost use Rattle.lxr_run_invariant.specs.LoopInvariant.{Task};
-ghost use Rattle.lxr_run_loop.specs.Progress.{CanRunEpoch, HasEnded, HasMadeRound, IsComplete, IsCutOffUnderWay, IsUnderWay, RunsEpoch};
+ghost use Rattle.lxr_run_loop.specs.Progress.{CanRunEpoch, HasMadeRound, IsComplete, IsCutOffUnderWay, IsUnderWay, NoneGoesOn, RunsEpoch};
 
 use crate::pauses::pause;
 use crate::serving::serve_waiting;
@@ -27,18 +26,19 @@ fn run_epoch<G: Gate>(space: &mut Space, actors: &mut [AnyActor], x: &mut u64, g
     close_epoch(space, actors);
 }
 
-/// Whether the thread of an actor has done its end.
+/// Whether the thread of an actor has done its end; a helper has none that goes on.
 fn has_ended(actor: &AnyActor) -> bool
-    ensures { IsTrue result ↔ HasEnded (mutator_in actor.now) }
+    ensures { IsTrue result ↔ NoneGoesOn actor.now }
 {
     match actor {
         AnyActor::Mutator(mutator) => matches!(mutator.ended(), Some(MutEnd::Ended)),
+        AnyActor::Decrementer(_) => true,
     }
 }
 
 /// Whether each thread has done its end.
 fn have_ended(actors: &[AnyActor]) -> bool
-    ensures { IsTrue result ↔ All (λ a. HasEnded (mutator_in a)) actors.now }
+    ensures { IsTrue result ↔ All NoneGoesOn actors.now }
 {
     actors.iter().all(|actor| has_ended(actor))
 }
@@ -71,7 +71,7 @@ fn make_round<G: Gate, W: Watch, O: Sink>(
 }
 
 /// Runs the threads in a space that was just opened, epoch after epoch with a pause behind each, until all have ended. A
-/// generator that begins with `seed` draws which thread makes the next step.
+/// generator that begins with `seed` draws who makes the next step.
 pub(crate) fn run_threads<G: Gate, W: Watch, O: Sink>(
     space: &mut Space,
     actors: &mut [AnyActor],

@@ -3,87 +3,107 @@ ghost use Rattle.std.specs.Prelude.{◌≡◌, ◌+◌, ◌*◌, ◌^◌, ◌<�
 ghost use Rattle.lxr_layout.specs.Objects.{FitsShape};
 ghost use Rattle.lxr_text_stream.specs.Streams.{Rose};
 ghost use Rattle.lxr_mutator.specs.Mutating.{waiting_by};
-ghost use Rattle.lxr_core.specs.Actors.{mutator_in};
-ghost use Rattle.lxr_run_invariant.specs.LoopInvariant.{FitsCounts, done_of};
+ghost use Rattle.lxr_core.specs.Actors.{AreInOrder, mutators_in};
+ghost use Rattle.lxr_run_invariant.specs.LoopInvariant.{FitsCounts, KeepsHelpers, done_of};
 ghost use Rattle.lxr_run_loop.specs.Answering.{ServesIfRoom, ServesOrRefuses};
-ghost use Rattle.lxr_run_loop.specs.Serving.{AllAreAnswered, AllAreCutOff, CanServe, CanServeAll, CanServeNext, IsAnsweredIn, IsCutOffServing, IsServableIn, NextIsAnswered, NextIsCutOff};
+ghost use Rattle.lxr_run_loop.specs.Serving.{AllAreAnswered, AllAreCutOff, CanServe, AreMutatorsWith, CanServeAll, CanServeNext, IsAnsweredIn, IsCutOffServing, IsMutatorWith, IsServableIn, NextIsAnswered, NextIsCutOff};
 
 use crate::pauses::pause;
-use crate::waiting::{next_name_in, refuse_in, serve_in, waiting_in};
 use lxr_core::AnyActor;
 use lxr_image::Space;
-use lxr_mutator::Waiting;
+use lxr_mutator::{Mutator, Waiting};
 use lxr_run_resume::serve;
 use lxr_run_watch::Watch;
 use lxr_text_stream::{Sink, WriteError};
 
-/// Serves the `new` that an actor waits for, where there is room for its object. Whether there was.
-fn serve_one(space: &mut Space, actor: &mut AnyActor, waiting: Waiting) -> bool
-    requires may { IsServableIn space.old (mutator_in actor.old) }
-    requires waiting { waiting_by (mutator_in actor.old) (mutator_in actor.old).end ≡ Some waiting }
+/// Serves the `new` that a mutator waits for, where there is room for its object. Whether there was.
+fn serve_one(space: &mut Space, mutator: &mut Mutator, waiting: Waiting) -> bool
+    requires may { IsServableIn space.old mutator.old }
+    requires waiting { waiting_by mutator.old mutator.old.end ≡ Some waiting }
     requires fits { (waiting.dest < 16) × FitsShape waiting.shape }
     requires news { space.old.tally.news + 1 < 2 ^ 32 }
-    ensures serves { ServesIfRoom space.old space.new (mutator_in actor.old) (mutator_in actor.new) waiting result }
+    ensures serves { ServesIfRoom space.old space.new mutator.old mutator.new waiting result }
     ensures pauses { space.new.pauses ≡ space.old.pauses }
 {
-    let name = next_name_in(actor);
+    let name = mutator.next_name();
     let Some(place) = serve(space, name, waiting.dest, waiting.shape) else {
         return false;
     };
-    serve_in(actor, place);
+    mutator.serve(place);
     space.tally.news += 1;
     true
 }
 
-/// Serves the `new` that an actor waits for, or refuses it where there is no room for its object. Whether it was served.
-fn serve_first(space: &mut Space, actor: &mut AnyActor, waiting: Waiting) -> bool
-    requires may { IsServableIn space.old (mutator_in actor.old) }
-    requires waiting { waiting_by (mutator_in actor.old) (mutator_in actor.old).end ≡ Some waiting }
+/// Serves the `new` that a mutator waits for, or refuses it where there is no room for its object. Whether it was served.
+fn serve_first(space: &mut Space, mutator: &mut Mutator, waiting: Waiting) -> bool
+    requires may { IsServableIn space.old mutator.old }
+    requires waiting { waiting_by mutator.old mutator.old.end ≡ Some waiting }
     requires fits { (waiting.dest < 16) × FitsShape waiting.shape }
     requires news { space.old.tally.news + 1 < 2 ^ 32 }
-    ensures answers { ServesOrRefuses space.old space.new (mutator_in actor.old) (mutator_in actor.new) waiting result }
+    ensures answers { ServesOrRefuses space.old space.new mutator.old mutator.new waiting result }
     ensures pauses { space.new.pauses ≡ space.old.pauses }
 {
-    if serve_one(space, actor, waiting) {
+    if serve_one(space, mutator, waiting) {
         return true;
     }
-    refuse_in(actor);
+    mutator.refuse();
     false
 }
 
-/// Serves the `new` that an actor waits for. Where there is no room, and another was served since the last pause, one
+/// Serves the `new` that a mutator waits for. Where there is no room, and another was served since the last pause, one
 /// more pause is made and it is tried again; where there is none then either, it is refused. Whether a `new` was served
 /// since the last pause.
 fn serve_or_refuse<W: Watch, O: Sink>(
     space: &mut Space,
-    actor: &mut AnyActor,
+    mutator: &mut Mutator,
     waiting: Waiting,
     served: bool,
     watch: &mut W,
     output: &mut O,
 ) -> Result<bool, WriteError>
-    requires may { CanServe space.old (O.written output.old) (W.seen watch.old) (mutator_in actor.old) served }
-    requires waiting { waiting_by (mutator_in actor.old) (mutator_in actor.old).end ≡ Some waiting }
+    requires may { CanServe space.old (O.written output.old) (W.seen watch.old) mutator.old served }
+    requires waiting { waiting_by mutator.old mutator.old.end ≡ Some waiting }
     requires fits { (waiting.dest < 16) × FitsShape waiting.shape }
     requires counts { FitsCounts space.old }
-    ensures ok { IfOk result (IsAnsweredIn space.old (O.written output.old) (W.seen watch.old) (mutator_in actor.old) served waiting space.new (O.written output.new) (W.seen watch.new) (mutator_in actor.new)) }
-    ensures err { OnErr result (IsCutOffServing space.old (O.written output.old) (W.seen watch.old) (mutator_in actor.old) served space.new (O.written output.new)) }
+    ensures ok { IfOk result (IsAnsweredIn space.old (O.written output.old) (W.seen watch.old) mutator.old served waiting space.new (O.written output.new) (W.seen watch.new) mutator.new) }
+    ensures err { OnErr result (IsCutOffServing space.old (O.written output.old) (W.seen watch.old) mutator.old served space.new (O.written output.new)) }
     ensures pauses { space.new.pauses ≤ space.old.pauses + 1 }
     ensures faults { O.faults output.old ≤ O.faults output.new }
     ensures cause { result ≡ Err WriteError.Fault → Rose (O.faults output.old) (O.faults output.new) }
 {
     if !served {
-        return Ok(serve_first(space, actor, waiting));
+        return Ok(serve_first(space, mutator, waiting));
     }
-    if serve_one(space, actor, waiting) {
+    if serve_one(space, mutator, waiting) {
         return Ok(true);
     }
     pause(space, watch, output)?;
-    Ok(serve_first(space, actor, waiting))
+    Ok(serve_first(space, mutator, waiting))
 }
 
-/// Serves or refuses the `new` that an actor waits for, if it waits for one. Whether a `new` was served since the last
+/// Serves or refuses the `new` that a mutator waits for, if it waits for one. Whether a `new` was served since the last
 /// pause.
+fn serve_next<W: Watch, O: Sink>(
+    space: &mut Space,
+    mutator: &mut Mutator,
+    served: bool,
+    watch: &mut W,
+    output: &mut O,
+) -> Result<bool, WriteError>
+    requires serving { CanServeNext space.old (O.written output.old) (W.seen watch.old) mutator.old served }
+    requires counts { FitsCounts space.old }
+    ensures ok { IfOk result (NextIsAnswered space.old (O.written output.old) (W.seen watch.old) mutator.old served space.new (O.written output.new) (W.seen watch.new) mutator.new) }
+    ensures err { OnErr result (NextIsCutOff space.old (O.written output.old) (W.seen watch.old) mutator.old served space.new (O.written output.new)) }
+    ensures faults { O.faults output.old ≤ O.faults output.new }
+    ensures cause { result ≡ Err WriteError.Fault → Rose (O.faults output.old) (O.faults output.new) }
+{
+    match mutator.waiting() {
+        Some(waiting) => serve_or_refuse(space, mutator, waiting, served, watch, output),
+        None => Ok(served),
+    }
+}
+
+/// Serves or refuses the `new` that the mutator among the actors whose turn it is waits for.
 fn serve_actor<W: Watch, O: Sink>(
     space: &mut Space,
     actor: &mut AnyActor,
@@ -91,16 +111,16 @@ fn serve_actor<W: Watch, O: Sink>(
     watch: &mut W,
     output: &mut O,
 ) -> Result<bool, WriteError>
-    requires serving { CanServeNext space.old (O.written output.old) (W.seen watch.old) actor.old served }
+    requires serving { IsMutatorWith (λ m. CanServeNext space.old (O.written output.old) (W.seen watch.old) m served) actor.old }
     requires counts { FitsCounts space.old }
-    ensures ok { IfOk result (NextIsAnswered space.old (O.written output.old) (W.seen watch.old) actor.old served space.new (O.written output.new) (W.seen watch.new) actor.new) }
-    ensures err { OnErr result (NextIsCutOff space.old (O.written output.old) (W.seen watch.old) actor.old served space.new (O.written output.new)) }
+    ensures ok { IfOk result (λ more. AreMutatorsWith (λ m n. NextIsAnswered space.old (O.written output.old) (W.seen watch.old) m served space.new (O.written output.new) (W.seen watch.new) n more) actor.old actor.new) }
+    ensures err { OnErr result (IsMutatorWith (λ m. NextIsCutOff space.old (O.written output.old) (W.seen watch.old) m served space.new (O.written output.new)) actor.old) }
     ensures faults { O.faults output.old ≤ O.faults output.new }
     ensures cause { result ≡ Err WriteError.Fault → Rose (O.faults output.old) (O.faults output.new) }
 {
-    match waiting_in(actor) {
-        Some(waiting) => serve_or_refuse(space, actor, waiting, served, watch, output),
-        None => Ok(served),
+    match actor {
+        AnyActor::Mutator(mutator) => serve_next(space, mutator, served, watch, output),
+        AnyActor::Decrementer(_) => Ok(served),
     }
 }
 
@@ -111,15 +131,18 @@ pub(crate) fn serve_waiting<W: Watch, O: Sink>(
     watch: &mut W,
     output: &mut O,
 ) -> Result<(), WriteError>
-    requires serving { CanServeAll space.old (O.written output.old) (W.seen watch.old) actors.old }
-    requires few { space.old.pauses ≤ 2 * done_of actors.old + 1 }
-    ensures ok { OnOk result (AllAreAnswered space.old (O.written output.old) (W.seen watch.old) actors.old space.new (O.written output.new) (W.seen watch.new) actors.new) }
-    ensures err { OnErr result (AllAreCutOff space.old (O.written output.old) (W.seen watch.old) actors.old space.new (O.written output.new)) }
+    requires serving { CanServeAll space.old (O.written output.old) (W.seen watch.old) (mutators_in actors.old) }
+    requires order { AreInOrder actors.old }
+    requires few { space.old.pauses ≤ 2 * done_of (mutators_in actors.old) + 1 }
+    ensures ok { OnOk result (AllAreAnswered space.old (O.written output.old) (W.seen watch.old) (mutators_in actors.old) space.new (O.written output.new) (W.seen watch.new) (mutators_in actors.new)) }
+    ensures helpers { OnOk result (KeepsHelpers actors.old actors.new) }
+    ensures err { OnErr result (AllAreCutOff space.old (O.written output.old) (W.seen watch.old) (mutators_in actors.old) space.new (O.written output.new)) }
     ensures faults { O.faults output.old ≤ O.faults output.new }
     ensures cause { result ≡ Err WriteError.Fault → Rose (O.faults output.old) (O.faults output.new) }
 {
+    let threads = usize::from(space.limits.threads);
     let mut served = false;
-    for number in 0..actors.len() {
+    for number in 0..threads {
         served = serve_actor(space, &mut actors[number], served, watch, output)?;
     }
     Ok(())

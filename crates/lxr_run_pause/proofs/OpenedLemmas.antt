@@ -15,7 +15,6 @@ opened_can_pause s l limits opened =
       record { moment = opening_moment l.threads; at = opening_at; reported = report_of s.report },
       record {
         safepoint = record { holds = can.holds; numbers = record { pauses = opened.pauses; trace = opened.trace; report = refl }; traced = tt };
-        undecremented = can.undecremented;
         no_trace = refl;
         counted = (omega (arith, none), omega (arith, uncounted));
       },

@@ -1,5 +1,5 @@
 -- Once counting is done, blocks are swept, names are in order and the pause is counted, a pause was made.
-use Rattle.std.proofs.Common.{◌≡◌, ℕ, ◌+◌, ◌*◌, refl, sym, ap, subst, ◌∙◌, false, List, IsTrue}
+use Rattle.std.proofs.Common.{◌≡◌, ℕ, ◌+◌, ◌*◌, refl, sym, ap, subst, ◌∙◌, Bool, false, List, IsTrue}
 use Rattle.std.specs.Option.{option_map}
 use Rattle.std.proofs.lemmas.List.{append-nil}
 use Rattle.lxr_layout.specs.declared.TheConstants.{GRANULES_IN_BLOCK}
@@ -8,6 +8,7 @@ use Rattle.lxr_graph.specs.declared.report.Report.{Report}
 use Rattle.lxr_graph.specs.Names.{has}
 use Rattle.lxr_graph.proofs.NameSets.{not_both}
 use Rattle.lxr_image.specs.declared.space.Space.{Space}
+use Rattle.lxr_image.specs.Tables.{Tables}
 use Rattle.lxr_image.specs.Spaces.{IsSpace, Turns, tables_of}
 use Rattle.lxr_model.specs.Moments.{Moment, Trace, after_pause, going_on, stuck_after, trace_after}
 use Rattle.lxr_model_counting.specs.Following.{FollowsPause}
@@ -19,10 +20,13 @@ use Rattle.lxr_invariant.specs.Lines.{HasStates}
 use Rattle.lxr_invariant.specs.Tracing.{IsTracedBy}
 use Rattle.lxr_invariant.specs.Quiescent.{HasNumbers, HoldsMoment, IsQuiescent}
 use Rattle.lxr_invariant.proofs.KeepingLemmas.{keeps_both}
+use Rattle.lxr_pause_decrements.specs.Wipe.{LosesBits}
+use Rattle.lxr_pause_decrements.proofs.WipeLemmas.{loses_same}
 use Rattle.lxr_run_pause.specs.Steps.{with_names_in_order, with_pause_counted}
 use Rattle.lxr_run_pause.specs.Settling.{Settles, Tells, settled_by}
 use Rattle.lxr_run_pause.specs.Pausing.{CanPause, Pauses, states_swept}
 use Rattle.lxr_run_pause.proofs.ReportLemmas.{follows_then, reports, stuck_then, told, unreclaimed_then}
+use Rattle.lxr_run_pause.proofs.OrderLemmas.{has_in_order}
 use Rattle.lxr_run_pause.proofs.FrameLemmas.{holds_told, ordered_room, with_told}
 use Rattle.lxr_run_pause.proofs.SweepLemmas.{lines_kept, swept_holds, swept_states, swept_undecremented}
 
@@ -99,6 +103,13 @@ module _ (s settled : Space) (g : AbstractState) (can : CanPause s g) (settles :
         ∙ ap (λ t. states_swept t (tables_of settled).states s.limits.blocks) (sym tables)
         ∙ ap (λ f. states_swept (tables_of at_end) f s.limits.blocks) settles.states
 
+    -- so were mark and gray bits, whatever the order of the dead
+    bits_lost : (bits : Tables → ℕ → Bool) → LosesBits (bits (tables_of s)) (bits (tables_of settled)) g.at r.dead.items → bits (tables_of at_end) ≡ bits (tables_of settled)
+        → LosesBits (bits (tables_of s)) (bits (tables_of at_end)) g.at at_end.report.dead.items
+    bits_lost bits lost same =
+        subst (λ f. LosesBits (bits (tables_of s)) f g.at at_end.report.dead.items) (sym same)
+        (loses_same (bits (tables_of s)) (bits (tables_of settled)) g.at r.dead.items at_end.report.dead.items (has_in_order r.dead.items) lost)
+
     pauses_at_end : Pauses s at_end g
     pauses_at_end = record {
       plain = tells.plain;
@@ -106,8 +117,10 @@ module _ (s settled : Space) (g : AbstractState) (can : CanPause s g) (settles :
       between = between;
       tally = ap (λ (x : Space). record x.tally { pauses = x.tally.pauses + 1 }) settles.space;
       keeps = keeps_both (tables_of s) (tables_of settled) (tables_of at_end) settles.keeps
-          (subst (KeepsListsAndCounters (tables_of settled)) (sym tables) (record { heap = refl; reuse = refl; runs = refl; frees = refl; remembered = refl; cursors = λ k h. refl }));
+          (subst (KeepsListsAndCounters (tables_of settled)) (sym tables) (record { heap = refl; reuse = refl; runs = refl; frees = refl; remembered = refl; cursors = λ k h j. refl }));
       states = swept_from_before;
+      marks = bits_lost (λ t. t.marks) settles.marks (ap (λ t. t.marks) tables);
+      grays = bits_lost (λ t. t.grays) settles.grays (ap (λ t. t.grays) tables);
       space = ap (λ (x : Space). record x {
         words = words;
         deferred = settled.deferred;

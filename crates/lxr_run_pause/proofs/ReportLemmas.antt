@@ -13,7 +13,7 @@ use Rattle.lxr_model.specs.Moments.{Moment, after_pause, unreclaimed_after, stuc
 use Rattle.lxr_model.specs.Reports.{AreCounts, AreDrained, IsReport, IsReportWith, IsSwept, PauseParts, count_before, is_draining, kept_names, raised}
 use Rattle.lxr_model_counting.specs.Following.{FollowsPause}
 use Rattle.lxr_model_counting.proofs.DistinctLemmas.{union_same, without_same}
-use Rattle.lxr_model_counting.proofs.FollowingLemmas.{plain_pause_follows, stuck_stay, unreclaimed_are_kept}
+use Rattle.lxr_model_counting.proofs.PauseLemmas.{plain_pause_follows, stuck_stay, unreclaimed_are_kept}
 use Rattle.lxr_invariant.specs.Raised.{count_raised, with_promoted}
 use Rattle.lxr_run_pause.specs.Steps.{with_names_in_order}
 use Rattle.lxr_run_pause.specs.Settling.{Tells, survived}

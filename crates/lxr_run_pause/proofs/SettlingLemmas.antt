@@ -1,10 +1,12 @@
 -- Each step of a pause finds what it asks for, and once roots are deferred, counting is done.
-use Rattle.std.proofs.Common.{◌≡◌, ℕ, ◌+◌, ◌*◌, ◌≤◌, sym, ap, subst, ◌∙◌, arith, List, ◌++◌, IsTrue, length}
+use Rattle.std.proofs.Common.{◌≡◌, ℕ, ◌+◌, ◌*◌, ◌≤◌, sym, ap, subst, ◌∙◌, arith, Bool, List, ◌++◌, IsTrue, length}
 use Rattle.std.specs.Prelude.{◌↔◌}
 use Rattle.lxr_layout.specs.declared.TheConstants.{GRANULES_IN_BLOCK}
 use Rattle.lxr_layout.specs.declared.Name.{Name}
+use Rattle.lxr_graph.specs.declared.report.Report.{Report}
 use Rattle.lxr_graph.specs.Names.{has, without}
 use Rattle.lxr_image.specs.declared.space.Space.{Space}
+use Rattle.lxr_image.specs.Tables.{Tables}
 use Rattle.lxr_image.specs.Spaces.{tables_of}
 use Rattle.lxr_model.specs.Dead.{Dead}
 use Rattle.lxr_model.specs.Moments.{Moment}
@@ -16,6 +18,7 @@ use Rattle.lxr_invariant.specs.Quiescent.{HoldsMoment}
 use Rattle.lxr_invariant.specs.Raised.{AreRaised, IsRaised, settled}
 use Rattle.lxr_invariant.proofs.KeepingLemmas.{keeps_both, keeps_same}
 use Rattle.lxr_pause_decrements.specs.Finishing.{CanFinish, Finishes}
+use Rattle.lxr_pause_decrements.specs.Wipe.{LosesBits}
 use Rattle.lxr_pause_increments.specs.Raising.{CanRaise, Raises}
 use Rattle.lxr_pause_queue.specs.Queueing.{Queues, with_roots_deferred}
 use Rattle.lxr_run_pause.specs.Steps.{begun, with_report_begun}
@@ -32,7 +35,6 @@ module _ (s began : Space) (g : AbstractState) (can : CanPause s g) (begins : be
   pub can_finish : CanFinish began g.moment g.at
   can_finish = subst (λ x. CanFinish x g.moment g.at) (sym begins) (record {
     holds = holds_told s g.moment g.at (begun s.report (s.pauses + 1)) s.tally s.pauses (begun_room s.report (s.pauses + 1) (GRANULES_IN_BLOCK * s.limits.blocks) can.safepoint.holds.room.report) can.safepoint.holds;
-    undecremented = can.undecremented;
     no_trace = can.no_trace;
     room = (let e = can.safepoint.holds.room.report.dead in omega (arith, e));
   })
@@ -112,6 +114,14 @@ module _ (s began : Space) (g : AbstractState) (can : CanPause s g) (begins : be
               (keeps_both (tables_of finished) (tables_of raised) (tables_of deferred) raise.keeps
               (keeps_both (tables_of raised) (tables_of queued) (tables_of deferred) queue.keeps (keeps_same (tables_of queued) (tables_of deferred) (ap tables_of defers))))
 
+          -- each step but the first leaves mark and gray bits
+          bits_lost : (bits : Tables → ℕ → Bool) → LosesBits (bits (tables_of began)) (bits (tables_of finished)) g.at gone → bits (tables_of raised) ≡ bits (tables_of finished)
+              → bits (tables_of queued) ≡ bits (tables_of raised) → LosesBits (bits (tables_of s)) (bits (tables_of deferred)) g.at deferred.report.dead.items
+          bits_lost bits lost raising queueing =
+              subst (λ ns. LosesBits (bits (tables_of s)) (bits (tables_of deferred)) g.at ns) (sym (ap (λ (r : Report). r.dead.items) same_report ∙ gone_are))
+              (subst (λ f. LosesBits f (bits (tables_of deferred)) g.at gone) (ap (λ x. bits (tables_of x)) begins)
+              (subst (λ f. LosesBits (bits (tables_of began)) f g.at gone) (sym (ap (λ x. bits (tables_of x)) defers ∙ queueing ∙ raising)) lost))
+
           pub settles : Settles s deferred g
           settles = record {
             tells = subst (λ r. Tells r (s.pauses + 1) g.moment) (sym same_report) tells_raised;
@@ -128,6 +138,8 @@ module _ (s began : Space) (g : AbstractState) (can : CanPause s g) (begins : be
                 ∙ raise.states
                 ∙ finish.states
                 ∙ ap (λ x. (tables_of x).states) begins;
+            marks = bits_lost (λ t. t.marks) finish.marks raise.marks (ap (λ t. t.marks) queue.tables);
+            grays = bits_lost (λ t. t.grays) finish.grays raise.grays (ap (λ t. t.grays) queue.tables);
             space =
                 ap (λ x. settled_as x deferred) defers
                 ∙ ap (λ x. settled_as x deferred) queue.space

@@ -19,6 +19,7 @@ use Rattle.lxr_blocks.specs.States.{is_fixed, state_by_lines, state_in}
 use Rattle.lxr_blocks.proofs.KeptLemmas.{kept_line_is_taken}
 use Rattle.lxr_model.specs.Moments.{Moment, Trace}
 use Rattle.lxr_model_counting.specs.Following.{FollowsPause}
+use Rattle.lxr_model_counting.proofs.DeathLemmas.{dead_by_names}
 use Rattle.lxr_sweep.specs.Swept.{AreSwept, with_states_by_lines}
 use Rattle.lxr_sweep.proofs.SweptLemmas.{swept_is_by_lines}
 use Rattle.lxr_invariant.specs.AbstractState.{members}
@@ -142,6 +143,7 @@ module _ (s : Space) (words : List ℕ) (m : Moment) (number : ℕ) (stuck : Lis
       below = λ n k q. h.counts.below n k (sym (same n) ∙ q);
       exact = λ n k q. h.counts.exact n k (sym (same n) ∙ q);
       done = h.counts.done;
+      dead = λ n k d. dead_by_names m.last m.unreclaimed m.stuck stuck same (h.counts.dead n k d);
     }
 
     decrements_then : HasDecrements s.limits (swept (tables_of s) s.limits.blocks) renumbered at

@@ -8,14 +8,14 @@ use Rattle.lxr_image.specs.Spaces.{tables_of}
 use Rattle.lxr_model.specs.Reports.{IsReport}
 use Rattle.lxr_sweep.specs.Swept.{with_states_by_lines}
 use Rattle.lxr_invariant.specs.AbstractState.{AbstractState, paused}
-use Rattle.lxr_invariant.specs.Counting.{IsUndecremented}
 use Rattle.lxr_invariant.specs.Keeping.{KeepsListsAndCounters}
 use Rattle.lxr_invariant.specs.Quiescent.{IsAtSafepoint, IsQuiescent}
+use Rattle.lxr_pause_decrements.specs.Wipe.{LosesBits}
 
--- A pause may be made: the space is at a safepoint, no decrementer has worked and no trace runs, and pauses can still be counted.
+-- A pause may be made: the space is at a safepoint, whatever decrementers have done since the last pause, no trace runs, and
+-- pauses can still be counted.
 pub record CanPause (s : Space) (g : AbstractState) : Type 0 where
   pub safepoint : IsAtSafepoint s g
-  pub undecremented : IsUndecremented (tables_of s) g.moment g.at
   pub no_trace : g.moment.trace ≡ None
   pub counted : (s.pauses + 1 < 2 ^ 32) × (s.tally.pauses < 2 ^ 63)
 
@@ -25,7 +25,8 @@ states_swept t states blocks = (with_states_by_lines (record t { states = states
 
 -- A plain pause was made: its report is that of the moment, it is between epochs after it with each object where it was,
 -- and the pause is counted. Lists and counters stay, each block that is neither Chosen nor World has the state of its lines,
--- and the other blocks have the state that they had. Nothing else has changed.
+-- and the other blocks have the state that they had. A dead object loses its mark and gray bits, and all others are as they
+-- were. Nothing else has changed, but that the list of decrements is that of the next pause.
 pub record Pauses (before after : Space) (g : AbstractState) : Type 0 where
   pub plain : after.report.kind ≡ Plain
   pub reports : IsReport g.moment (report_of after.report)
@@ -33,6 +34,8 @@ pub record Pauses (before after : Space) (g : AbstractState) : Type 0 where
   pub tally : after.tally ≡ record before.tally { pauses = before.tally.pauses + 1 }
   pub keeps : KeepsListsAndCounters (tables_of before) (tables_of after)
   pub states : (tables_of after).states ≡ states_swept (tables_of after) (tables_of before).states before.limits.blocks
+  pub marks : LosesBits (tables_of before).marks (tables_of after).marks g.at after.report.dead.items
+  pub grays : LosesBits (tables_of before).grays (tables_of after).grays g.at after.report.dead.items
   pub space : after ≡ record before {
     words = after.words;
     deferred = after.deferred;

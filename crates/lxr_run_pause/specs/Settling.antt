@@ -14,6 +14,7 @@ use Rattle.lxr_invariant.specs.Counting.{IsUndecremented}
 use Rattle.lxr_invariant.specs.Keeping.{KeepsListsAndCounters}
 use Rattle.lxr_invariant.specs.Quiescent.{HoldsMoment}
 use Rattle.lxr_invariant.specs.Raised.{AreRaised, settled}
+use Rattle.lxr_pause_decrements.specs.Wipe.{LosesBits}
 
 -- the moment without the names that a report has as dead
 abbrev pub survived : Moment → Report → Moment
@@ -34,8 +35,9 @@ pub record Tells (r : Report) (k : ℕ) (m : Moment) : Type 0 where
   pub counts : r.counts.items ≡ []
 
 -- Counting is done: the report tells what died, was promoted and became stuck, and the space holds the moment that it leads
--- to. No line is out, and nothing is left of the lines that a pause placed on. Lists, counters and states of blocks stay, and
--- nothing else has changed.
+-- to. No line is out, and nothing is left of the lines that a pause placed on. Lists, counters and states of blocks stay. A dead
+-- object loses its mark and gray bits, and all others are as they were. Nothing else has changed, but that the list of
+-- decrements is that of the next pause.
 pub record Settles (before after : Space) (g : AbstractState) : Type 0 where
   pub tells : Tells after.report (before.pauses + 1) g.moment
   pub holds : HoldsMoment after (settled_by g.moment after.report) g.at
@@ -44,6 +46,8 @@ pub record Settles (before after : Space) (g : AbstractState) : Type 0 where
   pub no_rest : after.rest_next ≡ after.rest_end
   pub keeps : KeepsListsAndCounters (tables_of before) (tables_of after)
   pub states : (tables_of after).states ≡ (tables_of before).states
+  pub marks : LosesBits (tables_of before).marks (tables_of after).marks g.at after.report.dead.items
+  pub grays : LosesBits (tables_of before).grays (tables_of after).grays g.at after.report.dead.items
   pub space : after ≡ record before {
     words = after.words;
     deferred = after.deferred;

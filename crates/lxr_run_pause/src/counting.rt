@@ -9,8 +9,8 @@ use lxr_pause_decrements::finish_decrements;
 use lxr_pause_increments::increments;
 use lxr_pause_queue::{defer_roots, queue_decrements};
 
-/// Begins the report, lowers the counts that wait, raises counts, queues what is to be lowered next, and defers what
-/// registers hold.
+/// Begins the report, finishes the decrements that wait and what decrementers have left, raises counts, queues what is to be
+/// lowered next, and defers what registers hold.
 pub(crate) fn settle_counts(space: &mut Space)
     requires { (g : AbstractState) × CanPause space.old g }
     ensures { (g : AbstractState) → CanPause space.old g → Settles space.old space.new g }

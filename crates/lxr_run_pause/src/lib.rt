@@ -1,7 +1,8 @@
 //! One pause: what counting finds and reclaims since the last one.
 //!
 //! The order of a pause's steps is that of LXR (Zhao, Blackburn and McKinley, 2022): counts are lowered for what the last
-//! pause queued, raised for what was stored since, and what was overwritten is queued for the next one.
+//! pause queued and decrementers have left, raised for what was stored since, and what was overwritten is queued for the next
+//! one.
 #![tactic(auto)]
 
 mod counting;
@@ -29,9 +30,9 @@ fn count_pause(space: &mut Space)
     space.tally.pauses += 1;
 }
 
-/// Makes a pause: counts are lowered for what waits, raised for what was stored and is held newly, and lowered later for what
-/// was overwritten and is held no more; blocks get the states of their lines, and the report the order of names. Every pause
-/// is plain at this stage: it begins no trace and ends none.
+/// Makes a pause, whatever decrementers have done since the last one: what they left is finished, counts are raised for what
+/// was stored and is held newly, and lowered later for what was overwritten and is held no more; blocks get the states of their
+/// lines, and the report the order of names. Every pause is plain at this stage: it begins no trace and ends none.
 pub fn one_pause(space: &mut Space)
     requires { (g : AbstractState) × CanPause space.old g }
     ensures { (g : AbstractState) → CanPause space.old g → Pauses space.old space.new g }

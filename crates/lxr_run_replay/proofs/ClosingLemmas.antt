@@ -7,19 +7,21 @@ use Rattle.lxr_actor.specs.Run.{run}
 use Rattle.lxr_image.specs.declared.space.Space.{Space}
 use Rattle.lxr_core_events.specs.EpochStates.{Beginning}
 use Rattle.lxr_core.specs.declared.actors.AnyActor.{AnyActor}
-use Rattle.lxr_core.specs.Actors.{any_machine}
+use Rattle.lxr_core.specs.Actors.{AreInOrder, any_machine, mutators_in}
 use Rattle.lxr_core.specs.Executions.{Execution, HoldsExecution}
 use Rattle.lxr_core.proofs.ExecutionLemmas.{epoch_invariant_holds}
-use Rattle.lxr_mutator.specs.Mutating.{rests_in}
 use Rattle.lxr_run_replay.specs.Replaying.{CanBeReplayed, ReplaysMayClose}
 
 -- the core of an execution of which the invariant holds can be replayed
 pub can_be_replayed : (b : Beginning) (execution : Execution) → HoldsExecution b execution → CanBeReplayed execution.core
 can_be_replayed b execution holds = record {
   fits = (epoch_invariant_holds b execution [] holds).fits;
-  mutators = λ schedule i a at.
+  order = λ schedule.
       let on = epoch_invariant_holds b execution schedule holds in
-      (on.holds.1.mutators i a (subst (λ (core : Core AnyActor). slice_get core.actors i ≡ Some a) (sym on.core) at)).sound;
+      subst (λ (core : Core AnyActor). AreInOrder core.actors) on.core on.holds.1.order;
+  mutators = λ schedule i m at.
+      let on = epoch_invariant_holds b execution schedule holds in
+      (on.holds.1.mutators i m (subst (λ (core : Core AnyActor). slice_get (mutators_in core.actors) i ≡ Some m) (sym on.core) at)).sound;
 }
 
 -- behind its replay the epoch may be closed
@@ -30,5 +32,5 @@ may_close b execution schedule before after actors actors' has =
       holds = on.holds;
       core = on.core ∙ (ap (λ (core : Core AnyActor). run any_machine core (map Step schedule)) has.core ∙ sym has.replayed);
       space_is = has.rest ∙ ap (λ (s : Space). record s { words = after.words }) has.space_is;
-      resting = λ i a there. ap rests_in (has.finished i a there);
+      resting = has.resting;
     }

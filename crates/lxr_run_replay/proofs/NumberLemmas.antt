@@ -76,17 +76,6 @@ pub stands : (n : ℕ) (actors : List AnyActor) (place number : ℕ) → slice_g
 stands n [] place number e = absurd (cc)
 stands n (a ∷ actors) place number e = stands_by n a actors place number (λ p h. stands (n + 1) actors p number h) (acts a) refl e
 
--- where there are no numbers, the first actor does not act and there are none behind it
-none_by : (n : ℕ) (rest : List ℕ) (b : Bool) → with_first n rest b ≡ [] → (b ≡ false) × (rest ≡ [])
-none_by n rest true e = absurd (cc)
-none_by n rest false e = (refl, e)
-
--- where there are no such numbers, no actor acts
-pub none_acts : (n : ℕ) (actors : List AnyActor) → unfinished_from n actors ≡ [] → (i : ℕ) (a : AnyActor) → slice_get actors i ≡ Some a → acts a ≡ false
-none_acts n [] e i a at = absurd (cc)
-none_acts n (x ∷ actors) e zero a at = let same : x ≡ a = cc in subst (λ (y : AnyActor). acts y ≡ false) same (none_by n (unfinished_from (n + 1) actors) (acts x) e).0
-none_acts n (x ∷ actors) e (suc i) a at = none_acts (n + 1) actors (none_by n (unfinished_from (n + 1) actors) (acts x) e).1 i a at
-
 -- the number of a single actor
 last_by : (n k : ℕ) → n ≡ k → (a : AnyActor) (b : Bool) → acts a ≡ b → unfinished_from n (a ∷ []) ≡ with_first k [] b
 last_by n k e a b does = ap (with_first n []) does ∙ ap (λ (m : ℕ). with_first m [] b) e
@@ -100,11 +89,6 @@ more_by n false r s t e = e
 pub unfinished_more : (n k : ℕ) (actors : List AnyActor) (a : AnyActor) → k ≡ n + length actors → unfinished_from n (actors ++ a ∷ []) ≡ unfinished_from n actors ++ with_first k [] (acts a)
 unfinished_more n k [] a e = last_by n k (omega arith) a (acts a) refl
 unfinished_more n k (x ∷ actors) a e = more_by n (acts x) _ (unfinished_from (n + 1) actors) _ (unfinished_more (n + 1) k actors a (omega arith))
-
--- a list of no length is empty
-pub no_length : (xs : List ℕ) → length xs ≡ 0 → xs ≡ []
-no_length [] e = refl
-no_length (x ∷ xs) e = absurd (omega arith)
 
 -- the numbers of one more of a list of actors
 pub numbers_more : (actors : List AnyActor) (i : ℕ) (a : AnyActor) (xs : List ℕ) → i < length actors → a ≡ get_or actors i a → xs ≡ unfinished (take i actors)

@@ -1,21 +1,30 @@
--- What a replay of an epoch does: a generator of numbers picks who makes each step.
-use Rattle.std.specs.Prelude.{◌≡◌, ℕ, ◌+◌, ◌%◌, Bool, if◌then◌else◌, Some, is_some, List, [], ◌∷◌, length, map, slice_get}
+-- What a replay of an epoch does: a generator of numbers picks who makes each step, and units in progress are finished then.
+use Rattle.std.specs.Prelude.{◌≡◌, ℕ, ◌+◌, ◌%◌, ◌<◌, Bool, true, false, ◌||◌, if◌then◌else◌, Some, is_some, List, [], ◌∷◌, ◌++◌, length, map, slice_get}
 use Rattle.lxr_base.specs.Draws.{draw, step}
 use Rattle.lxr_actor.specs.declared.Core.{Core}
 use Rattle.lxr_actor.specs.declared.Event.{Event}
 use Rattle.lxr_actor.specs.declared.Event.TheVariants.{Step}
 use Rattle.lxr_actor.specs.Run.{AlwaysFits, core_of, event, run}
 use Rattle.lxr_image.specs.declared.space.Space.{Space}
+use Rattle.lxr_mutator.specs.Mutating.{Mutating}
 use Rattle.lxr_mutator.specs.Mutators.{IsMutator}
 use Rattle.lxr_core_events.specs.EpochStates.{Beginning}
 use Rattle.lxr_core.specs.declared.actors.AnyActor.{AnyActor}
-use Rattle.lxr_core.specs.Actors.{any_machine, mutator_in}
+use Rattle.lxr_core.specs.declared.actors.AnyActor.TheVariants as any
+use Rattle.lxr_core.specs.Actors.{AreInOrder, any_machine, mutators_in}
 use Rattle.lxr_core.specs.Executions.{HoldsExecution, Execution, tell_all}
-use Rattle.lxr_core.specs.Closing.{AreFinished, MayClose}
+use Rattle.lxr_core.specs.Closing.{AreFinished, AreResting, MayClose}
+
+-- ---- who makes a step
 
 -- it has a next action
 abbrev pub acts : AnyActor → Bool
 acts a = is_some (any_machine.action a)
+
+-- some of these mutators has one
+abbrev pub some_act : List Mutating → Bool
+some_act [] = false
+some_act (m ∷ mutators) = acts (any.Mutator m) || some_act mutators
 
 -- the numbers, from this one on, of those actors that have a next action
 abbrev pub unfinished_from : ℕ → List AnyActor → List ℕ
@@ -31,25 +40,52 @@ unfinished actors = unfinished_from 0 actors
 abbrev pub IsPicked : ℕ → List AnyActor → ℕ → Type 0
 IsPicked x actors number = slice_get (unfinished actors) (draw x % length (unfinished actors)) ≡ Some number
 
--- The replay from a generator's x: while some actor has a next action, x makes a step, and the actor that it picks then makes
--- its next one. These are the numbers of those that were picked, and x comes to x'.
-abbrev pub Replays : ℕ → Core AnyActor → List ℕ → ℕ → Type 0
-Replays x core [] x' = (unfinished core.actors ≡ []) × (x ≡ x')
-Replays x core (number ∷ numbers) x' = IsPicked (step x) core.actors number × Replays (step x) (event any_machine core (Step number)) numbers x'
+-- the first actor that doesn't rest has this number
+pub record IsFirstBusy (actors : List AnyActor) (number : ℕ) : Type 0 where
+  pub actor : AnyActor
+  pub at : slice_get actors number ≡ Some actor
+  pub busy : any_machine.rests actor ≡ false
+  pub before : (i : ℕ) (a : AnyActor) → slice_get actors i ≡ Some a → i < number → any_machine.rests a ≡ true
 
--- whatever the schedule, each next step fits, and the actors are mutators
+-- ---- a replay
+
+-- The draws from a generator's x: while some mutator has a next action, x makes a step, and the actor that it picks then makes its
+-- next one. These are the numbers of those that were picked, and x comes to x'.
+abbrev pub Draws : ℕ → Core AnyActor → List ℕ → ℕ → Type 0
+Draws x core [] x' = (some_act (mutators_in core.actors) ≡ false) × (x ≡ x')
+Draws x core (number ∷ numbers) x' =
+    (some_act (mutators_in core.actors) ≡ true) × IsPicked (step x) core.actors number × Draws (step x) (event any_machine core (Step number)) numbers x'
+
+-- Units that are in progress are finished, in order: while some actor doesn't rest, the first of these makes its next step.
+abbrev pub Finishes : Core AnyActor → List ℕ → Type 0
+Finishes core [] = AreResting core.actors
+Finishes core (number ∷ numbers) = IsFirstBusy core.actors number × Finishes (event any_machine core (Step number)) numbers
+
+-- The replay from a generator's x: its draws, by which x comes to x', and then the units that are in progress are finished.
+pub record Replays (x : ℕ) (core : Core AnyActor) (schedule : List ℕ) (x' : ℕ) : Type 0 where
+  pub drawn : List ℕ
+  pub finishing : List ℕ
+  pub steps : schedule ≡ drawn ++ finishing
+  pub draws : Draws x core drawn x'
+  pub finishes : Finishes (run any_machine core (map Step drawn)) finishing
+
+-- whatever the schedule, each next step fits, and the actors are mutators, and helpers behind them
 pub record CanBeReplayed (core : Core AnyActor) : Type 0 where
   pub fits : AlwaysFits any_machine core
-  pub mutators : (schedule : List Event) (i : ℕ) (a : AnyActor) → slice_get (run any_machine core schedule).actors i ≡ Some a → IsMutator (mutator_in a)
+  pub order : (schedule : List Event) → AreInOrder (run any_machine core schedule).actors
+  pub mutators : (schedule : List Event) (i : ℕ) (m : Mutating) → slice_get (mutators_in (run any_machine core schedule).actors) i ≡ Some m → IsMutator m
 
--- The execution has led to words and actors of a space of this beginning, and a schedule has gone on from there until all actors
--- are through; of the space only the words have changed.
+-- ---- behind it
+
+-- The execution has led to words and actors of a space of this beginning, and a schedule has gone on from there until all mutators
+-- are through and all actors rest; of the space only the words have changed.
 pub record HasReplayed (b : Beginning) (execution : Execution) (schedule : List ℕ) (before after : Space) (actors actors' : List AnyActor) : Type 0 where
   pub holds : HoldsExecution b execution
   pub core : execution.core ≡ core_of before.words actors
   pub space_is : before ≡ record b.space { words = before.words }
   pub replayed : core_of after.words actors' ≡ run any_machine (core_of before.words actors) (map Step schedule)
-  pub finished : AreFinished actors'
+  pub finished : AreFinished (mutators_in actors')
+  pub resting : AreResting actors'
   pub rest : after ≡ record before { words = after.words }
 
 -- then the epoch may be closed, with the execution that the schedule has told

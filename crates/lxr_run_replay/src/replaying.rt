@@ -1,12 +1,13 @@
-//! The loop of a replay.
-ghost use Rattle.std.specs.Prelude.{◌≡◌, ℕ, ◌<◌, ◌≤◌, List, length, map};
+//! The loops of a replay.
+ghost use Rattle.std.specs.Prelude.{◌≡◌, ℕ, ◌+◌, ◌<◌, ◌≤◌, [], ◌∷◌, List, length, map};
 ghost use Rattle.lxr_base.specs.Draws.{step as stepped_on};
 ghost use Rattle.lxr_actor.specs.declared.Event.TheVariants.{Step};
 ghost use Rattle.lxr_actor.specs.Machine.{Fits};
 ghost use Rattle.lxr_actor.specs.Run.{FitsAt, core_of, event, run, stepped};
-ghost use Rattle.lxr_core.specs.Actors.{any_machine};
-ghost use Rattle.lxr_core.specs.Closing.{AreFinished};
-ghost use Rattle.lxr_run_replay.specs.Replaying.{CanBeReplayed, IsPicked, Replays, acts, unfinished};
+ghost use Rattle.lxr_core.specs.Actors.{any_machine, mutators_in};
+ghost use Rattle.lxr_core.specs.Closing.{AreFinished, AreResting};
+ghost use Rattle.lxr_run_replay.specs.Replaying.{CanBeReplayed, Draws, IsPicked, Replays, acts, unfinished};
+ghost use Rattle.lxr_run_replay.specs.Finishing.{IsFinishing, RestBefore};
 
 use crate::gates::Gate;
 use crate::numbers::Unfinished;
@@ -16,14 +17,15 @@ use lxr_core::AnyActor;
 use lxr_image::Space;
 use lxr_tables::PlainWords;
 
-/// Replays an epoch: while some actor has a next action, a draw modulo how many have one picks one of them by its place
-/// among these, from 0, and it makes one atomic step. Before a mutator that rests makes a step, the gate is called. What
-/// `x` holds afterwards is the generator's last number.
+/// Replays an epoch: while some mutator has a next action, a draw modulo how many actors have one picks one of these by its
+/// place among them, from 0, and it makes one atomic step. Then each helper that doesn't rest finishes its unit, in order.
+/// Before a mutator that rests makes a step, the gate is called. What `x` holds afterwards is the generator's last number.
 pub fn replay_epoch<G: Gate>(space: &mut Space, actors: &mut [AnyActor], x: &mut u64, gate: &G)
-    requires few { length actors.old ≤ 16 }
+    requires few { length actors.old ≤ 32 }
     requires replayable { CanBeReplayed (core_of space.old.words actors.old) }
     ensures schedule { (schedule : List ℕ) × Replays x.old (core_of space.old.words actors.old) schedule x.new × (core_of space.new.words actors.new ≡ run any_machine (core_of space.old.words actors.old) (map Step schedule)) }
-    ensures finished { AreFinished actors.new }
+    ensures finished { AreFinished (mutators_in actors.new) }
+    ensures resting { AreResting actors.new }
     ensures rest { space.new ≡ record space.old { words = space.new.words } }
 {
     replay(&mut space.words, actors, x, gate);
@@ -31,14 +33,48 @@ pub fn replay_epoch<G: Gate>(space: &mut Space, actors: &mut [AnyActor], x: &mut
 
 /// Replays an epoch on the words of its space.
 fn replay<G: Gate>(words: &mut PlainWords, actors: &mut [AnyActor], x: &mut u64, gate: &G)
-    requires few { length actors.old ≤ 16 }
+    requires few { length actors.old ≤ 32 }
     requires replayable { CanBeReplayed (core_of words.old actors.old) }
     ensures schedule { (schedule : List ℕ) × Replays x.old (core_of words.old actors.old) schedule x.new × (core_of words.new actors.new ≡ run any_machine (core_of words.old actors.old) (map Step schedule)) }
-    ensures finished { AreFinished actors.new }
+    ensures finished { AreFinished (mutators_in actors.new) }
+    ensures resting { AreResting actors.new }
 {
+    draw_steps(words, actors, x, gate);
+    finish_units(words, actors);
+}
+
+/// Makes the steps that draws pick, while some mutator has a next action.
+fn draw_steps<G: Gate>(words: &mut PlainWords, actors: &mut [AnyActor], x: &mut u64, gate: &G)
+    requires few { length actors.old ≤ 32 }
+    requires replayable { CanBeReplayed (core_of words.old actors.old) }
+    ensures { (drawn : List ℕ) × Draws x.old (core_of words.old actors.old) drawn x.new × (core_of words.new actors.new ≡ run any_machine (core_of words.old actors.old) (map Step drawn)) }
+{
+    let mutators = mutators_among(actors);
     let mut numbers = Unfinished::of(actors);
-    while numbers.len() > 0 {
+    while numbers.begin_below(mutators) {
         turn(words, actors, x, &mut numbers, gate);
+    }
+}
+
+/// How many of these actors are mutators.
+fn mutators_among(actors: &[AnyActor]) -> usize
+    requires { length actors.now ≤ 32 }
+    ensures { result ≡ length (mutators_in actors.now) }
+{
+    let mut count = 0;
+    for number in 0..actors.len() {
+        count += count_mutator(&actors[number]);
+    }
+    count
+}
+
+/// One for a mutator, and none for a helper.
+fn count_mutator(actor: &AnyActor) -> usize
+    ensures { result ≡ length (mutators_in (actor.now ∷ [])) }
+{
+    match actor {
+        AnyActor::Mutator(_) => 1,
+        AnyActor::Decrementer(_) => 0,
     }
 }
 
@@ -86,5 +122,32 @@ fn pass_gate<G: Gate>(actor: &AnyActor, gate: &G) {
                 gate.at(mutator.next_name().thread, mutator.operation());
             }
         }
+        AnyActor::Decrementer(_) => {}
+    }
+}
+
+/// Finishes the units that are in progress, in order of the actors.
+fn finish_units(words: &mut PlainWords, actors: &mut [AnyActor])
+    requires replayable { CanBeReplayed (core_of words.old actors.old) }
+    requires finished { AreFinished (mutators_in actors.old) }
+    ensures finishing { IsFinishing (core_of words.old actors.old) (core_of words.new actors.new) }
+    ensures resting { AreResting actors.new }
+{
+    for number in 0..actors.len() {
+        finish_unit(words, actors, number);
+    }
+}
+
+/// Finishes the unit of the actor of a number, where none before it has one in progress.
+fn finish_unit(words: &mut PlainWords, actors: &mut [AnyActor], number: usize)
+    requires replayable { CanBeReplayed (core_of words.old actors.old) }
+    requires finished { AreFinished (mutators_in actors.old) }
+    requires number { number < length actors.old }
+    requires before { RestBefore number actors.old }
+    ensures finishing { IsFinishing (core_of words.old actors.old) (core_of words.new actors.new) }
+    ensures before { RestBefore (number + 1) actors.new }
+{
+    while !actors[number].resting() {
+        step(words, &mut actors[number]);
     }
 }

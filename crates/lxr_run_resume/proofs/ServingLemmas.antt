@@ -159,6 +159,7 @@ module _ (space : Space) (g : AbstractState) (thread dest p next end : ℕ) (sha
             ∙ ap (λ z. references m.last z q + waiting_at t (g.at q)) (undone_all t g.at to m.unreclaimed is.undecremented.none_done)
             ∙ ap (λ z. references m.last (undone t to m.unreclaimed) q + waiting_at t z) (sym (kept_at q h));
         done = λ q h done. absurd (not_both (t.dones (granule_of (to q))) done (is.undecremented.none_done (granule_of (to q))));
+        dead = λ q h done. absurd (not_both (t.dones (granule_of (to q))) done (is.undecremented.none_done (granule_of (to q))));
       }
 
   -- bits stay, and tell of the same objects

@@ -158,55 +158,68 @@ numbers_between _ _ index least greatest default ranges fits none (setting words
 abbrev pub blocks_row : NumberOption
 blocks_row = record { index = 0; least = 1; greatest = 1024 }
 
+abbrev pub workers_row : NumberOption
+workers_row = record { index = 1; least = 1; greatest = 8 }
+
 abbrev pub every_row : NumberOption
-every_row = record { index = 1; least = 1; greatest = 1048576 }
+every_row = record { index = 2; least = 1; greatest = 1048576 }
 
 abbrev pub log_row : NumberOption
-log_row = record { index = 2; least = 1; greatest = 65536 }
+log_row = record { index = 3; least = 1; greatest = 65536 }
 
 abbrev pub replay_row : NumberOption
-replay_row = record { index = 3; least = 0; greatest = 18446744073709551615 }
+replay_row = record { index = 4; least = 0; greatest = 18446744073709551615 }
 
 -- what holds of each row holds of each option that a word names
-each_row : (P : NumberOption → Type 0) → P blocks_row → P every_row → P log_row → P replay_row → (name : Text) (option : NumberOption) → option_named name ≡ Some option → P option
-each_row P blocks every log replay name option e =
-    go (bytes_eq name (codes "--blocks")) (bytes_eq name (codes "--every")) (bytes_eq name (codes "--log")) (bytes_eq name (codes "--replay")) e
+each_row : (P : NumberOption → Type 0) → P blocks_row → P workers_row → P every_row → P log_row → P replay_row → (name : Text) (option : NumberOption) → option_named name ≡ Some option → P option
+each_row P blocks workers every log replay name option e =
+    go (bytes_eq name (codes "--blocks")) (bytes_eq name (codes "--workers")) (bytes_eq name (codes "--every")) (bytes_eq name (codes "--log")) (bytes_eq name (codes "--replay")) e
   where
-    go : (a b c d : Bool)
-        → (if a then Some blocks_row else if b then Some every_row else if c then Some log_row else if d then Some replay_row else None) ≡ Some option
+    go : (a b c d f : Bool)
+        → (if a then Some blocks_row else if b then Some workers_row else if c then Some every_row else if d then Some log_row else if f then Some replay_row else None) ≡ Some option
         → P option
-    go true b c d e = subst P (cc) blocks
-    go false true c d e = subst P (cc) every
-    go false false true d e = subst P (cc) log
-    go false false false true e = subst P (cc) replay
-    go false false false false e = absurd (cc)
+    go true b c d f e = subst P (cc) blocks
+    go false true c d f e = subst P (cc) workers
+    go false false true d f e = subst P (cc) every
+    go false false false true f e = subst P (cc) log
+    go false false false false true e = subst P (cc) replay
+    go false false false false false e = absurd (cc)
+
+-- an option has this range if it is the one of this index
+abbrev pub RangeIs : ℕ → ℕ → ℕ → NumberOption → Type 0
+RangeIs index least greatest option = option.index ≡ index → (option.least ≡ least) × (option.greatest ≡ greatest)
 
 blocks_range : HasRange 0 1 1024
-blocks_range = each_row (λ o. o.index ≡ 0 → (o.least ≡ 1) × (o.greatest ≡ 1024)) (λ e. (refl, refl)) (λ e. absurd (cc)) (λ e. absurd (cc)) (λ e. absurd (cc))
+blocks_range = each_row (RangeIs 0 1 1024) (λ e. (refl, refl)) (λ e. absurd (cc)) (λ e. absurd (cc)) (λ e. absurd (cc)) (λ e. absurd (cc))
 
-every_range : HasRange 1 1 1048576
-every_range = each_row (λ o. o.index ≡ 1 → (o.least ≡ 1) × (o.greatest ≡ 1048576)) (λ e. absurd (cc)) (λ e. (refl, refl)) (λ e. absurd (cc)) (λ e. absurd (cc))
+workers_range : HasRange 1 1 8
+workers_range = each_row (RangeIs 1 1 8) (λ e. absurd (cc)) (λ e. (refl, refl)) (λ e. absurd (cc)) (λ e. absurd (cc)) (λ e. absurd (cc))
 
-log_range : HasRange 2 1 65536
-log_range = each_row (λ o. o.index ≡ 2 → (o.least ≡ 1) × (o.greatest ≡ 65536)) (λ e. absurd (cc)) (λ e. absurd (cc)) (λ e. (refl, refl)) (λ e. absurd (cc))
+every_range : HasRange 2 1 1048576
+every_range = each_row (RangeIs 2 1 1048576) (λ e. absurd (cc)) (λ e. absurd (cc)) (λ e. (refl, refl)) (λ e. absurd (cc)) (λ e. absurd (cc))
 
-replay_range : HasRange 3 0 18446744073709551615
-replay_range = each_row (λ o. o.index ≡ 3 → (o.least ≡ 0) × (o.greatest ≡ 18446744073709551615)) (λ e. absurd (cc)) (λ e. absurd (cc)) (λ e. absurd (cc)) (λ e. (refl, refl))
+log_range : HasRange 3 1 65536
+log_range = each_row (RangeIs 3 1 65536) (λ e. absurd (cc)) (λ e. absurd (cc)) (λ e. absurd (cc)) (λ e. (refl, refl)) (λ e. absurd (cc))
+
+replay_range : HasRange 4 0 18446744073709551615
+replay_range = each_row (RangeIs 4 0 18446744073709551615) (λ e. absurd (cc)) (λ e. absurd (cc)) (λ e. absurd (cc)) (λ e. absurd (cc)) (λ e. (refl, refl))
 
 pub options_in_range : (words : List Text) (numbers : Numbers) → Spells words numbers → AreInRange (options_from numbers)
 options_in_range words numbers spells = record {
   blocks = numbers_between words numbers 0 1 1024 64 blocks_range (omega arith, omega arith) refl spells;
-  every = numbers_between words numbers 1 1 1048576 1024 every_range (omega arith, omega arith) refl spells;
-  log = numbers_between words numbers 2 1 65536 1024 log_range (omega arith, omega arith) refl spells;
-  replay = (numbers_between words numbers 3 0 18446744073709551615 0 replay_range (omega arith, omega arith) refl spells).1;
+  workers = numbers_between words numbers 1 1 8 2 workers_range (omega arith, omega arith) refl spells;
+  every = numbers_between words numbers 2 1 1048576 1024 every_range (omega arith, omega arith) refl spells;
+  log = numbers_between words numbers 3 1 65536 1024 log_range (omega arith, omega arith) refl spells;
+  replay = (numbers_between words numbers 4 0 18446744073709551615 0 replay_range (omega arith, omega arith) refl spells).1;
 }
 
 pub read_in_range : (words : List Text) (numbers : Numbers) → numbers_in words ≡ Some numbers → AreInRange (options_from numbers)
 read_in_range words numbers read = options_in_range words numbers (read_is_spelled [] words none_given numbers nothing read)
 
-pub same_options : (numbers : Numbers) {blocks every log replay : ℕ} → number_or 0 64 numbers ≡ blocks → number_or 1 1024 numbers ≡ every → number_or 2 1024 numbers ≡ log
-    → number_or 3 0 numbers ≡ replay → options_from numbers ≡ record { blocks = blocks; every = every; log = log; replay = replay }
-same_options numbers {blocks} {every} {log} {replay} a b c d = cc
+pub same_options : (numbers : Numbers) {blocks workers every log replay : ℕ} → number_or 0 64 numbers ≡ blocks → number_or 1 2 numbers ≡ workers → number_or 2 1024 numbers ≡ every
+    → number_or 3 1024 numbers ≡ log → number_or 4 0 numbers ≡ replay
+    → options_from numbers ≡ record { blocks = blocks; workers = workers; every = every; log = log; replay = replay }
+same_options numbers {blocks} {workers} {every} {log} {replay} a b c d e = cc
 
 -- ---- the loop
 

@@ -19,14 +19,15 @@ Numbers = List (Option ℕ)
 abbrev pub option_named : Text → Option NumberOption
 option_named word =
     if bytes_eq word (codes "--blocks") then Some (record { index = 0; least = 1; greatest = 1024 })
-    else if bytes_eq word (codes "--every") then Some (record { index = 1; least = 1; greatest = 1048576 })
-    else if bytes_eq word (codes "--log") then Some (record { index = 2; least = 1; greatest = 65536 })
-    else if bytes_eq word (codes "--replay") then Some (record { index = 3; least = 0; greatest = 18446744073709551615 })
+    else if bytes_eq word (codes "--workers") then Some (record { index = 1; least = 1; greatest = 8 })
+    else if bytes_eq word (codes "--every") then Some (record { index = 2; least = 1; greatest = 1048576 })
+    else if bytes_eq word (codes "--log") then Some (record { index = 3; least = 1; greatest = 65536 })
+    else if bytes_eq word (codes "--replay") then Some (record { index = 4; least = 0; greatest = 18446744073709551615 })
     else None
 
 -- no option is given
 abbrev pub none_given : Numbers
-none_given = replicate 4 None
+none_given = replicate 5 None
 
 -- the number of the option at an index, or a default where it isn't given
 abbrev pub number_or : ℕ → ℕ → Numbers → ℕ
@@ -34,7 +35,13 @@ number_or index default numbers = unwrap_or (slice_index_or numbers index None) 
 
 -- what these numbers ask for
 abbrev pub options_from : Numbers → RunOptions
-options_from numbers = record { blocks = number_or 0 64 numbers; every = number_or 1 1024 numbers; log = number_or 2 1024 numbers; replay = number_or 3 0 numbers }
+options_from numbers = record {
+  blocks = number_or 0 64 numbers;
+  workers = number_or 1 2 numbers;
+  every = number_or 2 1024 numbers;
+  log = number_or 3 1024 numbers;
+  replay = number_or 4 0 numbers;
+}
 
 -- ---- the words
 
@@ -66,6 +73,7 @@ pub record IsCommandLine (words : List Text) (options : RunOptions) : Type 0 whe
 -- each option has a number in its range
 pub record AreInRange (options : RunOptions) : Type 0 where
   pub blocks : (1 ≤ options.blocks) × (options.blocks ≤ 1024)
+  pub workers : (1 ≤ options.workers) × (options.workers ≤ 8)
   pub every : (1 ≤ options.every) × (options.every ≤ 1048576)
   pub log : (1 ≤ options.log) × (options.log ≤ 65536)
   pub replay : options.replay ≤ 18446744073709551615

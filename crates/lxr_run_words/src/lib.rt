@@ -10,18 +10,20 @@ ghost use Rattle.lxr_run_words.specs.CommandLines.{AreInRange, IsCommandLine, nu
 use lxr_text_script::number_of;
 
 /// How many options there are.
-const OPTIONS: usize = 4;
+const OPTIONS: usize = 5;
 
 /// What the words of the command line ask for.
 #[derive(Clone, Copy, Debug, PartialEq, Eq)]
 pub struct RunOptions {
     /// The blocks of the heap, 1 to 1,024.
     pub blocks: u32,
+    /// The decrementers beside the mutators, 1 to 8.
+    pub workers: u8,
     /// After how many operations since the last pause the next one is due, 1 to 1,048,576.
     pub every: u32,
     /// The entries of a log, 1 to 65,536.
     pub log: u32,
-    /// Where the generator begins that draws which thread makes the next step.
+    /// Where the generator begins that draws who makes the next step.
     pub replay: u64,
 }
 
@@ -47,18 +49,23 @@ fn option_of(word: &str) -> Option<NumberOption>
             least: 1,
             greatest: 1024,
         }),
-        "--every" => Some(NumberOption {
+        "--workers" => Some(NumberOption {
             index: 1,
+            least: 1,
+            greatest: 8,
+        }),
+        "--every" => Some(NumberOption {
+            index: 2,
             least: 1,
             greatest: 1_048_576,
         }),
         "--log" => Some(NumberOption {
-            index: 2,
+            index: 3,
             least: 1,
             greatest: 65_536,
         }),
         "--replay" => Some(NumberOption {
-            index: 3,
+            index: 4,
             least: 0,
             greatest: u64::MAX,
         }),
@@ -118,11 +125,13 @@ pub fn read_options(words: &[&str]) -> Option<RunOptions>
     }
     let numbers = read_numbers(settings)?;
     let blocks = numbers[0].unwrap_or(64);
-    let every = numbers[1].unwrap_or(1024);
-    let log = numbers[2].unwrap_or(1024);
-    let replay = numbers[3].unwrap_or(0);
+    let workers = numbers[1].unwrap_or(2);
+    let every = numbers[2].unwrap_or(1024);
+    let log = numbers[3].unwrap_or(1024);
+    let replay = numbers[4].unwrap_or(0);
     Some(RunOptions {
         blocks: blocks as u32,
+        workers: workers as u8,
         every: every as u32,
         log: log as u32,
         replay,

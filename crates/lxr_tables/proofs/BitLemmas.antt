@@ -1,8 +1,8 @@
 -- A bit is set where it is 1, and the bits of a mask that was made lane by lane are those of its lanes.
-use Rattle.std.proofs.Common.{◌≡◌, ℕ, zero, suc, ◌+◌, ◌-◌, ◌*◌, ◌/◌, ◌%◌, ◌^◌, ◌<◌, ◌≤◌, refl, sym, ap, subst, ◌∙◌, inl, inr, arith, Bool, true, false, cond, eqb, List, [], ◌∷◌, length, lit<}
+use Rattle.std.proofs.Common.{◌≡◌, ℕ, zero, suc, ◌+◌, ◌-◌, ◌*◌, ◌%◌, ◌^◌, ◌<◌, ◌≤◌, refl, sym, ap, ◌∙◌, inl, inr, arith, false, cond, eqb, List, [], ◌∷◌, length}
 use Rattle.std.specs.Prelude.{◌↔◌, IsBitSet, map, slice_index, slice_index_or}
 use Rattle.std.specs.Int.{bit_at}
-use Rattle.std.specs.Int.Bits.{bit_and, bit_or}
+use Rattle.std.specs.Int.Bits.{bit_or}
 use Rattle.std.specs.Simd.Lanes.{mask_l}
 use Rattle.std.proofs.lemmas.Bool.Decides.{eqb_tells}
 use Rattle.std.proofs.lemmas.Nat.{or_shifted, pow_pos, shl_whole}
@@ -51,13 +51,20 @@ zero_bits xs i within =
       ]),
     )
 
--- two numbers of 64 bits side by side
-pub joined_bit : (high low i : ℕ) → high < 2 ^ 64 → low < 2 ^ 64 → bit_at (bit_or (high * 2 ^ 64 % 2 ^ 128) low) i ≡ bit_at (high * 2 ^ 64 + low) i
-joined_bit high low i h l =
-    ap (λ x. bit_at (bit_or x low) i) (shl_whole high 64 64 128 h (omega arith)) ∙ ap (λ x. bit_at x i) (or_shifted high 64 low l)
+-- two numbers of k bits side by side, in m bits
+module _ (k m high low i : ℕ) (h : high < 2 ^ k) (l : low < 2 ^ k) (fit : k + k ≤ m) where
+  side_by_side : bit_at (bit_or (high * 2 ^ k % 2 ^ m) low) i ≡ bit_at (high * 2 ^ k + low) i
+  side_by_side = ap (λ x. bit_at (bit_or x low) i) (shl_whole high k k m h fit) ∙ ap (λ x. bit_at x i) (or_shifted high k low l)
 
+  pub low_half : i < k → bit_at (bit_or (high * 2 ^ k % 2 ^ m) low) i ≡ bit_at low i
+  low_half within = side_by_side ∙ bit_at_cat_low high k low i within
+
+  pub high_half : k ≤ i → bit_at (bit_or (high * 2 ^ k % 2 ^ m) low) i ≡ bit_at high (i - k)
+  high_half behind = side_by_side ∙ bit_at_cat_high high k low i l behind
+
+-- so it is with two numbers of 64 bits
 pub joined_below : (high low i : ℕ) → high < 2 ^ 64 → low < 2 ^ 64 → i < 64 → bit_at (bit_or (high * 2 ^ 64 % 2 ^ 128) low) i ≡ bit_at low i
-joined_below high low i h l within = joined_bit high low i h l ∙ bit_at_cat_low high 64 low i within
+joined_below high low i h l within = low_half 64 128 high low i h l (omega arith) within
 
 pub joined_above : (high low i : ℕ) → high < 2 ^ 64 → low < 2 ^ 64 → 64 ≤ i → bit_at (bit_or (high * 2 ^ 64 % 2 ^ 128) low) i ≡ bit_at high (i - 64)
-joined_above high low i h l behind = joined_bit high low i h l ∙ bit_at_cat_high high 64 low i l behind
+joined_above high low i h l behind = high_half 64 128 high low i h l (omega arith) behind

@@ -8,10 +8,12 @@
 
 mod bits;
 mod counts;
+mod gathering;
 mod lanes;
 mod words;
 
 pub use bits::{bit, clear_bit, set_bit};
 pub use counts::{COUNTS_IN_WORD, Lowered, Raised, lower_two, raise_two, set_two, two};
+pub use gathering::zero_counts;
 pub use lanes::{COUNT_WORDS_IN_BLOCK, uncounted_lines, zero_lanes};
 pub use words::{PlainWords, Words};

@@ -1,4 +1,5 @@
-//! Two threads under many schedules. A schedule's number determines the draws, and these who makes which step.
+//! Two threads under many schedules, with decrementers that find nothing to do. A schedule's number and the number of workers
+//! determine the draws, and these who makes which step.
 use crate::runs::{NO_OTHERS, run_script};
 use lxr_image::Space;
 use lxr_run::{Status, Unseen};
@@ -7,20 +8,31 @@ use std::process::Abort;
 use std::test::Fail;
 use std::thread::Threads;
 
-/// The run of a script under a schedule writes a text that ends with this.
+/// The run of a script under a schedule, with so many workers, writes a text that ends with this.
 fn ends_with<R: Threads + Sync + AllocGlobal + Abort>(
     rt: &R,
+    workers: u32,
     seed: u32,
     script: &str,
     text: &str,
 ) -> Result<(), Fail> {
+    let workers = format!(in rt.alloc(); "{workers}")?;
     let seed = format!(in rt.alloc(); "{seed}")?;
-    let words = ["run", "--replay", seed.as_str()];
+    let words = [
+        "run",
+        "--replay",
+        seed.as_str(),
+        "--workers",
+        workers.as_str(),
+    ];
     let mut output = Plenty::new(rt.alloc());
     let mut space = Space::empty(rt.alloc());
     let status = run_script(rt, &words, script, &mut output, &mut Unseen, &mut space);
     assert_eq!(rt; status, Status::Done);
-    assert!(rt; output.written().ends_with(text.as_bytes()), "under {seed}");
+    assert!(rt;
+        output.written().ends_with(text.as_bytes()),
+        "under {seed} with {workers}"
+    );
     Ok(())
 }
 
@@ -33,7 +45,7 @@ fn threads_apart(rt: HostRuntime) -> Result<(), Fail> {
         "pause 1 plain\npromoted 2 1.1 2.1{NO_OTHERS}thread 1\nnew 1.1\nstore ok\nthread 2\nnew 2.1\nstore ok\n"
     )?;
     for seed in 0..100 {
-        ends_with(&rt, seed, script, text.as_str())?;
+        ends_with(&rt, 1 + seed % 8, seed, script, text.as_str())?;
     }
     Ok(())
 }
@@ -45,43 +57,43 @@ fn threads_apart(rt: HostRuntime) -> Result<(), Fail> {
 fn threads_race(rt: HostRuntime) -> Result<(), Fail> {
     let script =
         "lxr 1\nthreads 2\nthread 1\nnew r1 0 1\nstore r0 0 r1\nload r2 r0 0\nend\nthread 2\nnew r1 0 1\nstore r0 0 r1\nload r2 r0 0\nend\n";
-    for (seed, last, first_finds, second_finds) in [
-        (0, 1, 1, 2),
-        (1, 2, 1, 2),
-        (2, 2, 1, 2),
-        (3, 1, 1, 2),
-        (4, 2, 1, 2),
-        (5, 2, 1, 2),
-        (6, 1, 1, 2),
-        (7, 1, 1, 1),
-        (8, 2, 2, 2),
-        (9, 1, 1, 2),
+    for (workers, seed, last, first_finds, second_finds) in [
+        (1, 1, 2, 1, 2),
+        (1, 4, 1, 1, 1),
+        (1, 6, 1, 1, 2),
+        (2, 0, 1, 1, 1),
+        (2, 4, 2, 2, 2),
+        (2, 7, 1, 1, 2),
+        (2, 8, 2, 2, 2),
+        (8, 1, 2, 2, 2),
+        (8, 5, 1, 1, 1),
+        (8, 9, 2, 1, 2),
     ] {
         let text = format!(in rt.alloc();
             "pause 1 plain\npromoted 1 {last}.1{NO_OTHERS}thread 1\nnew 1.1\nstore ok\nload {first_finds}.1\nthread 2\nnew 2.1\nstore ok\nload {second_finds}.1\n"
         )?;
-        ends_with(&rt, seed, script, text.as_str())?;
+        ends_with(&rt, workers, seed, script, text.as_str())?;
     }
     Ok(())
 }
 
 /// The threads race again in the epoch behind a pause: the generator goes on from epoch to epoch. Begun anew in each, it would
-/// give other texts under 5, 7 and 14.
+/// give other texts, but for the first one.
 #[test]
 fn threads_race_again(rt: HostRuntime) -> Result<(), Fail> {
     let script =
         "lxr 1\nthreads 2\nthread 1\nnew r1 0 1\nstore r0 0 r1\nload r2 r0 0\npause\nstore r0 1 r1\nload r2 r0 1\nend\nthread 2\nnew r1 0 1\nstore r0 0 r1\nload r2 r0 0\npause\nstore r0 1 r1\nload r2 r0 1\nend\n";
-    for (seed, [first, first_again], [second, second_again]) in [
-        (4, [1, 1], [2, 2]),
-        (5, [1, 1], [2, 1]),
-        (7, [1, 1], [1, 1]),
-        (8, [2, 1], [2, 2]),
-        (14, [2, 2], [2, 2]),
+    for (workers, seed, [first, first_again], [second, second_again]) in [
+        (2, 9, [1, 1], [2, 1]),
+        (1, 5, [1, 2], [1, 2]),
+        (2, 6, [1, 2], [2, 2]),
+        (2, 14, [2, 1], [2, 1]),
+        (8, 13, [1, 1], [2, 2]),
     ] {
         let text = format!(in rt.alloc();
             "thread 1\nnew 1.1\nstore ok\nload {first}.1\npause ok\nstore ok\nload {first_again}.1\nthread 2\nnew 2.1\nstore ok\nload {second}.1\npause ok\nstore ok\nload {second_again}.1\n"
         )?;
-        ends_with(&rt, seed, script, text.as_str())?;
+        ends_with(&rt, workers, seed, script, text.as_str())?;
     }
     Ok(())
 }

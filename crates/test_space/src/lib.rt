@@ -1,8 +1,10 @@
-//! Tests of the crates of names, words, blocks and lines. They stand apart, so that those crates are proved once.
+//! Tests of the crates of names, words, blocks, lines, decrementers and tracers. They stand apart, so that those crates are proved once.
 #![tactic(auto)]
 
 #[cfg(test)]
 mod blocks;
+#[cfg(test)]
+mod decrements;
 #[cfg(test)]
 mod graph;
 #[cfg(test)]
@@ -11,5 +13,9 @@ mod masks;
 mod spaces;
 #[cfg(test)]
 mod spans;
+#[cfg(test)]
+mod steps;
+#[cfg(test)]
+mod traces;
 #[cfg(test)]
 mod words;

@@ -115,3 +115,50 @@ fn masks_of_drawn_blocks(rt: HostRuntime) {
         );
     }
 }
+
+/// The objects without a count that begin at 64 granules in a row, by a look at each.
+fn plain_starts(space: &Space, at: u32) -> u64
+    requires space { IsSpace space.now }
+    requires at { at < 32 * space.now.limits.blocks }
+{
+    let mut mask = 0;
+    for i in 0..64_u32 {
+        let granule = 64 * at + i;
+        if space.has_start(granule) && space.count(granule) == 0 {
+            mask |= 1_u64 << i;
+        }
+    }
+    mask
+}
+
+/// Writes a count, a start bit and a done bit of 64 granules of block 1 that are drawn.
+fn change_objects(space: &mut Space, state: &mut u64)
+    requires space { IsSpace space.old }
+    requires blocks { space.old.limits.blocks ≡ 2 }
+    ensures space { IsSpace space.new }
+    ensures blocks { space.new.limits.blocks ≡ 2 }
+{
+    let counted = draw(state) % 64;
+    let count = draw(state) % 4;
+    space.set_count(GRANULES_IN_BLOCK + counted, count as u8);
+    let begun = draw(state) % 64;
+    space.set_start(GRANULES_IN_BLOCK + begun);
+    space.set_done(GRANULES_IN_BLOCK + begun);
+    let ended = draw(state) % 64;
+    space.clear_start(GRANULES_IN_BLOCK + ended);
+    space.clear_done(GRANULES_IN_BLOCK + ended);
+}
+
+/// A word of objects without a count tells the same as a look at each granule, over 10,000 words; done bits stand where
+/// start bits do here.
+#[test]
+fn objects_of_drawn_words(rt: HostRuntime) {
+    let mut space = opened(&rt, rt.alloc(), 2);
+    let mut state = 2;
+    for word in 0..10_000_u32 {
+        change_objects(&mut space, &mut state);
+        let uncounted = space.uncounted_starts(32);
+        assert!(rt; uncounted == plain_starts(&space, 32), "word {word}");
+        assert!(rt; uncounted & !space.done_word(32) == 0, "word {word}");
+    }
+}

@@ -5,7 +5,8 @@ use lxr_layout::{
     run_word, unpack, words_of,
 };
 use lxr_tables::{
-    Lowered, PlainWords, Raised, Words, bit, clear_bit, lower_two, raise_two, set_bit, set_two, two,
+    Lowered, PlainWords, Raised, Words, bit, clear_bit, lower_two, raise_two, set_bit, set_two,
+    two, zero_counts,
 };
 
 const FIRST: Name = Name {
@@ -129,4 +130,21 @@ fn first_draw_from_seven(rt: HostRuntime) {
     let mut x = 7;
     assert_eq!(rt; draw(&mut x), 1_059_165_278);
     assert_eq!(rt; x, 9_098_160_460_397_411_210);
+}
+
+/// A count is 0 where both of its bits are, the lowest count first.
+#[test]
+fn counts_that_are_zero(rt: HostRuntime) {
+    for (word, zeros) in [
+        (0, 0xffff_ffff),
+        (u64::MAX, 0),
+        (0x5555_5555_5555_5555, 0),
+        (0xaaaa_aaaa_aaaa_aaaa, 0),
+        (1, 0xffff_fffe),
+        (3 << 62, 0x7fff_ffff),
+        (0x0000_0000_ffff_ffff, 0xffff_0000),
+        (0xffff_0000_0000_00e4, 0x00ff_fff1),
+    ] {
+        assert_eq!(rt; zero_counts(word), zeros, "of {word:#x}");
+    }
 }

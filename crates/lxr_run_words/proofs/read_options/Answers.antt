@@ -12,13 +12,13 @@ returns-in_err-numbers-clause-accepted c = λ o.
 
 pub returns-clause-accepted : goal.returns-clause-accepted
 returns-clause-accepted c = λ o.
-    subst (λ (z : RunOptions). (Some z ≡ Some o) ↔ IsCommandLine (map (λ (w : Bor (List ℕ)). w.now) c.args.words.now) o) (same_options c.in_ok-numbers.numbers (sym c.unwrap_or-blocks.ensures) (sym c.unwrap_or-every.ensures) (sym c.unwrap_or-log.ensures) (sym c.unwrap_or-replay.ensures))
+    subst (λ (z : RunOptions). (Some z ≡ Some o) ↔ IsCommandLine (map (λ (w : Bor (List ℕ)). w.now) c.args.words.now) o) (same_options c.in_ok-numbers.numbers (sym c.unwrap_or-blocks.ensures) (sym c.unwrap_or-workers.ensures) (sym c.unwrap_or-every.ensures) (sym c.unwrap_or-log.ensures) (sym c.unwrap_or-replay.ensures))
     (line_accepted c.args.words.now (record { ref_ptr = (0, 0); now = [] }) c.in_ok-numbers.numbers c.in-len1-up.len_at_least (sym c.ne.ensures ∙ c.if-ne.false)
     (sym c.read_numbers.ensures ∙ c.in_ok-numbers.was) o)
 
 pub returns-clause-ranges : goal.returns-clause-ranges
 returns-clause-ranges c =
-    subst AreInRange (same_options c.in_ok-numbers.numbers (sym c.unwrap_or-blocks.ensures) (sym c.unwrap_or-every.ensures) (sym c.unwrap_or-log.ensures) (sym c.unwrap_or-replay.ensures))
+    subst AreInRange (same_options c.in_ok-numbers.numbers (sym c.unwrap_or-blocks.ensures) (sym c.unwrap_or-workers.ensures) (sym c.unwrap_or-every.ensures) (sym c.unwrap_or-log.ensures) (sym c.unwrap_or-replay.ensures))
     (read_in_range (words_behind c.args.words.now) c.in_ok-numbers.numbers (sym c.read_numbers.ensures ∙ c.in_ok-numbers.was))
 
 pub overflow_cast-result : goal.overflow_cast-result
@@ -31,12 +31,19 @@ overflow_cast-result c =
 pub overflow_cast-result-2 : goal.overflow_cast-result-2
 overflow_cast-result-2 c =
     let ranges = read_in_range (words_behind c.args.words.now) c.in_ok-numbers.numbers (sym c.read_numbers.ensures ∙ c.in_ok-numbers.was) in
-    let below = ranges.every.1 in
-    let is = c.unwrap_or-every.ensures in
+    let below = ranges.workers.1 in
+    let is = c.unwrap_or-workers.ensures in
     omega arith
 
 pub overflow_cast-result-3 : goal.overflow_cast-result-3
 overflow_cast-result-3 c =
+    let ranges = read_in_range (words_behind c.args.words.now) c.in_ok-numbers.numbers (sym c.read_numbers.ensures ∙ c.in_ok-numbers.was) in
+    let below = ranges.every.1 in
+    let is = c.unwrap_or-every.ensures in
+    omega arith
+
+pub overflow_cast-result-4 : goal.overflow_cast-result-4
+overflow_cast-result-4 c =
     let ranges = read_in_range (words_behind c.args.words.now) c.in_ok-numbers.numbers (sym c.read_numbers.ensures ∙ c.in_ok-numbers.was) in
     let below = ranges.log.1 in
     let is = c.unwrap_or-log.ensures in

@@ -1,9 +1,12 @@
-use Rattle.std.proofs.Common.{◌∙◌, length, sym, ap, subst}
+use Rattle.std.proofs.Common.{rules, ◌∙◌, length, sym, ap, subst}
 use Rattle.std.specs.List.{All}
 use Rattle.lxr_mutator.specs.Mutators.{IsHeld}
 use Rattle.lxr_core.specs.Starting.{HaveStarted}
 use Rattle.lxr_core.proofs.OpenedLemmas.{held_before, holds_at, may_all_start, opened_at}
 use Rattle.lxr_core.proofs.opening.open_epoch.Goals as goal
+
+pub start_all-requires-clause-order : goal.start_all-requires-clause-order
+start_all-requires-clause-order c = c.requires.1.fit.helpers.order
 
 pub start_all-requires-clause-held : goal.start_all-requires-clause-held
 start_all-requires-clause-held c =
@@ -19,4 +22,4 @@ returns-clause-opens c =
     (subst (λ places. HaveStarted places c.args.actors.now c.start_all.new.actors (length c.args.actors.now)) c.as_slice.ensures c.start_all.ensures)
 
 pub returns-clause-execution : goal.returns-clause-execution
-returns-clause-execution c = λ b begins. holds_at b c.args.space.now c.put_cursor.new.self c.args.actors.now c.start_all.new.actors begins (returns-clause-opens c)
+returns-clause-execution c = λ b begins. holds_at b c.args.space.now c.put_cursor.new.self c.args.actors.now c.start_all.new.actors (search rules) begins (returns-clause-opens c)

@@ -1,7 +1,7 @@
 use Rattle.std.proofs.Common.{refl}
 use Rattle.lxr_pause_decrements.specs.Cascade.{later}
 use Rattle.lxr_pause_decrements.proofs.SpaceLemmas.{keeps_both}
-use Rattle.lxr_pause_decrements.proofs.DrainLemmas.{popped, popped_leaves}
+use Rattle.lxr_pause_decrements.proofs.DrainLemmas.{popped, popped_cursors, popped_leaves}
 use Rattle.lxr_pause_decrements.proofs.finish.drain.Goals as goal
 
 pub release-requires : goal.release-requires
@@ -20,5 +20,5 @@ loop-place-preserved c =
           let y = popped c.loop-place.space (record c.loop-place.space { work = c.pop.new.self }) c.in-Some.place (later st x.0 x.1 st.extra) x.2 c.in-Some.ensures refl in
           c.release.ensures.reaches _ y.1 st.extra y.2;
       keeps = keeps_both c.args.space.now c.loop-place.space c.release.new.space c.loop-place.invariant.keeps
-          (keeps_both c.loop-place.space (record c.loop-place.space { work = c.pop.new.self }) c.release.new.space (record { leaves = left; waiting = refl }) c.release.ensures.keeps);
+          (keeps_both c.loop-place.space (record c.loop-place.space { work = c.pop.new.self }) c.release.new.space (record { leaves = left; cursors = popped_cursors c.loop-place.space (record c.loop-place.space { work = c.pop.new.self }) refl }) c.release.ensures.keeps);
     }

@@ -1,7 +1,7 @@
-use Rattle.std.proofs.Common.{[], ◌∙◌, sym}
+use Rattle.std.proofs.Common.{[], refl}
 use Rattle.lxr_pause_decrements.specs.Cascade.{later}
 use Rattle.lxr_pause_decrements.proofs.SpaceLemmas.{leaves_both, leaves_none}
-use Rattle.lxr_pause_decrements.proofs.DrainLemmas.{opened, finished}
+use Rattle.lxr_pause_decrements.proofs.DrainLemmas.{opened}
 use Rattle.lxr_pause_decrements.proofs.finish.lower_all.Goals as goal
 
 pub lower_place-requires : goal.lower_place-requires
@@ -34,7 +34,16 @@ loop-space-preserved c = record {
       (leaves_both c.take_decrement-place.new.space c.lower_place.new.space c.drain.new.space c.lower_place.ensures.keeps.leaves c.drain.ensures.keeps.leaves));
 }
 
-pub returns-clause-finished : goal.returns-clause-finished
-returns-clause-finished c = λ st is.
+pub empty_list-requires-clause-opening : goal.empty_list-requires-clause-opening
+empty_list-requires-clause-opening c =
+    let st = c.requires.0 in
+    let x = c.loop-space.invariant.stage st c.requires.1 in
+    (_, record { stage = x.1; work = refl; extra = λ o. refl })
+
+pub returns-clause-lowers : goal.returns-clause-lowers
+returns-clause-lowers c = λ st is.
     let x = c.loop-space.invariant.stage st is in
-    (x.0, finished c.loop-space.space st x.0 x.1 (sym c.cursor.ensures ∙ c.loop-space-test.false))
+    (x.0, c.empty_list.ensures.empties (later st x.0 [] (λ o. 0)) (record { stage = x.1; work = refl; extra = λ o. refl }))
+
+pub returns-clause-leaves : goal.returns-clause-leaves
+returns-clause-leaves c = leaves_both c.args.space.now c.loop-space.space c.empty_list.new.space c.loop-space.invariant.leaves c.empty_list.ensures.leaves

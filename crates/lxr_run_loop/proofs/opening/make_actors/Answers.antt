@@ -1,37 +1,25 @@
-use Rattle.std.proofs.Common.{rules, arith, ◌≡◌, ◌+◌, ap, sym, ◌∙◌, [], ◌∷◌, ◌++◌, length, append_assoc}
-use Rattle.std.specs.Vec.Iter.{into_iter_items}
-use Rattle.lxr_mutator.specs.Mutators.{first}
-use Rattle.lxr_run_loop.proofs.OpeningLemmas.{all_operations, made_pushed, thread_of}
+use Rattle.std.proofs.Common.{◌≡◌, ◌<◌, arith, refl, subst, vec_capacity, vec_len}
+use Rattle.lxr_text_script.specs.Reading.{lists_in}
+use Rattle.lxr_run_loop.specs.Opening.{AreMade}
+use Rattle.lxr_run_loop.proofs.OpeningLemmas.{helper_pushed}
 use Rattle.lxr_run_loop.proofs.opening.make_actors.Goals as goal
 
-pub new-requires-clause-operations : goal.new-requires-clause-operations
-new-requires-clause-operations c =
-    let before = c.loop-operations.invariant.taken in
-    let split = before.1 ∙ ap (λ xs. before.0 ++ xs) c.in-Some.ensures.steps.0 in
-    all_operations c.in-Some.operations.items (thread_of c.args.script.items before.0 (into_iter_items c.next.new.self) c.in-Some.operations split c.requires.script)
+pub loop-init : goal.loop-init
+loop-init c = record { made = c.in_ok-actors.ensures.made; room = let room = c.in_ok-actors.ensures.room in let is = c.from.ensures in omega arith }
 
-pub new-requires-clause-few : goal.new-requires-clause-few
-new-requires-clause-few c =
-    let before = c.loop-operations.invariant.taken in
-    let split = before.1 ∙ ap (λ xs. before.0 ++ xs) c.in-Some.ensures.steps.0 in
-    (thread_of c.args.script.items before.0 (into_iter_items c.next.new.self) c.in-Some.operations split c.requires.script).count
+pub push_reserved-requires : goal.push_reserved-requires
+push_reserved-requires c = let room = c.loop.invariant.room in let more = c.loop-test.true in omega arith
 
-pub loop-operations-preserved : goal.loop-operations-preserved
-loop-operations-preserved c =
-    let before = c.loop-operations.invariant.taken in
-    let rest = into_iter_items c.next.new.self in
-    let operations = c.in-Some.operations in
-    let split = before.1 ∙ ap (λ xs. before.0 ++ xs) c.in-Some.ensures.steps.0 in
-    let many : c.len-in-loop-operations.result ≡ length c.loop-operations.actors.items = c.len-in-loop-operations.ensures ∙ c.loop-operations.invariant.count in
-    record {
-      taken = (
-        before.0 ++ operations ∷ [],
-        split ∙ sym (append_assoc before.0 (operations ∷ []) rest),
-        made_pushed c.args.limits c.args.every c.args.script.items before.0 rest operations c.loop-operations.actors.items c.push_reserved.new.self.items c.in_ok-mutator.mutator split c.requires.script
-            c.requires.limits c.requires.threads c.requires.every before.2 (c.in_ok-mutator.ensures ∙ ap (λ n. first (n + 1) operations.items c.args.limits c.args.every) many) c.push_reserved.ensures.items,
-      );
-      room = omega (arith, c.in-Some.ensures.steps.1);
-      count = search rules;
-      limits = search rules;
-      every = search rules;
-    }
+pub loop-preserved : goal.loop-preserved
+loop-preserved c = record {
+  made = helper_pushed c.args.limits c.args.every c.loop.counter _ (lists_in c.args.script) c.loop.actors.items c.push_reserved.new.self.items c.in_ok-decrementer.decrementer c.loop.invariant.made c.in_ok-decrementer.ensures refl
+      c.push_reserved.ensures.items;
+  room = let room = c.loop.invariant.room in let len = c.push_reserved.ensures.len in let capacity = c.push_reserved.ensures.capacity in omega arith;
+}
+
+pub returns : goal.returns
+returns c =
+    let ends = c.loop-test.false in
+    let most = c.loop.auto.counter-end in
+    let all : c.loop.counter ≡ c.args.workers = omega arith in
+    subst (λ n. AreMade c.args.limits c.args.every n (lists_in c.args.script) c.loop.actors.items) all c.loop.invariant.made

@@ -1,16 +1,10 @@
-use Rattle.std.proofs.Common.{◌≡◌, ◌+◌, ◌≤◌, List, ◌++◌, map, length, vec_len, vec_capacity}
-use Rattle.std.specs.Vec.Iter.{into_iter_items, into_iter_len}
-use Rattle.lxr_graph.specs.declared.Op.{Op}
-use Rattle.lxr_base.specs.Roomy.{Roomy}
+use Rattle.std.proofs.Common.{◌+◌, ◌≤◌, vec_len, vec_capacity}
+use Rattle.lxr_text_script.specs.Reading.{lists_in}
 use Rattle.lxr_run_loop.specs.Opening.{AreMade}
 use Rattle.lxr_run_loop.proofs.opening.make_actors.Given as goal
 
-abbrev pub invariant-loop-operations : goal.invariant-loop-operations
-invariant-loop-operations l = record {
-  taken : (taken : List (Roomy Op)) × (l.fn.script.items ≡ taken ++ into_iter_items l.operations-iterator)
-      × AreMade l.limits l.every (map (λ (o : Roomy Op). o.items) taken) l.actors.items;
-  room : vec_len l.actors + into_iter_len l.operations-iterator ≤ vec_capacity l.actors;
-  count : vec_len l.actors ≡ length l.actors.items;
-  limits : l.limits ≡ l.fn.limits;
-  every : l.every ≡ l.fn.every;
+abbrev pub invariant-loop : goal.invariant-loop
+invariant-loop l = record {
+  made : AreMade l.limits l.every l.counter (lists_in l.fn.script) l.actors.items;
+  room : vec_len l.actors + l.workers ≤ vec_capacity l.actors + l.counter;
 }

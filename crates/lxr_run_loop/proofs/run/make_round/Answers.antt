@@ -2,6 +2,7 @@ use Rattle.std.proofs.Common.{arith, refl, ap, length, ◌∷◌}
 use Rattle.lxr_graph.specs.History.{Pause}
 use Rattle.lxr_image.specs.declared.space.Space.{Space}
 use Rattle.lxr_text_print.proofs.PageLemmas.{OnErr-always}
+use Rattle.lxr_core.specs.Actors.{mutators_in}
 use Rattle.lxr_run_invariant.proofs.ActorLemmas.{left_less}
 use Rattle.lxr_run_invariant.proofs.EndLemmas.{run_to}
 use Rattle.lxr_run_invariant.proofs.PauseLemmas.{counts_fit}
@@ -27,7 +28,7 @@ pause-requires-clause-counts g c =
     let (h', m', ran, replays) = c.run_epoch.ensures task (g.O.Sink.written c.args.output.now) (g.W.Watch.seen c.args.watch.now) h m amid in
     let few = ran.few in
     let grows = ran.grows in
-    counts_fit task c.run_epoch.new.space (g.O.Sink.written c.args.output.now) (g.W.Watch.seen c.args.watch.now) h' m' c.run_epoch.new.actors ran.come ran.actors_rest (omega arith)
+    counts_fit task c.run_epoch.new.space (g.O.Sink.written c.args.output.now) (g.W.Watch.seen c.args.watch.now) h' m' (mutators_in c.run_epoch.new.actors) ran.come ran.actors_rest.mutators (omega arith)
 
 pub returns-in_err-pause-clause-err : goal.returns-in_err-pause-clause-err
 returns-in_err-pause-clause-err g c = OnErr-always c.from_residual.result (λ task (h, m, amid, drawn).
@@ -43,7 +44,7 @@ returns-then-have_ended-clause-ok g c = λ task (h, m, amid, drawn).
     (have_all_ended task h' c.run_epoch.new.actors ran.actors_rest (c.have_ended.ensures.0 c.if-have_ended.true)) paused in
     record {
       complete = (Pause report ∷ h', run, by_pause h' report c.run_epoch.new.x (by_epoch h h' c.args.x.now c.run_epoch.new.x c.args.space.now c.args.actors.now drawn replays));
-      no_more = left_no_more task h h' c.args.actors.now c.run_epoch.new.actors amid.actors_rest ran.actors_rest ran.grows;
+      no_more = left_no_more task h h' (mutators_in c.args.actors.now) (mutators_in c.run_epoch.new.actors) amid.actors_rest.mutators ran.actors_rest.mutators ran.grows;
     }
 
 pub serve_waiting-requires-clause-serving : goal.serve_waiting-requires-clause-serving
@@ -54,9 +55,15 @@ serve_waiting-requires-clause-serving g c =
       task,
       _,
       m'',
-      serving_begins task c.pause.new.space (g.O.Sink.written c.pause.new.output) (g.W.Watch.seen c.pause.new.watch) c.run_epoch.new.actors h' report m'' ran.actors_rest ran.news
+      serving_begins task c.pause.new.space (g.O.Sink.written c.pause.new.output) (g.W.Watch.seen c.pause.new.watch) (mutators_in c.run_epoch.new.actors) h' report m'' ran.actors_rest.mutators ran.news
           (has_more c.run_epoch.new.actors (not_told c.have_ended.result c.have_ended.ensures c.if-have_ended.false)) paused,
     )
+
+pub serve_waiting-requires-clause-order : goal.serve_waiting-requires-clause-order
+serve_waiting-requires-clause-order g c =
+    let (task, (h, m, amid, drawn)) = c.requires.under_way in
+    let (h', m', ran, replays) = c.run_epoch.ensures task (g.O.Sink.written c.args.output.now) (g.W.Watch.seen c.args.watch.now) h m amid in
+    ran.actors_rest.helpers.order
 
 pub serve_waiting-requires-clause-few : goal.serve_waiting-requires-clause-few
 serve_waiting-requires-clause-few g c =
@@ -72,7 +79,7 @@ returns-in_err-serve_waiting-clause-err g c = OnErr-always c.from_residual-in_er
     let (h', m', ran, replays) = c.run_epoch.ensures task (g.O.Sink.written c.args.output.now) (g.W.Watch.seen c.args.watch.now) h m amid in
     let (report, m'', paused) = c.in_ok-pause.ensures.ok task h' m' (ran.come, ran.due) in
     c.in_err-serve_waiting.ensures.err task _ m''
-    (serving_begins task c.pause.new.space (g.O.Sink.written c.pause.new.output) (g.W.Watch.seen c.pause.new.watch) c.run_epoch.new.actors h' report m'' ran.actors_rest ran.news
+    (serving_begins task c.pause.new.space (g.O.Sink.written c.pause.new.output) (g.W.Watch.seen c.pause.new.watch) (mutators_in c.run_epoch.new.actors) h' report m'' ran.actors_rest.mutators ran.news
     (has_more c.run_epoch.new.actors (not_told c.have_ended.result c.have_ended.ensures c.if-have_ended.false)) paused))
 
 pub list_for_epoch-requires : goal.list_for_epoch-requires
@@ -81,7 +88,7 @@ list_for_epoch-requires g c =
     let (h', m', ran, replays) = c.run_epoch.ensures task (g.O.Sink.written c.args.output.now) (g.W.Watch.seen c.args.watch.now) h m amid in
     let (report, m'', paused) = c.in_ok-pause.ensures.ok task h' m' (ran.come, ran.due) in
     let (served, h'', m3, serving, answers) = c.in_ok-serve_waiting.ensures.ok task _ m''
-    (serving_begins task c.pause.new.space (g.O.Sink.written c.pause.new.output) (g.W.Watch.seen c.pause.new.watch) c.run_epoch.new.actors h' report m'' ran.actors_rest ran.news
+    (serving_begins task c.pause.new.space (g.O.Sink.written c.pause.new.output) (g.W.Watch.seen c.pause.new.watch) (mutators_in c.run_epoch.new.actors) h' report m'' ran.actors_rest.mutators ran.news
     (has_more c.run_epoch.new.actors (not_told c.have_ended.result c.have_ended.ensures c.if-have_ended.false)) paused) in
     (m3, serving.between)
 
@@ -89,12 +96,12 @@ pub returns-clause-ok : goal.returns-clause-ok
 returns-clause-ok g c = λ task (h, m, amid, drawn).
     let (h', m', ran, replays) = c.run_epoch.ensures task (g.O.Sink.written c.args.output.now) (g.W.Watch.seen c.args.watch.now) h m amid in
     let (report, m'', paused) = c.in_ok-pause.ensures.ok task h' m' (ran.come, ran.due) in
-    let begun = serving_begins task c.pause.new.space (g.O.Sink.written c.pause.new.output) (g.W.Watch.seen c.pause.new.watch) c.run_epoch.new.actors h' report m'' ran.actors_rest ran.news
+    let begun = serving_begins task c.pause.new.space (g.O.Sink.written c.pause.new.output) (g.W.Watch.seen c.pause.new.watch) (mutators_in c.run_epoch.new.actors) h' report m'' ran.actors_rest.mutators ran.news
     (has_more c.run_epoch.new.actors (not_told c.have_ended.result c.have_ended.ensures c.if-have_ended.false)) paused in
     let (served, h'', m3, serving, answers) = c.in_ok-serve_waiting.ensures.ok task _ m'' begun in
     let again = runs_go_on task c.run_epoch.new.space c.serve_waiting.new.space c.list_for_epoch.new.space (g.O.Sink.written c.args.output.now) (g.O.Sink.written c.serve_waiting.new.output)
     (g.W.Watch.seen c.args.watch.now) (g.W.Watch.seen c.serve_waiting.new.watch) c.args.actors.now c.run_epoch.new.actors c.serve_waiting.new.actors c.pause.new.space.pauses
-    (length c.serve_waiting.new.actors) served h' h'' m' m3 ran c.pause.ensures.pauses serving refl
+    (length (mutators_in c.serve_waiting.new.actors)) served h' h'' m' m3 ran c.pause.ensures.pauses serving refl c.in_ok-serve_waiting.ensures.helpers
     (record {
       between = c.list_for_epoch.ensures.between m3 serving.between;
       listed = c.list_for_epoch.ensures.listed.listed;
@@ -108,8 +115,8 @@ returns-clause-ok g c = λ task (h, m, amid, drawn).
         h'',
         m3,
         again.amid,
-        by_answers _ h'' c.run_epoch.new.x m'' c.run_epoch.new.actors c.serve_waiting.new.actors c.pause.new.space c.serve_waiting.new.space
+        by_answers _ h'' c.run_epoch.new.x m'' (mutators_in c.run_epoch.new.actors) (mutators_in c.serve_waiting.new.actors) c.pause.new.space c.serve_waiting.new.space
             (g.O.Sink.written c.pause.new.output) (g.W.Watch.seen c.pause.new.watch) served (by_pause h' report c.run_epoch.new.x (by_epoch h h' c.args.x.now c.run_epoch.new.x c.args.space.now c.args.actors.now drawn replays)) begun answers,
       );
-      less = left_less task h h'' c.args.actors.now c.serve_waiting.new.actors amid.actors_rest again.amid.actors_rest again.more;
+      less = left_less task h h'' (mutators_in c.args.actors.now) (mutators_in c.serve_waiting.new.actors) amid.actors_rest.mutators again.amid.actors_rest.mutators again.more;
     }

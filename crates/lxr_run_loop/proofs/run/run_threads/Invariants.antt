@@ -1,4 +1,5 @@
 use Rattle.std.proofs.Common.{◌≡◌, ℕ, ◌+◌, ◌≤◌, true, false, cond}
+use Rattle.lxr_core.specs.Actors.{mutators_in}
 use Rattle.lxr_run_invariant.specs.LoopInvariant.{Task, left_of}
 use Rattle.lxr_run_loop.specs.Progress.{IsComplete, IsUnderWay}
 use Rattle.lxr_run_loop.proofs.run.run_threads.Given as goal
@@ -14,4 +15,4 @@ invariant-loop-ended g l =
     }
 
 abbrev pub decreases-loop-ended : goal.decreases-loop-ended
-decreases-loop-ended g l = left_of l.actors + cond {A = ℕ} l.ended 0 1
+decreases-loop-ended g l = left_of (mutators_in l.actors) + cond {A = ℕ} l.ended 0 1

@@ -7,5 +7,5 @@ pub returns-clause-answers : goal.returns-clause-answers
 returns-clause-answers c = record {
   full = c.if-serve_one.ensures.serves.full;
   space = c.if-serve_one.ensures.serves.space;
-  mutator = c.refuse_in.ensures ∙ ap (λ x. answered x reply.Full) c.if-serve_one.ensures.serves.mutator;
+  mutator = c.refuse.ensures ∙ ap (λ x. answered x reply.Full) c.if-serve_one.ensures.serves.mutator;
 }

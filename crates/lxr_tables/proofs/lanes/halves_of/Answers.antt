@@ -1,4 +1,4 @@
-use Rattle.std.proofs.Common.{ap, arith, sym, ◌∙◌, ◌+◌, ◌*◌}
+use Rattle.std.proofs.Common.{ap, arith, ◌∙◌, ◌+◌, ◌*◌}
 use Rattle.std.proofs.Math.ListN.{length-set}
 use Rattle.std.proofs.lemmas.Nat.{and_mask}
 use Rattle.std.specs.Prelude.{slice_index, slice_set}

@@ -1,4 +1,4 @@
-use Rattle.std.proofs.Common.{◌≡◌, ◌+◌, ◌/◌, ◌∙◌, ap, sym}
+use Rattle.std.proofs.Common.{◌+◌, ◌/◌, ◌∙◌, ap, sym}
 use Rattle.std.specs.Prelude.{slice_index}
 use Rattle.lxr_tables.specs.Lanes.{line_part}
 use Rattle.lxr_tables.proofs.LanesLemmas.{part_tells}

@@ -1,12 +1,14 @@
 use Rattle.std.proofs.Common.{◌+◌, ◌<◌, ◌∙◌, ap, subst, sym, refl, length}
 use Rattle.std.specs.Prelude.{slice_set}
 use Rattle.lxr_image.specs.Tables.{tables_in}
-use Rattle.lxr_image.proofs.OutLemmas.{out_word_cleared, out_word_within}
+use Rattle.lxr_image.specs.declared.tables.BitTable.TheVariants.{Outs}
+use Rattle.lxr_image.proofs.OutLemmas.{out_word_cleared}
+use Rattle.lxr_image.proofs.TableLaws.{bit_word_within}
 use Rattle.lxr_image.proofs.space.Space.clear_out_word.Goals as goal
 
 pub set-requires : goal.set-requires
 set-requires c = subst (λ b. b + c.args.at < length c.args.self.now.words) (sym c.begin-base.ensures)
-    (out_word_within c.args.self.now.limits c.args.self.now.words c.args.at c.requires.space.size c.requires.at)
+    (bit_word_within c.args.self.now.limits c.args.self.now.words Outs c.args.at c.requires.space.size c.requires.at)
 
 pub returns : goal.returns
 returns c = record {

@@ -1,4 +1,4 @@
-use Rattle.std.proofs.Common.{◌+◌, ◌*◌, ◌%◌, ◌^◌, ap, subst, sym}
+use Rattle.std.proofs.Common.{◌+◌, ◌*◌, ◌%◌, ◌^◌, subst, sym}
 use Rattle.std.specs.Prelude.{◌↔◌, IsBitSet, IsTrue}
 use Rattle.std.specs.Int.Bits.{bit_or}
 use Rattle.lxr_layout.specs.declared.TheConstants.{LINES_IN_BLOCK}

@@ -1,0 +1,11 @@
+pub mod HandLemmas
+pub mod GroundLemmas
+pub mod TurnLemmas
+pub mod FactLemmas
+pub mod LookLemmas
+pub mod ClaimLemmas
+pub mod LowerLemmas
+pub mod DrawLemmas
+pub mod StepLemmas
+pub mod SoundLemmas
+pub mod KeepingLemmas

@@ -1,0 +1,268 @@
+-- What decrementers have handled goes without a further lowering: it is dead, and its references no longer count.
+use Rattle.std.proofs.Common.{◌≡◌, ℕ, ◌+◌, ◌*◌, ◌^◌, ◌<◌, ◌≤◌, refl, sym, ap, subst, ◌∙◌, inl, inr, arith, Bool, true, false, cond, List, [], ◌∷◌, IsTrue, length}
+use Rattle.std.specs.Prelude.{not, ◌&&◌, ◌||◌, Some, filter}
+use Rattle.std.proofs.lemmas.Bool.{and_right, false_from_ne_true, or_cases, or_left, or_right}
+use Rattle.std.proofs.lemmas.Bool.Decides.{eqb_tells, leb_tells}
+use Rattle.lxr_base.specs.Roomy.{Roomy, pushed}
+use Rattle.lxr_layout.specs.declared.TheConstants.{GRANULES_IN_BLOCK}
+use Rattle.lxr_layout.specs.declared.Name.{Name}
+use Rattle.lxr_layout.specs.declared.Place.{Place}
+use Rattle.lxr_layout.specs.declared.limits.Limits.{Limits}
+use Rattle.lxr_graph.specs.Names.{has, same_name, without}
+use Rattle.lxr_graph.specs.State.{Object, object_at, shape_of}
+use Rattle.lxr_graph.proofs.NameSets.{not_both, same_itself, same_names}
+use Rattle.lxr_image.specs.declared.space.Space.{Space}
+use Rattle.lxr_image.specs.Tables.{Tables, changed}
+use Rattle.lxr_image.specs.Spaces.{Turns, tables_of}
+use Rattle.lxr_image.specs.Reads.{granule_of}
+use Rattle.lxr_model.specs.Moments.{Moment}
+use Rattle.lxr_model.specs.References.{references}
+use Rattle.lxr_model.proofs.ReachableLemmas.{dead_parts}
+use Rattle.lxr_model_counting.proofs.DistinctLemmas.{tested}
+use Rattle.lxr_invariant.specs.Counting.{count_at, is_done, undone, waiting_at}
+use Rattle.lxr_invariant.proofs.EntryLemmas.{changed_here, changed_other, passing_cleared, passing_few}
+use Rattle.lxr_invariant.proofs.FrameLemmas.{none_undone}
+use Rattle.lxr_pause_decrements.specs.declared.wanted.Wanted.TheVariants.{Handled}
+use Rattle.lxr_pause_decrements.specs.Cascade.{Buries, Cascade, CascadeStage, HandledAt, Handling, IsHandling, IsOpening, Keeps, Remains, come_to, kept, later, without_object}
+use Rattle.lxr_pause_decrements.specs.Wanted.{IsNextWanted, NoneWanted}
+use Rattle.lxr_pause_decrements.proofs.CascadeLemmas.{BeginsAt, IsPlaced, bare, bare_uncounted, count_stays, in_heap, placed, remains_fall, remains_still, started, written_other}
+use Rattle.lxr_pause_decrements.proofs.SpaceLemmas.{limits_space, turned_leaves}
+
+-- ---- the names that still count
+
+filtered_head : (q : Name → Bool) (u : Name) (xs : List Name) (b : Bool) → filter q (cond b (u ∷ xs) xs) ≡ cond (b && q u) (u ∷ filter q xs) (filter q xs)
+filtered_head q u xs true = refl
+filtered_head q u xs false = refl
+
+-- two tests one after another let through what two others do
+filtered_same : (p q f g : Name → Bool) (us : List Name) → ((n : Name) → IsTrue (has us n) → (p n && q n) ≡ (f n && g n)) → filter q (filter p us) ≡ filter g (filter f us)
+filtered_same p q f g [] same = refl
+filtered_same p q f g (u ∷ us) same =
+    let here = same u (or_left (same_name u u) (has us u) (same_itself u)) in
+    let rest = filtered_same p q f g us (λ n h. same n (or_right (same_name n u) (has us n) h)) in
+    filtered_head q u (filter p us) (p u) ∙ ap (λ b. cond b (u ∷ filter q (filter p us)) (filter q (filter p us))) here
+    ∙ ap (λ xs. cond (f u && g u) (u ∷ xs) xs) rest ∙ sym (filtered_head g u (filter f us) (f u))
+
+-- the tables once r, which is done, is reclaimed
+abbrev pub without_done : Tables → (Name → ℕ) → Name → Object → Tables
+without_done t at r o = record (without_object t (at r) (shape_of o)) { dones = changed t.dones (granule_of (at r)) false }
+
+module _ (l : Limits) (t : Tables) (w : Roomy Place) (d : Roomy Name) (st : CascadeStage) (r : Name) (ro : Object) (is : Handling l t w d st) (in_r : IsTrue (has st.moment.unreclaimed r))
+    (not_gone : has st.gone r ≡ false) (done : IsTrue (is_done t st.at r)) (has_ro : object_at st.moment.state.graph r ≡ Some ro) where
+  abbrev m : Moment
+  m = st.moment
+
+  abbrev g : ℕ
+  g = granule_of (st.at r)
+
+  -- the tables once it isn't done
+  abbrev undone_there : Tables
+  undone_there = record t { dones = changed t.dones g false }
+
+  none : count_at t st.at r ≡ 0
+  none = is.done_zero r in_r done
+
+  same_tables : without_done t st.at r ro ≡ bare undone_there st.at r ro
+  same_tables = bare_uncounted undone_there st.at r ro none
+
+  -- where it isn't done, what is left is as before
+  left_undone : Remains l undone_there d st
+  left_undone = record {
+    ground = is.remains.ground;
+    stuck = is.remains.stuck;
+    below = is.remains.below;
+    bits = record {
+      starts = record { each = is.remains.bits.starts.each; only = is.remains.bits.starts.only };
+      marks = is.remains.bits.marks;
+      grays = is.remains.bits.grays;
+      dones = λ k h. elim (eqb_tells k g) [
+        | inl q ↦ not_both (changed t.dones g false k) h (changed_here t.dones g false k q.1)
+        | inr q ↦ is.remains.bits.dones k (sym (changed_other t.dones g false k q.1) ∙ h)
+      ];
+      unlogged = is.remains.bits.unlogged;
+    };
+    marks = record { marked = is.remains.marks.marked; elsewhere = is.remains.marks.elsewhere };
+    lost_marks = is.remains.lost_marks;
+    lost_grays = is.remains.lost_grays;
+    decrements = record { fits = is.remains.decrements.fits; places = is.remains.decrements.places };
+    once = is.remains.once;
+    reported = is.remains.reported;
+    dead_room = is.remains.dead_room;
+  }
+
+  -- the same names still count
+  undone_stays : undone (without_done t st.at r ro) st.at (without m.unreclaimed (r ∷ st.gone)) ≡ undone t st.at (kept st)
+  undone_stays = filtered_same (λ n. not (has (r ∷ st.gone) n)) (λ n. not (is_done (without_done t st.at r ro) st.at n)) (λ n. not (has st.gone n)) (λ n. not (is_done t st.at n)) m.unreclaimed
+      (λ n in_n. elim (tested (same_name n r)) [
+        | inl k ↦
+            let out : (not (has (r ∷ st.gone) n) && not (is_done (without_done t st.at r ro) st.at n)) ≡ false = ap (λ b. not (b || has st.gone n) && not (is_done (without_done t st.at r ro) st.at n)) k in
+            let was : not (is_done t st.at n) ≡ false = ap not (ap (is_done t st.at) (same_names n r k) ∙ done) in
+            out ∙ sym (and_right (not (has st.gone n)) (not (is_done t st.at n)) was)
+        | inr k ↦
+            ap (λ b. not (b || has st.gone n) && not (is_done (without_done t st.at r ro) st.at n)) k
+            ∙ ap (λ b. not (has st.gone n) && not b) (written_other t.heap l.blocks m st.at is.remains.ground t.dones false n r in_n in_r k)
+      ])
+
+  count_then : (n : Name) → IsTrue (has m.unreclaimed n) → count_at (without_done t st.at r ro) st.at n ≡ count_at t st.at n
+  count_then n in_n = ap (λ z. count_at z st.at n) same_tables ∙ count_stays t.heap l.blocks m st.at is.remains.ground undone_there r ro in_r has_ro none n in_n
+
+  done_before : (n : Name) → IsTrue (is_done (without_done t st.at r ro) st.at n) → IsTrue (is_done t st.at n)
+  done_before n h = elim (eqb_tells (granule_of (st.at n)) g) [
+    | inl q ↦ not_both (changed t.dones g false (granule_of (st.at n))) h (changed_here t.dones g false (granule_of (st.at n)) q.1)
+    | inr q ↦ sym (changed_other t.dones g false (granule_of (st.at n)) q.1) ∙ h
+  ]
+
+  -- r is reclaimed
+  pub handled : Handling l (without_done t st.at r ro) w (pushed d r) (later st (r ∷ st.gone) st.work st.extra)
+  handled = record {
+    remains = subst (λ z. Remains l z (pushed d r) (later st (r ∷ st.gone) st.work st.extra)) (sym same_tables)
+        (remains_fall l undone_there d st r st.work st.extra ro left_undone in_r not_gone unstuck (changed_here t.dones g false g refl) has_ro);
+    exact = λ n in_n loose. count_then n in_n ∙ is.exact n in_n loose ∙ ap (λ us. references m.last us n + waiting_at t (st.at n)) (sym undone_stays);
+    dead = λ n h. elim (or_cases (same_name n r) (has st.gone n) h) [
+      | inl k ↦ let e : n ≡ r = same_names n r k in is.done_dead n (ap (has m.unreclaimed) e ∙ in_r) (ap (is_done t st.at) e ∙ done)
+      | inr k ↦ is.dead n k
+    ];
+    zero = λ n h. elim (or_cases (same_name n r) (has st.gone n) h) [
+      | inl k ↦ ap (count_at (without_done t st.at r ro) st.at) (same_names n r k) ∙ count_then r in_r ∙ none
+      | inr k ↦ count_then n (dead_parts (is.dead n k)).member ∙ is.zero n k
+    ];
+    done_dead = λ n in_n h. is.done_dead n in_n (done_before n h);
+    done_zero = λ n in_n h. count_then n in_n ∙ is.done_zero n in_n (done_before n h);
+    no_work = is.no_work;
+    work_room = is.work_room;
+  }
+    where
+      unstuck : has m.stuck r ≡ false
+      unstuck = (dead_parts (is.done_dead r in_r done)).unstuck
+
+-- where nothing is done, exactly what is in the list waits
+pub handled_all : (l : Limits) (t : Tables) (w : Roomy Place) (d : Roomy Name) (st : CascadeStage) → Handling l t w d st → ((k : ℕ) → t.dones k ≡ false)
+    → Cascade l t w d (come_to (later st st.gone [] (λ o. 0)) 0)
+handled_all l t w d st is none = record {
+  remains = remains_still l t d st [] (λ o. 0) 0 is.remains;
+  lowered = record {
+    dead = is.dead;
+    zero = is.zero;
+    exact = λ n in_n loose.
+        let e = is.exact n in_n loose in
+        let k = ap (λ us. references st.moment.last us n) (none_undone t st.at (kept st) none) in
+        omega (arith, e, k);
+  };
+  passed = λ n in_n loose below zero. absurd (omega (arith, below));
+  none_done = none;
+  work = is.no_work;
+  work_gone = λ n h. absurd (cc);
+  work_room =
+      let few = passing_few t.starts (GRANULES_IN_BLOCK * l.blocks) in
+      let room = is.work_room in
+      let empty : length w.items ≡ 0 = ap length is.no_work in
+      omega (arith, few, room, empty);
+}
+
+-- ---- at spaces
+
+-- the name at a granule whose object is done
+pub done_name : (s : Space) (granule : ℕ) (st : CascadeStage) → HandledAt s granule st → (r : Name) × BeginsAt st.moment st.at st.gone granule r
+done_name s granule st h =
+    let is = h.stage.handling in
+    started s.limits (tables_of s) s.report.dead st granule is.remains (is.remains.bits.dones granule h.done)
+
+pub done_object : (s : Space) (granule : ℕ) (st : CascadeStage) → (h : HandledAt s granule st) → Object
+done_object s granule st h = let x = done_name s granule st h in (h.stage.handling.remains.ground.stands x.0 x.1.member).0
+
+pub done_placed : (s : Space) (p : Place) (granule : ℕ) (st : CascadeStage) → (h : HandledAt s granule st) → p.0 ≡ granule + 1 → IsPlaced (tables_of s) s.limits.blocks (done_name s granule st h).0 (done_object s granule st h) p.0
+unfolding done_object
+done_placed s p granule st h stands =
+    let x = done_name s granule st h in
+    placed (tables_of s).heap s.limits.blocks st.moment st.at h.stage.handling.remains.ground (tables_of s) refl x.0 x.1.member p.0 (stands ∙ x.1.place)
+
+-- it lies in the heap
+pub done_fits : (s : Space) (granule : ℕ) (st : CascadeStage) → HandledAt s granule st → (granule < GRANULES_IN_BLOCK * s.limits.blocks) × (granule < 2 ^ 21)
+done_fits s granule st h =
+    let x = done_name s granule st h in
+    let inside = in_heap (tables_of s).heap s.limits.blocks st.moment st.at h.stage.handling.remains.ground x.0 x.1.member in
+    let same = x.1.granule in
+    let few = h.stage.space.limits.blocks in
+    (omega (arith, inside.1, same), omega (arith, inside.1, same, few.1))
+
+-- and there is room to report it
+pub done_room : (s : Space) (granule : ℕ) (st : CascadeStage) → HandledAt s granule st → length s.report.dead.items < s.report.dead.room
+done_room s granule st h =
+    let t : Tables = tables_of s in
+    let left = h.stage.handling.remains in
+    let fewer = passing_cleared t.starts granule (GRANULES_IN_BLOCK * s.limits.blocks) (left.bits.dones granule h.done) (done_fits s granule st h).0 in
+    let room = left.dead_room in
+    omega (arith, fewer, room)
+
+same_handling : (l m : Limits) (t u : Tables) (w x : Roomy Place) (d e : Roomy Name) (st : CascadeStage) → m ≡ l → u ≡ t → x ≡ w → e ≡ d → Handling l t w d st → Handling m u x e st
+same_handling l m t u w x d e st a b c f is =
+    subst (λ z. Handling m u x z st) (sym f) (subst (λ z. Handling m u z d st) (sym c) (subst (λ z. Handling m z w d st) (sym b) (subst (λ z. Handling z t w d st) (sym a) is)))
+
+-- the tables with a done bit cleared
+abbrev pub with_undone : Tables → ℕ → Tables
+with_undone t granule = record t { dones = changed t.dones granule false }
+
+-- a done object is buried, and its done bit cleared
+pub handled_at : (a b e : Space) (p : Place) (granule : ℕ) (st : CascadeStage) → (h : HandledAt a granule st) → p.0 ≡ granule + 1
+    → Buries a b p (done_name a granule st h).0 (shape_of (done_object a granule st h)) → Turns b e (with_undone (tables_of b) granule)
+    → IsHandling e (later st ((done_name a granule st h).0 ∷ st.gone) st.work st.extra)
+unfolding done_object
+handled_at a b e p granule st h stands buries turns =
+    let t : Tables = tables_of a in
+    let x = done_name a granule st h in
+    let r : Name = x.0 in
+    let o = h.stage.handling.remains.ground.stands r x.1.member in
+    let ro : Object = o.0 in
+    let at_r : p.0 ≡ st.at r = stands ∙ x.1.place in
+    let limits : e.limits ≡ a.limits = ap (λ s. s.limits) turns.rest ∙ ap (λ s. s.limits) buries.rest in
+    let cut : ℕ → ℕ → Tables = λ q k. record (without_object t q (shape_of ro)) { dones = changed t.dones k false } in
+    let tables : tables_of e ≡ without_done t st.at r ro = turns.tables ∙ ap (λ z. with_undone z granule) buries.tables ∙ ap (λ q. cut q granule) at_r ∙ ap (cut (st.at r)) (sym x.1.granule) in
+    let work : e.work ≡ a.work = ap (λ s. s.work) turns.rest ∙ ap (λ s. s.work) buries.rest in
+    let dead : e.report.dead ≡ pushed a.report.dead r = ap (λ s. s.report.dead) turns.rest ∙ ap (λ s. s.report.dead) buries.rest in
+    record {
+      space = limits_space a e limits (ap (λ z. z.size) tables) h.stage.space;
+      handling = same_handling a.limits e.limits _ (tables_of e) a.work e.work _ e.report.dead (later st (r ∷ st.gone) st.work st.extra) limits tables work dead
+          (handled a.limits t a.work a.report.dead st r ro h.stage.handling x.1.member x.1.left (ap t.dones x.1.granule ∙ h.done) o.1);
+    }
+
+pub undone_keeps : (a b : Space) (granule : ℕ) → Turns a b (with_undone (tables_of a) granule) → Keeps a b
+undone_keeps a b granule turns = record {
+  leaves = turned_leaves a b _ turns (record { keeps = record { heap = refl; reuse = refl; runs = refl; frees = refl; remembered = refl; cursors = λ k h j. refl }; decs = refl; outs = refl; states = refl });
+  cursors = ap (λ t. t.cursors) turns.tables;
+}
+
+-- ---- one after another
+
+-- behind what is handled next nothing is
+pub none_handled_on : (t u : Tables) (from end granule : ℕ) → NoneWanted t Handled 0 from → IsNextWanted t Handled from end granule → u.dones ≡ changed t.dones granule false → NoneWanted u Handled 0 (granule + 1)
+none_handled_on t u from end granule before next dones k above below = elim (eqb_tells k granule) [
+  | inl e ↦ ap (λ f. f k) dones ∙ changed_here t.dones granule false k e.1
+  | inr e ↦ ap (λ f. f k) dones ∙ changed_other t.dones granule false k e.1 ∙ (elim (leb_tells from k) [
+    | inl c ↦ let ne = e.1 in next.passed k c.1 (omega (arith, below, ne))
+    | inr c ↦ before k above c.1
+  ])
+]
+
+-- past the heap nothing is done
+none_past : (s : Space) (st : CascadeStage) (k : ℕ) → IsHandling s st → GRANULES_IN_BLOCK * s.limits.blocks ≤ k → (tables_of s).dones k ≡ false
+none_past s st k is past = false_from_ne_true ((tables_of s).dones k) (λ done.
+    let left = is.handling.remains in
+    let x = started s.limits (tables_of s) s.report.dead st k left (left.bits.dones k done) in
+    let h = in_heap (tables_of s).heap s.limits.blocks st.moment st.at left.ground x.0 x.1.member in
+    let e = x.1.granule in
+    absurd (omega (arith, h.1, e, past)))
+
+pub none_handled : (s : Space) (st : CascadeStage) (from : ℕ) → IsHandling s st → NoneWanted (tables_of s) Handled 0 from → NoneWanted (tables_of s) Handled from (GRANULES_IN_BLOCK * s.limits.blocks)
+    → (k : ℕ) → (tables_of s).dones k ≡ false
+none_handled s st from is before behind k = elim (leb_tells from k) [
+  | inr c ↦ before k (omega arith) c.1
+  | inl c ↦ elim (leb_tells (GRANULES_IN_BLOCK * s.limits.blocks) k) [ inl past ↦ none_past s st k is past.1 | inr within ↦ behind k c.1 within.1 ]
+]
+
+-- all that was handled is reclaimed
+pub all_handled : (s : Space) (st : CascadeStage) → IsHandling s st → ((k : ℕ) → (tables_of s).dones k ≡ false) → IsOpening s (come_to (later st st.gone [] (λ o. 0)) 0)
+all_handled s st is none = record {
+  stage = record { space = is.space; cascade = handled_all s.limits (tables_of s) s.work s.report.dead st is.handling none };
+  work = refl;
+  extra = λ o. refl;
+}

@@ -1,0 +1,76 @@
+-- The bits of a word from one on tell of the granules from one on; the lowest that is set is the first that is wanted.
+use Rattle.std.proofs.Common.{◌≡◌, ◌≢◌, ℕ, ◌+◌, ◌-◌, ◌*◌, ◌/◌, ◌%◌, ◌^◌, ◌<◌, ◌≤◌, sym, ap, ◌∙◌, inl, inr, arith, Bool, false, w64}
+use Rattle.std.specs.Prelude.{◌↔◌, ◌==◌, ◌&&◌, IsBitSet, IsTrue}
+use Rattle.std.specs.Int.{bit_at, trailing_zeros}
+use Rattle.std.proofs.lemmas.Bool.{and_parts, false_from_ne_true}
+use Rattle.std.proofs.lemmas.Bool.Decides.{leb_tells}
+use Rattle.std.proofs.lemmas.Nat.{shr-shr}
+use Rattle.std.proofs.lemmas.Nat.Bits.{bit_at-trailing_zeros, bit_at-zero, bit_at_above}
+use Rattle.lxr_layout.specs.declared.TheConstants.{GRANULES_IN_BLOCK}
+use Rattle.lxr_tables.proofs.BitLemmas.{one_is_set, set_is_one}
+use Rattle.lxr_image.specs.Tables.{Tables}
+use Rattle.lxr_invariant.proofs.EntryLemmas.{equal_numbers, same_number}
+use Rattle.lxr_pause_decrements.specs.declared.wanted.Wanted.{Wanted}
+use Rattle.lxr_pause_decrements.specs.Wanted.{IsNextWanted, NoneWanted, is_wanted}
+
+-- a start bit and a count of 0 are one test
+pub both_told : (start : Bool) (count : ℕ) → (IsTrue start × (count ≡ 0)) ↔ IsTrue (start && count == 0)
+both_told start count = (
+  (λ is. ap (λ b. b && count == 0) is.0 ∙ same_number count 0 is.1),
+  (λ is. let both = and_parts start (count == 0) is in (both.0, equal_numbers count 0 both.1)),
+)
+
+-- a mask tells which granules of a word are wanted
+abbrev pub TellsWanted : Tables → Wanted → ℕ → ℕ → Type 0
+TellsWanted t wanted word mask = (i : ℕ) → i < 64 → IsBitSet mask i ↔ IsTrue (is_wanted t wanted (64 * word + i))
+
+module _ (t : Tables) (wanted : Wanted) (at mask : ℕ) (fits : mask < 2 ^ 64) (tells : TellsWanted t wanted (at / 64) mask) where
+  rest_bit : (i : ℕ) → bit_at (mask / 2 ^ (at % 64)) i ≡ bit_at mask (at % 64 + i)
+  rest_bit i = ap (λ x. x % 2) (shr-shr mask (at % 64) i)
+
+  -- a granule whose bit is clear isn't wanted
+  clear_bit : (i : ℕ) → at % 64 + i < 64 → bit_at (mask / 2 ^ (at % 64)) i ≡ 0 → is_wanted t wanted (at + i) ≡ false
+  clear_bit i within none =
+      let place : 64 * (at / 64) + (at % 64 + i) ≡ at + i = omega arith in
+      ap (is_wanted t wanted) (sym place)
+      ∙ false_from_ne_true (is_wanted t wanted (64 * (at / 64) + (at % 64 + i))) (λ yes.
+      let one = set_is_one mask (at % 64 + i) ((tells (at % 64 + i) within).1 yes) in
+      let same = rest_bit i in
+      absurd (omega (arith, one, same, none)))
+
+  pub none_in_word : mask / 2 ^ (at % 64) ≡ 0 → NoneWanted t wanted at ((at / 64 + 1) * 64)
+  none_in_word none k from below =
+      let place : at + (k - at) ≡ k = omega (arith, from) in
+      ap (is_wanted t wanted) (sym place) ∙ clear_bit (k - at) (omega (arith, from, below)) (ap (λ x. bit_at x (k - at)) none ∙ bit_at-zero (k - at))
+
+  pub next_in_word : (blocks : ℕ) → at < GRANULES_IN_BLOCK * blocks → mask / 2 ^ (at % 64) ≢ 0 → IsNextWanted t wanted at (GRANULES_IN_BLOCK * blocks) (at + trailing_zeros w64 (mask / 2 ^ (at % 64)))
+  next_in_word blocks in_heap some =
+      let low : ℕ = mask / 2 ^ (at % 64) in
+      let first : ℕ = trailing_zeros w64 low in
+      let lowest = bit_at-trailing_zeros w64 low (omega arith) (omega arith) in
+      let set : bit_at mask (at % 64 + first) ≡ 1 = sym (rest_bit first) ∙ lowest.1 in
+      let within : at % 64 + first < 64 = elim (leb_tells 64 (at % 64 + first)) [
+        | inl c ↦ let none = bit_at_above mask 64 (at % 64 + first) fits c.1 in absurd (omega (arith, none, set))
+        | inr c ↦ c.1
+      ] in
+      let place : 64 * (at / 64) + (at % 64 + first) ≡ at + first = omega arith in
+      record {
+        reached = omega arith;
+        within = omega (arith, within, in_heap);
+        is = ap (is_wanted t wanted) (sym place) ∙ (tells (at % 64 + first) within).0 (one_is_set mask (at % 64 + first) set);
+        passed = λ k from below.
+            let there : at + (k - at) ≡ k = omega (arith, from) in
+            ap (is_wanted t wanted) (sym there) ∙ clear_bit (k - at) (omega (arith, from, below, within)) (lowest.2 (k - at) (omega (arith, from, below)));
+      }
+
+-- nothing up to a granule, and nothing from there on
+pub none_further : (t : Tables) (wanted : Wanted) (from at to : ℕ) → NoneWanted t wanted from at → NoneWanted t wanted at to → NoneWanted t wanted from to
+none_further t wanted from at to before behind k above below = elim (leb_tells at k) [ inl c ↦ behind k c.1 below | inr c ↦ before k above c.1 ]
+
+pub next_further : (t : Tables) (wanted : Wanted) (from at end granule : ℕ) → from ≤ at → NoneWanted t wanted from at → IsNextWanted t wanted at end granule → IsNextWanted t wanted from end granule
+next_further t wanted from at end granule past before next = record {
+  reached = let reached = next.reached in omega (arith, past, reached);
+  within = next.within;
+  is = next.is;
+  passed = none_further t wanted from at granule before next.passed;
+}

@@ -1,0 +1,3 @@
+pub mod PocketLemmas
+pub mod WordLemmas
+pub mod IndexLemmas

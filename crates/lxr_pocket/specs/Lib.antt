@@ -1,0 +1,5 @@
+pub mod Pockets
+pub mod Words
+pub mod Looks
+pub mod Units
+pub mod Indexes

@@ -1,0 +1,15 @@
+//! Pockets of places, and what words of a space tell those who work from a pocket.
+//!
+//! Decrementers and tracers each hold a pocket of places that may need work. These are hints: what is done about a place is
+//! told by words of the space, which are looked at one atomic step at a time.
+#![tactic(auto)]
+
+mod laws;
+mod pocket;
+mod words;
+
+pub use laws::spaces_have_indexes;
+pub use pocket::{POCKET_ROOM, Pocket};
+pub use words::{
+    bit_look, bit_setting, granule_of, has_bit, is_in_heap, references_in, referent_in,
+};

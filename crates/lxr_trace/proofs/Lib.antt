@@ -1,0 +1,4 @@
+pub mod StayLemmas
+pub mod NearerLemmas
+pub mod FinishLemmas
+pub mod UnitLemmas
