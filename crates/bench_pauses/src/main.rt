@@ -1,9 +1,9 @@
 //! How long a pause takes, by what there is to do at it.
 //!
 //! A run does work on a list of objects that the world holds, and pauses after each piece of work. `--time` prints the
-//! microseconds of each pause, the least of several runs, for lists of several lengths and heaps of several sizes; and for a list
-//! that dies before decrementers had time to work and after they had. With no word the program does two short runs and prints what
-//! their pauses found, which is always the same.
+//! microseconds of each pause, the least of several runs, for lists of several lengths and heaps of several sizes; for a list
+//! that dies before decrementers had time to work and after they had; for one that is traced before and after tracers had; and for a ring
+//! that is swept. With no word the program does short runs and prints what their pauses found, which is always the same.
 #![tactic(auto)]
 
 mod watch;
@@ -22,7 +22,10 @@ use work::{Work, script_of};
 /// How often a run is done when it is timed.
 const ROUNDS: u32 = 5;
 
-/// All kinds of work, each where it finds what the one before it has left.
+/// A pause with nothing to do.
+const IDLE: [Work; 1] = [Work::Nothing];
+
+/// All kinds of counting, each where it finds what the one before it has left.
 const BUSY: [Work; 7] = [
     Work::Promote,
     Work::Nothing,
@@ -43,41 +46,63 @@ const KILLED_FAR: [Work; 3] = [Work::Scatter, Work::LetGo, Work::Kill];
 
 const HELPED_FAR: [Work; 3] = [Work::Scatter, Work::LetGo, Work::Help(300_000)];
 
-/// A short one, for which decrementers have more than enough time.
+/// A list that stays through a trace for which tracers had no time and through a pause that collects.
+const TRACED: [Work; 4] = [Work::Promote, Work::Begin, Work::End(0), Work::Collect];
+
+/// The same where tracers had time; and so for a list whose neighbours lie far apart.
+const FOLLOWED: [Work; 4] = [
+    Work::Promote,
+    Work::Begin,
+    Work::End(300_000),
+    Work::Collect,
+];
+
+const FOLLOWED_FAR: [Work; 4] = [
+    Work::Scatter,
+    Work::Begin,
+    Work::End(300_000),
+    Work::Collect,
+];
+
+/// A ring, which counting doesn't find dead.
+const SWEPT: [Work; 3] = [Work::Ring, Work::LetGo, Work::Collect];
+
+/// Short ones, for which helpers have more than enough time.
 const SHORT: [Work; 3] = [Work::Scatter, Work::LetGo, Work::Help(100)];
 
-/// A run: so many blocks, and a list of so many objects on which this work is done.
+const SHORT_FOLLOWED: [Work; 4] = [Work::Scatter, Work::Begin, Work::End(200), Work::Collect];
+
+/// Every which pause a trace begins, and so at the second one; or at none of a run.
+const AT_SECOND: &str = "2";
+
+const NEVER: &str = "1000000";
+
+/// A run: so many blocks, when traces begin, and a list of so many objects on which this work is done.
 #[derive(Clone, Copy)]
 struct Run {
     blocks: &'static str,
+    trace: &'static str,
     objects: u32,
     works: &'static [Work],
 }
 
-/// A run of all kinds of work.
-fn busy(blocks: &'static str, objects: u32) -> Run {
+/// A run without a trace.
+fn counted(blocks: &'static str, objects: u32, works: &'static [Work]) -> Run {
     Run {
         blocks,
+        trace: NEVER,
         objects,
-        works: &BUSY,
-    }
-}
-
-/// A run in which a list of 100,000 objects dies.
-fn dying(blocks: &'static str, works: &'static [Work]) -> Run {
-    Run {
-        blocks,
-        objects: 100_000,
         works,
     }
 }
 
-/// A run of a pause in an empty heap.
-fn idle(blocks: &'static str) -> Run {
+/// A run whose second pause begins a trace, and whose third one ends it.
+fn traced(blocks: &'static str, objects: u32, works: &'static [Work]) -> Run {
     Run {
         blocks,
-        objects: 0,
-        works: &[Work::Nothing],
+        trace: AT_SECOND,
+        objects,
+        works,
     }
 }
 
@@ -86,19 +111,20 @@ fn main(rt: HostRuntime) -> Result<()> {
     for word in env::args(&rt)? {
         timed |= word.as_str() == "--time";
     }
-    if timed {
-        time_all(&rt)
-    } else {
-        tell(&rt, busy("1", 10))?;
-        tell(
-            &rt,
-            Run {
-                blocks: "4",
-                objects: 10,
-                works: &SHORT,
-            },
-        )
+    if timed { time_all(&rt) } else { tell_all(&rt) }
+}
+
+/// Does short runs, and prints what their pauses found.
+fn tell_all<R: AllocGlobal + Clock + Print + Threads + Sync>(rt: &R) -> Result<()> {
+    for run in [
+        counted("1", 10, &BUSY),
+        counted("4", 10, &SHORT),
+        counted("4", 10, &SWEPT),
+        traced("4", 10, &SHORT_FOLLOWED),
+    ] {
+        tell(rt, run)?;
     }
+    Ok(())
 }
 
 /// Times all runs, and prints a table with a line for each pause.
@@ -108,18 +134,26 @@ fn time_all<R: AllocGlobal + Clock + Print + Threads + Sync>(rt: &R) -> Result<(
         "work", "blocks", "objects", "microseconds", "nanoseconds each", "thread's steps"
     )?;
     for run in [
-        idle("1"),
-        idle("64"),
-        idle("256"),
-        idle("1024"),
-        busy("64", 1_000),
-        busy("64", 10_000),
-        busy("64", 100_000),
-        busy("1024", 100_000),
-        dying("1024", &KILLED),
-        dying("1024", &HELPED),
-        dying("1024", &KILLED_FAR),
-        dying("1024", &HELPED_FAR),
+        counted("1", 0, &IDLE),
+        counted("64", 0, &IDLE),
+        counted("256", 0, &IDLE),
+        counted("1024", 0, &IDLE),
+        counted("64", 1_000, &BUSY),
+        counted("64", 10_000, &BUSY),
+        counted("64", 100_000, &BUSY),
+        counted("1024", 100_000, &BUSY),
+        counted("1024", 100_000, &KILLED),
+        counted("1024", 100_000, &HELPED),
+        counted("1024", 100_000, &KILLED_FAR),
+        counted("1024", 100_000, &HELPED_FAR),
+        traced("1024", 0, &TRACED),
+        traced("1024", 1_000, &TRACED),
+        traced("1024", 10_000, &TRACED),
+        traced("1024", 100_000, &TRACED),
+        traced("1024", 1_000_000, &TRACED),
+        traced("1024", 100_000, &FOLLOWED),
+        traced("1024", 100_000, &FOLLOWED_FAR),
+        counted("1024", 100_000, &SWEPT),
     ] {
         time(rt, run)?;
     }
@@ -178,8 +212,8 @@ fn tell<R: AllocGlobal + Clock + Print + Threads + Sync>(rt: &R, run: Run) -> Re
     for (work, pause) in run.works.iter().zip(&pauses) {
         let name = work.name();
         println!(rt;
-            "{name}: {} logged, {} promoted, {} dead",
-            pause.logged, pause.promoted, pause.dead
+            "{name}: {} logged, {} promoted, {} dead, {} swept",
+            pause.logged, pause.promoted, pause.dead, pause.swept
         )?;
     }
     Ok(())
@@ -189,15 +223,15 @@ fn tell<R: AllocGlobal + Clock + Print + Threads + Sync>(rt: &R, run: Run) -> Re
 fn pauses_of<R: AllocGlobal + Clock + Threads + Sync>(rt: &R, run: Run) -> Result<Vec<Pause>> {
     let script = script_of(rt.alloc(), run.works, run.objects)?;
     let mut watch = Clocked::new(rt.alloc(), rt, run.works.len())?;
-    let status = do_run(rt, run.blocks, script.as_str(), &mut watch);
+    let status = do_run(rt, run, script.as_str(), &mut watch);
     ensure!(status == Status::Done, "the run ended with {status:?}");
     Ok(watch.pauses(rt.alloc())?)
 }
 
-/// Runs a script in memory, in a heap of so many blocks, with room for all its work between two pauses.
+/// Runs a script in memory, with room for all its work between two pauses. A trace ends at the pause behind the one that began it.
 fn do_run<R: AllocGlobal + Clock + Threads + Sync>(
     rt: &R,
-    blocks: &str,
+    run: Run,
     script: &str,
     watch: &mut Clocked<R>,
 ) -> Status {
@@ -205,7 +239,8 @@ fn do_run<R: AllocGlobal + Clock + Threads + Sync>(
         rt,
         rt.alloc(),
         &[
-            "run", "--blocks", blocks, "--log", "65536", "--every", "1048576",
+            "run", "--blocks", run.blocks, "--log", "65536", "--every", "1048576", "--trace",
+            run.trace, "--within", "1",
         ],
         &mut Whole::new(script.as_bytes()),
         &mut Plenty::new(rt.alloc()),

@@ -5,13 +5,14 @@ use std::alloc::{AllocError, Global};
 use std::rt::Clock;
 use std::time::Instant;
 
-/// What a look saw: the time, where the clock gave one, and how much the space had logged, promoted and found dead.
+/// What a look saw: the time, where the clock gave one, and how much the space had logged, promoted, found dead and swept.
 #[derive(Clone, Copy)]
 struct Glance {
     time: Option<Instant>,
     logged: usize,
     promoted: usize,
     dead: usize,
+    swept: usize,
 }
 
 /// What was seen of a pause.
@@ -22,6 +23,7 @@ pub(crate) struct Pause {
     pub(crate) logged: usize,
     pub(crate) promoted: usize,
     pub(crate) dead: usize,
+    pub(crate) swept: usize,
 }
 
 /// A watch that notes the time at each look, in room that it takes before.
@@ -65,6 +67,7 @@ fn pause_between(before: Glance, after: Glance) -> Pause {
         logged: before.logged,
         promoted: after.promoted,
         dead: after.dead,
+        swept: after.swept,
     }
 }
 
@@ -80,6 +83,7 @@ impl<'a, R: Clock> Watch for Clocked<'a, R> {
             logged: space.logged.len(),
             promoted: space.report.promoted.len(),
             dead: space.report.dead.len(),
+            swept: space.report.swept.len(),
         };
         let _ = self.glances.push(glance);
     }

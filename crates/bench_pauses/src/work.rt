@@ -11,6 +11,13 @@ const ROW: u32 = 1_023;
 /// lengths of the lists, so that each object comes up once.
 const STRIDE: u64 = 40_503;
 
+/// The most objects of a list that one thread makes: it has at most 1,048,576 operations, two for each.
+const MOST_MADE: u32 = 500_000;
+
+/// How many operations the first thread waits for the second one, where both make objects. So many are far more than either can be ahead
+/// of the other under the draws.
+const WAIT: u32 = 15_000;
+
 /// What the pause finds to do.
 #[derive(Clone, Copy)]
 pub(crate) enum Work {
@@ -30,6 +37,14 @@ pub(crate) enum Work {
     Help(u32),
     /// A list whose objects lie in no order is held by the world: each takes a line.
     Scatter,
+    /// A list whose first object refers to its last is held by the world.
+    Ring,
+    /// A trace begins.
+    Begin,
+    /// A trace ends, and tracers had the time of so many operations of the thread, of three steps each.
+    End(u32),
+    /// The pause is asked to collect: it traces by itself, and sweeps.
+    Collect,
 }
 
 impl Work {
@@ -43,14 +58,19 @@ impl Work {
             Work::Kill => "kill",
             Work::Help(_) => "help",
             Work::Scatter => "scatter",
+            Work::Ring => "ring",
+            Work::Begin => "begin",
+            Work::End(_) => "end",
+            Work::Collect => "collect",
         }
     }
 
     /// How many objects or fields the pause handles where the list has so many objects.
     pub(crate) fn units(self, objects: u32) -> u32 {
         match self {
-            Work::Nothing => 0,
+            Work::Nothing | Work::Begin => 0,
             Work::Promote | Work::Kill | Work::Help(_) | Work::Scatter => objects,
+            Work::Ring | Work::End(_) | Work::Collect => objects,
             Work::Log | Work::Lower => objects.min(MOST_LOGGED),
             Work::LetGo => 1,
         }
@@ -60,7 +80,9 @@ impl Work {
     pub(crate) fn steps(self) -> Option<u32> {
         match self {
             Work::Kill => Some(2),
-            Work::Help(operations) => Some(operations.saturating_mul(3).saturating_add(2)),
+            Work::Help(operations) | Work::End(operations) => {
+                Some(operations.saturating_mul(3).saturating_add(2))
+            }
             _ => None,
         }
     }
@@ -68,22 +90,57 @@ impl Work {
     /// Writes the operations that give the pause this work.
     fn write(self, script: &mut String, objects: u32) -> Result<(), AllocError> {
         match self {
-            Work::Nothing | Work::Lower | Work::Kill => Ok(()),
+            Work::Nothing | Work::Lower | Work::Kill | Work::Begin | Work::Collect => Ok(()),
             Work::Promote => write_promote(script, objects),
             Work::Log => write_log(script, self.units(objects)),
             Work::LetGo => script.push_str("store r0 0 r1\n"),
-            Work::Help(operations) => write_help(script, operations),
+            Work::Help(operations) | Work::End(operations) => write_help(script, operations),
             Work::Scatter => write_scatter(script, objects),
+            Work::Ring => write_ring(script, objects),
+        }
+    }
+
+    /// The operation that asks for the pause.
+    fn request(self) -> &'static str {
+        match self {
+            Work::Collect => "collect\n",
+            _ => "pause\n",
         }
     }
 }
 
-/// Makes a list of so many objects, each with one reference, and leaves it to the world.
-fn write_promote(script: &mut String, objects: u32) -> Result<(), AllocError> {
-    for _ in 0..objects {
+/// Whether a list of so many objects takes two threads to make.
+fn takes_two(objects: u32) -> bool {
+    objects > MOST_MADE
+}
+
+/// Makes a list of so many objects, each with one reference, before the one that r1 holds; r1 holds the last one.
+fn write_list(script: &mut String, objects: u32) -> Result<(), AllocError> {
+    for _ in 0..objects / 2 {
+        script.push_str("new r2 1 0\nstore r2 0 r1\nnew r1 1 0\nstore r1 0 r2\n")?;
+    }
+    if objects % 2 == 1 {
         script.push_str("new r2 1 0\nstore r2 0 r1\nmove r1 r2\n")?;
     }
+    Ok(())
+}
+
+/// Makes a list of so many objects, or of half of them where the second thread makes the others, and leaves it to the world.
+fn write_promote(script: &mut String, objects: u32) -> Result<(), AllocError> {
+    if takes_two(objects) {
+        write_list(script, objects - objects / 2)?;
+        write_help(script, WAIT)?;
+    } else {
+        write_list(script, objects)?;
+    }
     script.push_str("store r0 0 r1\nnil r1\nnil r2\n")
+}
+
+/// Makes a list of so many objects, lets its first one refer to its last, and leaves it to the world.
+fn write_ring(script: &mut String, objects: u32) -> Result<(), AllocError> {
+    script.push_str("new r1 1 0\nmove r3 r1\n")?;
+    write_list(script, objects.saturating_sub(1))?;
+    script.push_str("store r3 0 r1\nstore r0 0 r1\nnil r1\nnil r2\nnil r3\n")
 }
 
 /// Makes so many objects of a line each, links them to a list in an order in which neighbours lie far apart, and leaves it to the
@@ -135,13 +192,25 @@ fn write_log(script: &mut String, fields: u32) -> Result<(), AllocError> {
     script.push_str("nil r1\nnil r2\n")
 }
 
-/// A script of one thread that does this work on a list of so many objects, with a pause after each piece of work.
+/// The second thread of a script, which makes half of the objects and leaves them to the world.
+fn write_second(script: &mut String, objects: u32) -> Result<(), AllocError> {
+    script.push_str("thread 2\n")?;
+    write_list(script, objects / 2)?;
+    script.push_str("store r0 2 r1\nend\n")
+}
+
+/// A script whose first thread does this work on a list of so many objects, with a pause after each piece of work. It has a second one where
+/// the list takes two to make.
 pub(crate) fn script_of(alloc: Global, works: &[Work], objects: u32) -> Result<String, AllocError> {
-    let mut script = String::from_str(alloc, "lxr 1\nthreads 1\nthread 1\n")?;
+    let threads = 1 + u32::from(takes_two(objects));
+    let mut script = format!(in alloc; "lxr 1\nthreads {threads}\nthread 1\n")?;
     for work in works {
         work.write(&mut script, objects)?;
-        script.push_str("pause\n")?;
+        script.push_str(work.request())?;
     }
     script.push_str("end\n")?;
+    if takes_two(objects) {
+        write_second(&mut script, objects)?;
+    }
     Ok(script)
 }

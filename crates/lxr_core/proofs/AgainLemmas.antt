@@ -37,6 +37,7 @@ registers_at places actors n (any.Mutator m) order many few there =
     let inside = slice_get_within (mutators_in actors) n m (mutator_at actors n m order there) in
     (omega (arith, inside, few), omega (arith, inside, many))
 registers_at places actors n (any.Decrementer d) order many few there = tt
+registers_at places actors n (any.Tracer d) order many few there = tt
 
 pub next_registers : (places : List Place) (before after : List AnyActor) (n : ℕ) (d : AnyActor) → HaveStarted places before after n → n < length before
     → AreInOrder before → length places ≡ 16 * length (mutators_in before) → length (mutators_in before) ≤ 16 → HasRegisters places n (slice_index_or after n d)

@@ -1,9 +1,11 @@
 -- From actors at rest in an epoch to the epoch's safepoint before a pause; where all are through, that pause has a cause.
 use Rattle.std.proofs.Common.{◌≡◌, ℕ, ◌+◌, ◌*◌, ◌≤◌, refl, sym, ap, subst, ◌∙◌, inl, inr, arith, false, true, List, [], ◌∷◌, length, map, take}
-use Rattle.std.specs.Prelude.{Option, Some, None, slice_get}
+use Rattle.std.specs.Prelude.{Option, Some, None, ◌||◌, slice_get}
+use Rattle.std.specs.List.{list_any}
 use Rattle.std.proofs.lemmas.List.{length-map}
 use Rattle.std.proofs.lemmas.List.Folds.{flat_map-map}
 use Rattle.std.proofs.lemmas.Option.{slice_get_within}
+use Rattle.lxr_layout.specs.declared.TheConstants.{REMEMBERED_CURSOR}
 use Rattle.lxr_layout.specs.declared.limits.Limits.{Limits}
 use Rattle.lxr_layout.specs.declared.runs.LogEntry.{LogEntry}
 use Rattle.lxr_layout.specs.declared.Place.{Place}
@@ -11,7 +13,7 @@ use Rattle.lxr_base.specs.Roomy.{Roomy}
 use Rattle.lxr_graph.specs.History.{calls_of, replies_of}
 use Rattle.lxr_image.specs.declared.space.Space.{Space}
 use Rattle.lxr_image.specs.declared.space.Tally.{Tally}
-use Rattle.lxr_image.specs.Tables.{tables_in}
+use Rattle.lxr_image.specs.Tables.{Tables, tables_in}
 use Rattle.lxr_image.specs.Spaces.{tables_of}
 use Rattle.lxr_model.specs.Belongs.{HasCause, has_asked}
 use Rattle.lxr_model.specs.Moments.{Field}
@@ -20,7 +22,8 @@ use Rattle.lxr_mutator.specs.declared.phases.MutEnd.TheVariants as ends
 use Rattle.lxr_mutator.specs.declared.phases.MutatorPhase.{MutatorPhase}
 use Rattle.lxr_mutator.specs.declared.phases.MutatorPhase.TheVariants as phase
 use Rattle.lxr_actor.specs.declared.Core.{Core}
-use Rattle.lxr_mutator.specs.Mutating.{IsWaiting, Mutating, rests_in, tally_of}
+use Rattle.lxr_model.specs.Kinds.{collect_called}
+use Rattle.lxr_mutator.specs.Mutating.{IsWaiting, Mutating, has_collected, rests_in, tally_of}
 use Rattle.lxr_mutator.specs.Mutators.{IsIn, IsThrough, no_spans}
 use Rattle.lxr_mutator.specs.Steps.{shape_now}
 use Rattle.lxr_decrement.specs.declared.phases.DecrementerPhase.{DecrementerPhase}
@@ -28,38 +31,49 @@ use Rattle.lxr_decrement.specs.declared.phases.DecrementerPhase.TheVariants as d
 use Rattle.lxr_decrement.specs.Decrementing.{DecrementerState}
 use Rattle.lxr_decrement.specs.Decrementing as decrement
 use Rattle.lxr_decrement.specs.Steps.{decrementer_machine}
+use Rattle.lxr_trace.specs.declared.phases.TracerPhase.{TracerPhase}
+use Rattle.lxr_trace.specs.declared.phases.TracerPhase.TheVariants as trace_phase
+use Rattle.lxr_trace.specs.Tracing.{TracerState}
+use Rattle.lxr_trace.specs.Tracing as trace
+use Rattle.lxr_trace.specs.Steps.{tracer_machine}
 use Rattle.lxr_core_access.specs.Decrementers as decrementing
+use Rattle.lxr_core_access.specs.Tracers as tracing
 use Rattle.lxr_core_events.specs.ThreadStates.{Reason, Stage, ThreadState, Through, all_of}
 use Rattle.lxr_core_events.specs.ThreadStates as why
 use Rattle.lxr_core_events.specs.EpochStates.{Beginning, EpochState, limits_of}
 use Rattle.lxr_core_events.specs.Called.{IsWithinTurn, HasReason}
 use Rattle.lxr_core_events.specs.Logged.{logs_of}
-use Rattle.lxr_core_events.specs.Epoch.{AreResting as StatesRest, AreThrough, DecrementersRest, IsEpoch, IsResting}
+use Rattle.lxr_core_events.specs.Epoch.{AreResting as StatesRest, AreThrough, DecrementersRest, IsEpoch, IsResting, TracersRest}
+use Rattle.lxr_core_events.specs.Laws.{AllRest}
 use Rattle.lxr_core_events.specs.Through.{IsAsHistory}
 use Rattle.lxr_core_inv_counts.proofs.KeepingLemmas.{closing_counts}
+use Rattle.lxr_core_inv_inside.proofs.KeepingLemmas.{closing_inside}
+use Rattle.lxr_core_inv_snapshot.proofs.SafepointLemmas.{closing_cover}
 use Rattle.lxr_core_inv_history.proofs.EndLemmas.{ends_are_counted}
 use Rattle.lxr_core_inv_history.proofs.ThroughLemmas.{rest_is_history, through_has_cause}
 use Rattle.lxr_core_inv_memory.proofs.ClosingLemmas.{all_blocks_are_taken}
 use Rattle.lxr_core_inv_logs.proofs.ClosingLemmas.{closing_logs}
 use Rattle.lxr_core_close.specs.HandingOut.{AreHandedOut, DrawnIsOut, IsDrawnLine, MayHandOut, drawn_blocks, drawn_runs}
-use Rattle.lxr_core_close.specs.Safepoint.{HasCollected, registers_of}
+use Rattle.lxr_core_close.specs.Safepoint.{HasClosingTrace, HasCollected, registers_of}
 use Rattle.lxr_core_close.specs.Cause.{script_in}
 use Rattle.lxr_core_close.proofs.SafepointLemmas.{closing_reaches_safepoint, drawn_may_be_handed_out, drawn_was_free}
 use Rattle.lxr_core_close.proofs.CauseLemmas.{cause_follows}
 use Rattle.lxr_core_close.proofs.ProgressLemmas.{epoch_has_progress}
 use Rattle.lxr_core_sim_mutator.specs.Showing.{IsMutatorOf, IsNew, IsSteadyIn, reason_by, stage_in, thread_state_of}
 use Rattle.lxr_core_sim_decrementer.specs.Showing.{IsDecrementerOf, decrementing_in, decrementing_of}
+use Rattle.lxr_core_sim_tracer.specs.Showing.{IsTracerOf, tracing_in, tracing_of}
 use Rattle.lxr_core.specs.declared.actors.AnyActor.{AnyActor}
 use Rattle.lxr_core.specs.declared.actors.AnyActor.TheVariants as any
-use Rattle.lxr_core.specs.Actors.{AreInOrder, decrementers_in, mutators_in, script_of}
+use Rattle.lxr_core.specs.Actors.{AreInOrder, decrementers_in, mutators_in, script_of, tracers_in}
 use Rattle.lxr_core.specs.Executions.{IsExecution, Execution, epoch_state_of}
-use Rattle.lxr_core.specs.Resting.{ActorsRestAfter, HelperRests, RestAfter, RestsAfter}
+use Rattle.lxr_core.specs.Resting.{ActorsRestAfter, HelperRests, RestAfter, RestsAfter, TracerRests}
 use Rattle.lxr_core.specs.Collecting.{HaveGiven, MayAllGive, actor_given_up, all_entries, all_registers, given_up, holding, loads_of, news_of, stores_of, tally_with}
 use Rattle.lxr_core.specs.Closing.{AreFinished, AreResting, Closes, HasProgress, MayClose}
+use Rattle.lxr_core.proofs.CollectedLemmas.{collected_is_told}
 use Rattle.lxr_core.proofs.CollectingLemmas.{all_given}
 use Rattle.lxr_core.proofs.MappedLemmas.{first_item, mapped, mapped_from, same_by_index}
 use Rattle.lxr_core.proofs.OpenedLemmas.{waits_for_new}
-use Rattle.lxr_core.proofs.OrderLemmas.{SameKind, alike_order, helper_from, mutator_from, two_helpers, two_mutators}
+use Rattle.lxr_core.proofs.OrderLemmas.{SameKind, alike_order, helper_from, mutator_from, tracer_from, two_helpers, two_mutators, two_tracers}
 
 -- ---- what is known where an epoch may be closed
 
@@ -69,9 +83,11 @@ pub record IsEnd (b : Beginning) (s : EpochState) (space : Space) (actors : List
   pub tables : tables_of space ≡ s.tables
   pub thread_states : s.thread_states ≡ map thread_state_of (mutators_in actors)
   pub decrementers : s.decrementers ≡ map decrementing_of (decrementers_in actors)
+  pub tracers : s.tracers ≡ map tracing_of (tracers_in actors)
   pub order : AreInOrder actors
   pub mutators : (i : ℕ) (m : Mutating) → slice_get (mutators_in actors) i ≡ Some m → IsMutatorOf (limits_of b) m
   pub helpers : (i : ℕ) (d : DecrementerState) → slice_get (decrementers_in actors) i ≡ Some d → IsDecrementerOf (limits_of b) d
+  pub are_tracers : (i : ℕ) (d : TracerState) → slice_get (tracers_in actors) i ≡ Some d → IsTracerOf (limits_of b) d
   pub space_is : space ≡ record b.space { words = space.words }
   pub resting : AreResting actors
 
@@ -85,9 +101,11 @@ is_end b execution cleared space actors may is =
       tables = ap (λ (l : Limits). tables_in l space.words) (ap (λ (z : Space). z.limits) may.space_is) ∙ ap (tables_in (limits_of b)) (sym words);
       thread_states = ap (λ z. map thread_state_of (mutators_in z)) held;
       decrementers = ap (λ z. map decrementing_of (decrementers_in z)) held;
+      tracers = ap (λ z. map tracing_of (tracers_in z)) held;
       order = subst AreInOrder held is.order;
       mutators = λ i m there. is.mutators i m (ap (λ z. slice_get (mutators_in z) i) held ∙ there);
       helpers = λ i d there. is.decrementers i d (ap (λ z. slice_get (decrementers_in z) i) held ∙ there);
+      are_tracers = λ i d there. is.tracers i d (ap (λ z. slice_get (tracers_in z) i) held ∙ there);
       space_is = may.space_is;
       resting = may.resting;
     }
@@ -101,12 +119,15 @@ shown_of : (b : Beginning) (s : EpochState) (space : Space) (actors : List AnyAc
     → (m : Mutating) × (slice_get (mutators_in actors) i ≡ Some m) × (v ≡ thread_state_of m)
 shown_of b s space actors i v is shown = mapped_from thread_state_of (mutators_in actors) i v (sym (ap (λ z. slice_get z i) is.thread_states) ∙ shown)
 
--- a mutator rests, and so does a helper
+-- a mutator rests, and so do a decrementer and a tracer
 mutator_rests : (b : Beginning) (s : EpochState) (space : Space) (actors : List AnyActor) (i : ℕ) (m : Mutating) → IsEnd b s space actors → slice_get (mutators_in actors) i ≡ Some m → rests_in m.phase ≡ true
 mutator_rests b s space actors i m is there = is.resting i (any.Mutator m) (mutator_from actors i m is.order there)
 
 helper_rests : (b : Beginning) (s : EpochState) (space : Space) (actors : List AnyActor) (i : ℕ) (d : DecrementerState) → IsEnd b s space actors → slice_get (decrementers_in actors) i ≡ Some d → decrementer_machine.rests d ≡ true
 helper_rests b s space actors i d is there = let (n, at) = helper_from actors i d there in is.resting n (any.Decrementer d) at
+
+tracer_rests : (b : Beginning) (s : EpochState) (space : Space) (actors : List AnyActor) (i : ℕ) (d : TracerState) → IsEnd b s space actors → slice_get (tracers_in actors) i ≡ Some d → tracer_machine.rests d ≡ true
+tracer_rests b s space actors i d is there = let (n, at) = tracer_from actors i d there in is.resting n (any.Tracer d) at
 
 -- so their stages do
 stage_rests : (m : Mutating) (p : MutatorPhase) → rests_in p ≡ true → IsResting (stage_in m p)
@@ -118,17 +139,30 @@ decrementing_rests : (p : DecrementerPhase) → decrement.rests_in p ≡ true �
 decrementing_rests dec_phase.Resting rests = refl
 decrementing_rests p rests = absurd (cc)
 
+tracing_rests : (p : TracerPhase) → trace.rests_in p ≡ true → tracing_in p ≡ tracing.Rests
+tracing_rests trace_phase.Resting rests = refl
+tracing_rests p rests = absurd (cc)
+
 -- all rest
 states_rest : (b : Beginning) (s : EpochState) (space : Space) (actors : List AnyActor) → IsEnd b s space actors → StatesRest s
 states_rest b s space actors is i v shown =
     let (m, there, same) = shown_of b s space actors i v is shown in
     subst (λ (w : ThreadState). IsResting w.stage) (sym same) (stage_rests m m.phase (mutator_rests b s space actors i m is there))
 
--- all helpers are between two units
+-- all decrementers are between two units, and so are all tracers
 all_helpers_rest : (b : Beginning) (s : EpochState) (space : Space) (actors : List AnyActor) → IsEnd b s space actors → DecrementersRest s
 all_helpers_rest b s space actors is i shows at =
     let (d, there, same) = mapped_from decrementing_of (decrementers_in actors) i shows (sym (ap (λ z. slice_get z i) is.decrementers) ∙ at) in
     same ∙ decrementing_rests d.phase (helper_rests b s space actors i d is there)
+
+all_tracers_rest : (b : Beginning) (s : EpochState) (space : Space) (actors : List AnyActor) → IsEnd b s space actors → TracersRest s
+all_tracers_rest b s space actors is i shows at =
+    let (d, there, same) = mapped_from tracing_of (tracers_in actors) i shows (sym (ap (λ z. slice_get z i) is.tracers) ∙ at) in
+    same ∙ tracing_rests d.phase (tracer_rests b s space actors i d is there)
+
+-- all actors are
+all_actors_rest : (b : Beginning) (s : EpochState) (space : Space) (actors : List AnyActor) → IsEnd b s space actors → AllRest s
+all_actors_rest b s space actors is = record { mutators = states_rest b s space actors is; decrementers = all_helpers_rest b s space actors is; tracers = all_tracers_rest b s space actors is }
 
 -- the stage of one that is through
 stage_end : (m : Mutating) → m.phase ≡ phase.Finished → (thread_state_of m).stage ≡ Through (reason_by m.end)
@@ -195,8 +229,8 @@ same_entries : (mutators : List Mutating) → all_entries mutators ≡ logs_of (
 same_entries mutators = sym (flat_map-map (λ (v : ThreadState). v.log.items) thread_state_of mutators)
 
 -- a space that has what the actors had has collected it
-pub has_collected : (b : Beginning) (s : EpochState) (space now : Space) (actors : List AnyActor) → IsEnd b s space actors → now ≡ holding space (mutators_in actors) → HasCollected b s now
-has_collected b s space now actors is has = record {
+pub is_collected : (b : Beginning) (s : EpochState) (space now : Space) (actors : List AnyActor) → IsEnd b s space actors → now ≡ holding space (mutators_in actors) → HasCollected b s now
+is_collected b s space now actors is has = record {
   tables = ap tables_of has ∙ is.tables;
   registers = ap (λ (z : Space). z.registers) has ∙ ap (λ (z : Space). places_in z (all_registers (mutators_in actors))) is.space_is ∙ ap (places_in b.space) (same_registers (mutators_in actors) ∙ ap registers_of (sym is.thread_states));
   logged = ap (λ (z : Space). z.logged) has ∙ ap (λ (z : Space). entries_in z (all_entries (mutators_in actors))) is.space_is ∙ ap (entries_in b.space) (same_entries (mutators_in actors) ∙ ap logs_of (sym is.thread_states));
@@ -214,7 +248,7 @@ has_collected b s space now actors is has = record {
 
 -- what was drawn may be handed out
 pub may_hand_out : (b : Beginning) (s : EpochState) (space now : Space) (actors : List AnyActor) → IsEnd b s space actors → now ≡ holding space (mutators_in actors) → MayHandOut b.space now
-may_hand_out b s space now actors is has = drawn_may_be_handed_out b s now is.epoch (has_collected b s space now actors is has)
+may_hand_out b s space now actors is has = drawn_may_be_handed_out b s now is.epoch (is_collected b s space now actors is has)
 
 -- ---- the actors
 
@@ -229,11 +263,19 @@ pub given_mutators : (actors : List AnyActor) → mutators_in (map actor_given_u
 given_mutators [] = refl
 given_mutators (any.Mutator m ∷ actors) = ap (λ z. given_up m ∷ z) (given_mutators actors)
 given_mutators (any.Decrementer d ∷ actors) = given_mutators actors
+given_mutators (any.Tracer d ∷ actors) = given_mutators actors
 
 pub given_helpers : (actors : List AnyActor) → decrementers_in (map actor_given_up actors) ≡ decrementers_in actors
 given_helpers [] = refl
 given_helpers (any.Mutator m ∷ actors) = given_helpers actors
 given_helpers (any.Decrementer d ∷ actors) = ap (λ z. d ∷ z) (given_helpers actors)
+given_helpers (any.Tracer d ∷ actors) = given_helpers actors
+
+pub given_tracers : (actors : List AnyActor) → tracers_in (map actor_given_up actors) ≡ tracers_in actors
+given_tracers [] = refl
+given_tracers (any.Mutator m ∷ actors) = given_tracers actors
+given_tracers (any.Decrementer d ∷ actors) = given_tracers actors
+given_tracers (any.Tracer d ∷ actors) = ap (λ z. d ∷ z) (given_tracers actors)
 
 -- so they are in order
 given_order : (actors : List AnyActor) → AreInOrder actors → AreInOrder (map actor_given_up actors)
@@ -245,6 +287,7 @@ given_order actors order = alike_order actors (map actor_given_up actors) (recor
     of_kind : (a : AnyActor) → SameKind a (actor_given_up a)
     of_kind (any.Mutator m) = two_mutators m (given_up m)
     of_kind (any.Decrementer d) = two_helpers d d
+    of_kind (any.Tracer d) = two_tracers d d
 
 -- their operations and what those did are what they were
 same_script : (ms : List Mutating) → script_of (map given_up ms) ≡ script_of ms
@@ -367,6 +410,8 @@ all_rest b s space actors is = record {
     order = given_order actors is.order;
     each = subst (λ ds. (i : ℕ) (d : DecrementerState) → slice_get ds i ≡ Some d → HelperRests (limits_of b) d) (sym (given_helpers actors))
         (λ i d there. record { decrementer = is.helpers i d there; rests = helper_rests b s space actors i d is there });
+    tracers = subst (λ ts. (i : ℕ) (d : TracerState) → slice_get ts i ≡ Some d → TracerRests (limits_of b) d) (sym (given_tracers actors))
+        (λ i d there. record { tracer = is.are_tracers i d there; rests = tracer_rests b s space actors i d is there });
   };
 }
 
@@ -440,6 +485,32 @@ news_wait b s space actors is i x e waits =
     let (m, there, same) = mapped_from given_up (mutators_in actors) i x e in
     subst IsNew (sym same) (waits_for_new m m.phase (mutator_rests b s space actors i m is there) (is.mutators i m there).steady (subst IsWaiting same waits).0)
 
+-- ---- what was called, and what stays
+
+-- what mutators tell of `collect` stays where they give up what they had
+given_collected : (ms : List Mutating) → list_any has_collected (map given_up ms) ≡ list_any has_collected ms
+given_collected [] = refl
+given_collected (m ∷ ms) = ap (λ c. has_collected m || c) (given_collected ms)
+
+-- they tell whether it was called
+collects : (b : Beginning) (s : EpochState) (space : Space) (actors : List AnyActor) → IsEnd b s space actors → collect_called b.history ≡ false → collect_called s.history ≡ list_any has_collected (map given_up (mutators_in actors))
+collects b s space actors is none =
+    collected_is_told b s (mutators_in actors) is.epoch is.thread_states
+    (λ i m there.
+    let shown = shown_end b s space actors i m is there in
+    (shown, states_rest b s space actors is i (thread_state_of m) shown, rest_is_history b s i (thread_state_of m) is.epoch (states_rest b s space actors is) shown))
+    (mutator_count b s space actors is) none
+    ∙ sym (given_collected (mutators_in actors))
+
+-- no number of the remembered set is drawn
+none_remembered : (b : Beginning) (s : EpochState) (now after : Space) → IsEpoch b s → tables_of now ≡ s.tables → DrawnIsOut b.space now after → (tables_of after).cursors REMEMBERED_CURSOR ≡ (tables_of b.space).cursors REMEMBERED_CURSOR
+none_remembered b s now after is tables out =
+    ap (λ (t : Tables). t.cursors REMEMBERED_CURSOR) (out.hands.rest ∙ ap with_outs tables)
+    ∙ is.fixed.cursors REMEMBERED_CURSOR (λ e. absurd (omega (arith, e))) (λ e. absurd (omega (arith, e))) (λ e. absurd (omega (arith, e))) (λ e. absurd (omega (arith, e)))
+  where
+    with_outs : Tables → Tables
+    with_outs t = record t { outs = (tables_of after).outs; reuse = (tables_of after).reuse; states = (tables_of after).states }
+
 -- ---- the whole
 
 -- the epoch is closed
@@ -452,7 +523,9 @@ closes b execution space now after before given may gave out =
     let has = all_given space before now given gave in
     let logs = closing_logs b s is.epoch (states_rest b s space before is) in
     let counts = closing_counts b s is.epoch (all_helpers_rest b s space before is) in
-    let closed = closing_reaches_safepoint b s now after is.epoch logs counts (has_collected b s space now before is has) out in
+    let rests = all_actors_rest b s space before is in
+    let trace : HasClosingTrace b s = record { covers = λ trace e. closing_cover b s trace is.epoch rests e; inside = λ trace e. closing_inside b s trace is.epoch e } in
+    let closed = closing_reaches_safepoint b s now after is.epoch logs counts trace (is_collected b s space now before is has) out in
     let held : execution.core.actors ≡ before = ap (λ (c : Core AnyActor). c.actors) may.core in
     let gives = given_mutators before in
     subst (Closes b execution space after) (sym (all_gave space before now given gave)) (record {
@@ -467,6 +540,9 @@ closes b execution space now after before given may gave out =
       cause = λ finished terms are legal. subst (λ z. HasCause terms z s.history) (ap script_in is.thread_states ∙ sym (given_script before ∙ shown_script (mutators_in before)))
           (cause_follows through_has_cause ends_are_counted all_blocks_are_taken b s terms is.epoch (all_through b s space before is (subst (λ z. AreFinished (mutators_in z)) held finished)) logs are legal);
       progress = λ finished unasked. subst (HasProgress b execution) (sym gives) (has_progress b execution cleared space before is (subst (λ z. AreFinished (mutators_in z)) held finished) unasked);
+      collects = λ none. collects b s space before is none ∙ ap (list_any has_collected) (sym gives);
+      none_chosen = closed.none_chosen;
+      remembered = none_remembered b s now after is.epoch (ap tables_of has ∙ is.tables) out;
       registers = ap (λ (z : Space). z.registers.items) out.rest ∙ ap (λ (z : Space). z.registers.items) has ∙ ap (λ z. all_registers (mutators_in z)) (sym held);
       logged = ap (λ (z : Space). z.logged.items) out.rest ∙ ap (λ (z : Space). z.logged.items) has ∙ ap (λ z. all_entries (mutators_in z)) (sym held);
       tally = ap (λ (z : Space). z.tally) out.rest ∙ ap (λ (z : Space). z.tally) has ∙ same_tally space.tally (mutators_in before) ∙ ap (tally_with space.tally) (sym gives);

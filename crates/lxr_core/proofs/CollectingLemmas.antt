@@ -131,6 +131,8 @@ pub takes_more : (start : Space) (actors : List AnyActor) (a : AnyActor) → tak
 takes_more start actors (any.Mutator m) = takes_mutator start (mutators_in actors) m ∙ ap (holding start) (sym (mutators_of_both actors (any.Mutator m ∷ [])))
 takes_more start actors (any.Decrementer d) =
     ap (holding start) (sym (mutators_of_both actors (any.Decrementer d ∷ []) ∙ append-nil (mutators_in actors)))
+takes_more start actors (any.Tracer d) =
+    ap (holding start) (sym (mutators_of_both actors (any.Tracer d ∷ []) ∙ append-nil (mutators_in actors)))
 
 -- ---- one actor after another
 
@@ -154,6 +156,7 @@ next_was start before now after n d is less =
 gives_at : (room : ℕ) (actors : List AnyActor) (n : ℕ) (a : AnyActor) → AreInOrder actors → EachGives room (mutators_in actors) → slice_get actors n ≡ Some a → ActorMayGive room a
 gives_at room actors n (any.Mutator m) order each there = each n m (mutator_at actors n m order there)
 gives_at room actors n (any.Decrementer d) order each there = tt
+gives_at room actors n (any.Tracer d) order each there = tt
 
 pub next_gives : (start : Space) (before : List AnyActor) (now : Space) (after : List AnyActor) (n : ℕ) (d : AnyActor) → HaveGiven start before now after n → n < length before → MayAllGive start before
     → ActorMayGive now.limits.log (slice_index_or after n d)
@@ -192,6 +195,7 @@ takes_at start before n (any.Mutator m) may there =
     whole_rows : (n many room : ℕ) → n < many → n * room + room ≤ many * room
     whole_rows n many room less = let k : (n + 1) * room ≤ many * room = mul-le-mul_right room (let h : n + 1 ≤ many = omega (arith, less) in h) in let e : (n + 1) * room ≡ n * room + room = grind arith in omega (arith, k, e)
 takes_at start before n (any.Decrementer d) may there = tt
+takes_at start before n (any.Tracer d) may there = tt
 
 pub next_takes : (start : Space) (before : List AnyActor) (now : Space) (after : List AnyActor) (n : ℕ) (d : AnyActor) → HaveGiven start before now after n → n < length before → MayAllGive start before
     → MayTakeOf now (slice_index_or after n d)

@@ -1,5 +1,5 @@
 -- The invariant of an epoch holds after each event of a schedule, and each next step fits: the step of a mutator is an event of the
--- epoch, and that of a decrementer a step that keeps it.
+-- epoch, and that of a helper a step that keeps it.
 use Rattle.std.proofs.Common.{◌≡◌, ℕ, ◌≤◌, refl, sym, ap, subst, ◌∙◌, arith, List, [], ◌∷◌}
 use Rattle.std.specs.Prelude.{Option, Some, None, IsSome, map, slice_get, slice_set}
 use Rattle.std.proofs.lemmas.List.{map-set}
@@ -20,11 +20,14 @@ use Rattle.lxr_mutator.specs.Mutating.{Mutating}
 use Rattle.lxr_mutator.specs.Steps.{action, mutator_machine}
 use Rattle.lxr_decrement.specs.Decrementing.{DecrementerState}
 use Rattle.lxr_decrement.specs.Steps.{decrementer_machine}
+use Rattle.lxr_trace.specs.Tracing.{TracerState}
+use Rattle.lxr_trace.specs.Steps.{tracer_machine}
 use Rattle.lxr_core_access.specs.Decrementers.{Decrementing}
+use Rattle.lxr_core_access.specs.Tracers.{Tracing}
 use Rattle.lxr_core_events.specs.ThreadStates.{ThreadState}
 use Rattle.lxr_core_events.specs.EpochStates.{Beginning, EpochState, limits_of}
 use Rattle.lxr_core_events.specs.Events as event
-use Rattle.lxr_core_events.specs.Decremented.{decremented}
+use Rattle.lxr_core_events.specs.Decremented.{decremented, traced}
 use Rattle.lxr_core_events.specs.Happening.{happen}
 use Rattle.lxr_core_events.specs.Epoch.{IsEpoch}
 use Rattle.lxr_core_events.specs.Laws.{HaveNotFallen}
@@ -36,63 +39,72 @@ use Rattle.lxr_core_sim_decrementer.specs.Showing.{IsDecrementerOf, decrementing
 use Rattle.lxr_core_sim_decrementer.specs.Stepping.{ShowsDecrementer}
 use Rattle.lxr_core_sim_decrementer.proofs.HintLemmas.{hints_stay}
 use Rattle.lxr_core_sim_decrementer.proofs.StepLemmas.{each_step as helper_step}
+use Rattle.lxr_core_sim_tracer.specs.Showing.{IsTracerOf, tracing_of}
+use Rattle.lxr_core_sim_tracer.specs.Stepping.{ShowsTracer}
+use Rattle.lxr_core_sim_tracer.proofs.HintLemmas.{hints_stay as tracer_hints_stay}
+use Rattle.lxr_core_sim_tracer.proofs.StepLemmas.{each_step as tracer_step}
 use Rattle.lxr_core.specs.declared.actors.AnyActor.{AnyActor}
 use Rattle.lxr_core.specs.declared.actors.AnyActor.TheVariants as any
-use Rattle.lxr_core.specs.Actors.{any_machine, decrementers_in, mutators_in}
+use Rattle.lxr_core.specs.Actors.{any_machine, decrementers_in, mutators_in, tracers_in}
 use Rattle.lxr_core.specs.Executions.{HoldsExecution, IsExecution, EpochInvariantHolds, Execution, epoch_state_of, tell, tell_all}
-use Rattle.lxr_core.proofs.KeptLemmas.{decrementers_keep_epoch, epoch_is_kept}
+use Rattle.lxr_core.proofs.KeptLemmas.{decrementers_keep_epoch, epoch_is_kept, tracers_keep_epoch}
 use Rattle.lxr_core.proofs.MappedLemmas.{each_set, mapped, set_itself}
-use Rattle.lxr_core.proofs.OrderLemmas.{IsHelperAt, helper_at, helpers_stay, mutator_at, mutators_put, mutators_stay, put_order, two_helpers, two_mutators}
-use Rattle.lxr_core.proofs.TurnLemmas.{at_rest, helper_at_rest, helper_moved, moved, tell_helper, tell_step, told_with}
+use Rattle.lxr_core.proofs.OrderLemmas.{IsHelperAt, IsTracerAt, helper_at, helpers_beside, helpers_stay, mutator_at, mutators_before, mutators_put, mutators_stay, put_order, tracer_at, tracers_beside, tracers_stay, two_helpers, two_mutators, two_tracers}
+use Rattle.lxr_core.proofs.TurnLemmas.{at_rest, helper_at_rest, helper_moved, moved, tell_helper, tell_step, tell_tracer, told_with, tracer_at_rest, tracer_moved}
 
 -- ---- epoch states
 
 -- the epoch state by its parts
-abbrev epoch_state_by : Tables → List ThreadState → List Decrementing → List Item → (Name → ℕ) → List Field → EpochState
-epoch_state_by t thread_states ds h at cleared = record { tables = t; thread_states = thread_states; decrementers = ds; history = h; at = at; cleared = cleared }
+abbrev epoch_state_by : Tables → List ThreadState → List Decrementing → List Tracing → List Item → (Name → ℕ) → List Field → EpochState
+epoch_state_by t thread_states ds ts h at cleared = record { tables = t; thread_states = thread_states; decrementers = ds; tracers = ts; history = h; at = at; cleared = cleared }
 
 -- an epoch state is that of its parts
-epoch_state_same : (s : EpochState) (t : Tables) (thread_states : List ThreadState) (ds : List Decrementing) (h : List Item) (at : Name → ℕ)
-    → s.tables ≡ t → s.thread_states ≡ thread_states → s.decrementers ≡ ds → s.history ≡ h → s.at ≡ at → s ≡ epoch_state_by t thread_states ds h at s.cleared
-epoch_state_same s t thread_states ds h at tables shown decrementers history places =
-    ap (λ z. epoch_state_by z s.thread_states s.decrementers s.history s.at s.cleared) tables
-    ∙ (ap (λ z. epoch_state_by t z s.decrementers s.history s.at s.cleared) shown
-    ∙ (ap (λ z. epoch_state_by t thread_states z s.history s.at s.cleared) decrementers
-    ∙ (ap (λ z. epoch_state_by t thread_states ds z s.at s.cleared) history ∙ ap (λ z. epoch_state_by t thread_states ds h z s.cleared) places)))
+epoch_state_same : (s : EpochState) (t : Tables) (thread_states : List ThreadState) (ds : List Decrementing) (ts : List Tracing) (h : List Item) (at : Name → ℕ)
+    → s.tables ≡ t → s.thread_states ≡ thread_states → s.decrementers ≡ ds → s.tracers ≡ ts → s.history ≡ h → s.at ≡ at → s ≡ epoch_state_by t thread_states ds ts h at s.cleared
+epoch_state_same s t thread_states ds ts h at tables shown decrementers tracers history places =
+    ap (λ z. epoch_state_by z s.thread_states s.decrementers s.tracers s.history s.at s.cleared) tables
+    ∙ (ap (λ z. epoch_state_by t z s.decrementers s.tracers s.history s.at s.cleared) shown
+    ∙ (ap (λ z. epoch_state_by t thread_states z s.tracers s.history s.at s.cleared) decrementers
+    ∙ (ap (λ z. epoch_state_by t thread_states ds z s.history s.at s.cleared) tracers
+    ∙ (ap (λ z. epoch_state_by t thread_states ds ts z s.at s.cleared) history ∙ ap (λ z. epoch_state_by t thread_states ds ts h z s.cleared) places))))
 
--- what decrementers are about to do stays at events of mutators
-decrementers_stay : (b : Beginning) (s : EpochState) (i : ℕ) (v : ThreadState) (e : event.Event) → (happen b s i v e).decrementers ≡ s.decrementers
-decrementers_stay b s i v event.Stays = refl
-decrementers_stay b s i v event.Obeys = refl
-decrementers_stay b s i v event.Begins = refl
-decrementers_stay b s i v event.BeginsBlock = refl
-decrementers_stay b s i v (event.Bumps from shape) = refl
-decrementers_stay b s i v (event.DoesAtOnce o r registers) = refl
-decrementers_stay b s i v (event.FindsReference place index) = refl
-decrementers_stay b s i v (event.FindsValue place refs index) = refl
-decrementers_stay b s i v (event.FindsNone o) = refl
-decrementers_stay b s i v (event.LoadsReference o dest place index) = refl
-decrementers_stay b s i v (event.TellsName o n) = refl
-decrementers_stay b s i v (event.GetsValue o place refs index) = refl
-decrementers_stay b s i v (event.PutsValue o place refs index value) = refl
-decrementers_stay b s i v (event.SeesClear place index) = refl
-decrementers_stay b s i v (event.SeesFull place index) = refl
-decrementers_stay b s i v (event.LoadsOld place index) = refl
-decrementers_stay b s i v (event.ClearsFirst e n) = refl
-decrementers_stay b s i v (event.ClearsLate e) = refl
-decrementers_stay b s i v (event.StoresReference o place index value) = refl
-decrementers_stay b s i v event.DrawsRun = refl
-decrementers_stay b s i v event.MissesRun = refl
-decrementers_stay b s i v (event.SeesRun number) = refl
-decrementers_stay b s i v (event.TakesRun r shape) = refl
-decrementers_stay b s i v event.DrawsBlock = refl
-decrementers_stay b s i v event.MissesBlock = refl
-decrementers_stay b s i v (event.SeesBlock number) = refl
-decrementers_stay b s i v (event.TakesBlock block shape) = refl
-decrementers_stay b s i v (event.Wipes place shape wiped) = refl
-decrementers_stay b s i v (event.MakesObject o dest place shape) = refl
-decrementers_stay b s i v (event.Asks o r) = refl
-decrementers_stay b s i v (event.Leaves why) = refl
+-- what helpers are about to do stays at events of mutators
+record HelpersStay (s after : EpochState) : Type 0 where
+  decrementers : after.decrementers ≡ s.decrementers
+  tracers : after.tracers ≡ s.tracers
+
+helpers_show : (b : Beginning) (s : EpochState) (i : ℕ) (v : ThreadState) (e : event.Event) → HelpersStay s (happen b s i v e)
+helpers_show b s i v event.Stays = record { decrementers = refl; tracers = refl }
+helpers_show b s i v event.Obeys = record { decrementers = refl; tracers = refl }
+helpers_show b s i v event.Begins = record { decrementers = refl; tracers = refl }
+helpers_show b s i v event.BeginsBlock = record { decrementers = refl; tracers = refl }
+helpers_show b s i v (event.Bumps from shape) = record { decrementers = refl; tracers = refl }
+helpers_show b s i v (event.DoesAtOnce o r registers) = record { decrementers = refl; tracers = refl }
+helpers_show b s i v (event.FindsReference place index) = record { decrementers = refl; tracers = refl }
+helpers_show b s i v (event.FindsValue place refs index) = record { decrementers = refl; tracers = refl }
+helpers_show b s i v (event.FindsNone o) = record { decrementers = refl; tracers = refl }
+helpers_show b s i v (event.LoadsReference o dest place index) = record { decrementers = refl; tracers = refl }
+helpers_show b s i v (event.TellsName o n) = record { decrementers = refl; tracers = refl }
+helpers_show b s i v (event.GetsValue o place refs index) = record { decrementers = refl; tracers = refl }
+helpers_show b s i v (event.PutsValue o place refs index value) = record { decrementers = refl; tracers = refl }
+helpers_show b s i v (event.SeesClear place index) = record { decrementers = refl; tracers = refl }
+helpers_show b s i v (event.SeesFull place index) = record { decrementers = refl; tracers = refl }
+helpers_show b s i v (event.LoadsOld place index) = record { decrementers = refl; tracers = refl }
+helpers_show b s i v (event.ClearsFirst e n) = record { decrementers = refl; tracers = refl }
+helpers_show b s i v (event.ClearsLate e) = record { decrementers = refl; tracers = refl }
+helpers_show b s i v (event.StoresReference o place index value) = record { decrementers = refl; tracers = refl }
+helpers_show b s i v event.DrawsRun = record { decrementers = refl; tracers = refl }
+helpers_show b s i v event.MissesRun = record { decrementers = refl; tracers = refl }
+helpers_show b s i v (event.SeesRun number) = record { decrementers = refl; tracers = refl }
+helpers_show b s i v (event.TakesRun r shape) = record { decrementers = refl; tracers = refl }
+helpers_show b s i v event.DrawsBlock = record { decrementers = refl; tracers = refl }
+helpers_show b s i v event.MissesBlock = record { decrementers = refl; tracers = refl }
+helpers_show b s i v (event.SeesBlock number) = record { decrementers = refl; tracers = refl }
+helpers_show b s i v (event.TakesBlock block shape) = record { decrementers = refl; tracers = refl }
+helpers_show b s i v (event.Wipes place shape wiped) = record { decrementers = refl; tracers = refl }
+helpers_show b s i v (event.MakesObject o dest place shape) = record { decrementers = refl; tracers = refl }
+helpers_show b s i v (event.Asks o r) = record { decrementers = refl; tracers = refl }
+helpers_show b s i v (event.Leaves why) = record { decrementers = refl; tracers = refl }
 
 -- which references' bits were cleared says nothing of places
 places_uncleared : (b : Beginning) (execution : Execution) (cleared : List Field) (m : Mutating) (p : MutatorPhase) → places_in p b (epoch_state_of b execution cleared) m ≡ places_in p b (epoch_state_of b execution []) m
@@ -125,6 +137,17 @@ shows_decrementer b execution cleared n d is at = record {
   decrementer = is.decrementers at.number d at.stands;
 }
 
+-- and a tracer among tracers
+shows_tracer : (b : Beginning) (execution : Execution) (cleared : List Field) (n : ℕ) (d : TracerState) → IsExecution b execution cleared → (at : IsTracerAt execution.core.actors n d)
+    → ShowsTracer b (epoch_state_of b execution cleared) execution.core.words at.number d
+shows_tracer b execution cleared n d is at = record {
+  epoch = is.epoch;
+  size = is.size;
+  tables = refl;
+  shows = mapped tracing_of (tracers_in execution.core.actors) at.number d at.stands;
+  tracer = is.tracers at.number d at.stands;
+}
+
 -- ---- places offered and given up
 
 -- a mutator takes no offers and gives nothing up
@@ -150,16 +173,49 @@ hint_kept b execution n d e (cleared, is) there of same =
     ∙ (ap (slice_set (map decrementing_of (decrementers_in actors)) at.number) same
     ∙ set_itself (map decrementing_of (decrementers_in actors)) at.number (decrementing_of d) (mapped decrementing_of (decrementers_in actors) at.number d at.stands))) in
     let mutators_same = mutators_stay actors n d e there in
+    let tracers_same = tracers_beside actors n d e there in
     let state : EpochState = epoch_state_of b execution cleared in (
       cleared,
       record {
         epoch = subst (IsEpoch b) (epoch_state_same state state.tables (map thread_state_of (mutators_in (slice_set actors n (any.Decrementer e)))) (map decrementing_of (decrementers_in (slice_set actors n (any.Decrementer e))))
-            state.history state.at refl (ap (map thread_state_of) (sym mutators_same)) (sym shown) refl refl) is.epoch;
+            (map tracing_of (tracers_in (slice_set actors n (any.Decrementer e)))) state.history state.at refl (ap (map thread_state_of) (sym mutators_same)) (sym shown) (ap (map tracing_of) (sym tracers_same)) refl refl) is.epoch;
         size = is.size;
         order = put_order actors n (any.Decrementer d) (any.Decrementer e) there (two_helpers d e) is.order;
         mutators = subst (λ ms. (i : ℕ) (m : Mutating) → slice_get ms i ≡ Some m → IsMutatorOf (limits_of b) m) (sym mutators_same) is.mutators;
         decrementers = subst (λ ds. (i : ℕ) (x : DecrementerState) → slice_get ds i ≡ Some x → IsDecrementerOf (limits_of b) x) (sym (at.put e))
             (each_set (IsDecrementerOf (limits_of b)) (decrementers_in actors) at.number e of is.decrementers);
+        tracers = subst (λ ts. (i : ℕ) (x : TracerState) → slice_get ts i ≡ Some x → IsTracerOf (limits_of b) x) (sym tracers_same) is.tracers;
+      },
+    )
+
+-- the execution where the tracer of a number is another
+abbrev with_tracer : Execution → ℕ → TracerState → Execution
+with_tracer execution n e = record execution { core = core_of execution.core.words (slice_set execution.core.actors n (any.Tracer e)) }
+
+-- one that is about to do the same keeps the invariant too
+tracer_hint_kept : (b : Beginning) (execution : Execution) (n : ℕ) (d e : TracerState) → HoldsExecution b execution → slice_get execution.core.actors n ≡ Some (any.Tracer d)
+    → IsTracerOf (limits_of b) e → tracing_of e ≡ tracing_of d → HoldsExecution b (with_tracer execution n e)
+tracer_hint_kept b execution n d e (cleared, is) there of same =
+    let actors : List AnyActor = execution.core.actors in
+    let at = tracer_at actors n d there in
+    let shown : map tracing_of (tracers_in (slice_set actors n (any.Tracer e))) ≡ map tracing_of (tracers_in actors) =
+    ap (map tracing_of) (at.put e)
+    ∙ (map-set tracing_of (tracers_in actors) at.number e
+    ∙ (ap (slice_set (map tracing_of (tracers_in actors)) at.number) same
+    ∙ set_itself (map tracing_of (tracers_in actors)) at.number (tracing_of d) (mapped tracing_of (tracers_in actors) at.number d at.stands))) in
+    let mutators_same = mutators_before actors n d e there in
+    let helpers_same = helpers_beside actors n d e there in
+    let state : EpochState = epoch_state_of b execution cleared in (
+      cleared,
+      record {
+        epoch = subst (IsEpoch b) (epoch_state_same state state.tables (map thread_state_of (mutators_in (slice_set actors n (any.Tracer e)))) (map decrementing_of (decrementers_in (slice_set actors n (any.Tracer e))))
+            (map tracing_of (tracers_in (slice_set actors n (any.Tracer e)))) state.history state.at refl (ap (map thread_state_of) (sym mutators_same)) (ap (map decrementing_of) (sym helpers_same)) (sym shown) refl refl) is.epoch;
+        size = is.size;
+        order = put_order actors n (any.Tracer d) (any.Tracer e) there (two_tracers d e) is.order;
+        mutators = subst (λ ms. (i : ℕ) (m : Mutating) → slice_get ms i ≡ Some m → IsMutatorOf (limits_of b) m) (sym mutators_same) is.mutators;
+        decrementers = subst (λ ds. (i : ℕ) (x : DecrementerState) → slice_get ds i ≡ Some x → IsDecrementerOf (limits_of b) x) (sym helpers_same) is.decrementers;
+        tracers = subst (λ ts. (i : ℕ) (x : TracerState) → slice_get ts i ≡ Some x → IsTracerOf (limits_of b) x) (sym (at.put e))
+            (each_set (IsTracerOf (limits_of b)) (tracers_in actors) at.number e of is.tracers);
       },
     )
 
@@ -177,7 +233,7 @@ HoldsRisen b before after = HoldsExecution b after × HasRisen b before after
 stays_risen : (b : Beginning) (before after : Execution) → after ≡ before → HoldsExecution b before → HoldsRisen b before after
 stays_risen b before after same holds = subst (HoldsRisen b before) (sym same) (holds, λ c. omega arith)
 
--- of an epoch: steps of mutators are events, and events keep the invariant; steps of decrementers keep it too
+-- of an epoch: steps of mutators are events, and events keep the invariant; steps of helpers keep it too
 module _ (b : Beginning) where
   -- a step of a mutator keeps the invariant
   step_kept : (execution : Execution) (cleared : List Field) (n : ℕ) (m : Mutating) → IsExecution b execution cleared → slice_get execution.core.actors n ≡ Some (any.Mutator m) → IsSome (action m)
@@ -192,11 +248,14 @@ module _ (b : Beginning) where
       let m' : Mutating = (stepped mutator_machine execution.core.words m).1 in
       let put = mutators_put actors n m m' is.order there in
       let stay = helpers_stay actors n m m' there in
+      let beside = tracers_stay actors n m m' there in
+      let show = helpers_show b s n (thread_state_of m) by.event in
       let thread_states = by.thread_states ∙ (sym (map-set thread_state_of (mutators_in actors) n m') ∙ ap (map thread_state_of) (sym put)) in
-      let decrementers = decrementers_stay b s n (thread_state_of m) by.event ∙ ap (map decrementing_of) (sym stay) in
+      let decrementers = show.decrementers ∙ ap (map decrementing_of) (sym stay) in
+      let tracers = show.tracers ∙ ap (map tracing_of) (sym beside) in
       let same = epoch_state_same after (tables_in (limits_of b) (stepped mutator_machine execution.core.words m).0) (map thread_state_of (mutators_in (slice_set actors n (any.Mutator m'))))
-      (map decrementing_of (decrementers_in (slice_set actors n (any.Mutator m'))))
-      (history_after b s m m') (places_after b (epoch_state_of b execution []) m) by.tables thread_states decrementers by.history (by.places ∙ places_uncleared b execution cleared m m.phase) in (
+      (map decrementing_of (decrementers_in (slice_set actors n (any.Mutator m')))) (map tracing_of (tracers_in (slice_set actors n (any.Mutator m'))))
+      (history_after b s m m') (places_after b (epoch_state_of b execution []) m) by.tables thread_states decrementers tracers by.history (by.places ∙ places_uncleared b execution cleared m m.phase) in (
         (
           after.cleared,
           record {
@@ -205,6 +264,7 @@ module _ (b : Beginning) where
             order = put_order actors n (any.Mutator m) (any.Mutator m') there (two_mutators m m') is.order;
             mutators = subst (λ ms. (i : ℕ) (x : Mutating) → slice_get ms i ≡ Some x → IsMutatorOf (limits_of b) x) (sym put) (each_set (IsMutatorOf (limits_of b)) (mutators_in actors) n m' by.mutator is.mutators);
             decrementers = subst (λ ds. (i : ℕ) (x : DecrementerState) → slice_get ds i ≡ Some x → IsDecrementerOf (limits_of b) x) (sym stay) is.decrementers;
+            tracers = subst (λ ts. (i : ℕ) (x : TracerState) → slice_get ts i ≡ Some x → IsTracerOf (limits_of b) x) (sym beside) is.tracers;
           },
         ),
         λ c. subst (λ (t : Tables). s.tables.cursors c ≤ t.cursors c) by.tables (cursors_dont_fall.mutators b s n (thread_state_of m) by.event is.epoch by.may c),
@@ -222,9 +282,11 @@ module _ (b : Beginning) where
       let after : EpochState = decremented s at.number by.access (decrementing_of d') in
       let epoch : IsEpoch b after = decrementers_keep_epoch b s at.number by.access (decrementing_of d') is.epoch by.may in
       let stay = mutators_stay actors n d d' there in
+      let beside = tracers_beside actors n d d' there in
       let decrementers = sym (map-set decrementing_of (decrementers_in actors) at.number d') ∙ ap (map decrementing_of) (sym (at.put d')) in
       let same = epoch_state_same after (tables_in (limits_of b) (stepped decrementer_machine execution.core.words d).0) (map thread_state_of (mutators_in (slice_set actors n (any.Decrementer d'))))
-      (map decrementing_of (decrementers_in (slice_set actors n (any.Decrementer d')))) execution.history execution.at by.tables (ap (map thread_state_of) (sym stay)) decrementers refl refl in (
+      (map decrementing_of (decrementers_in (slice_set actors n (any.Decrementer d')))) (map tracing_of (tracers_in (slice_set actors n (any.Decrementer d')))) execution.history execution.at by.tables
+      (ap (map thread_state_of) (sym stay)) decrementers (ap (map tracing_of) (sym beside)) refl refl in (
         (
           cleared,
           record {
@@ -234,9 +296,42 @@ module _ (b : Beginning) where
             mutators = subst (λ ms. (i : ℕ) (m : Mutating) → slice_get ms i ≡ Some m → IsMutatorOf (limits_of b) m) (sym stay) is.mutators;
             decrementers = subst (λ ds. (i : ℕ) (x : DecrementerState) → slice_get ds i ≡ Some x → IsDecrementerOf (limits_of b) x) (sym (at.put d'))
                 (each_set (IsDecrementerOf (limits_of b)) (decrementers_in actors) at.number d' by.decrementer is.decrementers);
+            tracers = subst (λ ts. (i : ℕ) (x : TracerState) → slice_get ts i ≡ Some x → IsTracerOf (limits_of b) x) (sym beside) is.tracers;
           },
         ),
         λ c. subst (λ (t : Tables). s.tables.cursors c ≤ t.cursors c) by.tables (cursors_dont_fall.decrementers b s at.number by.access (decrementing_of d') by.may c),
+      )
+
+  -- and a step of a tracer
+  tracer_kept : (execution : Execution) (cleared : List Field) (n : ℕ) (d : TracerState) → IsExecution b execution cleared → slice_get execution.core.actors n ≡ Some (any.Tracer d)
+      → IsSome (tracer_machine.action d) → HoldsRisen b execution (tracer_moved execution n d)
+  tracer_kept execution cleared n d is there some =
+      let s : EpochState = epoch_state_of b execution cleared in
+      let actors : List AnyActor = execution.core.actors in
+      let at = tracer_at actors n d there in
+      let by = tracer_step b s execution.core.words at.number d (shows_tracer b execution cleared n d is at) some in
+      let d' : TracerState = (stepped tracer_machine execution.core.words d).1 in
+      let after : EpochState = traced s at.number by.access (tracing_of d') in
+      let epoch : IsEpoch b after = tracers_keep_epoch b s at.number by.access (tracing_of d') is.epoch by.may in
+      let stay = mutators_before actors n d d' there in
+      let beside = helpers_beside actors n d d' there in
+      let tracers = sym (map-set tracing_of (tracers_in actors) at.number d') ∙ ap (map tracing_of) (sym (at.put d')) in
+      let same = epoch_state_same after (tables_in (limits_of b) (stepped tracer_machine execution.core.words d).0) (map thread_state_of (mutators_in (slice_set actors n (any.Tracer d'))))
+      (map decrementing_of (decrementers_in (slice_set actors n (any.Tracer d')))) (map tracing_of (tracers_in (slice_set actors n (any.Tracer d')))) execution.history execution.at by.tables
+      (ap (map thread_state_of) (sym stay)) (ap (map decrementing_of) (sym beside)) tracers refl refl in (
+        (
+          cleared,
+          record {
+            epoch = subst (IsEpoch b) same epoch;
+            size = by.size ∙ is.size;
+            order = put_order actors n (any.Tracer d) (any.Tracer d') there (two_tracers d d') is.order;
+            mutators = subst (λ ms. (i : ℕ) (m : Mutating) → slice_get ms i ≡ Some m → IsMutatorOf (limits_of b) m) (sym stay) is.mutators;
+            decrementers = subst (λ ds. (i : ℕ) (x : DecrementerState) → slice_get ds i ≡ Some x → IsDecrementerOf (limits_of b) x) (sym beside) is.decrementers;
+            tracers = subst (λ ts. (i : ℕ) (x : TracerState) → slice_get ts i ≡ Some x → IsTracerOf (limits_of b) x) (sym (at.put d'))
+                (each_set (IsTracerOf (limits_of b)) (tracers_in actors) at.number d' by.tracer is.tracers);
+          },
+        ),
+        λ c. subst (λ (t : Tables). s.tables.cursors c ≤ t.cursors c) by.tables (cursors_dont_fall.tracers b s at.number by.access (tracing_of d') by.may c),
       )
 
   -- so does the turn of an actor, whether it makes a step or not
@@ -250,12 +345,19 @@ module _ (b : Beginning) where
   helper_turn_kept execution n d None e holds there = stays_risen b execution (helper_moved execution n d) (helper_at_rest execution n d there e) holds
   helper_turn_kept execution n d (Some act) e holds there = helper_kept execution holds.0 n d holds.1 there (subst IsSome (sym e) refl)
 
+  tracer_turn_kept : (execution : Execution) (n : ℕ) (d : TracerState) (o : Option Action) → tracer_machine.action d ≡ o → HoldsExecution b execution
+      → slice_get execution.core.actors n ≡ Some (any.Tracer d) → HoldsRisen b execution (tracer_moved execution n d)
+  tracer_turn_kept execution n d None e holds there = stays_risen b execution (tracer_moved execution n d) (tracer_at_rest execution n d there e) holds
+  tracer_turn_kept execution n d (Some act) e holds there = tracer_kept execution holds.0 n d holds.1 there (subst IsSome (sym e) refl)
+
   -- the step of the actor of a number, where there is one
   number_kept : (execution : Execution) (n : ℕ) (o : Option AnyActor) → slice_get execution.core.actors n ≡ o → HoldsExecution b execution → HoldsRisen b execution (tell b execution (Step n))
   number_kept execution n None e holds = stays_risen b execution (tell b execution (Step n)) (ap (told_with b execution n) e) holds
   number_kept execution n (Some (any.Mutator m)) e holds = subst (HoldsRisen b execution) (sym (tell_step b execution n m e)) (turn_kept execution n m (action m) refl holds e)
   number_kept execution n (Some (any.Decrementer d)) e holds =
       subst (HoldsRisen b execution) (sym (tell_helper b execution n d e)) (helper_turn_kept execution n d (decrementer_machine.action d) refl holds e)
+  number_kept execution n (Some (any.Tracer d)) e holds =
+      subst (HoldsRisen b execution) (sym (tell_tracer b execution n d e)) (tracer_turn_kept execution n d (tracer_machine.action d) refl holds e)
 
   -- a place that is offered to the actor of a number keeps it
   offer_kept : (execution : Execution) (n : ℕ) (place : Place) (o : Option AnyActor) → slice_get execution.core.actors n ≡ o → HoldsExecution b execution
@@ -267,6 +369,10 @@ module _ (b : Beginning) where
       let at = helper_at execution.core.actors n d e in
       let stay = (hints_stay (limits_of b) d (holds.1.decrementers at.number d at.stands)).offered place in
       (hint_kept b execution n d (decrementer_machine.offered d place).0 holds e stay.0 stay.1, λ c. omega arith)
+  offer_kept execution n place (Some (any.Tracer d)) e holds =
+      let at = tracer_at execution.core.actors n d e in
+      let stay = (tracer_hints_stay (limits_of b) d (holds.1.tracers at.number d at.stands)).offered place in
+      (tracer_hint_kept b execution n d (tracer_machine.offered d place).0 holds e stay.0 stay.1, λ c. omega arith)
 
   -- and so does one that it gives up
   spare_kept : (execution : Execution) (n : ℕ) (o : Option AnyActor) → slice_get execution.core.actors n ≡ o → HoldsExecution b execution
@@ -278,6 +384,10 @@ module _ (b : Beginning) where
       let at = helper_at execution.core.actors n d e in
       let stay = (hints_stay (limits_of b) d (holds.1.decrementers at.number d at.stands)).spared in
       (hint_kept b execution n d (decrementer_machine.spared d).0 holds e stay.0 stay.1, λ c. omega arith)
+  spare_kept execution n (Some (any.Tracer d)) e holds =
+      let at = tracer_at execution.core.actors n d e in
+      let stay = (tracer_hints_stay (limits_of b) d (holds.1.tracers at.number d at.stands)).spared in
+      (tracer_hint_kept b execution n d (tracer_machine.spared d).0 holds e stay.0 stay.1, λ c. omega arith)
 
   -- each event keeps it
   event_kept : (execution : Execution) (e : Event) → HoldsExecution b execution → HoldsRisen b execution (tell b execution e)
@@ -305,6 +415,9 @@ module _ (b : Beginning) where
   fits_now execution n (any.Decrementer d) holds there act e =
       let at = helper_at execution.core.actors n d there in
       (helper_step b (epoch_state_of b execution holds.0) execution.core.words at.number d (shows_decrementer b execution holds.0 n d holds.1 at) (subst IsSome (sym e) refl)).fits act e
+  fits_now execution n (any.Tracer d) holds there act e =
+      let at = tracer_at execution.core.actors n d there in
+      (tracer_step b (epoch_state_of b execution holds.0) execution.core.words at.number d (shows_tracer b execution holds.0 n d holds.1 at) (subst IsSome (sym e) refl)).fits act e
 
   -- after every schedule
   fits_always : (execution : Execution) → HoldsExecution b execution → AlwaysFits any_machine execution.core

@@ -1,5 +1,8 @@
 pub mod OrderLemmas
 pub mod MappedLemmas
+pub mod ScanWordLemmas
+pub mod FillingLemmas
+pub mod PocketLemmas
 pub mod StartingLemmas
 pub mod OwnerLemmas
 pub mod OpeningLemmas
@@ -7,6 +10,7 @@ pub mod AgainLemmas
 pub mod OpenedLemmas
 pub mod ScriptLemmas
 pub mod CollectingLemmas
+pub mod CollectedLemmas
 pub mod ClosingLemmas
 pub mod KeptLemmas
 pub mod TurnLemmas

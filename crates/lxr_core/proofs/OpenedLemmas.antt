@@ -4,7 +4,7 @@ use Rattle.std.specs.Prelude.{All, Option, Some, None, map, slice_get, slice_ind
 use Rattle.std.proofs.Math.ListN.{get_or-map}
 use Rattle.std.proofs.lemmas.List.{get_or-drop, get_or-take, length-drop, length-map, length-take-le}
 use Rattle.std.proofs.lemmas.List.Elements.{All-from_get_or}
-use Rattle.std.proofs.lemmas.Option.{slice_get-get_or, slice_get_within}
+use Rattle.std.proofs.lemmas.Option.{slice_get-get_or, slice_get_past, slice_get_within}
 use Rattle.lxr_layout.specs.declared.TheConstants.{PAUSE_WORD}
 use Rattle.lxr_layout.specs.declared.Name.{Name}
 use Rattle.lxr_layout.specs.declared.Place.{Place}
@@ -16,6 +16,7 @@ use Rattle.lxr_graph.specs.State.{State, next_name, shape_of}
 use Rattle.lxr_mutator.specs.Mutating as mutating
 use Rattle.lxr_image.specs.declared.space.Space.{Space}
 use Rattle.lxr_image.specs.Image.{ArePlacesOf, IsImage, place_word}
+use Rattle.lxr_image.specs.Reads.{granule_of}
 use Rattle.lxr_image.specs.Spaces.{Turns, tables_of}
 use Rattle.lxr_image.specs.Tables.{Tables, changed, tables_in}
 use Rattle.lxr_model.specs.Moments.{Moment, moment}
@@ -29,11 +30,21 @@ use Rattle.lxr_mutator.specs.Mutating.{Mutating, nil, rests_in}
 use Rattle.lxr_mutator.specs.Mutators.{IsHeld, IsMutator, MayBeIn, again, phase_again}
 use Rattle.lxr_decrement.specs.Decrementing.{DecrementerState}
 use Rattle.lxr_decrement.specs.Decrementers.{again as empty_again}
+use Rattle.lxr_pocket.specs.Indexes.{HaveIndexes}
+use Rattle.lxr_pocket.specs.Words.{InHeap}
+use Rattle.lxr_trace.specs.declared.phases.TracerPhase.TheVariants as trace_phase
+use Rattle.lxr_trace.specs.Tracing.{TracerState}
+use Rattle.lxr_trace.specs.Tracers.{IsIn as IsTracerIn}
+use Rattle.lxr_trace.specs.Tracers.{again as trace_again}
 use Rattle.lxr_core_access.specs.Decrementers.{Decrementing}
+use Rattle.lxr_core_access.specs.Tracers.{Tracing}
 use Rattle.lxr_core_sim_decrementer.specs.Showing.{IsDecrementerOf, decrementing_of}
 use Rattle.lxr_core_sim_decrementer.proofs.HintLemmas.{hints_stay}
+use Rattle.lxr_core_sim_tracer.specs.Showing.{IsTracerOf, tracing_in, tracing_of}
+use Rattle.lxr_core_sim_tracer.proofs.HintLemmas.{hints_stay as tracers_stay}
 use Rattle.lxr_core_events.specs.ThreadStates.{ThreadState, Through, all_of}
 use Rattle.lxr_core_events.specs.EpochStates.{Beginning, IsBeginning, EpochState, limits_of}
+use Rattle.lxr_core_events.specs.Counted.{IsInHeap}
 use Rattle.lxr_core_events.specs.Imaged.{HoldsRegisters}
 use Rattle.lxr_core_events.specs.Epoch.{IsEpoch}
 use Rattle.lxr_core_events.proofs.HeldLemmas.{in_register}
@@ -42,14 +53,16 @@ use Rattle.lxr_core_sim_mutator.specs.Showing.{IsMutatorOf, IsSteadyIn, WaitsFor
 use Rattle.lxr_core_sim_mutator.proofs.NamingLemmas.{named_after}
 use Rattle.lxr_core.specs.declared.actors.AnyActor.{AnyActor}
 use Rattle.lxr_core.specs.declared.actors.AnyActor.TheVariants as any
-use Rattle.lxr_core.specs.Actors.{AreInOrder, decrementers_in, mutators_in}
+use Rattle.lxr_core.specs.Actors.{AreInOrder, decrementers_in, mutators_in, tracers_in}
 use Rattle.lxr_core.specs.Resting.{ActorsRestAfter, FitsThread, RestsAfter}
 use Rattle.lxr_core.specs.Starting.{HaveStarted, MayAllStart, registers_in, started_again}
 use Rattle.lxr_core.specs.Executions.{HoldsExecution, epoch_state_of}
+use Rattle.lxr_core.specs.Filling.{FillsPockets, HaveFilled, MayAllFill, MayFill, holding_places, unfilled}
 use Rattle.lxr_core.specs.Opening.{Begins, MayOpen, Opens, execution_at}
 use Rattle.lxr_core.proofs.AgainLemmas.{registers_held}
-use Rattle.lxr_core.proofs.MappedLemmas.{mapped_from}
-use Rattle.lxr_core.proofs.OrderLemmas.{AreAlike, SameKind, alike_counts, alike_order, helper_at, helper_from, lengths_add, mutator_at, mutator_from, two_helpers, two_mutators}
+use Rattle.lxr_core.proofs.MappedLemmas.{mapped, mapped_from}
+use Rattle.lxr_core.proofs.OrderLemmas.{AreAlike, SameKind, alike_counts, alike_order, helper_at, helper_from, lengths_add, mutator_at, mutator_from, tracer_at, tracer_from, two_helpers, two_mutators, two_tracers}
+use Rattle.lxr_core.proofs.PocketLemmas.{pockets_filled, stands_in_all}
 use Rattle.lxr_core.proofs.StartingLemmas.{AllRest, AllStart, Starts, StartsIn, anew, opening_epoch_state, over}
 use Rattle.lxr_core.proofs.OpeningLemmas.{opens}
 
@@ -171,40 +184,60 @@ again_starts b places i m are many less rests =
 
 -- ---- all of them
 
--- what it was
-was_at : (places : List Place) (before after : List AnyActor) (i : ℕ) (x : AnyActor) → HaveStarted places before after (length before) → slice_get after i ≡ Some x
-    → (a : AnyActor) × (slice_get before i ≡ Some a) × (x ≡ started_again a (registers_in places i))
+-- what it was, whatever its pocket was filled with
+was_at : (places : List Place) (before after : List AnyActor) (i : ℕ) (x : AnyActor) → HaveStarted places before (map unfilled after) (length before) → slice_get after i ≡ Some x
+    → (a : AnyActor) × (slice_get before i ≡ Some a) × (unfilled x ≡ started_again a (registers_in places i))
 was_at places before after i x is there =
     let many = is.as_many in
+    let as_many = length-map after unfilled in
     let inside = slice_get_within after i x there in
-    let below : i < length before = omega (arith, many, inside) in
+    let below : i < length before = omega (arith, many, as_many, inside) in
     let was = slice_get-get_or before i x below in
     let now = is.started i (slice_index_or before i x) was below in
-    let same : Some x ≡ Some (started_again (slice_index_or before i x) (registers_in places i)) = sym there ∙ now in
-    (slice_index_or before i x, was, cc)
+    let same : Some (unfilled x) ≡ Some (started_again (slice_index_or before i x) (registers_in places i)) = sym (mapped unfilled after i x there) ∙ now in
+    (slice_index_or before i x, was, some_same (unfilled x) (started_again (slice_index_or before i x) (registers_in places i)) same)
+  where
+    some_same : (a c : AnyActor) → Some a ≡ Some c → a ≡ c
+    some_same a c e = cc
 
 -- a mutator that has begun again was a mutator
 mutator_was : (a : AnyActor) (registers : List Place) (m : Mutating) → any.Mutator m ≡ started_again a registers → (x : Mutating) × (a ≡ any.Mutator x) × (m ≡ again x registers)
 mutator_was (any.Mutator x) registers m e = (x, refl, cc)
 mutator_was (any.Decrementer d) registers m e = absurd (cc)
+mutator_was (any.Tracer d) registers m e = absurd (cc)
 
--- and a helper a helper
+-- a decrementer a decrementer, and a tracer a tracer
 helper_was : (a : AnyActor) (registers : List Place) (d : DecrementerState) → any.Decrementer d ≡ started_again a registers → (x : DecrementerState) × (a ≡ any.Decrementer x) × (d ≡ empty_again x)
 helper_was (any.Mutator m) registers d e = absurd (cc)
 helper_was (any.Decrementer x) registers d e = (x, refl, cc)
+helper_was (any.Tracer x) registers d e = absurd (cc)
+
+tracer_was : (a : AnyActor) (registers : List Place) (d : TracerState) → any.Tracer d ≡ started_again a registers → (x : TracerState) × (a ≡ any.Tracer x) × (d ≡ trace_again x)
+tracer_was (any.Mutator m) registers d e = absurd (cc)
+tracer_was (any.Decrementer x) registers d e = absurd (cc)
+tracer_was (any.Tracer x) registers d e = (x, refl, cc)
 
 -- one that begins again is of the kind that it was
-again_alike : (places : List Place) (before after : List AnyActor) → HaveStarted places before after (length before) → AreAlike before after
-again_alike places before after is = record {
-  as_many = is.as_many;
-  each = λ i a there. (started_again a (registers_in places i), is.started i a there (slice_get_within before i a there), of_kind a (registers_in places i));
-}
-  where
-    of_kind : (a : AnyActor) (registers : List Place) → SameKind a (started_again a registers)
-    of_kind (any.Mutator m) registers = two_mutators m (again m registers)
-    of_kind (any.Decrementer d) registers = two_helpers d (empty_again d)
+of_kind : (a x : AnyActor) (registers : List Place) → started_again a registers ≡ unfilled x → SameKind a x
+of_kind (any.Mutator m) (any.Mutator x) registers e = two_mutators m x
+of_kind (any.Mutator m) (any.Decrementer x) registers e = absurd (cc)
+of_kind (any.Mutator m) (any.Tracer x) registers e = absurd (cc)
+of_kind (any.Decrementer d) (any.Mutator x) registers e = absurd (cc)
+of_kind (any.Decrementer d) (any.Decrementer x) registers e = two_helpers d x
+of_kind (any.Decrementer d) (any.Tracer x) registers e = absurd (cc)
+of_kind (any.Tracer d) (any.Mutator x) registers e = absurd (cc)
+of_kind (any.Tracer d) (any.Decrementer x) registers e = absurd (cc)
+of_kind (any.Tracer d) (any.Tracer x) registers e = two_tracers d x
 
--- a mutator and a helper that have begun again, with what they were
+again_alike : (places : List Place) (before after : List AnyActor) → HaveStarted places before (map unfilled after) (length before) → AreAlike before after
+again_alike places before after is = record {
+  as_many = sym (length-map after unfilled) ∙ is.as_many;
+  each = λ i a there.
+      let (x, stands, same) = mapped_from unfilled after i (started_again a (registers_in places i)) (is.started i a there (slice_get_within before i a there)) in
+      (x, stands, of_kind a x (registers_in places i) same);
+}
+
+-- a mutator, a decrementer and a tracer that have begun again, with what they were
 pub record WasMutator (places : List Place) (before : List AnyActor) (i : ℕ) (m : Mutating) : Type 0 where
   pub was : Mutating
   pub stood : slice_get (mutators_in before) i ≡ Some was
@@ -216,8 +249,14 @@ pub record WasHelper (before : List AnyActor) (d : DecrementerState) : Type 0 wh
   pub stood : slice_get (decrementers_in before) number ≡ Some was
   pub is : d ≡ empty_again was
 
--- of actors in order that have all begun again
-module _ (places : List Place) (before after : List AnyActor) (order : AreInOrder before) (started : HaveStarted places before after (length before)) where
+pub record WasTracer (before : List AnyActor) (d : TracerState) : Type 0 where
+  pub was : TracerState
+  pub number : ℕ
+  pub stood : slice_get (tracers_in before) number ≡ Some was
+  pub is : holding_places d [] ≡ trace_again was
+
+-- of actors in order that have all begun again, and of which tracers' pockets were filled
+module _ (places : List Place) (before after : List AnyActor) (order : AreInOrder before) (started : HaveStarted places before (map unfilled after) (length before)) where
   -- they are in order
   pub started_order : AreInOrder after
   started_order = alike_order before after (again_alike places before after started) order
@@ -236,9 +275,38 @@ module _ (places : List Place) (before after : List AnyActor) (order : AreInOrde
       let old = helper_at before n x (stood ∙ ap Some kind) in
       record { was = x; number = old.number; stood = old.stands; is = same }
 
+  pub tracer_started : (i : ℕ) (d : TracerState) → slice_get (tracers_in after) i ≡ Some d → WasTracer before d
+  tracer_started i d there =
+      let (n, at) = tracer_from after i d there in
+      let (a, stood, e) = was_at places before after n (any.Tracer d) started at in
+      let (x, kind, same) = tracer_was a (registers_in places n) (holding_places d []) e in
+      let old = tracer_at before n x (stood ∙ ap Some kind) in
+      record { was = x; number = old.number; stood = old.stands; is = same }
+
+-- a tracer that begins again with places of the heap is one still
+filled_tracer : (l : Limits) (was d : TracerState) → IsTracerOf l was → holding_places d [] ≡ trace_again was → length d.pocket.items ≤ 64
+    → ((k : ℕ) (place : Place) → slice_get d.pocket.items k ≡ Some place → IsInHeap l.blocks place.0) → IsTracerOf l d
+filled_tracer l was d of same few each =
+    let regions : d.regions ≡ was.regions = ap (λ (x : TracerState). x.regions) same in
+    let room : d.pocket.room ≡ was.pocket.room = ap (λ (x : TracerState). x.pocket.room) same in
+    let phase : d.phase ≡ trace_phase.Resting = ap (λ (x : TracerState). x.phase) same in
+    let counts : d.regions.counts ≡ region_begin l 1 = ap (λ r. r.counts) (regions ∙ of.regions) in
+    record {
+      sound = record {
+        indexes = subst HaveIndexes (sym regions) of.sound.indexes;
+        pocket = record { room = room ∙ of.sound.pocket.room; few = few };
+        places = All-from_get_or (InHeap d.regions) d.pocket.items nil (λ k less.
+            let heap = each k (slice_index_or d.pocket.items k nil) (slice_get-get_or d.pocket.items k nil less) in
+            let low = heap.0 in let high = heap.1 in
+            (low, omega (arith, high, counts)));
+        phase = subst (IsTracerIn d.regions) (sym phase) tt;
+      };
+      regions = regions ∙ of.regions;
+    }
+
 -- of the actors of an epoch that may be opened, once all have begun again
 module _ (b : Beginning) (before after : List AnyActor) (begins : IsBeginning b) (rest : ActorsRestAfter (limits_of b) b.every b.history before)
-    (started : HaveStarted b.space.registers.items before after (length before)) where
+    (started : HaveStarted b.space.registers.items before (map unfilled after) (length before)) where
   -- the registers of the space
   are : ArePlacesOf b.abstract_state.at b.space.registers.items b.abstract_state.moment.state.registers
   are = begins.between.safepoint.holds.image.registers
@@ -264,6 +332,10 @@ module _ (b : Beginning) (before after : List AnyActor) (begins : IsBeginning b)
   abbrev was_helper : (i : ℕ) (d : DecrementerState) → slice_get (decrementers_in after) i ≡ Some d → WasHelper before d
   was_helper i d there = helper_started b.space.registers.items before after rest.helpers.order started i d there
 
+  -- and a tracer
+  abbrev was_tracer : (i : ℕ) (d : TracerState) → slice_get (tracers_in after) i ≡ Some d → WasTracer before d
+  was_tracer i d there = tracer_started b.space.registers.items before after rest.helpers.order started i d there
+
   -- all show what mutators show as an epoch opens
   pub all_start : AllStart b (map thread_state_of (mutators_in after))
   all_start = record {
@@ -283,23 +355,35 @@ module _ (b : Beginning) (before after : List AnyActor) (begins : IsBeginning b)
       (again_mutator (limits_of b) old.was (registers_in b.space.registers.items i) rests.mutator rests.rests
       (sixteen_of b.space.registers.items (limits_of b).threads i many (below_threads i old.was old.stood)) (registers_held b.space.registers.items i places_held))
 
-  -- all helpers are decrementers still
+  -- all decrementers are so still
   pub all_helpers : (i : ℕ) (d : DecrementerState) → slice_get (decrementers_in after) i ≡ Some d → IsDecrementerOf (limits_of b) d
   all_helpers i d there =
       let old = was_helper i d there in
       subst (IsDecrementerOf (limits_of b)) (sym old.is) (hints_stay (limits_of b) old.was (rest.helpers.each old.number old.was old.stood).decrementer).again
 
+  -- and all tracers, with what their pockets were filled with
+  pub all_tracers : FillsPockets (tables_of b.space) (limits_of b).blocks (tracers_in after) → (i : ℕ) (d : TracerState) → slice_get (tracers_in after) i ≡ Some d → IsTracerOf (limits_of b) d
+  all_tracers filled i d there =
+      let old = was_tracer i d there in
+      let was = (rest.helpers.tracers old.number old.was old.stood).tracer in
+      filled_tracer (limits_of b) old.was d was old.is (filled.few i d there) (λ k place at.
+      let (j, stands) = stands_in_all (tracers_in after) i k d place there at in
+      (filled.found j place stands).in_heap)
+
   -- and rest
-  pub helpers_rest : length before < 2 ^ 63 → AllRest (map decrementing_of (decrementers_in after))
+  pub helpers_rest : length before < 2 ^ 63 → AllRest (map decrementing_of (decrementers_in after)) (map tracing_of (tracers_in after))
   helpers_rest few = record {
     few =
         let shown = length-map (decrementers_in after) decrementing_of in
         let sum = lengths_add after in
-        let as_many = started.as_many in
+        let as_many = (again_alike b.space.registers.items before after started).as_many in
         omega (arith, shown, sum, as_many, few);
     each = λ i shows at.
         let (d, there, same) = mapped_from decrementing_of (decrementers_in after) i shows at in
         same ∙ ap decrementing_of (was_helper i d there).is;
+    tracers = λ i shows at.
+        let (d, there, same) = mapped_from tracing_of (tracers_in after) i shows at in
+        same ∙ ap (λ (x : TracerState). tracing_in x.phase) (was_tracer i d there).is;
   }
 
 -- what opening the epoch asks of the space and the actors
@@ -314,6 +398,26 @@ may_all_start g before actors may i (any.Mutator m) there =
     let fits = may.fit.each i m (mutator_at actors i m may.fit.helpers.order there) in
     record { rests = fits.rests; spans = fits.spans }
 may_all_start g before actors may i (any.Decrementer d) there = tt
+may_all_start g before actors may i (any.Tracer d) there = tt
+
+-- once they have begun again, tracers' pockets are empty
+pub may_all_fill : (g : AbstractState) (before : Space) (actors begun : List AnyActor) → MayOpen g before actors → HaveStarted before.registers.items actors begun (length actors) → MayAllFill before.limits begun
+may_all_fill g before actors begun may is i x there =
+    let many = is.as_many in
+    let inside = slice_get_within begun i x there in
+    let below : i < length actors = omega (arith, many, inside) in
+    let was = slice_get-get_or actors i x below in
+    let now = is.started i (slice_index_or actors i x) was below in
+    subst (MayFill before.limits) (sym (some_same x (started_again (slice_index_or actors i x) (registers_in before.registers.items i)) (sym there ∙ now)))
+    (by_kind (slice_index_or actors i x) was)
+  where
+    some_same : (a c : AnyActor) → Some a ≡ Some c → a ≡ c
+    some_same a c e = cc
+
+    by_kind : (a : AnyActor) → slice_get actors i ≡ Some a → MayFill before.limits (started_again a (registers_in before.registers.items i))
+    by_kind (any.Mutator m) at = tt
+    by_kind (any.Decrementer d) at = tt
+    by_kind (any.Tracer d) at = let old = tracer_at actors i d at in ((tracers_stay before.limits d (may.fit.helpers.tracers old.number d old.stands).tracer).again, refl)
 
 -- what rests after a history fits what it led to
 fits_after : (b : Beginning) (t : ℕ) (m : Mutating) → IsBeginning b → 1 ≤ t → t ≤ (limits_of b).threads → RestsAfter (limits_of b) b.every b.history t m → FitsThread (limits_of b) b.abstract_state.moment.state.graph t m
@@ -351,25 +455,25 @@ size_is : (l : Limits) (words : List ℕ) → (tables_in l words).size ≡ lengt
 unfolding tables_in
 size_is l words = refl
 
--- the epoch state of these tables, thread states and decrementers
-abbrev epoch_state_with : Beginning → Tables → List ThreadState → List Decrementing → EpochState
-epoch_state_with b t thread_states ds = record { tables = t; thread_states = thread_states; decrementers = ds; history = b.history; at = b.abstract_state.at; cleared = [] }
+-- the epoch state of these tables, thread states, decrementers and tracers
+abbrev epoch_state_with : Beginning → Tables → List ThreadState → List Decrementing → List Tracing → EpochState
+epoch_state_with b t thread_states ds ts = record { tables = t; thread_states = thread_states; decrementers = ds; tracers = ts; history = b.history; at = b.abstract_state.at; cleared = [] }
 
 -- the epoch state of the execution that begins
 epoch_state_opened : (b : Beginning) (after : Space) (actors : List AnyActor) → after.limits ≡ b.space.limits
     → tables_of after ≡ record (tables_of b.space) { cursors = changed (tables_of b.space).cursors PAUSE_WORD 0 }
-    → opening_epoch_state b (map thread_state_of (mutators_in actors)) (map decrementing_of (decrementers_in actors)) ≡ epoch_state_of b (execution_at b after actors) []
+    → opening_epoch_state b (map thread_state_of (mutators_in actors)) (map decrementing_of (decrementers_in actors)) (map tracing_of (tracers_in actors)) ≡ epoch_state_of b (execution_at b after actors) []
 epoch_state_opened b after actors limits tables =
     let same : tables_in b.space.limits after.words ≡ record (tables_of b.space) { cursors = changed (tables_of b.space).cursors PAUSE_WORD 0 } =
     ap (λ l. tables_in l after.words) (sym limits) ∙ tables in
-    ap (λ t. epoch_state_with b t (map thread_state_of (mutators_in actors)) (map decrementing_of (decrementers_in actors))) (sym same)
+    ap (λ t. epoch_state_with b t (map thread_state_of (mutators_in actors)) (map decrementing_of (decrementers_in actors)) (map tracing_of (tracers_in actors))) (sym same)
 
 -- the invariant of the epoch holds
 holds : (b : Beginning) (after : Space) (before now : List AnyActor) → length before < 2 ^ 63 → Begins b b.space before → Opens b.space after before now → HoldsExecution b (execution_at b after now)
 holds b after before now few is opened =
     let limits : after.limits ≡ b.space.limits = ap (λ s. s.limits) opened.space.rest in
     let start = all_start b before now is.begins is.actors_rest opened.actors in
-    let epoch = opens b (map thread_state_of (mutators_in now)) (map decrementing_of (decrementers_in now)) is.begins start (helpers_rest b before now is.begins is.actors_rest opened.actors few) is.served.few is.served.unasked in
+    let epoch = opens b (map thread_state_of (mutators_in now)) (map decrementing_of (decrementers_in now)) (map tracing_of (tracers_in now)) is.begins start (helpers_rest b before now is.begins is.actors_rest opened.actors few) is.served.few is.served.unasked in
     let size : (tables_in after.limits after.words).size ≡ region_begin b.space.limits 15 = ap (λ t. t.size) opened.space.tables ∙ is.begins.between.safepoint.holds.space.size in (
       [],
       record {
@@ -378,6 +482,7 @@ holds b after before now few is opened =
         order = started_order b.space.registers.items before now is.actors_rest.helpers.order opened.actors;
         mutators = all_mutators b before now is.begins is.actors_rest opened.actors;
         decrementers = all_helpers b before now is.begins is.actors_rest opened.actors;
+        tracers = all_tracers b before now is.begins is.actors_rest opened.actors opened.pockets;
       },
     )
 
@@ -386,10 +491,43 @@ pub holds_at : (b : Beginning) (before after : Space) (actors now : List AnyActo
 holds_at b before after actors now few is opened =
     subst (λ s. Begins b s actors → Opens s after actors now → HoldsExecution b (execution_at b after now)) is.space_is (holds b after actors now few) is opened
 
--- the registers that the space has are those that it had
-pub opened_at : (before after : Space) (actors now : List AnyActor) → Turns before after (record (tables_of before) { cursors = changed (tables_of before).cursors PAUSE_WORD 0 })
-    → HaveStarted after.registers.items actors now (length actors) → Opens before after actors now
-opened_at before after actors now turned started = record {
-  space = turned;
-  actors = subst (λ places. HaveStarted places actors now (length actors)) (ap (λ s. s.registers.items) turned.rest) started;
+-- marks and grays are what they were, so what is to be scanned is
+filled_before : (t u : Tables) (blocks : ℕ) (tracers : List TracerState) → u.grays ≡ t.grays → u.marks ≡ t.marks → FillsPockets u blocks tracers → FillsPockets t blocks tracers
+filled_before t u blocks tracers grays marks is = record {
+  few = is.few;
+  found = λ k place there.
+      let scan = is.found k place there in
+      record { in_heap = scan.in_heap; gray = ap (λ f. f (granule_of place.0)) (sym grays) ∙ scan.gray; unmarked = ap (λ f. f (granule_of place.0)) (sym marks) ∙ scan.unmarked };
+  once = is.once;
+  all = λ i d there short place scan.
+      is.all i d there short place (record { in_heap = scan.in_heap; gray = ap (λ f. f (granule_of place.0)) grays ∙ scan.gray; unmarked = ap (λ f. f (granule_of place.0)) marks ∙ scan.unmarked });
 }
+
+-- an actor that begins again has an empty pocket
+begun_unfilled : (a : AnyActor) (registers : List Place) → unfilled (started_again a registers) ≡ started_again a registers
+begun_unfilled (any.Mutator m) registers = refl
+begun_unfilled (any.Decrementer d) registers = refl
+begun_unfilled (any.Tracer d) registers = refl
+
+-- so actors whose pockets were filled then have begun again, but for these
+filled_started : (places : List Place) (actors begun now : List AnyActor) → HaveStarted places actors begun (length actors) → map unfilled now ≡ map unfilled begun → HaveStarted places actors (map unfilled now) (length actors)
+filled_started places actors begun now is same = subst (λ z. HaveStarted places actors z (length actors)) (sym same) (record {
+  as_many = length-map begun unfilled ∙ is.as_many;
+  started = λ i a there below. mapped unfilled begun i (started_again a (registers_in places i)) (is.started i a there below) ∙ ap Some (begun_unfilled a (registers_in places i));
+  others = λ i past.
+      let many = is.as_many in
+      let as_many = length-map begun unfilled in
+      slice_get_past (map unfilled begun) i (omega (arith, many, as_many, past)) ∙ sym (slice_get_past actors i past);
+})
+
+-- it is opened
+pub opened_at : (before after : Space) (actors begun now : List AnyActor) (to : ℕ) → Turns before after (record (tables_of before) { cursors = changed (tables_of before).cursors PAUSE_WORD 0 })
+    → HaveStarted after.registers.items actors begun (length actors) → HaveFilled (tables_of after) after.limits.blocks to begun now (length begun) → Opens before after actors now
+opened_at before after actors begun now to turned started filled =
+    let blocks : after.limits.blocks ≡ before.limits.blocks = ap (λ (s : Space). s.limits.blocks) turned.rest in
+    record {
+      space = turned;
+      actors = filled_started before.registers.items actors begun now (subst (λ places. HaveStarted places actors begun (length actors)) (ap (λ s. s.registers.items) turned.rest) started) filled.same;
+      pockets = filled_before (tables_of before) (tables_of after) before.limits.blocks (tracers_in now) (ap (λ (t : Tables). t.grays) turned.tables) (ap (λ (t : Tables). t.marks) turned.tables)
+          (subst (λ n. FillsPockets (tables_of after) n (tracers_in now)) blocks (pockets_filled (tables_of after) after.limits.blocks to begun now filled));
+    }

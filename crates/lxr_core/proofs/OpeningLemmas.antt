@@ -19,6 +19,7 @@ use Rattle.lxr_invariant.specs.Lines.{KeepLines, LinesAreOut}
 use Rattle.lxr_invariant.proofs.EntryLemmas.{changed_other}
 use Rattle.lxr_invariant.proofs.FrameLemmas.{bits_still, image_still}
 use Rattle.lxr_core_access.specs.Decrementers.{Decrementing}
+use Rattle.lxr_core_access.specs.Tracers.{Tracing}
 use Rattle.lxr_core_events.specs.ThreadStates.{Stage, ThreadState, Rests, Through, Works, all_of}
 use Rattle.lxr_core_events.specs.ThreadStates as intent
 use Rattle.lxr_core_events.specs.EpochStates.{Beginning, IsBeginning, EpochState, limits_of, moment_of, opening_tables, same}
@@ -27,9 +28,13 @@ use Rattle.lxr_core_events.specs.Events as source
 use Rattle.lxr_core_events.specs.Imaged.{HoldsRegisters, IsImagedIn, IsPlacedIn, Knows}
 use Rattle.lxr_core_events.specs.Logged.{AreBitsAndLogs, logs_of, with_cleared}
 use Rattle.lxr_core_events.specs.Drawn.{AreFixed, Drawers, HasDrawn, IsDrawnMemory}
-use Rattle.lxr_core_events.specs.Called.{AreCalled, AreReplies, IsWithinTurn, HasCalled, uncounted, waiting_in}
+use Rattle.lxr_core_events.specs.Called.{AreCalled, AreReplies, IsWithinTurn, HasCalled, waiting_in}
 use Rattle.lxr_core_events.specs.Epoch.{IsEpoch}
+use Rattle.lxr_core_events.specs.Laws.{OpensWith}
 use Rattle.lxr_core_inv_counts.proofs.KeepingLemmas.{opening_counts}
+use Rattle.lxr_core_inv_inside.proofs.KeepingLemmas.{opening_inside}
+use Rattle.lxr_core_inv_scans.proofs.KeepingLemmas.{opening_knowledge}
+use Rattle.lxr_core_inv_snapshot.proofs.SafepointLemmas.{opening_cover}
 use Rattle.lxr_core.proofs.StartingLemmas.{AllRest, AllStart, Starts, StartsIn, anew, over, no_work, opening_epoch_state}
 use Rattle.lxr_core.proofs.OwnerLemmas.{one_owner}
 
@@ -40,10 +45,10 @@ no_field fields w e h = let k : false ≡ true = sym (ap (λ z. has_field z w) e
 -- ---- stages
 
 -- nothing is known of objects
-knows_at_start : (b : Beginning) (thread_states : List ThreadState) (ds : List Decrementing) (v : ThreadState) (stage : Stage) → StartsIn v stage
-    → Knows (opening_epoch_state b thread_states ds).tables (moment_of b (opening_epoch_state b thread_states ds)) b.abstract_state.at v stage
-knows_at_start b thread_states ds v stage (anew _) = tt
-knows_at_start b thread_states ds v stage (over _) = tt
+knows_at_start : (b : Beginning) (thread_states : List ThreadState) (ds : List Decrementing) (ts : List Tracing) (v : ThreadState) (stage : Stage) → StartsIn v stage
+    → Knows (opening_epoch_state b thread_states ds ts).tables (moment_of b (opening_epoch_state b thread_states ds ts)) b.abstract_state.at v stage
+knows_at_start b thread_states ds ts v stage (anew _) = tt
+knows_at_start b thread_states ds ts v stage (over _) = tt
 
 -- no number is drawn
 abbrev none_drawn : Drawers
@@ -58,11 +63,6 @@ none_in_hand b d t v stage (over _) = tt
 none_waits : (v : ThreadState) (stage : Stage) → StartsIn v stage → waiting_in stage ≡ 0
 none_waits v stage (anew _) = refl
 none_waits v stage (over _) = refl
-
--- one call at least is not counted
-some_uncounted : (v : ThreadState) (stage : Stage) → StartsIn v stage → 1 ≤ uncounted stage
-some_uncounted v stage (anew _) = omega arith
-some_uncounted v stage (over _) = omega arith
 
 -- the replies are those of the history
 replies_at_start : (b : Beginning) (s : EpochState) (i : ℕ) (v : ThreadState) (stage : Stage) → Starts b i v → s.history ≡ b.history → StartsIn v stage → AreReplies b s v stage
@@ -83,12 +83,12 @@ no_logs [] empty = refl
 no_logs (v ∷ thread_states) empty =
     flat_map-cons (λ w. w.log.items) v thread_states ∙ (ap (λ z. z ++ logs_of thread_states) (empty 0 v refl) ∙ no_logs thread_states (λ i. empty (suc i)))
 
--- of an epoch that opens with these thread states and these decrementers
-module _ (b : Beginning) (thread_states : List ThreadState) (ds : List Decrementing) (begins : IsBeginning b) (starts : AllStart b thread_states) (rest : AllRest ds)
+-- of an epoch that opens with these thread states, these decrementers and these tracers
+module _ (b : Beginning) (thread_states : List ThreadState) (ds : List Decrementing) (ts : List Tracing) (begins : IsBeginning b) (starts : AllStart b thread_states) (rest : AllRest ds ts)
     (few : (t : ℕ) → calls_since_pause t b.history ≤ 1) (unasked : (t : ℕ) → has_asked t b.history ≡ false) where
   -- its epoch state
   abbrev s : EpochState
-  s = opening_epoch_state b thread_states ds
+  s = opening_epoch_state b thread_states ds ts
 
   -- its moment
   abbrev m : Moment
@@ -128,7 +128,7 @@ module _ (b : Beginning) (thread_states : List ThreadState) (ds : List Decrement
     image = image_still (opening_tables b) s.tables (limits_of b).blocks b.abstract_state.at m.state.graph (members m) (members m) refl (λ n h. h) image;
     world = begins.between.safepoint.holds.image.world;
     unmoved = λ n h. refl;
-    knows = λ i v shown. knows_at_start b thread_states ds v v.stage (starts.each i v shown).stage;
+    knows = λ i v shown. knows_at_start b thread_states ds ts v v.stage (starts.each i v shown).stage;
   }
 
   -- and registers hold their places
@@ -166,7 +166,7 @@ module _ (b : Beginning) (thread_states : List ThreadState) (ds : List Decrement
   drawn = record {
     drawers = none_drawn;
     numbers = record { runs = sym begins.listed.no_runs_drawn; blocks = sym begins.listed.no_blocks_drawn };
-    one = one_owner b thread_states ds begins.listed starts image lines;
+    one = one_owner b thread_states ds ts begins.listed starts image lines;
     hands = λ i v shown. none_in_hand b none_drawn (i + 1) v v.stage (starts.each i v shown).stage;
     spans = λ i v from shown. inl (no_spans i v from shown);
     makes = λ i v place shape wiped shown stage. no_work v (intent.Makes place shape wiped) v.stage (starts.each i v shown).stage stage;
@@ -191,16 +191,16 @@ module _ (b : Beginning) (thread_states : List ThreadState) (ds : List Decrement
       let none = none_waits v v.stage is.stage in
       let zero_since = is.since in
       let one = few v.thread in
-      let some = some_uncounted v v.stage is.stage in
       record {
         formed = is.formed;
         endless = is.endless;
         few = is.few;
         every = is.every.0;
+        before = one;
         calls = is.calls ∙ ap (λ k. take k (all_of v.operations)) (let e : length v.replies ≡ length v.replies + waiting_in v.stage = omega (arith, none) in e);
         replies = replies_at_start b s i v v.stage is refl is.stage;
         counted = omega (arith, none, zero_since);
-        short = omega (arith, one, some);
+        short = omega arith;
         asked = λ h. let k : false ≡ true = sym (unasked v.thread) ∙ h in cc;
         within_turn = turn_at_start b s i v v.stage is is.stage;
       }
@@ -214,6 +214,10 @@ module _ (b : Beginning) (thread_states : List ThreadState) (ds : List Decrement
     word = λ asked. let k : 0 ≡ 1 = asked in absurd (omega (arith, k));
   }
 
+  -- it opens with tables of its beginning, and with helpers that rest
+  opens_with : OpensWith b s
+  opens_with = record { begins = begins; tables = refl; decrementers = rest.each; tracers = rest.tracers; history = refl; at = refl }
+
   -- all parts hold
   pub opens : IsEpoch b s
   opens = record {
@@ -223,6 +227,9 @@ module _ (b : Beginning) (thread_states : List ThreadState) (ds : List Decrement
     image = imaged;
     logged = logged;
     counted = opening_counts b ds begins rest.each rest.few;
+    scanned = opening_knowledge b s opens_with;
+    covered = opening_cover b s opens_with;
+    inside = opening_inside b s opens_with;
     drawn = drawn;
     fixed = fixed;
     called = called;

@@ -16,6 +16,7 @@ use Rattle.lxr_invariant.specs.AbstractState.{members}
 use Rattle.lxr_invariant.specs.Lines.{Covers, KeepLines}
 use Rattle.lxr_invariant.specs.Listed.{AreApartRuns, IsListed, whole_block}
 use Rattle.lxr_core_access.specs.Decrementers.{Decrementing}
+use Rattle.lxr_core_access.specs.Tracers.{Tracing}
 use Rattle.lxr_core_events.specs.ThreadStates.{Stage, ThreadState}
 use Rattle.lxr_core_events.specs.EpochStates.{Beginning, limits_of, moment_of, opening_tables}
 use Rattle.lxr_core_events.specs.Events.{Source, span_from}
@@ -75,11 +76,11 @@ no_span b i v source.Current g starts of = let behind = of.behind in let e = ap 
 no_span b i v source.Overflow g starts of = let behind = of.behind in let e = ap (λ z. z.overflow.end) starts.spans in omega (arith, behind, e)
 
 -- of an epoch that opens with these thread states
-module _ (b : Beginning) (thread_states : List ThreadState) (ds : List Decrementing) (listed : IsListed b.space) (starts : AllStart b thread_states)
-    (image : IsImage (opening_tables b) (limits_of b).blocks b.abstract_state.at (moment_of b (opening_epoch_state b thread_states ds)).state.graph (members (moment_of b (opening_epoch_state b thread_states ds))))
-    (lines : KeepLines (opening_tables b) (moment_of b (opening_epoch_state b thread_states ds)).state.graph b.abstract_state.at (members (moment_of b (opening_epoch_state b thread_states ds)))) where
+module _ (b : Beginning) (thread_states : List ThreadState) (ds : List Decrementing) (ts : List Tracing) (listed : IsListed b.space) (starts : AllStart b thread_states)
+    (image : IsImage (opening_tables b) (limits_of b).blocks b.abstract_state.at (moment_of b (opening_epoch_state b thread_states ds ts)).state.graph (members (moment_of b (opening_epoch_state b thread_states ds ts))))
+    (lines : KeepLines (opening_tables b) (moment_of b (opening_epoch_state b thread_states ds ts)).state.graph b.abstract_state.at (members (moment_of b (opening_epoch_state b thread_states ds ts)))) where
   -- an object lies on no free line
-  no_object : (n : Name) (g : ℕ) → IsOfMember b (opening_epoch_state b thread_states ds) n g → IsTrue (is_free (opening_tables b) (g / 16)) → ⊥
+  no_object : (n : Name) (g : ℕ) → IsOfMember b (opening_epoch_state b thread_states ds ts) n g → IsTrue (is_free (opening_tables b) (g / 16)) → ⊥
   no_object n g of free = let kept = lines n of.object g of.member of.covers in let bad : true ≡ false = sym free ∙ kept in cc
 
   -- a granule is of one listed run
@@ -114,24 +115,24 @@ module _ (b : Beginning) (thread_states : List ThreadState) (ds : List Decrement
       listed.all_apart j k p.run p.listed q.listed p.lists (sym inside ∙ block)
 
   -- of no listed run and object at once
-  run_or_object : (g j : ℕ) (n : Name) → IsOfRun b j g → IsOfMember b (opening_epoch_state b thread_states ds) n g → ⊥
+  run_or_object : (g j : ℕ) (n : Name) → IsOfRun b j g → IsOfMember b (opening_epoch_state b thread_states ds ts) n g → ⊥
   run_or_object g j n p q = no_object n g q (run_free (opening_tables b) (limits_of b).blocks p.run g p.lists.run.run p.granule)
 
   -- of no listed block and object at once
-  block_or_object : (g k : ℕ) (n : Name) → IsOfBlock b k g → IsOfMember b (opening_epoch_state b thread_states ds) n g → ⊥
+  block_or_object : (g k : ℕ) (n : Name) → IsOfBlock b k g → IsOfMember b (opening_epoch_state b thread_states ds ts) n g → ⊥
   block_or_object g k n p q =
       no_object n g q (run_free (opening_tables b) (limits_of b).blocks (whole_block ((opening_tables b).frees k)) g (listed.blocks k p.listed).run.run (of_whole ((opening_tables b).frees k) g p.granule))
 
   -- and of one object
-  objects_one : (g : ℕ) (m n : Name) → IsOfMember b (opening_epoch_state b thread_states ds) m g → IsOfMember b (opening_epoch_state b thread_states ds) n g → m ≡ n
+  objects_one : (g : ℕ) (m n : Name) → IsOfMember b (opening_epoch_state b thread_states ds ts) m g → IsOfMember b (opening_epoch_state b thread_states ds ts) n g → m ≡ n
   objects_one g m n p q = elim (same_name m n) as (λ c. same_name m n ≡ c → m ≡ n) [
     | true ↦ λ e. same_names m n e
-    | false ↦ λ e. absurd (objects_part (moment_of b (opening_epoch_state b thread_states ds)).state.graph b.abstract_state.at m n p.object q.object g
+    | false ↦ λ e. absurd (objects_part (moment_of b (opening_epoch_state b thread_states ds ts)).state.graph b.abstract_state.at m n p.object q.object g
         (image.apart m n p.object q.object p.member q.member e p.covers.object q.covers.object) p.covers q.covers)
   ] refl
 
   -- one owner a granule
-  pub one_owner : (g : ℕ) (x y : Owner) → Owns b (opening_epoch_state b thread_states ds) x g → Owns b (opening_epoch_state b thread_states ds) y g → x ≡ y
+  pub one_owner : (g : ℕ) (x y : Owner) → Owns b (opening_epoch_state b thread_states ds ts) x g → Owns b (opening_epoch_state b thread_states ds ts) y g → x ≡ y
   one_owner g (UndrawnRun j) (UndrawnRun k) p q = ap UndrawnRun (runs_one g j k p.1 q.1)
   one_owner g (UndrawnRun j) (UndrawnBlock k) p q = absurd (run_or_block g j k p.1 q.1)
   one_owner g (UndrawnRun j) (OfMember n) p q = absurd (run_or_object g j n p.1 q)

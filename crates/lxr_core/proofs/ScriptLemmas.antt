@@ -1,6 +1,6 @@
 -- Neither an epoch nor what comes before and behind it changes the operations of a thread.
 use Rattle.std.proofs.Common.{◌≡◌, ℕ, zero, suc, ◌<◌, refl, sym, ap, subst, ◌∙◌, arith, Bool, true, false, List, [], ◌∷◌, length, cond, nat_eq}
-use Rattle.std.specs.Prelude.{Option, Some, None, slice_get, slice_index, slice_set, if◌then◌else◌, nat_lt, ◌&&◌}
+use Rattle.std.specs.Prelude.{Option, Some, None, slice_get, slice_index, slice_set, if◌then◌else◌, nat_lt, ◌&&◌, map}
 use Rattle.std.proofs.lemmas.Bool.Decides.{nat_tests}
 use Rattle.std.proofs.lemmas.Option.{slice_get-get_or, slice_get_within}
 use Rattle.lxr_layout.specs.Places.{place_in}
@@ -28,11 +28,17 @@ use Rattle.lxr_mutator.specs.Mutators.{again}
 use Rattle.lxr_decrement.specs.Decrementing.{DecrementerState}
 use Rattle.lxr_decrement.specs.Decrementers.{again as empty_again}
 use Rattle.lxr_decrement.specs.Steps.{decrementer_machine}
+use Rattle.lxr_trace.specs.Tracing.{TracerState}
+use Rattle.lxr_trace.specs.Tracers.{again as trace_again}
+use Rattle.lxr_trace.specs.Steps.{tracer_machine}
 use Rattle.lxr_core_events.specs.ThreadStates.{all_of}
 use Rattle.lxr_core.specs.declared.actors.AnyActor.{AnyActor}
 use Rattle.lxr_core.specs.declared.actors.AnyActor.TheVariants as any
 use Rattle.lxr_core.specs.Actors.{any_machine, mutators_in, script_of}
 use Rattle.lxr_core.specs.Starting.{HaveStarted, registers_in, started_again}
+use Rattle.lxr_core.specs.Filling.{unfilled}
+use Rattle.lxr_core.specs.Opening.{Opens}
+use Rattle.lxr_image.specs.declared.space.Space.{Space}
 
 -- the operation whose turn it is stands behind those that have replies
 pub op_is_next : (m : Mutating) → length m.replies.items < length m.operations → slice_get (all_of m.operations) (length m.replies.items) ≡ Some (op_now m)
@@ -48,16 +54,19 @@ op_is_next m more =
 pub data KeepsOperations : AnyActor → AnyActor → Type 0 where
   mutator : (m x : Mutating) → x.operations ≡ m.operations → KeepsOperations (any.Mutator m) (any.Mutator x)
   helper : (d x : DecrementerState) → KeepsOperations (any.Decrementer d) (any.Decrementer x)
+  tracer : (d x : TracerState) → KeepsOperations (any.Tracer d) (any.Tracer x)
 
 -- the first of some actors has
 first_keeps : (a b : AnyActor) (actors : List AnyActor) → KeepsOperations a b → script_of (mutators_in (b ∷ actors)) ≡ script_of (mutators_in (a ∷ actors))
 first_keeps a b actors (mutator m x same) = ap (λ os. os ∷ script_of (mutators_in actors)) same
 first_keeps a b actors (helper d x) = refl
+first_keeps a b actors (tracer d x) = refl
 
 -- what stands behind the first
 behind_first : (a : AnyActor) (before after : List AnyActor) → script_of (mutators_in after) ≡ script_of (mutators_in before) → script_of (mutators_in (a ∷ after)) ≡ script_of (mutators_in (a ∷ before))
 behind_first (any.Mutator m) before after same = ap (λ s. m.operations ∷ s) same
 behind_first (any.Decrementer d) before after same = same
+behind_first (any.Tracer d) before after same = same
 
 -- the same operations, actor by actor
 pub same_operations : (before after : List AnyActor) → length after ≡ length before
@@ -88,11 +97,23 @@ actor_set (x ∷ actors) (suc i) a b at keeps = behind_first x actors (slice_set
 started_keep : (a : AnyActor) (registers : List Place) → KeepsOperations a (started_again a registers)
 started_keep (any.Mutator m) registers = mutator m (again m registers) refl
 started_keep (any.Decrementer d) registers = helper d (empty_again d)
+started_keep (any.Tracer d) registers = tracer d (trace_again d)
 
 pub started_script : (places : List Place) (before after : List AnyActor) → HaveStarted places before after (length before) → script_of (mutators_in after) ≡ script_of (mutators_in before)
 started_script places before after have =
     same_operations before after have.as_many
     (λ i a at. (started_again a (registers_in places i), have.started i a at (slice_get_within before i a at), started_keep a (registers_in places i)))
+
+-- whether a pocket is filled says nothing of mutators
+pub unfilled_mutators : (actors : List AnyActor) → mutators_in (map unfilled actors) ≡ mutators_in actors
+unfilled_mutators [] = refl
+unfilled_mutators (any.Mutator m ∷ actors) = ap (λ z. m ∷ z) (unfilled_mutators actors)
+unfilled_mutators (any.Decrementer d ∷ actors) = unfilled_mutators actors
+unfilled_mutators (any.Tracer d ∷ actors) = unfilled_mutators actors
+
+-- so an epoch that is opened has the operations that there were
+pub opened_script : (before after : Space) (resting started : List AnyActor) → Opens before after resting started → script_of (mutators_in started) ≡ script_of (mutators_in resting)
+opened_script before after resting started opens = ap script_of (sym (unfilled_mutators started)) ∙ started_script before.registers.items resting (map unfilled started) opens.actors
 
 -- ---- a step
 
@@ -160,13 +181,17 @@ acted_keeps words (any.Mutator m) (Some act) =
     mutator m (mutator_machine.after m old) (either_keeps (accepts_in m m.phase old) m _ _ (after_keeps m m.phase old) refl)
 acted_keeps words (any.Decrementer d) None = helper d d
 acted_keeps words (any.Decrementer d) (Some act) = helper d (decrementer_machine.after d (slice_index words act.word))
+acted_keeps words (any.Tracer d) None = tracer d d
+acted_keeps words (any.Tracer d) (Some act) = tracer d (tracer_machine.after d (slice_index words act.word))
 
 change_keeps : (e : Event) (words : List ℕ) (a : AnyActor) → KeepsOperations a (change any_machine e words a).1
 change_keeps (Step number) words a = acted_keeps words a (any_machine.action a)
 change_keeps (Give number place) words (any.Mutator m) = mutator m m refl
 change_keeps (Give number place) words (any.Decrementer d) = helper d (decrementer_machine.offered d place).0
+change_keeps (Give number place) words (any.Tracer d) = tracer d (tracer_machine.offered d place).0
 change_keeps (Out number) words (any.Mutator m) = mutator m m refl
 change_keeps (Out number) words (any.Decrementer d) = helper d (decrementer_machine.spared d).0
+change_keeps (Out number) words (any.Tracer d) = tracer d (tracer_machine.spared d).0
 
 happened_keeps : (core : Core AnyActor) (e : Event) (o : Option AnyActor) → slice_get core.actors (of_event e) ≡ o → script_of (mutators_in (happened any_machine core e o).actors) ≡ script_of (mutators_in core.actors)
 happened_keeps core e None at = refl

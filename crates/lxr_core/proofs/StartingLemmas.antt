@@ -7,6 +7,8 @@ use Rattle.lxr_graph.specs.History.{calls_of, replies_of}
 use Rattle.lxr_graph.specs.Step.{IsWellFormed}
 use Rattle.lxr_core_access.specs.Decrementers.{Decrementing}
 use Rattle.lxr_core_access.specs.Decrementers as decrementing
+use Rattle.lxr_core_access.specs.Tracers.{Tracing}
+use Rattle.lxr_core_access.specs.Tracers as tracing
 use Rattle.lxr_core_events.specs.Happening.{with_cursor}
 use Rattle.lxr_alloc.specs.Spans.{empty_span}
 use Rattle.lxr_core_events.specs.ThreadStates.{Stage, ThreadState, Rests, Through, Works, Intent, all_of}
@@ -40,20 +42,22 @@ pub record AllStart (b : Beginning) (thread_states : List ThreadState) : Type 0 
   pub each : (i : ℕ) (v : ThreadState) → slice_get thread_states i ≡ Some v → Starts b i v
 
 -- the epoch state that an epoch opens with: no pause is asked for
-abbrev pub opening_epoch_state : Beginning → List ThreadState → List Decrementing → EpochState
-opening_epoch_state b thread_states ds = record {
+abbrev pub opening_epoch_state : Beginning → List ThreadState → List Decrementing → List Tracing → EpochState
+opening_epoch_state b thread_states ds ts = record {
   tables = with_cursor (opening_tables b) PAUSE_WORD 0;
   thread_states = thread_states;
   decrementers = ds;
+  tracers = ts;
   history = b.history;
   at = b.abstract_state.at;
   cleared = [];
 }
 
--- all decrementers are between two units, and they are no more than a list has in memory
-pub record AllRest (ds : List Decrementing) : Type 0 where
+-- all helpers are between two units, and decrementers are no more than a list has in memory
+pub record AllRest (ds : List Decrementing) (ts : List Tracing) : Type 0 where
   pub few : length ds < 2 ^ 63
   pub each : (i : ℕ) (d : Decrementing) → slice_get ds i ≡ Some d → d ≡ decrementing.Rests
+  pub tracers : (i : ℕ) (d : Tracing) → slice_get ts i ≡ Some d → d ≡ tracing.Rests
 
 -- nobody works on anything
 pub no_work : {P : Type 0} (v : ThreadState) (intent : Intent) → (stage : Stage) → StartsIn v stage → stage ≡ Works intent → P

@@ -14,6 +14,8 @@ use Rattle.lxr_mutator.specs.Mutating.{Mutating, op_now}
 use Rattle.lxr_mutator.specs.Steps.{action, action_in, mutator_machine}
 use Rattle.lxr_decrement.specs.Decrementing.{DecrementerState}
 use Rattle.lxr_decrement.specs.Steps.{decrementer_machine}
+use Rattle.lxr_trace.specs.Tracing.{TracerState}
+use Rattle.lxr_trace.specs.Steps.{tracer_machine}
 use Rattle.lxr_core_events.specs.EpochStates.{Beginning, EpochState, moment_of}
 use Rattle.lxr_core_sim_mutator.specs.Stepping.{history_after, places_after, places_in, stands_in}
 use Rattle.lxr_core.specs.declared.actors.AnyActor.{AnyActor}
@@ -42,6 +44,13 @@ helper_acted words d (Some act) = refl
 helper_step : (words : List ℕ) (d : DecrementerState) → stepped any_machine words (any.Decrementer d) ≡ ((stepped decrementer_machine words d).0, any.Decrementer (stepped decrementer_machine words d).1)
 helper_step words d = helper_acted words d (decrementer_machine.action d)
 
+tracer_acted : (words : List ℕ) (d : TracerState) (o : Option Action) → acted any_machine words (any.Tracer d) o ≡ ((acted tracer_machine words d o).0, any.Tracer (acted tracer_machine words d o).1)
+tracer_acted words d None = refl
+tracer_acted words d (Some act) = refl
+
+tracer_step : (words : List ℕ) (d : TracerState) → stepped any_machine words (any.Tracer d) ≡ ((stepped tracer_machine words d).0, any.Tracer (stepped tracer_machine words d).1)
+tracer_step words d = tracer_acted words d (tracer_machine.action d)
+
 -- the execution once the mutator of a number has made a step
 abbrev pub moved : Beginning → Execution → ℕ → Mutating → Execution
 moved b execution n m = record {
@@ -54,6 +63,12 @@ moved b execution n m = record {
 abbrev pub helper_moved : Execution → ℕ → DecrementerState → Execution
 helper_moved execution n d = record execution {
   core = core_of (stepped decrementer_machine execution.core.words d).0 (slice_set execution.core.actors n (any.Decrementer (stepped decrementer_machine execution.core.words d).1));
+}
+
+-- the execution once the tracer of a number has
+abbrev pub tracer_moved : Execution → ℕ → TracerState → Execution
+tracer_moved execution n d = record execution {
+  core = core_of (stepped tracer_machine execution.core.words d).0 (slice_set execution.core.actors n (any.Tracer (stepped tracer_machine execution.core.words d).1));
 }
 
 -- the execution by the actor of a number, where there is one
@@ -70,6 +85,11 @@ pub tell_helper : (b : Beginning) (execution : Execution) (n : ℕ) (d : Decreme
 tell_helper b execution n d there =
     ap (told_with b execution n) there
     ∙ ap (λ (p : List ℕ × AnyActor). record execution { core = core_of p.0 (slice_set execution.core.actors n p.1) }) (helper_step execution.core.words d)
+
+pub tell_tracer : (b : Beginning) (execution : Execution) (n : ℕ) (d : TracerState) → slice_get execution.core.actors n ≡ Some (any.Tracer d) → tell b execution (Step n) ≡ tracer_moved execution n d
+tell_tracer b execution n d there =
+    ap (told_with b execution n) there
+    ∙ ap (λ (p : List ℕ × AnyActor). record execution { core = core_of p.0 (slice_set execution.core.actors n p.1) }) (tracer_step execution.core.words d)
 
 -- ---- an actor that makes no further step
 
@@ -107,3 +127,9 @@ helper_at_rest execution n d there e =
     let still : stepped decrementer_machine execution.core.words d ≡ (execution.core.words, d) = ap (acted decrementer_machine execution.core.words d) e in
     ap (λ (p : List ℕ × DecrementerState). record execution { core = core_of p.0 (slice_set execution.core.actors n (any.Decrementer p.1)) }) still
     ∙ ap (λ (actors : List AnyActor). record execution { core = core_of execution.core.words actors }) (set_itself execution.core.actors n (any.Decrementer d) there)
+
+pub tracer_at_rest : (execution : Execution) (n : ℕ) (d : TracerState) → slice_get execution.core.actors n ≡ Some (any.Tracer d) → tracer_machine.action d ≡ None → tracer_moved execution n d ≡ execution
+tracer_at_rest execution n d there e =
+    let still : stepped tracer_machine execution.core.words d ≡ (execution.core.words, d) = ap (acted tracer_machine execution.core.words d) e in
+    ap (λ (p : List ℕ × TracerState). record execution { core = core_of p.0 (slice_set execution.core.actors n (any.Tracer p.1)) }) still
+    ∙ ap (λ (actors : List AnyActor). record execution { core = core_of execution.core.words actors }) (set_itself execution.core.actors n (any.Tracer d) there)

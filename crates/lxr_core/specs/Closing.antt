@@ -1,18 +1,22 @@
 -- The closing of an epoch.
 use Rattle.std.specs.Prelude.{◌≡◌, ℕ, ◌<◌, ◌⊎◌, false, true, Some, List, IsTrue, length, map, slice_get}
+use Rattle.std.specs.List.{list_any}
+use Rattle.lxr_layout.specs.declared.TheConstants.{REMEMBERED_CURSOR}
 use Rattle.lxr_layout.specs.declared.Name.{Name}
 use Rattle.lxr_graph.specs.Names.{has}
 use Rattle.lxr_image.specs.declared.space.Space.{Space}
 use Rattle.lxr_image.specs.Spaces.{tables_of}
 use Rattle.lxr_model.specs.Belongs.{HasCause, has_asked}
+use Rattle.lxr_model.specs.Kinds.{collect_called}
 use Rattle.lxr_model.specs.Legal.{IsLegalSoFar}
 use Rattle.lxr_model.specs.Moments.{moment}
 use Rattle.lxr_model.specs.Terms.{Terms}
 use Rattle.lxr_actor.specs.Run.{core_of}
 use Rattle.lxr_invariant.specs.AbstractState.{AbstractState, members}
+use Rattle.lxr_invariant.specs.Lines.{NoneChosen}
 use Rattle.lxr_invariant.specs.Quiescent.{IsAtSafepoint}
 use Rattle.lxr_mutator.specs.declared.phases.MutatorPhase.TheVariants as phase
-use Rattle.lxr_mutator.specs.Mutating.{IsWaiting, Mutating}
+use Rattle.lxr_mutator.specs.Mutating.{IsWaiting, Mutating, has_collected}
 use Rattle.lxr_mutator.specs.Mutators.{IsThrough}
 use Rattle.lxr_core_events.specs.EpochStates.{Beginning, Extends, limits_of}
 use Rattle.lxr_core_close.specs.HandingOut.{AreHandedOut, IsDrawn}
@@ -71,6 +75,11 @@ pub record Closes (b : Beginning) (execution : Execution) (before after : Space)
   -- where all are through, a pause has a cause; and where nobody had asked for one before, the epoch has done something
   pub cause : AreFinished (mutators_in execution.core.actors) → (terms : Terms) → AreTermsOf b terms → IsLegalSoFar terms b.history → HasCause terms (script_of (mutators_in actors)) execution.history
   pub progress : AreFinished (mutators_in execution.core.actors) → ((t : ℕ) → has_asked t b.history ≡ false) → HasProgress b execution (mutators_in actors)
+  -- where nobody had called `collect` before, the mutators tell whether somebody has
+  pub collects : collect_called b.history ≡ false → collect_called execution.history ≡ list_any has_collected (mutators_in actors)
+  -- no block is Chosen, and no number of the remembered set was drawn
+  pub none_chosen : NoneChosen (tables_of after) after.limits.blocks
+  pub remembered : (tables_of after).cursors REMEMBERED_CURSOR ≡ (tables_of b.space).cursors REMEMBERED_CURSOR
   -- the space has the registers and the entries of all mutators, those of thread 1 first
   pub registers : after.registers.items ≡ all_registers (mutators_in execution.core.actors)
   pub logged : after.logged.items ≡ all_entries (mutators_in execution.core.actors)

@@ -23,6 +23,7 @@ given_up m = record m { log = emptied m.log; spans = no_spans }
 abbrev pub actor_given_up : AnyActor → AnyActor
 actor_given_up (any.Mutator m) = any.Mutator (given_up m)
 actor_given_up (any.Decrementer d) = any.Decrementer d
+actor_given_up (any.Tracer d) = any.Tracer d
 
 -- a tally with what the operations of a thread did
 abbrev pub tallied : Tally → MutTally → Tally
@@ -40,6 +41,7 @@ taken_of s m = record s {
 abbrev pub taken_of_actor : Space → AnyActor → Space
 taken_of_actor s (any.Mutator m) = taken_of s m
 taken_of_actor s (any.Decrementer d) = s
+taken_of_actor s (any.Tracer d) = s
 
 -- a mutator may give up what it has, in a space where logs have so much room
 pub record MayGive (room : ℕ) (m : Mutating) : Type 0 where
@@ -60,10 +62,12 @@ pub record MayTake (s : Space) (m : Mutating) : Type 0 where
 abbrev pub ActorMayGive : ℕ → AnyActor → Type 0
 ActorMayGive room (any.Mutator m) = MayGive room m
 ActorMayGive room (any.Decrementer d) = ⊤
+ActorMayGive room (any.Tracer d) = ⊤
 
 abbrev pub MayTakeOf : Space → AnyActor → Type 0
 MayTakeOf s (any.Mutator m) = MayTake s m
 MayTakeOf s (any.Decrementer d) = ⊤
+MayTakeOf s (any.Tracer d) = ⊤
 
 -- ---- all mutators
 

@@ -13,15 +13,17 @@ use Rattle.lxr_actor.specs.Run.{AlwaysFits, event, run, stepped}
 use Rattle.lxr_mutator.specs.Mutating.{Mutating}
 use Rattle.lxr_mutator.specs.Steps.{mutator_machine}
 use Rattle.lxr_decrement.specs.Decrementing.{DecrementerState}
+use Rattle.lxr_trace.specs.Tracing.{TracerState}
 use Rattle.lxr_core_events.specs.EpochStates.{Beginning, EpochState, limits_of}
 use Rattle.lxr_core_events.specs.Epoch.{IsEpoch}
 use Rattle.lxr_core_events.specs.Laws.{HaveNotFallen}
 use Rattle.lxr_core_sim_mutator.specs.Showing.{IsMutatorOf, thread_state_of}
 use Rattle.lxr_core_sim_mutator.specs.Stepping.{history_after, places_after}
 use Rattle.lxr_core_sim_decrementer.specs.Showing.{IsDecrementerOf, decrementing_of}
+use Rattle.lxr_core_sim_tracer.specs.Showing.{IsTracerOf, tracing_of}
 use Rattle.lxr_core.specs.declared.actors.AnyActor.{AnyActor}
 use Rattle.lxr_core.specs.declared.actors.AnyActor.TheVariants as any
-use Rattle.lxr_core.specs.Actors.{AreInOrder, any_machine, decrementers_in, mutators_in}
+use Rattle.lxr_core.specs.Actors.{AreInOrder, any_machine, decrementers_in, mutators_in, tracers_in}
 
 -- a core, with the history that led to it and the places of the objects that stand in it
 pub record Execution : Type 0 where
@@ -35,6 +37,7 @@ epoch_state_of b execution cleared = record {
   tables = tables_in (limits_of b) execution.core.words;
   thread_states = map thread_state_of (mutators_in execution.core.actors);
   decrementers = map decrementing_of (decrementers_in execution.core.actors);
+  tracers = map tracing_of (tracers_in execution.core.actors);
   history = execution.history;
   at = execution.at;
   cleared = cleared;
@@ -47,6 +50,7 @@ after_step b execution (Some (any.Mutator m)) =
     let m' = (stepped mutator_machine execution.core.words m).1 in
     (history_after b (epoch_state_of b execution []) m m', places_after b (epoch_state_of b execution []) m)
 after_step b execution (Some (any.Decrementer d)) = (execution.history, execution.at)
+after_step b execution (Some (any.Tracer d)) = (execution.history, execution.at)
 
 -- the history and the places after an event: only steps of actors are told of
 abbrev pub told_of : Beginning → Execution → Event → List Item × (Name → ℕ)
@@ -70,6 +74,7 @@ pub record IsExecution (b : Beginning) (execution : Execution) (cleared : List F
   pub order : AreInOrder execution.core.actors
   pub mutators : (i : ℕ) (m : Mutating) → slice_get (mutators_in execution.core.actors) i ≡ Some m → IsMutatorOf (limits_of b) m
   pub decrementers : (i : ℕ) (d : DecrementerState) → slice_get (decrementers_in execution.core.actors) i ≡ Some d → IsDecrementerOf (limits_of b) d
+  pub tracers : (i : ℕ) (d : TracerState) → slice_get (tracers_in execution.core.actors) i ≡ Some d → IsTracerOf (limits_of b) d
 
 -- it holds with some references
 abbrev pub HoldsExecution : Beginning → Execution → Type 0

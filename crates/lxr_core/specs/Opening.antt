@@ -1,5 +1,5 @@
 -- The opening of an epoch.
-use Rattle.std.specs.Prelude.{◌≡◌, List, length}
+use Rattle.std.specs.Prelude.{◌≡◌, List, length, map}
 use Rattle.lxr_layout.specs.declared.TheConstants.{PAUSE_WORD}
 use Rattle.lxr_image.specs.declared.space.Space.{Space}
 use Rattle.lxr_image.specs.Spaces.{Turns, tables_of}
@@ -10,8 +10,9 @@ use Rattle.lxr_invariant.specs.Listed.{IsListed}
 use Rattle.lxr_invariant.specs.Quiescent.{IsQuiescent}
 use Rattle.lxr_core_events.specs.EpochStates.{Beginning, IsBeginning, limits_of}
 use Rattle.lxr_core.specs.declared.actors.AnyActor.{AnyActor}
-use Rattle.lxr_core.specs.Actors.{mutators_in}
+use Rattle.lxr_core.specs.Actors.{mutators_in, tracers_in}
 use Rattle.lxr_core.specs.Executions.{Execution}
+use Rattle.lxr_core.specs.Filling.{FillsPockets, unfilled}
 use Rattle.lxr_core.specs.Resting.{ActorsRestAfter, AreServed, FitSpace}
 use Rattle.lxr_core.specs.Starting.{HaveStarted}
 
@@ -22,12 +23,13 @@ pub record MayOpen (g : AbstractState) (space : Space) (actors : List AnyActor) 
   pub fit : FitSpace space.limits g.moment.state.graph actors
 
 -- It is opened: the pause word is clear, each mutator has begun again with its sixteen registers, and each helper with an empty
--- pocket and without an end. Nothing else of the space or of the actors has changed.
+-- pocket and without an end; then tracers' pockets were filled. Nothing else of the space or of the actors has changed.
 pub record Opens (before after : Space) (resting started : List AnyActor) : Type 0 where
   pub space : Turns before after (record (tables_of before) { cursors = changed (tables_of before).cursors PAUSE_WORD 0 })
-  pub actors : HaveStarted before.registers.items resting started (length resting)
+  pub actors : HaveStarted before.registers.items resting (map unfilled started) (length resting)
+  pub pockets : FillsPockets (tables_of before) before.limits.blocks (tracers_in started)
 
--- A history so far led to the space and the actors: the actors rest for it, no `new` waits, and no trace runs.
+-- A history so far led to the space and the actors: the actors rest for it, no `new` waits, and no block is Chosen.
 pub record Begins (b : Beginning) (space : Space) (actors : List AnyActor) : Type 0 where
   pub space_is : b.space ≡ space
   pub begins : IsBeginning b

@@ -10,11 +10,14 @@ use Rattle.lxr_mutator.specs.Mutating.{IsWaiting, Mutating, rests_in}
 use Rattle.lxr_mutator.specs.Mutators.{no_spans}
 use Rattle.lxr_decrement.specs.Decrementing.{DecrementerState}
 use Rattle.lxr_decrement.specs.Steps.{decrementer_machine}
+use Rattle.lxr_trace.specs.Tracing.{TracerState}
+use Rattle.lxr_trace.specs.Steps.{tracer_machine}
 use Rattle.lxr_core_events.specs.ThreadStates.{all_of}
 use Rattle.lxr_core_sim_decrementer.specs.Showing.{IsDecrementerOf}
+use Rattle.lxr_core_sim_tracer.specs.Showing.{IsTracerOf}
 use Rattle.lxr_core_sim_mutator.specs.Showing.{IsMutatorOf}
 use Rattle.lxr_core.specs.declared.actors.AnyActor.{AnyActor}
-use Rattle.lxr_core.specs.Actors.{AreInOrder, decrementers_in, mutators_in}
+use Rattle.lxr_core.specs.Actors.{AreInOrder, decrementers_in, mutators_in, tracers_in}
 
 -- The mutator of a thread rests and fits a space of these limits that stands for this graph: it was made with them, has neither
 -- entries in its log nor granules in its spans, and names its next object by its thread's next name in the graph.
@@ -31,10 +34,16 @@ pub record HelperRests (l : Limits) (d : DecrementerState) : Type 0 where
   pub decrementer : IsDecrementerOf l d
   pub rests : decrementer_machine.rests d ≡ true
 
+-- a tracer that was
+pub record TracerRests (l : Limits) (d : TracerState) : Type 0 where
+  pub tracer : IsTracerOf l d
+  pub rests : tracer_machine.rests d ≡ true
+
 -- the helpers behind the mutators rest
 pub record HelpersRest (l : Limits) (actors : List AnyActor) : Type 0 where
   pub order : AreInOrder actors
   pub each : (i : ℕ) (d : DecrementerState) → slice_get (decrementers_in actors) i ≡ Some d → HelperRests l d
+  pub tracers : (i : ℕ) (d : TracerState) → slice_get (tracers_in actors) i ≡ Some d → TracerRests l d
 
 -- there is one mutator for each thread, in order, and each fits; the helpers follow
 pub record FitSpace (l : Limits) (graph : Graph) (actors : List AnyActor) : Type 0 where

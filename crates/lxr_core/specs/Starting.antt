@@ -4,6 +4,7 @@ use Rattle.lxr_layout.specs.declared.Place.{Place}
 use Rattle.lxr_mutator.specs.Mutators.{again, no_spans}
 use Rattle.lxr_mutator.specs.Mutating.{Mutating, rests_in}
 use Rattle.lxr_decrement.specs.Decrementers.{again as empty_again}
+use Rattle.lxr_trace.specs.Tracers.{again as trace_again}
 use Rattle.lxr_core.specs.declared.actors.AnyActor.{AnyActor}
 use Rattle.lxr_core.specs.declared.actors.AnyActor.TheVariants as any
 
@@ -15,6 +16,7 @@ registers_in places number = take 16 (drop (16 * number) places)
 abbrev pub started_again : AnyActor → List Place → AnyActor
 started_again (any.Mutator m) registers = any.Mutator (again m registers)
 started_again (any.Decrementer d) registers = any.Decrementer (empty_again d)
+started_again (any.Tracer d) registers = any.Tracer (trace_again d)
 
 -- a mutator may begin again: it rests, and has given up what it drew
 pub record MutatorMayStart (m : Mutating) : Type 0 where
@@ -25,6 +27,7 @@ pub record MutatorMayStart (m : Mutating) : Type 0 where
 abbrev pub MayStart : AnyActor → Type 0
 MayStart (any.Mutator m) = MutatorMayStart m
 MayStart (any.Decrementer d) = ⊤
+MayStart (any.Tracer d) = ⊤
 
 -- all may
 abbrev pub MayAllStart : List AnyActor → Type 0
@@ -34,6 +37,7 @@ MayAllStart actors = (i : ℕ) (a : AnyActor) → slice_get actors i ≡ Some a 
 abbrev pub HasRegisters : List Place → ℕ → AnyActor → Type 0
 HasRegisters places number (any.Mutator m) = (number < 16) × (16 * (number + 1) ≤ length places)
 HasRegisters places number (any.Decrementer d) = ⊤
+HasRegisters places number (any.Tracer d) = ⊤
 
 -- the first so many actors have begun again, each with its registers
 pub record HaveStarted (places : List Place) (before after : List AnyActor) (count : ℕ) : Type 0 where

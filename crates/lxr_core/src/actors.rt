@@ -1,23 +1,29 @@
 //! All kinds of actor as one.
-ghost use Rattle.std.specs.Prelude.{◌≡◌};
+ghost use Rattle.std.specs.Prelude.{◌≡◌, ◌*◌, ◌≤◌};
 ghost use Rattle.std.specs.List.{All};
+ghost use Rattle.lxr_layout.specs.declared.TheConstants.{GRANULES_IN_BLOCK};
+ghost use Rattle.lxr_image.specs.Spaces.{IsSpace, tables_of};
 ghost use Rattle.lxr_mutator.specs.Mutators.{IsHeld};
 ghost use Rattle.lxr_core.specs.Collecting.{ActorMayGive, MayTakeOf, actor_given_up, taken_of_actor};
+ghost use Rattle.lxr_core.specs.Filling.{FillsActor, MayFill};
 ghost use Rattle.lxr_core.specs.Starting.{HasRegisters, MayStart, registers_in, started_again};
 
 use crate::closing::collect;
+use crate::filling::fill_pocket;
 use crate::opening::registers_of;
 use lxr_actor::{Action, Actor};
 use lxr_decrement::Decrementer;
 use lxr_image::Space;
 use lxr_layout::Place;
 use lxr_mutator::Mutator;
+use lxr_trace::Tracer;
 
 /// An actor of any kind.
 #[derive(Drop)]
 pub enum AnyActor {
     Mutator(Mutator),
     Decrementer(Decrementer),
+    Tracer(Tracer),
 }
 
 impl AnyActor {
@@ -31,6 +37,22 @@ impl AnyActor {
         match self {
             AnyActor::Mutator(mutator) => mutator.start_again(registers_of(places, number)),
             AnyActor::Decrementer(decrementer) => decrementer.start_again(),
+            AnyActor::Tracer(tracer) => tracer.start_again(),
+        }
+    }
+
+    /// Fills a tracer's pocket with places of gray objects that are not marked, those from a granule on, in order. It answers
+    /// with the granule from which on others are left, the heap's end where none is. Other actors stay as they are.
+    pub(crate) fn fill(&mut self, space: &Space, from: u32) -> u32
+        requires space { IsSpace space.now }
+        requires from { from ≤ GRANULES_IN_BLOCK * space.now.limits.blocks }
+        requires empty { MayFill space.now.limits self.old }
+        ensures { FillsActor (tables_of space.now) space.now.limits.blocks from result self.old self.new }
+    {
+        match self {
+            AnyActor::Mutator(_mutator) => from,
+            AnyActor::Decrementer(_decrementer) => from,
+            AnyActor::Tracer(tracer) => fill_pocket(tracer, space, from),
         }
     }
 
@@ -44,6 +66,7 @@ impl AnyActor {
         match self {
             AnyActor::Mutator(mutator) => collect(space, mutator),
             AnyActor::Decrementer(_decrementer) => {}
+            AnyActor::Tracer(_tracer) => {}
         }
     }
 }
@@ -58,6 +81,7 @@ impl Actor for AnyActor {
         match self {
             AnyActor::Mutator(mutator) => mutator.next(),
             AnyActor::Decrementer(decrementer) => decrementer.next(),
+            AnyActor::Tracer(tracer) => tracer.next(),
         }
     }
 
@@ -66,6 +90,7 @@ impl Actor for AnyActor {
         match self {
             AnyActor::Mutator(mutator) => mutator.take(old),
             AnyActor::Decrementer(decrementer) => decrementer.take(old),
+            AnyActor::Tracer(tracer) => tracer.take(old),
         }
     }
 
@@ -74,6 +99,7 @@ impl Actor for AnyActor {
         match self {
             AnyActor::Mutator(mutator) => mutator.resting(),
             AnyActor::Decrementer(decrementer) => decrementer.resting(),
+            AnyActor::Tracer(tracer) => tracer.resting(),
         }
     }
 
@@ -82,6 +108,7 @@ impl Actor for AnyActor {
         match self {
             AnyActor::Mutator(mutator) => mutator.offer(place),
             AnyActor::Decrementer(decrementer) => decrementer.offer(place),
+            AnyActor::Tracer(tracer) => tracer.offer(place),
         }
     }
 
@@ -90,6 +117,7 @@ impl Actor for AnyActor {
         match self {
             AnyActor::Mutator(mutator) => mutator.surplus(),
             AnyActor::Decrementer(decrementer) => decrementer.surplus(),
+            AnyActor::Tracer(tracer) => tracer.surplus(),
         }
     }
 }

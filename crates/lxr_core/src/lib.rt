@@ -7,6 +7,7 @@
 
 mod actors;
 mod closing;
+mod filling;
 mod opening;
 
 ghost use Rattle.lxr_core.specs.Executions.{EpochInvariantHolds};

@@ -10,12 +10,15 @@ ghost use Rattle.lxr_core.specs.Opening.{Begins, MayOpen, Opens, execution_at};
 ghost use Rattle.lxr_core.specs.Starting.{HaveStarted, MayAllStart, registers_in};
 
 use crate::actors::AnyActor;
+use crate::filling::fill_pockets;
 use lxr_image::Space;
 use lxr_layout::{PAUSE_WORD, Place};
 
 /// Opens an epoch: no pause is asked for, each mutator has its registers again and begins anew with no operation done
-/// in this epoch, unless it has done its end, and each helper has an empty pocket. No step is made yet. Where a history
-/// so far led to this space and these actors, the invariant of the epoch holds from here on.
+/// in this epoch, unless it has done its end, and each helper has an empty pocket and no end. Then tracers' pockets are
+/// filled with places of gray objects that are not marked, each once: in the order of granules, the first tracer's pocket
+/// first. One has fewer than 64 only where no such place is left over. No step is made yet. Where a history so far led to
+/// this space and these actors, the invariant of the epoch holds from here on.
 pub fn open_epoch(space: &mut Space, actors: &mut [AnyActor])
     requires { (g : AbstractState) × MayOpen g space.old actors.old }
     ensures opens { Opens space.old space.new actors.old actors.new }
@@ -23,6 +26,7 @@ pub fn open_epoch(space: &mut Space, actors: &mut [AnyActor])
 {
     space.put_cursor(PAUSE_WORD, 0);
     start_all(actors, space.registers.as_slice());
+    fill_pockets(space, actors);
 }
 
 /// Each actor begins again, a mutator with its sixteen registers.

@@ -1,5 +1,5 @@
 -- What tracers do beside the mutators, one access after another, as in LXR (Zhao, Blackburn and McKinley, 2022). Each step is one
--- access, and where it leads depends on the entry that the access finds. Nothing is proved of these steps yet.
+-- access, and where it leads depends on the entry that the access finds.
 use Rattle.std.specs.Prelude.{◌≡◌, ◌≢◌, ℕ, ◌+◌, ◌/◌, ◌*◌, ◌<◌, ◌≤◌, Bool, true, false, nat_lt, if◌then◌else◌, Option, Some, None}
 use Rattle.lxr_layout.specs.declared.Header.TheVariants as header
 use Rattle.lxr_layout.specs.declared.Name.{Name}

@@ -1,5 +1,5 @@
 -- At the end of an epoch, with all that mutators drew handed out, a space is at a safepoint before a pause.
-use Rattle.std.proofs.Common.{◌≡◌, ◌≢◌, ℕ, ◌+◌, ◌-◌, ◌*◌, ◌/◌, ◌<◌, ◌≤◌, refl, sym, ap, subst, ◌∙◌, inl, inr, arith, Bool, false, List, length}
+use Rattle.std.proofs.Common.{◌≡◌, ℕ, ◌+◌, ◌-◌, ◌*◌, ◌/◌, ◌<◌, ◌≤◌, refl, sym, ap, subst, ◌∙◌, inl, inr, arith, Bool, false, List, length}
 use Rattle.std.specs.Prelude.{Option, IsTrue}
 use Rattle.std.specs.Option.{option_map}
 use Rattle.std.proofs.lemmas.Bool.{false_from_ne_true}
@@ -21,17 +21,14 @@ use Rattle.lxr_image.specs.Spaces.{IsSpace, tables_of}
 use Rattle.lxr_image.specs.Reads.{granule_of}
 use Rattle.lxr_image.specs.Image.{ArePlacesOf, granules_of, place_word}
 use Rattle.lxr_image.proofs.ImageLemmas.{places_still}
-use Rattle.lxr_blocks.specs.declared.states.BlockState.TheVariants.{Chosen}
 use Rattle.lxr_blocks.specs.Lines.{is_free}
-use Rattle.lxr_blocks.specs.States.{state_in, state_of}
 use Rattle.lxr_model.specs.Moments.{Moment, Trace}
 use Rattle.lxr_model.specs.Reachable.{held}
 use Rattle.lxr_invariant.specs.AbstractState.{members}
-use Rattle.lxr_invariant.specs.Lines.{AvoidChosen, HasBlocks, HasMarks, LinesAreOut}
+use Rattle.lxr_invariant.specs.Lines.{AvoidChosen, HasBlocks, HasMarks, LinesAreOut, NoneChosen}
 use Rattle.lxr_invariant.specs.Quiescent.{HoldsMoment}
-use Rattle.lxr_invariant.proofs.FrameLemmas.{bits_still, blocks_still, counts_still, decrements_still, image_still, marks_still}
-use Rattle.lxr_invariant.proofs.BlockLemmas.{blocks_kept, none_chosen, still_not}
-use Rattle.lxr_invariant.proofs.MemberLemmas.{untraced}
+use Rattle.lxr_invariant.proofs.FrameLemmas.{bits_still, blocks_still, chosen_still, counts_still, decrements_still, image_still, marks_still}
+use Rattle.lxr_invariant.proofs.BlockLemmas.{blocks_kept, none_counted, none_kept}
 use Rattle.lxr_invariant.proofs.NameLemmas.{in_first, in_second}
 use Rattle.lxr_invariant.proofs.PlaceLemmas.{marks_stay}
 use Rattle.lxr_core_events.specs.EpochStates.{Beginning, EpochState, limits_of, moment_of, opening_tables}
@@ -40,12 +37,13 @@ use Rattle.lxr_core_events.specs.Drawn.{IsDrawnMemory, LieInDrawn}
 use Rattle.lxr_core_events.specs.Epoch.{IsEpoch}
 use Rattle.lxr_core_events.specs.Laws.{HasClosingCounts, HasClosingLogs}
 use Rattle.lxr_core_close.specs.HandingOut.{AreHandedOut, AreLater, DrawnIsOut, IsDrawnLine, drawn_blocks, drawn_runs}
-use Rattle.lxr_core_close.specs.Safepoint.{ClosingReachesSafepoint, DrawnMayBeHandedOut, DrawnWasFree, HasCollected, IsClosed, closed_state, registers_of}
+use Rattle.lxr_core_close.specs.Safepoint.{ClosingReachesSafepoint, DrawnMayBeHandedOut, DrawnWasFree, HasClosingTrace, HasCollected, IsClosed, registers_of}
 use Rattle.lxr_core_close.proofs.HandingLemmas.{drawn_is_out, keeps_state, listed_was_free, still_out}
 use Rattle.lxr_core_events.proofs.DrawnLemmas.{block_below, run_below}
 use Rattle.lxr_core_events.proofs.PauseLemmas.{one_pause, unmoved}
 use Rattle.lxr_core_close.proofs.ListLemmas.{few_entries, registers_are_places}
 use Rattle.lxr_core_close.proofs.StillLemmas.{marks_unmoved}
+use Rattle.lxr_core_close.proofs.TraceLemmas.{StandOutside, traced_closes}
 
 -- ---- the end of an epoch
 
@@ -129,23 +127,27 @@ lines_out b s u is hands n o k member covers = elim (is.drawn.made n o member co
   | inr lies ↦ drawn_out b s u (granule_of (s.at n)) (granule_of (s.at n) + granules_of o) k hands (later b s is) is.drawn n.thread lies covers.first covers.behind
 ]
 
--- nothing that was made lies in a Chosen block, since no block is Chosen
-unchosen : (b : Beginning) (s : EpochState) (u : Tables) → IsEpoch b s → DrawnAreOut b s u
-    → AvoidChosen u s.at (moment_of b s).made
-unchosen b s u is hands n member =
-    let m : Moment = moment_of b s in
-    let stands = is.image.placed.image.stands n (in_second m.unreclaimed m.made n member) in
+-- no block is Chosen, since none was as the epoch opened
+none_left : (b : Beginning) (s : EpochState) (u : Tables) → IsEpoch b s → DrawnAreOut b s u → NoneChosen u (limits_of b).blocks
+none_left b s u is hands =
+    none_kept s.tables u (limits_of b).blocks (λ c. keeps_state (drawn_in b s) s.tables u c hands)
+    (chosen_still (opening_tables b) s.tables (limits_of b).blocks (ap (λ (z : Tables). z.states) is.fixed.tables) ∙ is.begins.none_chosen)
+
+-- so no object lies in one
+outside : (b : Beginning) (s : EpochState) (u : Tables) → IsEpoch b s → DrawnAreOut b s u → StandOutside u (moment_of b s) s.at
+outside b s u is hands n member =
+    let stands = is.image.placed.image.stands n member in
     let in_heap = stands.2.whole.in_heap in
     let some = some_granules stands.0 in
     let block : granule_of (s.at n) / GRANULES_IN_BLOCK < (limits_of b).blocks = omega (arith, in_heap, some) in
-    let states : s.tables.states ≡ (opening_tables b).states = ap (λ (z : Tables). z.states) is.fixed.tables in
-    let none : state_in (opening_tables b) (granule_of (s.at n) / GRANULES_IN_BLOCK) ≢ Chosen =
-    none_chosen (opening_tables b) (limits_of b).blocks b.abstract_state.moment.trace (granule_of (s.at n) / GRANULES_IN_BLOCK) is.begins.between.safepoint.holds.blocks is.begins.no_trace block in
-    still_not s.tables u (granule_of (s.at n) / GRANULES_IN_BLOCK) Chosen refl (keeps_state (drawn_in b s) s.tables u (granule_of (s.at n) / GRANULES_IN_BLOCK) hands)
-    (λ e. none (ap (λ f. state_of (f (granule_of (s.at n) / GRANULES_IN_BLOCK))) (sym states) ∙ e))
+    none_counted u (limits_of b).blocks (granule_of (s.at n) / GRANULES_IN_BLOCK) (none_left b s u is hands) block
   where
     some_granules : (o : Object) → 1 ≤ granules_of o
     some_granules o = omega arith
+
+-- nor does what was made
+unchosen : (b : Beginning) (s : EpochState) (u : Tables) → IsEpoch b s → DrawnAreOut b s u → AvoidChosen u s.at (moment_of b s).made
+unchosen b s u is hands n member = outside b s u is hands n (in_second (moment_of b s).unreclaimed (moment_of b s).made n member)
 
 -- ---- registers and logs
 
@@ -250,8 +252,9 @@ holds_closed b s words tally is closing counted hands =
     }
 
 -- the closed space is at a safepoint before a pause
-is_at_safepoint : (b : Beginning) (s : EpochState) (words : List ℕ) (tally : Tally) → IsEpoch b s → HasClosingLogs b s → HasClosingCounts b s → DrawnAreOut b s (tables_in (limits_of b) words) → IsClosed b s (closed_space b s words tally)
-is_at_safepoint b s words tally is closing counted hands =
+is_at_safepoint : (b : Beginning) (s : EpochState) (words : List ℕ) (tally : Tally) → IsEpoch b s → HasClosingLogs b s → HasClosingCounts b s → HasClosingTrace b s → DrawnAreOut b s (tables_in (limits_of b) words)
+    → IsClosed b s (closed_space b s words tally)
+is_at_safepoint b s words tally is closing counted runs hands =
     let numbers = is.begins.between.safepoint.numbers in
     let one = one_pause b s is in
     record {
@@ -262,8 +265,9 @@ is_at_safepoint b s words tally is closing counted hands =
           trace = numbers.trace ∙ ap (λ z. option_map (λ (trace : Trace). trace.began) z) (sym one.trace);
           report = numbers.report;
         };
-        traced = untraced (limits_of b) (tables_in (limits_of b) words) (logs_of s.thread_states) (closed_state b s) (moment_of b s).trace (one.trace ∙ is.begins.no_trace);
+        traced = traced_closes b s (tables_in (limits_of b) words) is runs hands.rest (outside b s (tables_in (limits_of b) words) is hands);
       };
+      none_chosen = none_left b s (tables_in (limits_of b) words) is hands;
     }
 
 -- the space is the closed one of its words
@@ -279,7 +283,7 @@ is_closed b s now after has out =
 
 -- so the space is at a safepoint before a pause
 pub closing_reaches_safepoint : ClosingReachesSafepoint
-closing_reaches_safepoint b s now after is closing counted has out =
+closing_reaches_safepoint b s now after is closing counted runs has out =
     let same = is_closed b s now after has out in
     let hands : DrawnAreOut b s (tables_of after) = subst (λ z. AreHandedOut (IsDrawnLine (opening_tables b) (limits_of b).blocks (drawn_runs z) (drawn_blocks z)) z (tables_of after)) has.tables out.hands in
-    subst (IsClosed b s) (sym same) (is_at_safepoint b s after.words now.tally is closing counted (subst (DrawnAreOut b s) (ap tables_of same) hands))
+    subst (IsClosed b s) (sym same) (is_at_safepoint b s after.words now.tally is closing counted runs (subst (DrawnAreOut b s) (ap tables_of same) hands))

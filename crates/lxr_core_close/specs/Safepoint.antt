@@ -1,18 +1,20 @@
 -- From the end of an epoch to a safepoint before a pause, and what is known of the lines that were drawn.
-use Rattle.std.specs.Prelude.{◌≡◌, ℕ, List, IsTrue}
+use Rattle.std.specs.Prelude.{◌≡◌, ℕ, Some, List, IsTrue}
 use Rattle.std.specs.List.{flat_map}
 use Rattle.lxr_layout.specs.declared.Place.{Place}
 use Rattle.lxr_image.specs.declared.space.Space.{Space}
 use Rattle.lxr_image.specs.Spaces.{tables_of}
 use Rattle.lxr_blocks.specs.Lines.{is_free}
+use Rattle.lxr_model.specs.Moments.{Trace}
 use Rattle.lxr_invariant.specs.AbstractState.{AbstractState, members}
-use Rattle.lxr_invariant.specs.Lines.{IsTakenBy}
+use Rattle.lxr_invariant.specs.Lines.{IsTakenBy, NoneChosen}
+use Rattle.lxr_invariant.specs.Tracing.{MarksStayInside}
 use Rattle.lxr_invariant.specs.Quiescent.{IsAtSafepoint}
 use Rattle.lxr_core_events.specs.ThreadStates.{ThreadState}
 use Rattle.lxr_core_events.specs.EpochStates.{Beginning, EpochState, moment_of, opening_tables}
 use Rattle.lxr_core_events.specs.Logged.{logs_of}
 use Rattle.lxr_core_events.specs.Epoch.{IsEpoch}
-use Rattle.lxr_core_events.specs.Laws.{HasClosingCounts, HasClosingLogs}
+use Rattle.lxr_core_events.specs.Laws.{CoversAtSafepoint, HasClosingCounts, HasClosingLogs}
 use Rattle.lxr_core_close.specs.HandingOut.{DrawnIsOut, IsDrawn, MayHandOut}
 
 -- the registers of all mutators, thread 1 first
@@ -31,9 +33,15 @@ pub record HasCollected (b : Beginning) (s : EpochState) (now : Space) : Type 0 
   pub logged : now.logged ≡ record { items = logs_of s.thread_states; room = b.space.logged.room }
   pub rest : now ≡ record b.space { words = now.words; registers = now.registers; logged = now.logged; tally = now.tally }
 
--- the epoch is closed: the space is at a safepoint before a pause
+-- What holds of the trace that runs, if one does: its snapshot is covered, and marks stay inside it.
+pub record HasClosingTrace (b : Beginning) (s : EpochState) : Type 0 where
+  pub covers : (trace : Trace) → (moment_of b s).trace ≡ Some trace → CoversAtSafepoint s.tables (moment_of b s) s.at (logs_of s.thread_states) trace
+  pub inside : (trace : Trace) → (moment_of b s).trace ≡ Some trace → MarksStayInside s.tables (moment_of b s) s.at trace
+
+-- the epoch is closed: the space is at a safepoint before a pause, and no block is Chosen
 pub record IsClosed (b : Beginning) (s : EpochState) (after : Space) : Type 0 where
   pub safepoint : IsAtSafepoint after (closed_state b s)
+  pub none_chosen : NoneChosen (tables_of after) after.limits.blocks
 
 -- a line was free as the epoch opened, so that no object that stood in the heap then overlaps it
 pub record WasFree (b : Beginning) (line : ℕ) : Type 0 where
@@ -48,7 +56,8 @@ DrawnWasFree = (b : Beginning) (s : EpochState) (space : Space) (line : ℕ) →
 abbrev pub DrawnMayBeHandedOut : Type 0
 DrawnMayBeHandedOut = (b : Beginning) (s : EpochState) (now : Space) → IsEpoch b s → HasCollected b s now → MayHandOut b.space now
 
--- Once it is, the epoch is closed, where bits and logs are those of the references that were stored to, and counts those of a
--- safepoint.
+-- Once it is, the epoch is closed, where bits and logs are those of the references that were stored to, counts those of a
+-- safepoint, and the trace that runs is covered.
 abbrev pub ClosingReachesSafepoint : Type 0
-ClosingReachesSafepoint = (b : Beginning) (s : EpochState) (now after : Space) → IsEpoch b s → HasClosingLogs b s → HasClosingCounts b s → HasCollected b s now → DrawnIsOut b.space now after → IsClosed b s after
+ClosingReachesSafepoint = (b : Beginning) (s : EpochState) (now after : Space) → IsEpoch b s → HasClosingLogs b s → HasClosingCounts b s → HasClosingTrace b s
+    → HasCollected b s now → DrawnIsOut b.space now after → IsClosed b s after

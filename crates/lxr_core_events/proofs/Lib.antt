@@ -5,3 +5,4 @@ pub mod ActingLemmas
 pub mod ObjectLemmas
 pub mod DrawnLemmas
 pub mod PauseLemmas
+pub mod FieldLemmas

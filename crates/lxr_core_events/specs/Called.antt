@@ -61,10 +61,10 @@ IsWithinTurn s v (Works intent) = (v.since < v.every) × (length v.replies ≤ l
 IsWithinTurn s v (Names place) = (v.since < v.every) × (length v.replies < length v.operations) × (has_asked v.thread s.history ≡ false)
 IsWithinTurn s v (Through reason) = (v.since ≤ v.every) × (length v.replies ≤ length v.operations + 1) × HasReason s v reason
 
--- the calls of the end and of a `new` that was served or refused before the epoch aren't counted by `since`
+-- the call of a thread's end isn't counted by `since`; it stands in the epoch, or stood before it
 abbrev pub uncounted : Stage → ℕ
-uncounted (Through why.Ended) = 2
-uncounted _ = 1
+uncounted (Through why.Ended) = 1
+uncounted _ = 0
 
 pub record HasCalled (b : Beginning) (s : EpochState) (v : ThreadState) : Type 0 where
   pub formed : All IsWellFormed v.operations
@@ -73,9 +73,11 @@ pub record HasCalled (b : Beginning) (s : EpochState) (v : ThreadState) : Type 0
   pub every : v.every ≡ b.every
   pub calls : calls_of v.thread s.history ≡ take (length v.replies + waiting_in v.stage) (all_of v.operations)
   pub replies : AreReplies b s v v.stage
-  -- `since` counts none of the calls since the last pause that stood in the history as the epoch began
+  -- as the epoch began the thread had had one call at most since the last pause: that of a `new` that was served or refused
+  pub before : calls_since_pause v.thread b.history ≤ 1
+  -- `since` counts the calls that came after, but for that of the thread's end
   pub counted : v.since + waiting_in v.stage + calls_since_pause v.thread b.history ≤ calls_since_pause v.thread s.history
-  pub short : calls_since_pause v.thread s.history ≤ v.since + waiting_in v.stage + uncounted v.stage
+  pub short : calls_since_pause v.thread s.history ≤ v.since + waiting_in v.stage + calls_since_pause v.thread b.history + uncounted v.stage
   -- who asked for a pause has set the pause word
   pub asked : IsTrue (has_asked v.thread s.history) → s.tables.cursors PAUSE_WORD ≡ 1
   pub within_turn : IsWithinTurn s v v.stage

@@ -181,14 +181,15 @@ unfoldable pub total : (ThreadState → ℕ) → List ThreadState → ℕ
 total f [] = 0
 total f (v ∷ thread_states) = f v + total f thread_states
 
--- Mutators change the heap, unlogged bits and the pause word and the two cursors of what is drawn alone, and decrementers counts, grays,
--- dones and the cursor of decrements; counts change only where an unreclaimed object begins, so that line marks stay. Cursors have
+-- Mutators change the heap, unlogged bits and the pause word and the two cursors of what is drawn alone, decrementers counts, grays, dones
+-- and the cursor of decrements, and tracers marks and grays; counts change only where an unreclaimed object begins, so that line marks stay. Cursors have
 -- not come round. The pause word is 0 or 1.
 pub record AreFixed (b : Beginning) (s : EpochState) : Type 0 where
   pub tables : s.tables ≡ record (opening_tables b) {
     heap = s.tables.heap;
     unlogged = s.tables.unlogged;
     counts = s.tables.counts;
+    marks = s.tables.marks;
     grays = s.tables.grays;
     dones = s.tables.dones;
     cursors = s.tables.cursors;

@@ -3,11 +3,16 @@ use Rattle.std.specs.Prelude.{◌≡◌, ℕ, ⊤, Some, slice_get}
 use Rattle.lxr_model_counting.specs.Following.{FollowsPause}
 use Rattle.lxr_core_access.specs.Decrementers.{Decrementing}
 use Rattle.lxr_core_access.specs.Decrementers as decrementing
+use Rattle.lxr_core_access.specs.Tracers.{Tracing}
+use Rattle.lxr_core_access.specs.Tracers as tracing
 use Rattle.lxr_core_events.specs.ThreadStates.{Reason, Rests, Stage, ThreadState, Through}
 use Rattle.lxr_core_events.specs.EpochStates.{Beginning, Extends, IsBeginning, EpochState, limits_of, moment_of}
 use Rattle.lxr_core_events.specs.Imaged.{IsImagedIn}
 use Rattle.lxr_core_events.specs.Logged.{AreBitsAndLogs}
 use Rattle.lxr_core_events.specs.Counted.{AreCountedIn}
+use Rattle.lxr_core_events.specs.Traced.{AreScannedIn}
+use Rattle.lxr_core_events.specs.Covered.{SnapshotIsCoveredIn}
+use Rattle.lxr_core_events.specs.Inside.{MarksStayInsideIn}
 use Rattle.lxr_core_events.specs.Drawn.{AreFixed, IsDrawnMemory}
 use Rattle.lxr_core_events.specs.Called.{AreCalled}
 
@@ -22,6 +27,12 @@ pub record IsEpoch (b : Beginning) (s : EpochState) : Type 0 where
   pub logged : AreBitsAndLogs b s
   -- counts and pending decrements
   pub counted : AreCountedIn b s
+  -- what tracers know
+  pub scanned : AreScannedIn b s
+  -- the snapshot is covered
+  pub covered : SnapshotIsCoveredIn b s
+  -- marks stay inside the snapshot
+  pub inside : MarksStayInsideIn b s
   -- drawn memory is one maker's
   pub drawn : IsDrawnMemory b s
   -- cursors and fixed tables
@@ -38,6 +49,10 @@ IsResting _ = ⊥
 -- all decrementers are between two units
 abbrev pub DecrementersRest : EpochState → Type 0
 DecrementersRest s = (i : ℕ) (d : Decrementing) → slice_get s.decrementers i ≡ Some d → d ≡ decrementing.Rests
+
+-- all tracers are between two units
+abbrev pub TracersRest : EpochState → Type 0
+TracersRest s = (i : ℕ) (d : Tracing) → slice_get s.tracers i ≡ Some d → d ≡ tracing.Rests
 
 -- all mutators rest
 abbrev pub AreResting : EpochState → Type 0

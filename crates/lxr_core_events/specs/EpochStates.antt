@@ -1,5 +1,5 @@
 -- An epoch: what it begins with, and what there is at a moment of it.
-use Rattle.std.specs.Prelude.{◌≡◌, ℕ, ◌+◌, ◌≤◌, Bool, true, false, None, List, ◌∷◌, length}
+use Rattle.std.specs.Prelude.{◌≡◌, ℕ, ◌+◌, ◌≤◌, Bool, true, false, List, ◌∷◌, length}
 use Rattle.std.specs.List.{count_by}
 use Rattle.lxr_layout.specs.declared.limits.Limits.{Limits}
 use Rattle.lxr_layout.specs.declared.Name.{Name}
@@ -16,8 +16,10 @@ use Rattle.lxr_model.specs.Moments.{Field, Moment, moment}
 use Rattle.lxr_model.specs.Belongs.{calls_since_pause, has_asked}
 use Rattle.lxr_invariant.specs.AbstractState.{AbstractState}
 use Rattle.lxr_invariant.specs.Quiescent.{IsQuiescent}
+use Rattle.lxr_invariant.specs.Lines.{NoneChosen}
 use Rattle.lxr_invariant.specs.Listed.{FreeBlocksAreListed, IsListed}
 use Rattle.lxr_core_access.specs.Decrementers.{Decrementing}
+use Rattle.lxr_core_access.specs.Tracers.{Tracing}
 use Rattle.lxr_core_events.specs.ThreadStates.{ThreadState}
 
 -- What an epoch begins with: a space, what it stands for, the history that led there, and how many operations a thread may
@@ -45,22 +47,23 @@ pub record CountsObjects (threads : ℕ) (h : List Item) : Type 0 where
   pub rows : length (moment threads h).state.graph ≡ threads + 1
   pub objects : (t : ℕ) → 1 ≤ t → t ≤ threads → length (row_of (moment threads h).state.graph t) ≡ count_by tells_new (replies_of t h)
 
--- It is between epochs, runs and all free blocks are listed, no trace runs, and objects are counted by replies.
+-- It is between epochs, runs and all free blocks are listed, no block is Chosen, and objects are counted by replies.
 pub record IsBeginning (b : Beginning) : Type 0 where
   pub between : IsQuiescent b.space b.abstract_state
   pub listed : IsListed b.space
   pub all_listed : FreeBlocksAreListed b.space
   pub moment : b.abstract_state.moment ≡ moment b.space.limits.threads b.history
-  pub no_trace : b.abstract_state.moment.trace ≡ None
+  pub none_chosen : NoneChosen (tables_of b.space) b.space.limits.blocks
   pub counted : CountsObjects b.space.limits.threads b.history
 
--- What there is at a moment of an epoch: the tables, what each mutator shows, thread 1 first, what each decrementer is about to do,
--- the history so far, the place of each object that stands in the heap, and the references of unreclaimed objects whose unlogged
+-- What there is at a moment of an epoch: the tables, what each mutator shows, thread 1 first, what each decrementer and each tracer is
+-- about to do, the history so far, the place of each object that stands in the heap, and the references of unreclaimed objects whose unlogged
 -- bits were cleared.
 pub record EpochState : Type 0 where
   pub tables : Tables
   pub thread_states : List ThreadState
   pub decrementers : List Decrementing
+  pub tracers : List Tracing
   pub history : List Item
   pub at : Name → ℕ
   pub cleared : List Field

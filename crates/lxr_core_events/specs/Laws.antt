@@ -3,6 +3,7 @@ use Rattle.std.specs.Prelude.{◌≡◌, ◌≢◌, ℕ, ◌+◌, ◌^◌, ◌<�
 use Rattle.lxr_layout.specs.Places.{field_word, place_in}
 use Rattle.lxr_layout.specs.declared.TheConstants.{FREE_BLOCK_COUNT, FREE_BLOCK_CURSOR, PAUSE_WORD, RUN_CURSOR}
 use Rattle.lxr_layout.specs.declared.Name.{Name}
+use Rattle.lxr_layout.specs.declared.LogEntry.{LogEntry}
 use Rattle.lxr_graph.specs.declared.Op.{Op}
 use Rattle.lxr_graph.specs.declared.Reply.{Reply}
 use Rattle.lxr_graph.specs.declared.Reply.TheVariants as reply
@@ -14,8 +15,12 @@ use Rattle.lxr_image.specs.Tables.{Tables}
 use Rattle.lxr_model_counting.specs.Following.{FollowsPause, IsLive}
 use Rattle.lxr_invariant.specs.Counting.{HasCounts, HasDecrements, is_done}
 use Rattle.lxr_invariant.specs.Standing.{AreLogged, HasBits}
+use Rattle.lxr_invariant.specs.Tracing.{HandledAreGray, MarksStayInside, SnapshotIsCovered}
+use Rattle.lxr_model.specs.Moments.{Moment, Trace}
 use Rattle.lxr_core_access.specs.declared.Access.{Access}
+use Rattle.lxr_core_access.specs.Accesses.{done_to}
 use Rattle.lxr_core_access.specs.Decrementers.{Decrementing, Rests}
+use Rattle.lxr_core_access.specs.Tracers.{Tracing}
 use Rattle.lxr_core_events.specs.ThreadStates.{ThreadState}
 use Rattle.lxr_core_events.specs.EpochStates.{Beginning, Extends, EpochState, IsBeginning, limits_of, moment_of, opening_tables}
 use Rattle.lxr_core_events.specs.Events.{Event, value_word}
@@ -23,11 +28,14 @@ use Rattle.lxr_core_events.specs.Events as event
 use Rattle.lxr_core_events.specs.Happening.{May, happen, with_cursor}
 use Rattle.lxr_core_events.specs.Imaged.{HaveRegisters, IsPlacedIn}
 use Rattle.lxr_core_events.specs.Logged.{AreBitsAndLogs, logs_of}
-use Rattle.lxr_core_events.specs.Decremented.{IsSound, LeavesTables, MayDecrement, decremented}
+use Rattle.lxr_core_events.specs.Decremented.{DecrementerLeaves, IsSound, LeavesTables, MayDecrement, MayTrace, TracerLeaves, decremented, traced}
 use Rattle.lxr_core_events.specs.Counted.{AreCounted, AreCountedIn}
+use Rattle.lxr_core_events.specs.Traced.{AreScannedIn}
+use Rattle.lxr_core_events.specs.Covered.{SnapshotIsCoveredIn}
+use Rattle.lxr_core_events.specs.Inside.{MarksStayInsideIn}
 use Rattle.lxr_core_events.specs.Drawn.{AreFixed, IsDrawnMemory}
 use Rattle.lxr_core_events.specs.Called.{AreCalled}
-use Rattle.lxr_core_events.specs.Epoch.{AreResting, AreThrough, DecrementersRest, IsEpoch}
+use Rattle.lxr_core_events.specs.Epoch.{AreResting, AreThrough, DecrementersRest, IsEpoch, TracersRest}
 
 -- Every event keeps this, where all parts hold before it.
 abbrev pub IsKept : (Beginning → EpochState → Type 0) → Type 0
@@ -37,9 +45,14 @@ IsKept P = (b : Beginning) (s : EpochState) (i : ℕ) (v : ThreadState) (e : Eve
 abbrev pub DecrementersKeep : (Beginning → EpochState → Type 0) → Type 0
 DecrementersKeep P = (b : Beginning) (s : EpochState) (i : ℕ) (access : Access) (after : Decrementing) → IsEpoch b s → MayDecrement b s i access after → P b (decremented s i access after)
 
--- It reads nothing that decrementers change, nor what they are about to do.
+-- Every step of a tracer keeps this, where all parts hold before it.
+abbrev pub TracersKeep : (Beginning → EpochState → Type 0) → Type 0
+TracersKeep P = (b : Beginning) (s : EpochState) (i : ℕ) (access : Access) (after : Tracing) → IsEpoch b s → MayTrace b s i access after → P b (traced s i access after)
+
+-- It reads nothing that helpers change, nor what they are about to do.
 abbrev pub IsLeft : (Beginning → EpochState → Type 0) → Type 0
-IsLeft P = (b : Beginning) (s : EpochState) (u : Tables) (ds : List Decrementing) → IsEpoch b s → LeavesTables s.tables u → P b (record s { tables = u; decrementers = ds })
+IsLeft P = (b : Beginning) (s : EpochState) (u : Tables) (ds : List Decrementing) (ts : List Tracing) → IsEpoch b s → LeavesTables s.tables u
+    → P b (record s { tables = u; decrementers = ds; tracers = ts })
 
 -- the mutator's reply is that of a step of the model
 abbrev pub RepliesAs : Beginning → EpochState → ThreadState → Op → Reply → Type 0
@@ -86,15 +99,94 @@ BitsAndLogsAreKept = IsKept AreBitsAndLogs
 abbrev pub BitsAndLogsAreLeft : Type 0
 BitsAndLogsAreLeft = IsLeft AreBitsAndLogs
 
--- Counts and pending decrements are kept by mutators and by decrementers, whose steps are sound.
+-- Counts and pending decrements are kept by mutators, by decrementers, whose steps are sound, and by tracers.
 abbrev pub CountsAreKept : Type 0
 CountsAreKept = IsKept AreCountedIn
 
 abbrev pub DecrementersKeepCounts : Type 0
 DecrementersKeepCounts = DecrementersKeep AreCountedIn
 
+abbrev pub TracersKeepCounts : Type 0
+TracersKeepCounts = TracersKeep AreCountedIn
+
 abbrev pub DecrementersAreSound : Type 0
-DecrementersAreSound = (b : Beginning) (s : EpochState) (i : ℕ) (access : Access) (after : Decrementing) → IsEpoch b s → MayDecrement b s i access after → IsSound b s access
+DecrementersAreSound = (b : Beginning) (s : EpochState) (i : ℕ) (access : Access) (after : Decrementing) → IsEpoch b s → MayDecrement b s i access after
+    → IsSound b s access × DecrementerLeaves s.tables (done_to s.tables access)
+
+-- ---- what tracers know
+
+-- It is kept by all, and tracers' steps are sound.
+abbrev pub KnowledgeIsKept : Type 0
+KnowledgeIsKept = IsKept AreScannedIn
+
+abbrev pub DecrementersKeepKnowledge : Type 0
+DecrementersKeepKnowledge = DecrementersKeep AreScannedIn
+
+abbrev pub TracersKeepKnowledge : Type 0
+TracersKeepKnowledge = TracersKeep AreScannedIn
+
+abbrev pub TracersAreSound : Type 0
+TracersAreSound = (b : Beginning) (s : EpochState) (i : ℕ) (access : Access) (after : Tracing) → IsEpoch b s → MayTrace b s i access after
+    → IsSound b s access × TracerLeaves s.tables (done_to s.tables access)
+
+-- ---- the snapshot is covered, and marks stay inside it
+
+abbrev pub CoverIsKept : Type 0
+CoverIsKept = IsKept SnapshotIsCoveredIn
+
+abbrev pub DecrementersKeepCover : Type 0
+DecrementersKeepCover = DecrementersKeep SnapshotIsCoveredIn
+
+abbrev pub TracersKeepCover : Type 0
+TracersKeepCover = TracersKeep SnapshotIsCoveredIn
+
+abbrev pub InsideIsKept : Type 0
+InsideIsKept = IsKept MarksStayInsideIn
+
+-- what decrementers claim is dead, so it is told that counts are kept too
+abbrev pub DecrementersKeepInside : Type 0
+DecrementersKeepInside = DecrementersKeepCounts → DecrementersKeep MarksStayInsideIn
+
+abbrev pub TracersKeepInside : Type 0
+TracersKeepInside = TracersKeep MarksStayInsideIn
+
+-- an epoch opens: all helpers are between two units, and the tables are those of its beginning, but for the pause word
+pub record OpensWith (b : Beginning) (s : EpochState) : Type 0 where
+  pub begins : IsBeginning b
+  pub tables : s.tables ≡ with_cursor (opening_tables b) PAUSE_WORD 0
+  pub decrementers : DecrementersRest s
+  pub tracers : TracersRest s
+  pub history : s.history ≡ b.history
+  pub at : s.at ≡ b.abstract_state.at
+
+-- then tracers know nothing yet, and what holds of the trace between epochs gives both parts
+abbrev pub OpeningKnowledge : Type 0
+OpeningKnowledge = (b : Beginning) (s : EpochState) → OpensWith b s → AreScannedIn b s
+
+abbrev pub OpeningCover : Type 0
+OpeningCover = (b : Beginning) (s : EpochState) → OpensWith b s → SnapshotIsCoveredIn b s
+
+abbrev pub OpeningInside : Type 0
+OpeningInside = (b : Beginning) (s : EpochState) → OpensWith b s → MarksStayInsideIn b s
+
+-- all actors are between two units, or through
+pub record AllRest (s : EpochState) : Type 0 where
+  pub mutators : AreResting s
+  pub decrementers : DecrementersRest s
+  pub tracers : TracersRest s
+
+-- where all rest, the snapshot is covered as at a safepoint, and what is done has made gray what it referred to
+pub record CoversAtSafepoint (t : Tables) (m : Moment) (at : Name → ℕ) (entries : List LogEntry) (trace : Trace) : Type 0 where
+  pub covered : SnapshotIsCovered t m at entries trace
+  pub handled : HandledAreGray t m at
+
+abbrev pub ClosingCover : Type 0
+ClosingCover = (b : Beginning) (s : EpochState) (trace : Trace) → IsEpoch b s → AllRest s → (moment_of b s).trace ≡ Some trace
+    → CoversAtSafepoint s.tables (moment_of b s) s.at (logs_of s.thread_states) trace
+
+abbrev pub ClosingInside : Type 0
+ClosingInside = (b : Beginning) (s : EpochState) (trace : Trace) → IsEpoch b s → (moment_of b s).trace ≡ Some trace
+    → MarksStayInside s.tables (moment_of b s) s.at trace
 
 -- As an epoch opens, with its pause word clear and all decrementers between two units, nothing is in hand.
 abbrev pub OpeningCounts : Type 0
@@ -166,10 +258,11 @@ CursorsAreFar = (b : Beginning) (s : EpochState) → IsEpoch b s → (s.tables.c
 abbrev pub HaveNotFallen : Tables → Tables → Type 0
 HaveNotFallen t u = (c : ℕ) → t.cursors c ≤ u.cursors c
 
--- No cursor falls: neither by an event of a mutator nor by a step of a decrementer.
+-- No cursor falls: neither by an event of a mutator nor by a step of a helper.
 pub record CursorsDontFall : Type 0 where
   pub mutators : (b : Beginning) (s : EpochState) (i : ℕ) (v : ThreadState) (e : Event) → IsEpoch b s → May b s v e → HaveNotFallen s.tables (happen b s i v e).tables
   pub decrementers : (b : Beginning) (s : EpochState) (i : ℕ) (access : Access) (after : Decrementing) → MayDecrement b s i access after → HaveNotFallen s.tables (decremented s i access after).tables
+  pub tracers : (b : Beginning) (s : EpochState) (i : ℕ) (access : Access) (after : Tracing) → MayTrace b s i access after → HaveNotFallen s.tables (traced s i access after).tables
 
 -- Where all mutators are through and each listed block is drawn, each block has an object. So objects are at least as many
 -- as blocks.
@@ -183,3 +276,6 @@ EpochIsKept = IsKept IsEpoch
 
 abbrev pub DecrementersKeepEpoch : Type 0
 DecrementersKeepEpoch = DecrementersKeep IsEpoch
+
+abbrev pub TracersKeepEpoch : Type 0
+TracersKeepEpoch = TracersKeep IsEpoch

@@ -6,6 +6,9 @@ pub mod Decremented
 pub mod Imaged
 pub mod Logged
 pub mod Counted
+pub mod Traced
+pub mod Covered
+pub mod Inside
 pub mod Drawn
 pub mod Called
 pub mod Epoch

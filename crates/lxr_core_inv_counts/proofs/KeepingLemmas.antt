@@ -1,9 +1,9 @@
--- Counts and pending decrements in an epoch: mutators change none of them, each step of a decrementer keeps them and is sound, no live
+-- Counts and pending decrements in an epoch: mutators and tracers change none of them, each step of a decrementer keeps them and is sound, no live
 -- object is done, and from the opening to the close they are those of a safepoint.
-use Rattle.std.proofs.Common.{◌≡◌, ℕ, refl, sym, ap, subst, ◌∙◌, inl, inr, arith, IsTrue}
-use Rattle.std.specs.Prelude.{Option, Some, None, slice_get, slice_set}
+use Rattle.std.proofs.Common.{◌≡◌, ℕ, ◌+◌, refl, sym, ap, subst, ◌∙◌, inl, inr, arith, IsTrue}
+use Rattle.std.specs.Prelude.{⊤, Option, Some, None, slice_get, slice_set}
 use Rattle.lxr_layout.specs.declared.Name.{Name}
-use Rattle.lxr_layout.specs.declared.TheConstants.{DECREMENT_COUNT, DECREMENT_CURSOR, PAUSE_WORD}
+use Rattle.lxr_layout.specs.declared.TheConstants.{DECREMENT_COUNT, DECREMENT_CURSOR, PAUSE_WORD, REMEMBERED_CURSOR}
 use Rattle.lxr_graph.specs.Names.{has}
 use Rattle.lxr_graph.proofs.NameSets.{not_both}
 use Rattle.lxr_image.specs.Tables.{Tables}
@@ -12,22 +12,24 @@ use Rattle.lxr_model.specs.Moments.{Moment}
 use Rattle.lxr_model_counting.proofs.DeathLemmas.{live_not_dead}
 use Rattle.lxr_model_counting.proofs.DistinctLemmas.{tested}
 use Rattle.lxr_invariant.specs.Counting.{HasCounts, is_done}
+use Rattle.lxr_invariant.proofs.EntryLemmas.{changed_other}
 use Rattle.lxr_core_access.specs.declared.Access.{Access}
 use Rattle.lxr_core_access.specs.Accesses.{done_to}
 use Rattle.lxr_core_access.specs.Decrementers.{Decrementing, ReadsEntry}
+use Rattle.lxr_core_access.specs.Tracers.{Tracing, Rests, AsksGray, AsksObject, Marks, ReadsShape, Scans, AsksReferent, GraysReferent, AsksBlock, ReadsReuse, DrawsNumber, Enters, FindsNothing, tracer_access}
 use Rattle.lxr_core_events.specs.ThreadStates.{ThreadState}
 use Rattle.lxr_core_events.specs.EpochStates.{Beginning, EpochState, limits_of, moment_of, opening_tables}
 use Rattle.lxr_core_events.specs.Events.{Event}
 use Rattle.lxr_core_events.specs.Events as event
 use Rattle.lxr_core_events.specs.Happening.{happen, with_cursor}
 use Rattle.lxr_core_events.specs.Counted.{AreCounted, AreCountedIn, KnowsCounts, handled_by}
-use Rattle.lxr_core_events.specs.Decremented.{IsSound, MayDecrement, decremented}
+use Rattle.lxr_core_events.specs.Decremented.{DecrementerLeaves, IsSound, MayDecrement, decremented}
 use Rattle.lxr_core_events.specs.Epoch.{DecrementersRest, IsEpoch}
-use Rattle.lxr_core_events.specs.Laws.{ClosingCounts, CountsAreKept, DecrementersAreSound, DecrementersKeepCounts, LiveIsUndone, OpeningCounts}
+use Rattle.lxr_core_events.specs.Laws.{ClosingCounts, CountsAreKept, DecrementersAreSound, DecrementersKeepCounts, LiveIsUndone, OpeningCounts, TracersKeepCounts}
 use Rattle.lxr_core_events.proofs.PauseLemmas.{counts_unmoved, dead_stays, decrements_unmoved, one_pause, unmoved}
 use Rattle.lxr_core_inv_counts.proofs.HandLemmas.{hands_rest, soon_rest}
 use Rattle.lxr_core_inv_counts.proofs.GroundLemmas.{IsGround, ground_of}
-use Rattle.lxr_core_inv_counts.proofs.TurnLemmas.{counted_still}
+use Rattle.lxr_core_inv_counts.proofs.TurnLemmas.{AgreesOnCounts, counted_still}
 use Rattle.lxr_core_inv_counts.proofs.StepLemmas.{IsAbout, after_access, is_about, step_counted}
 use Rattle.lxr_core_inv_counts.proofs.SoundLemmas.{IsSoundWhere, step_sound}
 
@@ -77,16 +79,54 @@ module _ (b : Beginning) (s : EpochState) (i : ℕ) (access : Access) (after : D
       subst (λ ds. AreCounted (limits_of b).blocks (done_to s.tables access) ds m at) (ready.after after)
       (subst (λ (o : Option Access). AreCounted (limits_of b).blocks (after_access s.tables o) (slice_set ready.all i after) m at) may.steps.access_is counted)
 
-  sound : IsSound b s access
+  sound : IsSound b s access × DecrementerLeaves s.tables (done_to s.tables access)
   sound =
       let x = subst (IsSoundWhere (limits_of b) s.tables) may.steps.access_is (step_sound (limits_of b) s.tables ready.all m at ground ready.counted i may.steps.about ready.shows) in
-      record { may = x.may; leaves = x.leaves }
+      (record { may = x.may; leaves = x.leaves }, x.decrementer_leaves)
 
 pub decrementers_keep_counts : DecrementersKeepCounts
 decrementers_keep_counts b s i access after is may = keeps b s i access after is may
 
 pub decrementers_are_sound : DecrementersAreSound
 decrementers_are_sound b s i access after is may = sound b s i access after is may
+
+-- ---- tracers
+
+-- the access of a step, where it has one, leaves what counts are made of
+abbrev CountsStayBy : Tables → Option Access → Type 0
+CountsStayBy t None = ⊤
+CountsStayBy t (Some access) = AgreesOnCounts t (done_to t access)
+
+-- tables of which none changed
+counts_stay : (t : Tables) → AgreesOnCounts t t
+counts_stay t = record { counts = refl; dones = refl; decs = refl; cursor = refl; number = refl }
+
+-- each step of a tracer
+tracer_leaves : (t : Tables) (d : Tracing) → CountsStayBy t (tracer_access d)
+tracer_leaves t Rests = tt
+tracer_leaves t (AsksGray place) = counts_stay t
+tracer_leaves t (AsksObject place gray) = counts_stay t
+tracer_leaves t (Marks place) = record { counts = refl; dones = refl; decs = refl; cursor = refl; number = refl }
+tracer_leaves t (ReadsShape place) = counts_stay t
+tracer_leaves t (Scans place refs index) = counts_stay t
+tracer_leaves t (AsksReferent place refs index referent) = counts_stay t
+tracer_leaves t (GraysReferent place refs index referent) = record { counts = refl; dones = refl; decs = refl; cursor = refl; number = refl }
+tracer_leaves t (AsksBlock place refs index referent) = counts_stay t
+tracer_leaves t (ReadsReuse place refs index) = counts_stay t
+tracer_leaves t (DrawsNumber place refs index counter) = record {
+  counts = refl;
+  dones = refl;
+  decs = refl;
+  cursor = changed_other t.cursors REMEMBERED_CURSOR (t.cursors REMEMBERED_CURSOR + 1) DECREMENT_CURSOR (λ e. absurd (omega arith));
+  number = changed_other t.cursors REMEMBERED_CURSOR (t.cursors REMEMBERED_CURSOR + 1) DECREMENT_COUNT (λ e. absurd (omega arith));
+}
+tracer_leaves t (Enters place refs index counter number) = record { counts = refl; dones = refl; decs = refl; cursor = refl; number = refl }
+tracer_leaves t FindsNothing = counts_stay t
+
+pub tracers_keep_counts : TracersKeepCounts
+tracers_keep_counts b s i access after is may =
+    counted_still (limits_of b).blocks s.tables (done_to s.tables access) s.decrementers b.abstract_state.moment b.abstract_state.at
+    (subst (CountsStayBy s.tables) may.steps.access_is (tracer_leaves s.tables may.steps.about)) is.counted
 
 -- ---- the opening
 

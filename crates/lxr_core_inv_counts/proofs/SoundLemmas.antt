@@ -1,5 +1,5 @@
--- Each step of a decrementer finds its entry, and leaves all but counts, grays, dones and the cursor of decrements.
-use Rattle.std.proofs.Common.{◌≡◌, ℕ, ◌+◌, ◌-◌, ◌*◌, ◌^◌, ◌<◌, ◌≤◌, refl, sym, ap, subst, ◌∙◌, inl, inr, arith, true, List, IsTrue, length}
+-- Each step of a decrementer finds its entry, leaves all but counts, grays, dones and the cursor of decrements, and clears no bit.
+use Rattle.std.proofs.Common.{◌≡◌, ℕ, ◌+◌, ◌-◌, ◌*◌, ◌^◌, ◌<◌, ◌≤◌, refl, sym, ap, subst, ◌∙◌, inl, inr, arith, Bool, true, List, IsTrue, length}
 use Rattle.std.specs.Prelude.{⊤, Option, Some, None, slice_get}
 use Rattle.std.proofs.lemmas.Nat.{mul-le}
 use Rattle.lxr_layout.specs.declared.limits.Limits.{Limits}
@@ -7,7 +7,7 @@ use Rattle.lxr_layout.specs.declared.Name.{Name}
 use Rattle.lxr_layout.specs.declared.TheConstants.{DECREMENT_COUNT, DECREMENT_CURSOR, GRANULES_IN_BLOCK, WORDS_IN_BLOCK}
 use Rattle.lxr_layout.specs.Places.{field_word, first_word}
 use Rattle.lxr_graph.specs.Names.{has}
-use Rattle.lxr_image.specs.Tables.{Tables}
+use Rattle.lxr_image.specs.Tables.{Tables, changed}
 use Rattle.lxr_image.specs.Reads.{granule_of}
 use Rattle.lxr_model.specs.Moments.{Moment}
 use Rattle.lxr_invariant.proofs.EntryLemmas.{changed_cases, changed_other}
@@ -16,7 +16,7 @@ use Rattle.lxr_core_access.specs.declared.Access.TheVariants as access
 use Rattle.lxr_core_access.specs.declared.TableEntry.{TableEntry}
 use Rattle.lxr_core_access.specs.Accesses.{IsTableEntry, MayBeDone, done_to}
 use Rattle.lxr_core_access.specs.Decrementers.{Decrementing, decrementer_access, Rests, AsksCount, AsksStart, Claims, ReadsHeader, AsksTracing, ReadsReference, MakesGray, AsksLowered, Lowers, AsksCursor, AsksNumber, Draws, ReadsEntry}
-use Rattle.lxr_core_events.specs.Decremented.{LeavesTables}
+use Rattle.lxr_core_events.specs.Decremented.{DecrementerLeaves, LeavesTables}
 use Rattle.lxr_core_events.specs.Counted.{AreCounted, IsHandledAt, StandsAt}
 use Rattle.lxr_core_inv_counts.proofs.HandLemmas.{soon_at}
 use Rattle.lxr_core_inv_counts.proofs.GroundLemmas.{IsGround}
@@ -27,6 +27,7 @@ use Rattle.lxr_core_inv_counts.proofs.LookLemmas.{counted_some}
 pub record IsSoundFor (l : Limits) (t : Tables) (access : Access) : Type 0 where
   pub may : MayBeDone l t access
   pub leaves : LeavesTables t (done_to t access)
+  pub decrementer_leaves : DecrementerLeaves t (done_to t access)
 
 abbrev pub IsSoundWhere : Limits → Tables → Option Access → Type 0
 IsSoundWhere l t None = ⊤
@@ -35,13 +36,14 @@ IsSoundWhere l t (Some access) = IsSoundFor l t access
 -- ---- what each kind of access leaves
 
 look_leaves : (t : Tables) → LeavesTables t t
-look_leaves t = record { rest = refl; cursors = λ c _. refl; counts = λ k. inl refl; grays = λ k. inl refl; dones = λ k. inl refl }
+look_leaves t = record { rest = refl; cursors = λ c _. refl; counts = λ k. inl refl; marks = λ k. inl refl; grays = λ k. inl refl; dones = λ k. inl refl }
 
 gray_leaves : (t : Tables) (granule : ℕ) → IsTrue (t.starts granule) → LeavesTables t (done_to t (access.SetGray granule))
 gray_leaves t granule started = record {
   rest = refl;
   cursors = λ c _. refl;
   counts = λ k. inl refl;
+  marks = λ k. inl refl;
   grays = λ k. elim (changed_cases t.grays granule true k) [ inl q ↦ inr (ap t.starts q.0 ∙ started) | inr q ↦ inl q.1 ];
   dones = λ k. inl refl;
 }
@@ -51,6 +53,7 @@ done_leaves t granule started = record {
   rest = refl;
   cursors = λ c _. refl;
   counts = λ k. inl refl;
+  marks = λ k. inl refl;
   grays = λ k. inl refl;
   dones = λ k. elim (changed_cases t.dones granule true k) [ inl q ↦ inr (ap t.starts q.0 ∙ started) | inr q ↦ inl q.1 ];
 }
@@ -60,6 +63,7 @@ lower_leaves t granule started = record {
   rest = refl;
   cursors = λ c _. refl;
   counts = λ k. elim (changed_cases t.counts granule (t.counts granule - 1) k) [ inl q ↦ inr (ap t.starts q.0 ∙ started) | inr q ↦ inl q.1 ];
+  marks = λ k. inl refl;
   grays = λ k. inl refl;
   dones = λ k. inl refl;
 }
@@ -69,13 +73,28 @@ draw_leaves t = record {
   rest = refl;
   cursors = λ c other. changed_other t.cursors DECREMENT_CURSOR (t.cursors DECREMENT_CURSOR + 1) c other;
   counts = λ k. inl refl;
+  marks = λ k. inl refl;
   grays = λ k. inl refl;
   dones = λ k. inl refl;
 }
 
+-- a bit that is set stays so when one is set
+set_stays : (f : ℕ → Bool) (granule k : ℕ) → IsTrue (f k) → IsTrue (changed f granule true k)
+set_stays f granule k set = elim (changed_cases f granule true k) [ inl q ↦ q.1 | inr q ↦ q.1 ∙ set ]
+
+-- where no bit changes, none is cleared
+bits_leave : (t u : Tables) → u.marks ≡ t.marks → u.grays ≡ t.grays → u.dones ≡ t.dones → DecrementerLeaves t u
+bits_leave t u marks grays dones = record { marks = marks; grays = λ k set. ap (λ f. f k) grays ∙ set; dones = λ k set. ap (λ f. f k) dones ∙ set }
+
+gray_set : (t : Tables) (granule : ℕ) → DecrementerLeaves t (done_to t (access.SetGray granule))
+gray_set t granule = record { marks = refl; grays = set_stays t.grays granule; dones = λ k set. set }
+
+done_set : (t : Tables) (granule : ℕ) → DecrementerLeaves t (done_to t (access.SetDone granule))
+done_set t granule = record { marks = refl; grays = λ k set. set; dones = set_stays t.dones granule }
+
 -- a look at an entry that exists
 look_sound : (l : Limits) (t : Tables) (entry : TableEntry) → IsTableEntry l entry → IsSoundFor l t (access.Look entry)
-look_sound l t entry exists = record { may = record { table_entry = exists; entry = tt }; leaves = look_leaves t }
+look_sound l t entry exists = record { may = record { table_entry = exists; entry = tt }; leaves = look_leaves t; decrementer_leaves = bits_leave t t refl refl refl }
 
 -- ---- entries that exist
 
@@ -128,13 +147,13 @@ module _ (l : Limits) (t : Tables) (ds : List Decrementing) (m : Moment) (at : N
   step_sound i (AsksStart place uncounted) shows = let knows = was.knows i (AsksStart place uncounted) shows in look_sound l t _ (granule_within l.blocks place knows.0.0 knows.0.1)
   step_sound i (Claims place) shows =
       let stands = (was.knows i (Claims place) shows).stands in
-      record { may = record { table_entry = granule_there place stands.name stands.member stands.stands; entry = tt }; leaves = done_leaves t (granule_of place) (started_there place stands.name stands.member stands.stands) }
+      record { may = record { table_entry = granule_there place stands.name stands.member stands.stands; entry = tt }; leaves = done_leaves t (granule_of place) (started_there place stands.name stands.member stands.stands); decrementer_leaves = done_set t (granule_of place) }
   step_sound i (ReadsHeader place) shows = let knows = was.knows i (ReadsHeader place) shows in look_sound l t _ (word_there place knows.name knows.member knows.stands)
   step_sound i (AsksTracing place refs) shows = look_sound l t _ (omega arith)
   step_sound i (ReadsReference place refs index traced) shows = let knows = was.knows i (ReadsReference place refs index traced) shows in look_sound l t _ (field_there place refs index knows.0 knows.1)
   step_sound i (MakesGray place refs index referent) shows =
       let held = (was.knows i (MakesGray place refs index referent) shows).1 in
-      record { may = record { table_entry = granule_there referent held.held held.member held.stands; entry = tt }; leaves = gray_leaves t (granule_of referent) (started_there referent held.held held.member held.stands) }
+      record { may = record { table_entry = granule_there referent held.held held.member held.stands; entry = tt }; leaves = gray_leaves t (granule_of referent) (started_there referent held.held held.member held.stands); decrementer_leaves = gray_set t (granule_of referent) }
   step_sound i (AsksLowered referent handling) shows = let stands = (was.knows i (AsksLowered referent handling) shows).0 in look_sound l t _ (granule_there referent stands.name stands.member stands.stands)
   step_sound i (Lowers referent handling) shows =
       let loose = (was.knows i (Lowers referent handling) shows).0 in
@@ -147,6 +166,7 @@ module _ (l : Limits) (t : Tables) (ds : List Decrementing) (m : Moment) (at : N
           entry = (counted_some l t ds m at ground was i (Lowers referent handling) referent handling shows (λ n. refl) stands, λ e. omega (arith, below, same, e));
         };
         leaves = lower_leaves t (granule_of referent) (started_there referent loose.name loose.member loose.stands);
+        decrementer_leaves = bits_leave t _ refl refl refl;
       }
   step_sound i AsksCursor shows = look_sound l t _ (omega arith)
   step_sound i (AsksNumber cursor) shows = look_sound l t _ (omega arith)
@@ -156,5 +176,6 @@ module _ (l : Limits) (t : Tables) (ds : List Decrementing) (m : Moment) (at : N
       entry = cursor_within _ _ _ _ _ was.drawn (soon_at (t.cursors DECREMENT_COUNT) ds i (Draws count) shows) refl was.few short;
     };
     leaves = draw_leaves t;
+    decrementer_leaves = bits_leave t _ refl refl refl;
   }
   step_sound i (ReadsEntry number) shows = let within = was.knows i (ReadsEntry number) shows in let fits = ground.decrements.fits in look_sound l t _ (omega (arith, within, fits))

@@ -1,4 +1,4 @@
-//! Counts and pending decrements while decrementers work beside the mutators, whatever the order of their atomic steps.
+//! Counts and pending decrements while decrementers and tracers work beside the mutators, whatever the order of their atomic steps.
 //!
 //! An unreclaimed object's count is the references to it at the last pause, but for those of objects that are done, and each decrement of
 //! it that is yet to be made: it waits in the list, or a decrementer has it in hand. An object is done by the decrementer that
@@ -6,7 +6,7 @@
 //! this crate do nothing: the contract of each is a law.
 #![tactic(auto)]
 
-ghost use Rattle.lxr_core_events.specs.Laws.{ClosingCounts, CountsAreKept, DecrementersAreSound, DecrementersKeepCounts, LiveIsUndone, OpeningCounts};
+ghost use Rattle.lxr_core_events.specs.Laws.{ClosingCounts, CountsAreKept, DecrementersAreSound, DecrementersKeepCounts, LiveIsUndone, OpeningCounts, TracersKeepCounts};
 
 /// Each event of a mutator keeps counts and pending decrements: it changes none of them.
 pub fn counts_are_kept()
@@ -18,8 +18,13 @@ pub fn decrementers_keep_counts()
     ensures { DecrementersKeepCounts }
 {}
 
+/// Each step of a tracer keeps them: it changes none of them.
+pub fn tracers_keep_counts()
+    ensures { TracersKeepCounts }
+{}
+
 /// Each step of a decrementer finds its entry, lowers no count that is 0 or stuck, and leaves all but counts, grays, dones
-/// and the cursor of decrements; counts and bits change only where an unreclaimed object begins.
+/// and the cursor of decrements; counts and bits change only where an unreclaimed object begins, and no bit is cleared.
 pub fn decrementers_are_sound()
     ensures { DecrementersAreSound }
 {}

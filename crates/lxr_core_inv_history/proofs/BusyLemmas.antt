@@ -22,7 +22,7 @@ pub record IsBusy (b : Beginning) (s : EpochState) (v : ThreadState) : Type 0 wh
   pub calls : calls_of v.thread s.history ≡ take (length v.replies) (all_of v.operations)
   pub replies : replies_of v.thread s.history ≡ v.replies
   pub counted : v.since + calls_since_pause v.thread b.history ≤ calls_since_pause v.thread s.history
-  pub short : calls_since_pause v.thread s.history ≤ v.since + 1
+  pub short : calls_since_pause v.thread s.history ≤ v.since + calls_since_pause v.thread b.history
   pub idle : SetsPauseWord s v v.stage → IsTrue (has_asked v.thread s.history)
 
 -- what of this it knows at a stage
@@ -32,7 +32,7 @@ record IsBusyAt (b : Beginning) (s : EpochState) (v : ThreadState) (stage : Stag
   unasked : has_asked v.thread s.history ≡ false
   replies : replies_of v.thread s.history ≡ v.replies
   waits : waiting_in stage ≡ 0
-  uncounts : uncounted stage ≡ 1
+  uncounts : uncounted stage ≡ 0
   idle : SetsPauseWord s v stage → IsTrue (has_asked v.thread s.history)
 
 -- and so it is busy

@@ -81,13 +81,14 @@ obeys b s i v is shown stage word =
     let has = is.called.each i v shown in
     let on : IsWithinTurn s v Rests = subst (IsWithinTurn s v) stage has.within_turn in
     let counted : v.since + 0 + calls_since_pause v.thread b.history ≤ calls_since_pause v.thread s.history = subst (λ z. v.since + waiting_in z + calls_since_pause v.thread b.history ≤ calls_since_pause v.thread s.history) stage has.counted in
-    let short : calls_since_pause v.thread s.history ≤ v.since + 0 + 1 = subst (λ z. calls_since_pause v.thread s.history ≤ v.since + waiting_in z + uncounted z) stage has.short in
+    let short : calls_since_pause v.thread s.history ≤ v.since + 0 + calls_since_pause v.thread b.history + 0 = subst (λ z. calls_since_pause v.thread s.history ≤ v.since + waiting_in z + calls_since_pause v.thread b.history + uncounted z) stage has.short in
     quiet_history b s (happen b s i v event.Obeys) i v (record v { stage = Through why.Asked }) is shown (quiet_still s (happen b s i v event.Obeys) refl refl refl) refl refl
     (subst (λ z. SetsPauseWord s v z → IsTrue (has_asked v.thread s.history)) (sym stage) (λ k. k)) (λ set. inl set) (λ same. record {
       formed = has.formed;
       endless = has.endless;
       few = has.few;
       every = has.every;
+      before = has.before;
       calls = subst (λ z. calls_of v.thread s.history ≡ take (length v.replies + waiting_in z) (all_of v.operations)) stage has.calls;
       replies = subst (AreReplies b s v) stage has.replies;
       counted = counted;
@@ -111,6 +112,7 @@ leaves b s i v reason is shown stage =
       endless = has.endless;
       few = has.few;
       every = has.every;
+      before = has.before;
       calls = busy.calls ∙ ap (λ k. take k (all_of v.operations)) (omega arith);
       replies = busy.replies;
       counted = omega (arith, counted);
@@ -126,7 +128,8 @@ leaves b s i v reason is shown stage =
     wants why.Turns want = absurd want
     wants why.Ended want = absurd want
 
-    short_at : (reason : Reason) → IsWant reason → calls_since_pause v.thread s.history ≤ v.since + 1 → calls_since_pause v.thread s.history ≤ v.since + 0 + uncounted (Through reason)
+    short_at : (reason : Reason) → IsWant reason → calls_since_pause v.thread s.history ≤ v.since + calls_since_pause v.thread b.history
+        → calls_since_pause v.thread s.history ≤ v.since + 0 + calls_since_pause v.thread b.history + uncounted (Through reason)
     short_at why.NoRun want short = omega (arith, short)
     short_at why.LogFull want short = omega (arith, short)
     short_at why.Asked want short = absurd want
@@ -224,6 +227,7 @@ loads_name b s after i v dest base index p n is shown busy does replies place hi
       endless = known.endless;
       few = known.few;
       every = known.every;
+      before = known.before;
       calls = stood.calls;
       replies = record { name = n; member = stays.0; stands = place ∙ sym stays.1; loads = (dest, base, index, does); reply = stood.replies };
       counted = omega (arith, since, counted);
@@ -268,12 +272,12 @@ tells b s i v o n place shape is shown stage does told =
     (subst (λ z. calls_of v.thread s.history ≡ take (length v.replies + waiting_in z) (all_of v.operations)) stage has.calls)
     (tell.reply ∙ ap (λ z. v.replies ++ reply.Loaded (Some z) ∷ []) (sym name))
     (subst (λ z. v.since + waiting_in z + calls_since_pause v.thread b.history ≤ calls_since_pause v.thread s.history) stage has.counted)
-    (subst (λ z. calls_since_pause v.thread s.history ≤ v.since + waiting_in z + uncounted z) stage has.short)
+    (subst (λ z. calls_since_pause v.thread s.history ≤ v.since + waiting_in z + calls_since_pause v.thread b.history + uncounted z) stage has.short)
     on has.asked no_end refl)
   where
     told_called : (b : Beginning) (s after : EpochState) (v : ThreadState) (o : Op) (n : Name) (ended last : Bool) → HasCalled b s v
         → calls_of v.thread after.history ≡ take (length v.replies + 1) (all_of v.operations) → replies_of v.thread after.history ≡ v.replies ++ reply.Loaded (Some n) ∷ []
-        → v.since + 1 + calls_since_pause v.thread b.history ≤ calls_since_pause v.thread after.history → calls_since_pause v.thread after.history ≤ v.since + 1 + 1
+        → v.since + 1 + calls_since_pause v.thread b.history ≤ calls_since_pause v.thread after.history → calls_since_pause v.thread after.history ≤ v.since + 1 + calls_since_pause v.thread b.history + 0
         → (v.since < v.every) × (length v.replies < length v.operations) × (has_asked v.thread after.history ≡ false) → (IsTrue (has_asked v.thread after.history) → after.tables.cursors PAUSE_WORD ≡ 1) → ended ≡ false → nat_eq (v.since + 1) v.every ≡ last
         → HasCalled b after (done_by v v.registers (reply.Loaded (Some n)) ended last)
     told_called b s after v o n true last has calls replies counted short on asked ended is_last = absurd (cc)
@@ -285,6 +289,7 @@ tells b s i v o n place shape is shown stage does told =
           endless = has.endless;
           few = has.few;
           every = has.every;
+          before = has.before;
           calls = calls ∙ ap (λ w. take w (all_of v.operations)) (omega (arith, longer));
           replies = replies;
           counted = omega (arith, counted);
@@ -300,6 +305,7 @@ tells b s i v o n place shape is shown stage does told =
           endless = has.endless;
           few = has.few;
           every = has.every;
+          before = has.before;
           calls = calls ∙ ap (λ w. take w (all_of v.operations)) (omega (arith, longer));
           replies = replies;
           counted = omega (arith, counted);

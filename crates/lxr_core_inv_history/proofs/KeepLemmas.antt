@@ -58,6 +58,7 @@ called_kept b s after v keeps same has =
       endless = has.endless;
       few = has.few;
       every = has.every;
+      before = has.before;
       calls = same.calls ∙ has.calls;
       replies = replies_kept b s after v v.stage keeps same has.replies;
       counted = omega (arith, counted, since);

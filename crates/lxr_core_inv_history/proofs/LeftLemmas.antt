@@ -1,4 +1,4 @@
--- The history is left by decrementers: of tables, it reads the pause word and the numbers of free blocks alone.
+-- The history is left by helpers: of tables, it reads the pause word and the numbers of free blocks alone.
 use Rattle.std.proofs.Common.{◌≡◌, refl, sym, ◌∙◌, arith}
 use Rattle.lxr_layout.specs.declared.TheConstants.{FREE_BLOCK_COUNT, FREE_BLOCK_CURSOR, PAUSE_WORD}
 use Rattle.lxr_core_events.specs.EpochStates.{EpochState}
@@ -8,8 +8,8 @@ use Rattle.lxr_core_inv_history.proofs.KeepLemmas.{Keeps, called_kept, sets_kept
 
 -- mutators stand to their operations as they did
 pub history_is_left : HistoryIsLeft
-history_is_left b s u ds is leaves =
-    let after : EpochState = record s { tables = u; decrementers = ds } in
+history_is_left b s u ds ts is leaves =
+    let after : EpochState = record s { tables = u; decrementers = ds; tracers = ts } in
     let word : u.cursors PAUSE_WORD ≡ s.tables.cursors PAUSE_WORD = leaves.cursors PAUSE_WORD (λ e. absurd (omega arith)) in
     let listed = leaves.cursors FREE_BLOCK_COUNT (λ e. absurd (omega arith)) in
     let drawn = leaves.cursors FREE_BLOCK_CURSOR (λ e. absurd (omega arith)) in

@@ -55,12 +55,13 @@ step_call b s i v o is shows busy does =
     let every = has.every in
     let turn = busy.turn in
     let short = busy.short in
+    let before = has.before in
     record {
       thread = thread_within b s i v is.called shows;
       formed = op_formed v o has.formed does;
       reply = refl;
       unasked = busy.unasked;
-      turn = omega (arith, every, turn, short);
+      turn = omega (arith, every, turn, short, before);
     }
 
 -- a history goes on from that of the beginning, and leads to what follows the last pause
@@ -125,6 +126,7 @@ done_called b s after v registers o r true last has busy does stood asks is_ende
       endless = has.endless;
       few = has.few;
       every = has.every;
+      before = has.before;
       calls = stood.calls ∙ ap (λ w. take w (all_of v.operations)) (omega (arith, longer));
       replies = stood.replies;
       counted = omega (arith, since, counted);
@@ -158,6 +160,7 @@ done_called b s after v registers o r false true has busy does stood asks is_end
       endless = has.endless;
       few = has.few;
       every = has.every;
+      before = has.before;
       calls = stood.calls ∙ ap (λ w. take w (all_of v.operations)) (omega (arith, longer));
       replies = stood.replies;
       counted = omega (arith, since, counted);
@@ -178,6 +181,7 @@ done_called b s after v registers o r false false has busy does stood asks is_en
       endless = has.endless;
       few = has.few;
       every = has.every;
+      before = has.before;
       calls = stood.calls ∙ ap (λ w. take w (all_of v.operations)) (omega (arith, longer));
       replies = stood.replies;
       counted = omega (arith, since, counted);
@@ -304,6 +308,7 @@ works_history b s after i v log spans intent is shows busy quiet word thread_sta
       endless = has.endless;
       few = has.few;
       every = has.every;
+      before = has.before;
       calls = same.calls ∙ busy.calls ∙ ap (λ k. take k (all_of v.operations)) (omega arith);
       replies = same.replies ∙ busy.replies;
       counted = omega (arith, since, counted);

@@ -13,7 +13,7 @@ pub fn history_is_kept()
     ensures { RepliesAreSteps → HistoryIsKept }
 {}
 
-/// So does a step of a decrementer.
+/// So does a step of a decrementer or a tracer.
 pub fn history_is_left()
     ensures { HistoryIsLeft }
 {}

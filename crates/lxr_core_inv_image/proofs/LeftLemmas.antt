@@ -1,4 +1,4 @@
--- Objects are left by decrementers, who write no heap word.
+-- Objects are left by helpers, who write no heap word.
 use Rattle.std.proofs.Common.{◌≡◌, ap}
 use Rattle.lxr_image.specs.Tables.{Tables}
 use Rattle.lxr_model.specs.Moments.{Moment}
@@ -11,7 +11,7 @@ use Rattle.lxr_core_inv_image.proofs.StayLemmas.{same_wiped}
 
 -- objects stay placed, and what mutators have learned of them stays so
 pub placed_is_left : PlacedIsLeft
-placed_is_left b s u ds is leaves =
+placed_is_left b s u ds ts is leaves =
     let t : Tables = s.tables in
     let m : Moment = moment_of b s in
     let placed = is.image.placed in

@@ -14,7 +14,7 @@ pub fn placed_is_kept()
     ensures { PlacedIsKept }
 {}
 
-/// A step of a decrementer leaves them there.
+/// A step of a decrementer or a tracer leaves them there.
 pub fn placed_is_left()
     ensures { PlacedIsLeft }
 {}

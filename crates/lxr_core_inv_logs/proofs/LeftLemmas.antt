@@ -1,4 +1,4 @@
--- Bits and logs are left by decrementers, who set bits only where an unreclaimed object begins.
+-- Bits and logs are left by helpers, who set bits only where an unreclaimed object begins.
 use Rattle.std.proofs.Common.{◌≡◌, ℕ, sym, ap, ◌∙◌, inl, inr, List}
 use Rattle.std.specs.Prelude.{IsTrue}
 use Rattle.lxr_layout.specs.declared.Name.{Name}
@@ -15,7 +15,6 @@ use Rattle.lxr_core_events.specs.Laws.{BitsAndLogsAreLeft}
 bits_left : (t u : Tables) (m : Moment) (at : Name → ℕ) (us : List Name) → LeavesTables t u → HasBits t m at us → HasBits u m at us
 bits_left t u m at us leaves is =
     let starts : u.starts ≡ t.starts = ap (λ (z : Tables). z.starts) leaves.rest in
-    let marks : u.marks ≡ t.marks = ap (λ (z : Tables). z.marks) leaves.rest in
     let unlogged : u.unlogged ≡ t.unlogged = ap (λ (z : Tables). z.unlogged) leaves.rest in
     let started : (k : ℕ) → IsTrue (t.starts k) → IsTrue (u.starts k) = λ k h. ap (λ f. f k) starts ∙ h in
     record {
@@ -23,7 +22,7 @@ bits_left t u m at us leaves is =
         each = λ n h. started (granule_of (at n)) (is.starts.each n h);
         only = λ g h. is.starts.only g (sym (ap (λ f. f g) starts) ∙ h);
       };
-      marks = λ k h. started k (is.marks k (sym (ap (λ f. f k) marks) ∙ h));
+      marks = λ k h. started k (elim (leaves.marks k) [ inl same ↦ is.marks k (sym same ∙ h) | inr begins ↦ begins ]);
       grays = λ k h. started k (elim (leaves.grays k) [ inl same ↦ is.grays k (sym same ∙ h) | inr begins ↦ begins ]);
       dones = λ k h. started k (elim (leaves.dones k) [ inl same ↦ is.dones k (sym same ∙ h) | inr begins ↦ begins ]);
       unlogged = λ w. (λ h. (is.unlogged w).0 (sym (ap (λ f. f w) unlogged) ∙ h), λ h. ap (λ f. f w) unlogged ∙ (is.unlogged w).1 h);
@@ -31,7 +30,7 @@ bits_left t u m at us leaves is =
 
 -- logs have the entries that they had
 pub bits_and_logs_are_left : BitsAndLogsAreLeft
-bits_and_logs_are_left b s u ds is leaves =
+bits_and_logs_are_left b s u ds ts is leaves =
     let m : Moment = moment_of b s in
     let logged = is.logged in
     record {

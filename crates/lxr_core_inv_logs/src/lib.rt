@@ -11,7 +11,7 @@ pub fn bits_and_logs_are_kept()
     ensures { RepliesAreSteps → BitsAndLogsAreKept }
 {}
 
-/// So does a step of a decrementer.
+/// So does a step of a decrementer or a tracer.
 pub fn bits_and_logs_are_left()
     ensures { BitsAndLogsAreLeft }
 {}

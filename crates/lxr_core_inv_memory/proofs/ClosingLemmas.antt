@@ -22,7 +22,7 @@ use Rattle.lxr_invariant.specs.AbstractState.{members}
 use Rattle.lxr_invariant.specs.Lines.{IsTakenBy}
 use Rattle.lxr_invariant.proofs.NameLemmas.{in_either, in_first, in_second}
 use Rattle.lxr_full.proofs.TakenLines.{all_or_one}
-use Rattle.lxr_invariant.proofs.BlockLemmas.{none_chosen}
+use Rattle.lxr_invariant.proofs.BlockLemmas.{none_counted}
 use Rattle.lxr_full.proofs.RoomLemmas.{member_takes, pigeonhole}
 use Rattle.lxr_core_events.specs.ThreadStates.{Reason, Stage, ThreadState, GivesUp, Rests, Works, Names, Through}
 use Rattle.lxr_core_events.specs.EpochStates.{Beginning, Extends, EpochState, same, called, limits_of, moment_of, opening_tables}
@@ -124,7 +124,7 @@ free_or_taken b s n is some below =
     let between = is.begins.between in
     let holds = between.safepoint.holds in
     let t : Tables = opening_tables b in
-    let not_chosen = none_chosen t (limits_of b).blocks b.abstract_state.moment.trace n holds.blocks is.begins.no_trace below in
+    let not_chosen = none_counted t (limits_of b).blocks n is.begins.none_chosen below in
     let by_lines = between.states n below (unfixed (state_in t n) not_chosen (holds.blocks.others n some below)) in
     elim (all_or_one (λ i. IsTrue (free_in t n i)) LINES_IN_BLOCK (told_free t n)) [
       | inl free ↦ inl (by_lines ∙ sym (all_free_state t n free))

@@ -107,15 +107,15 @@ mutators_leave b s i v _ = record { rest = refl; cursors = λ c _ _ _. refl }
 -- ---- tables
 
 -- tables of which no more differs than in an epoch are fixed as others are
-within_fixed : (o t u : Tables) → u ≡ record t { heap = u.heap; unlogged = u.unlogged; counts = u.counts; grays = u.grays; dones = u.dones; cursors = u.cursors }
-    → t ≡ record o { heap = t.heap; unlogged = t.unlogged; counts = t.counts; grays = t.grays; dones = t.dones; cursors = t.cursors }
-    → u ≡ record o { heap = u.heap; unlogged = u.unlogged; counts = u.counts; grays = u.grays; dones = u.dones; cursors = u.cursors }
+within_fixed : (o t u : Tables) → u ≡ record t { heap = u.heap; unlogged = u.unlogged; counts = u.counts; marks = u.marks; grays = u.grays; dones = u.dones; cursors = u.cursors }
+    → t ≡ record o { heap = t.heap; unlogged = t.unlogged; counts = t.counts; marks = t.marks; grays = t.grays; dones = t.dones; cursors = t.cursors }
+    → u ≡ record o { heap = u.heap; unlogged = u.unlogged; counts = u.counts; marks = u.marks; grays = u.grays; dones = u.dones; cursors = u.cursors }
 within_fixed o t u within fixed =
-    within ∙ ap (λ (z : Tables). record z { heap = u.heap; unlogged = u.unlogged; counts = u.counts; grays = u.grays; dones = u.dones; cursors = u.cursors }) fixed
+    within ∙ ap (λ (z : Tables). record z { heap = u.heap; unlogged = u.unlogged; counts = u.counts; marks = u.marks; grays = u.grays; dones = u.dones; cursors = u.cursors }) fixed
 
 -- so are those of which fewer tables differ
-fewer_differ : (t u : Tables) → LeavesToHelpers t u → u ≡ record t { heap = u.heap; unlogged = u.unlogged; counts = u.counts; grays = u.grays; dones = u.dones; cursors = u.cursors }
-fewer_differ t u leaves = ap (λ (z : Tables). record z { heap = u.heap; unlogged = u.unlogged; counts = u.counts; grays = u.grays; dones = u.dones; cursors = u.cursors }) leaves.rest
+fewer_differ : (t u : Tables) → LeavesToHelpers t u → u ≡ record t { heap = u.heap; unlogged = u.unlogged; counts = u.counts; marks = u.marks; grays = u.grays; dones = u.dones; cursors = u.cursors }
+fewer_differ t u leaves = ap (λ (z : Tables). record z { heap = u.heap; unlogged = u.unlogged; counts = u.counts; marks = u.marks; grays = u.grays; dones = u.dones; cursors = u.cursors }) leaves.rest
 
 -- the mutator shows another thread state, and cursors are these
 fixed_after : (b : Beginning) (s u : EpochState) (i : ℕ) (v w : ThreadState) (runs blocks : ℕ) → AreFixed b s → slice_get s.thread_states i ≡ Some v → u.thread_states ≡ slice_set s.thread_states i w → LeavesToHelpers s.tables u.tables
@@ -195,11 +195,11 @@ kept b s i v (event.Leaves reason) is there may =
 pub fixed_tables_are_kept : FixedTablesAreKept
 fixed_tables_are_kept b s i v e is there may = kept b s i v e is.fixed there may
 
--- ---- decrementers
+-- ---- helpers
 
 -- counts change where an unreclaimed object begins, and cursors of mutators stay
 pub fixed_tables_are_left : FixedTablesAreLeft
-fixed_tables_are_left b s u ds is leaves =
+fixed_tables_are_left b s u ds ts is leaves =
     let o : Tables = opening_tables b in
     let fixed = is.fixed in
     let starts : s.tables.starts ≡ o.starts = ap (λ (z : Tables). z.starts) fixed.tables in
@@ -208,7 +208,7 @@ fixed_tables_are_left b s u ds is leaves =
     let all_runs = fixed.runs in
     let all_blocks = fixed.blocks in
     record {
-      tables = within_fixed o s.tables u (ap (λ (z : Tables). record z { heap = u.heap; unlogged = u.unlogged; counts = u.counts; grays = u.grays; dones = u.dones; cursors = u.cursors }) leaves.rest) fixed.tables;
+      tables = within_fixed o s.tables u (ap (λ (z : Tables). record z { heap = u.heap; unlogged = u.unlogged; counts = u.counts; marks = u.marks; grays = u.grays; dones = u.dones; cursors = u.cursors }) leaves.rest) fixed.tables;
       counts = λ k e. elim (leaves.counts k) [
         | inl same ↦ same ∙ fixed.counts k e
         | inr begins ↦ absurd (not_both (o.starts k) (subst (λ (f : ℕ → Bool). IsTrue (f k)) starts begins) e)

@@ -1,19 +1,20 @@
--- Drawn memory is left by decrementers: of tables, who owns a granule reads the cursors of what is drawn alone.
+-- Drawn memory is left by helpers: of tables, who owns a granule reads the cursors of what is drawn alone.
 use Rattle.std.proofs.Common.{◌≡◌, ℕ, ◌<◌, ◌≤◌, sym, subst, ◌∙◌, inl, inr, arith, List}
 use Rattle.lxr_layout.specs.declared.TheConstants.{FREE_BLOCK_CURSOR, RUN_CURSOR}
 use Rattle.lxr_layout.specs.declared.Name.{Name}
 use Rattle.lxr_graph.specs.State.{Object}
 use Rattle.lxr_image.specs.Tables.{Tables}
 use Rattle.lxr_core_access.specs.Decrementers.{Decrementing}
+use Rattle.lxr_core_access.specs.Tracers.{Tracing}
 use Rattle.lxr_core_events.specs.EpochStates.{Beginning, EpochState}
 use Rattle.lxr_core_events.specs.Decremented.{LeavesTables}
 use Rattle.lxr_core_events.specs.Drawn.{InHand, InMaking, InSpan, IsUsed, OfMember, Owner, Owns, UndrawnBlock, UndrawnRun, WasServed}
 use Rattle.lxr_core_events.specs.Laws.{DrawnMemoryIsLeft}
 
-module _ (b : Beginning) (s : EpochState) (u : Tables) (ds : List Decrementing) (leaves : LeavesTables s.tables u) where
+module _ (b : Beginning) (s : EpochState) (u : Tables) (ds : List Decrementing) (ts : List Tracing) (leaves : LeavesTables s.tables u) where
   -- what there is afterwards
   abbrev after : EpochState
-  after = record s { tables = u; decrementers = ds }
+  after = record s { tables = u; decrementers = ds; tracers = ts }
 
   -- the cursors of what is drawn stay
   runs_stay : u.cursors RUN_CURSOR ≡ s.tables.cursors RUN_CURSOR
@@ -43,15 +44,15 @@ module _ (b : Beginning) (s : EpochState) (u : Tables) (ds : List Decrementing) 
 
 -- memory stays one maker's
 pub drawn_memory_is_left : DrawnMemoryIsLeft
-drawn_memory_is_left b s u ds is leaves =
+drawn_memory_is_left b s u ds ts is leaves =
     let drawn = is.drawn in
     record {
       drawers = drawn.drawers;
-      numbers = record { runs = drawn.numbers.runs ∙ sym (runs_stay b s u ds leaves); blocks = drawn.numbers.blocks ∙ sym (blocks_stay b s u ds leaves) };
-      one = λ g x y has_x has_y. drawn.one g x y (owned_before b s u ds leaves x g has_x) (owned_before b s u ds leaves y g has_y);
+      numbers = record { runs = drawn.numbers.runs ∙ sym (runs_stay b s u ds ts leaves); blocks = drawn.numbers.blocks ∙ sym (blocks_stay b s u ds ts leaves) };
+      one = λ g x y has_x has_y. drawn.one g x y (owned_before b s u ds ts leaves x g has_x) (owned_before b s u ds ts leaves y g has_y);
       hands = drawn.hands;
       spans = drawn.spans;
       makes = drawn.makes;
-      made = λ n o made there. elim (drawn.made n o made there) [ inl served ↦ inl (lies_still b s u ds leaves n o served) | inr lies ↦ inr lies ];
-      used = λ k below listed. used_still b s u ds leaves k (drawn.used k (subst (λ c. k < c) (blocks_stay b s u ds leaves) below) listed);
+      made = λ n o made there. elim (drawn.made n o made there) [ inl served ↦ inl (lies_still b s u ds ts leaves n o served) | inr lies ↦ inr lies ];
+      used = λ k below listed. used_still b s u ds ts leaves k (drawn.used k (subst (λ c. k < c) (blocks_stay b s u ds ts leaves) below) listed);
     }

@@ -1,12 +1,14 @@
 -- No cursor falls: each step leaves it, draws of it, or sets the pause word, which is 0 or 1.
 use Rattle.std.proofs.Common.{◌≡◌, ℕ, ◌+◌, ◌≤◌, ap, subst, inl, inr, ◌⊎◌, arith}
 use Rattle.std.specs.Prelude.{⊤, Option, Some, None}
-use Rattle.lxr_layout.specs.declared.TheConstants.{DECREMENT_CURSOR, FREE_BLOCK_CURSOR, PAUSE_WORD, RUN_CURSOR}
+use Rattle.lxr_layout.specs.declared.TheConstants.{DECREMENT_CURSOR, FREE_BLOCK_CURSOR, PAUSE_WORD, REMEMBERED_CURSOR, RUN_CURSOR}
 use Rattle.lxr_image.specs.Tables.{Tables, changed}
 use Rattle.lxr_invariant.proofs.EntryLemmas.{changed_cases}
 use Rattle.lxr_core_access.specs.declared.Access.{Access}
 use Rattle.lxr_core_access.specs.Accesses.{done_to}
 use Rattle.lxr_core_access.specs.Decrementers.{Decrementing, Rests, AsksCount, AsksStart, Claims, ReadsHeader, AsksTracing, ReadsReference, MakesGray, AsksLowered, Lowers, AsksCursor, AsksNumber, Draws, ReadsEntry, decrementer_access}
+use Rattle.lxr_core_access.specs.Tracers.{Tracing, AsksGray, AsksObject, Marks, ReadsShape, Scans, AsksReferent, GraysReferent, AsksBlock, ReadsReuse, DrawsNumber, Enters, FindsNothing, tracer_access}
+use Rattle.lxr_core_access.specs.Tracers as tracing
 use Rattle.lxr_core_events.specs.ThreadStates.{ThreadState}
 use Rattle.lxr_core_events.specs.EpochStates.{Beginning, EpochState}
 use Rattle.lxr_core_events.specs.Events.{Event}
@@ -86,9 +88,26 @@ decrementer_raises t (AsksNumber cursor) = still t
 decrementer_raises t (Draws count) = λ c. raised t.cursors DECREMENT_CURSOR (t.cursors DECREMENT_CURSOR + 1) c (omega arith)
 decrementer_raises t (ReadsEntry number) = still t
 
+-- each step of a tracer
+tracer_raises : (t : Tables) (d : Tracing) → RaisesBy t (tracer_access d)
+tracer_raises t tracing.Rests = tt
+tracer_raises t (AsksGray place) = still t
+tracer_raises t (AsksObject place gray) = still t
+tracer_raises t (Marks place) = still t
+tracer_raises t (ReadsShape place) = still t
+tracer_raises t (Scans place refs index) = still t
+tracer_raises t (AsksReferent place refs index referent) = still t
+tracer_raises t (GraysReferent place refs index referent) = still t
+tracer_raises t (AsksBlock place refs index referent) = still t
+tracer_raises t (ReadsReuse place refs index) = still t
+tracer_raises t (DrawsNumber place refs index counter) = λ c. raised t.cursors REMEMBERED_CURSOR (t.cursors REMEMBERED_CURSOR + 1) c (omega arith)
+tracer_raises t (Enters place refs index counter number) = still t
+tracer_raises t FindsNothing = still t
+
 -- no cursor falls
 pub cursors_dont_fall : CursorsDontFall
 cursors_dont_fall = record {
   mutators = λ b s i v e is may. mutators_raise b s i v e (word_low (s.tables.cursors PAUSE_WORD) is.fixed.word);
   decrementers = λ b s i access after may. subst (RaisesBy s.tables) may.steps.access_is (decrementer_raises s.tables may.steps.about);
+  tracers = λ b s i access after may. subst (RaisesBy s.tables) may.steps.access_is (tracer_raises s.tables may.steps.about);
 }

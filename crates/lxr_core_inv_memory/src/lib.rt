@@ -21,7 +21,8 @@ pub fn fixed_tables_are_kept()
     ensures { FixedTablesAreKept }
 {}
 
-/// Decrementers change counts, grays, dones and the cursor of decrements alone, and counts only where an unreclaimed object begins.
+/// Decrementers and tracers change counts, marks, grays, dones and the cursor of decrements alone, and counts only where an unreclaimed
+/// object begins.
 pub fn fixed_tables_are_left()
     ensures { FixedTablesAreLeft }
 {}
@@ -32,7 +33,7 @@ pub fn drawn_memory_is_kept()
     ensures { DrawnMemoryIsKept }
 {}
 
-/// So it is after a step of a decrementer.
+/// So it is after a step of a decrementer or a tracer.
 pub fn drawn_memory_is_left()
     ensures { DrawnMemoryIsLeft }
 {}
@@ -42,7 +43,7 @@ pub fn cursors_are_far()
     ensures { CursorsAreFar }
 {}
 
-/// No cursor falls, neither by an event of a mutator nor by a step of a decrementer.
+/// No cursor falls, neither by an event of a mutator nor by a step of a decrementer or a tracer.
 pub fn cursors_dont_fall()
     ensures { CursorsDontFall }
 {}

@@ -19,7 +19,7 @@ pub fn registers_are_kept()
     ensures { RegistersAreKept }
 {}
 
-/// So they do after a step of a decrementer.
+/// So they do after a step of a decrementer or a tracer.
 pub fn registers_are_left()
     ensures { RegistersAreLeft }
 {}

@@ -1,6 +1,7 @@
 -- What an epoch says of the words that a decrementer reads: an unreclaimed object stands at each place that it has learned of.
 use Rattle.std.proofs.Common.{◌≡◌, ℕ, ◌+◌, ◌-◌, ◌*◌, ◌/◌, ◌≤◌, Bool, true, false, arith, refl, sym, subst, ap, ◌∙◌}
 use Rattle.std.specs.Prelude.{Some, None, IsTrue, ◌&&◌, nat_le, if◌then◌else◌}
+use Rattle.std.proofs.lemmas.Bool.{le-leb}
 use Rattle.lxr_layout.specs.declared.TheConstants.{DECREMENT_COUNT, GRANULES_IN_BLOCK, WORDS_IN_BLOCK}
 use Rattle.lxr_layout.specs.declared.Header.TheVariants as header
 use Rattle.lxr_layout.specs.declared.Name.{Name}
@@ -116,5 +117,5 @@ list_told b s r is regions =
     let decs : r.decs ≡ region_begin l 12 = ap (λ x. x.decs) regions in
     let after : r.remembered ≡ region_begin l 12 + l.threads * (l.log + 16) = ap (λ x. x.remembered) regions ∙ omega arith in
     let within : r.decs + count ≤ r.remembered = omega (arith, decs, after, fits) in
-    let test : nat_le (r.decs + count) r.remembered ≡ true = grind (arith, within) in
+    let test = le-leb (r.decs + count) r.remembered within in
     ap (λ c. if c then count else 0) test

@@ -50,7 +50,7 @@ by_phase b s words i d shows some attempts to =
     let acts : action d ≡ Some act = unfinished d some ∙ to.acts d.regions in
     let may : MayDecrement b s i to.access to.next = record { before = decrementing_of d; shows = shows.shows; steps = record { about = decrementing_of (begun d); attempts = attempts; access_is = to.access_is; goes = to.goes } } in
     let done = access_done l d.regions words (regions_are l d.regions shows.decrementer.regions) shows.size to.access
-    (subst (λ t. MayBeDone l t to.access) shows.tables (decrementers_are_sound b s i to.access to.next shows.epoch may).may) in
+    (subst (λ t. MayBeDone l t to.access) shows.tables (decrementers_are_sound b s i to.access to.next shows.epoch may).0.may) in
     let leads = to.leads old (subst (λ t. Tells t (table_entry_of to.access) old) (sym shows.tables) done.told) in
     record {
       fits = λ a e. subst (λ x. x.word < length words) (same_action act a (sym acts ∙ e)) done.within;

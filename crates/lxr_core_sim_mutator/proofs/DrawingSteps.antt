@@ -1,7 +1,7 @@
 -- The steps that draw lines for a new object.
 use Rattle.std.proofs.Common.{◌≡◌, ℕ, ◌+◌, ◌-◌, ◌*◌, ◌/◌, ◌%◌, ◌^◌, ◌<◌, ◌≤◌, Bool, true, false, arith, refl, sym, subst, ap, ◌∙◌, length}
 use Rattle.std.specs.Prelude.{List, IsTrue, nat_eq, nat_le, nat_lt, slice_set, if◌then◌else◌}
-use Rattle.std.proofs.lemmas.Bool.{ltb-false}
+use Rattle.std.proofs.lemmas.Bool.{ltb-false, ltb-true}
 use Rattle.lxr_layout.specs.Spaces.{regions_of}
 use Rattle.lxr_layout.specs.declared.TheConstants.{FREE_BLOCK_COUNT, FREE_BLOCK_CURSOR, GRANULES_IN_BLOCK, GRANULES_IN_LINE, LINES_IN_BLOCK, RUN_COUNT, RUN_CURSOR}
 use Rattle.lxr_layout.specs.declared.Shape.{Shape}
@@ -67,7 +67,7 @@ run_told : (b : Beginning) (s : EpochState) (words : List ℕ) (i : ℕ) (m : Mu
 run_told b s words i m number true shows few e =
     let n = in_phase m (phase.RunNumber number) in
     let goes = goes_on n shows.mutator.sound (λ q. cc) in
-    let listed : number < s.tables.cursors RUN_COUNT = grind (arith, e) in
+    let listed = ltb-true number (s.tables.cursors RUN_COUNT) e in
     record {
       event = epoch.SeesRun number;
       may = record { stage = refl; listed = listed };
@@ -233,7 +233,7 @@ block_told : (b : Beginning) (s : EpochState) (words : List ℕ) (i : ℕ) (m : 
 block_told b s words i m number true shows few e =
     let n = in_phase m (phase.BlockNumber number) in
     let goes = goes_on n shows.mutator.sound (λ q. cc) in
-    let listed : number < s.tables.cursors FREE_BLOCK_COUNT = grind (arith, e) in
+    let listed = ltb-true number (s.tables.cursors FREE_BLOCK_COUNT) e in
     record {
       event = epoch.SeesBlock number;
       may = record { stage = refl; listed = listed };

@@ -27,9 +27,9 @@ use Rattle.lxr_full.specs.Taken.{LinesAreTaken}
 use Rattle.lxr_full.proofs.TakenLemmas.{taken_leaves_no_run}
 use Rattle.lxr_invariant.specs.AbstractState.{AbstractState, members}
 use Rattle.lxr_invariant.specs.Standing.{entry_of}
-use Rattle.lxr_invariant.specs.Lines.{Covers, IsTakenBy, OutsAreTaken}
+use Rattle.lxr_invariant.specs.Lines.{Covers, IsTakenBy, NoneChosen, OutsAreTaken}
 use Rattle.lxr_invariant.specs.Quiescent.{HoldsMoment, IsQuiescent}
-use Rattle.lxr_invariant.proofs.BlockLemmas.{none_chosen}
+use Rattle.lxr_invariant.proofs.BlockLemmas.{none_counted}
 use Rattle.lxr_full.specs.Room.{HasWorld, LogIsWritten, PausedFullLeavesNoRun, RoomlessBlocksAreTaken}
 use Rattle.lxr_full.proofs.TakenLines.{all_or_one, line_taken}
 
@@ -107,15 +107,15 @@ member_takes s g holds outs =
     line_taken (tables_of s) s.limits.blocks g.moment.state.graph g.at g.moment.unreclaimed (members g.moment) holds.image.image
     (λ n h. list_any-append (same_name n) g.moment.unreclaimed g.moment.made ∙ or_left (has g.moment.unreclaimed n) (has g.moment.made n) h) holds.marks outs
 
-block_is_taken : (s : Space) (g : AbstractState) (shape : Shape) → IsQuiescent s g → g.moment.trace ≡ None → FitsShape shape → IsFull s shape → (b : ℕ) → b < s.limits.blocks
+block_is_taken : (s : Space) (g : AbstractState) (shape : Shape) → IsQuiescent s g → NoneChosen (tables_of s) s.limits.blocks → FitsShape shape → IsFull s shape → (b : ℕ) → b < s.limits.blocks
     → (n : Name) × IsTrue (has (members g.moment) n) × (granule_of (g.at n) / GRANULES_IN_BLOCK ≡ b)
-block_is_taken s g shape between no_trace fits full b below =
+block_is_taken s g shape between unchosen fits full b below =
     let holds = between.safepoint.holds in
     elim (all_or_one (λ i. IsTrue (free_in (tables_of s) b i)) LINES_IN_BLOCK (told_free (tables_of s) b)) [
       | inl free ↦ absurd (full.lines (record { block = b; line = 0; lines = LINES_IN_BLOCK })
           (record {
             run = record { block = below; within = omega arith; free = λ i low high. free i (omega (arith, high)) };
-            outside = none_chosen (tables_of s) s.limits.blocks g.moment.trace b holds.blocks no_trace below;
+            outside = none_counted (tables_of s) s.limits.blocks b unchosen below;
           })
           (whole_is_long shape fits))
       | inr x ↦ begins_in_block (tables_of s) s.limits.blocks g.moment.state.graph g.at (members g.moment) b x.0 holds.image.image x.1
@@ -123,8 +123,8 @@ block_is_taken s g shape between no_trace fits full b below =
     ]
 
 pub roomless_blocks_are_taken : RoomlessBlocksAreTaken
-roomless_blocks_are_taken s g shape between no_trace fits full =
-    let many = pigeonhole (λ n. granule_of (g.at n) / GRANULES_IN_BLOCK) (members g.moment) s.limits.blocks (block_is_taken s g shape between no_trace fits full) in
+roomless_blocks_are_taken s g shape between unchosen fits full =
+    let many = pigeonhole (λ n. granule_of (g.at n) / GRANULES_IN_BLOCK) (members g.moment) s.limits.blocks (block_is_taken s g shape between unchosen fits full) in
     let sum = length-append g.moment.unreclaimed g.moment.made in
     omega (arith, many, sum)
 
@@ -178,7 +178,7 @@ some_lines : (shape : Shape) → 1 ≤ line_count shape
 some_lines shape = omega arith
 
 pub paused_full_leaves_no_run : PausedFullLeavesNoRun
-paused_full_leaves_no_run s g shape between none_made no_trace world full =
+paused_full_leaves_no_run s g shape between none_made unchosen world full =
     let holds = between.safepoint.holds in
     taken_leaves_no_run (tables_of s) s.limits.blocks g.at g.moment.state.graph (members g.moment) (without g.moment.unreclaimed (world_name ∷ [])) (line_count shape)
     (some_lines shape) holds.space.limits.blocks.0
@@ -188,7 +188,7 @@ paused_full_leaves_no_run s g shape between none_made no_trace world full =
           ∙ or_left (has g.moment.unreclaimed n) (has g.moment.made n) (without_parts g.moment.unreclaimed (world_name ∷ []) n h).0;
       lines = lines_are_taken s g between none_made world;
     })
-    (λ q run long. full.lines q (record { run = run; outside = none_chosen (tables_of s) s.limits.blocks g.moment.trace q.block holds.blocks no_trace run.block }) long)
+    (λ q run long. full.lines q (record { run = run; outside = none_counted (tables_of s) s.limits.blocks q.block unchosen run.block }) long)
 
 -- ---- at a safepoint before a pause
 

@@ -1,11 +1,12 @@
 -- What follows where no room is left for a new object, each law the contract of a function with an empty body.
-use Rattle.std.specs.Prelude.{◌≡◌, ◌+◌, ◌≤◌, None, Some, List, [], ◌∷◌, length}
+use Rattle.std.specs.Prelude.{◌≡◌, ◌+◌, ◌≤◌, Some, List, [], ◌∷◌, length}
 use Rattle.lxr_layout.specs.declared.Shape.{Shape}
 use Rattle.lxr_layout.specs.Objects.{FitsShape, line_count}
 use Rattle.lxr_graph.specs.Names.{without}
 use Rattle.lxr_graph.specs.State.{Graph, Object, object_at, world, world_name}
 use Rattle.lxr_graph.specs.History.{Item}
 use Rattle.lxr_image.specs.declared.space.Space.{Space}
+use Rattle.lxr_image.specs.Spaces.{tables_of}
 use Rattle.lxr_blocks.specs.Placing.{IsFull}
 use Rattle.lxr_model.specs.Terms.{Terms}
 use Rattle.lxr_model.specs.Moments.{moment}
@@ -13,11 +14,12 @@ use Rattle.lxr_model.specs.Legal.{IsLegalSoFar}
 use Rattle.lxr_model.specs.Full.{LeaveNoRun}
 use Rattle.lxr_model_counting.specs.Following.{HasShapeOf}
 use Rattle.lxr_invariant.specs.AbstractState.{AbstractState}
+use Rattle.lxr_invariant.specs.Lines.{NoneChosen}
 use Rattle.lxr_invariant.specs.Quiescent.{IsAtSafepoint, IsQuiescent}
 
--- Where no room is left between epochs, with no trace, each block has an object. So objects are at least as many as blocks.
+-- Where no room is left between epochs and no block is Chosen, each block has an object. So objects are at least as many as blocks.
 abbrev pub RoomlessBlocksAreTaken : Type 0
-RoomlessBlocksAreTaken = (s : Space) (g : AbstractState) (shape : Shape) → IsQuiescent s g → g.moment.trace ≡ None → FitsShape shape → IsFull s shape
+RoomlessBlocksAreTaken = (s : Space) (g : AbstractState) (shape : Shape) → IsQuiescent s g → NoneChosen (tables_of s) s.limits.blocks → FitsShape shape → IsFull s shape
     → s.limits.blocks ≤ length g.moment.unreclaimed + length g.moment.made
 
 -- the world has the 64 references of the opening, and no data
@@ -28,9 +30,9 @@ HasWorld g = (o : Object) × (object_at g world_name ≡ Some o) × HasShapeOf o
 abbrev pub WorldKeepsShape : Type 0
 WorldKeepsShape = (terms : Terms) (h : List Item) → IsLegalSoFar terms h → HasWorld (moment terms.threads h).state.graph
 
--- Where no room is left right after a pause, with no trace, the unreclaimed objects but the world can leave no run.
+-- Where no room is left right after a pause and no block is Chosen, the unreclaimed objects but the world can leave no run.
 abbrev pub PausedFullLeavesNoRun : Type 0
-PausedFullLeavesNoRun = (s : Space) (g : AbstractState) (shape : Shape) → IsQuiescent s g → g.moment.made ≡ [] → g.moment.trace ≡ None
+PausedFullLeavesNoRun = (s : Space) (g : AbstractState) (shape : Shape) → IsQuiescent s g → g.moment.made ≡ [] → NoneChosen (tables_of s) s.limits.blocks
     → HasWorld g.moment.state.graph → IsFull s shape
     → LeaveNoRun g.moment.state.graph (without g.moment.unreclaimed (world_name ∷ [])) s.limits.blocks (line_count shape)
 

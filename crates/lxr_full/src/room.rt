@@ -2,13 +2,13 @@
 //!
 //! A heap is full for a shape where neither the rest nor free lines in a row fit it. A line that isn't free is
 //! overlapped by an object: it is out, or one of its granules begins an unreclaimed object or is a line mark of one.
-//! So where no trace runs, a full heap has an object in each of its blocks, and right after a pause the unreclaimed
+//! So where no block is Chosen, a full heap has an object in each of its blocks, and right after a pause the unreclaimed
 //! objects alone can leave no run for the shape. Blocks and lines are those of Immix (Blackburn and McKinley, 2008),
 //! line marks in the table of counts those of LXR (Zhao, Blackburn and McKinley, 2022). The functions here do
 //! nothing: the contract of each is a law.
 ghost use Rattle.lxr_full.specs.Room.{LogIsWritten, PausedFullLeavesNoRun, RoomlessBlocksAreTaken, WorldKeepsShape};
 
-/// Where no room is left between epochs, with no trace, there are at least as many objects as blocks.
+/// Where no room is left between epochs and no block is Chosen, there are at least as many objects as blocks.
 pub fn roomless_blocks_are_taken()
     ensures { RoomlessBlocksAreTaken }
 {}

@@ -1,6 +1,7 @@
 pub mod RegionLemmas
 pub mod HalfLemmas
 pub mod TableLaws
+pub mod BitWordLemmas
 pub mod OutLemmas
 pub mod UncountedLemmas
 pub mod SpaceLemmas

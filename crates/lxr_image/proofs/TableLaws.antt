@@ -45,7 +45,7 @@ bits_replaced l ws Dones k b region is = λ j. record (tables_from (length ws) (
 bits_replaced l ws Unlogged k b region is = λ j. record (tables_from (length ws) (cut (region_sizes l) ws)) { unlogged = λ i. is i j }
 bits_replaced l ws Outs k b region is = λ j. record (tables_from (length ws) (cut (region_sizes l) ws)) { outs = λ i. is i j }
 
-bit_region_known : (t : BitTable) → bit_region t < 15
+pub bit_region_known : (t : BitTable) → bit_region t < 15
 bit_region_known Starts = lit< tt
 bit_region_known Marks = lit< tt
 bit_region_known Grays = lit< tt

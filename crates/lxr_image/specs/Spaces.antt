@@ -1,5 +1,6 @@
 -- What a space is, and how a call on its words changes it.
-use Rattle.std.specs.Prelude.{◌≡◌, ℕ, ◌*◌, ◌^◌, ◌<◌, ◌≤◌, Bool, false}
+use Rattle.std.specs.Prelude.{◌≡◌, ℕ, ◌*◌, ◌/◌, ◌%◌, ◌^◌, ◌<◌, ◌≤◌, ◌==◌, Bool, false, if◌then◌else◌}
+use Rattle.std.specs.Int.{bit_at}
 use Rattle.lxr_layout.specs.declared.TheConstants.{GRANULES_IN_BLOCK, STUCK}
 use Rattle.lxr_layout.specs.Spaces.{AreLimits, region_begin}
 use Rattle.lxr_image.specs.declared.space.Space.{Space}
@@ -80,6 +81,19 @@ with_bit t bit.Grays k b = record t { grays = changed t.grays k b }
 with_bit t bit.Dones k b = record t { dones = changed t.dones k b }
 with_bit t bit.Unlogged k b = record t { unlogged = changed t.unlogged k b }
 with_bit t bit.Outs k b = record t { outs = changed t.outs k b }
+
+-- a table of bits with 64 entries in a row replaced by the bits of a word
+abbrev pub replaced_bits : (ℕ → Bool) → ℕ → ℕ → ℕ → Bool
+replaced_bits f at value n = if n / 64 == at then bit_at value (n % 64) == 1 else f n
+
+-- the tables with a word of that table of bits replaced
+abbrev pub with_bit_word : Tables → BitTable → ℕ → ℕ → Tables
+with_bit_word t bit.Starts at v = record t { starts = replaced_bits t.starts at v }
+with_bit_word t bit.Marks at v = record t { marks = replaced_bits t.marks at v }
+with_bit_word t bit.Grays at v = record t { grays = replaced_bits t.grays at v }
+with_bit_word t bit.Dones at v = record t { dones = replaced_bits t.dones at v }
+with_bit_word t bit.Unlogged at v = record t { unlogged = replaced_bits t.unlogged at v }
+with_bit_word t bit.Outs at v = record t { outs = replaced_bits t.outs at v }
 
 abbrev pub with_word : Tables → WordTable → ℕ → ℕ → Tables
 with_word t word.Heap k v = record t { heap = changed t.heap k v }

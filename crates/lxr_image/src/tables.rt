@@ -6,7 +6,7 @@
 ghost use Rattle.std.specs.Prelude.{◌≡◌, ◌≢◌, ℕ, ◌+◌, ◌*◌, ◌/◌, ◌%◌, ◌^◌, ◌<◌, ◌≤◌, ◌↔◌, ◌==◌, IsBitSet, IsTrue, false, if◌then◌else◌, slice_index, true};
 ghost use Rattle.std.specs.Int.{bit_at};
 ghost use Rattle.lxr_layout.specs.declared.TheConstants.{GRANULES_IN_BLOCK, GRANULES_IN_LINE, LINES_IN_BLOCK, WORDS_IN_BLOCK};
-ghost use Rattle.lxr_image.specs.Spaces.{IsSpace, Turns, bit_region, bit_table, tables_of, with_bit, with_word, word_region, word_table};
+ghost use Rattle.lxr_image.specs.Spaces.{IsSpace, Turns, bit_region, bit_table, tables_of, with_bit, with_bit_word, with_word, word_region, word_table};
 ghost use Rattle.lxr_image.specs.Tables.{changed};
 ghost use Rattle.lxr_layout.specs.Spaces.{AreLimits, region_begin, region_sizes};
 ghost use Rattle.lxr_tables.specs.Counts.{lowered_count, lowered_of, raised_count};
@@ -102,6 +102,17 @@ impl Space {
         self.words.get(table.begin(self.limits) + at as usize)
     }
 
+    /// Writes a word of a table of bits: those of 64 entries in a row.
+    #[inline(always)]
+    fn put_bit_word_in(&mut self, table: BitTable, at: u32, value: u64)
+        requires space { IsSpace self.old }
+        requires at { at < slice_index (region_sizes self.old.limits) (bit_region table) }
+        ensures { Turns self.old self.new (with_bit_word (tables_of self.old) table at value) }
+    {
+        let base = table.begin(self.limits);
+        self.words.set(base + at as usize, value);
+    }
+
     #[inline(always)]
     fn set_bit_in(&mut self, table: BitTable, index: usize)
         requires space { IsSpace self.old }
@@ -173,6 +184,27 @@ impl Space {
         self.clear_bit_in(BitTable::Starts, granule as usize);
     }
 
+    /// At which of 64 granules in a row an object begins that was promoted and isn't reclaimed.
+    #[inline(always)]
+    pub fn start_word(&self, at: u32) -> u64
+        requires space { IsSpace self.now }
+        requires at { at < 32 * self.now.limits.blocks }
+        ensures { (i : ℕ) → i < 64 → (tables_of self.now).starts (64 * at + i) ≡ (bit_at result i == 1) }
+    {
+        self.bit_word_in(BitTable::Starts, at)
+    }
+
+    /// Writes at which of 64 granules in a row an object begins.
+    #[inline(always)]
+    pub fn put_start_word(&mut self, at: u32, value: u64)
+        requires space { IsSpace self.old }
+        requires at { at < 32 * self.old.limits.blocks }
+        ensures { let t = tables_of self.old in
+            Turns self.old self.new (record t { starts = λ n. if n / 64 == at then bit_at value (n % 64) == 1 else t.starts n }) }
+    {
+        self.put_bit_word_in(BitTable::Starts, at, value);
+    }
+
     /// Whether the tracer has marked the object at the granule.
     #[inline(always)]
     pub fn has_mark(&self, granule: u32) -> bool
@@ -205,6 +237,38 @@ impl Space {
         self.clear_bit_in(BitTable::Marks, granule as usize);
     }
 
+    /// Which of 64 granules in a row have objects that the tracer has marked.
+    #[inline(always)]
+    pub fn mark_word(&self, at: u32) -> u64
+        requires space { IsSpace self.now }
+        requires at { at < 32 * self.now.limits.blocks }
+        ensures { (i : ℕ) → i < 64 → (tables_of self.now).marks (64 * at + i) ≡ (bit_at result i == 1) }
+    {
+        self.bit_word_in(BitTable::Marks, at)
+    }
+
+    /// Writes which of 64 granules in a row have marked objects.
+    #[inline(always)]
+    pub fn put_mark_word(&mut self, at: u32, value: u64)
+        requires space { IsSpace self.old }
+        requires at { at < 32 * self.old.limits.blocks }
+        ensures { let t = tables_of self.old in
+            Turns self.old self.new (record t { marks = λ n. if n / 64 == at then bit_at value (n % 64) == 1 else t.marks n }) }
+    {
+        self.put_bit_word_in(BitTable::Marks, at, value);
+    }
+
+    /// Takes the marks of the objects at 64 granules in a row away.
+    #[inline(always)]
+    pub fn clear_mark_word(&mut self, at: u32)
+        requires space { IsSpace self.old }
+        requires at { at < 32 * self.old.limits.blocks }
+        ensures { let t = tables_of self.old in
+            Turns self.old self.new (record t { marks = λ n. if n / 64 == at then false else t.marks n }) }
+    {
+        self.put_bit_word_in(BitTable::Marks, at, 0);
+    }
+
     /// Whether the tracer has found the object at the granule.
     #[inline(always)]
     pub fn has_gray(&self, granule: u32) -> bool
@@ -235,6 +299,38 @@ impl Space {
             Turns self.old self.new (record t { grays = changed t.grays granule false }) }
     {
         self.clear_bit_in(BitTable::Grays, granule as usize);
+    }
+
+    /// Which of 64 granules in a row have objects that the tracer has found.
+    #[inline(always)]
+    pub fn gray_word(&self, at: u32) -> u64
+        requires space { IsSpace self.now }
+        requires at { at < 32 * self.now.limits.blocks }
+        ensures { (i : ℕ) → i < 64 → (tables_of self.now).grays (64 * at + i) ≡ (bit_at result i == 1) }
+    {
+        self.bit_word_in(BitTable::Grays, at)
+    }
+
+    /// Writes which of 64 granules in a row have objects that the tracer has found.
+    #[inline(always)]
+    pub fn put_gray_word(&mut self, at: u32, value: u64)
+        requires space { IsSpace self.old }
+        requires at { at < 32 * self.old.limits.blocks }
+        ensures { let t = tables_of self.old in
+            Turns self.old self.new (record t { grays = λ n. if n / 64 == at then bit_at value (n % 64) == 1 else t.grays n }) }
+    {
+        self.put_bit_word_in(BitTable::Grays, at, value);
+    }
+
+    /// Forgets that the tracer has found the objects at 64 granules in a row.
+    #[inline(always)]
+    pub fn clear_gray_word(&mut self, at: u32)
+        requires space { IsSpace self.old }
+        requires at { at < 32 * self.old.limits.blocks }
+        ensures { let t = tables_of self.old in
+            Turns self.old self.new (record t { grays = λ n. if n / 64 == at then false else t.grays n }) }
+    {
+        self.put_bit_word_in(BitTable::Grays, at, 0);
     }
 
     /// Whether the dead object at the granule is claimed for handling.
@@ -277,6 +373,17 @@ impl Space {
             Turns self.old self.new (record t { dones = changed t.dones granule false }) }
     {
         self.clear_bit_in(BitTable::Dones, granule as usize);
+    }
+
+    /// Writes which of 64 granules in a row have dead objects that are claimed for handling.
+    #[inline(always)]
+    pub fn put_done_word(&mut self, at: u32, value: u64)
+        requires space { IsSpace self.old }
+        requires at { at < 32 * self.old.limits.blocks }
+        ensures { let t = tables_of self.old in
+            Turns self.old self.new (record t { dones = λ n. if n / 64 == at then bit_at value (n % 64) == 1 else t.dones n }) }
+    {
+        self.put_bit_word_in(BitTable::Dones, at, value);
     }
 
     /// Whether the reference at the heap word hasn't been stored to since the last pause.
@@ -374,8 +481,7 @@ impl Space {
         ensures { let t = tables_of self.old in
             Turns self.old self.new (record t { outs = λ n. if n / 64 == at then false else t.outs n }) }
     {
-        let base = BitTable::Outs.begin(self.limits);
-        self.words.set(base + at as usize, 0);
+        self.put_bit_word_in(BitTable::Outs, at, 0);
     }
 
     /// A word of the heap.

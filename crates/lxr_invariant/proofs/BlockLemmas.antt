@@ -12,7 +12,7 @@ use Rattle.lxr_blocks.specs.Lines.{IsFreeRun, are_zero, free_count, free_in, is_
 use Rattle.lxr_blocks.specs.States.{KeepsState, is_fixed, state_by_lines, state_in}
 use Rattle.lxr_blocks.specs.Handing.{first_line, is_between, with_lines_out}
 use Rattle.lxr_model.specs.Moments.{Trace}
-use Rattle.lxr_invariant.specs.Lines.{ChosenNeedTrace, HasBlocks, chosen_count, is_chosen}
+use Rattle.lxr_invariant.specs.Lines.{ChosenNeedTrace, HasBlocks, NoneChosen, chosen_count, is_chosen}
 use Rattle.lxr_invariant.proofs.FrameLemmas.{chosen_same, need_same}
 
 -- ---- kept states
@@ -52,14 +52,18 @@ blocks_kept t u blocks trace states cursor is =
       tracing = cursor ∙ is.tracing;
     }
 
--- ---- where no trace runs
+-- ---- where no block is Chosen
+
+-- none becomes Chosen
+pub none_kept : (t u : Tables) (blocks : ℕ) → ((b : ℕ) → KeepsState t u b) → NoneChosen t blocks → NoneChosen u blocks
+none_kept t u blocks states none = chosen_same t u blocks (λ b low. still_chosen t u b (states b)) ∙ none
 
 -- a Chosen block counts
 chosen_counts : (state : BlockState) → state ≡ Chosen → 1 ≤ (if is_chosen state then 1 else 0)
 chosen_counts state is = subst (λ x. 1 ≤ (if is_chosen x then 1 else 0)) (sym is) (omega arith)
 
 -- where none counts, none is Chosen
-none_counted : (t : Tables) (blocks b : ℕ) → chosen_count t blocks ≡ 0 → b < blocks → state_in t b ≢ Chosen
+pub none_counted : (t : Tables) (blocks b : ℕ) → NoneChosen t blocks → b < blocks → state_in t b ≢ Chosen
 none_counted t zero b none within is = absurd (omega arith)
 none_counted t (suc k) b none within is = elim (eqb_tells b k) [
   | inl e ↦

@@ -4,5 +4,7 @@ pub mod PlaceLemmas
 pub mod FrameLemmas
 pub mod OpeningLemmas
 pub mod BlockLemmas
+pub mod ToldLemmas
 pub mod MemberLemmas
 pub mod KeepingLemmas
+pub mod InsideLemmas

@@ -6,4 +6,5 @@ pub mod Tracing
 pub mod Quiescent
 pub mod Listed
 pub mod Raised
+pub mod Settled
 pub mod Keeping

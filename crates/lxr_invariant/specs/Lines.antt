@@ -80,9 +80,13 @@ abbrev pub chosen_count : Tables → ℕ → ℕ
 chosen_count t zero = 0
 chosen_count t (suc b) = (if is_chosen (state_in t b) then 1 else 0) + chosen_count t b
 
+-- no block is Chosen
+abbrev pub NoneChosen : Tables → ℕ → Type 0
+NoneChosen t blocks = chosen_count t blocks ≡ 0
+
 -- no block is Chosen where no trace runs
 abbrev pub ChosenNeedTrace : Tables → ℕ → Option Trace → Type 0
-ChosenNeedTrace t blocks None = chosen_count t blocks ≡ 0
+ChosenNeedTrace t blocks None = NoneChosen t blocks
 ChosenNeedTrace t blocks (Some trace) = ⊤
 
 -- the tracing word: 1 where a trace runs

@@ -50,7 +50,7 @@ pub record CountsAreRaised (t : Tables) (m : Moment) (at : Name → ℕ) (promot
   pub full : (n : Name) → IsTrue (has (with_promoted m promoted) n) → IsTrue (has (union stuck m.stuck) n) → count_at t at n ≡ STUCK
   pub exact : (n : Name) → IsTrue (has (with_promoted m promoted) n) → has (union stuck m.stuck) n ≡ false → count_at t at n ≡ count_raised m promoted n
 
--- Increments are done for a moment whose dead are gone; no trace runs. The report has the promoted names and those that
+-- Increments are done for a moment whose dead are gone. The report has the promoted names and those that
 -- became stuck. Promoted objects have their bits and marks, logs and deferred registers are still those of the safepoint,
 -- no line is out, and no decrement waits.
 pub record IsRaised (s : Space) (m : Moment) (at : Name → ℕ) (promoted stuck : List Name) : Type 0 where

@@ -10,7 +10,7 @@ use Rattle.lxr_layout.specs.declared.Place.{Place}
 use Rattle.lxr_layout.specs.Places.{first_word}
 use Rattle.lxr_layout.specs.Runs.{IsEntry, word_of_entry}
 use Rattle.lxr_graph.specs.Names.{IsSetOf, has}
-use Rattle.lxr_graph.specs.State.{HasObject, object_at, refs_of, world_name}
+use Rattle.lxr_graph.specs.State.{HasObject, State, object_at, refs_of, world_name}
 use Rattle.lxr_image.specs.Tables.{Tables}
 use Rattle.lxr_image.specs.Reads.{granule_of}
 use Rattle.lxr_blocks.specs.declared.states.BlockState.TheVariants.{Chosen}
@@ -59,6 +59,11 @@ pub record SnapshotIsCovered (t : Tables) (m : Moment) (at : Name → ℕ) (entr
   pub registers : (n : Name) → Holds trace.state n → IsCovered t m at entries n
   pub references : (u v : Name) (i : ℕ) → Reachable trace.state u → slice_get (refs_of (object_at trace.state.graph u)) i ≡ Some (Some v)
       → IsCovered t m at entries v ⊎ IsToBeScanned t m at u i v
+
+-- While a trace runs, a decrementer makes gray what a dead object refers to before it lowers it: so what an object that is done
+-- referred to at the last pause is gray.
+abbrev pub HandledAreGray : Tables → Moment → (Name → ℕ) → Type 0
+HandledAreGray t m at = (u n : Name) → IsTrue (has m.unreclaimed u) → IsTrue (is_done t at u) → Refers m.last.graph u n → IsGray t at n
 
 -- a name belongs to the snapshot or is younger
 abbrev pub IsInSnapshot : Moment → Trace → Name → Type 0
@@ -119,6 +124,7 @@ pub record TraceHolds (l : Limits) (t : Tables) (entries : List LogEntry) (g : A
   pub reachable : IsSetOf snapshot (Reachable trace.state)
   pub covered : SnapshotIsCovered t g.moment g.at entries trace
   pub inside : MarksStayInside t g.moment g.at trace
+  pub handled : HandledAreGray t g.moment g.at
   pub remembered : IsRememberedSoFar l t g.moment g.at trace (rememberable trace snapshot)
   pub few : rememberable trace snapshot ≤ 2 ^ 23 * (g.moment.number + 1)
 
@@ -126,3 +132,19 @@ pub record TraceHolds (l : Limits) (t : Tables) (entries : List LogEntry) (g : A
 abbrev pub IsTracedBy : Limits → Tables → List LogEntry → AbstractState → Option Trace → Type 0
 IsTracedBy l t entries g None = ⊤
 IsTracedBy l t entries g (Some trace) = TraceHolds l t entries g trace
+
+-- ---- what a trace is to mark
+
+-- the world, or what a register holds
+abbrev pub IsRoot : State → Name → Type 0
+IsRoot s n = (n ≡ world_name) ⊎ Holds s n
+
+-- the object of a name is not marked
+abbrev pub IsUnmarked : Tables → (Name → ℕ) → Name → Type 0
+IsUnmarked t at n = t.marks (granule_of (at n)) ≡ false
+
+-- The least set of unreclaimed names that are not marked yet and are gray, or that one of the set refers to now: what is left for a
+-- trace to mark.
+pub data IsToBeMarked (t : Tables) (m : Moment) (at : Name → ℕ) : Name → Type 0 where
+  gray : (n : Name) → IsTrue (has m.unreclaimed n) → IsUnmarked t at n → IsGray t at n → IsToBeMarked t m at n
+  referred : (u n : Name) → IsToBeMarked t m at u → Refers m.state.graph u n → IsUnmarked t at n → IsToBeMarked t m at n

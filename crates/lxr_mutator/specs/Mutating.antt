@@ -1,5 +1,5 @@
 -- What contracts see of a mutator, and what it is about to do.
-use Rattle.std.specs.Prelude.{ℕ, ◌+◌, ◌≡◌, Bool, true, false, if◌then◌else◌, Option, Some, None, List, length, slice_index_or}
+use Rattle.std.specs.Prelude.{ℕ, ◌+◌, ◌-◌, ◌≡◌, Bool, true, false, ◌&&◌, if◌then◌else◌, nat_lt, Option, Some, None, List, length, slice_get, slice_index_or}
 use Rattle.std.specs.List.{count_by}
 use Rattle.lxr_layout.specs.declared.Place.{Place}
 use Rattle.lxr_layout.specs.declared.Name.{Name}
@@ -60,6 +60,19 @@ is_loaded r = false
 abbrev pub is_stored : Reply → Bool
 is_stored reply.Stored = true
 is_stored r = false
+
+-- the reply of its last operation, if it has done one
+abbrev pub last_reply : Mutating → Option Reply
+last_reply m = slice_get m.replies.items (length m.replies.items - 1)
+
+-- the reply to a `collect`
+abbrev pub is_collected : Option Reply → Bool
+is_collected (Some reply.Collected) = true
+is_collected r = false
+
+-- its last operation was a `collect`, and it did it in this epoch
+abbrev pub has_collected : Mutating → Bool
+has_collected m = nat_lt 0 m.since && is_collected (last_reply m)
 
 -- how many replies are of each of these kinds
 abbrev pub tally_of : List Reply → MutTally

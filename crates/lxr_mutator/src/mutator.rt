@@ -5,7 +5,7 @@ ghost use Rattle.lxr_layout.specs.Objects.{FitsShape};
 ghost use Rattle.lxr_layout.specs.Spaces.{AreLimits};
 ghost use Rattle.lxr_base.specs.Roomy.{emptied};
 ghost use Rattle.lxr_graph.specs.Step.{IsWellFormed};
-ghost use Rattle.lxr_mutator.specs.Mutating.{IsWaiting, next_name, op_now, register, rests_in, tally_of, waiting_by};
+ghost use Rattle.lxr_mutator.specs.Mutating.{IsWaiting, has_collected, last_reply, next_name, op_now, register, rests_in, tally_of, waiting_by};
 ghost use Rattle.lxr_mutator.specs.Steps.{shape_now, with_register};
 ghost use Rattle.lxr_mutator.specs.Mutators.{IsHeld, IsMutator, IsOperation, again, answered, first, held_place, no_spans, served};
 
@@ -179,6 +179,23 @@ impl Mutator {
         ensures sound { IsMutator self.now }
     {
         self.replies.len() as u32
+    }
+
+    /// Whether its last operation was a `collect` that it did in this epoch.
+    pub fn has_collected(&self) -> bool
+        ensures { result ≡ has_collected self.now }
+    {
+        self.since > 0 && matches!(self.last_reply(), Some(Reply::Collected))
+    }
+
+    /// The reply of its last operation; none before the first.
+    fn last_reply(&self) -> Option<Reply>
+        ensures { result ≡ last_reply self.now }
+    {
+        match self.replies.len() {
+            0 => None,
+            count => self.replies.get(count - 1),
+        }
     }
 
     /// What its operations did so far.

@@ -1,8 +1,10 @@
 -- What holds of a moment is what the decrements need, and what they leave.
 use Rattle.std.proofs.Common.{◌≡◌, ℕ, ◌+◌, ◌*◌, ◌≤◌, refl, sym, ap, subst, ◌∙◌, inl, inr, arith, false, List, [], ◌∷◌, ◌++◌, IsTrue, length}
 use Rattle.std.specs.Prelude.{not, filter, reverse, slice_get}
+use Rattle.std.proofs.lemmas.List.{length-reverse}
 use Rattle.lxr_layout.specs.declared.TheConstants.{GRANULES_IN_BLOCK, TRACING_WORD}
 use Rattle.lxr_layout.specs.declared.Name.{Name}
+use Rattle.lxr_layout.specs.declared.limits.Limits.{Limits}
 use Rattle.lxr_base.specs.Roomy.{Roomy}
 use Rattle.lxr_layout.specs.declared.Place.{Place}
 use Rattle.lxr_graph.specs.Names.{has, without}
@@ -24,7 +26,7 @@ use Rattle.lxr_model_counting.proofs.LoweringLemmas.{without_none}
 use Rattle.lxr_model_counting.proofs.DeathLemmas.{left_follows}
 use Rattle.lxr_invariant.specs.AbstractState.{leaving}
 use Rattle.lxr_invariant.specs.Standing.{AreLogged, HasBits, IsUnwritten}
-use Rattle.lxr_invariant.specs.Counting.{HasCounts, IsUndecremented, is_done, undone, waiting_at}
+use Rattle.lxr_invariant.specs.Counting.{HasCounts, IsUndecremented, is_done, passing, undone, waiting_at}
 use Rattle.lxr_invariant.specs.Lines.{HasBlocks, HasMarks}
 use Rattle.lxr_invariant.specs.Quiescent.{HoldsMoment}
 use Rattle.lxr_invariant.proofs.NameLemmas.{in_first}
@@ -33,13 +35,14 @@ use Rattle.lxr_invariant.proofs.FrameLemmas.{AreAsMany, blocks_still, imaged_lef
 use Rattle.lxr_pause_decrements.specs.Finishing.{CanFinish, Finishes}
 use Rattle.lxr_pause_decrements.specs.Cascade.{CascadeStage, Ground, IsFinished, IsHandling, Leaves, come_to, later, with_lists}
 use Rattle.lxr_pause_decrements.proofs.WipeLemmas.{loses_none, loses_same}
+use Rattle.lxr_pause_decrements.proofs.GrayLemmas.{grays_end, grays_none, handled_first}
 use Rattle.lxr_pause_decrements.proofs.CascadeLemmas.{has_reversed}
 
 -- ---- into the decrements
 
 -- the stage at which the decrements begin
 abbrev pub first_stage : Space → Moment → (Name → ℕ) → CascadeStage
-first_stage s m at = record { moment = m; at = at; was = tables_of s; before = s.report.dead.items; gone = []; work = []; extra = λ o. 0; passed = 0 }
+first_stage s m at = record { moment = m; at = at; was = tables_of s; before = s.report.dead.items; gone = []; work = []; under = []; extra = λ o. 0; ungrayed = λ o. 0; passed = 0 }
 
 append_nothing : {A : Type 0} (xs : List A) → xs ≡ xs ++ []
 append_nothing [] = refl
@@ -89,10 +92,11 @@ opening s m at can =
           bits = subst (HasBits t m at) (sym all) is.bits;
           marks = subst (HasMarks t m.state.graph at) (sym all) is.marks;
           lost_marks = loses_none t.marks at;
-          lost_grays = loses_none t.grays at;
+          tracing = is.blocks.tracing;
           decrements = is.decrements;
           once = tt;
           reported = append_nothing s.report.dead.items;
+          fewer = omega arith;
           dead_room = let r = can.room in omega (arith, few, r);
         };
         exact = λ o in_o unstuck. is.counts.exact o in_o unstuck ∙ ap (λ us. references m.last (undone t at us) o + waiting_at t (at o)) (sym all);
@@ -101,6 +105,10 @@ opening s m at can =
         done_dead = is.counts.dead;
         done_zero = is.counts.done;
         no_work = is.no_work;
+        grays = grays_none m.trace t.grays m at;
+        handled = handled_first m.trace t m at can.handled;
+        no_under = refl;
+        between = λ o. refl;
         work_room = let r = is.room.work in omega (arith, r);
       };
     }
@@ -236,9 +244,14 @@ finishes s after m at gone passed can fin leaves =
       holds = subst (λ z. HoldsMoment after (leaving m z) at) left (holds_left s after m at gone passed can fin leaves);
       undecremented = subst (λ z. IsUndecremented (tables_of after) (leaving m z) at) left (undecremented_left s after m at gone passed fin);
       empty = fin.emptied.waiting;
+      fewer =
+          let limits : after.limits ≡ s.limits = ap (λ z. z.limits) leaves.rest in
+          let all : ℕ → Limits → ℕ = λ n l. n + passing (tables_of after).starts (GRANULES_IN_BLOCK * l.blocks) in
+          subst (λ n. all n s.limits ≡ passing (tables_of s).starts (GRANULES_IN_BLOCK * s.limits.blocks)) (sym (length-reverse gone))
+          (subst (λ l. all (length gone) l ≡ passing (tables_of s).starts (GRANULES_IN_BLOCK * l.blocks)) limits fin.emptied.opening.stage.cascade.remains.fewer);
       keeps = leaves.tables.keeps;
       marks = loses_same (tables_of s).marks (tables_of after).marks at gone (reverse gone) (has_reversed gone) fin.emptied.opening.stage.cascade.remains.lost_marks;
-      grays = loses_same (tables_of s).grays (tables_of after).grays at gone (reverse gone) (has_reversed gone) fin.emptied.opening.stage.cascade.remains.lost_grays;
+      grays = grays_end m.trace (tables_of s).grays (tables_of after).grays m at gone (reverse gone) [] (λ o. 0) (has_reversed gone) left refl (λ o. refl) fin.gone fin.emptied.opening.stage.cascade.grays;
       decs = leaves.tables.decs;
       states = leaves.tables.states;
       outs = leaves.tables.outs;

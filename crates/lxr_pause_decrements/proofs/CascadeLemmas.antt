@@ -1,13 +1,13 @@
 -- One lowering on the tables is one lowering of the names.
 use Rattle.std.proofs.Common.{◌≡◌, ◌≢◌, ℕ, ◌+◌, ◌-◌, ◌*◌, ◌/◌, ◌<◌, ◌≤◌, refl, sym, ap, subst, ◌∙◌, inl, inr, ◌⊎◌, arith, Bool, true, false, cond, List, [], ◌∷◌, ◌++◌, IsTrue, length, length-append, nat_eq}
-use Rattle.std.specs.Prelude.{◌||◌, map, reverse, Some}
+use Rattle.std.specs.Prelude.{◌==◌, ◌||◌, map, reverse, Some}
 use Rattle.std.proofs.lemmas.List.{reverse-append}
 use Rattle.std.proofs.lemmas.Bool.{or_cases, or_left, or_right}
 use Rattle.std.proofs.lemmas.Bool.Decides.{eqb_tells}
 use Rattle.lxr_layout.specs.declared.Name.{Name}
 use Rattle.lxr_layout.specs.declared.Place.{Place}
 use Rattle.lxr_layout.specs.declared.limits.Limits.{Limits}
-use Rattle.lxr_layout.specs.declared.TheConstants.{GRANULES_IN_BLOCK, STUCK}
+use Rattle.lxr_layout.specs.declared.TheConstants.{GRANULES_IN_BLOCK, STUCK, TRACING_WORD}
 use Rattle.lxr_layout.specs.Objects.{word_count}
 use Rattle.lxr_layout.specs.Places.{first_word}
 use Rattle.lxr_base.specs.Roomy.{Roomy, pushed}
@@ -19,11 +19,14 @@ use Rattle.lxr_tables.specs.declared.counts.Lowered.TheVariants.{Stuck, Zero, No
 use Rattle.lxr_image.specs.Tables.{Tables, changed}
 use Rattle.lxr_image.specs.Reads.{granule_of}
 use Rattle.lxr_image.specs.Image.{granules_of}
+use Rattle.lxr_model.specs.Dead.{Dead}
 use Rattle.lxr_model.specs.Moments.{Moment}
+use Rattle.lxr_model.specs.Reachable.{Refers}
 use Rattle.lxr_model.specs.References.{occurrences, references_from}
+use Rattle.lxr_model.proofs.ReachableLemmas.{dead_parts}
 use Rattle.lxr_model_counting.specs.Distinct.{IsDistinct}
-use Rattle.lxr_model_counting.specs.Lowering.{IsLowered, LoweredAt, TakenFrom}
-use Rattle.lxr_model_counting.proofs.DistinctLemmas.{tested, or_false}
+use Rattle.lxr_model_counting.specs.Lowering.{IsLowered, LoweredAt, TakenFrom, once}
+use Rattle.lxr_model_counting.proofs.DistinctLemmas.{tested}
 use Rattle.lxr_model_counting.proofs.LoweringLemmas.{drops, lowered_still, lowers, once_other, once_same, stuck_stays}
 use Rattle.lxr_invariant.specs.Counting.{count_at}
 use Rattle.lxr_invariant.specs.Lines.{HasMarks, IsMarkOf, line_behind, next_line}
@@ -32,7 +35,9 @@ use Rattle.lxr_invariant.proofs.NameLemmas.{distinct_more, has_more}
 use Rattle.lxr_invariant.proofs.EntryLemmas.{changed_here, changed_other, passing_cleared, unlike_number}
 use Rattle.lxr_invariant.proofs.PlaceLemmas.{line_mark, mark_line, same_object}
 use Rattle.lxr_invariant.proofs.FrameLemmas.{bits_still}
-use Rattle.lxr_pause_decrements.specs.Cascade.{Cascade, CascadeStage, Ground, IsHeader, Remains, come_to, kept, later, waits, without_object}
+use Rattle.lxr_pause_decrements.specs.Cascade.{Cascade, CascadeStage, Ground, IsHeader, Remains, come_to, grayed_if, graying, kept, later, waits, without_object}
+use Rattle.lxr_pause_decrements.proofs.GrayLemmas.{gray_starts, grays_fall, grays_step}
+use Rattle.lxr_pause_decrements.proofs.LeftLemmas.{left_still, still_left}
 use Rattle.lxr_pause_decrements.proofs.WipeLemmas.{cleared_in, cleared_out, loses_more, range_cases, wipe_cases, wiped_in, wiped_out}
 
 -- ---- places
@@ -90,25 +95,6 @@ pub has_reversed : (ns : List Name) (n : Name) → has (reverse ns) n ≡ has ns
 has_reversed [] n = refl
 has_reversed (x ∷ ns) n =
     ap (λ z. has z n) (reverse-append (x ∷ []) ns) ∙ has_more (reverse ns) x n ∙ ap (λ b. b || same_name n x) (has_reversed ns n) ∙ or_flip (has ns n) (same_name n x)
-
--- ---- what is left
-
--- a name that is left once r is gone
-pub record StillLeft (us gone : List Name) (r n : Name) : Type 0 where
-  pub member : IsTrue (has us n)
-  pub other : same_name n r ≡ false
-  pub before : IsTrue (has (without us gone) n)
-
-pub still_left : (us gone : List Name) (r n : Name) → IsTrue (has (without us (r ∷ gone)) n) → StillLeft us gone r n
-still_left us gone r n h =
-    let a = without_parts us (r ∷ gone) n h in
-    let b = or_false (same_name n r) (has gone n) a.1 in
-    record { member = a.0; other = b.0; before = in_without us gone n a.0 (λ k. not_both (has gone n) k b.1) }
-
-pub left_still : (us gone : List Name) (r n : Name) → IsTrue (has (without us gone) n) → same_name n r ≡ false → IsTrue (has (without us (r ∷ gone)) n)
-left_still us gone r n h other =
-    let a = without_parts us gone n h in
-    in_without us (r ∷ gone) n a.0 (λ k. elim (or_cases (same_name n r) (has gone n) k) [ inl q ↦ not_both (same_name n r) q other | inr q ↦ not_both (has gone n) q a.1 ])
 
 -- ---- one lowering
 
@@ -227,19 +213,20 @@ marks_other heap blocks m at ground t v r gone in_r left_r is = record {
 }
 
 -- what is left, at another stage at which the same names are gone
-pub remains_still : (l : Limits) (t : Tables) (d : Roomy Name) (st : CascadeStage) (work : List Name) (extra : Name → ℕ) (passed : ℕ) → Remains l t d st
-    → Remains l t d (come_to (later st st.gone work extra) passed)
-remains_still l t d st work extra passed is = record {
+pub remains_still : (l : Limits) (t : Tables) (d : Roomy Name) (st : CascadeStage) (work : List Name) (extra ungrayed : Name → ℕ) (passed : ℕ) → Remains l t d st
+    → Remains l t d (come_to (graying (later st st.gone work extra) ungrayed) passed)
+remains_still l t d st work extra ungrayed passed is = record {
   ground = is.ground;
   stuck = is.stuck;
   below = is.below;
   bits = is.bits;
   marks = is.marks;
   lost_marks = is.lost_marks;
-  lost_grays = is.lost_grays;
+  tracing = is.tracing;
   decrements = is.decrements;
   once = is.once;
   reported = is.reported;
+  fewer = is.fewer;
   dead_room = is.dead_room;
 }
 
@@ -260,10 +247,11 @@ sinks l t w d st r rest v is in_r taken unstuck two v_is =
         bits = bits_still t t2 m st.at (kept st) refl refl refl refl refl is.remains.bits;
         marks = marks_other t.heap l.blocks m st.at ground t v r st.gone in_r (counted_left l t w d st r is in_r (omega (arith, two))).1 is.remains.marks;
         lost_marks = is.remains.lost_marks;
-        lost_grays = is.remains.lost_grays;
+        tracing = is.remains.tracing;
         decrements = record { fits = is.remains.decrements.fits; places = is.remains.decrements.places };
         once = is.remains.once;
         reported = is.remains.reported;
+        fewer = is.remains.fewer;
         dead_room = is.remains.dead_room;
       };
       lowered = lowers m.last m.unreclaimed m.stuck st.gone (count_at t st.at) (waits t st)
@@ -274,6 +262,7 @@ sinks l t w d st r rest v is in_r taken unstuck two v_is =
         | inr k ↦ is.passed n in_n loose before (sym (written_other t.heap l.blocks m st.at ground t.counts v n r in_n in_r k) ∙ none)
       ];
       none_done = is.none_done;
+      grays = is.grays;
       work = is.work;
       work_gone = is.work_gone;
       work_room = is.work_room;
@@ -340,7 +329,7 @@ unlogged_back heap blocks m at ground t r gone ro in_r has_ro is x (n, i, u) =
     ∙ (is.unlogged (word_of_field at n i)).1 (n, i, record { member = l.before; index = u.index; unwritten = u.unwritten; word = refl })
 
 -- the bits of what is left without r
-bits_fall : (heap : ℕ → ℕ) (blocks : ℕ) (m : Moment) (at : Name → ℕ) → Ground heap blocks m at → (t : Tables) (r : Name) (gone : List Name) (ro : Object) → IsTrue (has m.unreclaimed r)
+pub bits_fall : (heap : ℕ → ℕ) (blocks : ℕ) (m : Moment) (at : Name → ℕ) → Ground heap blocks m at → (t : Tables) (r : Name) (gone : List Name) (ro : Object) → IsTrue (has m.unreclaimed r)
     → object_at m.state.graph r ≡ Some ro → t.dones (granule_of (at r)) ≡ false → HasBits t m at (without m.unreclaimed gone) → HasBits (bare t at r ro) m at (without m.unreclaimed (r ∷ gone))
 bits_fall heap blocks m at ground t r gone ro in_r has_ro not_done is =
     let g : ℕ = granule_of (at r) in
@@ -369,7 +358,7 @@ bits_fall heap blocks m at ground t r gone ro in_r has_ro not_done is =
     }
 
 -- the marks of what is left without r
-marks_fall : (heap : ℕ → ℕ) (blocks : ℕ) (m : Moment) (at : Name → ℕ) → Ground heap blocks m at → (t : Tables) (r : Name) (gone : List Name) (ro : Object) → IsTrue (has m.unreclaimed r)
+pub marks_fall : (heap : ℕ → ℕ) (blocks : ℕ) (m : Moment) (at : Name → ℕ) → Ground heap blocks m at → (t : Tables) (r : Name) (gone : List Name) (ro : Object) → IsTrue (has m.unreclaimed r)
     → object_at m.state.graph r ≡ Some ro → HasMarks t m.state.graph at (without m.unreclaimed gone) → HasMarks (bare t at r ro) m.state.graph at (without m.unreclaimed (r ∷ gone))
 marks_fall heap blocks m at ground t r gone ro in_r has_ro is =
     let g : ℕ = granule_of (at r) in
@@ -402,7 +391,7 @@ marks_fall heap blocks m at ground t r gone ro in_r has_ro is =
     }
 
 -- the counts of what was unreclaimed stay but for r's
-count_bare : (heap : ℕ → ℕ) (blocks : ℕ) (m : Moment) (at : Name → ℕ) → Ground heap blocks m at → (t : Tables) (r : Name) (ro : Object) → IsTrue (has m.unreclaimed r)
+pub count_bare : (heap : ℕ → ℕ) (blocks : ℕ) (m : Moment) (at : Name → ℕ) → Ground heap blocks m at → (t : Tables) (r : Name) (ro : Object) → IsTrue (has m.unreclaimed r)
     → object_at m.state.graph r ≡ Some ro → (n : Name) → IsTrue (has m.unreclaimed n) → count_at (bare t at r ro) at n ≡ changed t.counts (granule_of (at r)) 0 (granule_of (at n))
 count_bare heap blocks m at ground t r ro in_r has_ro n in_n =
     let g : ℕ = granule_of (at r) in
@@ -439,10 +428,11 @@ remains_fall l t d st r work extra ro is in_r not_gone unstuck not_done has_ro =
       bits = bits_fall t.heap l.blocks m st.at is.ground t r st.gone ro in_r has_ro not_done is.bits;
       marks = marks_fall t.heap l.blocks m st.at is.ground t r st.gone ro in_r has_ro is.marks;
       lost_marks = loses_more st.was.marks t.marks st.at st.gone r is.lost_marks;
-      lost_grays = loses_more st.was.grays t.grays st.at st.gone r is.lost_grays;
+      tracing = is.tracing;
       decrements = record { fits = is.decrements.fits; places = is.decrements.places };
       once = subst IsDistinct (sym (reverse-append (r ∷ []) st.gone)) (distinct_more (reverse st.gone) r is.once (has_reversed st.gone r ∙ not_gone));
       reported = ap (λ xs. xs ++ r ∷ []) is.reported ∙ sym (append_group st.before (reverse st.gone) (r ∷ [])) ∙ ap (λ z. st.before ++ z) (sym (reverse-append (r ∷ []) st.gone));
+      fewer = let k = is.fewer in omega (arith, k, fewer);
       dead_room = let k = is.dead_room in let z = length-append d.items (r ∷ []) in omega (arith, k, z, fewer);
     }
 
@@ -463,7 +453,7 @@ goes l t w d st r rest ro passed is in_r not_gone unstuck has_ro lowered before 
     let unwiped = count_bare t.heap l.blocks m st.at ground t r ro in_r has_ro in
     let cleared_r : count_at t2 st.at r ≡ 0 = unwiped r in_r ∙ written_same st.at t.counts 0 r r (same_itself r) in
     record {
-      remains = remains_still l t2 (pushed d r) (later st (r ∷ st.gone) (st.work ++ r ∷ []) rest) (st.work ++ r ∷ []) rest passed
+      remains = remains_still l t2 (pushed d r) (later st (r ∷ st.gone) (st.work ++ r ∷ []) rest) (st.work ++ r ∷ []) rest st.ungrayed passed
           (remains_fall l t d st r (st.work ++ r ∷ []) rest ro is.remains in_r not_gone unstuck (is.none_done g) has_ro);
       lowered = drops m.last m.unreclaimed m.stuck st.gone (count_at t2 st.at) (waits t (later st st.gone st.work rest)) (waits t (later st (r ∷ st.gone) (st.work ++ r ∷ []) rest)) r
           lowered ground.distinct in_r unstuck not_gone cleared_r (λ o. let e = refs_more m.last.graph st.work r o in omega (arith, e));
@@ -473,7 +463,8 @@ goes l t w d st r rest ro passed is in_r not_gone unstuck has_ro lowered before 
             (sym (written_other t.heap l.blocks m st.at ground t.counts 0 n r in_n in_r k) ∙ sym (unwiped n in_n) ∙ none))
       ];
       none_done = is.none_done;
-      work = ap (λ xs. xs ++ place_of st.at r ∷ []) is.work ∙ sym (places_more st.at st.work r);
+      grays = grays_fall m.trace st.was.grays t.grays m st.at st.gone st.work st.ungrayed r is.grays in_r (λ n in_n other. granules_differ t.heap l.blocks m st.at ground n r in_n in_r other);
+      work = ap (λ xs. xs ++ place_of st.at r ∷ []) is.work ∙ sym (append_group st.under (map (place_of st.at) st.work) (place_of st.at r ∷ [])) ∙ ap (λ xs. st.under ++ xs) (sym (places_more st.at st.work r));
       work_gone = λ n h. elim (or_cases (has st.work n) (same_name n r) (sym (has_more st.work r n) ∙ h)) [
         | inl k ↦ or_right (same_name n r) (has st.gone n) (is.work_gone n k)
         | inr k ↦ or_left (same_name n r) (has st.gone n) k
@@ -508,15 +499,55 @@ dropped l t w d st r ro is in_r not_gone none come has_ro =
     (count_stays t.heap l.blocks m st.at ground t r ro in_r has_ro none) (λ o in_o. refl) is.lowered)
     (λ n in_n other below. let apart = granules_differ t.heap l.blocks m st.at ground n r in_n in_r other in omega (arith, below, apart, come))
 
+-- what the dead r referred to is made gray, if a trace runs
+pub made_gray : (l : Limits) (t : Tables) (w : Roomy Place) (d : Roomy Name) (st : CascadeStage) (tracing : Bool) (h : Name → ℕ) (r n : Name) → Cascade l t w d st
+    → tracing ≡ (t.cursors TRACING_WORD == 1) → Dead st.moment.last st.moment.unreclaimed st.moment.stuck r → Refers st.moment.last.graph r n → IsTrue (has (kept st) n)
+    → ((o : Name) → st.ungrayed o ≡ once o n + h o) → Cascade l (record t { grays = grayed_if tracing t.grays (granule_of (st.at n)) }) w d (graying st h)
+made_gray l t w d st tracing h r n is told was_dead refers left taken =
+    let m : Moment = st.moment in
+    let u : Tables = record t { grays = grayed_if tracing t.grays (granule_of (st.at n)) } in
+    let in_n = (without_parts m.unreclaimed st.gone n left).0 in
+    record {
+      remains = record {
+        ground = is.remains.ground;
+        stuck = is.remains.stuck;
+        below = is.remains.below;
+        bits = record {
+          starts = record { each = is.remains.bits.starts.each; only = is.remains.bits.starts.only };
+          marks = is.remains.bits.marks;
+          grays = gray_starts tracing t.starts t.grays (granule_of (st.at n)) (is.remains.bits.starts.each n left) is.remains.bits.grays;
+          dones = is.remains.bits.dones;
+          unlogged = is.remains.bits.unlogged;
+        };
+        marks = record { marked = is.remains.marks.marked; elsewhere = is.remains.marks.elsewhere };
+        lost_marks = is.remains.lost_marks;
+        tracing = is.remains.tracing;
+        decrements = record { fits = is.remains.decrements.fits; places = is.remains.decrements.places };
+        once = is.remains.once;
+        reported = is.remains.reported;
+        fewer = is.remains.fewer;
+        dead_room = is.remains.dead_room;
+      };
+      lowered = record { dead = is.lowered.dead; zero = is.lowered.zero; exact = is.lowered.exact };
+      passed = is.passed;
+      none_done = is.none_done;
+      grays = grays_step m.trace tracing st.was.grays t.grays m st.at st.gone st.work st.ungrayed h r n (told ∙ ap (λ k. k == 1) is.remains.tracing) is.grays was_dead refers left
+          (λ x in_x other. granules_differ t.heap l.blocks m st.at is.remains.ground x n in_x in_n other) (λ x went. (dead_parts (is.lowered.dead x went)).member) taken;
+      work = is.work;
+      work_gone = is.work_gone;
+      work_room = is.work_room;
+    }
+
 -- ---- every lowering but the last
 
 is_stuck : (l : Limits) (t : Tables) (w : Roomy Place) (d : Roomy Name) (st : CascadeStage) (r : Name) (rest : Name → ℕ) → Cascade l t w d st → TakenFrom st.extra r rest
     → IsTrue (has st.moment.stuck r) → Cascade l t w d (later st st.gone st.work rest)
 is_stuck l t w d st r rest is taken stuck_r = record {
-  remains = remains_still l t d st st.work rest st.passed is.remains;
+  remains = remains_still l t d st st.work rest st.ungrayed st.passed is.remains;
   lowered = stuck_stays st.moment.last st.moment.unreclaimed st.moment.stuck st.gone (count_at t st.at) (waits t st) (waits t (later st st.gone st.work rest)) r is.lowered stuck_r (taken_out t st r rest taken);
   passed = is.passed;
   none_done = is.none_done;
+  grays = is.grays;
   work = is.work;
   work_gone = is.work_gone;
   work_room = is.work_room;

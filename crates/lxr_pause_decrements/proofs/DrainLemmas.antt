@@ -1,9 +1,9 @@
 -- The loops of the decrements: references of one object, the worklist, the list.
 use Rattle.std.proofs.Common.{◌≡◌, ◌≢◌, ℕ, zero, suc, ◌+◌, ◌-◌, ◌*◌, ◌<◌, ◌≤◌, refl, sym, ap, subst, ◌∙◌, inl, inr, ◌^◌, arith, Bool, cond, List, [], ◌∷◌, ◌++◌, IsTrue, length, length-append, nat_eq, nat_le, false, true}
-use Rattle.std.specs.Prelude.{◌&&◌, Option, Some, None, slice_get}
+use Rattle.std.specs.Prelude.{◌&&◌, ◌==◌, Option, Some, None, map, slice_get}
 use Rattle.std.proofs.lemmas.Bool.{or_left, or_right}
 use Rattle.std.proofs.lemmas.Bool.Decides.{nat_tests}
-use Rattle.lxr_layout.specs.declared.TheConstants.{DECREMENT_COUNT, DECREMENT_CURSOR, GRANULES_IN_BLOCK, WORDS_IN_BLOCK}
+use Rattle.lxr_layout.specs.declared.TheConstants.{DECREMENT_COUNT, DECREMENT_CURSOR, GRANULES_IN_BLOCK, TRACING_WORD, WORDS_IN_BLOCK}
 use Rattle.lxr_layout.specs.declared.Name.{Name}
 use Rattle.lxr_layout.specs.declared.Place.{Place}
 use Rattle.lxr_layout.specs.declared.Shape.{Shape}
@@ -26,12 +26,13 @@ use Rattle.lxr_model_counting.proofs.DistinctLemmas.{tested}
 use Rattle.lxr_model_counting.proofs.LoweringLemmas.{lowered_still, once_other, once_same}
 use Rattle.lxr_invariant.specs.Counting.{count_at, entries_between, occurrences_from, passing, waiting_at}
 use Rattle.lxr_invariant.specs.Standing.{place_of}
-use Rattle.lxr_invariant.proofs.NameLemmas.{has_more, map_empty, occurrences_end, occurrences_step, split_last}
+use Rattle.lxr_invariant.proofs.NameLemmas.{has_more, occurrences_end, occurrences_step, split_last}
 use Rattle.lxr_invariant.proofs.EntryLemmas.{changed_here, changed_other, same_number, unlike_number}
 use Rattle.lxr_invariant.proofs.FrameLemmas.{bits_still, marks_still}
 use Rattle.lxr_invariant.proofs.KeepingLemmas.{keeps_same}
-use Rattle.lxr_pause_decrements.specs.Cascade.{Cascade, CascadeStage, Drains, FieldWaits, IsAt, IsEmptied, IsHeader, IsOpening, Leaves, Reaches, Releasing, Waiting, held_by, kept, later, to_do, waits, with_lists}
-use Rattle.lxr_pause_decrements.proofs.CascadeLemmas.{granules_differ, in_heap, refs_more, remains_still, same_parts}
+use Rattle.lxr_pause_decrements.specs.Cascade.{Cascade, CascadeStage, Drains, FieldWaits, IsAt, IsBetween, IsEmptied, IsHeader, IsOpening, Keeps, Leaves, Reaches, Releasing, Waiting, grayed_if, graying, held_by, kept, later, to_do, waits, with_lists}
+use Rattle.lxr_pause_decrements.proofs.GrayLemmas.{grays_pop}
+use Rattle.lxr_pause_decrements.proofs.CascadeLemmas.{counted, counted_left, granules_differ, in_heap, made_gray, refs_more, remains_still, same_parts}
 use Rattle.lxr_pause_decrements.proofs.SpaceLemmas.{leaves_by, limits_space, turned_leaves}
 
 -- ---- references from a number on
@@ -45,6 +46,9 @@ got (r ∷ rs) (suc i) h = got rs i (omega arith)
 
 extra_same : (s : Space) (st : CascadeStage) (f g : Name → ℕ) → ((o : Name) → f o ≡ g o) → Reaches s st f → Reaches s st g
 extra_same s st f g e (gone, work, at) = let same : f ≡ g = λ i o. e o i in (gone, work, subst (λ z. IsAt s (later st gone work z)) same at)
+
+pub ungrayed_same : (s : Space) (st : CascadeStage) (rest f g : Name → ℕ) → ((o : Name) → f o ≡ g o) → Reaches s (graying st f) rest → Reaches s (graying st g) rest
+ungrayed_same s st rest f g e reaches = let same : f ≡ g = λ i o. e o i in subst (λ z. Reaches s (graying st z) rest) same reaches
 
 -- ---- one object's references
 
@@ -92,18 +96,23 @@ field_holds : (s : Space) (p : Place) (i : ℕ) (st : CascadeStage) (r : Name) (
     → slice_get (held_by st r) i ≡ Some ref → (tables_of s).heap (2 * (p.0 - 1) + 1 + i) ≡ place_word st.at ref
 field_holds s p i st r rest ref w e = ap (λ z. (tables_of s).heap (2 * (z - 1) + 1 + i)) w.stands ∙ w.stage.cascade.remains.ground.fields r i ref w.dead e
 
+-- the stage once reference i of r is lowered
+abbrev pub next_field : CascadeStage → Name → ℕ → CascadeStage
+next_field st r i = graying st (λ o. occurrences_from (held_by st r) (i + 1) o)
+
 -- a reference that is nil waits for nothing
 nil_step : (s : Space) (p : Place) (i : ℕ) (st : CascadeStage) (r : Name) (rest : Name → ℕ) (ref : Option Name) → slice_get (held_by st r) i ≡ Some ref → FieldWaits s p.0 i st r rest
-    → place_word st.at ref ≡ 0 → Reaches s st (λ o. rest o + occurrences_from (held_by st r) (i + 1) o)
+    → place_word st.at ref ≡ 0 → Reaches s (next_field st r i) (λ o. rest o + occurrences_from (held_by st r) (i + 1) o)
 nil_step s p i st r rest None e w zero_word =
-    extra_same s st st.extra _ (λ o. let k = occurrences_step (held_by st r) i None o e in let x = w.extra o in omega (arith, k, x)) (st.gone, st.work, w.stage)
+    ungrayed_same s st _ st.ungrayed _ (λ o. let k = occurrences_step (held_by st r) i None o e in let x = w.ungrayed o in omega (arith, k, x))
+    (extra_same s st st.extra _ (λ o. let k = occurrences_step (held_by st r) i None o e in let x = w.extra o in omega (arith, k, x)) (st.gone, st.work, w.stage))
 nil_step s p i st r rest (Some n) e w zero_word =
     let member : IsTrue (has st.moment.unreclaimed n) = w.stage.cascade.remains.ground.closed r n w.member (i, e) in
     let h = (in_heap (tables_of s).heap s.limits.blocks st.moment st.at w.stage.cascade.remains.ground n member).0 in
     absurd (omega (arith, h, zero_word))
 
 pub nil_reference : (s : Space) (p : Place) (i word : ℕ) (st : CascadeStage) (r : Name) (rest : Name → ℕ) → FieldWaits s p.0 i st r rest
-    → word ≡ 0 → word ≡ (tables_of s).heap (2 * (p.0 - 1) + 1 + i) → Reaches s st (λ o. rest o + occurrences_from (held_by st r) (i + 1) o)
+    → word ≡ 0 → word ≡ (tables_of s).heap (2 * (p.0 - 1) + 1 + i) → Reaches s (next_field st r i) (λ o. rest o + occurrences_from (held_by st r) (i + 1) o)
 nil_reference s p i word st r rest w zero_word is =
     let g = got (held_by st r) i w.index in
     nil_step s p i st r rest g.0 g.1 w (sym (field_holds s p i st r rest g.0 w g.1) ∙ sym is ∙ zero_word)
@@ -128,19 +137,78 @@ held_reference s p i word st r rest w some_word is =
     let g = got (held_by st r) i w.index in
     held_step s p i word st r rest g.0 g.1 w some_word (is ∙ field_holds s p i st r rest g.0 w g.1)
 
+-- ---- what it holds is made gray
+
+-- the tables with one more gray bit, if a trace runs
+abbrev pub with_gray : Tables → Bool → ℕ → Tables
+with_gray t tracing g = record t { grays = grayed_if tracing t.grays g }
+
+gray_step : (s b : Space) (p : Place) (i word : ℕ) (tracing : Bool) (st : CascadeStage) (r : Name) (rest : Name → ℕ) (ref : Option Name) → slice_get (held_by st r) i ≡ Some ref
+    → FieldWaits s p.0 i st r rest → word ≢ 0 → word ≡ place_word st.at ref → tracing ≡ ((tables_of s).cursors TRACING_WORD == 1) → Turns s b (with_gray (tables_of s) tracing (word - 1))
+    → (n : Name) × Waiting b word (next_field st r i) n (λ o. rest o + occurrences_from (held_by st r) (i + 1) o)
+gray_step s b p i word tracing st r rest None e w some_word is told turns = absurd (some_word is)
+gray_step s b p i word tracing st r rest (Some n) e w some_word is told turns =
+    let c = w.stage.cascade in
+    let t : Tables = tables_of s in
+    let member : IsTrue (has st.moment.unreclaimed n) = c.remains.ground.closed r n w.member (i, e) in
+    let taken : (o : Name) → st.extra o ≡ once o n + (rest o + occurrences_from (held_by st r) (i + 1) o) =
+    λ o. let k = occurrences_step (held_by st r) i (Some n) o e in let x = w.extra o in omega (arith, k, x) in
+    let left = (counted_left s.limits t s.work s.report.dead st n c member (counted s.limits t s.work s.report.dead st n _ c member taken)).1 in
+    let grays : tables_of b ≡ with_gray t tracing (granule_of (st.at n)) = turns.tables ∙ ap (λ z. with_gray t tracing (z - 1)) is in (
+      n,
+      record {
+        stage = record {
+          space = still_space s b _ w.stage.space turns refl;
+          cascade = same_parts s.limits b.limits _ (tables_of b) _ b.work _ b.report.dead (next_field st r i) (same_limits s b _ turns) grays (ap (λ z. z.work) turns.rest) (ap (λ z. z.report.dead) turns.rest)
+              (made_gray s.limits t s.work s.report.dead st tracing _ r n c told w.dead (i, e) left
+              (λ o. let k = occurrences_step (held_by st r) i (Some n) o e in let x = w.ungrayed o in omega (arith, k, x)));
+        };
+        member = member;
+        stands = is;
+        taken = taken;
+      },
+    )
+
+pub gray_reference : (s b : Space) (p : Place) (i word : ℕ) (tracing : Bool) (st : CascadeStage) (r : Name) (rest : Name → ℕ) → FieldWaits s p.0 i st r rest
+    → word ≢ 0 → word ≡ (tables_of s).heap (2 * (p.0 - 1) + 1 + i) → tracing ≡ ((tables_of s).cursors TRACING_WORD == 1) → Turns s b (with_gray (tables_of s) tracing (word - 1))
+    → (n : Name) × Waiting b word (next_field st r i) n (λ o. rest o + occurrences_from (held_by st r) (i + 1) o)
+gray_reference s b p i word tracing st r rest w some_word is told turns =
+    let g = got (held_by st r) i w.index in
+    gray_step s b p i word tracing st r rest g.0 g.1 w some_word (is ∙ field_holds s p i st r rest g.0 w g.1) told turns
+
+pub grayed_keeps : (s b : Space) (tracing : Bool) (g : ℕ) → Turns s b (with_gray (tables_of s) tracing g) → Keeps s b
+grayed_keeps s b tracing g turns = record {
+  leaves = turned_leaves s b _ turns (record { keeps = record { heap = refl; reuse = refl; runs = refl; frees = refl; remembered = refl; cursors = λ k h j. refl }; decs = refl; outs = refl; states = refl });
+  cursors = ap (λ t. t.cursors) turns.tables;
+}
+
+pub grayed_to_do : (s b : Space) (tracing : Bool) (g : ℕ) → Turns s b (with_gray (tables_of s) tracing g) → to_do b ≡ to_do s
+grayed_to_do s b tracing g turns =
+    let l = same_limits s b _ turns in
+    let n : passing (tables_of b).starts (GRANULES_IN_BLOCK * b.limits.blocks) ≡ passing (tables_of s).starts (GRANULES_IN_BLOCK * s.limits.blocks) =
+    ap (λ z. passing (tables_of b).starts (GRANULES_IN_BLOCK * z.blocks)) l ∙ ap (λ z. passing z.starts (GRANULES_IN_BLOCK * s.limits.blocks)) turns.tables in
+    let m : length b.work.items ≡ length s.work.items = ap (λ z. length z.work.items) turns.rest in
+    omega (arith, n, m)
+
 -- ---- the loop over one object's references
 
-pub begins : (s : Space) (p : ℕ) (st : CascadeStage) (r : Name) (rest : Name → ℕ) → Releasing s p st r rest → Reaches s st (λ o. rest o + occurrences_from (held_by st r) 0 o)
-begins s p st r rest re = extra_same s st st.extra _ re.extra (st.gone, st.work, re.stage)
+pub begins : (s : Space) (p : ℕ) (st : CascadeStage) (r : Name) (rest : Name → ℕ) → Releasing s p st r rest
+    → Reaches s (graying st (λ o. occurrences_from (held_by st r) 0 o)) (λ o. rest o + occurrences_from (held_by st r) 0 o)
+begins s p st r rest re = ungrayed_same s st _ st.ungrayed _ re.ungrayed (extra_same s st st.extra _ re.extra (st.gone, st.work, re.stage))
 
 pub field_waits : (s now : Space) (p i : ℕ) (st : CascadeStage) (r : Name) (rest : Name → ℕ) → Releasing s p st r rest → i < length (held_by st r)
-    → (reaches : Reaches now st (λ o. rest o + occurrences_from (held_by st r) i o)) → FieldWaits now p i (later st reaches.0 reaches.1 (λ o. rest o + occurrences_from (held_by st r) i o)) r rest
+    → (reaches : Reaches now (graying st (λ o. occurrences_from (held_by st r) i o)) (λ o. rest o + occurrences_from (held_by st r) i o))
+    → FieldWaits now p i (later (graying st (λ o. occurrences_from (held_by st r) i o)) reaches.0 reaches.1 (λ o. rest o + occurrences_from (held_by st r) i o)) r rest
 field_waits s now p i st r rest re h (gone, work, at) =
     let d = released_dead s p st r rest re in
-    record { stage = at; member = d.0; dead = d.1; stands = re.stands; index = h; extra = λ o. refl }
+    record { stage = at; member = d.0; dead = d.1; stands = re.stands; index = h; extra = λ o. refl; ungrayed = λ o. refl }
 
-pub ends : (now : Space) (i : ℕ) (st : CascadeStage) (r : Name) (rest : Name → ℕ) → i ≡ length (held_by st r) → Reaches now st (λ o. rest o + occurrences_from (held_by st r) i o) → Reaches now st rest
-ends now i st r rest e reaches = extra_same now st _ rest (λ o. let k = occurrences_end (held_by st r) o in let q = ap (λ z. occurrences_from (held_by st r) z o) e in omega (arith, k, q)) reaches
+pub ends : (now : Space) (i : ℕ) (st : CascadeStage) (r : Name) (rest : Name → ℕ) → i ≡ length (held_by st r)
+    → Reaches now (graying st (λ o. occurrences_from (held_by st r) i o)) (λ o. rest o + occurrences_from (held_by st r) i o) → Reaches now (graying st (λ o. 0)) rest
+ends now i st r rest e reaches =
+    let none : (o : Name) → occurrences_from (held_by st r) i o ≡ 0 = λ o. ap (λ z. occurrences_from (held_by st r) z o) e ∙ occurrences_end (held_by st r) o in
+    ungrayed_same now st rest (λ o. occurrences_from (held_by st r) i o) (λ o. 0) none
+    (extra_same now (graying st (λ o. occurrences_from (held_by st r) i o)) _ rest (λ o. let k = none o in omega (arith, k)) reaches)
 
 -- ---- the worklist
 
@@ -148,26 +216,47 @@ ends now i st r rest e reaches = extra_same now st _ rest (λ o. let k = occurre
 still_tables : (s now : Space) → now ≡ record s { work = now.work } → tables_of now ≡ tables_of s
 still_tables s now rest = ap (λ z. tables_of z) rest
 
+-- the last of what lies above others
+split_above : (f : Name → Place) (under : List Place) (ns : List Name) (xs : List Place) (p : Place) → length under ≤ length xs → xs ++ p ∷ [] ≡ under ++ map f ns
+    → (ms : List Name) × (r : Name) × (ns ≡ ms ++ r ∷ []) × (xs ≡ under ++ map f ms) × (p ≡ f r)
+split_above f [] ns xs p long e = split_last f ns xs p e
+split_above f (u ∷ under) ns [] p long e = absurd (omega (arith, long))
+split_above f (u ∷ under) ns (x ∷ xs) p long e =
+    let head : x ≡ u = cc in
+    let tail : xs ++ p ∷ [] ≡ under ++ map f ns = cc in
+    let s = split_above f under ns xs p (omega (arith, long)) tail in
+    (s.0, s.1, s.2, (let k = s.3 in cc), s.4)
+
+-- above others nothing lies
+none_above : (f : Name → Place) (under : List Place) (ns : List Name) (xs : List Place) → length xs ≤ length under → xs ≡ under ++ map f ns → ns ≡ []
+none_above f under [] xs short e = refl
+none_above f under (n ∷ ns) xs short e = let long = ap length e ∙ length-append under (f n ∷ map f ns) in absurd (omega (arith, long, short))
+
+-- the stage at which r is taken out of the worklist
+abbrev pub released : CascadeStage → List Name → Name → CascadeStage
+released st work r = graying (later st st.gone work (λ o. st.extra o + occurrences (held_by st r) o)) (λ o. occurrences (held_by st r) o)
+
 -- the last of the worklist is taken out
-pub popped : (s now : Space) (p : Place) (st : CascadeStage) → IsAt s st → s.work ≡ pushed now.work p → now ≡ record s { work = now.work }
-    → (ms : List Name) × (r : Name) × Releasing now p.0 (later st st.gone ms (λ o. st.extra o + occurrences (held_by st r) o)) r st.extra
-popped s now p st at work rest =
+pub popped : (s now : Space) (p : Place) (st : CascadeStage) → IsAt s st → IsBetween st → length st.under ≤ length now.work.items → s.work ≡ pushed now.work p → now ≡ record s { work = now.work }
+    → (ms : List Name) × (r : Name) × Releasing now p.0 (released st ms r) r st.extra
+popped s now p st at between above work rest =
     let is = at.cascade in
     let m : Moment = st.moment in
     let items : s.work.items ≡ now.work.items ++ p ∷ [] = ap (λ z. z.items) work in
-    let x = split_last (place_of st.at) st.work now.work.items p (sym items ∙ is.work) in
+    let x = split_above (place_of st.at) st.under st.work now.work.items p above (sym items ∙ is.work) in
     let r_there : IsTrue (has st.work x.1) = ap (λ z. has z x.1) x.2 ∙ has_more x.0 x.1 x.1 ∙ or_right (has x.0 x.1) (same_name x.1 x.1) (same_itself x.1) in
     let limits : now.limits ≡ s.limits = ap (λ z. z.limits) rest in
     let dead : now.report.dead ≡ s.report.dead = ap (λ z. z.report.dead) rest in
     let room : now.work.room ≡ s.work.room = sym (ap (λ z. z.room) work) in
     let longer : length s.work.items ≡ length now.work.items + 1 = ap length items ∙ length-append now.work.items (p ∷ []) in
-    let st2 : CascadeStage = later st st.gone x.0 (λ o. st.extra o + occurrences (held_by st x.1) o) in
+    let st2 : CascadeStage = released st x.0 x.1 in
     let cascade : Cascade s.limits (tables_of s) now.work s.report.dead st2 = record {
-      remains = remains_still s.limits (tables_of s) s.report.dead st x.0 (λ o. st.extra o + occurrences (held_by st x.1) o) st.passed is.remains;
+      remains = remains_still s.limits (tables_of s) s.report.dead st x.0 (λ o. st.extra o + occurrences (held_by st x.1) o) (λ o. occurrences (held_by st x.1) o) st.passed is.remains;
       lowered = lowered_still m.last m.unreclaimed m.stuck st.gone (count_at (tables_of s) st.at) (count_at (tables_of s) st.at) (waits (tables_of s) st) (waits (tables_of s) st2) (λ o _. refl)
           (λ o _. let k = refs_more m.last.graph x.0 x.1 o in let q : references_from m.last.graph st.work o ≡ references_from m.last.graph (x.0 ++ x.1 ∷ []) o = ap (λ z. references_from m.last.graph z o) x.2 in omega (arith, k, q)) is.lowered;
       passed = is.passed;
       none_done = is.none_done;
+      grays = grays_pop m.trace st.was.grays (tables_of s).grays m st.at st.gone st.work x.0 st.ungrayed x.1 x.2 between is.grays;
       work = x.3;
       work_gone = λ n h. is.work_gone n (ap (λ z. has z n) x.2 ∙ has_more x.0 x.1 n ∙ or_left (has x.0 n) (same_name n x.1) h);
       work_room = let k = is.work_room in omega (arith, k, room, longer);
@@ -183,6 +272,7 @@ popped s now p st at work rest =
         gone = is.work_gone x.1 r_there;
         stands = ap (λ z. z.0) x.4;
         extra = λ o. refl;
+        ungrayed = λ o. refl;
       },
     )
 
@@ -209,10 +299,10 @@ popped_leaves s now p work rest =
 pub popped_cursors : (s now : Space) → now ≡ record s { work = now.work } → (tables_of now).cursors ≡ (tables_of s).cursors
 popped_cursors s now rest = ap (λ t. t.cursors) (still_tables s now rest)
 
--- an empty worklist
-pub emptied : (s : Space) (st : CascadeStage) → s.work.items ≡ [] → Reaches s st st.extra → Drains s st
-emptied s st empty (gone, work, at) =
-    let none : work ≡ [] = map_empty (place_of st.at) work (sym empty ∙ at.cascade.work) in
+-- a worklist with nothing above what isn't the decrements' to take
+pub emptied : (s : Space) (st : CascadeStage) → length s.work.items ≤ length st.under → Reaches s st st.extra → Drains s st
+emptied s st short (gone, work, at) =
+    let none : work ≡ [] = none_above (place_of st.at) st.under work s.work.items short at.cascade.work in
     (gone, subst (λ z. IsAt s (later st gone z st.extra)) none at)
 
 -- ---- the list of decrements
@@ -262,13 +352,14 @@ last_taken s now st n at undrawn some turns =
         bits = bits_still t t2 m st.at (kept st) refl refl refl refl refl is.remains.bits;
         marks = marks_still t t2 m.state.graph st.at (kept st) refl is.remains.marks;
         lost_marks = is.remains.lost_marks;
-        lost_grays = is.remains.lost_grays;
+        tracing = changed_other t.cursors DECREMENT_COUNT n TRACING_WORD (λ e. omega arith) ∙ is.remains.tracing;
         decrements = record {
           fits = let d = is.remains.decrements.fits in omega (arith, d, some, shorter);
           places = λ k h. is.remains.decrements.places k (omega (arith, h, some, shorter));
         };
         once = is.remains.once;
         reported = is.remains.reported;
+        fewer = is.remains.fewer;
         dead_room = is.remains.dead_room;
       };
       lowered = lowered_still m.last m.unreclaimed m.stuck st.gone (count_at t st.at) (count_at t2 st.at) (waits t st) (waits t2 st2) (λ o _. refl)
@@ -278,6 +369,7 @@ last_taken s now st n at undrawn some turns =
           omega (arith, q, k)) is.lowered;
       passed = is.passed;
       none_done = is.none_done;
+      grays = is.grays;
       work = is.work;
       work_gone = is.work_gone;
       work_room = is.work_room;
@@ -345,6 +437,9 @@ with_none t = record t { cursors = changed (changed t.cursors DECREMENT_CURSOR 0
 none_drawn : (t : Tables) → (with_none t).cursors DECREMENT_CURSOR ≡ 0
 none_drawn t = changed_other (changed t.cursors DECREMENT_CURSOR 0) DECREMENT_COUNT 0 5 (λ e. omega arith) ∙ changed_here t.cursors DECREMENT_CURSOR 0 5 refl
 
+none_traced : (t : Tables) → (with_none t).cursors TRACING_WORD ≡ t.cursors TRACING_WORD
+none_traced t = changed_other (changed t.cursors DECREMENT_CURSOR 0) DECREMENT_COUNT 0 8 (λ e. omega arith) ∙ changed_other t.cursors DECREMENT_CURSOR 0 8 (λ e. omega arith)
+
 none_waits : (t : Tables) → (with_none t).cursors DECREMENT_COUNT ≡ 0
 none_waits t = changed_here (changed t.cursors DECREMENT_CURSOR 0) DECREMENT_COUNT 0 6 refl
 
@@ -364,10 +459,11 @@ list_emptied s now st is past turns =
         bits = bits_still t t2 m st.at (kept st) refl refl refl refl refl c.remains.bits;
         marks = marks_still t t2 m.state.graph st.at (kept st) refl c.remains.marks;
         lost_marks = c.remains.lost_marks;
-        lost_grays = c.remains.lost_grays;
+        tracing = none_traced t ∙ c.remains.tracing;
         decrements = record { fits = omega (arith, waiting); places = λ k h. absurd (omega (arith, h, waiting)) };
         once = c.remains.once;
         reported = c.remains.reported;
+        fewer = c.remains.fewer;
         dead_room = c.remains.dead_room;
       };
       lowered = lowered_still m.last m.unreclaimed m.stuck st.gone (count_at t st.at) (count_at t2 st.at) (waits t st) (waits t2 st) (λ o _. refl)
@@ -377,6 +473,7 @@ list_emptied s now st is past turns =
           omega (arith, before, after)) c.lowered;
       passed = c.passed;
       none_done = c.none_done;
+      grays = c.grays;
       work = c.work;
       work_gone = c.work_gone;
       work_room = c.work_room;
@@ -388,6 +485,8 @@ list_emptied s now st is past turns =
           cascade = same_parts s.limits now.limits t2 (tables_of now) s.work now.work s.report.dead now.report.dead st (same_limits s now t2 turns) turns.tables (ap (λ z. z.work) turns.rest) (ap (λ z. z.report.dead) turns.rest) cascade;
         };
         work = is.work;
+        under = is.under;
+        between = is.between;
         extra = is.extra;
       };
       drawn = ap (λ z. z.cursors DECREMENT_CURSOR) turns.tables ∙ none_drawn t;

@@ -93,7 +93,7 @@ dropped_at a e p granule st h stands re =
 -- an object that is wanted no further on has a count or is gone
 pub passed_on : (l : Limits) (t : Tables) (w : Roomy Place) (d : Roomy Name) (st : CascadeStage) (from to : ℕ) → NoneWanted t Dropped from to → Cascade l t w d (come_to st from) → Cascade l t w d (come_to st to)
 passed_on l t w d st from to nothing is = record {
-  remains = remains_still l t d (come_to st from) st.work st.extra to is.remains;
+  remains = remains_still l t d (come_to st from) st.work st.extra st.ungrayed to is.remains;
   lowered = is.lowered;
   passed = λ n in_n loose below none. elim (leb_tells from (granule_of (st.at n))) [
     | inr c ↦ is.passed n in_n loose c.1 none
@@ -107,6 +107,7 @@ passed_on l t w d st from to nothing is = record {
     ]
   ];
   none_done = is.none_done;
+  grays = is.grays;
   work = is.work;
   work_gone = is.work_gone;
   work_room = is.work_room;
@@ -117,6 +118,8 @@ emptied_on s st from to nothing is = record {
   opening = record {
     stage = record { space = is.opening.stage.space; cascade = passed_on s.limits (tables_of s) s.work s.report.dead st from to nothing is.opening.stage.cascade };
     work = is.opening.work;
+    under = is.opening.under;
+    between = is.opening.between;
     extra = is.opening.extra;
   };
   drawn = is.drawn;
@@ -129,6 +132,8 @@ dropped_next s st from end granule next is =
     let t : Tables = tables_of s in record {
       stage = (emptied_on s st from granule next.passed is).opening.stage;
       come = refl;
+      under = is.opening.under;
+      between = is.opening.between;
       start = (and_parts (t.starts granule) (t.counts granule == 0) next.is).0;
       uncounted = equal_numbers (t.counts granule) 0 (and_parts (t.starts granule) (t.counts granule == 0) next.is).1;
     }
@@ -139,7 +144,7 @@ pub dropped_then : (s after : Space) (st : CascadeStage) (gone : List Name) (fro
 dropped_then s after st gone from to is keeps at =
     let none : st.extra ≡ λ o. 0 = λ i o. is.opening.extra o i in
     record {
-      opening = record { stage = subst (λ z. IsAt after (come_to (later st gone [] z) to)) none at; work = refl; extra = λ o. refl };
+      opening = record { stage = subst (λ z. IsAt after (come_to (later st gone [] z) to)) none at; work = refl; under = is.opening.under; between = is.opening.between; extra = λ o. refl };
       drawn = ap (λ f. f DECREMENT_CURSOR) keeps.cursors ∙ is.drawn;
       waiting = ap (λ f. f DECREMENT_COUNT) keeps.cursors ∙ is.waiting;
     }

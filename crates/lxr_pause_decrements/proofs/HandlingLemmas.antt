@@ -1,5 +1,5 @@
 -- What decrementers have handled goes without a further lowering: it is dead, and its references no longer count.
-use Rattle.std.proofs.Common.{◌≡◌, ℕ, ◌+◌, ◌*◌, ◌^◌, ◌<◌, ◌≤◌, refl, sym, ap, subst, ◌∙◌, inl, inr, arith, Bool, true, false, cond, List, [], ◌∷◌, IsTrue, length}
+use Rattle.std.proofs.Common.{◌≡◌, ℕ, ◌+◌, ◌*◌, ◌≤◌, refl, sym, ap, subst, ◌∙◌, inl, inr, arith, Bool, true, false, cond, List, [], ◌∷◌, ◌++◌, IsTrue, length}
 use Rattle.std.specs.Prelude.{not, ◌&&◌, ◌||◌, Some, filter}
 use Rattle.std.proofs.lemmas.Bool.{and_right, false_from_ne_true, or_cases, or_left, or_right}
 use Rattle.std.proofs.lemmas.Bool.Decides.{eqb_tells, leb_tells}
@@ -13,20 +13,20 @@ use Rattle.lxr_graph.specs.State.{Object, object_at, shape_of}
 use Rattle.lxr_graph.proofs.NameSets.{not_both, same_itself, same_names}
 use Rattle.lxr_image.specs.declared.space.Space.{Space}
 use Rattle.lxr_image.specs.Tables.{Tables, changed}
-use Rattle.lxr_image.specs.Spaces.{Turns, tables_of}
+use Rattle.lxr_image.specs.Spaces.{tables_of}
 use Rattle.lxr_image.specs.Reads.{granule_of}
 use Rattle.lxr_model.specs.Moments.{Moment}
 use Rattle.lxr_model.specs.References.{references}
 use Rattle.lxr_model.proofs.ReachableLemmas.{dead_parts}
 use Rattle.lxr_model_counting.proofs.DistinctLemmas.{tested}
 use Rattle.lxr_invariant.specs.Counting.{count_at, is_done, undone, waiting_at}
-use Rattle.lxr_invariant.proofs.EntryLemmas.{changed_here, changed_other, passing_cleared, passing_few}
+use Rattle.lxr_invariant.proofs.EntryLemmas.{changed_here, changed_other, passing_few}
 use Rattle.lxr_invariant.proofs.FrameLemmas.{none_undone}
 use Rattle.lxr_pause_decrements.specs.declared.wanted.Wanted.TheVariants.{Handled}
-use Rattle.lxr_pause_decrements.specs.Cascade.{Buries, Cascade, CascadeStage, HandledAt, Handling, IsHandling, IsOpening, Keeps, Remains, come_to, kept, later, without_object}
-use Rattle.lxr_pause_decrements.specs.Wanted.{IsNextWanted, NoneWanted}
-use Rattle.lxr_pause_decrements.proofs.CascadeLemmas.{BeginsAt, IsPlaced, bare, bare_uncounted, count_stays, in_heap, placed, remains_fall, remains_still, started, written_other}
-use Rattle.lxr_pause_decrements.proofs.SpaceLemmas.{limits_space, turned_leaves}
+use Rattle.lxr_pause_decrements.specs.Cascade.{Cascade, CascadeStage, Handling, IsHandling, IsOpening, Remains, come_to, kept, later, without_object}
+use Rattle.lxr_pause_decrements.specs.Wanted.{NoneWanted}
+use Rattle.lxr_pause_decrements.proofs.CascadeLemmas.{bare, bare_uncounted, count_stays, granules_differ, in_heap, remains_fall, remains_still, started, written_other}
+use Rattle.lxr_pause_decrements.proofs.GrayLemmas.{BeginsAlone, grays_handled, handled_on}
 
 -- ---- the names that still count
 
@@ -83,10 +83,11 @@ module _ (l : Limits) (t : Tables) (w : Roomy Place) (d : Roomy Name) (st : Casc
     };
     marks = record { marked = is.remains.marks.marked; elsewhere = is.remains.marks.elsewhere };
     lost_marks = is.remains.lost_marks;
-    lost_grays = is.remains.lost_grays;
+    tracing = is.remains.tracing;
     decrements = record { fits = is.remains.decrements.fits; places = is.remains.decrements.places };
     once = is.remains.once;
     reported = is.remains.reported;
+    fewer = is.remains.fewer;
     dead_room = is.remains.dead_room;
   }
 
@@ -128,18 +129,25 @@ module _ (l : Limits) (t : Tables) (w : Roomy Place) (d : Roomy Name) (st : Casc
     ];
     done_dead = λ n in_n h. is.done_dead n in_n (done_before n h);
     done_zero = λ n in_n h. count_then n in_n ∙ is.done_zero n in_n (done_before n h);
+    grays = grays_handled m.trace st.was.grays t m st.at st.gone st.ungrayed r is.grays is.handled in_r done alone;
+    handled = handled_on m.trace t (without_done t st.at r ro) m st.at st.gone r is.handled refl done_before is.remains.ground.closed alone;
     no_work = is.no_work;
+    no_under = is.no_under;
+    between = is.between;
     work_room = is.work_room;
   }
     where
       unstuck : has m.stuck r ≡ false
       unstuck = (dead_parts (is.done_dead r in_r done)).unstuck
 
+      alone : BeginsAlone m st.at r
+      alone n in_n other = granules_differ t.heap l.blocks m st.at is.remains.ground n r in_n in_r other
+
 -- where nothing is done, exactly what is in the list waits
 pub handled_all : (l : Limits) (t : Tables) (w : Roomy Place) (d : Roomy Name) (st : CascadeStage) → Handling l t w d st → ((k : ℕ) → t.dones k ≡ false)
     → Cascade l t w d (come_to (later st st.gone [] (λ o. 0)) 0)
 handled_all l t w d st is none = record {
-  remains = remains_still l t d st [] (λ o. 0) 0 is.remains;
+  remains = remains_still l t d st [] (λ o. 0) st.ungrayed 0 is.remains;
   lowered = record {
     dead = is.dead;
     zero = is.zero;
@@ -150,7 +158,8 @@ handled_all l t w d st is none = record {
   };
   passed = λ n in_n loose below zero. absurd (omega (arith, below));
   none_done = none;
-  work = is.no_work;
+  grays = is.grays;
+  work = is.no_work ∙ ap (λ (ps : List Place). ps ++ []) (sym is.no_under);
   work_gone = λ n h. absurd (cc);
   work_room =
       let few = passing_few t.starts (GRANULES_IN_BLOCK * l.blocks) in
@@ -161,87 +170,10 @@ handled_all l t w d st is none = record {
 
 -- ---- at spaces
 
--- the name at a granule whose object is done
-pub done_name : (s : Space) (granule : ℕ) (st : CascadeStage) → HandledAt s granule st → (r : Name) × BeginsAt st.moment st.at st.gone granule r
-done_name s granule st h =
-    let is = h.stage.handling in
-    started s.limits (tables_of s) s.report.dead st granule is.remains (is.remains.bits.dones granule h.done)
-
-pub done_object : (s : Space) (granule : ℕ) (st : CascadeStage) → (h : HandledAt s granule st) → Object
-done_object s granule st h = let x = done_name s granule st h in (h.stage.handling.remains.ground.stands x.0 x.1.member).0
-
-pub done_placed : (s : Space) (p : Place) (granule : ℕ) (st : CascadeStage) → (h : HandledAt s granule st) → p.0 ≡ granule + 1 → IsPlaced (tables_of s) s.limits.blocks (done_name s granule st h).0 (done_object s granule st h) p.0
-unfolding done_object
-done_placed s p granule st h stands =
-    let x = done_name s granule st h in
-    placed (tables_of s).heap s.limits.blocks st.moment st.at h.stage.handling.remains.ground (tables_of s) refl x.0 x.1.member p.0 (stands ∙ x.1.place)
-
--- it lies in the heap
-pub done_fits : (s : Space) (granule : ℕ) (st : CascadeStage) → HandledAt s granule st → (granule < GRANULES_IN_BLOCK * s.limits.blocks) × (granule < 2 ^ 21)
-done_fits s granule st h =
-    let x = done_name s granule st h in
-    let inside = in_heap (tables_of s).heap s.limits.blocks st.moment st.at h.stage.handling.remains.ground x.0 x.1.member in
-    let same = x.1.granule in
-    let few = h.stage.space.limits.blocks in
-    (omega (arith, inside.1, same), omega (arith, inside.1, same, few.1))
-
--- and there is room to report it
-pub done_room : (s : Space) (granule : ℕ) (st : CascadeStage) → HandledAt s granule st → length s.report.dead.items < s.report.dead.room
-done_room s granule st h =
-    let t : Tables = tables_of s in
-    let left = h.stage.handling.remains in
-    let fewer = passing_cleared t.starts granule (GRANULES_IN_BLOCK * s.limits.blocks) (left.bits.dones granule h.done) (done_fits s granule st h).0 in
-    let room = left.dead_room in
-    omega (arith, fewer, room)
-
-same_handling : (l m : Limits) (t u : Tables) (w x : Roomy Place) (d e : Roomy Name) (st : CascadeStage) → m ≡ l → u ≡ t → x ≡ w → e ≡ d → Handling l t w d st → Handling m u x e st
+-- a stage is one of the limits, the tables and the lists alone
+pub same_handling : (l m : Limits) (t u : Tables) (w x : Roomy Place) (d e : Roomy Name) (st : CascadeStage) → m ≡ l → u ≡ t → x ≡ w → e ≡ d → Handling l t w d st → Handling m u x e st
 same_handling l m t u w x d e st a b c f is =
     subst (λ z. Handling m u x z st) (sym f) (subst (λ z. Handling m u z d st) (sym c) (subst (λ z. Handling m z w d st) (sym b) (subst (λ z. Handling z t w d st) (sym a) is)))
-
--- the tables with a done bit cleared
-abbrev pub with_undone : Tables → ℕ → Tables
-with_undone t granule = record t { dones = changed t.dones granule false }
-
--- a done object is buried, and its done bit cleared
-pub handled_at : (a b e : Space) (p : Place) (granule : ℕ) (st : CascadeStage) → (h : HandledAt a granule st) → p.0 ≡ granule + 1
-    → Buries a b p (done_name a granule st h).0 (shape_of (done_object a granule st h)) → Turns b e (with_undone (tables_of b) granule)
-    → IsHandling e (later st ((done_name a granule st h).0 ∷ st.gone) st.work st.extra)
-unfolding done_object
-handled_at a b e p granule st h stands buries turns =
-    let t : Tables = tables_of a in
-    let x = done_name a granule st h in
-    let r : Name = x.0 in
-    let o = h.stage.handling.remains.ground.stands r x.1.member in
-    let ro : Object = o.0 in
-    let at_r : p.0 ≡ st.at r = stands ∙ x.1.place in
-    let limits : e.limits ≡ a.limits = ap (λ s. s.limits) turns.rest ∙ ap (λ s. s.limits) buries.rest in
-    let cut : ℕ → ℕ → Tables = λ q k. record (without_object t q (shape_of ro)) { dones = changed t.dones k false } in
-    let tables : tables_of e ≡ without_done t st.at r ro = turns.tables ∙ ap (λ z. with_undone z granule) buries.tables ∙ ap (λ q. cut q granule) at_r ∙ ap (cut (st.at r)) (sym x.1.granule) in
-    let work : e.work ≡ a.work = ap (λ s. s.work) turns.rest ∙ ap (λ s. s.work) buries.rest in
-    let dead : e.report.dead ≡ pushed a.report.dead r = ap (λ s. s.report.dead) turns.rest ∙ ap (λ s. s.report.dead) buries.rest in
-    record {
-      space = limits_space a e limits (ap (λ z. z.size) tables) h.stage.space;
-      handling = same_handling a.limits e.limits _ (tables_of e) a.work e.work _ e.report.dead (later st (r ∷ st.gone) st.work st.extra) limits tables work dead
-          (handled a.limits t a.work a.report.dead st r ro h.stage.handling x.1.member x.1.left (ap t.dones x.1.granule ∙ h.done) o.1);
-    }
-
-pub undone_keeps : (a b : Space) (granule : ℕ) → Turns a b (with_undone (tables_of a) granule) → Keeps a b
-undone_keeps a b granule turns = record {
-  leaves = turned_leaves a b _ turns (record { keeps = record { heap = refl; reuse = refl; runs = refl; frees = refl; remembered = refl; cursors = λ k h j. refl }; decs = refl; outs = refl; states = refl });
-  cursors = ap (λ t. t.cursors) turns.tables;
-}
-
--- ---- one after another
-
--- behind what is handled next nothing is
-pub none_handled_on : (t u : Tables) (from end granule : ℕ) → NoneWanted t Handled 0 from → IsNextWanted t Handled from end granule → u.dones ≡ changed t.dones granule false → NoneWanted u Handled 0 (granule + 1)
-none_handled_on t u from end granule before next dones k above below = elim (eqb_tells k granule) [
-  | inl e ↦ ap (λ f. f k) dones ∙ changed_here t.dones granule false k e.1
-  | inr e ↦ ap (λ f. f k) dones ∙ changed_other t.dones granule false k e.1 ∙ (elim (leb_tells from k) [
-    | inl c ↦ let ne = e.1 in next.passed k c.1 (omega (arith, below, ne))
-    | inr c ↦ before k above c.1
-  ])
-]
 
 -- past the heap nothing is done
 none_past : (s : Space) (st : CascadeStage) (k : ℕ) → IsHandling s st → GRANULES_IN_BLOCK * s.limits.blocks ≤ k → (tables_of s).dones k ≡ false
@@ -264,5 +196,7 @@ pub all_handled : (s : Space) (st : CascadeStage) → IsHandling s st → ((k : 
 all_handled s st is none = record {
   stage = record { space = is.space; cascade = handled_all s.limits (tables_of s) s.work s.report.dead st is.handling none };
   work = refl;
+  under = is.handling.no_under;
+  between = is.handling.between;
   extra = λ o. refl;
 }

@@ -1,4 +1,6 @@
 pub mod WipeLemmas
+pub mod LeftLemmas
+pub mod GrayLemmas
 pub mod WantedLemmas
 pub mod CascadeLemmas
 pub mod SpaceLemmas
@@ -7,3 +9,6 @@ pub mod DrainLemmas
 pub mod DropLemmas
 pub mod BridgeLemmas
 pub mod OpenedLemmas
+pub mod HandledLemmas
+pub mod ClearedLemmas
+pub mod BlockLemmas

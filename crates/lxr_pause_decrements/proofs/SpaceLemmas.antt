@@ -36,7 +36,7 @@ leaves_by a e w d rest work_room dead_room tables = record {
 pub leaves_none : (a : Space) → Leaves a a
 leaves_none a = record { tables = record { keeps = keeps_same (tables_of a) (tables_of a) refl; decs = refl; outs = refl; states = refl }; rest = refl; work_room = refl; dead_room = refl }
 
-tables_both : (t u v : Tables) → TablesStay t u → TablesStay u v → TablesStay t v
+pub tables_both : (t u v : Tables) → TablesStay t u → TablesStay u v → TablesStay t v
 tables_both t u v x y = record {
   keeps = lists_both t u v x.keeps y.keeps;
   decs = y.decs ∙ x.decs;

@@ -4,7 +4,8 @@ use Rattle.std.specs.Prelude.{◌↔◌, ◌==◌, ◌&&◌, IsBitSet, IsTrue}
 use Rattle.std.specs.Int.{bit_at, trailing_zeros}
 use Rattle.std.proofs.lemmas.Bool.{and_parts, false_from_ne_true}
 use Rattle.std.proofs.lemmas.Bool.Decides.{leb_tells}
-use Rattle.std.proofs.lemmas.Nat.{shr-shr}
+use Rattle.std.specs.Int.Bits.{bit_or}
+use Rattle.std.proofs.lemmas.Nat.{le_or_l, le_or_r, shr-shr}
 use Rattle.std.proofs.lemmas.Nat.Bits.{bit_at-trailing_zeros, bit_at-zero, bit_at_above}
 use Rattle.lxr_layout.specs.declared.TheConstants.{GRANULES_IN_BLOCK}
 use Rattle.lxr_tables.proofs.BitLemmas.{one_is_set, set_is_one}
@@ -74,3 +75,19 @@ next_further t wanted from at end granule past before next = record {
   is = next.is;
   passed = none_further t wanted from at granule before next.passed;
 }
+
+-- ---- many granules at once
+
+-- where a word of bits is 0, none of its 64 bits is set
+pub zero_word : (f : ℕ → Bool) (at word : ℕ) → ((i : ℕ) → i < 64 → f (64 * at + i) ≡ (bit_at word i == 1)) → word ≡ 0 → (k : ℕ) → 64 * at ≤ k → k < 64 * at + 64 → f k ≡ false
+zero_word f at word tells zero k from below =
+    let place : 64 * at + (k - 64 * at) ≡ k = omega (arith, from) in
+    ap f (sym place) ∙ tells (k - 64 * at) (omega (arith, from, below)) ∙ ap (λ w. bit_at w (k - 64 * at) == 1) zero ∙ ap (λ b. b == 1) (bit_at-zero (k - 64 * at))
+
+-- what was seen and one word more are 0 only where both are
+pub none_seen : (t : Tables) (wanted : Wanted) (block at seen hint : ℕ) → (seen ≡ 0 → NoneWanted t wanted (GRANULES_IN_BLOCK * block) (64 * at))
+    → (hint ≡ 0 → NoneWanted t wanted (64 * at) (64 * at + 64)) → bit_or seen hint ≡ 0 → NoneWanted t wanted (GRANULES_IN_BLOCK * block) (64 * (at + 1))
+none_seen t wanted block at seen hint before here zero k above below =
+    let left = le_or_l seen hint in
+    let right = le_or_r seen hint in
+    none_further t wanted (GRANULES_IN_BLOCK * block) (64 * at) (64 * at + 64) (before (omega (arith, left, zero))) (here (omega (arith, right, zero))) k above (omega (arith, below))

@@ -1,10 +1,10 @@
 -- What holds of a space in the middle of its decrements.
-use Rattle.std.specs.Prelude.{◌≡◌, ℕ, ◌+◌, ◌*◌, ◌/◌, ◌<◌, ◌≤◌, ◌↔◌, false, Option, Some, List, [], ◌++◌, IsTrue, length, slice_get, map, reverse}
+use Rattle.std.specs.Prelude.{◌≡◌, ◌≢◌, ℕ, ◌+◌, ◌*◌, ◌/◌, ◌<◌, ◌≤◌, ◌↔◌, ◌⊎◌, ⊤, Bool, true, false, if◌then◌else◌, Option, Some, None, List, [], ◌++◌, IsTrue, length, slice_get, map, reverse}
 use Rattle.lxr_layout.specs.declared.Name.{Name}
 use Rattle.lxr_layout.specs.declared.Place.{Place}
 use Rattle.lxr_layout.specs.declared.Shape.{Shape}
 use Rattle.lxr_layout.specs.declared.limits.Limits.{Limits}
-use Rattle.lxr_layout.specs.declared.TheConstants.{DECREMENT_COUNT, DECREMENT_CURSOR, GRANULES_IN_BLOCK, STUCK}
+use Rattle.lxr_layout.specs.declared.TheConstants.{DECREMENT_COUNT, DECREMENT_CURSOR, GRANULES_IN_BLOCK, STUCK, TRACING_WORD}
 use Rattle.lxr_layout.specs.Objects.{FitsShape, header_word, word_count}
 use Rattle.lxr_layout.specs.Places.{first_word}
 use Rattle.lxr_base.specs.Roomy.{Roomy, pushed}
@@ -16,15 +16,16 @@ use Rattle.lxr_image.specs.Spaces.{IsSpace, tables_of}
 use Rattle.lxr_image.specs.Reads.{IsName, granule_of}
 use Rattle.lxr_image.specs.Image.{AreApart, granules_of, place_word}
 use Rattle.lxr_model.specs.Dead.{Dead}
-use Rattle.lxr_model.specs.Moments.{Moment}
+use Rattle.lxr_model.specs.Moments.{Moment, Trace}
 use Rattle.lxr_model.specs.Reachable.{Refers}
 use Rattle.lxr_model.specs.References.{occurrences, references, references_from}
 use Rattle.lxr_model_counting.specs.Distinct.{IsDistinct}
 use Rattle.lxr_model_counting.specs.Lowering.{IsLowered, IsOver, TakenFrom}
 use Rattle.lxr_invariant.specs.Keeping.{KeepsListsAndCounters}
 use Rattle.lxr_invariant.specs.Counting.{HasDecrements, count_at, is_done, occurrences_from, passing, undone, waiting_at}
-use Rattle.lxr_invariant.specs.Lines.{HasMarks, line_behind, next_line}
+use Rattle.lxr_invariant.specs.Lines.{HasMarks, line_behind, next_line, tracing_word}
 use Rattle.lxr_invariant.specs.Standing.{HasBits, place_of}
+use Rattle.lxr_invariant.specs.Tracing.{IsGray}
 use Rattle.lxr_pause_decrements.specs.Wipe.{LosesBits, cleared, wiped}
 
 -- A stage of the decrements: what stands for the space while they are done. No code holds it.
@@ -37,14 +38,22 @@ pub record CascadeStage : Type 0 where
   -- what is reclaimed so far, newest first, and of it what still lies in the worklist
   pub gone : List Name
   pub work : List Name
+  -- what lies under that in the worklist and isn't taken by the decrements: a sweep leaves places there
+  pub under : List Place
   -- what waits to be lowered beside the list of decrements and the references of `work`
   pub extra : Name → ℕ
+  -- how often a name is still to be made gray by the object that is just being released
+  pub ungrayed : Name → ℕ
   -- below this granule no object without a count is left
   pub passed : ℕ
 
 -- the unreclaimed names that are left
 abbrev pub kept : CascadeStage → List Name
 kept st = without st.moment.unreclaimed st.gone
+
+-- no object is just being released
+abbrev pub IsBetween : CascadeStage → Type 0
+IsBetween st = (o : Name) → st.ungrayed o ≡ 0
 
 -- an object's header stands at its place in the heap; of its fields nothing is said
 pub record Founded (heap : ℕ → ℕ) (blocks : ℕ) (at : Name → ℕ) (n : Name) (o : Object) : Type 0 where
@@ -70,8 +79,30 @@ pub record Ground (heap : ℕ → ℕ) (blocks : ℕ) (m : Moment) (at : Name �
 abbrev pub waits : Tables → CascadeStage → Name → ℕ
 waits t st n = waiting_at t (st.at n) + references_from st.moment.last.graph st.work n + st.extra n
 
+-- Grays while a trace runs. Of what is left gray is what was gray, and what some reclaimed object has made gray: one that is dead and
+-- referred to it. What lies in the worklist has still to do so, and so has in part what is just being released.
+pub record GraysSoFar (before after : ℕ → Bool) (m : Moment) (at : Name → ℕ) (gone work : List Name) (ungrayed : Name → ℕ) : Type 0 where
+  pub stays : (n : Name) → IsTrue (has (without m.unreclaimed gone) n) → IsTrue (before (granule_of (at n))) → IsTrue (after (granule_of (at n)))
+  pub referred : (n : Name) → IsTrue (has (without m.unreclaimed gone) n) → IsTrue (after (granule_of (at n)))
+      → IsTrue (before (granule_of (at n))) ⊎ ((u : Name) × Dead m.last m.unreclaimed m.stuck u × Refers m.last.graph u n)
+  pub released : (u n : Name) → IsTrue (has gone u) → has work u ≡ false → Refers m.last.graph u n → IsTrue (has (without m.unreclaimed gone) n)
+      → IsTrue (after (granule_of (at n))) ⊎ (1 ≤ ungrayed n)
+  pub reclaimed : (n : Name) → IsTrue (has gone n) → after (granule_of (at n)) ≡ false
+  pub others : (k : ℕ) → ((n : Name) → IsTrue (has m.unreclaimed n) → granule_of (at n) ≢ k) → after k ≡ before k
+
+-- where none runs, a reclaimed object loses its gray bit, and no other bit changes
+abbrev pub AreGrayed : Option Trace → (ℕ → Bool) → (ℕ → Bool) → Moment → (Name → ℕ) → List Name → List Name → (Name → ℕ) → Type 0
+AreGrayed None before after m at gone work ungrayed = LosesBits before after at gone
+AreGrayed (Some trace) before after m at gone work ungrayed = GraysSoFar before after m at gone work ungrayed
+
+-- while a trace runs, what a done object referred to and is left is gray
+abbrev pub HandledGray : Option Trace → Tables → Moment → (Name → ℕ) → List Name → Type 0
+HandledGray None t m at gone = ⊤
+HandledGray (Some trace) t m at gone =
+    (u n : Name) → IsTrue (has m.unreclaimed u) → IsTrue (is_done t at u) → Refers m.last.graph u n → has gone n ≡ false → IsGray t at n
+
 -- Some objects are reclaimed: what is left has its bits and marks, what is gone is reported, each once, and there is room to
--- report what may still go.
+-- report what may still go. Each that is gone took its start bit with it.
 pub record Remains (l : Limits) (t : Tables) (d : Roomy Name) (st : CascadeStage) : Type 0 where
   pub ground : Ground t.heap l.blocks st.moment st.at
   pub stuck : (n : Name) → IsTrue (has st.moment.unreclaimed n) → IsTrue (has st.moment.stuck n) → count_at t st.at n ≡ STUCK
@@ -79,10 +110,11 @@ pub record Remains (l : Limits) (t : Tables) (d : Roomy Name) (st : CascadeStage
   pub bits : HasBits t st.moment st.at (kept st)
   pub marks : HasMarks t st.moment.state.graph st.at (kept st)
   pub lost_marks : LosesBits st.was.marks t.marks st.at st.gone
-  pub lost_grays : LosesBits st.was.grays t.grays st.at st.gone
+  pub tracing : t.cursors TRACING_WORD ≡ tracing_word st.moment.trace
   pub decrements : HasDecrements l t st.moment st.at
   pub once : IsDistinct (reverse st.gone)
   pub reported : d.items ≡ st.before ++ reverse st.gone
+  pub fewer : length st.gone + passing t.starts (GRANULES_IN_BLOCK * l.blocks) ≡ passing st.was.starts (GRANULES_IN_BLOCK * l.blocks)
   pub dead_room : length d.items + passing t.starts (GRANULES_IN_BLOCK * l.blocks) ≤ d.room
 
 -- Some of what decrementers have handled is reclaimed. A count is the references from what is left and isn't done, and what
@@ -95,7 +127,11 @@ pub record Handling (l : Limits) (t : Tables) (w : Roomy Place) (d : Roomy Name)
   pub zero : (n : Name) → IsTrue (has st.gone n) → count_at t st.at n ≡ 0
   pub done_dead : (n : Name) → IsTrue (has st.moment.unreclaimed n) → IsTrue (is_done t st.at n) → Dead st.moment.last st.moment.unreclaimed st.moment.stuck n
   pub done_zero : (n : Name) → IsTrue (has st.moment.unreclaimed n) → IsTrue (is_done t st.at n) → count_at t st.at n ≡ 0
+  pub grays : AreGrayed st.moment.trace st.was.grays t.grays st.moment st.at st.gone [] st.ungrayed
+  pub handled : HandledGray st.moment.trace t st.moment st.at st.gone
   pub no_work : w.items ≡ []
+  pub no_under : st.under ≡ []
+  pub between : IsBetween st
   pub work_room : GRANULES_IN_BLOCK * l.blocks ≤ w.room
 
 -- Some counts are lowered, and no done bit is set any more: what is left has a count of its references from what is left and of
@@ -106,7 +142,8 @@ pub record Cascade (l : Limits) (t : Tables) (w : Roomy Place) (d : Roomy Name) 
   pub passed : (n : Name) → IsTrue (has st.moment.unreclaimed n) → has st.moment.stuck n ≡ false → granule_of (st.at n) < st.passed
       → count_at t st.at n ≡ 0 → IsTrue (has st.gone n)
   pub none_done : (k : ℕ) → t.dones k ≡ false
-  pub work : w.items ≡ map (place_of st.at) st.work
+  pub grays : AreGrayed st.moment.trace st.was.grays t.grays st.moment st.at st.gone st.work st.ungrayed
+  pub work : w.items ≡ st.under ++ map (place_of st.at) st.work
   pub work_gone : (n : Name) → IsTrue (has st.work n) → IsTrue (has st.gone n)
   pub work_room : length w.items + passing t.starts (GRANULES_IN_BLOCK * l.blocks) ≤ w.room
 
@@ -131,6 +168,14 @@ later st gone work extra = record st { gone = gone; work = work; extra = extra }
 -- the stage at which a pass has come to another granule
 abbrev pub come_to : CascadeStage → ℕ → CascadeStage
 come_to st granule = record st { passed = granule }
+
+-- the stage with other names to be made gray
+abbrev pub graying : CascadeStage → (Name → ℕ) → CascadeStage
+graying st ungrayed = record st { ungrayed = ungrayed }
+
+-- the bits with one more set, where a trace runs
+abbrev pub grayed_if : Bool → (ℕ → Bool) → ℕ → ℕ → Bool
+grayed_if tracing f g = if tracing then changed f g true else f
 
 -- a name at its place waits once more than the rest says
 pub record Waiting (s : Space) (place : ℕ) (st : CascadeStage) (r : Name) (rest : Name → ℕ) : Type 0 where
@@ -196,14 +241,15 @@ pub record Keeps (before after : Space) : Type 0 where
 abbrev pub held_by : CascadeStage → Name → List (Option Name)
 held_by st r = refs_of (object_at st.moment.last.graph r)
 
--- a reclaimed name out of the worklist, whose references wait
+-- a reclaimed name out of the worklist, whose references wait, and what they hold is to be made gray
 pub record Releasing (s : Space) (place : ℕ) (st : CascadeStage) (r : Name) (rest : Name → ℕ) : Type 0 where
   pub stage : IsAt s st
   pub gone : IsTrue (has st.gone r)
   pub stands : place ≡ st.at r
   pub extra : (o : Name) → st.extra o ≡ rest o + occurrences (held_by st r) o
+  pub ungrayed : (o : Name) → st.ungrayed o ≡ occurrences (held_by st r) o
 
--- the references of a dead object wait from number i on
+-- the references of a dead object wait from number i on, and what these hold is to be made gray
 pub record FieldWaits (s : Space) (place i : ℕ) (st : CascadeStage) (r : Name) (rest : Name → ℕ) : Type 0 where
   pub stage : IsAt s st
   pub member : IsTrue (has st.moment.unreclaimed r)
@@ -211,20 +257,24 @@ pub record FieldWaits (s : Space) (place i : ℕ) (st : CascadeStage) (r : Name)
   pub stands : place ≡ st.at r
   pub index : i < length (held_by st r)
   pub extra : (o : Name) → st.extra o ≡ rest o + occurrences_from (held_by st r) i o
+  pub ungrayed : (o : Name) → st.ungrayed o ≡ occurrences_from (held_by st r) i o
 
--- the worklist is empty at some later stage
+-- the worklist is to be emptied down to a length
+pub record Draining (s : Space) (floor : ℕ) (st : CascadeStage) : Type 0 where
+  pub stage : IsAt s st
+  pub under : length st.under ≡ floor
+  pub between : IsBetween st
+
+-- nothing but what lies under it is left in the worklist at some later stage
 abbrev pub Drains : Space → CascadeStage → Type 0
 Drains s st = (gone : List Name) × IsAt s (later st gone [] st.extra)
-
--- an object that a decrementer has handled begins at a granule
-pub record HandledAt (s : Space) (granule : ℕ) (st : CascadeStage) : Type 0 where
-  pub stage : IsHandling s st
-  pub done : IsTrue ((tables_of s).dones granule)
 
 -- an object without a count begins at the granule that a pass has come to
 pub record DroppedAt (s : Space) (granule : ℕ) (st : CascadeStage) : Type 0 where
   pub stage : IsAt s st
   pub come : st.passed ≡ granule
+  pub under : st.under ≡ []
+  pub between : IsBetween st
   pub start : IsTrue ((tables_of s).starts granule)
   pub uncounted : (tables_of s).counts granule ≡ 0
 
@@ -232,6 +282,8 @@ pub record DroppedAt (s : Space) (granule : ℕ) (st : CascadeStage) : Type 0 wh
 pub record IsOpening (s : Space) (st : CascadeStage) : Type 0 where
   pub stage : IsAt s st
   pub work : st.work ≡ []
+  pub under : st.under ≡ []
+  pub between : IsBetween st
   pub extra : (o : Name) → st.extra o ≡ 0
 
 -- nothing waits, and the list of decrements is empty

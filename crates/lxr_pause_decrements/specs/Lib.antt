@@ -4,3 +4,4 @@ pub mod Cascade
 pub mod Steps
 pub mod Finishing
 pub mod Opened
+pub mod Handled

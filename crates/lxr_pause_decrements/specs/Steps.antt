@@ -1,18 +1,15 @@
 -- What each step of the decrements asks, and from which stage to which it leads.
-use Rattle.std.specs.Prelude.{ℕ, ◌+◌, ◌*◌, List, [], ◌∷◌}
+use Rattle.std.specs.Prelude.{ℕ, ◌+◌, ◌*◌, List, []}
 use Rattle.lxr_layout.specs.declared.Name.{Name}
 use Rattle.lxr_layout.specs.declared.TheConstants.{GRANULES_IN_BLOCK}
 use Rattle.lxr_image.specs.declared.space.Space.{Space}
 use Rattle.lxr_model_counting.specs.Lowering.{once}
 use Rattle.lxr_invariant.specs.Counting.{occurrences_from}
-use Rattle.lxr_pause_decrements.specs.Cascade.{CascadeStage, Drains, DroppedAt, FieldWaits, HandledAt, IsAt, IsEmptied, IsFinished, IsHandling, IsOpening, Reaches, Releasing, Waiting, come_to, held_by, later}
+use Rattle.lxr_pause_decrements.specs.Cascade.{CascadeStage, Draining, Drains, DroppedAt, FieldWaits, IsAt, IsEmptied, IsFinished, IsHandling, IsOpening, Reaches, Releasing, Waiting, come_to, graying, held_by, later}
 
--- an object that was handled is to be reclaimed; then it is
-abbrev pub MayReclaimHandled : Space → ℕ → Type 0
-MayReclaimHandled s granule = (st : CascadeStage) × HandledAt s granule st
-
-abbrev pub ReclaimsHandled : Space → Space → ℕ → Type 0
-ReclaimsHandled before after granule = (st : CascadeStage) → HandledAt before granule st → (n : Name) × IsHandling after (later st (n ∷ st.gone) st.work st.extra)
+-- some of what was handled is reclaimed
+abbrev pub ReclaimsSomeHandled : Space → Space → Type 0
+ReclaimsSomeHandled before after = (st : CascadeStage) → IsHandling before st → (gone : List Name) × IsHandling after (later st gone st.work st.extra)
 
 -- all that was handled is to be reclaimed; then nothing is done, and all waits in the list of decrements
 abbrev pub MayReclaimAllHandled : Space → Type 0
@@ -32,24 +29,29 @@ MayLower s place = (st : CascadeStage) × (r : Name) × (rest : Name → ℕ) ×
 abbrev pub Lowers : Space → Space → ℕ → Type 0
 Lowers before after place = (st : CascadeStage) (r : Name) (rest : Name → ℕ) → Waiting before place st r rest → Reaches after st rest
 
--- the references of the dead object at a place wait from number i on; then they do from the next one on
+-- the references of the dead object at a place wait from number i on; then they do from the next one on, and what this one holds is
+-- gray if a trace runs
 abbrev pub MayLowerField : Space → ℕ → ℕ → Type 0
 MayLowerField s place i = (st : CascadeStage) × (r : Name) × (rest : Name → ℕ) × FieldWaits s place i st r rest
 
 abbrev pub LowersField : Space → Space → ℕ → ℕ → Type 0
 LowersField before after place i =
-    (st : CascadeStage) (r : Name) (rest : Name → ℕ) → FieldWaits before place i st r rest → Reaches after st (λ o. rest o + occurrences_from (held_by st r) (i + 1) o)
+    (st : CascadeStage) (r : Name) (rest : Name → ℕ) → FieldWaits before place i st r rest
+    → Reaches after (graying st (occurrences_from (held_by st r) (i + 1))) (λ o. rest o + occurrences_from (held_by st r) (i + 1) o)
 
--- all references of the reclaimed object at a place wait; then none does
+-- all references of the reclaimed object at a place wait; then none does, and what they hold is gray if a trace runs
 abbrev pub MayRelease : Space → ℕ → Type 0
 MayRelease s place = (st : CascadeStage) × (r : Name) × (rest : Name → ℕ) × Releasing s place st r rest
 
 abbrev pub Releases : Space → Space → ℕ → Type 0
-Releases before after place = (st : CascadeStage) (r : Name) (rest : Name → ℕ) → Releasing before place st r rest → Reaches after st rest
+Releases before after place = (st : CascadeStage) (r : Name) (rest : Name → ℕ) → Releasing before place st r rest → Reaches after (graying st (λ o. 0)) rest
 
--- the worklist is emptied
-abbrev pub Empties : Space → Space → Type 0
-Empties before after = (st : CascadeStage) → IsAt before st → Drains after st
+-- the worklist is to be emptied down to a length; then it is
+abbrev pub MayEmpty : Space → ℕ → Type 0
+MayEmpty s floor = (st : CascadeStage) × Draining s floor st
+
+abbrev pub Empties : Space → Space → ℕ → Type 0
+Empties before after floor = (st : CascadeStage) → Draining before floor st → Drains after st
 
 -- an object without a count is to be reclaimed; then it is, with what dies by it
 abbrev pub MayDrop : Space → ℕ → Type 0

@@ -1,25 +1,26 @@
 //! Lowering counts, one after another, until nothing waits.
-ghost use Rattle.std.specs.Prelude.{◌≡◌, ℕ, ◌+◌, ◌*◌, ◌<◌, ◌≤◌, List, false};
-ghost use Rattle.lxr_layout.specs.declared.TheConstants.{DECREMENT_COUNT, DECREMENT_CURSOR, GRANULES_IN_BLOCK};
+ghost use Rattle.std.specs.Prelude.{◌≡◌, ◌==◌, ℕ, ◌+◌, ◌-◌, ◌*◌, ◌<◌, ◌≤◌, List, MatchOption, length};
+ghost use Rattle.lxr_layout.specs.declared.TheConstants.{DECREMENT_COUNT, DECREMENT_CURSOR, GRANULES_IN_BLOCK, TRACING_WORD};
 ghost use Rattle.lxr_layout.specs.declared.Name.{Name as NameOf};
 ghost use Rattle.lxr_layout.specs.declared.Shape.{Shape as ShapeOf};
 ghost use Rattle.lxr_layout.specs.Places.{IsPlace};
-ghost use Rattle.lxr_image.specs.Spaces.{IsSpace, tables_of};
-ghost use Rattle.lxr_image.specs.Tables.{changed};
+ghost use Rattle.lxr_base.specs.Roomy.{pushed};
+ghost use Rattle.lxr_image.specs.Spaces.{IsSpace, Turns, tables_of};
 ghost use Rattle.lxr_model.specs.Moments.{Moment};
 ghost use Rattle.lxr_pause_decrements.specs.Finishing.{CanFinish, Finishes};
-ghost use Rattle.lxr_pause_decrements.specs.Cascade.{IsHeader, Keeps, Leaves, to_do};
-ghost use Rattle.lxr_pause_decrements.specs.Steps.{Drops, DropsAll, Empties, EmptiesList, IsMidway, Lowers, LowersAll, LowersField, MayDrop, MayDropAll, MayLower, MayLowerAll, MayLowerField, MayReclaimAllHandled, MayReclaimHandled, MayRelease, ReclaimsAllHandled, ReclaimsHandled, Releases, TakesLast};
+ghost use Rattle.lxr_pause_decrements.specs.Cascade.{IsHeader, Keeps, Leaves, grayed_if, to_do};
+ghost use Rattle.lxr_pause_decrements.specs.Steps.{Drops, DropsAll, Empties, EmptiesList, IsMidway, Lowers, LowersAll, LowersField, MayDrop, MayDropAll, MayEmpty, MayLower, MayLowerAll, MayLowerField, MayRelease, Releases, TakesLast};
 
-use crate::reclaim::{bury, reclaim};
+use crate::handled::reclaim_all_handled;
+use crate::reclaiming::reclaim;
 use crate::wanted::{Wanted, next_wanted};
-use lxr_image::Space;
-use lxr_layout::{DECREMENT_COUNT, DECREMENT_CURSOR, Header, Place, unpack, word_of};
+use lxr_image::{Places, Space};
+use lxr_layout::{DECREMENT_COUNT, DECREMENT_CURSOR, Header, Place, TRACING_WORD, unpack, word_of};
 use lxr_tables::Lowered;
 
 /// Lowers the count of the object at a place; a stuck count stays. With its last count the object is reclaimed, and what it
 /// refers to waits.
-fn lower_place(space: &mut Space, place: Place)
+pub fn lower_place(space: &mut Space, place: Place)
     requires { MayLower space.old place.0 }
     ensures reaches { Lowers space.old space.new place.0 }
     ensures to_do { to_do space.new ≡ to_do space.old }
@@ -31,7 +32,7 @@ fn lower_place(space: &mut Space, place: Place)
 }
 
 /// How many references the object at a place has.
-fn reference_slots(space: &Space, place: Place) -> u16
+pub fn reference_slots(space: &Space, place: Place) -> u16
     requires space { IsSpace space.now }
     requires place { IsPlace place }
     requires heap { place.0 ≤ GRANULES_IN_BLOCK * space.now.limits.blocks }
@@ -43,64 +44,72 @@ fn reference_slots(space: &Space, place: Place) -> u16
     }
 }
 
-/// Lowers what one reference of a dead object holds, unless it is nil.
-fn lower_field(space: &mut Space, place: Place, index: u16)
-    requires { MayLowerField space.old place.0 index }
+/// Whether a trace runs.
+fn is_tracing(space: &Space) -> bool
+    requires { IsSpace space.now }
+    ensures { result ≡ ((tables_of space.now).cursors TRACING_WORD == 1) }
+{
+    space.cursor(TRACING_WORD) == 1
+}
+
+/// Makes the object at a place gray, if a trace runs.
+fn make_gray(space: &mut Space, place: Place, tracing: bool)
+    requires space { IsSpace space.old }
+    requires place { IsPlace place }
+    requires heap { place.0 ≤ GRANULES_IN_BLOCK * space.old.limits.blocks }
+    ensures { Turns space.old space.new (record (tables_of space.old) { grays = grayed_if tracing (tables_of space.old).grays (place.0 - 1) }) }
+{
+    if tracing {
+        space.set_gray(place.0 - 1);
+    }
+}
+
+/// Lowers what one reference of a dead object holds, unless it is nil. While a trace runs, it is made gray first, as what an
+/// overwritten reference held is: what dies by counting then hides nothing that stood when the trace began.
+fn lower_field(space: &mut Space, place: Place, index: u16, tracing: bool)
+    requires field { MayLowerField space.old place.0 index }
+    requires tracing { tracing ≡ ((tables_of space.old).cursors TRACING_WORD == 1) }
     ensures reaches { LowersField space.old space.new place.0 index }
     ensures to_do { to_do space.new ≡ to_do space.old }
     ensures keeps { Keeps space.old space.new }
 {
     let word = space.heap_word(2 * (place.0 - 1) + 1 + u32::from(index));
     if word != 0 {
-        lower_place(space, Place(word as u32));
+        let held = Place(word as u32);
+        make_gray(space, held, tracing);
+        lower_place(space, held);
     }
 }
 
-/// Lowers what each reference of a reclaimed object holds.
+/// Lowers what each reference of a reclaimed object holds, and makes it gray if a trace runs.
 fn release(space: &mut Space, place: Place)
     requires { MayRelease space.old place.0 }
     ensures reaches { Releases space.old space.new place.0 }
     ensures to_do { to_do space.new ≡ to_do space.old }
     ensures keeps { Keeps space.old space.new }
 {
+    let tracing = is_tracing(space);
     let count = reference_slots(space, place);
     for i in 0..count {
-        lower_field(space, place, i);
+        lower_field(space, place, i, tracing);
     }
 }
 
-/// Empties the worklist: each object in it is released, which may put further ones into it.
-fn drain(space: &mut Space)
-    requires { IsMidway space.old }
-    ensures drains { Empties space.old space.new }
+/// Takes the last of a list of places out of it, where the list is longer than a floor.
+fn pop_above(work: &mut Places, floor: usize) -> Option<Place>
+    ensures { MatchOption result ((length work.old.items ≤ floor) × (work.new ≡ work.old)) (λ place. (work.old ≡ pushed work.new place) × (floor ≤ length work.new.items)) }
+{
+    if floor < work.len() { work.pop() } else { None }
+}
+
+/// Empties the worklist down to a length: each object above it is released, which may put further ones there.
+pub fn drain(space: &mut Space, floor: usize)
+    requires { MayEmpty space.old floor }
+    ensures drains { Empties space.old space.new floor }
     ensures keeps { Keeps space.old space.new }
 {
-    while let Some(place) = space.work.pop() {
+    while let Some(place) = pop_above(&mut space.work, floor) {
         release(space, place);
-    }
-}
-
-/// Reclaims the object that begins at a granule and that a decrementer has handled. What it referred to was lowered then.
-fn reclaim_handled(space: &mut Space, granule: u32)
-    requires { MayReclaimHandled space.old granule }
-    ensures reclaims { ReclaimsHandled space.old space.new granule }
-    ensures dones { (tables_of space.new).dones ≡ changed (tables_of space.old).dones granule false }
-    ensures keeps { Keeps space.old space.new }
-{
-    bury(space, Place(granule + 1));
-    space.clear_done(granule);
-}
-
-/// Reclaims each object that a decrementer has handled.
-fn reclaim_all_handled(space: &mut Space)
-    requires { MayReclaimAllHandled space.old }
-    ensures reclaims { ReclaimsAllHandled space.old space.new }
-    ensures keeps { Keeps space.old space.new }
-{
-    let mut from = 0;
-    while let Some(granule) = next_wanted(space, Wanted::Handled, from) {
-        reclaim_handled(space, granule);
-        from = granule + 1;
     }
 }
 
@@ -139,7 +148,7 @@ fn lower_all(space: &mut Space)
     while space.cursor(DECREMENT_CURSOR) < space.cursor(DECREMENT_COUNT) {
         let place = take_decrement(space);
         lower_place(space, place);
-        drain(space);
+        drain(space, 0);
     }
     empty_list(space);
 }
@@ -151,7 +160,7 @@ fn reclaim_dropped(space: &mut Space, granule: u32)
     ensures keeps { Keeps space.old space.new }
 {
     reclaim(space, Place(granule + 1));
-    drain(space);
+    drain(space, 0);
 }
 
 /// Reclaims each object that decrementers lowered to 0 and dropped, and what dies by it.
@@ -170,7 +179,8 @@ fn reclaim_all_dropped(space: &mut Space)
 /// Finishes what decrementers have left, whatever they did. What they handled is reclaimed. The count of the object at each
 /// place of the list that none of them drew is lowered, and an object whose count falls to 0 is reclaimed, which lowers what
 /// its references hold in turn; and so is each object that they lowered to 0 and dropped. What is reclaimed is reported as
-/// dead. It takes no memory, and no more of the machine's stack for a longer chain of objects.
+/// dead, and while a trace runs, what it referred to is made gray (LXR's snapshot at the beginning). It takes no memory, and no
+/// more of the machine's stack for a longer chain of objects.
 pub fn finish_decrements(space: &mut Space)
     requires { (m : Moment) × (at : NameOf → ℕ) × CanFinish space.old m at }
     ensures { (m : Moment) (at : NameOf → ℕ) → CanFinish space.old m at → (gone : List NameOf) × Finishes space.old space.new m at gone }

@@ -7,9 +7,11 @@
 #![tactic(auto)]
 
 mod finish;
+mod handled;
 mod laws;
-mod reclaim;
+mod reclaiming;
 mod wanted;
 
-pub use finish::finish_decrements;
+pub use finish::{drain, finish_decrements, lower_place, reference_slots};
 pub use laws::opened_can_finish;
+pub use reclaiming::{bury, clear_object, reclaim};

@@ -1,5 +1,5 @@
 //! Finding objects by the bits of 64 granules at once.
-ghost use Rattle.std.specs.Prelude.{◌≡◌, ◌↔◌, ℕ, ◌+◌, ◌*◌, ◌<◌, IfNone, IfSome, IsBitSet, IsTrue};
+ghost use Rattle.std.specs.Prelude.{◌≡◌, ◌↔◌, ℕ, ◌+◌, ◌*◌, ◌<◌, IfNone, IfSome, IsBitSet, IsTrue, false};
 ghost use Rattle.lxr_layout.specs.declared.TheConstants.{GRANULES_IN_BLOCK};
 ghost use Rattle.lxr_image.specs.Spaces.{IsSpace, tables_of};
 ghost use Rattle.lxr_pause_decrements.specs.Wanted.{IsNextWanted, NoneWanted, is_wanted};
@@ -29,7 +29,34 @@ fn wanted_word(space: &Space, wanted: Wanted, at: u32) -> u64
     }
 }
 
-/// The granule at which the first wanted object from a granule on begins. It takes one look for 64 granules.
+/// Bits of which none is set where a wanted object begins at none of 64 granules in a row. To look at them costs one read.
+#[inline(always)]
+fn wanted_hint(space: &Space, wanted: Wanted, at: u32) -> u64
+    requires space { IsSpace space.now }
+    requires at { at < 32 * space.now.limits.blocks }
+    ensures { result ≡ 0 → NoneWanted (tables_of space.now) wanted (64 * at) (64 * at + 64) }
+{
+    match wanted {
+        Wanted::Handled => space.done_word(at),
+        Wanted::Dropped => space.start_word(at),
+    }
+}
+
+/// Whether a wanted object may begin in a block. Its looks, one for 64 granules, don't wait for one another.
+pub(crate) fn may_want(space: &Space, wanted: Wanted, block: u32) -> bool
+    requires space { IsSpace space.now }
+    requires block { block < space.now.limits.blocks }
+    ensures { result ≡ false → NoneWanted (tables_of space.now) wanted (GRANULES_IN_BLOCK * block) (GRANULES_IN_BLOCK * (block + 1)) }
+{
+    let mut seen = 0;
+    for at in 32 * block..32 * block + 32 {
+        seen |= wanted_hint(space, wanted, at);
+    }
+    seen != 0
+}
+
+/// The granule at which the first wanted object from a granule on begins. It takes one look for 64 granules, and before them
+/// one for their block, behind which it goes on at once where no such object can begin there.
 #[inline(always)]
 pub(crate) fn next_wanted(space: &Space, wanted: Wanted, from: u32) -> Option<u32>
     requires space { IsSpace space.now }
@@ -38,6 +65,10 @@ pub(crate) fn next_wanted(space: &Space, wanted: Wanted, from: u32) -> Option<u3
 {
     let mut at = from;
     while at < GRANULES_IN_BLOCK * space.limits.blocks {
+        if at % GRANULES_IN_BLOCK == 0 && !may_want(space, wanted, at / GRANULES_IN_BLOCK) {
+            at += GRANULES_IN_BLOCK;
+            continue;
+        }
         let rest = wanted_word(space, wanted, at / 64) >> (at % 64);
         if rest != 0 {
             return Some(at + rest.trailing_zeros());

@@ -15,6 +15,7 @@ use Rattle.lxr_invariant.specs.Standing.{HasBits, IsUnwritten}
 use Rattle.lxr_invariant.proofs.EntryLemmas.{changed_cases, changed_here}
 use Rattle.lxr_pause_increments.specs.Promotion.{with_promotion, with_raised}
 use Rattle.lxr_pause_increments.proofs.RangeLemmas.{set_cases}
+use Rattle.lxr_pause_increments.proofs.TracedLemmas.{mark_starts}
 
 -- counts are no bits
 pub bits_raised : (t : Tables) (m : Moment) (at : Name → ℕ) (us : List Name) (k : ℕ) → HasBits t m at us → HasBits (with_raised t k) m at us
@@ -24,6 +25,20 @@ bits_raised t m at us k is = record {
   grays = is.grays;
   dones = is.dones;
   unlogged = is.unlogged;
+}
+
+-- gray bits join at objects that begin
+pub bits_grayed : (t u : Tables) (m : Moment) (at : Name → ℕ) (us : List Name) → u.starts ≡ t.starts → u.marks ≡ t.marks → u.dones ≡ t.dones → u.unlogged ≡ t.unlogged
+    → ((k : ℕ) → IsTrue (u.grays k) → IsTrue (t.starts k)) → HasBits t m at us → HasBits u m at us
+bits_grayed t u m at us starts marks dones unlogged grays is = record {
+  starts = record {
+    each = λ n h. ap (λ f. f (granule_of (at n))) starts ∙ is.starts.each n h;
+    only = λ k h. is.starts.only k (sym (ap (λ f. f k) starts) ∙ h);
+  };
+  marks = λ k h. ap (λ f. f k) starts ∙ is.marks k (sym (ap (λ f. f k) marks) ∙ h);
+  grays = λ k h. ap (λ f. f k) starts ∙ grays k h;
+  dones = λ k h. ap (λ f. f k) starts ∙ is.dones k (sym (ap (λ f. f k) dones) ∙ h);
+  unlogged = λ w. (λ h. (is.unlogged w).0 (sym (ap (λ f. f w) unlogged) ∙ h), λ h. ap (λ f. f w) unlogged ∙ (is.unlogged w).1 h);
 }
 
 -- a field of one of these objects is a field of one of those
@@ -52,7 +67,7 @@ bits_promoted t m at us vs o b has_o unwritten joined is =
           | inr q ↦ let u = is.starts.only k (sym q.1 ∙ start) in (u.0, more u.0 u.1, u.2)
         ];
       };
-      marks = λ k h. stays k (is.marks k h);
+      marks = mark_starts (with_raised t gr) gr is.marks;
       grays = λ k h. stays k (is.grays k h);
       dones = λ k h. stays k (is.dones k h);
       unlogged = λ w. (

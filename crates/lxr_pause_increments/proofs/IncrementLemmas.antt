@@ -35,6 +35,7 @@ use Rattle.lxr_invariant.proofs.PlaceLemmas.{granules_differ, line_mark, mark_ap
 use Rattle.lxr_invariant.proofs.FrameLemmas.{blocks_still}
 use Rattle.lxr_pause_increments.specs.Increments.{HasCountsSoFar, HasRoomToRaise, IsIncrementing, MayBeRaised, RaisingLeaves, RaisingLeavesTables, IncrementStage, is_unpromoted, left, stage_with, count_so_far}
 use Rattle.lxr_pause_increments.specs.Promotion.{RaisesAt, TakesIn, fills, stuck_with, with_promotion, with_raised}
+use Rattle.lxr_pause_increments.proofs.TracedLemmas.{marks_begun, marks_same}
 use Rattle.lxr_pause_increments.proofs.RangeLemmas.{fill_cases, marked_cases, raised_full}
 use Rattle.lxr_pause_increments.proofs.FrameLemmas.{LeavesTables, imaged_stays, room_stays, same_blocks, space_stays}
 use Rattle.lxr_pause_increments.proofs.MarkLemmas.{marks_promoted, marks_raised}
@@ -83,7 +84,8 @@ raised_leaves a b p o raised =
     unwritten = record {
       keeps = record { heap = refl; reuse = refl; runs = refl; frees = refl; remembered = refl; cursors = λ k h j. refl };
       states = refl;
-      marks = refl;
+      starts = λ k h. h;
+      marks = marks_same (tables_of a);
       grays = refl;
       decs = refl;
     }
@@ -95,19 +97,23 @@ with_first t p shape = with_promotion (with_raised t (granule_of p)) p shape
 pub taken_tables : (a b c : Space) (p : Place) (o : Name) (shape : Shape) → RaisesAt a b p.0 o → TakesIn b c p o shape → tables_of c ≡ with_first (tables_of a) p.0 shape
 taken_tables a b c p o shape raised taken = taken.tables ∙ ap (λ t. with_promotion t p.0 shape) raised.tables
 
-pub taken_leaves : (a b c : Space) (p : Place) (o : Name) (shape : Shape) → RaisesAt a b p.0 o → TakesIn b c p o shape → RaisingLeaves a c
-taken_leaves a b c p o shape raised taken =
+pub taken_leaves : (a b c : Space) (p : Place) (o : Name) (shape : Shape) → RaisesAt a b p.0 o → false ≡ (tables_of b).starts (granule_of p.0) → TakesIn b c p o shape → RaisingLeaves a c
+taken_leaves a b c p o shape raised bit taken =
     leaves_spread a c (a.work.items ++ p ∷ []) (a.report.promoted.items ++ o ∷ []) (names_at a p.0 o) (taken_spread a b c p o shape raised taken)
     (subst (RaisingLeavesTables (tables_of a)) (sym tables) unwritten)
   where
     tables : tables_of c ≡ with_first (tables_of a) p.0 shape
     tables = taken_tables a b c p o shape raised taken
 
+    clear : (tables_of a).starts (granule_of p.0) ≡ false
+    clear = sym (bit ∙ ap (λ t. t.starts (granule_of p.0)) raised.tables)
+
     unwritten : RaisingLeavesTables (tables_of a) (with_first (tables_of a) p.0 shape)
     unwritten = record {
       keeps = record { heap = refl; reuse = refl; runs = refl; frees = refl; remembered = refl; cursors = λ k h j. refl };
       states = refl;
-      marks = refl;
+      starts = λ k h. elim (changed_cases (tables_of a).starts (granule_of p.0) true k) [ inl q ↦ q.1 | inr q ↦ q.1 ∙ h ];
+      marks = marks_begun (tables_of a) (granule_of p.0) clear;
       grays = refl;
       decs = refl;
     }
@@ -403,12 +409,12 @@ left_again a b p o raised =
     omega (arith, size, starts, work)
 
 -- a new object is taken in
-taken_new : (a b c : Space) (m : Moment) (at : Name → ℕ) (st : IncrementStage) (o : Name) (p : Place) (e : Object) → MayBeRaised m at st o p.0 → RaisesAt a b p.0 o → TakesIn b c p o (shape_of e) → IsTaken a c at o e
-taken_new a b c m at st o p e may raised taken =
+taken_new : (a b c : Space) (m : Moment) (at : Name → ℕ) (st : IncrementStage) (o : Name) (p : Place) (e : Object) → MayBeRaised m at st o p.0 → RaisesAt a b p.0 o → false ≡ (tables_of b).starts (granule_of p.0) → TakesIn b c p o (shape_of e) → IsTaken a c at o e
+taken_new a b c m at st o p e may raised bit taken =
     let place : p ≡ place_of at o = λ i. record { 0 = may.stands i } in
     let rest = taken_spread a b c p o (shape_of e) raised taken in
     record {
-      leaves = taken_leaves a b c p o (shape_of e) raised taken;
+      leaves = taken_leaves a b c p o (shape_of e) raised bit taken;
       tables = taken_tables a b c p o (shape_of e) raised taken ∙ ap (λ z. with_first (tables_of a) z (shape_of e)) may.stands;
       work = ap (λ s. s.work.items) rest ∙ ap (λ z. a.work.items ++ z ∷ []) place;
       promoted = ap (λ s. s.report.promoted.items) rest;
@@ -421,7 +427,7 @@ first_raise a b c m at st o p is may raised bit taken =
     let there = raised_object a m at st o p.0 is may in
     let clear = start_there a b m at st o p.0 false may raised bit in
     let unknown = clear_unknown a m at st o is clear in
-    let all = taken_new a b c m at st o p there.object may raised taken in
+    let all = taken_new a b c m at st o p there.object may raised bit taken in
     subst (IsIncrementing c m at) (sym (stage_first m st o (unknown_found m st o may.member unknown).test))
     (incrementing_with a c m at st (raised_first st o) all.leaves (first_tables a c (at o) (shape_of there.object) all.tables) is
     (first_is_raised a c m at st o there.object is may.member unknown there.there may.held_up clear (granule_within a m at st o p.0 is may) all))
@@ -431,7 +437,7 @@ pub left_first : (a b c : Space) (m : Moment) (at : Name → ℕ) (st : Incremen
 left_first a b c m at st o p is may raised bit taken =
     let there = raised_object a m at st o p.0 is may in
     let clear = start_there a b m at st o p.0 false may raised bit in
-    let all = taken_new a b c m at st o p there.object may raised taken in
+    let all = taken_new a b c m at st o p there.object may raised bit taken in
     let gr : ℕ = granule_of (at o) in
     let size = same_granules a c all.leaves in
     let starts = starts_of a c (with_first (tables_of a) (at o) (shape_of there.object)) all.leaves all.tables in

@@ -1,3 +1,4 @@
+pub mod TracedLemmas
 pub mod TableLemmas
 pub mod RangeLemmas
 pub mod FrameLemmas
@@ -11,4 +12,5 @@ pub mod GrownLemmas
 pub mod StillLemmas
 pub mod ScanLemmas
 pub mod RootLemmas
+pub mod SnapshotLemmas
 pub mod RaisedLemmas

@@ -1,5 +1,5 @@
 -- The first stage of the increments, and what holds after the last.
-use Rattle.std.proofs.Common.{◌≡◌, ℕ, zero, suc, ◌+◌, ◌<◌, refl, sym, ap, subst, ◌∙◌, inl, inr, arith, false, cond, List, [], ◌∷◌, IsTrue, length}
+use Rattle.std.proofs.Common.{◌≡◌, ℕ, zero, suc, ◌+◌, ◌<◌, refl, sym, ap, subst, ◌∙◌, inl, inr, arith, false, Bool, cond, List, [], ◌∷◌, IsTrue, length}
 use Rattle.std.specs.Prelude.{count_by, map, take}
 use Rattle.std.specs.List.Sorted.{IsPermutation}
 use Rattle.std.proofs.Math.ListN.{length-map}
@@ -25,13 +25,18 @@ use Rattle.lxr_model_counting.proofs.RaisingLemmas.{growth_is_promoted}
 use Rattle.lxr_invariant.specs.AbstractState.{members}
 use Rattle.lxr_invariant.specs.Standing.{HasBits, place_of}
 use Rattle.lxr_invariant.specs.Counting.{count_at, entries_between, undone, waiting_at}
+use Rattle.lxr_invariant.specs.Keeping.{KeepsListsAndCounters}
 use Rattle.lxr_invariant.specs.Lines.{HasMarks}
 use Rattle.lxr_invariant.specs.Raised.{AreRaised, CountsAreRaised, IsRaised, count_found, count_raised, with_promoted}
-use Rattle.lxr_invariant.proofs.FrameLemmas.{bits_still, blocks_still, image_still, marks_still, none_undone}
-use Rattle.lxr_pause_increments.specs.Increments.{IsIncrementing, RaisingLeaves, RaisingLeavesTables, IncrementStage, count_so_far}
+use Rattle.lxr_invariant.proofs.KeepingLemmas.{keeps_both}
+use Rattle.lxr_invariant.proofs.FrameLemmas.{blocks_still, image_still, marks_still, none_undone}
+use Rattle.lxr_pause_increments.specs.Increments.{IsIncrementing, RaisingLeaves, IncrementStage, count_so_far}
 use Rattle.lxr_pause_increments.specs.Accounted.{IsSettled, roots_held}
-use Rattle.lxr_pause_increments.specs.Raising.{CanRaise, Raises}
-use Rattle.lxr_pause_increments.proofs.ScanLemmas.{tables_both}
+use Rattle.lxr_pause_increments.specs.Raising.{CanRaise, Raises, RaisesGrays, RaisesMarks}
+use Rattle.lxr_pause_increments.specs.Traced.{with_old_grays}
+use Rattle.lxr_pause_increments.proofs.TracedLemmas.{old_grays_from, only_old_grays}
+use Rattle.lxr_pause_increments.proofs.BitLemmas.{bits_grayed}
+use Rattle.lxr_pause_increments.proofs.SnapshotLemmas.{grays_raise, marks_raise, old_value_starts}
 use Rattle.lxr_pause_increments.proofs.GrownLemmas.{grown}
 use Rattle.lxr_pause_increments.proofs.StageLemmas.{promoted_within}
 
@@ -188,8 +193,18 @@ counts_raised s t m at st e incrementing last = record {
       | inl h ↦ h
     ]
 
--- the counts of the last stage are those of a pause, and no line is out
-ended : (s : Space) (w : List ℕ) (m : Moment) (at : Name → ℕ) (st : IncrementStage) → tables_in s.limits w ≡ record (tables_of s) { outs = λ line. false }
+-- the tables once old values are gray while a trace runs, and no line is out
+abbrev pub with_ended : Space → Tables
+with_ended s = record (tables_of s) { grays = (with_old_grays (tables_of s) s.logged.items).grays; outs = λ line. false }
+
+pub ending : (s g b : Space) → Turns s g (with_old_grays (tables_of s) s.logged.items) → Turns g b (record (tables_of g) { outs = λ line. false }) → Turns s b (with_ended s)
+ending s g b grays outs = record {
+  tables = outs.tables ∙ ap {A = Tables} (λ t. record t { outs = λ line. false }) (grays.tables ∙ only_old_grays (tables_of s) s.logged.items);
+  rest = outs.rest ∙ ap {A = Space} (λ x. record x { words = b.words }) grays.rest;
+}
+
+-- the counts of the last stage are those of a pause, old values are gray at objects that begin, and no line is out
+ended : (s : Space) (w : List ℕ) (m : Moment) (at : Name → ℕ) (st : IncrementStage) → tables_in s.limits w ≡ with_ended s
     → IsSettled s m at st (roots_held m (length s.registers.items)) → IsRaised (record s { words = w; rest_next = 0; rest_end = 0 }) m at s.report.promoted.items s.report.stuck.items
 ended s w m at st tables is =
     let incrementing = is.accounted.incrementing in
@@ -209,8 +224,8 @@ ended s w m at st tables is =
       registers = incrementing.image.registers;
       deferred = incrementing.image.deferred;
       world = incrementing.image.world;
-      bits = bits_still (tables_of s) t m at (with_promoted m s.report.promoted.items) (ap (λ x. x.starts) tables) (ap (λ x. x.marks) tables) (ap (λ x. x.grays) tables) (ap (λ x. x.dones) tables) (ap (λ x. x.unlogged) tables)
-          (subst (HasBits (tables_of s) m at) (sym last.all) incrementing.bits);
+      bits = bits_grayed (tables_of s) t m at (with_promoted m s.report.promoted.items) (ap (λ x. x.starts) tables) (ap (λ x. x.marks) tables) (ap (λ x. x.dones) tables) (ap (λ x. x.unlogged) tables)
+          (λ k h. gray_starts k (sym (ap (λ x. x.grays k) tables) ∙ h)) (subst (HasBits (tables_of s) m at) (sym last.all) incrementing.bits);
       logs = incrementing.logs;
       few_logs = incrementing.few_logs;
       counts = counts_raised s t m at st counts incrementing last;
@@ -223,29 +238,36 @@ ended s w m at st tables is =
       no_rest = refl;
       no_work = incrementing.worklist ∙ ap (map (place_of at)) is.no_work;
     }
+  where
+    gray_starts : (k : ℕ) → IsTrue ((with_old_grays (tables_of s) s.logged.items).grays k) → IsTrue ((tables_of s).starts k)
+    gray_starts k h = elim (old_grays_from (tables_of s) s.logged.items k h) [
+      | inl g ↦ is.accounted.incrementing.bits.grays k g
+      | inr old ↦ ap (tables_of s).starts old.3 ∙ old_value_starts s m at st is.accounted.incrementing old.0 old.1 old.2
+    ]
 
 -- so the increments raise
 pub raises : (before s b : Space) (m : Moment) (at : Name → ℕ) (st : IncrementStage) → CanRaise before m at → RaisingLeaves before s → IsSettled s m at st (roots_held m (length s.registers.items))
-    → Turns s b (record (tables_of s) { outs = λ line. false }) → Raises before (record b { rest_next = 0; rest_end = 0 }) m at
+    → Turns s b (with_ended s) → Raises before (record b { rest_next = 0; rest_end = 0 }) m at
 raises before s b m at st can leaves is turns =
-    let words : tables_in s.limits b.words ≡ record (tables_of s) { outs = λ line. false } = ap {A = Space} (λ x. tables_in x.limits b.words) (sym turns.rest) ∙ turns.tables in
-    let brought_in : RaisingLeavesTables (tables_of s) (record (tables_of s) { outs = λ line. false }) = record {
-      keeps = record { heap = refl; reuse = refl; runs = refl; frees = refl; remembered = refl; cursors = λ k h j. refl };
-      states = refl;
-      marks = refl;
-      grays = refl;
-      decs = refl;
-    } in
-    let tables = tables_both (tables_of before) (tables_of s) (tables_of b) leaves.tables (subst (RaisingLeavesTables (tables_of s)) (sym turns.tables) brought_in) in
+    let incrementing = is.accounted.incrementing in
+    let words : tables_in s.limits b.words ≡ with_ended s = ap {A = Space} (λ x. tables_in x.limits b.words) (sym turns.rest) ∙ turns.tables in
+    let keeps : KeepsListsAndCounters (tables_of s) (with_ended s) = record { heap = refl; reuse = refl; runs = refl; frees = refl; remembered = refl; cursors = λ k h j. refl } in
     let same : record s { words = b.words; rest_next = 0; rest_end = 0 } ≡ record b { rest_next = 0; rest_end = 0 } = sym (ap {A = Space} (λ x. record x { rest_next = 0; rest_end = 0 }) turns.rest) in
-    let work : s.work.items ≡ before.work.items = is.accounted.incrementing.worklist ∙ ap (map (place_of at)) is.no_work ∙ sym can.holds.no_work in
+    let work : s.work.items ≡ before.work.items = incrementing.worklist ∙ ap (map (place_of at)) is.no_work ∙ sym can.holds.no_work in
+    let marks : RaisesMarks m.trace (tables_of before).marks (tables_of s).marks at s.report.promoted.items =
+    marks_raise (tables_of before) s m at st s.report.promoted.items can.holds.bits incrementing leaves.tables (last_stage s m at st is).same m.trace can.holds.blocks.tracing in
+    let grays : ℕ → Bool = (with_old_grays (tables_of s) s.logged.items).grays in
+    let gray : RaisesGrays m.trace (tables_of s).grays grays before.logged.items =
+    subst (RaisesGrays m.trace (tables_of s).grays grays) (ap {A = Space} (λ x. x.logged.items) leaves.space) (grays_raise (tables_of s) s.logged.items m.trace incrementing.blocks.tracing) in
     record {
       raised = subst (λ x. IsRaised x m at x.report.promoted.items x.report.stuck.items) same (ended s b.words m at st words is);
-      keeps = tables.keeps;
-      states = tables.states;
-      marks = tables.marks;
-      grays = tables.grays;
-      decs = tables.decs;
+      keeps = keeps_both (tables_of before) (tables_of s) (tables_of b) leaves.tables.keeps (subst (KeepsListsAndCounters (tables_of s)) (sym turns.tables) keeps);
+      states = ap (λ t. t.states) turns.tables ∙ leaves.tables.states;
+      marks = subst (λ (x : Space). RaisesMarks m.trace (tables_of before).marks (tables_of b).marks at x.report.promoted.items) same
+          (subst (λ f. RaisesMarks m.trace (tables_of before).marks f at s.report.promoted.items) (sym (ap (λ t. t.marks) turns.tables)) marks);
+      grays = subst (λ f. RaisesGrays m.trace f (tables_of b).grays before.logged.items) leaves.tables.grays
+          (subst (λ f. RaisesGrays m.trace (tables_of s).grays f before.logged.items) (sym (ap (λ t. t.grays) turns.tables)) gray);
+      decs = ap (λ t. t.decs) turns.tables ∙ leaves.tables.decs;
       space = sym same
           ∙ ap {A = Space} (λ x. record x { words = b.words; rest_next = 0; rest_end = 0 }) leaves.space
           ∙ (λ i. record before {

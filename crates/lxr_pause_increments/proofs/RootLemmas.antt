@@ -31,12 +31,12 @@ use Rattle.lxr_pause_increments.proofs.OrderLemmas.{accounts_held, accounts_same
 -- ---- logged references
 
 -- an entry of a mapped list is that of an entry
-got_mapped : {X Y : Type 0} (f : X → Y) (xs : List X) (i : ℕ) (y : Y) → slice_get (map f xs) i ≡ Some y → (x : X) × (slice_get xs i ≡ Some x) × (y ≡ f x)
+pub got_mapped : {X Y : Type 0} (f : X → Y) (xs : List X) (i : ℕ) (y : Y) → slice_get (map f xs) i ≡ Some y → (x : X) × (slice_get xs i ≡ Some x) × (y ≡ f x)
 got_mapped f [] i y e = absurd (cc)
 got_mapped f (x ∷ xs) zero y e = (x, refl, cc)
 got_mapped f (x ∷ xs) (suc i) y e = got_mapped f xs i y e
 
-got_field : (ws : List Field) (i : ℕ) (w : Field) → slice_get ws i ≡ Some w → IsTrue (has_field ws w)
+pub got_field : (ws : List Field) (i : ℕ) (w : Field) → slice_get ws i ≡ Some w → IsTrue (has_field ws w)
 got_field [] i w e = absurd (cc)
 got_field (x ∷ ws) zero w e = let k : x ≡ w = cc in subst (λ z. IsTrue (has_field (z ∷ ws) w)) (sym k) (first_field w ws)
 got_field (x ∷ ws) (suc i) w e = later_field x ws w (got_field ws i w e)

@@ -1,8 +1,8 @@
 -- What is read while references are raised: words of an object, and the worklist.
 use Rattle.std.proofs.Common.{◌≡◌, ◌≢◌, ℕ, ◌+◌, ◌-◌, ◌*◌, ◌^◌, ◌<◌, ◌≤◌, refl, sym, ap, subst, ◌∙◌, inl, inr, arith, true, false, cond, List, [], ◌∷◌, ◌++◌, IsTrue, length, length-append}
-use Rattle.std.specs.Prelude.{Option, None, Some, map, slice_get, slice_index_or}
+use Rattle.std.specs.Prelude.{Option, None, Some, map, nat_eq, slice_get, slice_index_or}
 use Rattle.std.proofs.lemmas.Option.{slice_get-get_or}
-use Rattle.lxr_layout.specs.declared.TheConstants.{GRANULES_IN_BLOCK, WORDS_IN_BLOCK}
+use Rattle.lxr_layout.specs.declared.TheConstants.{GRANULES_IN_BLOCK, TRACING_WORD, WORDS_IN_BLOCK}
 use Rattle.lxr_layout.specs.declared.Name.{Name}
 use Rattle.lxr_layout.specs.declared.Place.{Place}
 use Rattle.lxr_layout.specs.declared.Header.TheVariants.{Object}
@@ -27,6 +27,8 @@ use Rattle.lxr_invariant.proofs.NameLemmas.{has_last, live_member, map_empty, oc
 use Rattle.lxr_invariant.proofs.KeepingLemmas.{keeps_both, keeps_same}
 use Rattle.lxr_pause_increments.specs.Increments.{IsIncrementing, MayBeRaised, RaisingLeaves, RaisingLeavesTables, IncrementStage, is_unpromoted, left}
 use Rattle.lxr_pause_increments.specs.Accounted.{IsAccounted, IsHolder, IsScanning, HeldMayBeRaised, Reaches, Settles, references_at, stage_with_held}
+use Rattle.lxr_pause_increments.specs.Traced.{marks_with}
+use Rattle.lxr_pause_increments.proofs.TracedLemmas.{marks_both, marks_same}
 use Rattle.lxr_pause_increments.proofs.OrderLemmas.{accounts_held, accounts_popped, accounts_same, distinct_last, has_before}
 
 -- ---- names that are raised
@@ -119,13 +121,21 @@ held_some m at st (Some o) w may some = (o, refl, record { member = may.member o
 
 -- the same tables, and one step after another
 pub tables_same : (t u : Tables) → u ≡ t → RaisingLeavesTables t u
-tables_same t u e = record { keeps = keeps_same t u e; states = ap (λ x. x.states) e; marks = ap (λ x. x.marks) e; grays = ap (λ x. x.grays) e; decs = ap (λ x. x.decs) e }
+tables_same t u e = record {
+  keeps = keeps_same t u e;
+  states = ap (λ x. x.states) e;
+  starts = λ k h. ap (λ x. x.starts k) e ∙ h;
+  marks = λ k. ap (λ x. x.marks k) e ∙ marks_same t k ∙ ap (λ x. marks_with t x.starts k) (sym e);
+  grays = ap (λ x. x.grays) e;
+  decs = ap (λ x. x.decs) e;
+}
 
 pub tables_both : (t u v : Tables) → RaisingLeavesTables t u → RaisingLeavesTables u v → RaisingLeavesTables t v
 tables_both t u v x y = record {
   keeps = keeps_both t u v x.keeps y.keeps;
   states = y.states ∙ x.states;
-  marks = y.marks ∙ x.marks;
+  starts = λ k h. y.starts k (x.starts k h);
+  marks = marks_both t u v (ap (λ n. nat_eq n 1) (x.keeps.cursors TRACING_WORD (λ e. omega arith) (λ e. omega arith))) x.starts y.starts x.marks y.marks;
   grays = y.grays ∙ x.grays;
   decs = y.decs ∙ x.decs;
 }

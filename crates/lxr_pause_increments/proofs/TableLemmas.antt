@@ -14,6 +14,7 @@ use Rattle.lxr_image.specs.Spaces.{IsSpace, Turns, tables_of}
 use Rattle.lxr_image.specs.Reads.{granule_of}
 use Rattle.lxr_image.proofs.ReadLemmas.{header_unpacked}
 use Rattle.lxr_pause_increments.specs.Promotion.{RaisesAt, StandsAt, with_marks, with_promotion, with_unlogged}
+use Rattle.lxr_pause_increments.specs.Traced.{with_mark}
 
 -- ---- spaces
 
@@ -63,12 +64,15 @@ stands_raised a b p n shape is raised =
     let limits = ap (λ s. s.limits) raised.rest in
     stands_after a b p n shape (space_with a b limits (ap (λ t. t.size) raised.tables) is.space) limits (ap (λ t. t.heap) raised.tables) is
 
--- three changes of tables are a promotion
-pub promoted_turns : (a b c e : Space) (p : Place) (shape : Shape) → Turns a b (record (tables_of a) { starts = changed (tables_of a).starts (granule_of p.0) true })
-    → Turns b c (with_marks (tables_of b) (granule_of p.0) (word_count shape / 2)) → Turns c e (with_unlogged (tables_of c) (first_word p.0 + 1) (first_word p.0 + 1 + shape.refs))
+-- four changes of tables are a promotion
+pub promoted_turns : (a b f c e : Space) (p : Place) (shape : Shape) → Turns a b (record (tables_of a) { starts = changed (tables_of a).starts (granule_of p.0) true })
+    → Turns b f (with_mark (tables_of b) (granule_of p.0)) → Turns f c (with_marks (tables_of f) (granule_of p.0) (word_count shape / 2)) → Turns c e (with_unlogged (tables_of c) (first_word p.0 + 1) (first_word p.0 + 1 + shape.refs))
     → Turns a e (with_promotion (tables_of a) p.0 shape)
-promoted_turns a b c e p shape start marks logs = record {
+promoted_turns a b f c e p shape start mark marks logs = record {
   tables = logs.tables
-      ∙ ap (λ t. with_unlogged t (first_word p.0 + 1) (first_word p.0 + 1 + shape.refs)) (marks.tables ∙ ap (λ t. with_marks t (granule_of p.0) (word_count shape / 2)) start.tables);
-  rest = logs.rest ∙ ap (λ (s : Space). record s { words = e.words }) (marks.rest ∙ ap (λ (s : Space). record s { words = c.words }) start.rest);
+      ∙ ap (λ t. with_unlogged t (first_word p.0 + 1) (first_word p.0 + 1 + shape.refs))
+      (marks.tables ∙ ap (λ t. with_marks t (granule_of p.0) (word_count shape / 2)) (mark.tables ∙ ap (λ t. with_mark t (granule_of p.0)) start.tables));
+  rest = logs.rest
+      ∙ ap (λ (s : Space). record s { words = e.words })
+      (marks.rest ∙ ap (λ (s : Space). record s { words = c.words }) (mark.rest ∙ ap (λ (s : Space). record s { words = f.words }) start.rest));
 }

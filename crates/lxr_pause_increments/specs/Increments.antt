@@ -19,6 +19,7 @@ use Rattle.lxr_invariant.specs.Counting.{count_at, passing}
 use Rattle.lxr_invariant.specs.Keeping.{KeepsListsAndCounters}
 use Rattle.lxr_invariant.specs.Lines.{HasBlocks, HasMarks}
 use Rattle.lxr_invariant.specs.Raised.{count_found, with_promoted}
+use Rattle.lxr_pause_increments.specs.Traced.{marks_with}
 
 -- A stage of the increments; no code holds it.
 pub record IncrementStage : Type 0 where
@@ -56,7 +57,7 @@ pub record HasRoomToRaise (s : Space) : Type 0 where
   pub work : length s.work.items ≤ length s.report.promoted.items
   pub stuck : length s.report.stuck.items ≤ passing (λ k. (tables_of s).counts k == STUCK) (GRANULES_IN_BLOCK * s.limits.blocks)
 
--- The space at a stage of the increments, for a moment whose dead are gone; no trace runs.
+-- The space at a stage of the increments, for a moment whose dead are gone.
 pub record IsIncrementing (s : Space) (m : Moment) (at : Name → ℕ) (st : IncrementStage) : Type 0 where
   pub space : IsSpace s
   pub room : HasRoom s
@@ -108,11 +109,13 @@ left s = (GRANULES_IN_BLOCK * s.limits.blocks - passing (tables_of s).starts (GR
 abbrev pub Accounts : Moment → IncrementStage → (Name → ℕ) → (Name → ℕ) → Type 0
 Accounts m st base pending = (o : Name) → st.added o + pending o ≡ base o + references_from m.state.graph (without st.promoted st.work) o
 
--- Lists and counters, states of blocks, mark and gray bits and the entries of the table of decrements are as they were.
+-- Lists and counters, states of blocks, gray bits and the entries of the table of decrements are as they were. Each object begins where
+-- it did, and while a trace runs, those that begin newly are marked; no other mark bit changes.
 pub record RaisingLeavesTables (t u : Tables) : Type 0 where
   pub keeps : KeepsListsAndCounters t u
   pub states : u.states ≡ t.states
-  pub marks : u.marks ≡ t.marks
+  pub starts : (k : ℕ) → IsTrue (t.starts k) → IsTrue (u.starts k)
+  pub marks : (k : ℕ) → u.marks k ≡ marks_with t u.starts k
   pub grays : u.grays ≡ t.grays
   pub decs : u.decs ≡ t.decs
 

@@ -1,3 +1,4 @@
+pub mod Traced
 pub mod Increments
 pub mod Accounted
 pub mod Raising

@@ -14,6 +14,7 @@ use Rattle.lxr_image.specs.Spaces.{IsSpace, tables_of}
 use Rattle.lxr_image.specs.Reads.{StandsWhole, granule_of}
 use Rattle.lxr_blocks.specs.Handing.{is_between}
 use Rattle.lxr_invariant.specs.Lines.{line_behind, next_line}
+use Rattle.lxr_pause_increments.specs.Traced.{is_tracing}
 
 -- an object of this name and shape stands at a place
 pub record StandsAt (s : Space) (p : Place) (n : Name) (shape : Shape) : Type 0 where
@@ -37,11 +38,12 @@ with_marks t granule granules = record t { counts = marked_between t.counts (nex
 abbrev pub with_unlogged : Tables → ℕ → ℕ → Tables
 with_unlogged t first end = record t { unlogged = set_between t.unlogged first end }
 
--- the tables with an object of a shape promoted at a place: it begins there, the next store to each of its references is
--- to be logged, and each further line that it reaches into is marked
+-- the tables with an object of a shape promoted at a place: it begins there, and is marked while a trace runs; the next store to
+-- each of its references is to be logged, and each further line that it reaches into is marked
 abbrev pub with_promotion : Tables → ℕ → Shape → Tables
 with_promotion t p shape = record t {
   starts = changed t.starts (granule_of p) true;
+  marks = if is_tracing t then changed t.marks (granule_of p) true else t.marks;
   counts = marked_between t.counts (next_line (granule_of p)) (line_behind (granule_of p) (word_count shape / 2));
   unlogged = set_between t.unlogged (first_word p + 1) (first_word p + 1 + shape.refs);
 }

@@ -1,34 +1,49 @@
 -- What the increments of a pause do.
-use Rattle.std.specs.Prelude.{◌≡◌, ℕ, None, []}
+use Rattle.std.specs.Prelude.{◌≡◌, ◌≢◌, ℕ, ◌↔◌, ◌⊎◌, Bool, Option, Some, None, List, [], IsTrue}
 use Rattle.lxr_layout.specs.declared.TheConstants.{DECREMENT_COUNT}
 use Rattle.lxr_layout.specs.declared.Name.{Name}
+use Rattle.lxr_layout.specs.declared.LogEntry.{LogEntry}
+use Rattle.lxr_graph.specs.Names.{has}
 use Rattle.lxr_image.specs.declared.space.Space.{Space}
 use Rattle.lxr_image.specs.Spaces.{tables_of}
-use Rattle.lxr_model.specs.Moments.{Moment}
+use Rattle.lxr_image.specs.Reads.{granule_of}
+use Rattle.lxr_model.specs.Moments.{Moment, Trace}
 use Rattle.lxr_invariant.specs.Counting.{IsUndecremented}
 use Rattle.lxr_invariant.specs.Keeping.{KeepsListsAndCounters}
 use Rattle.lxr_invariant.specs.Quiescent.{HoldsMoment}
 use Rattle.lxr_invariant.specs.Raised.{IsRaised}
+use Rattle.lxr_invariant.specs.Tracing.{IsOldValue}
 
--- Counts may be raised: the space holds a moment whose dead are gone, no decrement waits, no trace runs, and nothing is
--- reported as promoted or stuck yet.
+-- Counts may be raised: the space holds a moment whose dead are gone, no decrement waits, and nothing is reported as promoted or
+-- stuck yet.
 pub record CanRaise (s : Space) (m : Moment) (at : Name → ℕ) : Type 0 where
   pub holds : HoldsMoment s m at
   pub undecremented : IsUndecremented (tables_of s) m at
-  pub no_trace : m.trace ≡ None
   pub empty : (tables_of s).cursors DECREMENT_COUNT ≡ 0
   pub none_promoted : s.report.promoted.items ≡ []
   pub none_stuck : s.report.stuck.items ≡ []
 
--- Counts are raised, and what the report has is what was promoted and became stuck. Lists, counters, states of blocks, mark and
--- gray bits and the entries of the table of decrements stay. Nothing else has changed, but that no line is out, and no rest is
--- left of the lines that a pause placed on last.
+-- While a trace runs, the promoted objects are marked, since the trace wouldn't find them; no other mark bit changes.
+abbrev pub RaisesMarks : Option Trace → (ℕ → Bool) → (ℕ → Bool) → (Name → ℕ) → List Name → Type 0
+RaisesMarks None before after at promoted = after ≡ before
+RaisesMarks (Some trace) before after at promoted =
+    (k : ℕ) → IsTrue (after k) ↔ (IsTrue (before k) ⊎ ((n : Name) × IsTrue (has promoted n) × (k ≡ granule_of (at n))))
+
+-- While a trace runs, the old values of logged references are made gray, since the snapshot held them; no other gray bit changes.
+abbrev pub RaisesGrays : Option Trace → (ℕ → Bool) → (ℕ → Bool) → List LogEntry → Type 0
+RaisesGrays None before after entries = after ≡ before
+RaisesGrays (Some trace) before after entries =
+    (k : ℕ) → IsTrue (after k) ↔ (IsTrue (before k) ⊎ ((p : ℕ) × IsOldValue entries p × (p ≢ 0) × (k ≡ granule_of p)))
+
+-- Counts are raised, and what the report has is what was promoted and became stuck. While a trace runs, what is promoted is marked,
+-- and what logged references held is made gray. Lists, counters, states of blocks and the entries of the table of decrements stay.
+-- Nothing else has changed, but that no line is out, and no rest is left of the lines that a pause placed on last.
 pub record Raises (before after : Space) (m : Moment) (at : Name → ℕ) : Type 0 where
   pub raised : IsRaised after m at after.report.promoted.items after.report.stuck.items
   pub keeps : KeepsListsAndCounters (tables_of before) (tables_of after)
   pub states : (tables_of after).states ≡ (tables_of before).states
-  pub marks : (tables_of after).marks ≡ (tables_of before).marks
-  pub grays : (tables_of after).grays ≡ (tables_of before).grays
+  pub marks : RaisesMarks m.trace (tables_of before).marks (tables_of after).marks at after.report.promoted.items
+  pub grays : RaisesGrays m.trace (tables_of before).grays (tables_of after).grays before.logged.items
   pub decs : (tables_of after).decs ≡ (tables_of before).decs
   pub space : after ≡ record before {
     words = after.words;

@@ -10,6 +10,7 @@ ghost use Rattle.lxr_pause_increments.specs.Promotion.{StandsAt, TakesIn, fills,
 ghost use Rattle.lxr_pause_increments.specs.Increments.{RaisingLeaves, left};
 ghost use Rattle.lxr_pause_increments.specs.Steps.{HasObjectAt, MayRaise, Promotes, RaisesCount, RaisesName};
 
+use crate::tracing::mark_promoted;
 use lxr_image::Space;
 use lxr_layout::{GRANULES_IN_LINE, Header, Name, Place, STUCK, Shape, unpack, word_of, words_of};
 
@@ -28,7 +29,7 @@ pub(crate) fn raise(space: &mut Space, place: Place)
 }
 
 /// Promotes the new object at a place: from now on it begins there, its references are to be logged, and each further line
-/// that it reaches into is marked. Answers where the object now is.
+/// that it reaches into is marked. While a trace runs, the object is marked too. Answers where the object now is.
 pub fn promote(space: &mut Space, place: Place) -> Place
     requires { HasObjectAt space.old place }
     ensures stays { result ≡ place }
@@ -39,6 +40,7 @@ pub fn promote(space: &mut Space, place: Place) -> Place
     let (_, shape) = object(space, place);
     let granule = place.0 - 1;
     space.set_start(granule);
+    mark_promoted(space, granule);
     mark_lines(space, granule, words_of(shape) / 2);
     log_references(space, word_of(place) + 1, shape.refs);
     place

@@ -11,12 +11,13 @@ ghost use Rattle.lxr_pause_increments.specs.Increments.{RaisingLeaves, left};
 ghost use Rattle.lxr_pause_increments.specs.Steps.{Empties, HasHolder, HasSlots, MayEmpty, MayRaiseEntries, MayRaiseEntry, MayRaiseField, MayRaiseRegister, MayRaiseRegisters, MayRaiseWord, MayScan, RaisesEntries, RaisesEntry, RaisesField, RaisesRegister, RaisesRegisters, RaisesWord, Scans};
 
 use crate::counts::raise;
+use crate::tracing::gray_old_values;
 use lxr_base::Listed;
 use lxr_image::Space;
 use lxr_layout::{Header, Place, field_word, unpack, word_of};
 
 /// The item of a list at an index.
-fn item_at<T: Copy>(list: &Listed<T>, index: usize) -> T
+pub(crate) fn item_at<T: Copy>(list: &Listed<T>, index: usize) -> T
     requires { index < length list.now.items }
     ensures { slice_get list.now.items index ≡ Some result }
 {
@@ -142,13 +143,15 @@ fn clear_outs(space: &mut Space)
 }
 
 /// Raises counts, in this order: for what logged references hold now, for what registers hold that they didn't at the last
-/// pause, and after each of these for the references of each object that was promoted. Then no line is out any more.
+/// pause, and after each of these for the references of each object that was promoted. While a trace runs, what logged
+/// references held is made gray then. At last no line is out any more.
 pub fn increments(space: &mut Space)
     requires { (m : Moment) × (at : NameOf → ℕ) × CanRaise space.old m at }
     ensures { (m : Moment) (at : NameOf → ℕ) → CanRaise space.old m at → Raises space.old space.new m at }
 {
     raise_entries(space);
     raise_registers(space);
+    gray_old_values(space);
     clear_outs(space);
     space.rest_next = 0;
     space.rest_end = 0;

@@ -58,7 +58,7 @@ pub record IsDone (words : List (List ℕ)) (left left' written written' : Optio
   pub history : List Item
   pub asked : WasAsked words left left' options script
   pub run : IsHistoryOf options script history
-  pub text : Appends written written' (history_text (length script) history)
+  pub text : Appends written written' (history_text options.counts (length script) history)
   pub space_left : IsLeftBy options (length script) history space
   pub sights : Sees (length script) history seen seen'
 
@@ -69,7 +69,7 @@ pub record IsCutOffEarly (words : List (List ℕ)) (left left' written written' 
   pub history : List Item
   pub asked : WasAsked words left left' options script
   pub run : IsHistorySoFar (script_terms options script) script history
-  pub text_front : AppendsFront written written' (reports_text history)
+  pub text_front : AppendsFront written written' (reports_text options.counts history)
   pub space_left : IsLeftBy options (length script) history space
 
 -- A run that was cut off at its replies: a front of the text of a whole history was written, and the space is left by it.
@@ -79,7 +79,7 @@ pub record IsCutOffLate (words : List (List ℕ)) (left left' written written' :
   pub history : List Item
   pub asked : WasAsked words left left' options script
   pub run : IsHistoryOf options script history
-  pub text_front : AppendsFront written written' (history_text (length script) history)
+  pub text_front : AppendsFront written written' (history_text options.counts (length script) history)
   pub space_left : IsLeftBy options (length script) history space
 
 abbrev pub IsCutOff : List (List ℕ) → Option (List ℕ) → Option (List ℕ) → Option (List ℕ) → Option (List ℕ) → Space → Type 0

@@ -6,7 +6,8 @@
 //! written is that of one legal history of the script, and the space is what that history leaves. That this history is the
 //! one which the generator draws from the option `replay` on stands in the contract of the loop below.
 //!
-//! [`one_pause`] makes a plain pause; it will take the kind that is asked for once there are other kinds.
+//! While a trace runs, tracers work beside mutators and decrementers. [`one_pause`] makes a pause of the kind that its [`Ask`] and
+//! its [`Pace`] lead to: a plain one, one that begins or ends a trace, or one that collects.
 #![tactic(auto)]
 
 ghost use Rattle.std.specs.Prelude.{◌≡◌, ◌⊎◌, ◌↔◌, [], IfSome, map};
@@ -20,7 +21,7 @@ mod script;
 
 use lxr_image::Space;
 use lxr_run_loop::{open, run_and_print};
-pub use lxr_run_pause::one_pause;
+pub use lxr_run_pause::{Ask, Pace, one_pause};
 pub use lxr_run_replay::{Gate, Open, replay_epoch};
 pub use lxr_run_watch::{Seen, Unseen, Watch};
 use lxr_run_words::read_options;
@@ -118,7 +119,7 @@ pub fn lxr<R: Threads + Sync, I: Source, O: Sink, E: Sink, G: Gate, W: Watch>(
         Ok(actors) => actors,
         Err(_) => return Status::Memory,
     };
-    match run_and_print(space, &mut actors, options.replay, gate, watch, output) {
+    match run_and_print(space, &mut actors, options, gate, watch, output) {
         Ok(()) => Status::Done,
         Err(WriteError::Fault) => Status::WriteFault,
         Err(WriteError::Memory) => Status::Memory,

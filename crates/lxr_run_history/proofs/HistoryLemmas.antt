@@ -1,6 +1,6 @@
 -- How the history of a run grows: by the calls of an epoch, by the call of a `new` that waited, by a pause that has a
 -- cause, and by its end.
-use Rattle.std.proofs.Common.{◌≡◌, ℕ, suc, ◌<◌, ◌≤◌, refl, sym, ap, subst, ◌∙◌, inl, arith, Bool, true, false, List, [], ◌∷◌, ◌++◌, length, drop, nat_eq}
+use Rattle.std.proofs.Common.{◌≡◌, ℕ, suc, ◌<◌, ◌≤◌, refl, sym, ap, subst, ◌∙◌, arith, Bool, true, false, List, [], ◌∷◌, ◌++◌, length, drop, nat_eq}
 use Rattle.std.specs.Prelude.{Some, slice_get, if◌then◌else◌}
 use Rattle.std.proofs.lemmas.List.{take-append-drop}
 use Rattle.std.proofs.lemmas.Bool.{eq-eqb}
@@ -9,13 +9,11 @@ use Rattle.lxr_graph.specs.declared.Op.{Op}
 use Rattle.lxr_graph.specs.declared.Op.TheVariants as op
 use Rattle.lxr_graph.specs.declared.Reply.{Reply}
 use Rattle.lxr_graph.specs.declared.Reply.TheVariants as reply
-use Rattle.lxr_graph.specs.declared.report.Kind.TheVariants as kind
 use Rattle.lxr_graph.specs.History.{Item, Call, Pause, PauseReport, calls_of}
 use Rattle.lxr_graph.specs.Step.{IsReply, IsWellFormed}
 use Rattle.lxr_model.specs.Moments.{moment}
-use Rattle.lxr_model.specs.Reports.{IsReport}
 use Rattle.lxr_model.specs.Kinds.{MayStand, ends}
-use Rattle.lxr_model.specs.Legal.{IsLegalSoFar, IsPause, KeepsPromise, Replies}
+use Rattle.lxr_model.specs.Legal.{IsLegalSoFar, IsPause, KeepsPromise, Replies, StandsForWaiting}
 use Rattle.lxr_model.specs.Belongs.{AskedPausesComeFirst, CallsBeginOperations, EarlierPausesWereEarly, HasCause, IsHistorySoFar, LastPauseWasEarly, PausesHaveCauses, Script, TurnsAreShort, calls_since_pause, has_asked, next_operation, operations_of}
 use Rattle.lxr_core_events.specs.EpochStates.{Extends, same, called}
 use Rattle.lxr_run_words.specs.declared.RunOptions.{RunOptions}
@@ -24,15 +22,15 @@ use Rattle.lxr_run_history.specs.Run.{IsHistoryOf, run_terms, script_terms}
 
 -- ---- promises
 
--- where every pause is plain, none stands that collects
-collects_not : (options : RunOptions) (threads : ℕ) (h : List Item) (report : PauseReport) → IsPause (run_terms options threads) h report → report.kind ≡ kind.Collect → ⊥
-collects_not options threads h report pause e = subst (MayStand (run_terms options threads) h (moment threads h) report.number) e pause.stands
+-- where pauses collect only as they are asked to, none stands for a waiting `new`
+waits_not : (options : RunOptions) (threads : ℕ) (h : List Item) (report : PauseReport) → IsPause (run_terms options threads) h report → StandsForWaiting (run_terms options threads) h report → ⊥
+waits_not options threads h report pause (collects, unasked) = unasked (subst (MayStand (run_terms options threads) h (moment threads h) report.number) collects pause.stands)
 
 -- so no pause promises anything
 promise_kept : (options : RunOptions) (threads : ℕ) (h : List Item) (x : Item) → IsLegalSoFar (run_terms options threads) h → KeepsPromise (run_terms options threads) h x
 promise_kept options threads [] x legal = tt
 promise_kept options threads (Call t o r ∷ h) x legal = tt
-promise_kept options threads (Pause report ∷ h) x legal = λ waiting. absurd (collects_not options threads h report legal.2 waiting.0)
+promise_kept options threads (Pause report ∷ h) x legal = λ waiting. absurd (waits_not options threads h report legal.2 waiting)
 
 -- ---- the calls of an epoch
 
@@ -157,16 +155,12 @@ history_with_call options script h t o r (legal, belongs) may = (
 
 -- ---- a pause
 
--- so it is with a plain pause that has a cause, where at the last one not all threads had ended
+-- so it is with a pause that has a cause and may stand there, where at the last one not all threads had ended
 pub history_with_pause : (options : RunOptions) (script : Script) (h : List Item) (report : PauseReport) → IsHistorySoFar (script_terms options script) script h
-    → IsReport (moment (length script) h) report → report.kind ≡ kind.Plain → HasCause (script_terms options script) script h
+    → IsPause (script_terms options script) h report → HasCause (script_terms options script) script h
     → LastPauseWasEarly (script_terms options script) h → IsHistorySoFar (script_terms options script) script (Pause report ∷ h)
-history_with_pause options script h report (legal, belongs) reports plain cause early = (
-  (
-    legal,
-    promise_kept options (length script) h (Pause report) legal,
-    record { stands = subst (MayStand (script_terms options script) h (moment (length script) h) report.number) (sym plain) (inl refl); reports = reports },
-  ),
+history_with_pause options script h report (legal, belongs) pause cause early = (
+  (legal, promise_kept options (length script) h (Pause report) legal, pause),
   record { calls = belongs.calls; asked = belongs.asked; turns = belongs.turns; causes = (belongs.causes, cause); early = early },
 )
 
@@ -183,7 +177,7 @@ was_early options script (Call t o r ∷ h) more = was_early options script h mo
 pub history_whole : (options : RunOptions) (script : Script) (h : List Item) (report : PauseReport) → IsHistorySoFar (script_terms options script) script (Pause report ∷ h)
     → HasEnded options script h → IsHistoryOf options script (Pause report ∷ h)
 history_whole options script h report (legal, belongs) whole = record {
-  legal = (legal, λ waiting. collects_not options (length script) h report legal.2 waiting.0);
+  legal = (legal, waits_not options (length script) h report legal.2);
   belongs = record {
     calls = whole.calls;
     asked = belongs.asked;

@@ -1,7 +1,7 @@
 -- What a history says where no room is left for a `new` that waits: right after a pause it may be refused, and else a
 -- pause has a cause.
 use Rattle.std.proofs.Common.{◌≡◌, ℕ, ◌+◌, ◌≤◌, refl, sym, ap, subst, ◌∙◌, inl, inr, arith, List, [], ◌∷◌, length}
-use Rattle.std.specs.Prelude.{None, Some, IsTrue}
+use Rattle.std.specs.Prelude.{Some, IsTrue}
 use Rattle.lxr_layout.specs.declared.Shape.{Shape}
 use Rattle.lxr_layout.specs.Objects.{FitsShape, line_count}
 use Rattle.lxr_graph.specs.Names.{without}
@@ -10,12 +10,14 @@ use Rattle.lxr_graph.specs.declared.Op.TheVariants as op
 use Rattle.lxr_graph.specs.declared.Reply.TheVariants as reply
 use Rattle.lxr_graph.specs.History.{Item, Call, Pause, PauseReport}
 use Rattle.lxr_image.specs.declared.space.Space.{Space}
+use Rattle.lxr_image.specs.Spaces.{tables_of}
 use Rattle.lxr_blocks.specs.Placing.{IsFull}
 use Rattle.lxr_model.specs.Moments.{Moment, moment}
 use Rattle.lxr_model.specs.Full.{IsRightAfterPause, LeaveNoRun}
 use Rattle.lxr_model.specs.Legal.{IsLegalSoFar, Replies}
 use Rattle.lxr_model.specs.Belongs.{HasCause, Script, is_new, next_operation}
 use Rattle.lxr_invariant.specs.AbstractState.{AbstractState}
+use Rattle.lxr_invariant.specs.Lines.{NoneChosen}
 use Rattle.lxr_invariant.specs.Quiescent.{IsQuiescent}
 use Rattle.lxr_full.specs.Room.{HasWorld}
 use Rattle.lxr_full.proofs.RoomLemmas.{paused_full_leaves_no_run, roomless_blocks_are_taken}
@@ -32,12 +34,12 @@ none_made threads P (Call t o r ∷ h) after = absurd after
 
 -- a `new` that finds no room then may be refused
 pub may_be_refused : (options : RunOptions) (script : Script) (h : List Item) (s : Space) (g : AbstractState) (t dest : ℕ) (shape : Shape) → IsLegalSoFar (script_terms options script) h
-    → IsRightAfterPause (λ report. Unit {0}) h → IsQuiescent s g → g.moment ≡ moment (length script) h → g.moment.trace ≡ None → s.limits.blocks ≡ options.blocks → IsFull s shape
+    → IsRightAfterPause (λ report. Unit {0}) h → IsQuiescent s g → g.moment ≡ moment (length script) h → NoneChosen (tables_of s) s.limits.blocks → s.limits.blocks ≡ options.blocks → IsFull s shape
     → Replies (script_terms options script) h t (op.New dest shape) reply.Full
-may_be_refused options script h s g t dest shape legal after between is no_trace blocks full =
+may_be_refused options script h s g t dest shape legal after between is unchosen blocks full =
     let world : HasWorld (moment (length script) h).state.graph = world_keeps_shape (script_terms options script) h legal in
     let none : LeaveNoRun g.moment.state.graph (without g.moment.unreclaimed (world_name ∷ [])) s.limits.blocks (line_count shape) =
-    paused_full_leaves_no_run s g shape between (ap (λ (m : Moment). m.made) is ∙ none_made (length script) (λ report. Unit {0}) h after) no_trace
+    paused_full_leaves_no_run s g shape between (ap (λ (m : Moment). m.made) is ∙ none_made (length script) (λ report. Unit {0}) h after) unchosen
     (subst (λ (m : Moment). HasWorld m.state.graph) (sym is) world) full in (
       after,
       subst (λ (m : Moment). LeaveNoRun m.state.graph (without m.unreclaimed (world_name ∷ [])) options.blocks (line_count shape)) is
@@ -46,10 +48,10 @@ may_be_refused options script h s g t dest shape legal after between is no_trace
 
 -- and one that finds none is a cause of a pause
 pub room_cause : (options : RunOptions) (script : Script) (h : List Item) (s : Space) (g : AbstractState) (t dest : ℕ) (shape : Shape) → 1 ≤ t → t ≤ length script
-    → next_operation script t h ≡ Some (op.New dest shape) → IsQuiescent s g → g.moment ≡ moment (length script) h → g.moment.trace ≡ None → s.limits.blocks ≡ options.blocks → FitsShape shape → IsFull s shape
+    → next_operation script t h ≡ Some (op.New dest shape) → IsQuiescent s g → g.moment ≡ moment (length script) h → NoneChosen (tables_of s) s.limits.blocks → s.limits.blocks ≡ options.blocks → FitsShape shape → IsFull s shape
     → HasCause (script_terms options script) script h
-room_cause options script h s g t dest shape low high next between is no_trace blocks fits full =
-    let taken : s.limits.blocks ≤ length g.moment.unreclaimed + length g.moment.made = roomless_blocks_are_taken s g shape between no_trace fits full in
+room_cause options script h s g t dest shape low high next between is unchosen blocks fits full =
+    let taken : s.limits.blocks ≤ length g.moment.unreclaimed + length g.moment.made = roomless_blocks_are_taken s g shape between unchosen fits full in
     let here : s.limits.blocks ≤ length (moment (length script) h).unreclaimed + length (moment (length script) h).made =
     subst (λ (m : Moment). s.limits.blocks ≤ length m.unreclaimed + length m.made) is taken in
     inr (t, low, high, inr (inr (inl (subst (λ x. IsTrue (is_new x)) (sym next) refl, omega arith))))

@@ -3,7 +3,7 @@ use Rattle.lxr_image.specs.declared.space.Space.{Space}
 use Rattle.lxr_image.specs.declared.space.Tally.{Tally}
 use Rattle.lxr_invariant.specs.AbstractState.{AbstractState}
 use Rattle.lxr_invariant.specs.Quiescent.{IsAtSafepoint, IsQuiescent}
-use Rattle.lxr_run_pause.proofs.FrameLemmas.{holds_told}
+use Rattle.lxr_invariant.proofs.ToldLemmas.{holds_told}
 
 -- a safepoint stays one whatever the tally
 pub safepoint_tallied : (s : Space) (g : AbstractState) (tally : Tally) → IsAtSafepoint s g → IsAtSafepoint (record s { tally = tally }) g

@@ -1,11 +1,9 @@
 -- How the history of a run grows, and when it is whole. Each law is the contract of a function with an empty body.
 use Rattle.std.specs.Prelude.{◌≡◌, ℕ, ◌≤◌, List, ◌∷◌, length, take}
-use Rattle.lxr_graph.specs.declared.report.Kind.TheVariants.{Plain}
 use Rattle.lxr_graph.specs.History.{Item, Pause, PauseReport, calls_of}
 use Rattle.lxr_model.specs.Belongs.{HasCause, IsHistorySoFar, LastPauseWasEarly, Script, operations_of}
 use Rattle.lxr_model.specs.Kinds.{ends}
-use Rattle.lxr_model.specs.Moments.{moment}
-use Rattle.lxr_model.specs.Reports.{IsReport}
+use Rattle.lxr_model.specs.Legal.{IsPause}
 use Rattle.lxr_core_events.specs.EpochStates.{Extends}
 use Rattle.lxr_run_words.specs.declared.RunOptions.{RunOptions}
 use Rattle.lxr_run_history.specs.Run.{IsHistoryOf, script_terms}
@@ -19,10 +17,10 @@ abbrev pub EpochsKeepHistories : Type 0
 EpochsKeepHistories = (options : RunOptions) (script : Script) (h k : List Item) → IsHistorySoFar (script_terms options script) script h → Extends (length script) options.every h k → CallsBeginScript script k
     → IsHistorySoFar (script_terms options script) script k
 
--- so does a plain pause that has a cause, where at the last one not all threads had ended
+-- so does a pause that has a cause and is of a kind that may stand there, where at the last one not all threads had ended
 abbrev pub PausesKeepHistories : Type 0
 PausesKeepHistories = (options : RunOptions) (script : Script) (h : List Item) (report : PauseReport) → IsHistorySoFar (script_terms options script) script h
-    → IsReport (moment (length script) h) report → report.kind ≡ Plain → HasCause (script_terms options script) script h
+    → IsPause (script_terms options script) h report → HasCause (script_terms options script) script h
     → LastPauseWasEarly (script_terms options script) h → IsHistorySoFar (script_terms options script) script (Pause report ∷ h)
 
 -- all threads have done all their operations and their ends

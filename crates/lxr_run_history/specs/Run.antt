@@ -1,7 +1,7 @@
 -- Runs with pauses: their histories, whose items stand newest first, and their text.
-use Rattle.std.specs.Prelude.{ℕ, zero, suc, List, [], ◌∷◌, ◌++◌, false, length}
+use Rattle.std.specs.Prelude.{ℕ, zero, suc, Bool, List, [], ◌∷◌, ◌++◌, length}
 use Rattle.lxr_graph.specs.History.{Item, Call, Pause}
-use Rattle.lxr_model.specs.Terms.{Terms, UnreclaimedLeaveNoRun, OnlyPlain}
+use Rattle.lxr_model.specs.Terms.{Terms, UnreclaimedLeaveNoRun, CollectsWhereAsked}
 use Rattle.lxr_model.specs.Legal.{IsLegal}
 use Rattle.lxr_model.specs.Belongs.{Belongs, Script}
 use Rattle.lxr_text_print.specs.Replies.{thread_text}
@@ -9,17 +9,18 @@ use Rattle.lxr_text_print.specs.Reports.{report_text}
 use Rattle.lxr_run_words.specs.declared.RunOptions.{RunOptions}
 
 -- So many threads, with the options of the command line. A `new` replies `full` only right after a pause, where the lines of
--- the unreclaimed objects can leave no run that fits. Every pause is plain; the numbers of traces do nothing yet.
+-- the unreclaimed objects can leave no run that fits. Traces run, and a pause collects where a thread asked for that since the last
+-- one, or all have ended.
 abbrev pub run_terms : RunOptions → ℕ → Terms
 run_terms options threads = record {
   threads = threads;
   blocks = options.blocks;
   every = options.every;
   log = options.log;
-  trace = 8;
-  within = 4;
+  trace = options.trace;
+  within = options.within;
   full = UnreclaimedLeaveNoRun;
-  kinds = OnlyPlain;
+  kinds = CollectsWhereAsked;
 }
 
 -- the terms of a script
@@ -31,11 +32,11 @@ pub record IsHistoryOf (options : RunOptions) (script : Script) (h : List Item) 
   pub legal : IsLegal (script_terms options script) h
   pub belongs : Belongs (script_terms options script) script h
 
--- the texts of all reports of a history, in order
-abbrev pub reports_text : List Item → List ℕ
-reports_text [] = []
-reports_text (Call t o r ∷ h) = reports_text h
-reports_text (Pause report ∷ h) = reports_text h ++ report_text false report
+-- the texts of all reports of a history, in order, with the counts of those that aren't plain where they are asked for
+abbrev pub reports_text : Bool → List Item → List ℕ
+reports_text counts [] = []
+reports_text counts (Call t o r ∷ h) = reports_text counts h
+reports_text counts (Pause report ∷ h) = reports_text counts h ++ report_text counts report
 
 -- the replies of the first threads, thread 1 first
 abbrev pub threads_text : ℕ → List Item → List ℕ
@@ -43,5 +44,5 @@ threads_text zero h = []
 threads_text (suc t) h = threads_text t h ++ thread_text (suc t) h
 
 -- the text of a history of so many threads: its reports, and then the replies of each thread
-abbrev pub history_text : ℕ → List Item → List ℕ
-history_text threads h = reports_text h ++ threads_text threads h
+abbrev pub history_text : Bool → ℕ → List Item → List ℕ
+history_text counts threads h = reports_text counts h ++ threads_text threads h

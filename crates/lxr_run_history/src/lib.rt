@@ -11,7 +11,7 @@ pub fn epochs_keep_histories()
     ensures { EpochsKeepHistories }
 {}
 
-/// A plain pause that has a cause leads from a history so far to one.
+/// A pause that has a cause, of a kind that may stand there, leads from a history so far to one.
 pub fn pauses_keep_histories()
     ensures { PausesKeepHistories }
 {}

@@ -1,5 +1,5 @@
 -- What an epoch does to a run: it may be opened where the run is between epochs, and once it is closed a pause has a cause.
-use Rattle.std.proofs.Common.{◌≡◌, ℕ, suc, ◌+◌, ◌<◌, ◌≤◌, ◌⊎◌, refl, sym, ap, subst, ◌∙◌, inl, inr, arith, IsTrue, List, [], ◌∷◌, length, map}
+use Rattle.std.proofs.Common.{◌≡◌, ℕ, suc, ◌+◌, ◌<◌, ◌≤◌, ◌⊎◌, refl, sym, ap, subst, ◌∙◌, inl, inr, arith, Bool, IsTrue, List, [], ◌∷◌, length, map}
 use Rattle.std.specs.Prelude.{Option}
 use Rattle.lxr_layout.specs.declared.Name.{Name}
 use Rattle.lxr_layout.specs.declared.limits.Limits.{Limits}
@@ -23,7 +23,7 @@ use Rattle.lxr_core_events.specs.EpochStates.{CountsObjects, Extends, called, sa
 use Rattle.lxr_core_events.proofs.ObjectLemmas.{legal_counts}
 use Rattle.lxr_core.specs.declared.actors.AnyActor.{AnyActor}
 use Rattle.lxr_core.specs.declared.actors.AnyActor.TheVariants as any
-use Rattle.lxr_core.specs.Actors.{decrementers_in, mutators_in, script_of}
+use Rattle.lxr_core.specs.Actors.{decrementers_in, mutators_in, script_of, tracers_in}
 use Rattle.lxr_core.specs.Closing.{AreFinished, Closes, HasProgress}
 use Rattle.lxr_core.specs.Collecting.{actor_given_up, loads_of, news_of, stores_of, tally_with}
 use Rattle.lxr_core.specs.Opening.{Begins}
@@ -40,6 +40,7 @@ use Rattle.lxr_run_history.proofs.ThreadSums.{counted_in, one}
 use Rattle.lxr_run_invariant.specs.LoopInvariant.{HasCome, HasMore, HasRunEpoch, HaveActors, HaveEnded, HaveMutators, IsBetweenEpochs, SomeWait, Task, done_of, task_limits, terms_of, threads_of}
 use Rattle.lxr_run_invariant.specs.Laws.{EpochsRun, beginning_of}
 use Rattle.lxr_run_invariant.proofs.ActorLemmas.{calls_are_done, ends_are_all, ends_are_fewer, has_begun, kind_is}
+use Rattle.lxr_run_invariant.proofs.KindLemmas.{unasked_uncalled}
 
 -- ---- the opening of an epoch
 
@@ -56,7 +57,7 @@ may_open task space written seen actors h g amid =
         listed = amid.listed;
         all_listed = amid.all_listed;
         moment = come.stands.moment ∙ ap (λ n. moment n h) threads;
-        no_trace = come.no_trace;
+        none_chosen = come.none_chosen;
         counted = subst (λ n. CountsObjects n h) threads (legal_counts (terms_of task) h come.history.0);
       };
       actors_rest = subst (λ l. ActorsRestAfter l task.options.every h actors) (sym come.limits) (record { mutators = amid.actors_rest.mutators.rest; helpers = amid.actors_rest.helpers });
@@ -71,19 +72,14 @@ report_extends threads every h k (same) = refl
 report_extends threads every h k (called l t o r before is) = report_extends threads every h l before
 
 -- so does the text of reports
-text_extends : (threads every : ℕ) (h k : List Item) → Extends threads every h k → reports_text k ≡ reports_text h
-text_extends threads every h k (same) = refl
-text_extends threads every h k (called l t o r before is) = text_extends threads every h l before
+text_extends : (counts : Bool) (threads every : ℕ) (h k : List Item) → Extends threads every h k → reports_text counts k ≡ reports_text counts h
+text_extends counts threads every h k (same) = refl
+text_extends counts threads every h k (called l t o r before is) = text_extends counts threads every h l before
 
 -- calls leave what is unreclaimed
 unreclaimed_extends : (threads every : ℕ) (h k : List Item) → Extends threads every h k → (moment threads k).unreclaimed ≡ (moment threads h).unreclaimed
 unreclaimed_extends threads every h k (same) = refl
 unreclaimed_extends threads every h k (called l t o r before is) = unreclaimed_extends threads every h l before
-
--- and which trace runs
-trace_extends : (threads every : ℕ) (h k : List Item) → Extends threads every h k → (moment threads k).trace ≡ (moment threads h).trace
-trace_extends threads every h k (same) = refl
-trace_extends threads every h k (called l t o r before is) = trace_extends threads every h l before
 
 -- as many calls more as the history is longer
 calls_extend : (threads every : ℕ) (h k : List Item) → Extends threads every h k → length h + counted_in one k ≡ length k + counted_in one h
@@ -131,6 +127,13 @@ given_helpers : (actors : List AnyActor) → decrementers_in (map actor_given_up
 given_helpers [] = refl
 given_helpers (any.Mutator m ∷ actors) = given_helpers actors
 given_helpers (any.Decrementer d ∷ actors) = ap (λ z. d ∷ z) (given_helpers actors)
+given_helpers (any.Tracer d ∷ actors) = given_helpers actors
+
+given_tracers : (actors : List AnyActor) → tracers_in (map actor_given_up actors) ≡ tracers_in actors
+given_tracers [] = refl
+given_tracers (any.Mutator m ∷ actors) = given_tracers actors
+given_tracers (any.Decrementer d ∷ actors) = given_tracers actors
+given_tracers (any.Tracer d ∷ actors) = ap (λ z. d ∷ z) (given_tracers actors)
 
 -- once all are through, and not all were before, something was done
 all_through_did : (task : Task) (h k : List Item) (before mutators : List Mutating) → IsHistorySoFar (terms_of task) task.script h → IsHistorySoFar (terms_of task) task.script k
@@ -152,7 +155,7 @@ all_through_did task h k before mutators history history' extends have have' mor
 
 module _ (task : Task) (space mid after : Space) (written : Option (List ℕ)) (seen : Option (List Sight)) (before actors : List AnyActor) (h : List Item) (g : AbstractState) (execution : Execution)
     (amid : IsBetweenEpochs task space written seen before h g) (mid_is : mid ≡ record space { words = mid.words }) (script : script_of (mutators_in execution.core.actors) ≡ task.script)
-    (workers : length (decrementers_in execution.core.actors) ≡ task.options.workers) (finished : AreFinished (mutators_in execution.core.actors)) (closes : Closes (beginning_of task space h g) execution mid after actors) where
+    (workers : length (decrementers_in execution.core.actors) ≡ task.options.workers) (tracers : length (tracers_in execution.core.actors) ≡ task.options.workers) (finished : AreFinished (mutators_in execution.core.actors)) (closes : Closes (beginning_of task space h g) execution mid after actors) where
   -- the limits, the threads and the calls of the epoch are those of the run
   limits : space.limits ≡ task_limits task
   limits = amid.come.limits
@@ -180,6 +183,7 @@ module _ (task : Task) (space mid after : Space) (written : Option (List ℕ)) (
     };
     helpers = subst (λ l. HelpersRest l actors) limits closes.actors_rest.helpers;
     workers = ap (λ z. length (decrementers_in z)) closes.gave ∙ ap length (given_helpers execution.core.actors) ∙ workers;
+    tracers = ap (λ z. length (tracers_in z)) closes.gave ∙ ap length (given_tracers execution.core.actors) ∙ tracers;
     few = amid.actors_rest.few;
   }
 
@@ -208,10 +212,11 @@ module _ (task : Task) (space mid after : Space) (written : Option (List ℕ)) (
     history = history;
     stands = record { moment = moment_is; reported = amid.come.stands.reported ∙ sym (report_extends (threads_of task) task.options.every h execution.history extends) };
     safepoint = closes.safepoint;
-    no_trace = ap (λ (m : Moment). m.trace) moment_is ∙ trace_extends (threads_of task) task.options.every h execution.history extends ∙ ap (λ (m : Moment). m.trace) (sym amid.come.stands.moment) ∙ amid.come.no_trace;
+    none_chosen = closes.none_chosen;
+    none_remembered = closes.remembered ∙ amid.come.none_remembered;
     limits = same_limits ∙ limits;
     tally = tally;
-    text = subst (Appends task.written written) (sym (text_extends (threads_of task) task.options.every h execution.history extends)) amid.come.text;
+    text = subst (Appends task.written written) (sym (text_extends task.options.counts (threads_of task) task.options.every h execution.history extends)) amid.come.text;
     places = amid.come.places;
     sights = sees_epoch (threads_of task) task.options.every h execution.history task.seen seen amid.come.places extends amid.come.sights;
     kept = λ n member. closes.unmoved n (in_first g.moment.unreclaimed g.moment.made n (still n member)) ∙ amid.come.kept n (still n member);
@@ -245,6 +250,7 @@ module _ (task : Task) (space mid after : Space) (written : Option (List ℕ)) (
       early_extends task.options task.script task.options.every h execution.history extends
           (was_early task.options task.script h (ends_are_fewer task h (mutators_in before) amid.come.history.0 amid.actors_rest.mutators amid.more)),
     );
+    collects = closes.collects (unasked_uncalled h amid.served.unasked);
     progress = progress (closes.progress finished amid.served.unasked);
     grows = let more = grown in let longer = length_extends (threads_of task) task.options.every h execution.history extends in omega arith;
     few = let few = amid.few in let same = ap (λ (s : Space). s.pauses) closes.rest ∙ ap (λ (s : Space). s.pauses) mid_is in omega arith;
@@ -257,4 +263,4 @@ module _ (task : Task) (space mid after : Space) (written : Option (List ℕ)) (
 -- so it is of each epoch
 pub epochs_run : EpochsRun
 epochs_run task space mid after written seen before actors h g execution amid closed =
-    (safepoint_state task space mid after written seen before actors h g execution amid closed.words closed.script closed.workers closed.finished closed.closes, epoch_run task space mid after written seen before actors h g execution amid closed.words closed.script closed.workers closed.finished closed.closes)
+    (safepoint_state task space mid after written seen before actors h g execution amid closed.words closed.script closed.workers closed.tracers closed.finished closed.closes, epoch_run task space mid after written seen before actors h g execution amid closed.words closed.script closed.workers closed.tracers closed.finished closed.closes)

@@ -1,4 +1,5 @@
 pub mod ActorLemmas
+pub mod KindLemmas
 pub mod PauseLemmas
 pub mod ServingLemmas
 pub mod TurnLemmas

@@ -2,20 +2,23 @@
 use Rattle.std.proofs.Common.{◌≡◌, ℕ, ◌+◌, ◌≤◌, refl, sym, ap, subst, ◌∙◌, arith, List, [], length}
 use Rattle.std.specs.Prelude.{Some, slice_get}
 use Rattle.std.proofs.lemmas.List.{length-map}
+use Rattle.lxr_layout.specs.declared.TheConstants.{REMEMBERED_CURSOR}
 use Rattle.lxr_layout.specs.declared.limits.Limits.{Limits}
 use Rattle.lxr_image.specs.declared.space.Space.{Space}
 use Rattle.lxr_image.specs.Image.{opening_at}
 use Rattle.lxr_image.specs.Opened.{no_tally}
+use Rattle.lxr_image.specs.Spaces.{tables_of}
 use Rattle.lxr_model.specs.Belongs.{operations_of}
 use Rattle.lxr_model.specs.Moments.{opening_moment}
 use Rattle.lxr_invariant.specs.AbstractState.{AbstractState, no_report}
+use Rattle.lxr_invariant.specs.Lines.{NoneChosen}
 use Rattle.lxr_invariant.specs.Quiescent.{IsQuiescent}
 use Rattle.lxr_invariant.specs.Listed.{FreeBlocksAreListed, IsListed}
 use Rattle.lxr_text_stream.proofs.StreamLemmas.{Appends-nil}
 use Rattle.lxr_mutator.specs.Mutating.{Mutating}
 use Rattle.lxr_mutator.specs.Mutators.{IsMutator, first}
 use Rattle.lxr_core.specs.declared.actors.AnyActor.{AnyActor}
-use Rattle.lxr_core.specs.Actors.{decrementers_in, mutators_in, script_of}
+use Rattle.lxr_core.specs.Actors.{decrementers_in, mutators_in, script_of, tracers_in}
 use Rattle.lxr_core.specs.Resting.{HelpersRest, RestsAfter}
 use Rattle.lxr_graph.specs.declared.Op.{Op}
 use Rattle.lxr_run_history.proofs.SightLemmas.{sees_none}
@@ -33,6 +36,8 @@ pub record IsOpenedFor (task : Task) (space : Space) (g : AbstractState) : Type 
   pub limits : space.limits ≡ task_limits task
   pub tally : space.tally ≡ no_tally
   pub pauses : space.pauses ≡ 0
+  pub none_chosen : NoneChosen (tables_of space) space.limits.blocks
+  pub none_remembered : (tables_of space).cursors REMEMBERED_CURSOR ≡ 0
 
 -- a mutator as it is made rests for the empty history
 pub first_rests : (l : Limits) (every t : ℕ) (operations : List Op) → IsMutator (first t operations l every) → RestsAfter l every [] t (first t operations l every)
@@ -67,15 +72,16 @@ first_mutators task mutators are = record {
   script = are.script;
 }
 
--- and behind them stand as many decrementers as the options ask for, each as it is made
+-- and behind them stand as many decrementers as the options ask for, and as many tracers, each as it is made
 pub record AreAsMade (task : Task) (actors : List AnyActor) : Type 0 where
   pub mutators : AreFirst task (mutators_in actors)
   pub helpers : HelpersRest (task_limits task) actors
   pub workers : length (decrementers_in actors) ≡ task.options.workers
+  pub tracers : length (tracers_in actors) ≡ task.options.workers
   pub few : task.options.workers ≤ 8
 
 first_have : (task : Task) (actors : List AnyActor) → AreAsMade task actors → HaveActors task [] actors
-first_have task actors are = record { mutators = first_mutators task (mutators_in actors) are.mutators; helpers = are.helpers; workers = are.workers; few = are.few }
+first_have task actors are = record { mutators = first_mutators task (mutators_in actors) are.mutators; helpers = are.helpers; workers = are.workers; tracers = are.tracers; few = are.few }
 
 -- the run is between epochs, with the empty history
 pub between_opened : (task : Task) (space : Space) (g : AbstractState) (actors : List AnyActor) → 1 ≤ threads_of task → IsOpenedFor task space g → AreAsMade task actors
@@ -85,7 +91,8 @@ between_opened task space g actors some opened are = record {
     history = (tt, record { calls = λ t low high. (operations_of task.script t, refl); asked = tt; turns = tt; causes = tt; early = tt });
     stands = record { moment = opened.moment; reported = opened.reported };
     safepoint = opened.between.safepoint;
-    no_trace = ap (λ m. m.trace) opened.moment;
+    none_chosen = opened.none_chosen;
+    none_remembered = opened.none_remembered;
     limits = opened.limits;
     tally = opened.tally;
     text = Appends-nil task.written;

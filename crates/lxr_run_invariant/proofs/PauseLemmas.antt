@@ -1,16 +1,25 @@
 -- What a pause does to a run: its history has the pause, and a front of its report or all of it was written.
 use Rattle.std.proofs.Common.{◌≡◌, ℕ, ◌+◌, ◌*◌, ◌≤◌, refl, sym, ap, subst, ◌∙◌, arith, List, ◌∷◌, length}
-use Rattle.std.specs.Prelude.{Option, None, false, Some, slice_get}
+use Rattle.std.specs.Prelude.{Option, None, Some, slice_get}
+use Rattle.lxr_layout.specs.declared.TheConstants.{REMEMBERED_CURSOR}
 use Rattle.lxr_layout.specs.declared.limits.Limits.{Limits}
 use Rattle.lxr_graph.specs.History.{Item, Pause, PauseReport, report_of}
 use Rattle.lxr_image.specs.declared.space.Space.{Space}
 use Rattle.lxr_image.specs.declared.space.Tally.{Tally}
-use Rattle.lxr_model.specs.Moments.{Moment, after_pause, going_on, moment, trace_after}
+use Rattle.lxr_image.specs.Spaces.{tables_of}
+use Rattle.lxr_model.specs.Kinds.{MayStand}
+use Rattle.lxr_model.specs.Legal.{IsLegalSoFar, IsPause}
+use Rattle.lxr_model.specs.Terms.{Terms}
+use Rattle.lxr_model.specs.Moments.{Moment, Trace, after_pause, moment}
 use Rattle.lxr_model.specs.Reports.{IsReport}
 use Rattle.lxr_model.specs.Belongs.{IsHistorySoFar}
 use Rattle.lxr_invariant.specs.AbstractState.{AbstractState, paused}
+use Rattle.lxr_invariant.specs.Lines.{NoneChosen}
 use Rattle.lxr_full.proofs.RoomLemmas.{log_is_written}
-use Rattle.lxr_run_pause.specs.Pausing.{CanPause, Pauses}
+use Rattle.lxr_pause_trace.proofs.HistoryLemmas.{history_keeps}
+use Rattle.lxr_run_pause.specs.declared.Ask.{Ask}
+use Rattle.lxr_run_pause.specs.Deciding.{kind_of}
+use Rattle.lxr_run_pause.specs.Pausing.{CanPause, KeepsObjects, Pauses}
 use Rattle.lxr_text_stream.specs.Streams.{Appends, AppendsFront}
 use Rattle.lxr_text_stream.proofs.StreamLemmas.{Appends-append, AppendsFront-after}
 use Rattle.lxr_text_print.specs.Reports.{report_text}
@@ -28,8 +37,9 @@ use Rattle.lxr_run_history.proofs.SightLemmas.{sees_pause}
 use Rattle.lxr_run_history.proofs.SpaceLemmas.{safepoint_tallied}
 use Rattle.lxr_run_history.proofs.TallyLemmas.{logs_few, pauses_are, replies_few}
 use Rattle.lxr_run_history.proofs.ThreadSums.{counted_in, one}
-use Rattle.lxr_run_invariant.specs.LoopInvariant.{FitsCounts, HasCome, HaveActors, HaveMutators, IsPauseDue, IsPaused, Task, WasCutOff, done_of, task_limits, terms_of, threads_of}
+use Rattle.lxr_run_invariant.specs.LoopInvariant.{FitsCounts, HasCome, HaveActors, HaveMutators, IsAskedRight, IsPauseDue, IsPaused, Task, WasCutOff, done_of, pace_of, task_limits, terms_of, threads_of}
 use Rattle.lxr_run_invariant.proofs.ActorLemmas.{as_many, calls_are_done, done_few}
+use Rattle.lxr_run_invariant.proofs.KindLemmas.{kind_may_stand}
 
 -- ---- numbers
 
@@ -89,17 +99,24 @@ safepoint_by s n = record s { tally = record s.tally { logs = s.tally.logs + n }
 abbrev pub at_safepoint : Space → Space
 at_safepoint s = safepoint_by s (length s.logged.items)
 
+-- a trace that runs began over objects that are all still in the graph
+objects_kept : (terms : Terms) (h : List Item) → IsLegalSoFar terms h → (o : Option Trace) → (moment terms.threads h).trace ≡ o → KeepsObjects (moment terms.threads h) o
+objects_kept terms h legal None none = tt
+objects_kept terms h legal (Some trace) runs = history_keeps terms h trace legal runs
+
 -- a pause may be made
 pub can_pause : (task : Task) (space : Space) (written : Option (List ℕ)) (seen : Option (List Sight)) (h : List Item) (g : AbstractState)
     → HasCome task space written seen h g → FitsCounts space → CanPause (at_safepoint space) g
 can_pause task space written seen h g come fits = record {
   safepoint = safepoint_tallied space g (record space.tally { logs = space.tally.logs + length space.logged.items }) come.safepoint;
-  no_trace = come.no_trace;
+  objects = subst (λ (m : Moment). KeepsObjects m m.trace) (sym come.stands.moment) (objects_kept (terms_of task) h come.history.0 (moment (threads_of task) h).trace refl);
+  none_chosen = come.none_chosen;
+  none_remembered = come.none_remembered;
   counted = fits.pauses;
 }
 
 module _ (task : Task) (before after : Space) (written : Option (List ℕ)) (seen amid seen' : Option (List Sight)) (h : List Item) (g : AbstractState)
-    (come : HasCome task before written seen h g) (due : IsPauseDue task h) (pauses : Pauses (at_safepoint before) after g) where
+    (come : HasCome task before written seen h g) (due : IsPauseDue task h) (asked : Ask) (right : IsAskedRight task h asked) (pauses : Pauses (at_safepoint before) after g asked (pace_of task.options)) where
   -- its report, and what the space stands for then
   abbrev report : PauseReport
   report = report_of after.report
@@ -107,9 +124,22 @@ module _ (task : Task) (before after : Space) (written : Option (List ℕ)) (see
   abbrev abstract_state : AbstractState
   abstract_state = paused g report
 
+  -- its kind may stand
+  stands_so : MayStand (terms_of task) h g.moment report.number report.kind
+  stands_so =
+      subst (λ k. MayStand (terms_of task) h g.moment report.number k) (sym pauses.kind.kind)
+      (subst (λ n. MayStand (terms_of task) h g.moment n (kind_of asked (pace_of task.options) (g.moment.number + 1) g.moment.trace pauses.kind.traced)) (sym pauses.reports.1.number)
+      (kind_may_stand (terms_of task) h g.moment (g.moment.number + 1) (pace_of task.options) pauses.kind.traced refl refl refl asked right))
+
+  is_pause : IsPause (terms_of task) h report
+  is_pause = record {
+    stands = subst (λ m. MayStand (terms_of task) h m report.number report.kind) come.stands.moment stands_so;
+    reports = subst (λ m. IsReport m report) come.stands.moment pauses.reports;
+  }
+
   -- the history, the space, the tally and the sights are those of the run with that pause
   history : IsHistorySoFar (terms_of task) task.script (Pause report ∷ h)
-  history = history_with_pause task.options task.script h report come.history (subst (λ m. IsReport m report) come.stands.moment pauses.reports) pauses.plain due.0 due.1
+  history = history_with_pause task.options task.script h report come.history is_pause due.0 due.1
 
   stands : StandsAfter (threads_of task) (Pause report ∷ h) abstract_state
   stands = record { moment = ap (λ m. after_pause m report) come.stands.moment; reported = refl }
@@ -117,8 +147,11 @@ module _ (task : Task) (before after : Space) (written : Option (List ℕ)) (see
   limits : after.limits ≡ before.limits
   limits = ap (λ (s : Space). s.limits) pauses.space
 
-  no_trace : trace_after g.moment report report.kind ≡ None
-  no_trace = ap (trace_after g.moment report) pauses.plain ∙ ap (going_on g.moment report) come.no_trace
+  none_chosen : NoneChosen (tables_of after) after.limits.blocks
+  none_chosen = subst (λ (l : Limits). NoneChosen (tables_of after) l.blocks) (sym limits) pauses.none_chosen
+
+  none_remembered : (tables_of after).cursors REMEMBERED_CURSOR ≡ 0
+  none_remembered = pauses.keeps.cursors REMEMBERED_CURSOR (λ e. absurd (omega arith)) (λ e. absurd (omega arith)) (λ e. absurd (omega arith)) ∙ come.none_remembered
 
   tally : after.tally ≡ tally_of (threads_of task) (Pause report ∷ h)
   tally =
@@ -140,7 +173,7 @@ module _ (task : Task) (before after : Space) (written : Option (List ℕ)) (see
       unmoved = λ n was stays. refl;
     })
 
-    pub paused_after : (written' : Option (List ℕ)) → Appends written written' (report_text false report) → IsPaused task after written' seen' h
+    pub paused_after : (written' : Option (List ℕ)) → Appends written written' (report_text task.options.counts report) → IsPaused task after written' seen' h
     paused_after written' printed = (
       report,
       abstract_state,
@@ -149,10 +182,11 @@ module _ (task : Task) (before after : Space) (written : Option (List ℕ)) (see
           history = history;
           stands = stands;
           safepoint = pauses.between.safepoint;
-          no_trace = no_trace;
+          none_chosen = none_chosen;
+          none_remembered = none_remembered;
           limits = limits ∙ come.limits;
           tally = tally;
-          text = Appends-append task.written written written' (reports_text h) (report_text false report) come.text printed;
+          text = Appends-append task.written written written' (reports_text task.options.counts h) (report_text task.options.counts report) come.text printed;
           places = g.at;
           sights = sights;
           kept = λ n member. refl;
@@ -162,12 +196,12 @@ module _ (task : Task) (before after : Space) (written : Option (List ℕ)) (see
     )
 
   -- or it was cut off at the report
-  pub cut_off_after : (written' : Option (List ℕ)) → AppendsFront written written' (report_text false report) → WasCutOff task after written'
+  pub cut_off_after : (written' : Option (List ℕ)) → AppendsFront written written' (report_text task.options.counts report) → WasCutOff task after written'
   cut_off_after written' printed = (
     Pause report ∷ h,
     record {
       history = history;
-      text_front = AppendsFront-after task.written written written' (reports_text h) (report_text false report) come.text printed;
+      text_front = AppendsFront-after task.written written written' (reports_text task.options.counts h) (report_text task.options.counts report) come.text printed;
       left = (abstract_state, record { stands = stands; between = pauses.between; limits = limits ∙ come.limits; tally = tally });
     },
   )
@@ -200,4 +234,4 @@ mutators_paused task h last mutators have = record {
 
 -- and all actors
 pub actors_paused : (task : Task) (h : List Item) (last : PauseReport) (actors : List AnyActor) → HaveActors task h actors → HaveActors task (Pause last ∷ h) actors
-actors_paused task h last actors have = record { mutators = mutators_paused task h last (mutators_in actors) have.mutators; helpers = have.helpers; workers = have.workers; few = have.few }
+actors_paused task h last actors have = record { mutators = mutators_paused task h last (mutators_in actors) have.mutators; helpers = have.helpers; workers = have.workers; tracers = have.tracers; few = have.few }

@@ -8,6 +8,7 @@ use Rattle.std.proofs.lemmas.List.{length-take-le, length_push, take_more}
 use Rattle.std.proofs.lemmas.Bool.{eq-eqb}
 use Rattle.std.proofs.lemmas.Bool.Decides.{nat_tests}
 use Rattle.std.proofs.lemmas.Option.{get_or_from_slice_get, slice_get_within}
+use Rattle.lxr_layout.specs.declared.TheConstants.{REMEMBERED_CURSOR}
 use Rattle.lxr_layout.specs.declared.Name.{Name}
 use Rattle.lxr_layout.specs.declared.Place.{Place}
 use Rattle.lxr_layout.specs.declared.Shape.{Shape}
@@ -24,11 +25,13 @@ use Rattle.lxr_graph.proofs.NameSets.{same_names}
 use Rattle.lxr_graph.proofs.RowLemmas.{next_none}
 use Rattle.lxr_image.specs.declared.space.Space.{Space}
 use Rattle.lxr_image.specs.ImageLaws.{placed}
+use Rattle.lxr_image.specs.Spaces.{tables_of}
 use Rattle.lxr_blocks.specs.Placing.{IsFull}
 use Rattle.lxr_model.specs.Belongs.{next_operation}
 use Rattle.lxr_model.specs.Legal.{Replies}
 use Rattle.lxr_model.specs.Moments.{Moment, after_call, moment}
 use Rattle.lxr_invariant.specs.AbstractState.{AbstractState}
+use Rattle.lxr_invariant.specs.Lines.{NoneChosen}
 use Rattle.lxr_invariant.specs.Quiescent.{IsQuiescent}
 use Rattle.lxr_invariant.proofs.NameLemmas.{in_first}
 use Rattle.lxr_run_watch.specs.Sights.{Sight}
@@ -115,6 +118,8 @@ pub record IsServedWith (before after : Space) (g g' : AbstractState) (t : ℕ) 
   pub reported : g'.reported ≡ g.reported
   pub limits : after.limits ≡ before.limits
   pub tally : after.tally ≡ record before.tally { news = before.tally.news + 1 }
+  pub none_chosen : NoneChosen (tables_of after) after.limits.blocks
+  pub remembered : (tables_of after).cursors REMEMBERED_CURSOR ≡ (tables_of before).cursors REMEMBERED_CURSOR
 
 -- no other object is placed anew
 placed_other : (at : Name → ℕ) (name n : Name) (p : ℕ) → same_name n name ≡ false → placed at name p n ≡ at n
@@ -131,7 +136,8 @@ come_with_new task before after written seen t h g g' name dest shape p come cal
     reported = serves.reported ∙ come.stands.reported;
   };
   safepoint = serves.between.safepoint;
-  no_trace = ap (λ (m : Moment). m.trace) serves.moment ∙ come.no_trace;
+  none_chosen = serves.none_chosen;
+  none_remembered = serves.remembered ∙ come.none_remembered;
   limits = serves.limits ∙ come.limits;
   tally = serves.tally ∙ ap (λ t. counted t (reply.New name)) come.tally;
   text = come.text;
@@ -162,7 +168,7 @@ pub come_refused : (task : Task) (space : Space) (written : Option (List ℕ)) (
 come_refused task space written seen t m h g dest shape may is full =
     let come = may.come in
     let replies : Replies (terms_of task) h t (op.New dest shape) reply.Full =
-    may_be_refused task.options task.script h space g t dest shape come.history.0 (may.unserved refl) may.between come.stands.moment come.no_trace (ap (λ (l : Limits). l.blocks) come.limits) full in
+    may_be_refused task.options task.script h space g t dest shape come.history.0 (may.unserved refl) may.between come.stands.moment come.none_chosen (ap (λ (l : Limits). l.blocks) come.limits) full in
     let call : MayBeCalled task.options task.script h t (op_now m) reply.Full =
     may_answer task space written seen t m false h g may reply.Full (subst (λ o. Replies (terms_of task) h t o reply.Full) (sym is) replies) in
     subst (λ o. HasCome task space written seen (Call t o reply.Full ∷ h) g) (sym is)
@@ -174,7 +180,8 @@ come_refused task space written seen t m h g dest shape may is full =
       history = history_with_call task.options task.script h t (op.New dest shape) reply.Full come.history call;
       stands = record { moment = come.stands.moment; reported = come.stands.reported };
       safepoint = come.safepoint;
-      no_trace = come.no_trace;
+      none_chosen = come.none_chosen;
+      none_remembered = come.none_remembered;
       limits = come.limits;
       tally = come.tally;
       text = come.text;
@@ -189,7 +196,7 @@ pub full_cause : (task : Task) (space : Space) (written : Option (List ℕ)) (se
 full_cause task space written seen t m served h g dest shape may is full =
     let come = may.come in
     let formed : IsWellFormed (op.New dest shape) = subst IsWellFormed is (formed_now m may.rests.mutator.sound) in (
-      room_cause task.options task.script h space g t dest shape may.thread.0 may.thread.1 (next_is task space written seen t m served h g may ∙ ap Some is) may.between come.stands.moment come.no_trace
+      room_cause task.options task.script h space g t dest shape may.thread.0 may.thread.1 (next_is task space written seen t m served h g may ∙ ap Some is) may.between come.stands.moment come.none_chosen
           (ap (λ (l : Limits). l.blocks) come.limits) formed.1 full,
       was_early task.options task.script h may.more,
     )
@@ -208,6 +215,7 @@ may_serve_paused task before after written written' seen seen' t m served h g g'
   none_yet = refl;
   unasked = refl;
   unserved = λ e. tt;
+  uncalled = refl;
   more = may.more;
 }
 

@@ -27,6 +27,7 @@ use Rattle.lxr_run_history.proofs.HistoryLemmas.{since_call}
 use Rattle.lxr_run_invariant.specs.LoopInvariant.{GoesOnBy, HasAnswered, HasCome, HasMore, HasPaused, HasRunEpoch, HaveActors, HaveMutators, IsBetweenEpochs, IsRefusedSince, IsServing, KeepsHelpers, MayServe, NewsWait, SomeWait, Task, done_of, task_limits}
 use Rattle.lxr_run_invariant.specs.Laws.{ListsAnew, RunsGoOn}
 use Rattle.lxr_run_invariant.proofs.ActorLemmas.{as_many, done_more, ends_are_fewer, operations_at, pauses_stay_few, script_put}
+use Rattle.lxr_run_invariant.proofs.KindLemmas.{unasked_uncalled}
 use Rattle.lxr_run_invariant.proofs.PauseLemmas.{mutators_paused}
 use Rattle.lxr_run_invariant.proofs.ServingLemmas.{AnswersWith, answers_with, rests_answered, rests_beside, rests_registers, with_registers}
 
@@ -79,6 +80,7 @@ module _ (task : Task) (space : Space) (written : Option (List ℕ)) (seen : Opt
         none_yet = serving.none_yet (first + 1) (omega arith);
         unasked = serving.unasked (first + 1);
         unserved = serving.unserved;
+        uncalled = unasked_uncalled h serving.unasked;
         more = ends_are_fewer task h mutators serving.come.history.0 serving.mutators_rest serving.more;
       }
 
@@ -264,15 +266,16 @@ goes_on task space space' written written' seen seen' before paused mutators fir
 -- ---- the end
 
 -- what a run has come to stays where runs and free blocks are listed anew
-pub come_listed : (task : Task) (before after : Space) (written : Option (List ℕ)) (seen : Option (List Sight)) (h : List Item) (g : AbstractState) → HasCome task before written seen h g → IsQuiescent after g
-    → after.limits ≡ before.limits → after.tally ≡ before.tally → HasCome task after written seen h g
-come_listed task before after written seen h g come between limits tally = record {
+pub come_listed : (task : Task) (before after : Space) (written : Option (List ℕ)) (seen : Option (List Sight)) (h : List Item) (g : AbstractState) → HasCome task before written seen h g → ListsAnew before after g
+    → HasCome task after written seen h g
+come_listed task before after written seen h g come lists = record {
   history = come.history;
   stands = come.stands;
-  safepoint = between.safepoint;
-  no_trace = come.no_trace;
-  limits = limits ∙ come.limits;
-  tally = tally ∙ come.tally;
+  safepoint = lists.between.safepoint;
+  none_chosen = lists.none_chosen come.none_chosen;
+  none_remembered = lists.remembered ∙ come.none_remembered;
+  limits = lists.limits ∙ come.limits;
+  tally = lists.tally ∙ come.tally;
   text = come.text;
   places = come.places;
   sights = come.sights;
@@ -285,7 +288,7 @@ pub amid_again : (task : Task) (safepoint space after : Space) (written written'
     → HasRunEpoch task safepoint written seen before actors h g → paused ≡ safepoint.pauses + 1 → IsServing task space written' seen' (mutators_in actors) paused (mutators_in actors') first served h' g' → first ≡ length (mutators_in actors')
     → KeepsHelpers actors actors' → ListsAnew space after g' → IsBetweenEpochs task after written' seen' actors' h' g'
 amid_again task safepoint space after written written' seen seen' before actors actors' paused first served h h' g g' ran one serving all keeps lists = record {
-  come = come_listed task space after written' seen' h' g' serving.come lists.between lists.limits lists.tally;
+  come = come_listed task space after written' seen' h' g' serving.come lists;
   between = lists.between;
   listed = lists.listed;
   all_listed = lists.all_listed;
@@ -294,8 +297,10 @@ amid_again task safepoint space after written written' seen seen' before actors 
     helpers = record {
       order = keeps.order;
       each = λ i d at. ran.actors_rest.helpers.each i d (subst (λ ds. slice_get ds i ≡ Some d) keeps.same at);
+      tracers = λ i d at. ran.actors_rest.helpers.tracers i d (subst (λ ds. slice_get ds i ≡ Some d) keeps.tracers at);
     };
     workers = ap length keeps.same ∙ ran.actors_rest.workers;
+    tracers = ap length keeps.tracers ∙ ran.actors_rest.tracers;
     few = ran.actors_rest.few;
   };
   served = record {

@@ -1,14 +1,17 @@
 -- What a run keeps from step to step, each law the contract of a function with an empty body.
 use Rattle.std.specs.Prelude.{◌≡◌, ℕ, ◌+◌, ◌<◌, Bool, Option, List, length}
+use Rattle.lxr_layout.specs.declared.TheConstants.{REMEMBERED_CURSOR}
 use Rattle.lxr_graph.specs.History.{Item}
 use Rattle.lxr_image.specs.declared.space.Space.{Space}
+use Rattle.lxr_image.specs.Spaces.{tables_of}
 use Rattle.lxr_invariant.specs.AbstractState.{AbstractState}
+use Rattle.lxr_invariant.specs.Lines.{NoneChosen}
 use Rattle.lxr_invariant.specs.Quiescent.{IsQuiescent}
 use Rattle.lxr_invariant.specs.Listed.{FreeBlocksAreListed, IsListed}
 use Rattle.lxr_run_watch.specs.Sights.{Sight}
 use Rattle.lxr_core_events.specs.EpochStates.{Beginning}
 use Rattle.lxr_core.specs.declared.actors.AnyActor.{AnyActor}
-use Rattle.lxr_core.specs.Actors.{decrementers_in, mutators_in, script_of}
+use Rattle.lxr_core.specs.Actors.{decrementers_in, mutators_in, script_of, tracers_in}
 use Rattle.lxr_core.specs.Closing.{AreFinished, Closes}
 use Rattle.lxr_core.specs.Opening.{Begins}
 use Rattle.lxr_core.specs.Executions.{Execution}
@@ -30,6 +33,7 @@ pub record HasClosed (task : Task) (space mid after : Space) (actors : List AnyA
   pub words : mid ≡ record space { words = mid.words }
   pub script : script_of (mutators_in execution.core.actors) ≡ task.script
   pub workers : length (decrementers_in execution.core.actors) ≡ task.options.workers
+  pub tracers : length (tracers_in execution.core.actors) ≡ task.options.workers
   pub finished : AreFinished (mutators_in execution.core.actors)
   pub closes : Closes (beginning_of task space h g) execution mid after actors
 
@@ -40,7 +44,8 @@ EpochsRun = (task : Task) (space mid after : Space) (written : Option (List ℕ)
 
 -- ---- the way to the next epoch
 
--- what listing runs and free blocks anew leaves of a space between epochs
+-- what listing runs and free blocks anew leaves of a space between epochs: besides, no block becomes Chosen, and as many
+-- references are remembered as before
 pub record ListsAnew (before after : Space) (g : AbstractState) : Type 0 where
   pub between : IsQuiescent after g
   pub listed : IsListed after
@@ -48,6 +53,8 @@ pub record ListsAnew (before after : Space) (g : AbstractState) : Type 0 where
   pub limits : after.limits ≡ before.limits
   pub tally : after.tally ≡ before.tally
   pub pauses : after.pauses ≡ before.pauses
+  pub none_chosen : NoneChosen (tables_of before) before.limits.blocks → NoneChosen (tables_of after) after.limits.blocks
+  pub remembered : (tables_of after).cursors REMEMBERED_CURSOR ≡ (tables_of before).cursors REMEMBERED_CURSOR
 
 -- A run is between epochs again, and has done something, once a pause is made behind an epoch, each waiting `new` is served or
 -- refused, and runs and free blocks are listed.

@@ -1,27 +1,34 @@
 -- How far a run has come: what holds between its steps.
-use Rattle.std.specs.Prelude.{◌≡◌, ℕ, ◌+◌, ◌-◌, ◌*◌, ◌^◌, ◌<◌, ◌≤◌, ◌⊎◌, Bool, false, Option, None, Some, List, ◌∷◌, [], length, slice_get}
+use Rattle.std.specs.Prelude.{◌≡◌, ℕ, ◌+◌, ◌-◌, ◌*◌, ◌^◌, ◌<◌, ◌≤◌, ◌⊎◌, ◌↔◌, Bool, false, if◌then◌else◌, Option, Some, List, ◌∷◌, [], length, slice_get}
+use Rattle.std.specs.List.{list_any}
+use Rattle.lxr_layout.specs.declared.TheConstants.{REMEMBERED_CURSOR}
 use Rattle.lxr_layout.specs.declared.Name.{Name}
 use Rattle.lxr_layout.specs.declared.limits.Limits.{Limits}
 use Rattle.lxr_graph.specs.declared.Op.{Op}
 use Rattle.lxr_graph.specs.declared.Reply.{Reply}
 use Rattle.lxr_graph.specs.History.{Item, Call, Pause, PauseReport}
 use Rattle.lxr_image.specs.declared.space.Space.{Space}
+use Rattle.lxr_image.specs.Spaces.{tables_of}
 use Rattle.lxr_text_stream.specs.Streams.{Appends, AppendsFront}
 use Rattle.lxr_model.specs.Belongs.{HasCause, IsHistorySoFar, LastPauseWasEarly, Script, calls_since_pause, has_asked, operations_of}
 use Rattle.lxr_model.specs.Full.{IsRightAfterPause}
-use Rattle.lxr_model.specs.Kinds.{ends}
+use Rattle.lxr_model.specs.Kinds.{MustCollect, collect_called, ends}
 use Rattle.lxr_model.specs.Terms.{Terms}
 use Rattle.lxr_invariant.specs.AbstractState.{AbstractState}
+use Rattle.lxr_invariant.specs.Lines.{NoneChosen}
 use Rattle.lxr_invariant.specs.Quiescent.{IsAtSafepoint, IsQuiescent}
 use Rattle.lxr_invariant.specs.Listed.{FreeBlocksAreListed, IsListed}
 use Rattle.lxr_run_watch.specs.Sights.{Sight}
-use Rattle.lxr_mutator.specs.Mutating.{IsWaiting, Mutating, op_now}
+use Rattle.lxr_mutator.specs.Mutating.{IsWaiting, Mutating, has_collected, op_now}
 use Rattle.lxr_mutator.specs.Mutators.{IsAnswered, IsThrough}
 use Rattle.lxr_core_events.specs.ThreadStates.{all_of}
 use Rattle.lxr_core_sim_mutator.specs.Showing.{IsNew}
 use Rattle.lxr_core.specs.declared.actors.AnyActor.{AnyActor}
-use Rattle.lxr_core.specs.Actors.{AreInOrder, decrementers_in, mutators_in, script_of}
+use Rattle.lxr_core.specs.Actors.{AreInOrder, decrementers_in, mutators_in, script_of, tracers_in}
 use Rattle.lxr_core.specs.Resting.{AreServed, HelpersRest, RestAfter, RestsAfter}
+use Rattle.lxr_run_pause.specs.declared.Ask.{Ask}
+use Rattle.lxr_run_pause.specs.declared.Ask.TheVariants as ask
+use Rattle.lxr_run_pause.specs.declared.Pace.{Pace}
 use Rattle.lxr_run_words.specs.declared.RunOptions.{RunOptions}
 use Rattle.lxr_run_history.specs.Left.{IsLeftBy, StandsAfter, run_limits}
 use Rattle.lxr_run_history.specs.Run.{IsHistoryOf, reports_text, script_terms}
@@ -44,17 +51,22 @@ terms_of task = script_terms task.options task.script
 abbrev pub task_limits : Task → Limits
 task_limits task = run_limits task.options (threads_of task)
 
--- The run has come to a history so far, and the space stands for what it led to, at a safepoint before a pause; the tally has the
--- history's numbers; the reports of its pauses were written, and the watch has seen them; what was unreclaimed at the last
+-- when traces begin and end in a run with these options
+abbrev pub pace_of : RunOptions → Pace
+pace_of options = record { trace = options.trace; within = options.within }
+
+-- The run has come to a history so far, and the space stands for what it led to, at a safepoint before a pause; no block is Chosen,
+-- and nothing is remembered; the tally has the history's numbers; the reports of its pauses were written, and the watch has seen them; what was unreclaimed at the last
 -- one stands where it did.
 pub record HasCome (task : Task) (space : Space) (written : Option (List ℕ)) (seen : Option (List Sight)) (h : List Item) (g : AbstractState) : Type 0 where
   pub history : IsHistorySoFar (terms_of task) task.script h
   pub stands : StandsAfter (threads_of task) h g
   pub safepoint : IsAtSafepoint space g
-  pub no_trace : g.moment.trace ≡ None
+  pub none_chosen : NoneChosen (tables_of space) space.limits.blocks
+  pub none_remembered : (tables_of space).cursors REMEMBERED_CURSOR ≡ 0
   pub limits : space.limits ≡ task_limits task
   pub tally : space.tally ≡ tally_of (threads_of task) h
-  pub text : Appends task.written written (reports_text h)
+  pub text : Appends task.written written (reports_text task.options.counts h)
   pub places : Name → ℕ
   pub sights : SeesTo (threads_of task) h task.seen seen places
   pub kept : SamePlaces g.moment.unreclaimed places g.at
@@ -72,17 +84,20 @@ pub record HaveMutators (task : Task) (h : List Item) (mutators : List Mutating)
   pub rest : RestAfter (task_limits task) task.options.every h mutators
   pub script : script_of mutators ≡ task.script
 
--- the mutators among the actors are those, and behind them rest as many decrementers as the options ask for: eight at most
+-- the mutators among the actors are those, and behind them rest as many decrementers as the options ask for, and as many tracers:
+-- eight at most of each
 pub record HaveActors (task : Task) (h : List Item) (actors : List AnyActor) : Type 0 where
   pub mutators : HaveMutators task h (mutators_in actors)
   pub helpers : HelpersRest (task_limits task) actors
   pub workers : length (decrementers_in actors) ≡ task.options.workers
+  pub tracers : length (tracers_in actors) ≡ task.options.workers
   pub few : task.options.workers ≤ 8
 
 -- mutators alone are other than they were: the helpers stand behind them as before
 pub record KeepsHelpers (before after : List AnyActor) : Type 0 where
   pub order : AreInOrder after
   pub same : decrementers_in after ≡ decrementers_in before
+  pub tracers : tracers_in after ≡ tracers_in before
 
 -- how many operations and ends are done
 abbrev pub done_of : List Mutating → ℕ
@@ -124,12 +139,22 @@ pub record IsBetweenEpochs (task : Task) (space : Space) (written : Option (List
 abbrev pub IsPauseDue : Task → List Item → Type 0
 IsPauseDue task h = HasCause (terms_of task) task.script h × LastPauseWasEarly (terms_of task) h
 
+-- what a pause is asked for, by whether it shall collect
+abbrev pub asked_by : Bool → Ask
+asked_by collects = if collects then ask.Collect else ask.Ordinary
+
+-- a pause after h is asked to collect exactly where it must
+abbrev pub IsAskedRight : Task → List Item → Ask → Type 0
+IsAskedRight task h asked = (asked ≡ ask.Collect) ↔ MustCollect (terms_of task) h
+
 -- An epoch has run from `before`, and a pause is due.
 pub record HasRunEpoch (task : Task) (space : Space) (written : Option (List ℕ)) (seen : Option (List Sight)) (before actors : List AnyActor) (h : List Item) (g : AbstractState) : Type 0 where
   pub come : HasCome task space written seen h g
   pub actors_rest : HaveActors task h actors
   pub news : NewsWait (mutators_in actors)
   pub due : IsPauseDue task h
+  -- the mutators tell whether `collect` was called since the last pause
+  pub collects : collect_called h ≡ list_any has_collected (mutators_in actors)
   -- something was done, or some `new` waits
   pub progress : (done_of (mutators_in before) < done_of (mutators_in actors)) ⊎ SomeWait (mutators_in actors)
   pub grows : done_of (mutators_in before) ≤ done_of (mutators_in actors)
@@ -148,7 +173,7 @@ abbrev pub IsRefusedSince : List Item → Type 0
 IsRefusedSince h = IsRightAfterPause (λ report. Unit {0}) h
 
 -- Thread t's `new` waits, and its turn has come: the thread has had no call since the last pause. Where none was served since
--- that pause, nothing but refusals stands behind it. Not all threads have ended.
+-- that pause, nothing but refusals stands behind it. Nobody has called `collect` since then, and not all threads have ended.
 pub record MayServe (task : Task) (space : Space) (written : Option (List ℕ)) (seen : Option (List Sight)) (t : ℕ) (m : Mutating) (served : Bool) (h : List Item) (g : AbstractState) : Type 0 where
   pub come : HasCome task space written seen h g
   pub between : IsQuiescent space g
@@ -160,6 +185,7 @@ pub record MayServe (task : Task) (space : Space) (written : Option (List ℕ)) 
   pub none_yet : calls_since_pause t h ≡ 0
   pub unasked : has_asked t h ≡ false
   pub unserved : served ≡ false → IsRefusedSince h
+  pub uncalled : collect_called h ≡ false
   pub more : ends h < threads_of task
 
 -- a history goes on by a call alone, or by a pause and then the call
@@ -196,7 +222,7 @@ pub record IsServing (task : Task) (space : Space) (written : Option (List ℕ))
 -- a run that was cut off at a report: a front of the reports of a history so far was written, and the space is left by it
 pub record WasCutOffAt (task : Task) (space : Space) (written : Option (List ℕ)) (h : List Item) : Type 0 where
   pub history : IsHistorySoFar (terms_of task) task.script h
-  pub text_front : AppendsFront task.written written (reports_text h)
+  pub text_front : AppendsFront task.written written (reports_text task.options.counts h)
   pub left : IsLeftBy task.options (threads_of task) h space
 
 abbrev pub WasCutOff : Task → Space → Option (List ℕ) → Type 0
@@ -206,7 +232,7 @@ WasCutOff task space written = (h : List Item) × WasCutOffAt task space written
 pub record HasRunTo (task : Task) (space : Space) (written : Option (List ℕ)) (seen : Option (List Sight)) (actors : List AnyActor) (h : List Item) : Type 0 where
   pub history : IsHistoryOf task.options task.script h
   pub left : IsLeftBy task.options (threads_of task) h space
-  pub text : Appends task.written written (reports_text h)
+  pub text : Appends task.written written (reports_text task.options.counts h)
   pub sights : Sees (threads_of task) h task.seen seen
   pub actors_rest : HaveActors task h actors
 

@@ -4,3 +4,4 @@ pub mod ProgressLemmas
 pub mod PrintLemmas
 pub mod PrintedLemmas
 pub mod ThreadLemmas
+pub mod TracerLemmas

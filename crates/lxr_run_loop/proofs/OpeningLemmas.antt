@@ -5,6 +5,7 @@ use Rattle.std.specs.List.{All}
 use Rattle.std.proofs.lemmas.List.{append-nil, length-map, length-replicate, map-append}
 use Rattle.std.proofs.lemmas.List.Elements.{All-head, All-replicate, All-tail, All-weaker}
 use Rattle.std.proofs.Math.Nat.{mul-le-mul}
+use Rattle.lxr_layout.specs.declared.TheConstants.{REMEMBERED_CURSOR}
 use Rattle.lxr_layout.specs.declared.limits.Limits.{Limits}
 use Rattle.lxr_layout.specs.Spaces.{AreLimits, regions_of}
 use Rattle.lxr_base.specs.Roomy.{Roomy}
@@ -16,16 +17,20 @@ use Rattle.lxr_mutator.specs.Mutating.{Mutating}
 use Rattle.lxr_mutator.specs.Mutators.{HaveIndexes, IsHeld, IsMutator, IsOperation, first}
 use Rattle.lxr_core.specs.declared.actors.AnyActor.{AnyActor}
 use Rattle.lxr_core.specs.declared.actors.AnyActor.TheVariants as any
-use Rattle.lxr_core.specs.Actors.{decrementers_in, in_order, mutators_in}
-use Rattle.lxr_core.specs.Resting.{HelperRests, HelpersRest}
-use Rattle.lxr_core.proofs.OrderLemmas.{decrementers_of_order, mutators_of_both}
+use Rattle.lxr_core.specs.Actors.{decrementers_in, in_order, mutators_in, tracers_in}
+use Rattle.lxr_core.specs.Resting.{HelperRests, HelpersRest, TracerRests}
+use Rattle.lxr_core.proofs.OrderLemmas.{decrementers_of_order, mutators_of_both, tracers_of_order}
 use Rattle.lxr_decrement.specs.Decrementing.{DecrementerState}
 use Rattle.lxr_decrement.specs.Decrementers.{first as first_decrementer}
 use Rattle.lxr_decrement.proofs.StayLemmas.{stay_so}
+use Rattle.lxr_trace.specs.Tracing.{TracerState}
+use Rattle.lxr_trace.specs.Tracers.{first as first_tracer}
+use Rattle.lxr_trace.proofs.StayLemmas.{stay_so as tracers_stay}
 use Rattle.lxr_model.specs.Belongs.{Script}
 use Rattle.lxr_run_words.specs.CommandLines.{AreInRange}
 use Rattle.lxr_image.specs.declared.space.Space.{Space}
 use Rattle.lxr_image.specs.Opened.{IsOpened}
+use Rattle.lxr_image.specs.Tables.{Tables}
 use Rattle.lxr_model.specs.Moments.{opening_moment}
 use Rattle.lxr_invariant.specs.Quiescent.{IsQuiescent}
 use Rattle.lxr_invariant.specs.Listed.{IsListedWhole}
@@ -134,20 +139,20 @@ as_many l every taken mutators made =
     sym (length-map mutators (λ (m : Mutating). m.operations)) ∙ ap length made.script ∙ length-map taken (λ (x : Roomy Op). x.items)
 
 -- before there are helpers, a further mutator stands behind the others
-mutator_pushed : (actors : List AnyActor) (m : Mutating) → actors ≡ in_order (mutators_in actors) [] → actors ++ any.Mutator m ∷ [] ≡ in_order (mutators_in actors ++ m ∷ []) []
+mutator_pushed : (actors : List AnyActor) (m : Mutating) → actors ≡ in_order (mutators_in actors) [] [] → actors ++ any.Mutator m ∷ [] ≡ in_order (mutators_in actors ++ m ∷ []) [] []
 mutator_pushed actors m is =
     ap (λ (z : List AnyActor). z ++ any.Mutator m ∷ []) (is ∙ append-nil (map any.Mutator (mutators_in actors)))
     ∙ (sym (map-append any.Mutator (mutators_in actors) (m ∷ [])) ∙ sym (append-nil (map any.Mutator (mutators_in actors ++ m ∷ []))))
 
 -- then there are no helpers
-mutators_alone : (actors : List AnyActor) → actors ≡ in_order (mutators_in actors) [] → length actors ≡ length (mutators_in actors)
+mutators_alone : (actors : List AnyActor) → actors ≡ in_order (mutators_in actors) [] [] → length actors ≡ length (mutators_in actors)
 mutators_alone actors is = ap length is ∙ (ap length (append-nil (map any.Mutator (mutators_in actors))) ∙ length-map (mutators_in actors) any.Mutator)
 
 -- the mutators of so many threads of a script, and that of the next
 pub made_pushed : (l : Limits) (every : ℕ) (script taken rest : List (Roomy Op)) (o : Roomy Op) (actors actors' : List AnyActor) (m : Mutating) → script ≡ taken ++ o ∷ rest
     → IsScript (map (λ (x : Roomy Op). x.items) script) → AreLimits l → l.threads ≡ length script → (1 ≤ every) × (every ≤ 1048576)
-    → AreMade l every 0 (map (λ (x : Roomy Op). x.items) taken) actors → m ≡ first (length actors + 1) o.items l every → actors' ≡ actors ++ any.Mutator m ∷ []
-    → AreMade l every 0 (map (λ (x : Roomy Op). x.items) (taken ++ o ∷ [])) actors'
+    → AreMade l every 0 0 (map (λ (x : Roomy Op). x.items) taken) actors → m ≡ first (length actors + 1) o.items l every → actors' ≡ actors ++ any.Mutator m ∷ []
+    → AreMade l every 0 0 (map (λ (x : Roomy Op). x.items) (taken ++ o ∷ [])) actors'
 made_pushed l every script taken rest o actors actors' m split is limits threads range made first_one pushed =
     let thread = thread_of script taken rest o split is in
     let alone = mutators_alone actors made.helpers in
@@ -156,14 +161,14 @@ made_pushed l every script taken rest o actors actors' m split is limits threads
     let sound = first_is l every (length actors + 1) o.items limits (omega arith, omega arith) (all_operations o.items thread) thread.count range in
     let one_more = made_more l every taken o (mutators_in actors) m made.mutators (first_one ∙ ap (λ n. first (n + 1) o.items l every) alone) (subst IsMutator (sym first_one) sound) in
     let mutators : mutators_in (actors ++ any.Mutator m ∷ []) ≡ mutators_in actors ++ m ∷ [] = mutators_of_both actors (any.Mutator m ∷ []) in
-    subst (AreMade l every 0 (map (λ (x : Roomy Op). x.items) (taken ++ o ∷ []))) (sym pushed)
+    subst (AreMade l every 0 0 (map (λ (x : Roomy Op). x.items) (taken ++ o ∷ []))) (sym pushed)
     (record {
       mutators = subst (MutatorsAreMade l every (map (λ (x : Roomy Op). x.items) (taken ++ o ∷ []))) (sym mutators) one_more;
-      helpers = mutator_pushed actors m made.helpers ∙ ap (λ (ms : List Mutating). in_order ms []) (sym mutators);
+      helpers = mutator_pushed actors m made.helpers ∙ ap (λ (ms : List Mutating). in_order ms [] []) (sym mutators);
     })
 
 -- none is made at first
-pub none_made : (l : Limits) (every : ℕ) → AreMade l every 0 [] []
+pub none_made : (l : Limits) (every : ℕ) → AreMade l every 0 0 [] []
 none_made l every = record { mutators = record { script = refl; each = λ i m at. absurd (cc); sound = λ i m at. absurd (cc) }; helpers = refl }
 
 -- ---- one helper more
@@ -173,21 +178,45 @@ same_more : {X : Type 0} (n : ℕ) (x : X) → replicate n x ++ x ∷ [] ≡ rep
 same_more zero x = refl
 same_more (suc n) x = ap (λ z. x ∷ z) (same_more n x)
 
--- a further helper stands behind the others
-pub helper_pushed : (l : Limits) (every n k : ℕ) (script : Script) (actors actors' : List AnyActor) (d : DecrementerState) → AreMade l every n script actors → d ≡ first_decrementer l → k ≡ n + 1
-    → actors' ≡ actors ++ any.Decrementer d ∷ [] → AreMade l every k script actors'
+-- a further decrementer stands behind the others
+pub helper_pushed : (l : Limits) (every n k : ℕ) (script : Script) (actors actors' : List AnyActor) (d : DecrementerState) → AreMade l every n 0 script actors → d ≡ first_decrementer l → k ≡ n + 1
+    → actors' ≡ actors ++ any.Decrementer d ∷ [] → AreMade l every k 0 script actors'
 helper_pushed l every n k script actors actors' d made is next pushed =
     let mutators : mutators_in (actors ++ any.Decrementer d ∷ []) ≡ mutators_in actors = mutators_of_both actors (any.Decrementer d ∷ []) ∙ append-nil (mutators_in actors) in
     let fresh : List DecrementerState = replicate n (first_decrementer l) in
     let more : fresh ++ d ∷ [] ≡ replicate k (first_decrementer l) =
     ap (λ (e : DecrementerState). fresh ++ e ∷ []) is ∙ (same_more n (first_decrementer l) ∙ (let one : suc n ≡ k = omega arith in ap (λ j. replicate j (first_decrementer l)) one)) in
-    let behind : in_order (mutators_in actors) fresh ++ any.Decrementer d ∷ [] ≡ in_order (mutators_in actors) (fresh ++ d ∷ []) =
-    append_assoc (map any.Mutator (mutators_in actors)) (map any.Decrementer fresh) (any.Decrementer d ∷ [])
-    ∙ ap (λ (z : List AnyActor). map any.Mutator (mutators_in actors) ++ z) (sym (map-append any.Decrementer fresh (d ∷ []))) in
-    subst (AreMade l every k script) (sym pushed)
+    let behind : in_order (mutators_in actors) fresh [] ++ any.Decrementer d ∷ [] ≡ in_order (mutators_in actors) (fresh ++ d ∷ []) [] =
+    append_assoc (map any.Mutator (mutators_in actors)) (map any.Decrementer fresh ++ []) (any.Decrementer d ∷ [])
+    ∙ ap (λ (z : List AnyActor). map any.Mutator (mutators_in actors) ++ z)
+    (ap (λ (z : List AnyActor). z ++ any.Decrementer d ∷ []) (append-nil (map any.Decrementer fresh))
+    ∙ (sym (map-append any.Decrementer fresh (d ∷ [])) ∙ sym (append-nil (map any.Decrementer (fresh ++ d ∷ []))))) in
+    subst (AreMade l every k 0 script) (sym pushed)
     (record {
       mutators = subst (MutatorsAreMade l every script) (sym mutators) made.mutators;
-      helpers = ap (λ (z : List AnyActor). z ++ any.Decrementer d ∷ []) made.helpers ∙ (behind ∙ (ap (in_order (mutators_in actors)) more ∙ ap (λ (ms : List Mutating). in_order ms (replicate k (first_decrementer l))) (sym mutators)));
+      helpers = ap (λ (z : List AnyActor). z ++ any.Decrementer d ∷ []) made.helpers
+          ∙ (behind ∙ (ap (λ ds. in_order (mutators_in actors) ds []) more ∙ ap (λ (ms : List Mutating). in_order ms (replicate k (first_decrementer l)) []) (sym mutators)));
+    })
+
+-- and a further tracer behind all
+pub tracer_pushed : (l : Limits) (every w n k : ℕ) (script : Script) (actors actors' : List AnyActor) (d : TracerState) → AreMade l every w n script actors → d ≡ first_tracer l → k ≡ n + 1
+    → actors' ≡ actors ++ any.Tracer d ∷ [] → AreMade l every w k script actors'
+tracer_pushed l every w n k script actors actors' d made is next pushed =
+    let mutators : mutators_in (actors ++ any.Tracer d ∷ []) ≡ mutators_in actors = mutators_of_both actors (any.Tracer d ∷ []) ∙ append-nil (mutators_in actors) in
+    let helpers : List DecrementerState = replicate w (first_decrementer l) in
+    let fresh : List TracerState = replicate n (first_tracer l) in
+    let more : fresh ++ d ∷ [] ≡ replicate k (first_tracer l) =
+    ap (λ (e : TracerState). fresh ++ e ∷ []) is ∙ (same_more n (first_tracer l) ∙ (let one : suc n ≡ k = omega arith in ap (λ j. replicate j (first_tracer l)) one)) in
+    let behind : in_order (mutators_in actors) helpers fresh ++ any.Tracer d ∷ [] ≡ in_order (mutators_in actors) helpers (fresh ++ d ∷ []) =
+    append_assoc (map any.Mutator (mutators_in actors)) (map any.Decrementer helpers ++ map any.Tracer fresh) (any.Tracer d ∷ [])
+    ∙ ap (λ (z : List AnyActor). map any.Mutator (mutators_in actors) ++ z)
+    (append_assoc (map any.Decrementer helpers) (map any.Tracer fresh) (any.Tracer d ∷ [])
+    ∙ ap (λ (z : List AnyActor). map any.Decrementer helpers ++ z) (sym (map-append any.Tracer fresh (d ∷ [])))) in
+    subst (AreMade l every w k script) (sym pushed)
+    (record {
+      mutators = subst (MutatorsAreMade l every script) (sym mutators) made.mutators;
+      helpers = ap (λ (z : List AnyActor). z ++ any.Tracer d ∷ []) made.helpers
+          ∙ (behind ∙ (ap (in_order (mutators_in actors) helpers) more ∙ ap (λ (ms : List Mutating). in_order ms helpers (replicate k (first_tracer l))) (sym mutators)));
     })
 
 -- ---- the helpers rest
@@ -198,20 +227,35 @@ same_each zero i x y at = absurd (cc)
 same_each (suc n) zero x y at = cc
 same_each (suc n) (suc i) x y at = same_each n i x y at
 
--- so do those that were made
-made_rest : (l : Limits) (every n : ℕ) (script : Script) (actors : List AnyActor) → AreLimits l → AreMade l every n script actors → HelpersRest l actors
-made_rest l every n script actors limits made =
-    let helpers : decrementers_in actors ≡ replicate n (first_decrementer l) = ap decrementers_in made.helpers ∙ decrementers_of_order (mutators_in actors) (replicate n (first_decrementer l)) in
+-- the helpers among the actors are those that were made
+made_decrementers : (l : Limits) (every w n : ℕ) (script : Script) (actors : List AnyActor) → AreMade l every w n script actors → decrementers_in actors ≡ replicate w (first_decrementer l)
+made_decrementers l every w n script actors made =
+    ap decrementers_in made.helpers ∙ decrementers_of_order (mutators_in actors) (replicate w (first_decrementer l)) (replicate n (first_tracer l))
+
+made_tracers : (l : Limits) (every w n : ℕ) (script : Script) (actors : List AnyActor) → AreMade l every w n script actors → tracers_in actors ≡ replicate n (first_tracer l)
+made_tracers l every w n script actors made =
+    ap tracers_in made.helpers ∙ tracers_of_order (mutators_in actors) (replicate w (first_decrementer l)) (replicate n (first_tracer l))
+
+-- so they rest
+made_rest : (l : Limits) (every w n : ℕ) (script : Script) (actors : List AnyActor) → AreLimits l → AreMade l every w n script actors → HelpersRest l actors
+made_rest l every w n script actors limits made =
+    let decrementers = made_decrementers l every w n script actors made in
+    let tracers = made_tracers l every w n script actors made in
     record {
-      order = made.helpers ∙ ap (in_order (mutators_in actors)) (sym helpers);
+      order = made.helpers ∙ (ap (λ ds. in_order (mutators_in actors) ds (replicate n (first_tracer l))) (sym decrementers) ∙ ap (in_order (mutators_in actors) (decrementers_in actors)) (sym tracers));
       each = λ i d at.
-          let is = same_each n i (first_decrementer l) d (subst (λ ds. slice_get ds i ≡ Some d) helpers at) in
+          let is = same_each w i (first_decrementer l) d (subst (λ ds. slice_get ds i ≡ Some d) decrementers at) in
           subst (HelperRests l) (sym is) (record { decrementer = record { sound = stay_so.first l limits; regions = refl }; rests = refl });
+      tracers = λ i d at.
+          let is = same_each n i (first_tracer l) d (subst (λ ds. slice_get ds i ≡ Some d) tracers at) in
+          subst (TracerRests l) (sym is) (record { tracer = record { sound = tracers_stay.first l limits; regions = refl }; rests = refl });
     }
 
-made_workers : (l : Limits) (every n : ℕ) (script : Script) (actors : List AnyActor) → AreMade l every n script actors → length (decrementers_in actors) ≡ n
-made_workers l every n script actors made =
-    ap (λ (z : List AnyActor). length (decrementers_in z)) made.helpers ∙ (ap length (decrementers_of_order (mutators_in actors) (replicate n (first_decrementer l))) ∙ length-replicate n (first_decrementer l))
+made_workers : (l : Limits) (every w n : ℕ) (script : Script) (actors : List AnyActor) → AreMade l every w n script actors → length (decrementers_in actors) ≡ w
+made_workers l every w n script actors made = ap length (made_decrementers l every w n script actors made) ∙ length-replicate w (first_decrementer l)
+
+tracers_made : (l : Limits) (every w n : ℕ) (script : Script) (actors : List AnyActor) → AreMade l every w n script actors → length (tracers_in actors) ≡ n
+tracers_made l every w n script actors made = ap length (made_tracers l every w n script actors made) ∙ length-replicate n (first_tracer l)
 
 -- ---- the opened run
 
@@ -225,7 +269,7 @@ run_fits options script ranges is =
 
 -- between two epochs, with the empty history, before the first draw
 pub opened_run : (options : RunOptions) (script : List (Roomy Op)) (limits : Limits) (space : Space) (actors : List AnyActor) → limits ≡ run_limits options (length script)
-    → AreInRange options → IsScript (map (λ (x : Roomy Op). x.items) script) → AreMade limits options.every options.workers (map (λ (x : Roomy Op). x.items) script) actors
+    → AreInRange options → IsScript (map (λ (x : Roomy Op). x.items) script) → AreMade limits options.every options.workers options.workers (map (λ (x : Roomy Op). x.items) script) actors
     → IsOpened space limits → IsQuiescent space (opening_abstract_state limits.threads) → IsListedWhole space → (written : Option (List ℕ)) (seen : Option (List Sight))
     → IsOpenedRun options (map (λ (x : Roomy Op). x.items) script) space written seen actors
 opened_run options script limits space actors same ranges is made opened between listed written seen =
@@ -244,6 +288,8 @@ opened_run options script limits space actors same ranges is made opened between
       limits = opened.limits ∙ of_task;
       tally = opened.tally;
       pauses = opened.pauses;
+      none_chosen = between.safepoint.holds.blocks.chosen;
+      none_remembered = ap (λ (t : Tables). t.cursors REMEMBERED_CURSOR) opened.tables;
     })
     (record {
       mutators = record {
@@ -251,8 +297,9 @@ opened_run options script limits space actors same ranges is made opened between
         each = λ i m at. made.mutators.each i m at ∙ ap (λ (l : Limits). first (i + 1) m.operations l options.every) of_task;
         sound = made.mutators.sound;
       };
-      helpers = subst (λ l. HelpersRest l actors) of_task (made_rest limits options.every options.workers task.script actors (subst AreLimits (sym same) (run_fits options script ranges is)) made);
-      workers = made_workers limits options.every options.workers task.script actors made;
+      helpers = subst (λ l. HelpersRest l actors) of_task (made_rest limits options.every options.workers options.workers task.script actors (subst AreLimits (sym same) (run_fits options script ranges is)) made);
+      workers = made_workers limits options.every options.workers options.workers task.script actors made;
+      tracers = tracers_made limits options.every options.workers options.workers task.script actors made;
       few = ranges.workers.1;
     }) in
     ([], opening_abstract_state limits.threads, between_epochs, at_opening)

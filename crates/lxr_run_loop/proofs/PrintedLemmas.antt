@@ -51,9 +51,9 @@ texts_of_run task space written seen actors h run (suc n) few =
 
 -- the text of a whole history is its reports, and behind them the replies that the mutators keep
 text_of_run : (task : Task) (space : Space) (written : Option (List ℕ)) (seen : Option (List Sight)) (actors : List AnyActor) (h : List Item) → HasRunTo task space written seen actors h
-    → reports_text h ++ mutators_text (mutators_in actors) ≡ history_text (threads_of task) h
+    → reports_text task.options.counts h ++ mutators_text (mutators_in actors) ≡ history_text task.options.counts (threads_of task) h
 text_of_run task space written seen actors h run =
-    ap (λ z. reports_text h ++ z)
+    ap (λ z. reports_text task.options.counts h ++ z)
     (ap mutators_text (sym (take_all (length (mutators_in actors)) (mutators_in actors) (omega arith)))
     ∙ texts_of_run task space written seen actors h run (length (mutators_in actors)) (omega arith) ∙ ap (λ n. threads_text n h) (as_many task h (mutators_in actors) run.actors_rest.mutators))
 
@@ -62,6 +62,7 @@ printable_by : (task : Task) (space : Space) (written : Option (List ℕ)) (seen
     → (i : ℕ) (a : AnyActor) → slice_get actors i ≡ Some a → IsPrintable a
 printable_by task space written seen actors h run i (any.Mutator m) at = replies_printable task space written seen actors h run i m (mutator_at actors i m run.actors_rest.helpers.order at)
 printable_by task space written seen actors h run i (any.Decrementer d) at = tt
+printable_by task space written seen actors h run i (any.Tracer d) at = tt
 
 -- the replies of a run can be printed
 pub printable : (task : Task) (space : Space) (written : Option (List ℕ)) (seen : Option (List Sight)) (actors : List AnyActor) (x : ℕ) → IsComplete task space written seen actors x → CanBePrinted actors
@@ -76,7 +77,7 @@ printed_whole task space written written' seen actors x (h, run, drawn) text = r
   last = x;
   drawn = drawn;
   text = subst (Appends task.written written') (text_of_run task space written seen actors h run)
-      (Appends-append task.written written written' (reports_text h) (mutators_text (mutators_in actors)) run.text text);
+      (Appends-append task.written written written' (reports_text task.options.counts h) (mutators_text (mutators_in actors)) run.text text);
   space_left = run.left;
   sights = run.sights;
 }
@@ -88,7 +89,7 @@ printed_front task space written written' seen actors x (h, run, drawn) text = i
   history = h;
   run = run.history;
   text_front = subst (AppendsFront task.written written') (text_of_run task space written seen actors h run)
-      (AppendsFront-after task.written written written' (reports_text h) (mutators_text (mutators_in actors)) run.text text);
+      (AppendsFront-after task.written written written' (reports_text task.options.counts h) (mutators_text (mutators_in actors)) run.text text);
   space_left = run.left;
 })
 

@@ -1,20 +1,25 @@
 -- How a run goes from one epoch to the next, and that less is left then.
-use Rattle.std.proofs.Common.{◌≡◌, ℕ, zero, suc, ◌+◌, ◌<◌, ◌≤◌, ◌⊎◌, refl, sym, ap, subst, ◌∙◌, inl, inr, ⊎_elim, arith, Bool, true, false, ◌↔◌, IsTrue, List, [], ◌∷◌, cond}
+use Rattle.std.proofs.Common.{◌≡◌, ℕ, zero, suc, ◌+◌, ◌<◌, ◌≤◌, ◌⊎◌, refl, sym, ap, subst, ◌∙◌, inl, inr, ⊎_elim, arith, Bool, true, false, ◌↔◌, ◌||◌, IsTrue, List, [], ◌∷◌, cond}
 use Rattle.std.specs.Prelude.{Option, Some, None, slice_get}
-use Rattle.std.specs.List.{All}
+use Rattle.std.specs.List.{All, list_any}
 use Rattle.std.proofs.lemmas.List.Elements.{All-nil, All-cons, All-head, All-tail}
 use Rattle.lxr_graph.specs.History.{Item}
 use Rattle.lxr_image.specs.declared.space.Space.{Space}
+use Rattle.lxr_invariant.specs.AbstractState.{AbstractState}
+use Rattle.lxr_run_pause.specs.declared.Ask.{Ask}
 use Rattle.lxr_run_watch.specs.Sights.{Sight}
+use Rattle.lxr_run_words.specs.declared.RunOptions.{RunOptions}
 use Rattle.lxr_mutator.specs.declared.phases.MutEnd.{MutEnd}
 use Rattle.lxr_mutator.specs.declared.phases.MutEnd.TheVariants as ends
-use Rattle.lxr_mutator.specs.Mutating.{Mutating}
+use Rattle.lxr_mutator.specs.Mutating.{Mutating, has_collected}
 use Rattle.lxr_core.specs.declared.actors.AnyActor.{AnyActor}
 use Rattle.lxr_core.specs.declared.actors.AnyActor.TheVariants as any
 use Rattle.lxr_core.specs.Actors.{mutators_in, script_of}
-use Rattle.lxr_run_invariant.specs.LoopInvariant.{HasMore, HaveActors, HaveEnded, HaveMutators, Task, done_of, left_of}
-use Rattle.lxr_run_invariant.proofs.ActorLemmas.{are_within, done_and_left, steps_of}
-use Rattle.lxr_run_loop.specs.Progress.{HasEnded, HasMadeRound, IsComplete, IsUnderWay, NoneGoesOn}
+use Rattle.lxr_run_invariant.specs.LoopInvariant.{HasMore, HasRunEpoch, HaveActors, HaveEnded, HaveMutators, IsAskedRight, Task, asked_by, done_of, left_of, terms_of}
+use Rattle.lxr_run_invariant.proofs.ActorLemmas.{are_within, done_and_left, ends_are_all, ends_are_fewer, steps_of}
+use Rattle.lxr_run_invariant.proofs.KindLemmas.{asked_right}
+use Rattle.lxr_run_loop.specs.Pausing.{HasComeToPause}
+use Rattle.lxr_run_loop.specs.Progress.{HasEnded, HasMadeRound, IsComplete, IsUnderWay, NoneGoesOn, actor_collected}
 
 -- ---- whether all have ended
 
@@ -39,6 +44,7 @@ some_has_not (any.Mutator m ∷ actors) not_all =
     (λ unended. (0, m, refl, unended))
     (ended_or_not m.end)
 some_has_not (any.Decrementer d ∷ actors) not_all = some_has_not actors (λ rest. not_all (All-cons NoneGoesOn (any.Decrementer d) actors tt rest))
+some_has_not (any.Tracer d ∷ actors) not_all = some_has_not actors (λ rest. not_all (All-cons NoneGoesOn (any.Tracer d) actors tt rest))
 
 -- so there is more to do
 pub has_more : (actors : List AnyActor) → ¬ All NoneGoesOn actors → HasMore (mutators_in actors)
@@ -54,6 +60,7 @@ each_has (any.Mutator x ∷ actors) all zero m at =
     subst HasEnded is (All-head NoneGoesOn (any.Mutator x) actors all)
 each_has (any.Mutator x ∷ actors) all (suc i) m at = each_has actors (All-tail NoneGoesOn (any.Mutator x) actors all) i m at
 each_has (any.Decrementer d ∷ actors) all i m at = each_has actors (All-tail NoneGoesOn (any.Decrementer d) actors all) i m at
+each_has (any.Tracer d ∷ actors) all i m at = each_has actors (All-tail NoneGoesOn (any.Tracer d) actors all) i m at
 
 -- and all are through
 pub have_all_ended : (task : Task) (h : List Item) (actors : List AnyActor) → HaveActors task h actors → All NoneGoesOn actors → HaveEnded (mutators_in actors)
@@ -61,6 +68,33 @@ have_all_ended task h actors have all = λ i m at.
     let rests = have.mutators.rest.each i m at in
     let many = rests.ended (each_has actors all i m at) in
     ⊎_elim (λ through. through) (λ few. absurd (omega arith)) rests.mutator.sound.replies
+
+-- what a test told
+pub not_told : {P : Type 0} (b : Bool) → (IsTrue b ↔ P) → b ≡ false → ¬ P
+not_told b means e p = let t : b ≡ true = means.1 p in let both : true ≡ false = sym t ∙ e in cc
+
+-- the mutators among the actors tell whether `collect` was called
+collected_among : (actors : List AnyActor) → list_any actor_collected actors ≡ list_any has_collected (mutators_in actors)
+collected_among [] = refl
+collected_among (any.Mutator m ∷ actors) = ap (λ b. has_collected m || b) (collected_among actors)
+collected_among (any.Decrementer d ∷ actors) = collected_among actors
+collected_among (any.Tracer d ∷ actors) = collected_among actors
+
+-- the pause behind an epoch is due, and it is asked to collect exactly where it must
+pub comes : (task : Task) (space : Space) (written : Option (List ℕ)) (seen : Option (List Sight)) (before actors : List AnyActor) (h : List Item) (g : AbstractState) (ended : Bool) (options : RunOptions) (asked : Ask)
+    → task.options ≡ options → HasRunEpoch task space written seen before actors h g → (IsTrue ended ↔ All NoneGoesOn actors) → asked ≡ asked_by (ended || list_any actor_collected actors)
+    → HasComeToPause asked options task space written seen h g
+comes task space written seen before actors h g ended options asked with_options ran means is = record {
+  come = ran.come;
+  due = ran.due;
+  right = subst (IsAskedRight task h) (sym is)
+      (subst (λ b. IsAskedRight task h (asked_by (ended || b))) (sym (collected_among actors))
+      (asked_right (terms_of task) h ended (list_any has_collected (mutators_in actors))
+      (λ e. ends_are_all task h (mutators_in actors) ran.come.history.0 ran.actors_rest.mutators (have_all_ended task h actors ran.actors_rest (means.0 e)))
+      (λ e. ends_are_fewer task h (mutators_in actors) ran.come.history.0 ran.actors_rest.mutators (has_more actors (not_told ended means e)))
+      ran.collects));
+  with_options = with_options;
+}
 
 -- ---- what is left
 
@@ -70,10 +104,6 @@ left_no_more task h h' before after have have' grows =
     let e' = done_and_left after (are_within task h' after have') in
     let same : steps_of (script_of before) ≡ steps_of (script_of after) = ap steps_of (have.script ∙ sym have'.script) in
     omega arith
-
--- what a test told
-pub not_told : {P : Type 0} (b : Bool) → (IsTrue b ↔ P) → b ≡ false → ¬ P
-not_told b means e p = let t : b ≡ true = means.1 p in let both : true ≡ false = sym t ∙ e in cc
 
 -- ---- by whether all have ended
 

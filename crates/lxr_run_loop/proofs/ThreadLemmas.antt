@@ -6,8 +6,8 @@ use Rattle.std.proofs.lemmas.List.{length-map}
 use Rattle.lxr_mutator.specs.Mutating.{Mutating}
 use Rattle.lxr_core.specs.declared.actors.AnyActor.{AnyActor}
 use Rattle.lxr_core.specs.declared.actors.AnyActor.TheVariants as any
-use Rattle.lxr_core.specs.Actors.{AreInOrder, decrementers_in, mutators_in, script_of}
-use Rattle.lxr_core.proofs.OrderLemmas.{SameKind, helpers_stay, lengths_add, mutator_from, mutators_put, put_order, two_mutators}
+use Rattle.lxr_core.specs.Actors.{AreInOrder, decrementers_in, mutators_in, script_of, tracers_in}
+use Rattle.lxr_core.proofs.OrderLemmas.{SameKind, helpers_stay, lengths_add, mutator_from, mutators_put, put_order, tracers_stay, two_mutators}
 use Rattle.lxr_model.specs.Belongs.{Script}
 use Rattle.lxr_run_invariant.specs.LoopInvariant.{KeepsHelpers}
 use Rattle.lxr_run_invariant.proofs.ActorLemmas.{found}
@@ -46,6 +46,7 @@ pub record Becomes (R : Mutating → Mutating → Type 0) (m : Mutating) (a' : A
 becomes_by : (R : Mutating → Mutating → Type 0) (m : Mutating) (a' : AnyActor) → AreMutatorsWith R (any.Mutator m) a' → Becomes R m a'
 becomes_by R m (any.Mutator n) r = record { mutator = n; is = refl; related = r }
 becomes_by R m (any.Decrementer d) r = absurd r
+becomes_by R m (any.Tracer d) r = absurd r
 
 pub becomes : (R : Mutating → Mutating → Type 0) (a a' : AnyActor) (m : Mutating) → a ≡ any.Mutator m → AreMutatorsWith R a a' → Becomes R m a'
 becomes R a a' m is r = becomes_by R m a' (subst (λ (x : AnyActor). AreMutatorsWith R x a') is r)
@@ -63,12 +64,13 @@ pub helpers_kept : (before actors : List AnyActor) (number : ℕ) (there : IsMut
 helpers_kept before actors number there a' m' keeps is = record {
   order = put_order actors number (any.Mutator there.mutator) a' there.among (subst (SameKind (any.Mutator there.mutator)) (sym is) (two_mutators there.mutator m')) keeps.order;
   same = ap (λ (a : AnyActor). decrementers_in (slice_set actors number a)) is ∙ (helpers_stay actors number there.mutator m' there.among ∙ keeps.same);
+  tracers = ap (λ (a : AnyActor). tracers_in (slice_set actors number a)) is ∙ (tracers_stay actors number there.mutator m' there.among ∙ keeps.tracers);
 }
 
--- where there are as many actors, and mutators for the same script, there are as many helpers
-pub as_many_helpers : (before after : List AnyActor) (script : Script) → length after ≡ length before → script_of (mutators_in before) ≡ script → script_of (mutators_in after) ≡ script
+-- where there are as many actors, as many tracers, and mutators for the same script, there are as many decrementers
+pub as_many_helpers : (before after : List AnyActor) (script : Script) → length after ≡ length before → length (tracers_in after) ≡ length (tracers_in before) → script_of (mutators_in before) ≡ script → script_of (mutators_in after) ≡ script
     → length (decrementers_in after) ≡ length (decrementers_in before)
-as_many_helpers before after script many was is =
+as_many_helpers before after script many tracers was is =
     let all = lengths_add before in
     let all' = lengths_add after in
     let threads : length (mutators_in before) ≡ length script = sym (length-map (mutators_in before) (λ (m : Mutating). m.operations)) ∙ ap length was in

@@ -10,6 +10,8 @@ use Rattle.lxr_run_resume.specs.Serving.{IsServed}
 use Rattle.lxr_mutator.specs.declared.phases.Waiting.{Waiting}
 use Rattle.lxr_mutator.specs.Mutating.{IsWaiting, Mutating, next_name, op_now, waiting_by}
 use Rattle.lxr_mutator.specs.Mutators.{answered, served as given}
+use Rattle.lxr_run_pause.specs.declared.Ask.TheVariants as ask
+use Rattle.lxr_run_pause.specs.declared.Pace.{Pace}
 use Rattle.lxr_run_loop.specs.Pausing.{MakesPause}
 
 -- ---- one `new`
@@ -50,25 +52,25 @@ ServesOrRefuses before after m m' w false = RefusesNew before after m m' w.shape
 
 -- How the `new` of thread t is answered. Before and after it stand the space, whether some `new` was served since the last pause,
 -- and the history. Where there is room it is served. Where there is none, it is refused if none was served since the last
--- pause; else one more pause is made, and it is tried again.
-pub data Answers (t : ℕ) (m m' : Mutating) (w : Waiting) : Space → Space → Bool → Bool → List Item → List Item → Type 0 where
+-- pause; else one more pause is made, an ordinary one, and it is tried again.
+pub data Answers (pace : Pace) (t : ℕ) (m m' : Mutating) (w : Waiting) : Space → Space → Bool → Bool → List Item → List Item → Type 0 where
   serves : (before after : Space) (served : Bool) (h : List Item) → ServesNew before after m m' w
-      → Answers t m m' w before after served true h (Call t (op_now m) (reply.New (next_name m)) ∷ h)
-  refuses : (before after : Space) (h : List Item) → RefusesNew before after m m' w.shape → Answers t m m' w before after false false h (Call t (op_now m) reply.Full ∷ h)
-  pauses_first : (before paused after : Space) (served : Bool) (h h' : List Item) (report : PauseReport) → IsFull before w.shape → MakesPause before paused
-      → Answers t m m' w paused after false served (Pause report ∷ h) h' → Answers t m m' w before after true served h h'
+      → Answers pace t m m' w before after served true h (Call t (op_now m) (reply.New (next_name m)) ∷ h)
+  refuses : (before after : Space) (h : List Item) → RefusesNew before after m m' w.shape → Answers pace t m m' w before after false false h (Call t (op_now m) reply.Full ∷ h)
+  pauses_first : (before paused after : Space) (served : Bool) (h h' : List Item) (report : PauseReport) → IsFull before w.shape → MakesPause ask.Ordinary pace before paused
+      → Answers pace t m m' w paused after false served (Pause report ∷ h) h' → Answers pace t m m' w before after true served h h'
 
 -- ---- all of them
 
 -- a thread of which no `new` waits stays as it is, and one that waits is answered
-pub data AnswersThread (t : ℕ) : Mutating → Mutating → Space → Space → Bool → Bool → List Item → List Item → Type 0 where
-  passes : (m : Mutating) (space : Space) (served : Bool) (h : List Item) → ¬ IsWaiting m → AnswersThread t m m space space served served h h
+pub data AnswersThread (pace : Pace) (t : ℕ) : Mutating → Mutating → Space → Space → Bool → Bool → List Item → List Item → Type 0 where
+  passes : (m : Mutating) (space : Space) (served : Bool) (h : List Item) → ¬ IsWaiting m → AnswersThread pace t m m space space served served h h
   waits : (m m' : Mutating) (w : Waiting) (before after : Space) (served served' : Bool) (h h' : List Item) → waiting_by m m.end ≡ Some w
-      → Answers t m m' w before after served served' h h' → AnswersThread t m m' before after served served' h h'
+      → Answers pace t m m' w before after served served' h h' → AnswersThread pace t m m' before after served served' h h'
 
 -- From these mutators, this space and this history, right behind a pause, so many threads were answered, in order. So the
 -- mutators, the space and the history have become these, and this tells whether some `new` was served since the last pause.
-pub data AnswersFirst (mutators : List Mutating) (space : Space) (h : List Item) : ℕ → List Mutating → Space → Bool → List Item → Type 0 where
-  begins : AnswersFirst mutators space h 0 mutators space false h
-  next : (n : ℕ) (now : List Mutating) (before after : Space) (served served' : Bool) (k k' : List Item) (m m' : Mutating) → AnswersFirst mutators space h n now before served k
-      → slice_get now n ≡ Some m → AnswersThread (n + 1) m m' before after served served' k k' → AnswersFirst mutators space h (n + 1) (slice_set now n m') after served' k'
+pub data AnswersFirst (pace : Pace) (mutators : List Mutating) (space : Space) (h : List Item) : ℕ → List Mutating → Space → Bool → List Item → Type 0 where
+  begins : AnswersFirst pace mutators space h 0 mutators space false h
+  next : (n : ℕ) (now : List Mutating) (before after : Space) (served served' : Bool) (k k' : List Item) (m m' : Mutating) → AnswersFirst pace mutators space h n now before served k
+      → slice_get now n ≡ Some m → AnswersThread pace (n + 1) m m' before after served served' k k' → AnswersFirst pace mutators space h (n + 1) (slice_set now n m') after served' k'

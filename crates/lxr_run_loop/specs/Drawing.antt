@@ -1,5 +1,5 @@
 -- That a run's history is the one that its generator draws.
-use Rattle.std.specs.Prelude.{◌≡◌, ℕ, Bool, Option, List, [], ◌∷◌, map, length}
+use Rattle.std.specs.Prelude.{◌≡◌, ℕ, Bool, Option, List, [], ◌∷◌, is_some, map, length}
 use Rattle.lxr_graph.specs.History.{Item, Pause, PauseReport}
 use Rattle.lxr_image.specs.declared.space.Space.{Space}
 use Rattle.lxr_invariant.specs.AbstractState.{AbstractState}
@@ -7,30 +7,31 @@ use Rattle.lxr_actor.specs.declared.Event.TheVariants.{Step}
 use Rattle.lxr_actor.specs.Run.{core_of}
 use Rattle.lxr_core.specs.declared.actors.AnyActor.{AnyActor}
 use Rattle.lxr_mutator.specs.Mutating.{Mutating}
-use Rattle.lxr_core.specs.Actors.{decrementers_in, mutators_in, script_of}
+use Rattle.lxr_core.specs.Actors.{decrementers_in, mutators_in, script_of, tracers_in}
 use Rattle.lxr_core.specs.Executions.{tell_all}
 use Rattle.lxr_core.specs.Opening.{Begins, Opens, execution_at}
 use Rattle.lxr_run_replay.specs.Replaying.{Replays}
-use Rattle.lxr_run_invariant.specs.LoopInvariant.{Task}
+use Rattle.lxr_run_invariant.specs.LoopInvariant.{Task, pace_of}
 use Rattle.lxr_run_invariant.specs.Laws.{beginning_of}
 use Rattle.lxr_run_watch.specs.Sights.{Sight}
 use Rattle.lxr_run_loop.specs.Answering.{AnswersFirst}
 use Rattle.lxr_run_loop.specs.Serving.{BeginsServing}
 
 -- An epoch of this space and these actors, behind a history h, was replayed: the mutators have the operations of the task, and
--- there are as many decrementers as its options ask for. From its opening on the draws of the generator, which had come to x,
--- picked who made each step, until no mutator had a next one, and helpers finished their units. This has led to the history h',
--- and the generator to x'.
+-- there are as many decrementers as its options ask for, and as many tracers. From its opening on the draws of the generator, which
+-- had come to x, picked who made each step, until no mutator had a next one, tracers only where a trace ran; and helpers finished
+-- their units. This has led to the history h', and the generator to x'.
 pub record ReplaysEpoch (task : Task) (space : Space) (actors : List AnyActor) (h : List Item) (x : ℕ) (h' : List Item) (x' : ℕ) : Type 0 where
   pub script : script_of (mutators_in actors) ≡ task.script
   pub workers : length (decrementers_in actors) ≡ task.options.workers
+  pub tracers : length (tracers_in actors) ≡ task.options.workers
   pub abstract_state : AbstractState
   pub begins : Begins (beginning_of task space h abstract_state) space actors
   pub opened : Space
   pub started : List AnyActor
   pub opens : Opens space opened actors started
   pub schedule : List ℕ
-  pub replays : Replays x (core_of opened.words started) schedule x'
+  pub replays : Replays (is_some opened.trace) x (core_of opened.words started) schedule x'
   pub history : h' ≡ (tell_all (beginning_of task space h abstract_state) (execution_at (beginning_of task space h abstract_state) opened started) (map Step schedule)).history
 
 -- The history of a run, whose generator begins with the number that the options give and goes on from epoch to epoch: behind this
@@ -40,4 +41,4 @@ pub data IsDrawn (task : Task) : List Item → ℕ → Type 0 where
   by_epoch : (h h' : List Item) (x x' : ℕ) (space : Space) (actors : List AnyActor) → IsDrawn task h x → ReplaysEpoch task space actors h x h' x' → IsDrawn task h' x'
   by_pause : (h : List Item) (report : PauseReport) (x : ℕ) → IsDrawn task h x → IsDrawn task (Pause report ∷ h) x
   by_answers : (h h' : List Item) (x : ℕ) (g : AbstractState) (mutators mutators' : List Mutating) (space space' : Space) (written : Option (List ℕ)) (seen : Option (List Sight)) (served : Bool) → IsDrawn task h x
-      → BeginsServing task space written seen mutators h g → AnswersFirst mutators space h (length mutators') mutators' space' served h' → IsDrawn task h' x
+      → BeginsServing task space written seen mutators h g → AnswersFirst (pace_of task.options) mutators space h (length mutators') mutators' space' served h' → IsDrawn task h' x

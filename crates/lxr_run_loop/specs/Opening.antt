@@ -6,6 +6,7 @@ use Rattle.lxr_model.specs.Belongs.{Script}
 use Rattle.lxr_mutator.specs.Mutating.{Mutating}
 use Rattle.lxr_mutator.specs.Mutators.{IsMutator, first}
 use Rattle.lxr_decrement.specs.Decrementers.{first as first_decrementer}
+use Rattle.lxr_trace.specs.Tracers.{first as first_tracer}
 use Rattle.lxr_core.specs.declared.actors.AnyActor.{AnyActor}
 use Rattle.lxr_core.specs.Actors.{in_order, mutators_in, script_of}
 use Rattle.lxr_run_watch.specs.Sights.{Sight}
@@ -18,10 +19,10 @@ pub record MutatorsAreMade (limits : Limits) (every : ℕ) (operations : Script)
   pub each : (i : ℕ) (m : Mutating) → slice_get mutators i ≡ Some m → m ≡ first (i + 1) m.operations limits every
   pub sound : (i : ℕ) (m : Mutating) → slice_get mutators i ≡ Some m → IsMutator m
 
--- behind the mutators stand so many decrementers, each as it is made
-pub record AreMade (limits : Limits) (every workers : ℕ) (operations : Script) (actors : List AnyActor) : Type 0 where
+-- behind the mutators stand so many decrementers, and behind them so many tracers, each as it is made
+pub record AreMade (limits : Limits) (every decrementers tracers : ℕ) (operations : Script) (actors : List AnyActor) : Type 0 where
   pub mutators : MutatorsAreMade limits every operations (mutators_in actors)
-  pub helpers : actors ≡ in_order (mutators_in actors) (replicate workers (first_decrementer limits))
+  pub helpers : actors ≡ in_order (mutators_in actors) (replicate decrementers (first_decrementer limits)) (replicate tracers (first_tracer limits))
 
 -- the space and the actors are opened for a run with these options of this script, where this was written and seen before it
 abbrev pub IsOpenedRun : RunOptions → Script → Space → Option (List ℕ) → Option (List Sight) → List AnyActor → Type 0

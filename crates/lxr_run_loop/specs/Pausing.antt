@@ -1,31 +1,39 @@
 -- A pause between two epochs: when it may be made, and what it leaves.
-use Rattle.std.specs.Prelude.{ℕ, ◌+◌, Option, List, length}
+use Rattle.std.specs.Prelude.{◌≡◌, ℕ, ◌+◌, Option, List, length}
 use Rattle.lxr_graph.specs.History.{Item}
 use Rattle.lxr_image.specs.declared.space.Space.{Space}
 use Rattle.lxr_invariant.specs.AbstractState.{AbstractState}
+use Rattle.lxr_run_pause.specs.declared.Ask.{Ask}
+use Rattle.lxr_run_pause.specs.declared.Pace.{Pace}
 use Rattle.lxr_run_pause.specs.Pausing.{CanPause, Pauses}
 use Rattle.lxr_run_watch.specs.Sights.{Sight}
-use Rattle.lxr_run_invariant.specs.LoopInvariant.{HasCome, IsPauseDue, IsPaused, Task, WasCutOff}
+use Rattle.lxr_run_words.specs.declared.RunOptions.{RunOptions}
+use Rattle.lxr_run_invariant.specs.LoopInvariant.{HasCome, IsAskedRight, IsPauseDue, IsPaused, Task, WasCutOff}
 
 -- the space with what is logged in its tally, as a pause begins with it
 abbrev pub with_logs_counted : Space → Space
 with_logs_counted s = record s { tally = record s.tally { logs = s.tally.logs + length s.logged.items } }
 
--- a pause was made, whatever the space stood for
-abbrev pub MakesPause : Space → Space → Type 0
-MakesPause before after = (g : AbstractState) → CanPause (with_logs_counted before) g → Pauses (with_logs_counted before) after g
+-- a pause was made that was asked for so, whatever the space stood for
+abbrev pub MakesPause : Ask → Pace → Space → Space → Type 0
+MakesPause asked pace before after = (g : AbstractState) → CanPause (with_logs_counted before) g → Pauses (with_logs_counted before) after g asked pace
 
--- the run has come to a history behind which a pause is due
-abbrev pub HasComeToPause : Task → Space → Option (List ℕ) → Option (List Sight) → List Item → AbstractState → Type 0
-HasComeToPause task space written seen h g = HasCome task space written seen h g × IsPauseDue task h
+-- a run with these options has come to a history behind which a pause is due, which is asked to collect exactly where it must
+pub record HasComeToPause (asked : Ask) (options : RunOptions) (task : Task) (space : Space) (written : Option (List ℕ)) (seen : Option (List Sight)) (h : List Item) (g : AbstractState) : Type 0 where
+  pub come : HasCome task space written seen h g
+  pub due : IsPauseDue task h
+  pub right : IsAskedRight task h asked
+  pub with_options : task.options ≡ options
 
-abbrev pub SomePauseIsDue : Space → Option (List ℕ) → Option (List Sight) → Type 0
-SomePauseIsDue space written seen = (task : Task) × (h : List Item) × (g : AbstractState) × HasComeToPause task space written seen h g
+abbrev pub SomePauseIsDue : Ask → RunOptions → Space → Option (List ℕ) → Option (List Sight) → Type 0
+SomePauseIsDue asked options space written seen = (task : Task) × (h : List Item) × (g : AbstractState) × HasComeToPause asked options task space written seen h g
 
 -- whatever the run had come to, it has made a pause
-abbrev pub GoesOnByPause : Space → Option (List ℕ) → Option (List Sight) → Space → Option (List ℕ) → Option (List Sight) → Type 0
-GoesOnByPause space written seen space' written' seen' = (task : Task) (h : List Item) (g : AbstractState) → HasComeToPause task space written seen h g → IsPaused task space' written' seen' h
+abbrev pub GoesOnByPause : Ask → RunOptions → Space → Option (List ℕ) → Option (List Sight) → Space → Option (List ℕ) → Option (List Sight) → Type 0
+GoesOnByPause asked options space written seen space' written' seen' =
+    (task : Task) (h : List Item) (g : AbstractState) → HasComeToPause asked options task space written seen h g → IsPaused task space' written' seen' h
 
 -- it was cut off as the report of one was written
-abbrev pub IsCutOffByPause : Space → Option (List ℕ) → Option (List Sight) → Space → Option (List ℕ) → Type 0
-IsCutOffByPause space written seen space' written' = (task : Task) (h : List Item) (g : AbstractState) → HasComeToPause task space written seen h g → WasCutOff task space' written'
+abbrev pub IsCutOffByPause : Ask → RunOptions → Space → Option (List ℕ) → Option (List Sight) → Space → Option (List ℕ) → Type 0
+IsCutOffByPause asked options space written seen space' written' =
+    (task : Task) (h : List Item) (g : AbstractState) → HasComeToPause asked options task space written seen h g → WasCutOff task space' written'

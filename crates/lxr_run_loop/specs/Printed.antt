@@ -16,7 +16,7 @@ pub record IsPrinted (task : Task) (space : Space) (written : Option (List ℕ))
   pub run : IsHistoryOf task.options task.script history
   pub last : ℕ
   pub drawn : IsDrawn task history last
-  pub text : Appends task.written written (history_text (threads_of task) history)
+  pub text : Appends task.written written (history_text task.options.counts (threads_of task) history)
   pub space_left : IsLeftBy task.options (threads_of task) history space
   pub sights : Sees (threads_of task) history task.seen seen
 
@@ -24,7 +24,7 @@ pub record IsPrinted (task : Task) (space : Space) (written : Option (List ℕ))
 pub record IsPartlyPrinted (task : Task) (space : Space) (written : Option (List ℕ)) : Type 0 where
   pub history : List Item
   pub run : IsHistoryOf task.options task.script history
-  pub text_front : AppendsFront task.written written (history_text (threads_of task) history)
+  pub text_front : AppendsFront task.written written (history_text task.options.counts (threads_of task) history)
   pub space_left : IsLeftBy task.options (threads_of task) history space
 
 -- the run was cut off at a report, or at its replies

@@ -18,6 +18,7 @@ mutators_text (m ∷ mutators) = mutator_text m ++ mutators_text mutators
 abbrev pub IsPrintable : AnyActor → Type 0
 IsPrintable (any.Mutator m) = ArePrintable m.operations m.replies.items
 IsPrintable (any.Decrementer d) = ⊤
+IsPrintable (any.Tracer d) = ⊤
 
 -- those of each can be
 abbrev pub CanBePrinted : List AnyActor → Type 0

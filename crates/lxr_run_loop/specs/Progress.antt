@@ -5,10 +5,11 @@ use Rattle.lxr_image.specs.declared.space.Space.{Space}
 use Rattle.lxr_invariant.specs.AbstractState.{AbstractState}
 use Rattle.lxr_run_watch.specs.Sights.{Sight}
 use Rattle.lxr_mutator.specs.declared.phases.MutEnd.TheVariants as ends
-use Rattle.lxr_mutator.specs.Mutating.{Mutating}
+use Rattle.lxr_mutator.specs.Mutating.{Mutating, has_collected}
 use Rattle.lxr_core.specs.declared.actors.AnyActor.{AnyActor}
 use Rattle.lxr_core.specs.declared.actors.AnyActor.TheVariants as any
 use Rattle.lxr_core.specs.Actors.{mutators_in}
+use Rattle.lxr_run_words.specs.declared.RunOptions.{RunOptions}
 use Rattle.lxr_run_invariant.specs.LoopInvariant.{HasRunEpoch, HasRunTo, IsBetweenEpochs, Task, WasCutOff, left_of}
 use Rattle.lxr_run_loop.specs.Drawing.{IsDrawn, ReplaysEpoch}
 
@@ -20,6 +21,13 @@ HasEnded m = m.end ≡ Some ends.Ended
 abbrev pub NoneGoesOn : AnyActor → Type 0
 NoneGoesOn (any.Mutator m) = HasEnded m
 NoneGoesOn (any.Decrementer d) = ⊤
+NoneGoesOn (any.Tracer d) = ⊤
+
+-- the thread of an actor has called `collect` in this epoch; a helper has none
+abbrev pub actor_collected : AnyActor → Bool
+actor_collected (any.Mutator m) = has_collected m
+actor_collected (any.Decrementer d) = false
+actor_collected (any.Tracer d) = false
 
 -- ---- the run
 
@@ -31,9 +39,9 @@ IsUnderWay task space written seen actors x = (h : List Item) × (g : AbstractSt
 abbrev pub IsComplete : Task → Space → Option (List ℕ) → Option (List Sight) → List AnyActor → ℕ → Type 0
 IsComplete task space written seen actors x = (h : List Item) × HasRunTo task space written seen actors h × IsDrawn task h x
 
--- each run that was under way so was cut off
-abbrev pub IsCutOffUnderWay : Space → Option (List ℕ) → Option (List Sight) → List AnyActor → ℕ → Space → Option (List ℕ) → Type 0
-IsCutOffUnderWay space written seen actors x space' written' = (task : Task) → IsUnderWay task space written seen actors x → WasCutOff task space' written'
+-- each run with these options that was under way so was cut off
+abbrev pub IsCutOffUnderWay : RunOptions → Space → Option (List ℕ) → Option (List Sight) → List AnyActor → ℕ → Space → Option (List ℕ) → Type 0
+IsCutOffUnderWay options space written seen actors x space' written' = (task : Task) → task.options ≡ options → IsUnderWay task space written seen actors x → WasCutOff task space' written'
 
 -- ---- an epoch
 

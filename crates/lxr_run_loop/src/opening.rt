@@ -14,6 +14,7 @@ use lxr_layout::Limits;
 use lxr_mutator::Mutator;
 use lxr_run_words::RunOptions;
 use lxr_text_script::Lists;
+use lxr_trace::Tracer;
 use std::alloc::{AllocError, Global};
 
 /// The entries of the remembered set. Nothing is entered yet.
@@ -31,8 +32,8 @@ fn make_mutators(
     requires limits { AreLimits limits }
     requires threads { limits.threads ≡ length script.items }
     requires every { (1 ≤ every) × (every ≤ 1048576) }
-    requires more { more ≤ 8 }
-    ensures made { IfOk result (λ actors. AreMade limits every 0 (lists_in script) actors.items) }
+    requires more { more ≤ 16 }
+    ensures made { IfOk result (λ actors. AreMade limits every 0 0 (lists_in script) actors.items) }
     ensures room { IfOk result (λ actors. vec_len actors + more ≤ vec_capacity actors) }
 {
     let mut actors = Vec::with_capacity(alloc, script.len() + more)?;
@@ -44,7 +45,32 @@ fn make_mutators(
     Ok(actors)
 }
 
-/// A mutator for each thread of a script, in order, and behind them so many decrementers.
+/// A mutator for each thread of a script, in order, and behind them so many decrementers, in a list with room for as many more
+/// actors.
+fn make_decrementers(
+    alloc: Global,
+    script: Lists,
+    limits: Limits,
+    every: u32,
+    workers: u8,
+) -> Result<Vec<AnyActor>, AllocError>
+    requires script { IsScript (lists_in script) }
+    requires limits { AreLimits limits }
+    requires threads { limits.threads ≡ length script.items }
+    requires every { (1 ≤ every) × (every ≤ 1048576) }
+    requires workers { workers ≤ 8 }
+    ensures made { IfOk result (λ actors. AreMade limits every workers 0 (lists_in script) actors.items) }
+    ensures room { IfOk result (λ actors. vec_len actors + workers ≤ vec_capacity actors) }
+{
+    let mut actors = make_mutators(alloc, script, limits, every, 2 * usize::from(workers))?;
+    for _ in 0..workers {
+        let decrementer = Decrementer::new(alloc, limits)?;
+        actors.push_reserved(AnyActor::Decrementer(decrementer));
+    }
+    Ok(actors)
+}
+
+/// A mutator for each thread of a script, in order, behind them so many decrementers, and then as many tracers.
 fn make_actors(
     alloc: Global,
     script: Lists,
@@ -57,18 +83,18 @@ fn make_actors(
     requires threads { limits.threads ≡ length script.items }
     requires every { (1 ≤ every) × (every ≤ 1048576) }
     requires workers { workers ≤ 8 }
-    ensures { IfOk result (λ actors. AreMade limits every workers (lists_in script) actors.items) }
+    ensures { IfOk result (λ actors. AreMade limits every workers workers (lists_in script) actors.items) }
 {
-    let mut actors = make_mutators(alloc, script, limits, every, usize::from(workers))?;
+    let mut actors = make_decrementers(alloc, script, limits, every, workers)?;
     for _ in 0..workers {
-        let decrementer = Decrementer::new(alloc, limits)?;
-        actors.push_reserved(AnyActor::Decrementer(decrementer));
+        let tracer = Tracer::new(alloc, limits)?;
+        actors.push_reserved(AnyActor::Tracer(tracer));
     }
     Ok(actors)
 }
 
 /// Opens the space for the threads of a script, and makes their mutators, with room for all their replies and logs, and the
-/// decrementers that the options ask for.
+/// decrementers and tracers that the options ask for.
 pub fn open(
     alloc: Global,
     space: &mut Space,

@@ -24,6 +24,7 @@ fn print_actor<O: Sink>(actor: &AnyActor, output: &mut O) -> Result<(), WriteErr
             output,
         ),
         AnyActor::Decrementer(_) => Ok(()),
+        AnyActor::Tracer(_) => Ok(()),
     }
 }
 

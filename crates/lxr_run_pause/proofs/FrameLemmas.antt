@@ -1,15 +1,31 @@
--- What holds of a space between epochs reads neither its report nor its tally nor the number of pauses.
-use Rattle.std.proofs.Common.{ℕ, ◌*◌, refl}
-use Rattle.lxr_layout.specs.declared.TheConstants.{GRANULES_IN_BLOCK}
+-- What holds of a space between the steps of a pause reads neither its report nor its tally nor the number of pauses; and it stays with
+-- another number, another order of stuck names and another trace, where nothing was made and no block is Chosen.
+use Rattle.std.proofs.Common.{◌≡◌, ℕ, ◌*◌, refl, sym, subst, ◌∙◌, inl, List, [], IsTrue}
+use Rattle.std.specs.Prelude.{Option}
+use Rattle.lxr_layout.specs.declared.TheConstants.{DECREMENT_COUNT, DECREMENT_CURSOR, GRANULES_IN_BLOCK}
 use Rattle.lxr_layout.specs.declared.Name.{Name}
+use Rattle.lxr_graph.specs.declared.report.Kind.{Kind}
 use Rattle.lxr_graph.specs.declared.report.Report.{Report}
+use Rattle.lxr_graph.specs.Names.{has}
+use Rattle.lxr_graph.specs.State.{world_name}
 use Rattle.lxr_image.specs.declared.space.Space.{Space}
 use Rattle.lxr_image.specs.declared.space.Tally.{Tally}
 use Rattle.lxr_image.specs.Opened.{HasReportRoom}
-use Rattle.lxr_model.specs.Moments.{Moment}
+use Rattle.lxr_image.specs.Tables.{Tables}
+use Rattle.lxr_image.specs.Spaces.{IsSpace, tables_of}
+use Rattle.lxr_image.specs.Image.{IsImage}
+use Rattle.lxr_model.specs.Moments.{Moment, Trace}
+use Rattle.lxr_model_counting.specs.Following.{FollowsPause}
+use Rattle.lxr_model_counting.proofs.DeathLemmas.{dead_by_names}
+use Rattle.lxr_invariant.specs.AbstractState.{members}
+use Rattle.lxr_invariant.specs.Counting.{HasCounts, HasDecrements, IsUndecremented}
+use Rattle.lxr_invariant.specs.Lines.{HasBlocks, HasMarks}
+use Rattle.lxr_invariant.specs.Standing.{HasBits, IsUnwritten}
 use Rattle.lxr_invariant.specs.Quiescent.{HoldsMoment}
-use Rattle.lxr_invariant.proofs.FrameLemmas.{rest_still}
+use Rattle.lxr_invariant.proofs.FrameLemmas.{bits_still, counts_still, decrements_still, image_still, marks_still, rest_still, undecremented_still}
 use Rattle.lxr_run_pause.specs.Steps.{begun, with_names_in_order}
+
+-- ---- the report, the tally and the number of pauses
 
 -- the space with another report, tally and number of pauses
 abbrev pub with_told : Space → Report → Tally → ℕ → Space
@@ -42,3 +58,129 @@ begun_room r k granules h = record { promoted = h.promoted; dead = h.dead; stuck
 
 pub ordered_room : (r : Report) (granules : ℕ) → HasReportRoom r granules → HasReportRoom (with_names_in_order r) granules
 ordered_room r granules h = record { promoted = h.promoted; dead = h.dead; stuck = h.stuck; swept = h.swept; counts = h.counts }
+
+-- ---- another number, order of stuck names and trace
+
+pub nobody : {P : Type 0} (ns : List Name) (n : Name) → ns ≡ [] → IsTrue (has ns n) → P
+nobody ns n e h = let k : IsTrue (has [] n) = subst (λ xs. IsTrue (has xs n)) e h in absurd (cc)
+
+module _ (m : Moment) (number : ℕ) (stuck : List Name) (trace : Option Trace) where
+  abbrev pub renumbered : Moment
+  renumbered = record m { number = number; stuck = stuck; trace = trace }
+
+  module _ (same : (n : Name) → has stuck n ≡ has m.stuck n) where
+    pub follows_renumbered : FollowsPause m → FollowsPause renumbered
+    follows_renumbered f = record {
+      unreclaimed = f.unreclaimed;
+      made = f.made;
+      apart = f.apart;
+      kept = f.kept;
+      closed = f.closed;
+      world = same world_name ∙ f.world;
+      stuck = λ n k. f.stuck n (sym (same n) ∙ k);
+      held = f.held;
+      referred = f.referred;
+      grows = f.grows;
+      objects = f.objects;
+      young = f.young;
+      unwritten = f.unwritten;
+      written_once = f.written_once;
+      written = f.written;
+      rows = f.rows;
+      registers = f.registers;
+      registers_were = f.registers_were;
+    }
+
+    unwritten_there : (at : Name → ℕ) (us : List Name) (w : ℕ) → IsUnwritten m at us w → IsUnwritten renumbered at us w
+    unwritten_there at us w u = (u.0, u.1, record { member = u.2.member; index = u.2.index; unwritten = u.2.unwritten; word = u.2.word })
+
+    unwritten_back : (at : Name → ℕ) (us : List Name) (w : ℕ) → IsUnwritten renumbered at us w → IsUnwritten m at us w
+    unwritten_back at us w u = (u.0, u.1, record { member = u.2.member; index = u.2.index; unwritten = u.2.unwritten; word = u.2.word })
+
+    pub bits_renumbered : (t : Tables) (at : Name → ℕ) → HasBits t m at m.unreclaimed → HasBits t renumbered at m.unreclaimed
+    bits_renumbered t at h = record {
+      starts = h.starts;
+      marks = h.marks;
+      grays = h.grays;
+      dones = h.dones;
+      unlogged = λ w. ((λ b. unwritten_there at m.unreclaimed w ((h.unlogged w).0 b)), (λ u. (h.unlogged w).1 (unwritten_back at m.unreclaimed w u)));
+    }
+
+    pub counts_renumbered : (t : Tables) (at : Name → ℕ) → HasCounts t m at → HasCounts t renumbered at
+    counts_renumbered t at h = record {
+      stuck = λ n k q. h.stuck n k (sym (same n) ∙ q);
+      below = λ n k q. h.below n k (sym (same n) ∙ q);
+      exact = λ n k q. h.exact n k (sym (same n) ∙ q);
+      done = h.done;
+      dead = λ n k d. dead_by_names m.last m.unreclaimed m.stuck stuck same (h.dead n k d);
+    }
+
+    pub undecremented_renumbered : (t : Tables) (at : Name → ℕ) → IsUndecremented t m at → IsUndecremented t renumbered at
+    undecremented_renumbered t at u = record { none_done = u.none_done; none_drawn = u.none_drawn; positive = u.positive }
+
+-- ---- other states of blocks, and another tracing word
+
+-- the tables agree in all that a moment asks for but the states of blocks and the tracing word
+pub record AgreesApartFromBlocks (t u : Tables) : Type 0 where
+  pub states : ℕ → ℕ
+  pub cursors : ℕ → ℕ
+  pub tables : u ≡ record t { states = states; cursors = cursors }
+  pub drawn : cursors DECREMENT_CURSOR ≡ t.cursors DECREMENT_CURSOR
+  pub waiting : cursors DECREMENT_COUNT ≡ t.cursors DECREMENT_COUNT
+
+module _ (s : Space) (words : List ℕ) (began : Option ℕ) (m : Moment) (number : ℕ) (stuck : List Name) (trace : Option Trace) (at : Name → ℕ) where
+  abbrev pub reworded : Space
+  reworded = record s { words = words; trace = began }
+
+  abbrev then : Moment
+  then = renumbered m number stuck trace
+
+  module _ (agree : AgreesApartFromBlocks (tables_of s) (tables_of reworded)) (same : (n : Name) → has stuck n ≡ has m.stuck n) where
+    abbrev t : Tables
+    t = tables_of s
+
+    abbrev u : Tables
+    u = record t { states = agree.states; cursors = agree.cursors }
+
+    pub holds_reworded : IsSpace reworded → m.made ≡ [] → s.rest_next ≡ s.rest_end → HasBlocks (tables_of reworded) s.limits.blocks trace → HoldsMoment s m at → HoldsMoment reworded then at
+    holds_reworded space none_made no_rest blocks h = record {
+      space = space;
+      room = record { registers = h.room.registers; deferred = h.room.deferred; logged = h.room.logged; work = h.room.work; report = h.room.report };
+      as_many = h.as_many;
+      follows = follows_renumbered m number stuck trace same h.follows;
+      image = record {
+        image = subst (λ z. IsImage z s.limits.blocks at m.state.graph (members m)) (sym agree.tables) (image_still t u s.limits.blocks at m.state.graph (members m) (members m) refl (λ n k. k) h.image.image);
+        registers = h.image.registers;
+        deferred = h.image.deferred;
+        world = h.image.world;
+      };
+      bits = subst (λ z. HasBits z then at m.unreclaimed) (sym agree.tables) (bits_renumbered m number stuck trace same u at (bits_still t u m at m.unreclaimed refl refl refl refl refl h.bits));
+      logs = h.logs;
+      few_logs = h.few_logs;
+      counts = subst (λ z. HasCounts z then at) (sym agree.tables) (counts_renumbered m number stuck trace same u at (counts_still t u m at refl refl refl agree.drawn agree.waiting h.counts));
+      decrements = subst (λ z. HasDecrements s.limits z then at) (sym agree.tables)
+          (let d = decrements_still s.limits s.limits t u m at refl refl agree.waiting h.decrements in record { fits = d.fits; places = d.places });
+      marks = subst (λ z. HasMarks z m.state.graph at m.unreclaimed) (sym agree.tables) (marks_still t u m.state.graph at m.unreclaimed refl h.marks);
+      lines = λ n o k made. nobody m.made n none_made made;
+      unchosen = λ n made. nobody m.made n none_made made;
+      blocks = blocks;
+      rest = record { rest = inl no_rest; apart = h.rest.apart };
+      no_work = h.no_work;
+    }
+
+    pub undecremented_reworded : IsUndecremented t m at → IsUndecremented (tables_of reworded) then at
+    undecremented_reworded h = subst (λ z. IsUndecremented z then at) (sym agree.tables)
+        (undecremented_renumbered m number stuck trace same u at (undecremented_still t u m at refl refl agree.drawn h))
+
+-- ---- spaces whose words stay
+
+pub holds_renumbered : (s : Space) (m : Moment) (number : ℕ) (stuck : List Name) (trace : Option Trace) (at : Name → ℕ) → ((n : Name) → has stuck n ≡ has m.stuck n)
+    → m.made ≡ [] → s.rest_next ≡ s.rest_end → HasBlocks (tables_of s) s.limits.blocks trace → HoldsMoment s m at → HoldsMoment s (renumbered m number stuck trace) at
+holds_renumbered s m number stuck trace at same none_made no_rest blocks h =
+    holds_reworded s s.words s.trace m number stuck trace at
+    (record { states = (tables_of s).states; cursors = (tables_of s).cursors; tables = refl; drawn = refl; waiting = refl }) same h.space none_made no_rest blocks h
+
+-- the report may have another kind
+pub holds_of_kind : (s : Space) (m : Moment) (at : Name → ℕ) (k : Kind) → HoldsMoment s m at → HoldsMoment (record s { report = record s.report { kind = k } }) m at
+holds_of_kind s m at k h = holds_told s m at (record s.report { kind = k }) s.tally s.pauses
+    (record { promoted = h.room.report.promoted; dead = h.room.report.dead; stuck = h.room.report.stuck; swept = h.room.report.swept; counts = h.room.report.counts }) h

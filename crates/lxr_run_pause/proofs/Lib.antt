@@ -1,7 +1,16 @@
 pub mod OrderLemmas
 pub mod ReportLemmas
 pub mod FrameLemmas
+pub mod TracedLemmas
 pub mod SweepLemmas
+pub mod GoingOnLemmas
 pub mod SettlingLemmas
+pub mod DistinctnessLemmas
+pub mod DecidingLemmas
+pub mod BuildingLemmas
+pub mod TracingLemmas
+pub mod KindLemmas
+pub mod SweepingLemmas
+pub mod WholeLemmas
 pub mod PausingLemmas
 pub mod OpenedLemmas

@@ -1,47 +1,68 @@
--- Each step of a pause finds what it asks for, and once roots are deferred, counting is done.
-use Rattle.std.proofs.Common.{◌≡◌, ℕ, ◌+◌, ◌*◌, ◌≤◌, sym, ap, subst, ◌∙◌, arith, Bool, List, ◌++◌, IsTrue, length}
-use Rattle.std.specs.Prelude.{◌↔◌}
+-- Each step of counting finds what it asks for, and once roots are deferred, counting is done: a trace that runs goes on.
+use Rattle.std.proofs.Common.{◌≡◌, ℕ, ◌+◌, ◌*◌, ◌≤◌, refl, sym, ap, subst, ◌∙◌, arith, List, [], ◌++◌, length}
+use Rattle.std.specs.Prelude.{◌↔◌, Option, Some, None}
 use Rattle.lxr_layout.specs.declared.TheConstants.{GRANULES_IN_BLOCK}
 use Rattle.lxr_layout.specs.declared.Name.{Name}
-use Rattle.lxr_graph.specs.declared.report.Report.{Report}
-use Rattle.lxr_graph.specs.Names.{has, without}
+use Rattle.lxr_graph.specs.declared.report.Kind.TheVariants as kind
+use Rattle.lxr_graph.specs.Names.{without}
+use Rattle.lxr_graph.specs.History.{PauseReport, report_of}
 use Rattle.lxr_image.specs.declared.space.Space.{Space}
 use Rattle.lxr_image.specs.Tables.{Tables}
 use Rattle.lxr_image.specs.Spaces.{tables_of}
-use Rattle.lxr_model.specs.Dead.{Dead}
-use Rattle.lxr_model.specs.Moments.{Moment}
-use Rattle.lxr_model_counting.specs.Distinct.{IsDistinct}
+use Rattle.lxr_model.specs.Moments.{Moment, Trace, going_on}
 use Rattle.lxr_invariant.specs.AbstractState.{AbstractState, leaving}
 use Rattle.lxr_invariant.specs.Counting.{IsUndecremented}
 use Rattle.lxr_invariant.specs.Keeping.{KeepsListsAndCounters}
+use Rattle.lxr_invariant.specs.Lines.{HasBlocks, NoneChosen}
 use Rattle.lxr_invariant.specs.Quiescent.{HoldsMoment}
-use Rattle.lxr_invariant.specs.Raised.{AreRaised, IsRaised, settled}
+use Rattle.lxr_invariant.specs.Raised.{IsRaised, settled}
+use Rattle.lxr_invariant.specs.Tracing.{IsTracedBy, TraceHolds}
+use Rattle.lxr_invariant.proofs.EntryLemmas.{passing_few}
+use Rattle.lxr_invariant.proofs.FrameLemmas.{chosen_still}
 use Rattle.lxr_invariant.proofs.KeepingLemmas.{keeps_both, keeps_same}
-use Rattle.lxr_pause_decrements.specs.Finishing.{CanFinish, Finishes}
-use Rattle.lxr_pause_decrements.specs.Wipe.{LosesBits}
-use Rattle.lxr_pause_increments.specs.Raising.{CanRaise, Raises}
+use Rattle.lxr_pause_decrements.specs.Finishing.{CanFinish, Finishes, FinishesGrays, HandledAreTraced}
+use Rattle.lxr_pause_increments.specs.Raising.{CanRaise, Raises, RaisesGrays, RaisesMarks}
 use Rattle.lxr_pause_queue.specs.Queueing.{Queues, with_roots_deferred}
+use Rattle.lxr_pause_trace.specs.Laws.{AllGrayAreMarked, NothingIsLeft, at_moment}
+use Rattle.lxr_pause_trace.proofs.CountingLemmas.{counting_keeps}
+use Rattle.lxr_pause_trace.proofs.FinishingLemmas.{finishing_keeps}
+use Rattle.lxr_pause_trace.proofs.TellingLemmas.{marks_tell}
 use Rattle.lxr_run_pause.specs.Steps.{begun, with_report_begun}
-use Rattle.lxr_run_pause.specs.Settling.{Settles, Tells, settled_by}
-use Rattle.lxr_run_pause.specs.Pausing.{CanPause}
-use Rattle.lxr_run_pause.proofs.FrameLemmas.{begun_room, holds_told}
+use Rattle.lxr_run_pause.specs.Settling.{SettlesCounts, TellsCounts, TellsTheEnd, counted}
+use Rattle.lxr_run_pause.specs.Pausing.{CanPause, KeepsObjects, Traces}
+use Rattle.lxr_run_pause.proofs.FrameLemmas.{begun_room, holds_renumbered, holds_told, undecremented_renumbered}
+use Rattle.lxr_run_pause.proofs.GoingOnLemmas.{traces_on}
+use Rattle.lxr_run_pause.proofs.TracedLemmas.{trace_still}
 
 -- a space with what counting changes taken from another
 abbrev settled_as : Space → Space → Space
 settled_as x y = record x { words = y.words; deferred = y.deferred; logged = y.logged; report = y.report; rest_next = y.rest_next; rest_end = y.rest_end }
 
+-- what was handled while a trace runs made gray what it referred to
+handled_by : (s : Space) (g : AbstractState) (trace : Option Trace) → IsTracedBy s.limits (tables_of s) s.logged.items g trace → HandledAreTraced (tables_of s) g.moment g.at trace
+handled_by s g None is = tt
+handled_by s g (Some trace) is = is.handled
+
+-- blocks stay as they are asked for where a trace goes on
+blocks_on : (t : Tables) (blocks : ℕ) (m : Moment) (r : PauseReport) (trace : Option Trace) → HasBlocks t blocks trace → HasBlocks t blocks (going_on m r trace)
+blocks_on t blocks m r None is = is
+blocks_on t blocks m r (Some trace) is = record { world = is.world; others = is.others; few = is.few; chosen = tt; tracing = is.tracing }
+
 module _ (s began : Space) (g : AbstractState) (can : CanPause s g) (begins : began ≡ with_report_begun s) where
+  abbrev m : Moment
+  m = g.moment
+
   -- once the report has begun, decrements may be finished
   pub can_finish : CanFinish began g.moment g.at
   can_finish = subst (λ x. CanFinish x g.moment g.at) (sym begins) (record {
     holds = holds_told s g.moment g.at (begun s.report (s.pauses + 1)) s.tally s.pauses (begun_room s.report (s.pauses + 1) (GRANULES_IN_BLOCK * s.limits.blocks) can.safepoint.holds.room.report) can.safepoint.holds;
-    no_trace = can.no_trace;
-    room = (let e = can.safepoint.holds.room.report.dead in omega (arith, e));
+    handled = handled_by s g g.moment.trace can.safepoint.traced;
+    room = (let e = can.safepoint.holds.room.report.dead in let few = passing_few (tables_of s).starts (GRANULES_IN_BLOCK * s.limits.blocks) in omega (arith, e, few));
   })
 
   module _ (finished : Space) (finishes : (m : Moment) (at : Name → ℕ) → CanFinish began m at → (gone : List Name) × Finishes began finished m at gone) where
     -- the names that are gone, and the moment without them
-    abbrev gone : List Name
+    abbrev pub gone : List Name
     gone = (finishes g.moment g.at can_finish).0
 
     abbrev pub left : Moment
@@ -55,11 +76,16 @@ module _ (s began : Space) (g : AbstractState) (can : CanPause s g) (begins : be
     can_raise = record {
       holds = finish.holds;
       undecremented = finish.undecremented;
-      no_trace = can.no_trace;
       empty = finish.empty;
       none_promoted = ap (λ (x : Space). x.report.promoted.items) finish.space ∙ ap (λ (x : Space). x.report.promoted.items) begins;
       none_stuck = ap (λ (x : Space). x.report.stuck.items) finish.space ∙ ap (λ (x : Space). x.report.stuck.items) begins;
     }
+
+    none_chosen : NoneChosen (tables_of finished) finished.limits.blocks
+    none_chosen =
+        chosen_still (tables_of began) (tables_of finished) finished.limits.blocks finish.states
+        ∙ subst (λ x. NoneChosen (tables_of x) finished.limits.blocks) (sym begins)
+        (subst (λ n. NoneChosen (tables_of s) n) (sym (ap (λ (x : Space). x.limits.blocks) finish.space ∙ ap (λ (x : Space). x.limits.blocks) begins)) can.none_chosen)
 
     module _ (raised : Space) (raises : (m : Moment) (at : Name → ℕ) → CanRaise finished m at → Raises finished raised m at) where
       raise : Raises finished raised left g.at
@@ -75,16 +101,24 @@ module _ (s began : Space) (g : AbstractState) (can : CanPause s g) (begins : be
           ∙ ap (λ (x : Space). x.report.dead.items) finish.space
           ∙ ap (λ (x : Space). x.report.dead.items ++ gone) begins
 
-      tells_raised : Tells raised.report (s.pauses + 1) g.moment
+      tells_raised : TellsCounts raised.report g.moment gone
       tells_raised = record {
-        number = ap (λ (x : Space). x.report.number) raise.space ∙ ap (λ (x : Space). x.report.number) finish.space ∙ ap (λ (x : Space). x.report.number) begins;
-        plain = ap (λ (x : Space). x.report.kind) raise.space ∙ ap (λ (x : Space). x.report.kind) finish.space ∙ ap (λ (x : Space). x.report.kind) begins;
-        dead = λ n. subst (λ ns. IsTrue (has ns n) ↔ Dead g.moment.last g.moment.unreclaimed g.moment.stuck n) (sym gone_are) (finish.dead n);
-        once = subst IsDistinct (sym gone_are) finish.once;
-        raised = subst (λ ns. AreRaised (leaving g.moment (without g.moment.unreclaimed ns)) raised.report.promoted.items raised.report.stuck.items) (sym gone_are) raise.raised.raised;
+        number = ap (λ (x : Space). x.report.number) raise.space ∙ ap (λ (x : Space). x.report.number) finish.space ∙ ap (λ (x : Space). x.report.number) begins ∙ ap (λ k. k + 1) can.safepoint.numbers.pauses;
+        dead = gone_are;
+        are_dead = finish.dead;
+        once = finish.once;
+        raised = raise.raised.raised;
         swept = ap (λ (x : Space). x.report.swept.items) raise.space ∙ ap (λ (x : Space). x.report.swept.items) finish.space ∙ ap (λ (x : Space). x.report.swept.items) begins;
         counts = ap (λ (x : Space). x.report.counts.items) raise.space ∙ ap (λ (x : Space). x.report.counts.items) finish.space ∙ ap (λ (x : Space). x.report.counts.items) begins;
       }
+
+      few_gone : length raised.report.dead.items ≤ GRANULES_IN_BLOCK * raised.limits.blocks
+      few_gone =
+          let e = ap (λ (ns : List Name). length ns) gone_are in
+          let fewer = finish.fewer in
+          let few = passing_few (tables_of began).starts (GRANULES_IN_BLOCK * began.limits.blocks) in
+          let same = ap (λ (x : Space). x.limits.blocks) raise.space ∙ ap (λ (x : Space). x.limits.blocks) finish.space in
+          omega (arith, e, fewer, few, same)
 
       module _ (queued : Space) (queues : (m : Moment) (at : Name → ℕ) (promoted stuck : List Name) → IsRaised raised m at promoted stuck → Queues raised queued m at promoted stuck) where
         queue : Queues raised queued left g.at raised.report.promoted.items raised.report.stuck.items
@@ -97,53 +131,100 @@ module _ (s began : Space) (g : AbstractState) (can : CanPause s g) (begins : be
             let room = queue.holds.room.deferred in
             omega (arith, many, room)
 
+        -- the moment once counting is done
+        abbrev done : Moment
+        done = counted m gone raised.report
+
+        holds_done : HoldsMoment (with_roots_deferred queued) done g.at
+        holds_done =
+            holds_renumbered (with_roots_deferred queued) (settled left raised.report.promoted.items raised.report.stuck.items) done.number done.stuck done.trace g.at (λ n. refl) refl
+            (ap (λ (x : Space). x.rest_next) queue.space ∙ ap (λ (x : Space). x.rest_next) raise.space ∙ sym (ap (λ (x : Space). x.rest_end) queue.space ∙ ap (λ (x : Space). x.rest_end) raise.space))
+            (blocks_on (tables_of queued) queued.limits.blocks m (report_of raised.report) m.trace queue.holds.blocks) queue.holds
+
+        undecremented_done : IsUndecremented (tables_of queued) done g.at
+        undecremented_done = undecremented_renumbered (settled left raised.report.promoted.items raised.report.stuck.items) done.number done.stuck done.trace (λ n. refl) (tables_of queued) g.at queue.undecremented
+
+        -- a trace that runs goes on
+        traced_done : (trace : Option Trace) → g.moment.trace ≡ trace → KeepsObjects m trace → IsTracedBy s.limits (tables_of s) s.logged.items g trace
+            → IsTracedBy queued.limits (tables_of queued) [] (at_moment g done) (going_on m (report_of raised.report) trace)
+        traced_done None runs objects is = tt
+        traced_done (Some trace) runs objects is =
+            let first : TraceHolds began.limits (tables_of began) began.logged.items g trace = subst (λ x. TraceHolds x.limits (tables_of x) x.logged.items g trace) (sym begins) is in
+            let second = finishing_keeps began finished g trace gone can_finish.holds runs first finish in
+            let third = counting_keeps finished raised queued (at_moment g left) trace finish.holds runs none_chosen objects.0 second raise queue in
+            trace_still queued.limits (tables_of queued) (tables_of queued).states (tables_of queued).cursors [] _ done.number done.stuck done.trace g.reported (λ n. refl) (omega arith) refl (λ b c. c) _ third
+
+        -- what is gray then tells whether anything was left to trace
+        tells_done : (trace : Option Trace) → g.moment.trace ≡ trace → TellsTheEnd s queued g gone trace
+        tells_done None runs = tt
+        tells_done (Some trace) runs =
+            let tells = marks_tell began finished raised m g.at gone trace can_finish.holds runs finish raise in
+            let same : (tables_of queued).grays ≡ (tables_of raised).grays = ap (λ t. t.grays) queue.tables in
+            let still : (tables_of queued).marks ≡ (tables_of raised).marks = ap (λ t. t.marks) queue.tables in
+            subst (λ x. AllGrayAreMarked (tables_of queued) ↔ NothingIsLeft (tables_of x) m g.at x.logged.items gone) begins
+            ((λ all. tells.0 (λ k h. sym (ap (λ f. f k) still) ∙ all k (ap (λ f. f k) same ∙ h))), (λ none k h. ap (λ f. f k) still ∙ tells.1 none k (sym (ap (λ f. f k) same) ∙ h)))
+
+        traces_done : (trace : Option Trace) → g.moment.trace ≡ trace → Traces kind.Plain trace s queued g (report_of raised.report) done.unreclaimed
+        traces_done trace runs = back trace
+            (traces_on began finished raised queued g gone can_finish.holds finish raise (ap (λ (x : Space). x.logged.items) finish.space) (ap (λ t. t.marks) queue.tables) (ap (λ t. t.grays) queue.tables)
+            (report_of raised.report) gone_are refl trace
+            (subst (λ o. FinishesGrays o (tables_of began).grays (tables_of finished).grays m g.at gone) runs finish.grays)
+            (subst (λ o. RaisesMarks o (tables_of finished).marks (tables_of raised).marks g.at raised.report.promoted.items) runs raise.marks)
+            (subst (λ o. RaisesGrays o (tables_of finished).grays (tables_of raised).grays finished.logged.items) runs raise.grays))
+          where
+            back : (trace : Option Trace) → Traces kind.Plain trace began queued g (report_of raised.report) done.unreclaimed → Traces kind.Plain trace s queued g (report_of raised.report) done.unreclaimed
+            back None is =
+                let a = subst (λ x. Traces kind.Plain None x queued g (report_of raised.report) done.unreclaimed) begins is in
+                record { marks = record { reclaimed = a.marks.reclaimed; others = a.marks.others }; grays = record { reclaimed = a.grays.reclaimed; others = a.grays.others } }
+            back (Some trace) is =
+                let a = subst (λ x. Traces kind.Plain (Some trace) x queued g (report_of raised.report) done.unreclaimed) begins is in
+                record { marks = a.marks; grays = a.grays }
+
         module _ (deferred : Space) (defers : deferred ≡ with_roots_deferred queued) where
           same_report : deferred.report ≡ raised.report
           same_report = ap (λ (x : Space). x.report) defers ∙ ap (λ (x : Space). x.report) queue.space
 
-          same_moment : settled left raised.report.promoted.items raised.report.stuck.items ≡ settled_by g.moment deferred.report
-          same_moment =
-              ap (λ ns. settled (leaving g.moment (without g.moment.unreclaimed ns)) raised.report.promoted.items raised.report.stuck.items) (sym gone_are)
-              ∙ ap (settled_by g.moment) (sym same_report)
-
           -- each step keeps lists and counters
-          kept : KeepsListsAndCounters (tables_of s) (tables_of deferred)
+          kept : KeepsListsAndCounters (tables_of s) (tables_of queued)
           kept =
-              keeps_both (tables_of s) (tables_of finished) (tables_of deferred)
+              keeps_both (tables_of s) (tables_of finished) (tables_of queued)
               (keeps_both (tables_of s) (tables_of began) (tables_of finished) (keeps_same (tables_of s) (tables_of began) (ap tables_of begins)) finish.keeps)
-              (keeps_both (tables_of finished) (tables_of raised) (tables_of deferred) raise.keeps
-              (keeps_both (tables_of raised) (tables_of queued) (tables_of deferred) queue.keeps (keeps_same (tables_of queued) (tables_of deferred) (ap tables_of defers))))
+              (keeps_both (tables_of finished) (tables_of raised) (tables_of queued) raise.keeps queue.keeps)
 
-          -- each step but the first leaves mark and gray bits
-          bits_lost : (bits : Tables → ℕ → Bool) → LosesBits (bits (tables_of began)) (bits (tables_of finished)) g.at gone → bits (tables_of raised) ≡ bits (tables_of finished)
-              → bits (tables_of queued) ≡ bits (tables_of raised) → LosesBits (bits (tables_of s)) (bits (tables_of deferred)) g.at deferred.report.dead.items
-          bits_lost bits lost raising queueing =
-              subst (λ ns. LosesBits (bits (tables_of s)) (bits (tables_of deferred)) g.at ns) (sym (ap (λ (r : Report). r.dead.items) same_report ∙ gone_are))
-              (subst (λ f. LosesBits f (bits (tables_of deferred)) g.at gone) (ap (λ x. bits (tables_of x)) begins)
-              (subst (λ f. LosesBits (bits (tables_of began)) f g.at gone) (sym (ap (λ x. bits (tables_of x)) defers ∙ queueing ∙ raising)) lost))
-
-          pub settles : Settles s deferred g
-          settles = record {
-            tells = subst (λ r. Tells r (s.pauses + 1) g.moment) (sym same_report) tells_raised;
-            holds = subst (λ x. HoldsMoment x (settled_by g.moment deferred.report) g.at) (sym defers) (subst (λ m. HoldsMoment (with_roots_deferred queued) m g.at) same_moment queue.holds);
-            undecremented = subst (λ t. IsUndecremented t (settled_by g.moment deferred.report) g.at) (sym (ap tables_of defers)) (subst (λ m. IsUndecremented (tables_of queued) m g.at) same_moment queue.undecremented);
-            none_out = λ line. ap (λ x. (tables_of x).outs line) defers ∙ queue.none_out line;
+          -- what was settled, with the report as it was after the increments
+          settled_there : SettlesCounts s (record (with_roots_deferred queued) { report = raised.report }) g gone
+          settled_there = record {
+            tells = tells_raised;
+            holds = subst (λ r. HoldsMoment (record (with_roots_deferred queued) { report = r }) done g.at) (ap (λ (x : Space). x.report) queue.space) holds_done;
+            undecremented = undecremented_done;
+            traced = traced_done g.moment.trace refl can.objects can.safepoint.traced;
+            tells_the_end = end_told g.moment.trace (tells_done g.moment.trace refl);
+            few_dead = subst (λ l. length raised.report.dead.items ≤ GRANULES_IN_BLOCK * l.blocks) (sym (ap (λ (x : Space). x.limits) queue.space)) few_gone;
+            no_logs = ap (λ (x : Space). x.logged.items) queue.space;
+            none_out = queue.none_out;
             no_rest =
-                (ap (λ (x : Space). x.rest_next) defers ∙ ap (λ (x : Space). x.rest_next) queue.space ∙ ap (λ (x : Space). x.rest_next) raise.space)
-                ∙ sym (ap (λ (x : Space). x.rest_end) defers ∙ ap (λ (x : Space). x.rest_end) queue.space ∙ ap (λ (x : Space). x.rest_end) raise.space);
+                (ap (λ (x : Space). x.rest_next) queue.space ∙ ap (λ (x : Space). x.rest_next) raise.space)
+                ∙ sym (ap (λ (x : Space). x.rest_end) queue.space ∙ ap (λ (x : Space). x.rest_end) raise.space);
             keeps = kept;
-            states =
-                ap (λ x. (tables_of x).states) defers
-                ∙ ap (λ t. t.states) queue.tables
-                ∙ raise.states
-                ∙ finish.states
-                ∙ ap (λ x. (tables_of x).states) begins;
-            marks = bits_lost (λ t. t.marks) finish.marks raise.marks (ap (λ t. t.marks) queue.tables);
-            grays = bits_lost (λ t. t.grays) finish.grays raise.grays (ap (λ t. t.grays) queue.tables);
+            states = ap (λ t. t.states) queue.tables ∙ raise.states ∙ finish.states ∙ ap (λ x. (tables_of x).states) begins;
+            traces = traces_there g.moment.trace (traces_done g.moment.trace refl);
             space =
-                ap (λ x. settled_as x deferred) defers
-                ∙ ap (λ x. settled_as x deferred) queue.space
-                ∙ ap (λ x. settled_as x deferred) raise.space
-                ∙ ap (λ x. settled_as x deferred) finish.space
-                ∙ ap (λ x. settled_as x deferred) begins;
+                ap (λ x. settled_as x there) queue.space
+                ∙ ap (λ x. settled_as x there) raise.space
+                ∙ ap (λ x. settled_as x there) finish.space
+                ∙ ap (λ x. settled_as x there) begins;
           }
+            where
+              there : Space
+              there = record (with_roots_deferred queued) { report = raised.report }
+
+              end_told : (trace : Option Trace) → TellsTheEnd s queued g gone trace → TellsTheEnd s there g gone trace
+              end_told None is = tt
+              end_told (Some trace) is = is
+
+              traces_there : (trace : Option Trace) → Traces kind.Plain trace s queued g (report_of raised.report) done.unreclaimed → Traces kind.Plain trace s there g (report_of raised.report) done.unreclaimed
+              traces_there None a = record { marks = record { reclaimed = a.marks.reclaimed; others = a.marks.others }; grays = record { reclaimed = a.grays.reclaimed; others = a.grays.others } }
+              traces_there (Some trace) a = record { marks = a.marks; grays = a.grays }
+
+          pub settles : SettlesCounts s deferred g gone
+          settles = subst (λ x. SettlesCounts s x g gone) (sym (defers ∙ ap (λ r. record (with_roots_deferred queued) { report = r }) (ap (λ (x : Space). x.report) queue.space))) settled_there

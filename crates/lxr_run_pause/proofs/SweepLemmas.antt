@@ -1,33 +1,26 @@
--- A sweep of all blocks changes states alone, so the space goes on holding its moment; and each block then has the state of
--- its lines. The moment after the pause differs in its number and in the order of its stuck names.
-use Rattle.std.proofs.Common.{◌≡◌, ◌≢◌, ℕ, ◌*◌, ◌/◌, ◌<◌, ◌≤◌, refl, sym, ap, subst, ◌∙◌, inl, inr, ◌⊎◌, arith, Bool, true, false, cond, List, [], IsTrue}
+-- A sweep of all blocks changes states alone: Chosen blocks stay so, no other becomes Chosen, and each block then has the state of its lines.
+use Rattle.std.proofs.Common.{◌≡◌, ◌≢◌, ℕ, ◌*◌, ◌/◌, ◌<◌, ◌≤◌, refl, sym, ap, subst, ◌∙◌, inl, inr, ◌⊎◌, arith, Bool, true, false, cond, List, IsTrue}
 use Rattle.std.specs.Prelude.{Option, ◌==◌}
+use Rattle.std.proofs.lemmas.Bool.Decides.{leb_tells}
 use Rattle.lxr_layout.specs.declared.Name.{Name}
 use Rattle.lxr_layout.specs.declared.TheConstants.{LINES_IN_BLOCK, STUCK}
 use Rattle.lxr_graph.specs.Names.{has}
 use Rattle.lxr_graph.specs.State.{Graph}
-use Rattle.lxr_image.specs.declared.space.Space.{Space}
 use Rattle.lxr_image.specs.Tables.{Tables}
-use Rattle.lxr_image.specs.Spaces.{IsSpace, tables_of}
 use Rattle.lxr_image.specs.Reads.{granule_of}
-use Rattle.lxr_image.specs.Image.{IsImage, granules_of}
+use Rattle.lxr_image.specs.Image.{granules_of}
 use Rattle.lxr_blocks.specs.declared.states.BlockState.{BlockState}
 use Rattle.lxr_blocks.specs.declared.states.BlockState.TheVariants.{Free, Partly, Whole, Chosen, World}
 use Rattle.lxr_blocks.specs.Lines.{free_count, free_in}
 use Rattle.lxr_blocks.specs.Kept.{KeepsLines}
-use Rattle.lxr_blocks.specs.States.{is_fixed, state_by_lines, state_in}
+use Rattle.lxr_blocks.specs.States.{is_fixed, state_by_lines, state_in, state_of}
 use Rattle.lxr_blocks.proofs.KeptLemmas.{kept_line_is_taken}
-use Rattle.lxr_model.specs.Moments.{Moment, Trace}
-use Rattle.lxr_model_counting.specs.Following.{FollowsPause}
-use Rattle.lxr_model_counting.proofs.DeathLemmas.{dead_by_names}
-use Rattle.lxr_sweep.specs.Swept.{AreSwept, with_states_by_lines}
-use Rattle.lxr_sweep.proofs.SweptLemmas.{swept_is_by_lines}
-use Rattle.lxr_invariant.specs.AbstractState.{members}
-use Rattle.lxr_invariant.specs.Standing.{HasBits, IsUnwritten}
-use Rattle.lxr_invariant.specs.Counting.{HasCounts, HasDecrements, IsUndecremented, count_at}
+use Rattle.lxr_model.specs.Moments.{Trace}
+use Rattle.lxr_sweep_lines.specs.Swept.{AreSwept, with_states_by_lines}
+use Rattle.lxr_sweep_lines.proofs.SweptLemmas.{swept_is_by_lines}
+use Rattle.lxr_invariant.specs.Counting.{count_at}
 use Rattle.lxr_invariant.specs.Lines.{HasBlocks, HasMarks, HasStates, KeepLines, chosen_count, is_chosen}
-use Rattle.lxr_invariant.specs.Quiescent.{HoldsMoment}
-use Rattle.lxr_invariant.proofs.FrameLemmas.{chosen_same, image_still, marks_still, need_same}
+use Rattle.lxr_invariant.proofs.FrameLemmas.{chosen_same, need_same}
 
 -- ---- states
 
@@ -86,8 +79,21 @@ module _ (t : Tables) (blocks : ℕ) where
     ]
   ]
 
-  as_many_chosen : chosen_count swept blocks ≡ chosen_count t blocks
+  pub as_many_chosen : chosen_count swept blocks ≡ chosen_count t blocks
   as_many_chosen = chosen_same t swept blocks same_chosen
+
+  -- what is Chosen then was so before
+  pub was_chosen : (b : ℕ) → state_in swept b ≡ Chosen → state_in t b ≡ Chosen
+  was_chosen b is = elim (which_state (state_in t b)) [
+    | inl c ↦ c
+    | inr q ↦ elim q [
+      | inl w ↦ let k = are_swept.world b w in cc
+      | inr other ↦ elim (leb_tells blocks b) [
+        | inl past ↦ sym (ap state_of (are_swept.past b past.1)) ∙ is
+        | inr within ↦ absurd ((open_then b within.1 other).0 is)
+      ]
+    ]
+  ]
 
   pub swept_blocks : (trace : Option Trace) → HasBlocks t blocks trace → HasBlocks swept blocks trace
   swept_blocks trace h = record {
@@ -106,76 +112,6 @@ module _ (t : Tables) (blocks : ℕ) where
       | inr other ↦ are_swept.by_lines b within other.0 other.1
     ]
   ]
-
--- ---- the moment, with another number and its stuck names in another order
-
-nobody : {P : Type 0} (ns : List Name) (n : Name) → ns ≡ [] → IsTrue (has ns n) → P
-nobody ns n e h = let k : IsTrue (has [] n) = subst (λ xs. IsTrue (has xs n)) e h in absurd (cc)
-
-module _ (s : Space) (words : List ℕ) (m : Moment) (number : ℕ) (stuck : List Name) (at : Name → ℕ) where
-  abbrev pub swept_space : Space
-  swept_space = record s { words = words }
-
-  abbrev pub renumbered : Moment
-  renumbered = record m { number = number; stuck = stuck }
-
-  module _ (tables : tables_of swept_space ≡ with_states_by_lines (tables_of s) s.limits.blocks) (space : IsSpace swept_space)
-      (same : (n : Name) → has stuck n ≡ has m.stuck n) (follows : FollowsPause renumbered) (none_made : m.made ≡ []) (no_rest : s.rest_next ≡ s.rest_end)
-      (h : HoldsMoment s m at) where
-    unwritten_there : (us : List Name) (w : ℕ) → IsUnwritten m at us w → IsUnwritten renumbered at us w
-    unwritten_there us w u = (u.0, u.1, record { member = u.2.member; index = u.2.index; unwritten = u.2.unwritten; word = u.2.word })
-
-    unwritten_back : (us : List Name) (w : ℕ) → IsUnwritten renumbered at us w → IsUnwritten m at us w
-    unwritten_back us w u = (u.0, u.1, record { member = u.2.member; index = u.2.index; unwritten = u.2.unwritten; word = u.2.word })
-
-    bits_then : HasBits (swept (tables_of s) s.limits.blocks) renumbered at m.unreclaimed
-    bits_then = record {
-      starts = record { each = h.bits.starts.each; only = h.bits.starts.only };
-      marks = h.bits.marks;
-      grays = h.bits.grays;
-      dones = h.bits.dones;
-      unlogged = λ w. ((λ b. unwritten_there m.unreclaimed w ((h.bits.unlogged w).0 b)), (λ u. (h.bits.unlogged w).1 (unwritten_back m.unreclaimed w u)));
-    }
-
-    counts_then : HasCounts (swept (tables_of s) s.limits.blocks) renumbered at
-    counts_then = record {
-      stuck = λ n k q. h.counts.stuck n k (sym (same n) ∙ q);
-      below = λ n k q. h.counts.below n k (sym (same n) ∙ q);
-      exact = λ n k q. h.counts.exact n k (sym (same n) ∙ q);
-      done = h.counts.done;
-      dead = λ n k d. dead_by_names m.last m.unreclaimed m.stuck stuck same (h.counts.dead n k d);
-    }
-
-    decrements_then : HasDecrements s.limits (swept (tables_of s) s.limits.blocks) renumbered at
-    decrements_then = record { fits = h.decrements.fits; places = h.decrements.places }
-
-    pub swept_holds : HoldsMoment swept_space renumbered at
-    swept_holds = record {
-      space = space;
-      room = record { registers = h.room.registers; deferred = h.room.deferred; logged = h.room.logged; work = h.room.work; report = h.room.report };
-      as_many = h.as_many;
-      follows = follows;
-      image = record {
-        image = subst (λ t. IsImage t s.limits.blocks at m.state.graph (members m)) (sym tables) (image_still (tables_of s) (swept (tables_of s) s.limits.blocks) s.limits.blocks at m.state.graph (members m) (members m) refl (λ n k. k) h.image.image);
-        registers = h.image.registers;
-        deferred = h.image.deferred;
-        world = h.image.world;
-      };
-      bits = subst (λ t. HasBits t renumbered at m.unreclaimed) (sym tables) bits_then;
-      logs = h.logs;
-      few_logs = h.few_logs;
-      counts = subst (λ t. HasCounts t renumbered at) (sym tables) counts_then;
-      decrements = subst (λ t. HasDecrements s.limits t renumbered at) (sym tables) decrements_then;
-      marks = subst (λ t. HasMarks t m.state.graph at m.unreclaimed) (sym tables) (marks_still (tables_of s) (swept (tables_of s) s.limits.blocks) m.state.graph at m.unreclaimed refl h.marks);
-      lines = λ n o k made. nobody m.made n none_made made;
-      unchosen = λ n made. nobody m.made n none_made made;
-      blocks = subst (λ t. HasBlocks t s.limits.blocks m.trace) (sym tables) (swept_blocks (tables_of s) s.limits.blocks m.trace h.blocks);
-      rest = record { rest = inl no_rest; apart = h.rest.apart };
-      no_work = h.no_work;
-    }
-
-    pub swept_undecremented : IsUndecremented (tables_of s) m at → IsUndecremented (tables_of swept_space) renumbered at
-    swept_undecremented u = subst (λ t. IsUndecremented t renumbered at) (sym tables) (record { none_done = u.none_done; none_drawn = u.none_drawn; positive = u.positive })
 
 -- ---- lines
 

@@ -1,4 +1,6 @@
 pub mod Steps
-pub mod Settling
+pub mod Deciding
 pub mod Pausing
+pub mod Settling
+pub mod Tracing
 pub mod Opened

@@ -1,5 +1,5 @@
 -- What the small steps of a pause do: how its report begins, how its names are put in order, and how it is counted.
-use Rattle.std.specs.Prelude.{ℕ, ◌+◌, []}
+use Rattle.std.specs.Prelude.{◌≡◌, ℕ, ◌+◌, ⊤, Bool, true, false, []}
 use Rattle.lxr_layout.specs.declared.Name.{Name}
 use Rattle.lxr_base.specs.Roomy.{Roomy, emptied}
 use Rattle.lxr_graph.specs.declared.report.Kind.TheVariants.{Plain}
@@ -7,6 +7,8 @@ use Rattle.lxr_graph.specs.declared.report.Report.{Report}
 use Rattle.lxr_graph.specs.Names.{union}
 use Rattle.lxr_image.specs.declared.space.Space.{Space}
 use Rattle.lxr_graph.specs.Distinct.{IsDistinct}
+use Rattle.lxr_model.specs.Moments.{Moment}
+use Rattle.lxr_pause_count.specs.Counting.{CanCount, CountsUnreclaimed}
 
 -- a report of a plain pause of this number, in which nothing is reported yet
 abbrev pub begun : Report → ℕ → Report
@@ -47,3 +49,13 @@ with_names_in_order r = record r {
 -- the space once its pause is counted
 abbrev pub with_pause_counted : Space → Space
 with_pause_counted s = record s { pauses = s.pauses + 1; tally = record s.tally { pauses = s.tally.pauses + 1 } }
+
+-- where a pause drained, unreclaimed objects may be counted; else nothing is asked
+abbrev pub CanCountWhere : Bool → Space → Moment → (Name → ℕ) → Type 0
+CanCountWhere false s m at = ⊤
+CanCountWhere true s m at = CanCount s m at
+
+-- they are counted there, and else nothing has changed
+abbrev pub CountsWhere : Bool → Space → Space → Moment → Type 0
+CountsWhere false before after m = after ≡ before
+CountsWhere true before after m = CountsUnreclaimed before after m

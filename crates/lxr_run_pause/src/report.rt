@@ -1,12 +1,16 @@
 //! How a pause's report begins, and its names in order.
-ghost use Rattle.std.specs.Prelude.{◌≡◌, ◌+◌, ◌^◌, ◌<◌};
+ghost use Rattle.std.specs.Prelude.{◌≡◌, ℕ, ◌+◌, ◌^◌, ◌<◌};
 ghost use Rattle.lxr_graph.specs.Distinct.{IsDistinct};
-ghost use Rattle.lxr_run_pause.specs.Steps.{HasDistinctNames, in_order, with_names_in_order, with_report_begun};
+ghost use Rattle.lxr_layout.specs.declared.Name.{Name};
+ghost use Rattle.lxr_model.specs.Moments.{Moment};
+ghost use Rattle.lxr_model.specs.Reports.{is_draining};
+ghost use Rattle.lxr_run_pause.specs.Steps.{CanCountWhere, CountsWhere, HasDistinctNames, in_order, with_names_in_order, with_report_begun};
 
 use lxr_graph::{Kind, Names, Report, sort_names};
 use lxr_image::Space;
+use lxr_pause_count::count_unreclaimed;
 
-/// Begins the report of the next pause, a plain one: its number, and nothing reported yet.
+/// Begins the report of the next pause: its number, and nothing reported yet. It is plain until its kind is decided.
 pub(crate) fn begin_report(space: &mut Space)
     requires { space.old.pauses + 1 < 2 ^ 32 }
     ensures { space.new ≡ with_report_begun space.old }
@@ -37,4 +41,15 @@ pub(crate) fn sort_report(report: &mut Report)
     put_in_order(&mut report.dead);
     put_in_order(&mut report.stuck);
     put_in_order(&mut report.swept);
+}
+
+/// Reports the count of each unreclaimed object, unless the pause is plain.
+pub(crate) fn count_where_drained(space: &mut Space, kind: Kind)
+    requires { (m : Moment) × (at : Name → ℕ) × CanCountWhere (is_draining kind) space.old m at }
+    ensures { (m : Moment) (at : Name → ℕ) → CanCountWhere (is_draining kind) space.old m at → CountsWhere (is_draining kind) space.old space.new m }
+{
+    match kind {
+        Kind::Plain => {}
+        Kind::Begin | Kind::End(_) | Kind::Collect => count_unreclaimed(space),
+    }
 }

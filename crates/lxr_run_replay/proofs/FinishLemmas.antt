@@ -18,7 +18,7 @@ use Rattle.lxr_core.specs.Closing.{AreFinished, AreResting}
 use Rattle.lxr_core.proofs.OrderLemmas.{mutator_at}
 use Rattle.lxr_run_replay.specs.Replaying.{CanBeReplayed, IsFirstBusy}
 use Rattle.lxr_run_replay.specs.Finishing.{IsFinishing, RestBefore, StepsOfFirst}
-use Rattle.lxr_run_replay.proofs.PickLemmas.{helper_leaves}
+use Rattle.lxr_run_replay.proofs.PickLemmas.{helper_leaves, tracer_leaves}
 use Rattle.lxr_run_replay.proofs.ReplayLemmas.{can_go_on}
 
 -- ---- a step
@@ -56,6 +56,7 @@ busy_leaves core number (any.Mutator m) order finished at busy =
     let rests : rests_in m.phase ≡ true = ap rests_in (finished number m (mutator_at core.actors number m order at)) in
     absurd (cc)
 busy_leaves core number (any.Decrementer d) order finished at busy = helper_leaves core number d at
+busy_leaves core number (any.Tracer d) order finished at busy = tracer_leaves core number d at
 
 -- what can be replayed still can once units are finished
 pub can_finish : (core core' : Core AnyActor) → CanBeReplayed core → IsFinishing core core' → CanBeReplayed core'

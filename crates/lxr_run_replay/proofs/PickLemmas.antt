@@ -1,5 +1,5 @@
--- What the step of a picked actor does: a mutator has less work before it then, and a decrementer is picked only where the
--- generator hasn't come to 0, since the first actor that has a next action is a mutator.
+-- What the step of a picked actor does: a mutator has less work before it then, and a helper is picked only where the
+-- generator hasn't come to 0, since the first actor that may be drawn is a mutator.
 use Rattle.std.proofs.Common.{◌≡◌, ℕ, zero, suc, ◌+◌, ◌*◌, ◌%◌, ◌<◌, ◌≤◌, ◌^◌, Bool, true, false, IsTrue, ◌↔◌, List, [], ◌∷◌, ◌++◌, map, length, arith, refl, sym, subst, ap, ◌∙◌}
 use Rattle.std.specs.Prelude.{Option, Some, None, is_some, nat_eq, ◌||◌, if◌then◌else◌, slice_get, slice_index, slice_set}
 use Rattle.std.proofs.Math.ListN.{length-set}
@@ -16,12 +16,13 @@ use Rattle.lxr_mutator.specs.Mutating.{Mutating}
 use Rattle.lxr_mutator.specs.Mutators.{IsMutator}
 use Rattle.lxr_mutator.specs.Steps.{action}
 use Rattle.lxr_decrement.specs.Decrementing.{DecrementerState}
+use Rattle.lxr_trace.specs.Tracing.{TracerState}
 use Rattle.lxr_core.specs.declared.actors.AnyActor.{AnyActor}
 use Rattle.lxr_core.specs.declared.actors.AnyActor.TheVariants as any
-use Rattle.lxr_core.specs.Actors.{AreInOrder, any_machine, decrementers_in, in_order, mutators_in}
+use Rattle.lxr_core.specs.Actors.{AreInOrder, any_machine, decrementers_in, in_order, mutators_in, tracers_in}
 use Rattle.lxr_core.specs.Closing.{AreFinished}
-use Rattle.lxr_core.proofs.OrderLemmas.{mutator_at, mutator_from, mutators_put, mutators_stay}
-use Rattle.lxr_run_replay.specs.Replaying.{IsPicked, acts, some_act, unfinished, unfinished_from}
+use Rattle.lxr_core.proofs.OrderLemmas.{mutator_at, mutator_from, mutators_before, mutators_put, mutators_stay}
+use Rattle.lxr_run_replay.specs.Replaying.{IsPicked, acts, may_be_drawn, some_act, unfinished, unfinished_from}
 use Rattle.lxr_run_replay.proofs.WorkLemmas.{finished_phase, step_works, work}
 use Rattle.lxr_run_replay.proofs.NumberLemmas.{stands, with_first}
 
@@ -61,10 +62,14 @@ acted_mutator : (words : List ℕ) (m : Mutating) (o : Option Action) → IsMuta
 acted_mutator words m None is some h = absurd (cc)
 acted_mutator words m (Some act) is some h = record { after = _; is = refl; less = step_works m (slice_index words act.word) is some }
 
--- what it makes of a helper is one
+-- what it makes of a decrementer is one, and of a tracer
 acted_helper : (words : List ℕ) (d : DecrementerState) (o : Option Action) → (e : DecrementerState) × ((acted any_machine words (any.Decrementer d) o).1 ≡ any.Decrementer e)
 acted_helper words d None = (d, refl)
 acted_helper words d (Some act) = (_, refl)
+
+acted_tracer : (words : List ℕ) (d : TracerState) (o : Option Action) → (e : TracerState) × ((acted any_machine words (any.Tracer d) o).1 ≡ any.Tracer e)
+acted_tracer words d None = (d, refl)
+acted_tracer words d (Some act) = (_, refl)
 
 -- what any step makes of a mutator is one
 acted_still : (words : List ℕ) (m : Mutating) (o : Option Action) → (n : Mutating) × ((acted any_machine words (any.Mutator m) o).1 ≡ any.Mutator n)
@@ -83,13 +88,20 @@ mutator_works core number m order at does is =
     ∙ (ap (λ (a : AnyActor). mutators_in (slice_set core.actors number a)) now.is ∙ put) in
     subst (λ (ms : List Mutating). work_of ms < work_of (mutators_in core.actors)) (sym to) less
 
--- a step of a helper leaves the mutators
+-- a step of a decrementer leaves the mutators, and so does one of a tracer
 pub helper_leaves : (core : Core AnyActor) (number : ℕ) (d : DecrementerState) → slice_get core.actors number ≡ Some (any.Decrementer d)
     → mutators_in (event any_machine core (Step number)).actors ≡ mutators_in core.actors
 helper_leaves core number d at =
     let (e, is) = acted_helper core.words d (any_machine.action (any.Decrementer d)) in
     ap (λ (c : Core AnyActor). mutators_in c.actors) (event-is any_machine core (Step number) (any.Decrementer d) at)
     ∙ (ap (λ (a : AnyActor). mutators_in (slice_set core.actors number a)) is ∙ mutators_stay core.actors number d e at)
+
+pub tracer_leaves : (core : Core AnyActor) (number : ℕ) (d : TracerState) → slice_get core.actors number ≡ Some (any.Tracer d)
+    → mutators_in (event any_machine core (Step number)).actors ≡ mutators_in core.actors
+tracer_leaves core number d at =
+    let (e, is) = acted_tracer core.words d (any_machine.action (any.Tracer d)) in
+    ap (λ (c : Core AnyActor). mutators_in c.actors) (event-is any_machine core (Step number) (any.Tracer d) at)
+    ∙ (ap (λ (a : AnyActor). mutators_in (slice_set core.actors number a)) is ∙ mutators_before core.actors number d e at)
 
 -- there are as many mutators after a step
 pub as_many_mutators : (core : Core AnyActor) (number : ℕ) (a : AnyActor) → AreInOrder core.actors → slice_get core.actors number ≡ Some a
@@ -100,6 +112,7 @@ as_many_mutators core number (any.Mutator m) order at =
     ∙ (ap (λ (a : AnyActor). length (mutators_in (slice_set core.actors number a))) is
     ∙ (ap length (mutators_put core.actors number m n order at) ∙ length-set (mutators_in core.actors) number n))
 as_many_mutators core number (any.Decrementer d) order at = ap length (helper_leaves core number d at)
+as_many_mutators core number (any.Tracer d) order at = ap length (tracer_leaves core number d at)
 
 -- ---- who is picked
 
@@ -109,64 +122,71 @@ pub record IsOfActor (actors : List AnyActor) (number : ℕ) : Type 0 where
   pub at : slice_get actors number ≡ Some actor
   pub acting : acts actor ≡ true
 
-pub picked_actor : (x : ℕ) (actors : List AnyActor) (number : ℕ) → IsPicked x actors number → IsOfActor actors number
-picked_actor x actors number picked =
-    let s = stands 0 actors _ number picked in
-    let e : number ≡ s.index = let h = s.number_is in omega arith in
-    record { actor = s.actor; at = ap (slice_get actors) e ∙ s.at; acting = s.acting }
+-- what may be drawn has a next action
+drawn_acts : (tracing : Bool) (a : AnyActor) → may_be_drawn tracing a ≡ true → acts a ≡ true
+drawn_acts tracing (any.Mutator m) drawn = drawn
+drawn_acts tracing (any.Decrementer d) drawn = drawn
+drawn_acts true (any.Tracer d) drawn = drawn
+drawn_acts false (any.Tracer d) drawn = absurd (cc)
 
--- the first of these actors that has a next action is a mutator, where some of the mutators has one
-pub record StandsFirst (n : ℕ) (mutators : List Mutating) (actors : List AnyActor) : Type 0 where
+pub picked_actor : (tracing : Bool) (x : ℕ) (actors : List AnyActor) (number : ℕ) → IsPicked tracing x actors number → IsOfActor actors number
+picked_actor tracing x actors number picked =
+    let s = stands tracing 0 actors _ number picked in
+    let e : number ≡ s.index = let h = s.number_is in omega arith in
+    record { actor = s.actor; at = ap (slice_get actors) e ∙ s.at; acting = drawn_acts tracing s.actor s.acting }
+
+-- the first of these actors that may be drawn is a mutator, where some of the mutators has a next action
+pub record StandsFirst (tracing : Bool) (n : ℕ) (mutators : List Mutating) (actors : List AnyActor) : Type 0 where
   pub index : ℕ
   pub mutator : Mutating
   pub at : slice_get mutators index ≡ Some mutator
   pub among : slice_get actors index ≡ Some (any.Mutator mutator)
-  pub first : slice_get (unfinished_from n actors) 0 ≡ Some (n + index)
+  pub first : slice_get (unfinished_from tracing n actors) 0 ≡ Some (n + index)
 
-first_by : (b : Bool) (n : ℕ) (m : Mutating) (mutators : List Mutating) (decrementers : List DecrementerState) → acts (any.Mutator m) ≡ b → (b || some_act mutators) ≡ true
-    → (some_act mutators ≡ true → StandsFirst (n + 1) mutators (in_order mutators decrementers)) → StandsFirst n (m ∷ mutators) (in_order (m ∷ mutators) decrementers)
-first_by true n m mutators decrementers does some rest = record {
+first_by : (tracing b : Bool) (n : ℕ) (m : Mutating) (mutators : List Mutating) (decrementers : List DecrementerState) (tracers : List TracerState) → acts (any.Mutator m) ≡ b → (b || some_act mutators) ≡ true
+    → (some_act mutators ≡ true → StandsFirst tracing (n + 1) mutators (in_order mutators decrementers tracers)) → StandsFirst tracing n (m ∷ mutators) (in_order (m ∷ mutators) decrementers tracers)
+first_by tracing true n m mutators decrementers tracers does some rest = record {
   index = 0;
   mutator = m;
   at = refl;
   among = refl;
-  first = ap (λ b. slice_get (with_first n (unfinished_from (n + 1) (in_order mutators decrementers)) b) 0) does ∙ (let here : n ≡ n + 0 = omega arith in ap (λ (k : ℕ). Some k) here);
+  first = ap (λ b. slice_get (with_first n (unfinished_from tracing (n + 1) (in_order mutators decrementers tracers)) b) 0) does ∙ (let here : n ≡ n + 0 = omega arith in ap (λ (k : ℕ). Some k) here);
 }
-first_by false n m mutators decrementers does some rest =
+first_by tracing false n m mutators decrementers tracers does some rest =
     let s = rest some in record {
       index = suc s.index;
       mutator = s.mutator;
       at = s.at;
       among = s.among;
-      first = ap (λ b. slice_get (with_first n (unfinished_from (n + 1) (in_order mutators decrementers)) b) 0) does
+      first = ap (λ b. slice_get (with_first n (unfinished_from tracing (n + 1) (in_order mutators decrementers tracers)) b) 0) does
           ∙ (s.first ∙ (let here : n + 1 + s.index ≡ n + suc s.index = omega arith in ap (λ (k : ℕ). Some k) here));
     }
 
-stands_first : (n : ℕ) (mutators : List Mutating) (decrementers : List DecrementerState) → some_act mutators ≡ true → StandsFirst n mutators (in_order mutators decrementers)
-stands_first n [] decrementers some = absurd (cc)
-stands_first n (m ∷ mutators) decrementers some = first_by (acts (any.Mutator m)) n m mutators decrementers refl some (λ more. stands_first (n + 1) mutators decrementers more)
+stands_first : (tracing : Bool) (n : ℕ) (mutators : List Mutating) (decrementers : List DecrementerState) (tracers : List TracerState) → some_act mutators ≡ true → StandsFirst tracing n mutators (in_order mutators decrementers tracers)
+stands_first tracing n [] decrementers tracers some = absurd (cc)
+stands_first tracing n (m ∷ mutators) decrementers tracers some = first_by tracing (acts (any.Mutator m)) n m mutators decrementers tracers refl some (λ more. stands_first tracing (n + 1) mutators decrementers tracers more)
 
-pub first_is_mutator : (actors : List AnyActor) → AreInOrder actors → some_act (mutators_in actors) ≡ true → StandsFirst 0 (mutators_in actors) actors
-first_is_mutator actors order some =
-    subst (λ (z : List AnyActor). StandsFirst 0 (mutators_in actors) z) (sym order) (stands_first 0 (mutators_in actors) (decrementers_in actors) some)
+pub first_is_mutator : (tracing : Bool) (actors : List AnyActor) → AreInOrder actors → some_act (mutators_in actors) ≡ true → StandsFirst tracing 0 (mutators_in actors) actors
+first_is_mutator tracing actors order some =
+    subst (λ (z : List AnyActor). StandsFirst tracing 0 (mutators_in actors) z) (sym order) (stands_first tracing 0 (mutators_in actors) (decrementers_in actors) (tracers_in actors) some)
 
 -- 0 modulo any number is 0
 zero_mod : (n : ℕ) → 0 % n ≡ 0
 zero_mod n = omega arith
 
 -- where the generator comes to 0, a mutator is picked
-zero_picks : (x : ℕ) (actors : List AnyActor) (number : ℕ) (d : DecrementerState) → AreInOrder actors → some_act (mutators_in actors) ≡ true → IsPicked x actors number
-    → slice_get actors number ≡ Some (any.Decrementer d) → nat_eq x 0 ≡ true → ⊥
+zero_picks : (tracing : Bool) (x : ℕ) (actors : List AnyActor) (number : ℕ) (a : AnyActor) → AreInOrder actors → some_act (mutators_in actors) ≡ true → IsPicked tracing x actors number
+    → slice_get actors number ≡ Some a → nat_eq x 0 ≡ true → (m : Mutating) × (a ≡ any.Mutator m)
 unfolding draw
-zero_picks x actors number d order some picked at is_zero =
-    let s = first_is_mutator actors order some in
+zero_picks tracing x actors number a order some picked at is_zero =
+    let s = first_is_mutator tracing actors order some in
     let none : x ≡ 0 = grind (arith) in
-    let place : draw x % length (unfinished actors) ≡ 0 = ap (λ (k : ℕ). draw k % length (unfinished actors)) none ∙ zero_mod (length (unfinished actors)) in
-    let there : slice_get (unfinished actors) 0 ≡ Some number = ap (slice_get (unfinished actors)) (sym place) ∙ picked in
+    let place : draw x % length (unfinished tracing actors) ≡ 0 = ap (λ (k : ℕ). draw k % length (unfinished tracing actors)) none ∙ zero_mod (length (unfinished tracing actors)) in
+    let there : slice_get (unfinished tracing actors) 0 ≡ Some number = ap (slice_get (unfinished tracing actors)) (sym place) ∙ picked in
     let both : Some (0 + s.index) ≡ Some number = sym s.first ∙ there in
     let same : s.index ≡ number = let e : 0 + s.index ≡ number = cc in omega arith in
-    let two : Some (any.Mutator s.mutator) ≡ Some (any.Decrementer d) = sym s.among ∙ (ap (slice_get actors) same ∙ at) in
-    cc
+    let two : Some a ≡ Some (any.Mutator s.mutator) = sym at ∙ (ap (slice_get actors) (sym same) ∙ s.among) in
+    (s.mutator, cc)
 
 -- ---- a number that falls with each draw
 
@@ -181,34 +201,41 @@ less_second : (w w' u u' k : ℕ) → w' ≡ w → u' < u → w' * k + u' < w * 
 less_second w w' u u' k same less = let times : w' * k ≡ w * k = ap (λ (v : ℕ). v * k) same in omega arith
 
 -- it falls by whom is picked
-pub record IsTurn (x : ℕ) (core : Core AnyActor) (number : ℕ) : Type 0 where
+pub record IsTurn (tracing : Bool) (x : ℕ) (core : Core AnyActor) (number : ℕ) : Type 0 where
   pub order : AreInOrder core.actors
   pub some : some_act (mutators_in core.actors) ≡ true
-  pub picked : IsPicked (step x) core.actors number
+  pub picked : IsPicked tracing (step x) core.actors number
   pub sound : (i : ℕ) (m : Mutating) → slice_get (mutators_in core.actors) i ≡ Some m → IsMutator m
 
-falls_by : (x : ℕ) (core : Core AnyActor) (number : ℕ) (a : AnyActor) → IsTurn x core number → slice_get core.actors number ≡ Some a → acts a ≡ true
+-- a step of a helper, which leaves the mutators, is drawn by a generator that hasn't come to 0
+falls_beside : (tracing : Bool) (x : ℕ) (core : Core AnyActor) (number : ℕ) (a : AnyActor) → IsTurn tracing x core number → slice_get core.actors number ≡ Some a → ((m : Mutating) → a ≡ any.Mutator m → ⊥)
+    → mutators_in (event any_machine core (Step number)).actors ≡ mutators_in core.actors
     → draws_left (mutators_in (event any_machine core (Step number)).actors) (step x) < draws_left (mutators_in core.actors) x
-falls_by x core number (any.Mutator m) turn at does =
-    less_first (work_of (mutators_in core.actors)) (work_of (mutators_in (event any_machine core (Step number)).actors)) (steps_left x) (steps_left (step x)) 18446744073709551617
-    (mutator_works core number m turn.order at does (turn.sound number m (mutator_at core.actors number m turn.order at)))
-    (let few = steps_left_few (step x) in omega arith)
-falls_by x core number (any.Decrementer d) turn at does =
+falls_beside tracing x core number a turn at helper leaves =
     less_second (work_of (mutators_in core.actors)) (work_of (mutators_in (event any_machine core (Step number)).actors)) (steps_left x) (steps_left (step x)) 18446744073709551617
-    (ap work_of (helper_leaves core number d at))
+    (ap work_of leaves)
     (steps_left_falls x (isnt_zero (nat_eq (step x) 0) refl))
   where
     isnt_zero : (b : Bool) → nat_eq (step x) 0 ≡ b → nat_eq (step x) 0 ≡ false
-    isnt_zero true e = absurd (zero_picks (step x) core.actors number d turn.order turn.some turn.picked at e)
+    isnt_zero true e = let (m, is) = zero_picks tracing (step x) core.actors number a turn.order turn.some turn.picked at e in absurd (helper m is)
     isnt_zero false e = e
 
+falls_by : (tracing : Bool) (x : ℕ) (core : Core AnyActor) (number : ℕ) (a : AnyActor) → IsTurn tracing x core number → slice_get core.actors number ≡ Some a → acts a ≡ true
+    → draws_left (mutators_in (event any_machine core (Step number)).actors) (step x) < draws_left (mutators_in core.actors) x
+falls_by tracing x core number (any.Mutator m) turn at does =
+    less_first (work_of (mutators_in core.actors)) (work_of (mutators_in (event any_machine core (Step number)).actors)) (steps_left x) (steps_left (step x)) 18446744073709551617
+    (mutator_works core number m turn.order at does (turn.sound number m (mutator_at core.actors number m turn.order at)))
+    (let few = steps_left_few (step x) in omega arith)
+falls_by tracing x core number (any.Decrementer d) turn at does = falls_beside tracing x core number (any.Decrementer d) turn at (λ m e. cc) (helper_leaves core number d at)
+falls_by tracing x core number (any.Tracer d) turn at does = falls_beside tracing x core number (any.Tracer d) turn at (λ m e. cc) (tracer_leaves core number d at)
+
 -- so it does in words and actors that are those of the core after the step
-pub turn_nearer : (x x' : ℕ) (words : List ℕ) (actors : List AnyActor) (number : ℕ) (words' : List ℕ) (actors' : List AnyActor) → IsTurn x (core_of words actors) number
+pub turn_nearer : (tracing : Bool) (x x' : ℕ) (words : List ℕ) (actors : List AnyActor) (number : ℕ) (words' : List ℕ) (actors' : List AnyActor) → IsTurn tracing x (core_of words actors) number
     → x' ≡ step x → core_of words' actors' ≡ event any_machine (core_of words actors) (Step number)
     → draws_left (mutators_in actors') x' < draws_left (mutators_in actors) x
-turn_nearer x x' words actors number words' actors' turn x_is core_is =
-    let p = picked_actor (step x) actors number turn.picked in
-    let falls = falls_by x (core_of words actors) number p.actor turn p.at p.acting in
+turn_nearer tracing x x' words actors number words' actors' turn x_is core_is =
+    let p = picked_actor tracing (step x) actors number turn.picked in
+    let falls = falls_by tracing x (core_of words actors) number p.actor turn p.at p.acting in
     subst (λ (y : ℕ). draws_left (mutators_in actors') y < draws_left (mutators_in actors) x) (sym x_is)
     (subst (λ (c : Core AnyActor). draws_left (mutators_in c.actors) (step x) < draws_left (mutators_in actors) x) (sym core_is) falls)
 
@@ -249,36 +276,36 @@ acting_some (x ∷ mutators) (suc i) m at does = either (acts (any.Mutator x)) (
 abbrev pub BeginBelow : List ℕ → ℕ → Type 0
 BeginBelow numbers limit = (number : ℕ) × (slice_get numbers 0 ≡ Some number) × (number < limit)
 
--- some mutator has a next action exactly where the first number of those that have one is a mutator's
-pub begins_with_mutator : (actors : List AnyActor) (numbers : List ℕ) (limit : ℕ) → AreInOrder actors → numbers ≡ unfinished actors → limit ≡ length (mutators_in actors)
+-- some mutator has a next action exactly where the first number of those that may be drawn is a mutator's
+pub begins_with_mutator : (tracing : Bool) (actors : List AnyActor) (numbers : List ℕ) (limit : ℕ) → AreInOrder actors → numbers ≡ unfinished tracing actors → limit ≡ length (mutators_in actors)
     → BeginBelow numbers limit → some_act (mutators_in actors) ≡ true
-begins_with_mutator actors numbers limit order are is (number, at, below) =
-    let s = stands 0 actors 0 number (ap (λ ns. slice_get ns 0) (sym are) ∙ at) in
+begins_with_mutator tracing actors numbers limit order are is (number, at, below) =
+    let s = stands tracing 0 actors 0 number (ap (λ ns. slice_get ns 0) (sym are) ∙ at) in
     let e : number ≡ s.index = let h = s.number_is in omega arith in
     let low : number < length (mutators_in actors) = omega arith in
     let (m, there) = element (mutators_in actors) number low in
     let both : Some s.actor ≡ Some (any.Mutator m) = sym s.at ∙ (ap (slice_get actors) (sym e) ∙ mutator_from actors number m order there) in
     let same : s.actor ≡ any.Mutator m = cc in
-    acting_some (mutators_in actors) number m there (subst (λ (a : AnyActor). acts a ≡ true) same s.acting)
+    acting_some (mutators_in actors) number m there (subst (λ (a : AnyActor). acts a ≡ true) same (drawn_acts tracing s.actor s.acting))
   where
     element : (mutators : List Mutating) (i : ℕ) → i < length mutators → (m : Mutating) × (slice_get mutators i ≡ Some m)
     element [] i low = absurd (omega arith)
     element (x ∷ mutators) zero low = (x, refl)
     element (x ∷ mutators) (suc i) low = element mutators i (omega arith)
 
-pub mutator_begins : (actors : List AnyActor) (numbers : List ℕ) (limit : ℕ) → AreInOrder actors → numbers ≡ unfinished actors → limit ≡ length (mutators_in actors)
+pub mutator_begins : (tracing : Bool) (actors : List AnyActor) (numbers : List ℕ) (limit : ℕ) → AreInOrder actors → numbers ≡ unfinished tracing actors → limit ≡ length (mutators_in actors)
     → some_act (mutators_in actors) ≡ true → BeginBelow numbers limit
-mutator_begins actors numbers limit order are is some =
-    let s = first_is_mutator actors order some in
+mutator_begins tracing actors numbers limit order are is some =
+    let s = first_is_mutator tracing actors order some in
     let within = slice_get_within (mutators_in actors) s.index s.mutator s.at in
     (0 + s.index, ap (λ ns. slice_get ns 0) are ∙ s.first, omega arith)
 
 -- so a test tells it
-pub test_tells : (actors : List AnyActor) (numbers : List ℕ) (limit : ℕ) (b : Bool) → AreInOrder actors → numbers ≡ unfinished actors → limit ≡ length (mutators_in actors)
+pub test_tells : (tracing : Bool) (actors : List AnyActor) (numbers : List ℕ) (limit : ℕ) (b : Bool) → AreInOrder actors → numbers ≡ unfinished tracing actors → limit ≡ length (mutators_in actors)
     → (IsTrue b ↔ BeginBelow numbers limit) → some_act (mutators_in actors) ≡ b
-test_tells actors numbers limit true order are is means = begins_with_mutator actors numbers limit order are is (means.0 refl)
-test_tells actors numbers limit false order are is means = not_true (some_act (mutators_in actors)) refl
+test_tells tracing actors numbers limit true order are is means = begins_with_mutator tracing actors numbers limit order are is (means.0 refl)
+test_tells tracing actors numbers limit false order are is means = not_true (some_act (mutators_in actors)) refl
   where
     not_true : (b : Bool) → some_act (mutators_in actors) ≡ b → some_act (mutators_in actors) ≡ false
-    not_true true e = let none : false ≡ true = means.1 (mutator_begins actors numbers limit order are is e) in absurd (cc)
+    not_true true e = let none : false ≡ true = means.1 (mutator_begins tracing actors numbers limit order are is e) in absurd (cc)
     not_true false e = e

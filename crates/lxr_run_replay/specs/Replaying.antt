@@ -1,5 +1,5 @@
 -- What a replay of an epoch does: a generator of numbers picks who makes each step, and units in progress are finished then.
-use Rattle.std.specs.Prelude.{◌≡◌, ℕ, ◌+◌, ◌%◌, ◌<◌, Bool, true, false, ◌||◌, if◌then◌else◌, Some, is_some, List, [], ◌∷◌, ◌++◌, length, map, slice_get}
+use Rattle.std.specs.Prelude.{◌≡◌, ℕ, ◌+◌, ◌%◌, ◌<◌, Bool, true, false, ◌&&◌, ◌||◌, if◌then◌else◌, Some, is_some, List, [], ◌∷◌, ◌++◌, length, map, slice_get}
 use Rattle.lxr_base.specs.Draws.{draw, step}
 use Rattle.lxr_actor.specs.declared.Core.{Core}
 use Rattle.lxr_actor.specs.declared.Event.{Event}
@@ -21,24 +21,30 @@ use Rattle.lxr_core.specs.Closing.{AreFinished, AreResting, MayClose}
 abbrev pub acts : AnyActor → Bool
 acts a = is_some (any_machine.action a)
 
+-- draws may pick it: it has a next action; a tracer is drawn only while a trace runs
+abbrev pub may_be_drawn : Bool → AnyActor → Bool
+may_be_drawn tracing (any.Mutator m) = acts (any.Mutator m)
+may_be_drawn tracing (any.Decrementer d) = acts (any.Decrementer d)
+may_be_drawn tracing (any.Tracer d) = tracing && acts (any.Tracer d)
+
 -- some of these mutators has one
 abbrev pub some_act : List Mutating → Bool
 some_act [] = false
 some_act (m ∷ mutators) = acts (any.Mutator m) || some_act mutators
 
--- the numbers, from this one on, of those actors that have a next action
-abbrev pub unfinished_from : ℕ → List AnyActor → List ℕ
-unfinished_from number [] = []
-unfinished_from number (a ∷ actors) = if acts a then number ∷ unfinished_from (number + 1) actors else unfinished_from (number + 1) actors
+-- the numbers, from this one on, of those actors that may be drawn
+abbrev pub unfinished_from : Bool → ℕ → List AnyActor → List ℕ
+unfinished_from tracing number [] = []
+unfinished_from tracing number (a ∷ actors) = if may_be_drawn tracing a then number ∷ unfinished_from tracing (number + 1) actors else unfinished_from tracing (number + 1) actors
 
--- the numbers of the actors that have a next action, in order
-abbrev pub unfinished : List AnyActor → List ℕ
-unfinished actors = unfinished_from 0 actors
+-- the numbers of the actors that may be drawn, in order
+abbrev pub unfinished : Bool → List AnyActor → List ℕ
+unfinished tracing actors = unfinished_from tracing 0 actors
 
--- the generator, which has come to x, picks the actor of this number: among those that have a next action it stands at the
--- place, from 0, that is the draw modulo how many these are
-abbrev pub IsPicked : ℕ → List AnyActor → ℕ → Type 0
-IsPicked x actors number = slice_get (unfinished actors) (draw x % length (unfinished actors)) ≡ Some number
+-- the generator, which has come to x, picks the actor of this number: among those that may be drawn it stands at the place,
+-- from 0, that is the draw modulo how many these are
+abbrev pub IsPicked : Bool → ℕ → List AnyActor → ℕ → Type 0
+IsPicked tracing x actors number = slice_get (unfinished tracing actors) (draw x % length (unfinished tracing actors)) ≡ Some number
 
 -- the first actor that doesn't rest has this number
 pub record IsFirstBusy (actors : List AnyActor) (number : ℕ) : Type 0 where
@@ -49,12 +55,12 @@ pub record IsFirstBusy (actors : List AnyActor) (number : ℕ) : Type 0 where
 
 -- ---- a replay
 
--- The draws from a generator's x: while some mutator has a next action, x makes a step, and the actor that it picks then makes its
--- next one. These are the numbers of those that were picked, and x comes to x'.
-abbrev pub Draws : ℕ → Core AnyActor → List ℕ → ℕ → Type 0
-Draws x core [] x' = (some_act (mutators_in core.actors) ≡ false) × (x ≡ x')
-Draws x core (number ∷ numbers) x' =
-    (some_act (mutators_in core.actors) ≡ true) × IsPicked (step x) core.actors number × Draws (step x) (event any_machine core (Step number)) numbers x'
+-- The draws from a generator's x, with tracers among the actors or without them: while some mutator has a next action, x makes a
+-- step, and the actor that it picks then makes its next one. These are the numbers of those that were picked, and x comes to x'.
+abbrev pub Draws : Bool → ℕ → Core AnyActor → List ℕ → ℕ → Type 0
+Draws tracing x core [] x' = (some_act (mutators_in core.actors) ≡ false) × (x ≡ x')
+Draws tracing x core (number ∷ numbers) x' =
+    (some_act (mutators_in core.actors) ≡ true) × IsPicked tracing (step x) core.actors number × Draws tracing (step x) (event any_machine core (Step number)) numbers x'
 
 -- Units that are in progress are finished, in order: while some actor doesn't rest, the first of these makes its next step.
 abbrev pub Finishes : Core AnyActor → List ℕ → Type 0
@@ -62,11 +68,11 @@ Finishes core [] = AreResting core.actors
 Finishes core (number ∷ numbers) = IsFirstBusy core.actors number × Finishes (event any_machine core (Step number)) numbers
 
 -- The replay from a generator's x: its draws, by which x comes to x', and then the units that are in progress are finished.
-pub record Replays (x : ℕ) (core : Core AnyActor) (schedule : List ℕ) (x' : ℕ) : Type 0 where
+pub record Replays (tracing : Bool) (x : ℕ) (core : Core AnyActor) (schedule : List ℕ) (x' : ℕ) : Type 0 where
   pub drawn : List ℕ
   pub finishing : List ℕ
   pub steps : schedule ≡ drawn ++ finishing
-  pub draws : Draws x core drawn x'
+  pub draws : Draws tracing x core drawn x'
   pub finishes : Finishes (run any_machine core (map Step drawn)) finishing
 
 -- whatever the schedule, each next step fits, and the actors are mutators, and helpers behind them

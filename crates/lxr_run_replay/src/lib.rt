@@ -1,9 +1,9 @@
 //! The replay of an epoch on one thread, by the draws of a generator.
 //!
-//! While some actor has a next action, a draw picks one of those that have one, and it makes a single atomic step. So a
-//! number determines the schedule, and the same number gives the same run again. What is proved is that the replay ends
-//! with all actors finished, and that its words and actors are those of the fold over the schedule that the generator
-//! picks.
+//! While some mutator has a next action, a draw picks one of the actors that have one, and it makes a single atomic step;
+//! tracers are drawn only while a trace runs. Then helpers finish the units that they are in. So a number determines the
+//! schedule, and the same number gives the same run again. What is proved is that the replay ends with all mutators finished
+//! and all actors at rest, and that its words and actors are those of the fold over the schedule that the generator picks.
 #![tactic(auto)]
 
 mod gates;

@@ -1,13 +1,25 @@
-//! Which actors have a next action.
+//! Which actors may be drawn.
 ghost use Rattle.std.specs.Prelude.{◌≡◌, ℕ, ◌<◌, ◌≤◌, ◌↔◌, ◌++◌, IsTrue, Some, List, [], ◌∷◌, length, slice_get, take};
 ghost use Rattle.std.specs.List.{remove};
-ghost use Rattle.lxr_run_replay.specs.Replaying.{unfinished};
+ghost use Rattle.lxr_run_replay.specs.Replaying.{may_be_drawn, unfinished};
 
 use lxr_actor::Actor;
 use lxr_core::AnyActor;
 use std::marker::Model;
 
-/// The numbers of the actors that have a next action, in order. There are at most 32.
+/// Whether draws may pick an actor: it has a next action. A tracer is drawn only while a trace runs.
+#[inline(always)]
+pub fn may_be_drawn(actor: &AnyActor, tracing: bool) -> bool
+    ensures { result ≡ may_be_drawn tracing actor.now }
+{
+    match actor {
+        AnyActor::Mutator(mutator) => mutator.next().is_some(),
+        AnyActor::Decrementer(decrementer) => decrementer.next().is_some(),
+        AnyActor::Tracer(tracer) => tracing && tracer.next().is_some(),
+    }
+}
+
+/// The numbers of the actors that may be drawn, in order. There are at most 32.
 #[derive(Drop)]
 pub struct Unfinished {
     numbers: [u8; 32],
@@ -23,14 +35,14 @@ impl Model for Unfinished {
 }
 
 impl Unfinished {
-    /// Those among these actors.
-    pub fn of(actors: &[AnyActor]) -> Unfinished
+    /// Those among these actors, while a trace runs or none does.
+    pub fn of(actors: &[AnyActor], tracing: bool) -> Unfinished
         requires { length actors.now ≤ 32 }
-        ensures { result ≡ unfinished actors.now }
+        ensures { result ≡ unfinished tracing actors.now }
     {
         let mut unfinished = Unfinished::none();
         for number in 0..actors.len() {
-            if actors[number].next().is_some() {
+            if may_be_drawn(&actors[number], tracing) {
                 unfinished.push(number as u8);
             }
         }
@@ -80,7 +92,7 @@ impl Unfinished {
         self.numbers[place]
     }
 
-    /// Takes out the number at this place: its actor has no next action any more.
+    /// Takes out the number at this place: its actor may be drawn no more.
     pub fn remove(&mut self, place: usize)
         requires { place < length self.old }
         ensures { self.new ≡ remove self.old place }

@@ -1,16 +1,16 @@
 //! The loops of a replay.
-ghost use Rattle.std.specs.Prelude.{◌≡◌, ℕ, ◌+◌, ◌<◌, ◌≤◌, [], ◌∷◌, List, length, map};
+ghost use Rattle.std.specs.Prelude.{◌≡◌, ℕ, ◌+◌, ◌<◌, ◌≤◌, [], ◌∷◌, List, is_some, length, map};
 ghost use Rattle.lxr_base.specs.Draws.{step as stepped_on};
 ghost use Rattle.lxr_actor.specs.declared.Event.TheVariants.{Step};
 ghost use Rattle.lxr_actor.specs.Machine.{Fits};
 ghost use Rattle.lxr_actor.specs.Run.{FitsAt, core_of, event, run, stepped};
 ghost use Rattle.lxr_core.specs.Actors.{any_machine, mutators_in};
 ghost use Rattle.lxr_core.specs.Closing.{AreFinished, AreResting};
-ghost use Rattle.lxr_run_replay.specs.Replaying.{CanBeReplayed, Draws, IsPicked, Replays, acts, unfinished};
+ghost use Rattle.lxr_run_replay.specs.Replaying.{CanBeReplayed, Draws, IsPicked, Replays, may_be_drawn, unfinished};
 ghost use Rattle.lxr_run_replay.specs.Finishing.{IsFinishing, RestBefore};
 
 use crate::gates::Gate;
-use crate::numbers::Unfinished;
+use crate::numbers::{Unfinished, may_be_drawn};
 use lxr_actor::{Actor, step};
 use lxr_base::draw;
 use lxr_core::AnyActor;
@@ -18,41 +18,55 @@ use lxr_image::Space;
 use lxr_tables::PlainWords;
 
 /// Replays an epoch: while some mutator has a next action, a draw modulo how many actors have one picks one of these by its
-/// place among them, from 0, and it makes one atomic step. Then each helper that doesn't rest finishes its unit, in order.
-/// Before a mutator that rests makes a step, the gate is called. What `x` holds afterwards is the generator's last number.
+/// place among them, from 0, and it makes one atomic step. Tracers count among them only while a trace runs. Then each helper
+/// that doesn't rest finishes its unit, in order. Before a mutator that rests makes a step, the gate is called. What `x` holds
+/// afterwards is the generator's last number.
 pub fn replay_epoch<G: Gate>(space: &mut Space, actors: &mut [AnyActor], x: &mut u64, gate: &G)
     requires few { length actors.old ≤ 32 }
     requires replayable { CanBeReplayed (core_of space.old.words actors.old) }
-    ensures schedule { (schedule : List ℕ) × Replays x.old (core_of space.old.words actors.old) schedule x.new × (core_of space.new.words actors.new ≡ run any_machine (core_of space.old.words actors.old) (map Step schedule)) }
+    ensures schedule { (schedule : List ℕ) × Replays (is_some space.old.trace) x.old (core_of space.old.words actors.old) schedule x.new × (core_of space.new.words actors.new ≡ run any_machine (core_of space.old.words actors.old) (map Step schedule)) }
     ensures finished { AreFinished (mutators_in actors.new) }
     ensures resting { AreResting actors.new }
     ensures rest { space.new ≡ record space.old { words = space.new.words } }
 {
-    replay(&mut space.words, actors, x, gate);
+    let tracing = space.trace.is_some();
+    replay(&mut space.words, actors, tracing, x, gate);
 }
 
-/// Replays an epoch on the words of its space.
-fn replay<G: Gate>(words: &mut PlainWords, actors: &mut [AnyActor], x: &mut u64, gate: &G)
+/// Replays an epoch on the words of its space, while a trace runs or none does.
+fn replay<G: Gate>(
+    words: &mut PlainWords,
+    actors: &mut [AnyActor],
+    tracing: bool,
+    x: &mut u64,
+    gate: &G,
+)
     requires few { length actors.old ≤ 32 }
     requires replayable { CanBeReplayed (core_of words.old actors.old) }
-    ensures schedule { (schedule : List ℕ) × Replays x.old (core_of words.old actors.old) schedule x.new × (core_of words.new actors.new ≡ run any_machine (core_of words.old actors.old) (map Step schedule)) }
+    ensures schedule { (schedule : List ℕ) × Replays tracing x.old (core_of words.old actors.old) schedule x.new × (core_of words.new actors.new ≡ run any_machine (core_of words.old actors.old) (map Step schedule)) }
     ensures finished { AreFinished (mutators_in actors.new) }
     ensures resting { AreResting actors.new }
 {
-    draw_steps(words, actors, x, gate);
+    draw_steps(words, actors, tracing, x, gate);
     finish_units(words, actors);
 }
 
 /// Makes the steps that draws pick, while some mutator has a next action.
-fn draw_steps<G: Gate>(words: &mut PlainWords, actors: &mut [AnyActor], x: &mut u64, gate: &G)
+fn draw_steps<G: Gate>(
+    words: &mut PlainWords,
+    actors: &mut [AnyActor],
+    tracing: bool,
+    x: &mut u64,
+    gate: &G,
+)
     requires few { length actors.old ≤ 32 }
     requires replayable { CanBeReplayed (core_of words.old actors.old) }
-    ensures { (drawn : List ℕ) × Draws x.old (core_of words.old actors.old) drawn x.new × (core_of words.new actors.new ≡ run any_machine (core_of words.old actors.old) (map Step drawn)) }
+    ensures { (drawn : List ℕ) × Draws tracing x.old (core_of words.old actors.old) drawn x.new × (core_of words.new actors.new ≡ run any_machine (core_of words.old actors.old) (map Step drawn)) }
 {
     let mutators = mutators_among(actors);
-    let mut numbers = Unfinished::of(actors);
+    let mut numbers = Unfinished::of(actors, tracing);
     while numbers.begin_below(mutators) {
-        turn(words, actors, x, &mut numbers, gate);
+        turn(words, actors, tracing, x, &mut numbers, gate);
     }
 }
 
@@ -75,6 +89,7 @@ fn count_mutator(actor: &AnyActor) -> usize
     match actor {
         AnyActor::Mutator(_) => 1,
         AnyActor::Decrementer(_) => 0,
+        AnyActor::Tracer(_) => 0,
     }
 }
 
@@ -83,34 +98,35 @@ fn count_mutator(actor: &AnyActor) -> usize
 fn turn<G: Gate>(
     words: &mut PlainWords,
     actors: &mut [AnyActor],
+    tracing: bool,
     x: &mut u64,
     numbers: &mut Unfinished,
     gate: &G,
 )
     requires fits { (number : ℕ) → FitsAt any_machine (core_of words.old actors.old) number }
-    requires numbers { numbers.old ≡ unfinished actors.old }
+    requires numbers { numbers.old ≡ unfinished tracing actors.old }
     requires some { 0 < length numbers.old }
-    ensures step { (number : ℕ) × IsPicked x.new actors.old number × (core_of words.new actors.new ≡ event any_machine (core_of words.old actors.old) (Step number)) }
+    ensures step { (number : ℕ) × IsPicked tracing x.new actors.old number × (core_of words.new actors.new ≡ event any_machine (core_of words.old actors.old) (Step number)) }
     ensures state { x.new ≡ stepped_on x.old }
-    ensures numbers { numbers.new ≡ unfinished actors.new }
+    ensures numbers { numbers.new ≡ unfinished tracing actors.new }
 {
     let place = draw(x) as usize % numbers.len();
     let number = usize::from(numbers.at(place));
-    if !advance(words, &mut actors[number], gate) {
+    if !advance(words, &mut actors[number], tracing, gate) {
         numbers.remove(place);
     }
 }
 
-/// One step of an actor. Whether it has a further one.
+/// One step of an actor. Whether it may be drawn again.
 #[inline(always)]
-fn advance<G: Gate>(words: &mut PlainWords, actor: &mut AnyActor, gate: &G) -> bool
+fn advance<G: Gate>(words: &mut PlainWords, actor: &mut AnyActor, tracing: bool, gate: &G) -> bool
     requires { Fits any_machine words.old actor.old }
     ensures done { (words.new, actor.new) ≡ stepped any_machine words.old actor.old }
-    ensures goes_on { result ≡ acts actor.new }
+    ensures goes_on { result ≡ may_be_drawn tracing actor.new }
 {
     pass_gate(actor, gate);
     step(words, actor);
-    actor.next().is_some()
+    may_be_drawn(actor, tracing)
 }
 
 /// Calls the gate where the next step is the first of an operation.
@@ -123,6 +139,7 @@ fn pass_gate<G: Gate>(actor: &AnyActor, gate: &G) {
             }
         }
         AnyActor::Decrementer(_) => {}
+        AnyActor::Tracer(_) => {}
     }
 }
 

@@ -1,6 +1,7 @@
 pub mod PlacingLemmas
 pub mod StateLemmas
 pub mod NewLemmas
+pub mod TraceLemmas
 pub mod ServingLemmas
 pub mod OpeningLemmas
 pub mod OrderLemmas

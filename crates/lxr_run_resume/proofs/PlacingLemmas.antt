@@ -1,5 +1,5 @@
 -- What placing an object does to tables in which objects keep their lines.
-use Rattle.std.proofs.Common.{◌≡◌, ◌≢◌, ℕ, ◌+◌, ◌-◌, ◌*◌, ◌/◌, ◌<◌, ◌≤◌, refl, sym, ap, subst, ◌∙◌, inl, inr, ◌⊎◌, arith, cond, true, false, List, nat_eq}
+use Rattle.std.proofs.Common.{◌≡◌, ◌≢◌, ℕ, ◌+◌, ◌-◌, ◌*◌, ◌/◌, ◌<◌, ◌≤◌, refl, sym, ap, subst, ◌∙◌, inl, inr, ◌⊎◌, arith, Bool, cond, true, false, List, nat_eq}
 use Rattle.std.specs.Prelude.{IsTrue}
 use Rattle.std.proofs.lemmas.Bool.Decides.{leb_tells}
 use Rattle.lxr_layout.specs.declared.TheConstants.{GRANULES_IN_BLOCK, GRANULES_IN_LINE, LINES_IN_BLOCK}
@@ -80,7 +80,7 @@ lines_hold : (s : Shape) → granule_count s ≤ GRANULES_IN_LINE * line_count s
 lines_hold s = omega arith
 
 -- so has an object of a graph
-some_granules : (o : Object) → 1 ≤ granules_of o
+pub some_granules : (o : Object) → 1 ≤ granules_of o
 some_granules o = omega arith
 
 -- each line of the lines that an object needs is overlapped by it where it begins at their front
@@ -118,6 +118,10 @@ off_run t blocks r k run taken = elim (leb_tells (first_granule r) k) [
 ]
 
 -- ---- an object is made
+
+-- the tables with other heap words, lines out, reuse counters and states of blocks
+abbrev pub with_placed : Tables → (ℕ → ℕ) → (ℕ → Bool) → (ℕ → ℕ) → (ℕ → ℕ) → Tables
+with_placed t heap outs reuse states = record t { heap = heap; outs = outs; reuse = reuse; states = states }
 
 -- what a call that places an object of this name and shape has done to the tables, and to the rest
 pub record Makes (t u : Tables) (blocks next end : ℕ) (at : Name → ℕ) (g : Graph) (ms : List Name) (p : ℕ) (n : Name) (s : Shape) : Type 0 where

@@ -1,14 +1,15 @@
 -- A space that is between epochs is so once an object is made for a thread.
 use Rattle.std.proofs.Common.{◌≡◌, ◌≢◌, ℕ, ◌+◌, ◌-◌, ◌*◌, ◌/◌, ◌^◌, ◌<◌, ◌≤◌, refl, sym, ap, subst, ◌∙◌, inl, inr, arith, Bool, List, [], ◌∷◌, length, map}
-use Rattle.std.specs.Prelude.{Some, None, IsTrue, slice_set}
+use Rattle.std.specs.Prelude.{Some, IsTrue, slice_set}
 use Rattle.std.specs.List.Sorted.{IsPermutation}
 use Rattle.std.proofs.lemmas.List.{length-map, length-set}
 use Rattle.std.proofs.lemmas.Bool.{or_left, or_right}
+use Rattle.lxr_layout.specs.declared.limits.Limits.{Limits}
 use Rattle.lxr_layout.specs.declared.LogEntry.{LogEntry}
 use Rattle.lxr_layout.specs.declared.Name.{Name}
 use Rattle.lxr_layout.specs.declared.Place.{Place}
 use Rattle.lxr_layout.specs.declared.Shape.{Shape}
-use Rattle.lxr_layout.specs.declared.TheConstants.{GRANULES_IN_BLOCK, GRANULES_IN_LINE, LINES_IN_BLOCK, STUCK}
+use Rattle.lxr_layout.specs.declared.TheConstants.{GRANULES_IN_BLOCK, GRANULES_IN_LINE, LINES_IN_BLOCK, REMEMBERED_CURSOR, STUCK}
 use Rattle.lxr_layout.specs.Objects.{FitsShape, word_count}
 use Rattle.lxr_graph.specs.declared.Op.TheVariants as op
 use Rattle.lxr_graph.specs.declared.Reply.TheVariants as reply
@@ -25,8 +26,9 @@ use Rattle.lxr_image.specs.ImageLaws.{placed}
 use Rattle.lxr_image.proofs.ImageLemmas.{places_still, register_keeps_places}
 use Rattle.lxr_image.proofs.NewLemmas.{new_keeps_image}
 use Rattle.lxr_blocks.specs.declared.states.BlockState.TheVariants.{Chosen}
-use Rattle.lxr_blocks.specs.States.{state_in}
+use Rattle.lxr_blocks.specs.States.{KeepsState, state_in}
 use Rattle.lxr_blocks.specs.Handing.{handed_out}
+use Rattle.lxr_blocks.proofs.HandedLemmas.{handing_keeps_states}
 use Rattle.lxr_blocks.specs.Listing.{TurnsWithRest}
 use Rattle.lxr_blocks.specs.Placing.{HasRest, IsFull, IsPlaced, IsRest, first_granule, granule_count, with_object}
 use Rattle.lxr_model.specs.Reachable.{held, the_world}
@@ -37,16 +39,18 @@ use Rattle.lxr_model_counting.proofs.FollowingLemmas.{call_follows}
 use Rattle.lxr_invariant.specs.AbstractState.{AbstractState, members}
 use Rattle.lxr_invariant.specs.Standing.{HasBits, entry_of}
 use Rattle.lxr_invariant.specs.Counting.{HasCounts, HasDecrements, IsUndecremented, undone, waiting_at}
-use Rattle.lxr_invariant.specs.Lines.{AvoidChosen, HasBlocks, HasMarks, HasStates, KeepLines, LinesAreOut, OutsAreTaken}
+use Rattle.lxr_invariant.specs.Lines.{AvoidChosen, HasBlocks, HasMarks, HasStates, KeepLines, LinesAreOut, NoneChosen, OutsAreTaken}
+use Rattle.lxr_invariant.specs.Tracing.{IsTracedBy}
 use Rattle.lxr_invariant.specs.Quiescent.{HoldsMoment, IsQuiescent}
 use Rattle.lxr_invariant.proofs.NameLemmas.{in_first, in_second, live_member}
 use Rattle.lxr_invariant.proofs.FrameLemmas.{rest_still}
-use Rattle.lxr_invariant.proofs.BlockLemmas.{blocks_kept, still_not}
-use Rattle.lxr_invariant.proofs.MemberLemmas.{member_refers, undone_all, untraced}
+use Rattle.lxr_invariant.proofs.BlockLemmas.{blocks_kept, none_kept, still_not}
+use Rattle.lxr_invariant.proofs.MemberLemmas.{member_refers, undone_all}
 use Rattle.lxr_run_resume.specs.Serving.{IsServable, IsServed, IsServedFrom}
-use Rattle.lxr_run_resume.proofs.PlacingLemmas.{Makes, line_back, made_in_rest, made_on_run, some_granule}
+use Rattle.lxr_run_resume.proofs.PlacingLemmas.{Makes, line_back, made_in_rest, made_on_run, some_granule, with_placed}
 use Rattle.lxr_run_resume.proofs.StateLemmas.{handed_states, out_taken, still_taken}
 use Rattle.lxr_run_resume.proofs.NewLemmas.{IsBeside, covers_after, covers_before, graph_then, is_beside, moment_then, new_name, own_covers, placed_here, places_then, size_fresh}
+use Rattle.lxr_run_resume.proofs.TraceLemmas.{traced_served}
 
 -- ---- counts and logs
 
@@ -55,10 +59,6 @@ none_logged : (m k : Moment) (at to : Name → ℕ) (ws : List Field) (entries :
 none_logged m k at to ws entries none is = subst (λ es. IsPermutation es entries) (ap (map (entry_of m at)) none ∙ sym (ap (map (entry_of k to)) none)) is
 
 -- ---- the whole
-
--- the tables with other heap words, lines out, reuse counters and states of blocks
-abbrev pub with_placed : Tables → (ℕ → ℕ) → (ℕ → Bool) → (ℕ → ℕ) → (ℕ → ℕ) → Tables
-with_placed t heap outs reuse states = record t { heap = heap; outs = outs; reuse = reuse; states = states }
 
 -- a space with these words, registers and rest beside all else as it is
 abbrev pub with_rest : Space → List ℕ → List Place → ℕ → ℕ → Space
@@ -72,9 +72,9 @@ block_of_line a c line same low high = omega arith
 below_next : (a b c : ℕ) → a < b → b ≤ c → a < c
 below_next a b c h k = omega arith
 
--- An object is made for a thread at a place of a space that is between epochs, where no trace runs; `makes` says what has
+-- An object is made for a thread at a place of a space that is between epochs, where no block is Chosen; `makes` says what has
 -- changed in the tables.
-module _ (space : Space) (g : AbstractState) (thread dest p next end : ℕ) (shape : Shape) (heap : ℕ → ℕ) (outs : ℕ → Bool) (reuse states : ℕ → ℕ) (is : IsQuiescent space g) (no_trace : g.moment.trace ≡ None)
+module _ (space : Space) (g : AbstractState) (thread dest p next end : ℕ) (shape : Shape) (heap : ℕ → ℕ) (outs : ℕ → Bool) (reuse states : ℕ → ℕ) (is : IsQuiescent space g) (none : NoneChosen (tables_of space) space.limits.blocks)
     (row : thread < length g.moment.state.graph) (fits : FitsShape shape) (name : IsName (new_name g thread)) (follows : FollowsPause (moment_then g thread dest shape))
     (makes : Makes (tables_of space) (with_placed (tables_of space) heap outs reuse states) space.limits.blocks next end g.at g.moment.state.graph (members g.moment) p (new_name g thread) shape)
     (by_lines : HasStates (with_placed (tables_of space) heap outs reuse states) space.limits.blocks) where
@@ -323,7 +323,9 @@ module _ (space : Space) (g : AbstractState) (thread dest p next end : ℕ) (sha
         safepoint = record {
           holds = holds_served words place same rest is_p;
           numbers = record { pauses = numbers.pauses; trace = numbers.trace; report = numbers.report };
-          traced = untraced space.limits (tables_in space.limits words) space.logged.items (record g { moment = then; at = to }) g.moment.trace no_trace;
+          traced = subst (λ z. IsTracedBy space.limits z space.logged.items (record g { moment = then; at = to }) g.moment.trace) (sym same)
+              (traced_served (tables_of space) heap outs reuse states space.limits.blocks g thread dest p shape space.logged.items is.safepoint.holds.follows is.safepoint.holds.image.image beside none makes.states
+              space.limits g.moment.trace is.safepoint.traced);
         };
         unwritten = is.unwritten;
         undecremented = subst (λ z. IsUndecremented z then to) (sym same) undecremented_served;
@@ -350,20 +352,20 @@ abbrev pub with_places : Space → List Place → Space
 with_places space places = record space { registers = record space.registers { items = places } }
 
 -- where the tables say that an object was made, the space is between epochs once a register holds it
-served_at : (before after : Space) (g : AbstractState) (thread dest q next end : ℕ) (shape : Shape) (p : Place) (heap : ℕ → ℕ) (outs : ℕ → Bool) (reuse states : ℕ → ℕ) → IsQuiescent before g → g.moment.trace ≡ None
+served_at : (before after : Space) (g : AbstractState) (thread dest q next end : ℕ) (shape : Shape) (p : Place) (heap : ℕ → ℕ) (outs : ℕ → Bool) (reuse states : ℕ → ℕ) → IsQuiescent before g → NoneChosen (tables_of before) before.limits.blocks
     → (1 ≤ thread) × (thread ≤ before.limits.threads) → dest < 16 → FitsShape shape → IsName (new_name g thread)
     → TurnsWithRest before after (with_placed (tables_of before) heap outs reuse states) next end → IsRest after → p.0 ≡ q
     → Makes (tables_of before) (with_placed (tables_of before) heap outs reuse states) before.limits.blocks next end g.at g.moment.state.graph (members g.moment) q (new_name g thread) shape
     → HasStates (with_placed (tables_of before) heap outs reuse states) before.limits.blocks
     → IsQuiescent (with_places after (slice_set after.registers.items (register_index thread dest) p)) (record g { moment = moment_then g thread dest shape; at = places_then g thread q })
-served_at before after g thread dest q next end shape p heap outs reuse states is no_trace within small fits name changes rest place makes by_lines =
+served_at before after g thread dest q next end shape p heap outs reuse states is none within small fits name changes rest place makes by_lines =
     let places : List Place = slice_set before.registers.items (register_index thread dest) p in
     let middle : Space = record before { words = after.words; rest_next = next; rest_end = end } in
     let last : Space = with_rest before after.words places next end in
     let same : tables_in before.limits after.words ≡ with_placed (tables_of before) heap outs reuse states = ap tables_of (sym changes.rest) ∙ changes.tables in
     let row = row_of_thread before g thread is within.0 within.1 in
     let follows = call_follows g.moment thread (op.New dest shape) (reply.New (new_name g thread)) is.safepoint.holds.follows (small, fits) (refl, row, within.0) in
-    let between = quiescent_served before g thread dest q next end shape heap outs reuse states is no_trace row fits name follows makes by_lines after.words p same
+    let between = quiescent_served before g thread dest q next end shape heap outs reuse states is none row fits name follows makes by_lines after.words p same
     (rest_still middle last refl refl refl refl refl (subst IsRest changes.rest rest)) place in
     let turned : last ≡ with_places after (slice_set after.registers.items (register_index thread dest) p) =
     sym (ap (λ z. with_places z (slice_set z.registers.items (register_index thread dest) p)) changes.rest) in
@@ -375,26 +377,26 @@ has_rest s shape (inl e) fits = let some = some_granule shape in absurd (omega (
 has_rest s shape (inr has) fits = has
 
 -- so it is where an object was placed, be it in the rest or on a run
-placed_between : (before after : Space) (g : AbstractState) (thread dest : ℕ) (shape : Shape) (p : Place) → IsQuiescent before g → g.moment.trace ≡ None → (1 ≤ thread) × (thread ≤ before.limits.threads) → dest < 16
+placed_between : (before after : Space) (g : AbstractState) (thread dest : ℕ) (shape : Shape) (p : Place) → IsQuiescent before g → NoneChosen (tables_of before) before.limits.blocks → (1 ≤ thread) × (thread ≤ before.limits.threads) → dest < 16
     → FitsShape shape → IsName (new_name g thread) → IsPlaced before after (new_name g thread) shape p → IsRest after
     → IsQuiescent (with_places after (slice_set after.registers.items (register_index thread dest) p)) (record g { moment = moment_then g thread dest shape; at = places_then g thread p.0 })
-placed_between before after g thread dest shape p is no_trace within small fits name (inl q) rest =
+placed_between before after g thread dest shape p is none within small fits name (inl q) rest =
     let t : Tables = tables_of before in
     let n : Name = new_name g thread in
     let old : HasRest before = has_rest before shape is.safepoint.holds.rest.rest q.fits in
     let at_place : p.0 ≡ before.rest_next + 1 = ap (λ z. z.0) q.place in
     subst (λ z. IsQuiescent (with_places after (slice_set after.registers.items (register_index thread dest) p)) (record g { moment = moment_then g thread dest shape; at = places_then g thread z })) (sym at_place)
-    (served_at before after g thread dest (before.rest_next + 1) (before.rest_next + granule_count shape) before.rest_end shape p (with_object t before.rest_next n shape).heap t.outs t.reuse t.states is no_trace
+    (served_at before after g thread dest (before.rest_next + 1) (before.rest_next + granule_count shape) before.rest_end shape p (with_object t before.rest_next n shape).heap t.outs t.reuse t.states is none
     within small fits name q.changes rest at_place
     (made_in_rest t before.limits.blocks before.rest_next before.rest_end g.at g.moment.state.graph (members g.moment) n shape is.safepoint.holds.rest.apart q.fits old.in_heap old.in_line old.out old.outside)
     is.states)
-placed_between before after g thread dest shape p is no_trace within small fits name (inr (r, q)) rest =
+placed_between before after g thread dest shape p is none within small fits name (inr (r, q)) rest =
     let t : Tables = tables_of before in
     let n : Name = new_name g thread in
     let u : Tables = with_object (handed_out t r) (first_granule r) n shape in
     let at_place : p.0 ≡ first_granule r + 1 = ap (λ z. z.0) q.place in
     subst (λ z. IsQuiescent (with_places after (slice_set after.registers.items (register_index thread dest) p)) (record g { moment = moment_then g thread dest shape; at = places_then g thread z })) (sym at_place)
-    (served_at before after g thread dest (first_granule r + 1) (first_granule r + granule_count shape) (first_granule r + GRANULES_IN_LINE * r.lines) shape p u.heap u.outs u.reuse u.states is no_trace
+    (served_at before after g thread dest (first_granule r + 1) (first_granule r + granule_count shape) (first_granule r + GRANULES_IN_LINE * r.lines) shape p u.heap u.outs u.reuse u.states is none
     within small fits name q.changes rest at_place
     (made_on_run t before.limits.blocks g.at g.moment.state.graph (members g.moment) n shape r is.lines q.run.run.run q.run.run.outside q.run.lines_are)
     (handed_states t r before.limits.blocks q.run.run.run.within is.states))
@@ -403,6 +405,26 @@ placed_between before after g thread dest shape p is no_trace within small fits 
 is_name : (name : Name) (threads : ℕ) → name.thread ≤ threads → threads ≤ 16 → name.serial < 2 ^ 32 → IsName name
 is_name name threads within few serial = record { thread = omega arith; serial = serial }
 
+-- where tables have turned that keep the states of blocks, no block is Chosen where none was
+turned_unchosen : (before after : Space) (t : Tables) (next end : ℕ) (places : List Place) → TurnsWithRest before after t next end → ((b : ℕ) → KeepsState (tables_of before) t b)
+    → NoneChosen (tables_of before) before.limits.blocks → NoneChosen (tables_of (with_places after places)) (with_places after places).limits.blocks
+turned_unchosen before after t next end places changes keeps none =
+    let limits : after.limits ≡ before.limits = ap (λ z. z.limits) changes.rest in
+    subst (λ u. NoneChosen u after.limits.blocks) (sym changes.tables) (subst (λ (l : Limits). NoneChosen t l.blocks) (sym limits) (none_kept (tables_of before) t before.limits.blocks keeps none))
+
+-- so it is where an object was placed, and as many entries are remembered as many entries are remembered
+placed_unchosen : (before after : Space) (name : Name) (shape : Shape) (p : Place) (places : List Place) → IsPlaced before after name shape p → NoneChosen (tables_of before) before.limits.blocks
+    → NoneChosen (tables_of (with_places after places)) (with_places after places).limits.blocks
+placed_unchosen before after name shape p places (inl q) none =
+    turned_unchosen before after (with_object (tables_of before) before.rest_next name shape) (before.rest_next + granule_count shape) before.rest_end places q.changes (λ b. inl refl) none
+placed_unchosen before after name shape p places (inr (r, q)) none =
+    turned_unchosen before after (with_object (handed_out (tables_of before) r) (first_granule r) name shape) (first_granule r + granule_count shape) (first_granule r + GRANULES_IN_LINE * r.lines) places q.changes
+    (λ b. handing_keeps_states (tables_of before) r b) none
+
+placed_remembers : (before after : Space) (name : Name) (shape : Shape) (p : Place) → IsPlaced before after name shape p → (tables_of after).cursors REMEMBERED_CURSOR ≡ (tables_of before).cursors REMEMBERED_CURSOR
+placed_remembers before after name shape p (inl q) = ap (λ (t : Tables). t.cursors REMEMBERED_CURSOR) q.changes.tables
+placed_remembers before after name shape p (inr (r, q)) = ap (λ (t : Tables). t.cursors REMEMBERED_CURSOR) q.changes.tables
+
 -- so it is whatever the space stood for
 placed_serves : (before after : Space) (name : Name) (dest : ℕ) (shape : Shape) (p : Place) → (1 ≤ name.thread) × (name.thread ≤ before.limits.threads) → dest < 16 → FitsShape shape → name.serial < 2 ^ 32
     → IsPlaced before after name shape p → IsRest after → (g : AbstractState) → IsServable before g name
@@ -410,9 +432,10 @@ placed_serves : (before after : Space) (name : Name) (dest : ℕ) (shape : Shape
 placed_serves before after name dest shape p within small fits serial at_place rest g is =
     let last : Space = with_places after (slice_set after.registers.items (register_index name.thread dest) p) in
     let named = is_name name before.limits.threads within.1 is.between.safepoint.holds.space.limits.threads.1 serial in
-    let between = placed_between before after g name.thread dest shape p is.between is.no_trace within small fits (subst IsName is.next named) (subst (λ z. IsPlaced before after z shape p) is.next at_place) rest in
+    let between = placed_between before after g name.thread dest shape p is.between is.none_chosen within small fits (subst IsName is.next named) (subst (λ z. IsPlaced before after z shape p) is.next at_place) rest in
     record {
       reply = ap reply.New (sym is.next);
+      none_chosen = placed_unchosen before after name shape p (slice_set after.registers.items (register_index name.thread dest) p) at_place is.none_chosen;
       between = subst (λ z. IsQuiescent last (record g { moment = after_call g.moment name.thread (op.New dest shape) (reply.New z); at = placed g.at z p.0 })) (sym is.next) between;
     }
 
@@ -456,5 +479,6 @@ placed_is_served before after name dest shape p within small fits serial room at
   middle = after;
   placed = at_place;
   held = refl;
+  remembered = placed_remembers before after name shape p at_place;
   abstract_state = placed_serves before after name dest shape p within small fits serial at_place rest;
 }

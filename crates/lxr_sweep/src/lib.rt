@@ -1,14 +1,13 @@
-//! Sweeping: which lines hold nothing that is counted, and the states of blocks that follow from their free lines.
+//! Sweeping: lines that hold nothing any more, and what a trace finds and doesn't find.
 //!
-//! A pause that has lowered counts, or has given back lines that were handed out, sweeps before it lists runs and
-//! blocks: each block gets the state that its free lines say. The sweep reads counts and never objects, as in LXR
-//! (Zhao, Blackburn and McKinley, 2022).
+//! A pause that has lowered counts gives blocks the states that their free lines say ([`sweep_lines`], by [`zero_lines`]). A trace,
+//! as in LXR (Zhao, Blackburn and McKinley, 2022), begins with what the world and registers hold ([`begin_trace`]), is finished where a pause
+//! ends it ([`finish_trace`]), and what it didn't mark is swept ([`sweep_unmarked`]): garbage in cycles, and objects whose counts are stuck.
+//!
+//! Each call takes the space alone, takes no memory and has no refusal. The work is done in the rooms `lxr_sweep_lines`,
+//! `lxr_sweep_trace` and `lxr_sweep_unmarked`; crates of this repository stand on these.
 #![tactic(auto)]
 
-mod laws;
-mod states;
-mod zeros;
-
-pub use laws::swept_is_by_lines;
-pub use states::sweep_lines;
-pub use zeros::zero_lines;
+pub use lxr_sweep_lines::{sweep_lines, swept_is_by_lines, zero_lines};
+pub use lxr_sweep_trace::{begin_trace, finish_trace};
+pub use lxr_sweep_unmarked::sweep_unmarked;

@@ -33,7 +33,7 @@ fn writes_fail(rt: HostRuntime) -> Result<(), Fail> {
     for (call, pauses, report) in [
         (1, 1, "pause 1 plain\npromoted 1 1.1"),
         (2, 2, "pause 2 plain\npromoted 1 1.3"),
-        (3, 3, "pause 3 plain\npromoted 0"),
+        (3, 3, "pause 3 collect\npromoted 0"),
         (4, 3, ""),
     ] {
         let mut output = Kept::new(rt.alloc(), &[call])?;

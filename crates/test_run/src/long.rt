@@ -16,12 +16,12 @@ fn script(alloc: Global) -> Result<String, AllocError> {
     Ok(script)
 }
 
-/// Two pauses give the lines of all but the object that r1 holds; the last one reclaims the first of these two.
+/// Two pauses give the lines of all but the object that r1 holds; the last one, which collects, reclaims both of these.
 fn text(alloc: Global) -> Result<String, AllocError> {
     let mut text = format!(in alloc;
         "pause 1 plain\npromoted 1 1.125{NO_OTHERS}pause 2 plain\npromoted 1 1.249{NO_OTHERS}"
     )?;
-    text.push_str("pause 3 plain\npromoted 0\ndead 1 1.125\nstuck 0\nswept 0\nthread 1\n")?;
+    text.push_str("pause 3 collect\npromoted 0\ndead 2 1.125 1.249\nstuck 0\nswept 0\nthread 1\n")?;
     for serial in 1..301 {
         text.push_str(format!(in alloc; "new 1.{serial}\n")?.as_str())?;
     }

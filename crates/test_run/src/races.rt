@@ -42,7 +42,7 @@ fn threads_apart(rt: HostRuntime) -> Result<(), Fail> {
     let script =
         "lxr 1\nthreads 2\nthread 1\nnew r1 0 1\nstore r0 1 r1\nend\nthread 2\nnew r1 0 1\nstore r0 2 r1\nend\n";
     let text = format!(in rt.alloc();
-        "pause 1 plain\npromoted 2 1.1 2.1{NO_OTHERS}thread 1\nnew 1.1\nstore ok\nthread 2\nnew 2.1\nstore ok\n"
+        "pause 1 collect\npromoted 2 1.1 2.1{NO_OTHERS}thread 1\nnew 1.1\nstore ok\nthread 2\nnew 2.1\nstore ok\n"
     )?;
     for seed in 0..100 {
         ends_with(&rt, 1 + seed % 8, seed, script, text.as_str())?;
@@ -70,7 +70,7 @@ fn threads_race(rt: HostRuntime) -> Result<(), Fail> {
         (8, 9, 2, 1, 2),
     ] {
         let text = format!(in rt.alloc();
-            "pause 1 plain\npromoted 1 {last}.1{NO_OTHERS}thread 1\nnew 1.1\nstore ok\nload {first_finds}.1\nthread 2\nnew 2.1\nstore ok\nload {second_finds}.1\n"
+            "pause 1 collect\npromoted 1 {last}.1{NO_OTHERS}thread 1\nnew 1.1\nstore ok\nload {first_finds}.1\nthread 2\nnew 2.1\nstore ok\nload {second_finds}.1\n"
         )?;
         ends_with(&rt, workers, seed, script, text.as_str())?;
     }

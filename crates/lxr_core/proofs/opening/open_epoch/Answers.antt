@@ -1,8 +1,9 @@
 use Rattle.std.proofs.Common.{rules, ◌∙◌, length, sym, ap, subst}
 use Rattle.std.specs.List.{All}
 use Rattle.lxr_mutator.specs.Mutators.{IsHeld}
+use Rattle.lxr_core.specs.Filling.{MayAllFill}
 use Rattle.lxr_core.specs.Starting.{HaveStarted}
-use Rattle.lxr_core.proofs.OpenedLemmas.{held_before, holds_at, may_all_start, opened_at}
+use Rattle.lxr_core.proofs.OpenedLemmas.{held_before, holds_at, may_all_fill, may_all_start, opened_at}
 use Rattle.lxr_core.proofs.opening.open_epoch.Goals as goal
 
 pub start_all-requires-clause-order : goal.start_all-requires-clause-order
@@ -16,10 +17,17 @@ start_all-requires-clause-held c =
 pub start_all-requires-clause-rest : goal.start_all-requires-clause-rest
 start_all-requires-clause-rest c = may_all_start c.requires.0 c.args.space.now c.args.actors.now c.requires.1
 
+pub fill_pockets-requires-clause-empty : goal.fill_pockets-requires-clause-empty
+fill_pockets-requires-clause-empty c =
+    let rest = c.put_cursor.ensures.rest in
+    let registers = c.as_slice.ensures ∙ ap (λ s. s.registers.items) rest in
+    subst (λ l. MayAllFill l c.start_all.new.actors) (sym (ap (λ s. s.limits) rest))
+    (may_all_fill c.requires.0 c.args.space.now c.args.actors.now c.start_all.new.actors c.requires.1 (subst (λ places. HaveStarted places c.args.actors.now c.start_all.new.actors (length c.args.actors.now)) registers c.start_all.ensures))
+
 pub returns-clause-opens : goal.returns-clause-opens
 returns-clause-opens c =
-    opened_at c.args.space.now c.put_cursor.new.self c.args.actors.now c.start_all.new.actors c.put_cursor.ensures
-    (subst (λ places. HaveStarted places c.args.actors.now c.start_all.new.actors (length c.args.actors.now)) c.as_slice.ensures c.start_all.ensures)
+    opened_at c.args.space.now c.put_cursor.new.self c.args.actors.now c.start_all.new.actors c.fill_pockets.new.actors c.fill_pockets.ensures.0 c.put_cursor.ensures
+    (subst (λ places. HaveStarted places c.args.actors.now c.start_all.new.actors (length c.args.actors.now)) c.as_slice.ensures c.start_all.ensures) c.fill_pockets.ensures.1
 
 pub returns-clause-execution : goal.returns-clause-execution
-returns-clause-execution c = λ b begins. holds_at b c.args.space.now c.put_cursor.new.self c.args.actors.now c.start_all.new.actors (search rules) begins (returns-clause-opens c)
+returns-clause-execution c = λ b begins. holds_at b c.args.space.now c.put_cursor.new.self c.args.actors.now c.fill_pockets.new.actors (search rules) begins (returns-clause-opens c)

@@ -1,4 +1,4 @@
-use Rattle.std.proofs.Common.{◌+◌, arith, refl}
+use Rattle.std.proofs.Common.{◌+◌, ap, arith, length, refl}
 use Rattle.lxr_pause_decrements.proofs.SpaceLemmas.{keeps_both, reclaimed_keeps}
 use Rattle.lxr_pause_decrements.proofs.DropLemmas.{dropped_at, dropped_fits, dropped_placed, dropped_room}
 use Rattle.lxr_pause_decrements.proofs.finish.reclaim_dropped.Goals as goal
@@ -23,12 +23,12 @@ reclaim-requires-clause-dead c = (dropped_room c.args.space.now c.args.granule c
 pub drain-requires : goal.drain-requires
 drain-requires c =
     let h = dropped_placed c.args.space.now (record { 0 = c.args.granule + 1 }) c.args.granule c.requires.0 c.requires.1 refl in
-    (_, dropped_at c.args.space.now c.reclaim.new.space (record { 0 = c.args.granule + 1 }) c.args.granule c.requires.0 c.requires.1 refl (c.reclaim.ensures _ _ h.header))
+    (_, record { stage = dropped_at c.args.space.now c.reclaim.new.space (record { 0 = c.args.granule + 1 }) c.args.granule c.requires.0 c.requires.1 refl (c.reclaim.ensures _ _ h.header); under = ap length c.requires.1.under; between = c.requires.1.between })
 
 pub returns-clause-drops : goal.returns-clause-drops
 returns-clause-drops c = λ st d.
     let h = dropped_placed c.args.space.now (record { 0 = c.args.granule + 1 }) c.args.granule st d refl in
-    c.drain.ensures.drains _ (dropped_at c.args.space.now c.reclaim.new.space (record { 0 = c.args.granule + 1 }) c.args.granule st d refl (c.reclaim.ensures _ _ h.header))
+    c.drain.ensures.drains _ (record { stage = dropped_at c.args.space.now c.reclaim.new.space (record { 0 = c.args.granule + 1 }) c.args.granule st d refl (c.reclaim.ensures _ _ h.header); under = ap length d.under; between = d.between })
 
 pub returns-clause-keeps : goal.returns-clause-keeps
 returns-clause-keeps c =

@@ -1,4 +1,6 @@
-use Rattle.std.proofs.Common.{◌∙◌, refl, arith}
+use Rattle.std.proofs.Common.{◌∙◌, ap, arith, refl, sym}
+use Rattle.std.specs.Prelude.{◌==◌}
+use Rattle.lxr_layout.specs.declared.TheConstants.{TRACING_WORD}
 use Rattle.lxr_pause_decrements.proofs.SpaceLemmas.{keeps_both, keeps_none}
 use Rattle.lxr_pause_decrements.proofs.DrainLemmas.{released_place, released_header, begins, field_waits, ends}
 use Rattle.lxr_pause_decrements.proofs.finish.release.Goals as goal
@@ -17,8 +19,8 @@ loop-i-init c = record {
   keeps = keeps_none c.args.space.now;
 }
 
-pub lower_field-requires : goal.lower_field-requires
-lower_field-requires c =
+pub lower_field-requires-clause-field : goal.lower_field-requires-clause-field
+lower_field-requires-clause-field c =
     let st = c.requires.0 in
     let r = c.requires.1 in
     let rest = c.requires.2 in
@@ -28,6 +30,9 @@ lower_field-requires c =
     let t = c.loop-i-test.true in
     let reaches = c.loop-i.invariant.reaches st r rest re in
     (_, r, rest, field_waits c.args.space.now c.loop-i.space c.args.place.0 c.loop-i.i st r rest re (omega (arith, e, h.2, t)) reaches)
+
+pub lower_field-requires-clause-tracing : goal.lower_field-requires-clause-tracing
+lower_field-requires-clause-tracing c = c.is_tracing-tracing.ensures ∙ ap (λ f. f TRACING_WORD == 1) (sym c.loop-i.invariant.keeps.cursors)
 
 pub loop-i-preserved : goal.loop-i-preserved
 loop-i-preserved c = record {

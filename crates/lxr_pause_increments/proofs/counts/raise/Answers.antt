@@ -57,7 +57,7 @@ returns-then-not-has_start-clause-leaves c =
     let r = c.requires in
     let stands = raised_stands c.args.space.now r.0 r.1 r.2 r.3 c.args.place r.4 r.5 in
     let raised = c.raise_at.ensures r.3 _ stands in
-    taken_leaves c.args.space.now c.raise_at.new.space c.take_in.new.space c.args.place r.3 _ raised
+    taken_leaves c.args.space.now c.raise_at.new.space c.take_in.new.space c.args.place r.3 _ raised (sym c.if-not-has_start.true ∙ c.has_start.ensures)
     (c.take_in.ensures r.3 _ (stands_raised c.args.space.now c.raise_at.new.space c.args.place r.3 _ stands raised))
 
 pub returns-else-not-has_start-clause-raises : goal.returns-else-not-has_start-clause-raises

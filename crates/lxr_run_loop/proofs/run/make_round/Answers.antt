@@ -1,4 +1,4 @@
-use Rattle.std.proofs.Common.{arith, refl, ap, length, ◌∷◌}
+use Rattle.std.proofs.Common.{arith, refl, sym, ap, subst, length, ◌∷◌}
 use Rattle.lxr_graph.specs.History.{Pause}
 use Rattle.lxr_image.specs.declared.space.Space.{Space}
 use Rattle.lxr_text_print.proofs.PageLemmas.{OnErr-always}
@@ -7,41 +7,44 @@ use Rattle.lxr_run_invariant.proofs.ActorLemmas.{left_less}
 use Rattle.lxr_run_invariant.proofs.EndLemmas.{run_to}
 use Rattle.lxr_run_invariant.proofs.PauseLemmas.{counts_fit}
 use Rattle.lxr_run_invariant.proofs.TurnLemmas.{runs_go_on, serving_begins}
+use Rattle.lxr_run_resume.proofs.QuiescentLemmas.{remembered_later, unchosen_later}
+use Rattle.lxr_run_invariant.specs.LoopInvariant.{pace_of}
+use Rattle.lxr_run_loop.specs.Answering.{AnswersFirst}
 use Rattle.lxr_run_loop.specs.Drawing.{by_answers, by_epoch, by_pause}
-use Rattle.lxr_run_loop.proofs.ProgressLemmas.{has_more, have_all_ended, left_no_more, not_told}
+use Rattle.lxr_run_loop.proofs.ProgressLemmas.{comes, has_more, have_all_ended, left_no_more, not_told}
 use Rattle.lxr_run_loop.proofs.run.make_round.Goals as goal
 
 pub run_epoch-requires-clause-may : goal.run_epoch-requires-clause-may
 run_epoch-requires-clause-may g c = λ lifetimes bounds.
-    let (task, (h, m, amid, drawn)) = c.requires.under_way in
+    let (task, with_options, (h, m, amid, drawn)) = c.requires.under_way in
     (task, g.O.Sink.written c.args.output.now, g.W.Watch.seen c.args.watch.now, h, m, amid)
 
 pub pause-requires-clause-due : goal.pause-requires-clause-due
 pause-requires-clause-due g c =
-    let (task, (h, m, amid, drawn)) = c.requires.under_way in
+    let (task, with_options, (h, m, amid, drawn)) = c.requires.under_way in
     let (h', m', ran, replays) = c.run_epoch.ensures task (g.O.Sink.written c.args.output.now) (g.W.Watch.seen c.args.watch.now) h m amid in
-    (task, h', m', (ran.come, ran.due))
+    (task, h', m', comes task c.run_epoch.new.space (g.O.Sink.written c.args.output.now) (g.W.Watch.seen c.args.watch.now) c.args.actors.now c.run_epoch.new.actors h' m' c.have_ended-ended.result c.args.options c.ask_of.result with_options ran c.have_ended-ended.ensures c.ask_of.ensures)
 
 pub pause-requires-clause-counts : goal.pause-requires-clause-counts
 pause-requires-clause-counts g c =
-    let (task, (h, m, amid, drawn)) = c.requires.under_way in
+    let (task, with_options, (h, m, amid, drawn)) = c.requires.under_way in
     let (h', m', ran, replays) = c.run_epoch.ensures task (g.O.Sink.written c.args.output.now) (g.W.Watch.seen c.args.watch.now) h m amid in
     let few = ran.few in
     let grows = ran.grows in
     counts_fit task c.run_epoch.new.space (g.O.Sink.written c.args.output.now) (g.W.Watch.seen c.args.watch.now) h' m' (mutators_in c.run_epoch.new.actors) ran.come ran.actors_rest.mutators (omega arith)
 
 pub returns-in_err-pause-clause-err : goal.returns-in_err-pause-clause-err
-returns-in_err-pause-clause-err g c = OnErr-always c.from_residual.result (λ task (h, m, amid, drawn).
+returns-in_err-pause-clause-err g c = OnErr-always c.from_residual.result (λ task with_options (h, m, amid, drawn).
     let (h', m', ran, replays) = c.run_epoch.ensures task (g.O.Sink.written c.args.output.now) (g.W.Watch.seen c.args.watch.now) h m amid in
-    c.in_err-pause.ensures.err task h' m' (ran.come, ran.due))
+    c.in_err-pause.ensures.err task h' m' (comes task c.run_epoch.new.space (g.O.Sink.written c.args.output.now) (g.W.Watch.seen c.args.watch.now) c.args.actors.now c.run_epoch.new.actors h' m' c.have_ended-ended.result c.args.options c.ask_of.result with_options ran c.have_ended-ended.ensures c.ask_of.ensures))
 
-pub returns-then-have_ended-clause-ok : goal.returns-then-have_ended-clause-ok
-returns-then-have_ended-clause-ok g c = λ task (h, m, amid, drawn).
+pub returns-then-ended-clause-ok : goal.returns-then-ended-clause-ok
+returns-then-ended-clause-ok g c = λ task with_options (h, m, amid, drawn).
     let (h', m', ran, replays) = c.run_epoch.ensures task (g.O.Sink.written c.args.output.now) (g.W.Watch.seen c.args.watch.now) h m amid in
-    let (report, m'', paused) = c.in_ok-pause.ensures.ok task h' m' (ran.come, ran.due) in
+    let (report, m'', paused) = c.in_ok-pause.ensures.ok task h' m' (comes task c.run_epoch.new.space (g.O.Sink.written c.args.output.now) (g.W.Watch.seen c.args.watch.now) c.args.actors.now c.run_epoch.new.actors h' m' c.have_ended-ended.result c.args.options c.ask_of.result with_options ran c.have_ended-ended.ensures c.ask_of.ensures) in
     let run = run_to task c.run_epoch.new.space c.pause.new.space (g.O.Sink.written c.args.output.now) (g.O.Sink.written c.pause.new.output) (g.W.Watch.seen c.args.watch.now)
     (g.W.Watch.seen c.pause.new.watch) c.args.actors.now c.run_epoch.new.actors h' m' m'' report ran
-    (have_all_ended task h' c.run_epoch.new.actors ran.actors_rest (c.have_ended.ensures.0 c.if-have_ended.true)) paused in
+    (have_all_ended task h' c.run_epoch.new.actors ran.actors_rest (c.have_ended-ended.ensures.0 c.if-ended.true)) paused in
     record {
       complete = (Pause report ∷ h', run, by_pause h' report c.run_epoch.new.x (by_epoch h h' c.args.x.now c.run_epoch.new.x c.args.space.now c.args.actors.now drawn replays));
       no_more = left_no_more task h h' (mutators_in c.args.actors.now) (mutators_in c.run_epoch.new.actors) amid.actors_rest.mutators ran.actors_rest.mutators ran.grows;
@@ -49,25 +52,26 @@ returns-then-have_ended-clause-ok g c = λ task (h, m, amid, drawn).
 
 pub serve_waiting-requires-clause-serving : goal.serve_waiting-requires-clause-serving
 serve_waiting-requires-clause-serving g c =
-    let (task, (h, m, amid, drawn)) = c.requires.under_way in
+    let (task, with_options, (h, m, amid, drawn)) = c.requires.under_way in
     let (h', m', ran, replays) = c.run_epoch.ensures task (g.O.Sink.written c.args.output.now) (g.W.Watch.seen c.args.watch.now) h m amid in
-    let (report, m'', paused) = c.in_ok-pause.ensures.ok task h' m' (ran.come, ran.due) in (
+    let (report, m'', paused) = c.in_ok-pause.ensures.ok task h' m' (comes task c.run_epoch.new.space (g.O.Sink.written c.args.output.now) (g.W.Watch.seen c.args.watch.now) c.args.actors.now c.run_epoch.new.actors h' m' c.have_ended-ended.result c.args.options c.ask_of.result with_options ran c.have_ended-ended.ensures c.ask_of.ensures) in (
       task,
+      with_options,
       _,
       m'',
       serving_begins task c.pause.new.space (g.O.Sink.written c.pause.new.output) (g.W.Watch.seen c.pause.new.watch) (mutators_in c.run_epoch.new.actors) h' report m'' ran.actors_rest.mutators ran.news
-          (has_more c.run_epoch.new.actors (not_told c.have_ended.result c.have_ended.ensures c.if-have_ended.false)) paused,
+          (has_more c.run_epoch.new.actors (not_told c.have_ended-ended.result c.have_ended-ended.ensures c.if-ended.false)) paused,
     )
 
 pub serve_waiting-requires-clause-order : goal.serve_waiting-requires-clause-order
 serve_waiting-requires-clause-order g c =
-    let (task, (h, m, amid, drawn)) = c.requires.under_way in
+    let (task, with_options, (h, m, amid, drawn)) = c.requires.under_way in
     let (h', m', ran, replays) = c.run_epoch.ensures task (g.O.Sink.written c.args.output.now) (g.W.Watch.seen c.args.watch.now) h m amid in
     ran.actors_rest.helpers.order
 
 pub serve_waiting-requires-clause-few : goal.serve_waiting-requires-clause-few
 serve_waiting-requires-clause-few g c =
-    let (task, (h, m, amid, drawn)) = c.requires.under_way in
+    let (task, with_options, (h, m, amid, drawn)) = c.requires.under_way in
     let (h', m', ran, replays) = c.run_epoch.ensures task (g.O.Sink.written c.args.output.now) (g.W.Watch.seen c.args.watch.now) h m amid in
     let few = ran.few in
     let grows = ran.grows in
@@ -75,30 +79,30 @@ serve_waiting-requires-clause-few g c =
     omega arith
 
 pub returns-in_err-serve_waiting-clause-err : goal.returns-in_err-serve_waiting-clause-err
-returns-in_err-serve_waiting-clause-err g c = OnErr-always c.from_residual-in_err-serve_waiting.result (λ task (h, m, amid, drawn).
+returns-in_err-serve_waiting-clause-err g c = OnErr-always c.from_residual-in_err-serve_waiting.result (λ task with_options (h, m, amid, drawn).
     let (h', m', ran, replays) = c.run_epoch.ensures task (g.O.Sink.written c.args.output.now) (g.W.Watch.seen c.args.watch.now) h m amid in
-    let (report, m'', paused) = c.in_ok-pause.ensures.ok task h' m' (ran.come, ran.due) in
-    c.in_err-serve_waiting.ensures.err task _ m''
+    let (report, m'', paused) = c.in_ok-pause.ensures.ok task h' m' (comes task c.run_epoch.new.space (g.O.Sink.written c.args.output.now) (g.W.Watch.seen c.args.watch.now) c.args.actors.now c.run_epoch.new.actors h' m' c.have_ended-ended.result c.args.options c.ask_of.result with_options ran c.have_ended-ended.ensures c.ask_of.ensures) in
+    c.in_err-serve_waiting.ensures.err task with_options _ m''
     (serving_begins task c.pause.new.space (g.O.Sink.written c.pause.new.output) (g.W.Watch.seen c.pause.new.watch) (mutators_in c.run_epoch.new.actors) h' report m'' ran.actors_rest.mutators ran.news
-    (has_more c.run_epoch.new.actors (not_told c.have_ended.result c.have_ended.ensures c.if-have_ended.false)) paused))
+    (has_more c.run_epoch.new.actors (not_told c.have_ended-ended.result c.have_ended-ended.ensures c.if-ended.false)) paused))
 
 pub list_for_epoch-requires : goal.list_for_epoch-requires
 list_for_epoch-requires g c =
-    let (task, (h, m, amid, drawn)) = c.requires.under_way in
+    let (task, with_options, (h, m, amid, drawn)) = c.requires.under_way in
     let (h', m', ran, replays) = c.run_epoch.ensures task (g.O.Sink.written c.args.output.now) (g.W.Watch.seen c.args.watch.now) h m amid in
-    let (report, m'', paused) = c.in_ok-pause.ensures.ok task h' m' (ran.come, ran.due) in
-    let (served, h'', m3, serving, answers) = c.in_ok-serve_waiting.ensures.ok task _ m''
+    let (report, m'', paused) = c.in_ok-pause.ensures.ok task h' m' (comes task c.run_epoch.new.space (g.O.Sink.written c.args.output.now) (g.W.Watch.seen c.args.watch.now) c.args.actors.now c.run_epoch.new.actors h' m' c.have_ended-ended.result c.args.options c.ask_of.result with_options ran c.have_ended-ended.ensures c.ask_of.ensures) in
+    let (served, h'', m3, serving, answers) = c.in_ok-serve_waiting.ensures.ok task with_options _ m''
     (serving_begins task c.pause.new.space (g.O.Sink.written c.pause.new.output) (g.W.Watch.seen c.pause.new.watch) (mutators_in c.run_epoch.new.actors) h' report m'' ran.actors_rest.mutators ran.news
-    (has_more c.run_epoch.new.actors (not_told c.have_ended.result c.have_ended.ensures c.if-have_ended.false)) paused) in
+    (has_more c.run_epoch.new.actors (not_told c.have_ended-ended.result c.have_ended-ended.ensures c.if-ended.false)) paused) in
     (m3, serving.between)
 
 pub returns-clause-ok : goal.returns-clause-ok
-returns-clause-ok g c = λ task (h, m, amid, drawn).
+returns-clause-ok g c = λ task with_options (h, m, amid, drawn).
     let (h', m', ran, replays) = c.run_epoch.ensures task (g.O.Sink.written c.args.output.now) (g.W.Watch.seen c.args.watch.now) h m amid in
-    let (report, m'', paused) = c.in_ok-pause.ensures.ok task h' m' (ran.come, ran.due) in
+    let (report, m'', paused) = c.in_ok-pause.ensures.ok task h' m' (comes task c.run_epoch.new.space (g.O.Sink.written c.args.output.now) (g.W.Watch.seen c.args.watch.now) c.args.actors.now c.run_epoch.new.actors h' m' c.have_ended-ended.result c.args.options c.ask_of.result with_options ran c.have_ended-ended.ensures c.ask_of.ensures) in
     let begun = serving_begins task c.pause.new.space (g.O.Sink.written c.pause.new.output) (g.W.Watch.seen c.pause.new.watch) (mutators_in c.run_epoch.new.actors) h' report m'' ran.actors_rest.mutators ran.news
-    (has_more c.run_epoch.new.actors (not_told c.have_ended.result c.have_ended.ensures c.if-have_ended.false)) paused in
-    let (served, h'', m3, serving, answers) = c.in_ok-serve_waiting.ensures.ok task _ m'' begun in
+    (has_more c.run_epoch.new.actors (not_told c.have_ended-ended.result c.have_ended-ended.ensures c.if-ended.false)) paused in
+    let (served, h'', m3, serving, answers) = c.in_ok-serve_waiting.ensures.ok task with_options _ m'' begun in
     let again = runs_go_on task c.run_epoch.new.space c.serve_waiting.new.space c.list_for_epoch.new.space (g.O.Sink.written c.args.output.now) (g.O.Sink.written c.serve_waiting.new.output)
     (g.W.Watch.seen c.args.watch.now) (g.W.Watch.seen c.serve_waiting.new.watch) c.args.actors.now c.run_epoch.new.actors c.serve_waiting.new.actors c.pause.new.space.pauses
     (length (mutators_in c.serve_waiting.new.actors)) served h' h'' m' m3 ran c.pause.ensures.pauses serving refl c.in_ok-serve_waiting.ensures.helpers
@@ -109,6 +113,8 @@ returns-clause-ok g c = λ task (h, m, amid, drawn).
       limits = ap (λ (s : Space). s.limits) c.list_for_epoch.ensures.lists.rest;
       tally = ap (λ (s : Space). s.tally) c.list_for_epoch.ensures.lists.rest;
       pauses = ap (λ (s : Space). s.pauses) c.list_for_epoch.ensures.lists.rest;
+      none_chosen = unchosen_later c.serve_waiting.new.space c.list_for_epoch.new.space _ _ c.list_for_epoch.ensures.lists;
+      remembered = remembered_later c.serve_waiting.new.space c.list_for_epoch.new.space _ _ c.list_for_epoch.ensures.lists;
     }) in
     record {
       under_way = (
@@ -116,7 +122,9 @@ returns-clause-ok g c = λ task (h, m, amid, drawn).
         m3,
         again.amid,
         by_answers _ h'' c.run_epoch.new.x m'' (mutators_in c.run_epoch.new.actors) (mutators_in c.serve_waiting.new.actors) c.pause.new.space c.serve_waiting.new.space
-            (g.O.Sink.written c.pause.new.output) (g.W.Watch.seen c.pause.new.watch) served (by_pause h' report c.run_epoch.new.x (by_epoch h h' c.args.x.now c.run_epoch.new.x c.args.space.now c.args.actors.now drawn replays)) begun answers,
+            (g.O.Sink.written c.pause.new.output) (g.W.Watch.seen c.pause.new.watch) served (by_pause h' report c.run_epoch.new.x (by_epoch h h' c.args.x.now c.run_epoch.new.x c.args.space.now c.args.actors.now drawn replays)) begun
+            (subst (λ o. AnswersFirst (pace_of o) (mutators_in c.run_epoch.new.actors) c.pause.new.space (Pause report ∷ h') (length (mutators_in c.serve_waiting.new.actors)) (mutators_in c.serve_waiting.new.actors) c.serve_waiting.new.space served h'')
+            (sym with_options) answers),
       );
       less = left_less task h h'' (mutators_in c.args.actors.now) (mutators_in c.serve_waiting.new.actors) amid.actors_rest.mutators again.amid.actors_rest.mutators again.more;
     }

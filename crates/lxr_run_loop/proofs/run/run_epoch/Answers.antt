@@ -1,13 +1,15 @@
 use Rattle.std.proofs.Common.{◌≡◌, ◌≤◌, ap, arith, length, refl, subst, sym, ◌∙◌, map}
+use Rattle.std.proofs.lemmas.List.{length-map}
 use Rattle.lxr_image.specs.declared.space.Space.{Space}
 use Rattle.lxr_actor.specs.declared.Core.{Core}
 use Rattle.lxr_actor.specs.declared.Event.TheVariants.{Step}
 use Rattle.lxr_actor.specs.Run.{core_of}
 use Rattle.lxr_actor.proofs.Runs.{run-lengths}
 use Rattle.lxr_core.specs.declared.actors.AnyActor.{AnyActor}
-use Rattle.lxr_core.specs.Actors.{any_machine, mutators_in, script_of}
+use Rattle.lxr_core.specs.Actors.{any_machine, mutators_in, script_of, tracers_in}
 use Rattle.lxr_core.proofs.OrderLemmas.{lengths_add}
 use Rattle.lxr_core.specs.Closing.{AreFinished}
+use Rattle.lxr_core.specs.Filling.{unfilled}
 use Rattle.lxr_core.specs.Opening.{execution_at}
 use Rattle.lxr_core.specs.Executions.{tell_all}
 use Rattle.lxr_core.proofs.OpenedLemmas.{may_open}
@@ -18,6 +20,7 @@ use Rattle.lxr_run_invariant.proofs.EpochLemmas.{epochs_run, may_open as epoch_b
 use Rattle.lxr_run_invariant.proofs.ActorLemmas.{as_many}
 use Rattle.lxr_run_invariant.proofs.PauseLemmas.{few_threads}
 use Rattle.lxr_run_loop.proofs.ThreadLemmas.{as_many_helpers}
+use Rattle.lxr_run_loop.proofs.TracerLemmas.{started_tracers, tracers_run, unfilled_mutators}
 use Rattle.lxr_run_loop.proofs.run.run_epoch.Goals as goal
 
 pub open_epoch-requires : goal.open_epoch-requires
@@ -33,7 +36,8 @@ replay_epoch-requires-clause-few g c = λ lifetimes bounds.
     let threads = few_threads task c.args.space.now written seen h m amid.come in
     let workers = amid.actors_rest.workers in
     let few = amid.actors_rest.few in
-    let started = c.open_epoch.ensures.opens.actors.as_many in
+    let tracers = amid.actors_rest.tracers in
+    let started : length c.open_epoch.new.actors ≡ length c.args.actors.now = sym (length-map c.open_epoch.new.actors unfilled) ∙ c.open_epoch.ensures.opens.actors.as_many in
     omega arith
 
 pub replay_epoch-requires-clause-replayable : goal.replay_epoch-requires-clause-replayable
@@ -68,18 +72,24 @@ returns g c = λ task written seen h m amid.
     c.replay_epoch.ensures.rest ∙ ap (λ (s : Space). record s { words = c.replay_epoch.new.space.words }) c.open_epoch.ensures.opens.space.rest in
     let script : script_of (mutators_in execution.core.actors) ≡ task.script =
     ap (λ (k : Core AnyActor). script_of (mutators_in k.actors)) (may.core ∙ replayed) ∙ script_runs (execution_at (beginning_of task c.args.space.now h m) c.open_epoch.new.space c.open_epoch.new.actors).core (map Step schedule)
-    ∙ started_script c.args.space.now.registers.items c.args.actors.now c.open_epoch.new.actors c.open_epoch.ensures.opens.actors ∙ amid.actors_rest.mutators.script in
+    ∙ ap script_of (sym (unfilled_mutators c.open_epoch.new.actors))
+    ∙ started_script c.args.space.now.registers.items c.args.actors.now (map unfilled c.open_epoch.new.actors) c.open_epoch.ensures.opens.actors ∙ amid.actors_rest.mutators.script in
     let many : length execution.core.actors ≡ length c.args.actors.now =
-    ap (λ (k : Core AnyActor). length k.actors) (may.core ∙ replayed) ∙ (run-lengths any_machine (core_of c.open_epoch.new.space.words c.open_epoch.new.actors) (map Step schedule)).1 ∙ c.open_epoch.ensures.opens.actors.as_many in
-    let workers = as_many_helpers c.args.actors.now execution.core.actors task.script many amid.actors_rest.mutators.script script ∙ amid.actors_rest.workers in
+    ap (λ (k : Core AnyActor). length k.actors) (may.core ∙ replayed) ∙ (run-lengths any_machine (core_of c.open_epoch.new.space.words c.open_epoch.new.actors) (map Step schedule)).1
+    ∙ sym (length-map c.open_epoch.new.actors unfilled) ∙ c.open_epoch.ensures.opens.actors.as_many in
+    let tracers : length (tracers_in execution.core.actors) ≡ length (tracers_in c.args.actors.now) =
+    ap (λ (k : Core AnyActor). length (tracers_in k.actors)) (may.core ∙ replayed) ∙ tracers_run (core_of c.open_epoch.new.space.words c.open_epoch.new.actors) (map Step schedule)
+    ∙ started_tracers c.args.space.now.registers.items c.args.actors.now c.open_epoch.new.actors c.open_epoch.ensures.opens.actors in
+    let workers = as_many_helpers c.args.actors.now execution.core.actors task.script many tracers amid.actors_rest.mutators.script script ∙ amid.actors_rest.workers in
     let (m', ran) = epochs_run task c.args.space.now c.replay_epoch.new.space c.close_epoch.new.space written seen c.args.actors.now c.close_epoch.new.actors h m execution amid
-    (record { words = words; script = script; workers = workers; finished = subst AreFinished (sym (ap (λ (k : Core AnyActor). mutators_in k.actors) may.core)) c.replay_epoch.ensures.finished; closes = closes }) in (
+    (record { words = words; script = script; workers = workers; tracers = tracers ∙ amid.actors_rest.tracers; finished = subst AreFinished (sym (ap (λ (k : Core AnyActor). mutators_in k.actors) may.core)) c.replay_epoch.ensures.finished; closes = closes }) in (
       execution.history,
       m',
       ran,
       record {
         script = amid.actors_rest.mutators.script;
         workers = amid.actors_rest.workers;
+        tracers = amid.actors_rest.tracers;
         abstract_state = m;
         begins = begins;
         opened = c.open_epoch.new.space;

@@ -7,9 +7,9 @@ use Rattle.lxr_run_loop.proofs.run.run_threads.Given as goal
 abbrev pub invariant-loop-ended : goal.invariant-loop-ended
 invariant-loop-ended g l =
     record {
-      under_way : (task : Task) → IsUnderWay task l.fn.space (g.O.Sink.written l.fn.output) (g.W.Watch.seen l.fn.watch) l.fn.actors l.fn.seed → l.ended ≡ false
+      under_way : (task : Task) → task.options ≡ l.fn.options → IsUnderWay task l.fn.space (g.O.Sink.written l.fn.output) (g.W.Watch.seen l.fn.watch) l.fn.actors l.fn.options.replay → l.ended ≡ false
           → IsUnderWay task l.space (g.O.Sink.written l.output) (g.W.Watch.seen l.watch) l.actors l.x;
-      complete : (task : Task) → IsUnderWay task l.fn.space (g.O.Sink.written l.fn.output) (g.W.Watch.seen l.fn.watch) l.fn.actors l.fn.seed → l.ended ≡ true
+      complete : (task : Task) → task.options ≡ l.fn.options → IsUnderWay task l.fn.space (g.O.Sink.written l.fn.output) (g.W.Watch.seen l.fn.watch) l.fn.actors l.fn.options.replay → l.ended ≡ true
           → IsComplete task l.space (g.O.Sink.written l.output) (g.W.Watch.seen l.watch) l.actors l.x;
       faults : g.O.Sink.faults l.fn.output ≤ g.O.Sink.faults l.output;
     }

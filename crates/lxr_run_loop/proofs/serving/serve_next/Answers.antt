@@ -15,8 +15,9 @@ written_back (y ∷ xs) (suc i) x at = ap (λ z. y ∷ z) (written_back xs i x a
 
 pub serve_or_refuse-requires-clause-may : goal.serve_or_refuse-requires-clause-may
 serve_or_refuse-requires-clause-may g c =
-    let (task, stand, h, abstract_state, (serving, at)) = c.requires.serving in (
+    let (task, with_options, stand, h, abstract_state, (serving, at)) = c.requires.serving in (
       task,
+      with_options,
       stand.first + 1,
       h,
       abstract_state,
@@ -27,9 +28,9 @@ serve_or_refuse-requires-clause-may g c =
 pub returns-in-Some-clause-ok : goal.returns-in-Some-clause-ok
 returns-in-Some-clause-ok g c =
     IfOk-weaker c.serve_or_refuse.result _ _
-    (λ more answers. λ task stand h abstract_state (serving, at).
+    (λ more answers. λ task with_options stand h abstract_state (serving, at).
     let waits = c.in-Some.ensures.some.0 refl in
-    let (h', abstract_state', answered, how) = answers task (stand.first + 1) h abstract_state
+    let (h', abstract_state', answered, how) = answers task with_options (stand.first + 1) h abstract_state
     (may_serve_next task c.args.space.now (g.O.Sink.written c.args.output.now) (g.W.Watch.seen c.args.watch.now) stand.before stand.paused stand.mutators stand.first c.args.served h abstract_state serving c.args.mutator.now at waits) in (
       h',
       abstract_state',
@@ -42,14 +43,14 @@ returns-in-Some-clause-ok g c =
 
 pub returns-in-Some-clause-err : goal.returns-in-Some-clause-err
 returns-in-Some-clause-err g c = on_err_weaker c.serve_or_refuse.result
-    (λ cut_off. λ task stand h abstract_state (serving, at).
-    cut_off task (stand.first + 1) h abstract_state
+    (λ cut_off. λ task with_options stand h abstract_state (serving, at).
+    cut_off task with_options (stand.first + 1) h abstract_state
     (may_serve_next task c.args.space.now (g.O.Sink.written c.args.output.now) (g.W.Watch.seen c.args.watch.now) stand.before stand.paused stand.mutators stand.first c.args.served h abstract_state serving c.args.mutator.now at
     (c.in-Some.ensures.some.0 refl)))
     c.serve_or_refuse.ensures.err
 
 pub returns-in-None-clause-ok : goal.returns-in-None-clause-ok
-returns-in-None-clause-ok g c = λ task stand h abstract_state (serving, at).
+returns-in-None-clause-ok g c = λ task with_options stand h abstract_state (serving, at).
     let idle : ¬ IsWaiting c.args.mutator.now = λ w. let e : false ≡ true = c.in-None.ensures.some.1 w in absurd (cc) in (
       h,
       abstract_state,

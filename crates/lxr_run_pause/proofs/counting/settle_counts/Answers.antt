@@ -1,4 +1,4 @@
-use Rattle.lxr_run_pause.proofs.SettlingLemmas.{can_finish, can_raise, is_raised, left, registers_fit, settles}
+use Rattle.lxr_run_pause.proofs.SettlingLemmas.{can_finish, can_raise, gone, is_raised, left, registers_fit, settles}
 use Rattle.lxr_run_pause.proofs.counting.settle_counts.Goals as goal
 
 -- src/counting.rt:17:5
@@ -32,6 +32,8 @@ defer_roots-requires c =
 
 -- src/counting.rt:12:1
 pub returns : goal.returns
-returns c g can =
-    settles c.args.space.now c.begin_report.new.space g can c.begin_report.ensures c.finish_decrements.new.space c.finish_decrements.ensures c.increments.new.space c.increments.ensures
-    c.queue_decrements.new.space c.queue_decrements.ensures c.defer_roots.new.space c.defer_roots.ensures
+returns c g can = (
+  gone c.args.space.now c.begin_report.new.space g can c.begin_report.ensures c.finish_decrements.new.space c.finish_decrements.ensures,
+  settles c.args.space.now c.begin_report.new.space g can c.begin_report.ensures c.finish_decrements.new.space c.finish_decrements.ensures c.increments.new.space c.increments.ensures
+      c.queue_decrements.new.space c.queue_decrements.ensures c.defer_roots.new.space c.defer_roots.ensures,
+)

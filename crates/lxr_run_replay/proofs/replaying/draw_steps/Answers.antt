@@ -10,7 +10,7 @@ use Rattle.lxr_run_replay.proofs.ReplayLemmas.{all_drawn, begins, can_under_way,
 use Rattle.lxr_run_replay.proofs.replaying.draw_steps.Goals as goal
 
 pub turn-requires-clause-fits : goal.turn-requires-clause-fits
-turn-requires-clause-fits g c κs lives = fits_next (core_of c.loop-numbers.words c.loop-numbers.actors) (can_under_way _ _ _ _ c.requires.replayable c.loop-numbers.invariant.under_way)
+turn-requires-clause-fits g c κs lives = fits_next (core_of c.loop-numbers.words c.loop-numbers.actors) (can_under_way c.args.tracing _ _ _ _ c.requires.replayable c.loop-numbers.invariant.under_way)
 
 pub turn-requires-clause-some : goal.turn-requires-clause-some
 turn-requires-clause-some g c κs lives =
@@ -20,24 +20,24 @@ turn-requires-clause-some g c κs lives =
 pub loop-numbers-smaller : goal.loop-numbers-smaller
 loop-numbers-smaller g c =
     let s = c.turn.ensures.step in
-    let order = (can_under_way _ _ _ (core_of c.loop-numbers.words c.loop-numbers.actors) c.requires.replayable c.loop-numbers.invariant.under_way).order [] in
-    let some = begins_with_mutator c.loop-numbers.actors c.loop-numbers.numbers c.mutators_among-mutators.result order c.loop-numbers.invariant.numbers c.loop-numbers.invariant.mutators (c.begin_below.ensures.0 c.loop-numbers-test.true) in
-    turn_nearer c.loop-numbers.x c.turn.new.x c.loop-numbers.words c.loop-numbers.actors s.0 c.turn.new.words c.turn.new.actors
-    (turn_under_way _ _ _ _ (core_of c.loop-numbers.words c.loop-numbers.actors) s.0 c.requires.replayable c.loop-numbers.invariant.under_way some c.turn.ensures.state s.1) c.turn.ensures.state s.2
+    let order = (can_under_way c.args.tracing _ _ _ (core_of c.loop-numbers.words c.loop-numbers.actors) c.requires.replayable c.loop-numbers.invariant.under_way).order [] in
+    let some = begins_with_mutator c.args.tracing c.loop-numbers.actors c.loop-numbers.numbers c.mutators_among-mutators.result order c.loop-numbers.invariant.numbers c.loop-numbers.invariant.mutators (c.begin_below.ensures.0 c.loop-numbers-test.true) in
+    turn_nearer c.args.tracing c.loop-numbers.x c.turn.new.x c.loop-numbers.words c.loop-numbers.actors s.0 c.turn.new.words c.turn.new.actors
+    (turn_under_way c.args.tracing _ _ _ _ (core_of c.loop-numbers.words c.loop-numbers.actors) s.0 c.requires.replayable c.loop-numbers.invariant.under_way some c.turn.ensures.state s.1) c.turn.ensures.state s.2
 
 pub loop-numbers-init : goal.loop-numbers-init
-loop-numbers-init g c = record { under_way = begins _ _; numbers = c.of-numbers.ensures; mutators = c.mutators_among-mutators.ensures }
+loop-numbers-init g c = record { under_way = begins c.args.tracing _ _; numbers = c.of-numbers.ensures; mutators = c.mutators_among-mutators.ensures }
 
 pub loop-numbers-preserved : goal.loop-numbers-preserved
 loop-numbers-preserved g c =
     let s = c.turn.ensures.step in
-    let order = (can_under_way _ _ _ (core_of c.loop-numbers.words c.loop-numbers.actors) c.requires.replayable c.loop-numbers.invariant.under_way).order [] in
-    let some = begins_with_mutator c.loop-numbers.actors c.loop-numbers.numbers c.mutators_among-mutators.result order c.loop-numbers.invariant.numbers c.loop-numbers.invariant.mutators (c.begin_below.ensures.0 c.loop-numbers-test.true) in
-    let p = picked_actor c.turn.new.x c.loop-numbers.actors s.0 s.1 in
+    let order = (can_under_way c.args.tracing _ _ _ (core_of c.loop-numbers.words c.loop-numbers.actors) c.requires.replayable c.loop-numbers.invariant.under_way).order [] in
+    let some = begins_with_mutator c.args.tracing c.loop-numbers.actors c.loop-numbers.numbers c.mutators_among-mutators.result order c.loop-numbers.invariant.numbers c.loop-numbers.invariant.mutators (c.begin_below.ensures.0 c.loop-numbers-test.true) in
+    let p = picked_actor c.args.tracing c.turn.new.x c.loop-numbers.actors s.0 s.1 in
     let as_many : length (mutators_in c.turn.new.actors) ≡ length (mutators_in c.loop-numbers.actors) =
     ap (λ (d : Core AnyActor). length (mutators_in d.actors)) s.2 ∙ as_many_mutators (core_of c.loop-numbers.words c.loop-numbers.actors) s.0 p.actor order p.at in
     record {
-      under_way = goes_on _ _ _ _ _ _ s.0 c.loop-numbers.invariant.under_way some c.turn.ensures.state s.1 s.2;
+      under_way = goes_on c.args.tracing _ _ _ _ _ _ s.0 c.loop-numbers.invariant.under_way some c.turn.ensures.state s.1 s.2;
       numbers = c.turn.ensures.numbers;
       mutators = c.loop-numbers.invariant.mutators ∙ sym as_many;
     }
@@ -45,6 +45,6 @@ loop-numbers-preserved g c =
 pub returns : goal.returns
 returns g c =
     let u = c.loop-numbers.invariant.under_way in
-    let order = (can_under_way _ _ _ (core_of c.loop-numbers.words c.loop-numbers.actors) c.requires.replayable u).order [] in
-    let told = test_tells c.loop-numbers.actors c.loop-numbers.numbers c.mutators_among-mutators.result c.begin_below.result order c.loop-numbers.invariant.numbers c.loop-numbers.invariant.mutators c.begin_below.ensures in
-    (u.schedule, all_drawn _ _ u.schedule _ u.picks (ap (λ (d : Core AnyActor). some_act (mutators_in d.actors)) (sym u.core_is) ∙ (told ∙ c.loop-numbers-test.false)), u.core_is)
+    let order = (can_under_way c.args.tracing _ _ _ (core_of c.loop-numbers.words c.loop-numbers.actors) c.requires.replayable u).order [] in
+    let told = test_tells c.args.tracing c.loop-numbers.actors c.loop-numbers.numbers c.mutators_among-mutators.result c.begin_below.result order c.loop-numbers.invariant.numbers c.loop-numbers.invariant.mutators c.begin_below.ensures in
+    (u.schedule, all_drawn c.args.tracing _ _ u.schedule _ u.picks (ap (λ (d : Core AnyActor). some_act (mutators_in d.actors)) (sym u.core_is) ∙ (told ∙ c.loop-numbers-test.false)), u.core_is)

@@ -8,8 +8,8 @@ use Rattle.lxr_run_replay.proofs.replaying.draw_steps.Given as goal
 
 abbrev pub invariant-loop-numbers : goal.invariant-loop-numbers
 invariant-loop-numbers g l = record {
-  under_way : IsUnderWay l.fn.x (core_of l.fn.words l.fn.actors) l.x (core_of l.words l.actors);
-  numbers : l.numbers ≡ unfinished l.actors;
+  under_way : IsUnderWay l.tracing l.fn.x (core_of l.fn.words l.fn.actors) l.x (core_of l.words l.actors);
+  numbers : l.numbers ≡ unfinished l.tracing l.actors;
   mutators : l.mutators ≡ length (mutators_in l.actors);
 }
 

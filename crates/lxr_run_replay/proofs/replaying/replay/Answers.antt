@@ -19,12 +19,12 @@ pub finish_units-requires-clause-finished : goal.finish_units-requires-clause-fi
 finish_units-requires-clause-finished g c =
     let (drawn, draws, core_is) = c.draw_steps.ensures in
     let can : CanBeReplayed (core_of c.draw_steps.new.words c.draw_steps.new.actors) = subst CanBeReplayed (sym core_is) (can_go_on (core_of c.args.words.now c.args.actors.now) (map Step drawn) c.requires.replayable) in
-    all_finished (mutators_in c.draw_steps.new.actors) (ap (λ (d : Core AnyActor). some_act (mutators_in d.actors)) core_is ∙ none_left _ (core_of c.args.words.now c.args.actors.now) drawn _ draws) (can.mutators [])
+    all_finished (mutators_in c.draw_steps.new.actors) (ap (λ (d : Core AnyActor). some_act (mutators_in d.actors)) core_is ∙ none_left c.args.tracing _ (core_of c.args.words.now c.args.actors.now) drawn _ draws) (can.mutators [])
 
 pub returns-clause-schedule : goal.returns-clause-schedule
 returns-clause-schedule g c =
     let (drawn, draws, core_is) = c.draw_steps.ensures in
-    let to = replayed _ (core_of c.args.words.now c.args.actors.now) _ drawn (core_of c.draw_steps.new.words c.draw_steps.new.actors) (core_of c.finish_units.new.words c.finish_units.new.actors) draws core_is
+    let to = replayed c.args.tracing _ (core_of c.args.words.now c.args.actors.now) _ drawn (core_of c.draw_steps.new.words c.draw_steps.new.actors) (core_of c.finish_units.new.words c.finish_units.new.actors) draws core_is
     c.finish_units.ensures.finishing c.finish_units.ensures.resting in
     (to.schedule, to.replays, to.core_is)
 
@@ -33,4 +33,4 @@ returns-clause-finished g c =
     let (drawn, draws, core_is) = c.draw_steps.ensures in
     let can : CanBeReplayed (core_of c.draw_steps.new.words c.draw_steps.new.actors) = subst CanBeReplayed (sym core_is) (can_go_on (core_of c.args.words.now c.args.actors.now) (map Step drawn) c.requires.replayable) in
     subst AreFinished (sym c.finish_units.ensures.finishing.mutators)
-    (all_finished (mutators_in c.draw_steps.new.actors) (ap (λ (d : Core AnyActor). some_act (mutators_in d.actors)) core_is ∙ none_left _ (core_of c.args.words.now c.args.actors.now) drawn _ draws) (can.mutators []))
+    (all_finished (mutators_in c.draw_steps.new.actors) (ap (λ (d : Core AnyActor). some_act (mutators_in d.actors)) core_is ∙ none_left c.args.tracing _ (core_of c.args.words.now c.args.actors.now) drawn _ draws) (can.mutators []))

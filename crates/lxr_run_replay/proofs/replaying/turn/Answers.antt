@@ -9,20 +9,20 @@ use Rattle.lxr_run_replay.proofs.replaying.turn.Goals as goal
 
 pub bounds-actors-number : goal.bounds-actors-number
 bounds-actors-number g c =
-    picked_within c.draw.new.x c.args.actors.now c.from-number.result
-    (picked_there c.draw.new.x c.args.actors.now c.args.numbers.now c.draw.result c.len.result c.at.result c.from-number.result c.requires.numbers c.draw.ensures.drawn c.len.ensures c.at.ensures c.from-number.ensures)
+    picked_within c.args.tracing c.draw.new.x c.args.actors.now c.from-number.result
+    (picked_there c.args.tracing c.draw.new.x c.args.actors.now c.args.numbers.now c.draw.result c.len.result c.at.result c.from-number.result c.requires.numbers c.draw.ensures.drawn c.len.ensures c.at.ensures c.from-number.ensures)
 
 pub advance-requires-after_bounds : goal.advance-requires-after_bounds
 advance-requires-after_bounds g c κs lives =
-    let within = picked_within c.draw.new.x c.args.actors.now c.from-number.result
-    (picked_there c.draw.new.x c.args.actors.now c.args.numbers.now c.draw.result c.len.result c.at.result c.from-number.result c.requires.numbers c.draw.ensures.drawn c.len.ensures c.at.ensures c.from-number.ensures) in
+    let within = picked_within c.args.tracing c.draw.new.x c.args.actors.now c.from-number.result
+    (picked_there c.args.tracing c.draw.new.x c.args.actors.now c.args.numbers.now c.draw.result c.len.result c.at.result c.from-number.result c.requires.numbers c.draw.ensures.drawn c.len.ensures c.at.ensures c.from-number.ensures) in
     let at = slice_get_read c.args.actors.now (length c.args.actors.now) _ c.index-actors-number.result refl within c.index-actors-number.is in
     subst (λ (a : AnyActor). Fits any_machine c.args.words.now a) c.index-actors-number.is (c.requires.fits c.from-number.result c.index-actors-number.result at)
 
 pub returns-then-not-advance-clause-step : goal.returns-then-not-advance-clause-step
 returns-then-not-advance-clause-step g c =
-    let picked = picked_there c.draw.new.x c.args.actors.now c.args.numbers.now c.draw.result c.len.result c.at.result c.from-number.result c.requires.numbers c.draw.ensures.drawn c.len.ensures c.at.ensures c.from-number.ensures in
-    let within = picked_within c.draw.new.x c.args.actors.now c.from-number.result picked in
+    let picked = picked_there c.args.tracing c.draw.new.x c.args.actors.now c.args.numbers.now c.draw.result c.len.result c.at.result c.from-number.result c.requires.numbers c.draw.ensures.drawn c.len.ensures c.at.ensures c.from-number.ensures in
+    let within = picked_within c.args.tracing c.draw.new.x c.args.actors.now c.from-number.result picked in
     let at = slice_get_read c.args.actors.now (length c.args.actors.now) _ c.index-actors-number.result refl within c.index-actors-number.is in (
       c.from-number.result,
       picked,
@@ -32,8 +32,8 @@ returns-then-not-advance-clause-step g c =
 
 pub returns-else-not-advance-clause-step : goal.returns-else-not-advance-clause-step
 returns-else-not-advance-clause-step g c =
-    let picked = picked_there c.draw.new.x c.args.actors.now c.args.numbers.now c.draw.result c.len.result c.at.result c.from-number.result c.requires.numbers c.draw.ensures.drawn c.len.ensures c.at.ensures c.from-number.ensures in
-    let within = picked_within c.draw.new.x c.args.actors.now c.from-number.result picked in
+    let picked = picked_there c.args.tracing c.draw.new.x c.args.actors.now c.args.numbers.now c.draw.result c.len.result c.at.result c.from-number.result c.requires.numbers c.draw.ensures.drawn c.len.ensures c.at.ensures c.from-number.ensures in
+    let within = picked_within c.args.tracing c.draw.new.x c.args.actors.now c.from-number.result picked in
     let at = slice_get_read c.args.actors.now (length c.args.actors.now) _ c.index-actors-number.result refl within c.index-actors-number.is in (
       c.from-number.result,
       picked,
@@ -43,8 +43,8 @@ returns-else-not-advance-clause-step g c =
 
 pub returns-then-not-advance-clause-numbers : goal.returns-then-not-advance-clause-numbers
 returns-then-not-advance-clause-numbers g c =
-    c.remove.ensures ∙ left_out c.args.actors.now c.args.numbers.now _ c.at.result c.from-number.result c.advance.new.actor c.requires.numbers c.at.ensures c.from-number.ensures (sym c.advance.ensures.goes_on ∙ c.if-not-advance.true)
+    c.remove.ensures ∙ left_out c.args.tracing c.args.actors.now c.args.numbers.now _ c.at.result c.from-number.result c.advance.new.actor c.requires.numbers c.at.ensures c.from-number.ensures (sym c.advance.ensures.goes_on ∙ c.if-not-advance.true)
 
 pub returns-else-not-advance-clause-numbers : goal.returns-else-not-advance-clause-numbers
 returns-else-not-advance-clause-numbers g c =
-    left_so c.args.actors.now c.args.numbers.now _ c.at.result c.from-number.result c.advance.new.actor c.requires.numbers c.at.ensures c.from-number.ensures (sym c.advance.ensures.goes_on ∙ c.if-not-advance.false)
+    left_so c.args.tracing c.args.actors.now c.args.numbers.now _ c.at.result c.from-number.result c.advance.new.actor c.requires.numbers c.at.ensures c.from-number.ensures (sym c.advance.ensures.goes_on ∙ c.if-not-advance.false)

@@ -1,18 +1,12 @@
-use Rattle.std.proofs.Common.{◌+◌, ◌<◌, ◌∙◌, ap, subst, sym, refl, length}
-use Rattle.std.specs.Prelude.{slice_set}
-use Rattle.lxr_image.specs.Tables.{tables_in}
-use Rattle.lxr_image.specs.declared.tables.BitTable.TheVariants.{Outs}
-use Rattle.lxr_image.proofs.OutLemmas.{out_word_cleared}
-use Rattle.lxr_image.proofs.TableLaws.{bit_word_within}
+use Rattle.std.proofs.Common.{◌∙◌, ap}
+use Rattle.lxr_image.specs.Spaces.{tables_of}
+use Rattle.lxr_image.proofs.BitWordLemmas.{cleared_bits}
 use Rattle.lxr_image.proofs.space.Space.clear_out_word.Goals as goal
 
-pub set-requires : goal.set-requires
-set-requires c = subst (λ b. b + c.args.at < length c.args.self.now.words) (sym c.begin-base.ensures)
-    (bit_word_within c.args.self.now.limits c.args.self.now.words Outs c.args.at c.requires.space.size c.requires.at)
-
 pub returns : goal.returns
-returns c = record {
-  tables = ap (tables_in c.args.self.now.limits) (c.set.ensures ∙ ap (λ b. slice_set c.args.self.now.words (b + c.args.at) 0) c.begin-base.ensures)
-      ∙ out_word_cleared c.args.self.now.limits c.args.self.now.words c.args.at c.requires.space.size c.requires.at;
-  rest = refl;
-}
+returns c =
+    let t = tables_of c.args.self.now in
+    record {
+      tables = c.put_bit_word_in.ensures.tables ∙ ap (λ bits. record t { outs = bits }) (cleared_bits t.outs c.args.at);
+      rest = c.put_bit_word_in.ensures.rest;
+    }

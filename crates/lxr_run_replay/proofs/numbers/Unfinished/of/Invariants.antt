@@ -4,6 +4,6 @@ use Rattle.lxr_run_replay.proofs.numbers.Unfinished.of.Given as goal
 
 abbrev pub invariant-loop-number : goal.invariant-loop-number
 invariant-loop-number l = record {
-  are : l.unfinished ≡ unfinished (take l.number l.fn.actors);
+  are : l.unfinished ≡ unfinished l.tracing (take l.number l.fn.actors);
   few : length l.unfinished ≤ l.number;
 }

@@ -1,0 +1,100 @@
+-- What tracers' pockets are filled with as an epoch opens: places of gray objects that are not marked yet.
+use Rattle.std.specs.Prelude.{◌≡◌, ℕ, zero, suc, ◌+◌, ◌-◌, ◌*◌, ◌<◌, ◌≤◌, ◌&&◌, not, Bool, false, Some, List, [], ◌∷◌, IsTrue, if◌then◌else◌, length, map, slice_get, take}
+use Rattle.std.specs.List.{flat_map}
+use Rattle.lxr_layout.specs.declared.TheConstants.{GRANULES_IN_BLOCK}
+use Rattle.lxr_layout.specs.declared.Place.{Place}
+use Rattle.lxr_layout.specs.declared.limits.Limits.{Limits}
+use Rattle.lxr_image.specs.Tables.{Tables}
+use Rattle.lxr_image.specs.Reads.{granule_of}
+use Rattle.lxr_trace.specs.Tracing.{TracerState}
+use Rattle.lxr_core_events.specs.Counted.{IsInHeap}
+use Rattle.lxr_core_sim_tracer.specs.Showing.{IsTracerOf}
+use Rattle.lxr_core.specs.declared.actors.AnyActor.{AnyActor}
+use Rattle.lxr_core.specs.declared.actors.AnyActor.TheVariants as any
+use Rattle.lxr_core.specs.Actors.{tracers_in}
+
+-- a gray object that isn't marked begins at a place of the heap
+pub record IsToScan (t : Tables) (blocks : ℕ) (place : Place) : Type 0 where
+  pub in_heap : IsInHeap blocks place.0
+  pub gray : IsTrue (t.grays (granule_of place.0))
+  pub unmarked : t.marks (granule_of place.0) ≡ false
+
+-- what stands in all pockets, that of the first tracer first
+abbrev pub in_pockets : List TracerState → List Place
+in_pockets tracers = flat_map (λ d. d.pocket.items) tracers
+
+-- The pockets are filled: each has room for 64 places, and one has fewer only where all that is to be scanned stands in some pocket.
+pub record FillsPockets (t : Tables) (blocks : ℕ) (tracers : List TracerState) : Type 0 where
+  pub few : (i : ℕ) (d : TracerState) → slice_get tracers i ≡ Some d → length d.pocket.items ≤ 64
+  -- what stands in a pocket is to be scanned
+  pub found : (k : ℕ) (place : Place) → slice_get (in_pockets tracers) k ≡ Some place → IsToScan t blocks place
+  -- no place stands twice in all pockets together
+  pub once : (j k : ℕ) (place : Place) → slice_get (in_pockets tracers) j ≡ Some place → slice_get (in_pockets tracers) k ≡ Some place → j ≡ k
+  -- where one isn't full, nothing is left over
+  pub all : (i : ℕ) (d : TracerState) → slice_get tracers i ≡ Some d → length d.pocket.items < 64
+      → (place : Place) → IsToScan t blocks place → (k : ℕ) × (slice_get (in_pockets tracers) k ≡ Some place)
+
+-- a tracer whose pocket has these places
+abbrev pub holding_places : TracerState → List Place → TracerState
+holding_places d places = record d { pocket = record d.pocket { items = places } }
+
+-- an actor, were its pocket not filled as the epoch opened
+abbrev pub unfilled : AnyActor → AnyActor
+unfilled (any.Mutator m) = any.Mutator m
+unfilled (any.Decrementer d) = any.Decrementer d
+unfilled (any.Tracer d) = any.Tracer (holding_places d [])
+
+-- ---- how they are filled: granules in order, the first tracer's pocket first
+
+-- a granule has a gray object that isn't marked
+abbrev pub is_to_scan : Tables → ℕ → Bool
+is_to_scan t k = t.grays k && not (t.marks k)
+
+-- none from one granule up to another has
+abbrev pub NoneToScan : Tables → ℕ → ℕ → Type 0
+NoneToScan t from to = (k : ℕ) → from ≤ k → k < to → is_to_scan t k ≡ false
+
+-- the first from a granule on that has
+pub record IsNextToScan (t : Tables) (from end granule : ℕ) : Type 0 where
+  pub reached : from ≤ granule
+  pub within : granule < end
+  pub is : IsTrue (is_to_scan t granule)
+  pub passed : NoneToScan t from granule
+
+-- the places of the next so many granules that have, in order
+abbrev pub places_of : Tables → ℕ → ℕ → List Place
+places_of t from zero = []
+places_of t from (suc count) = if is_to_scan t from then record { 0 = from + 1 } ∷ places_of t (from + 1) count else places_of t (from + 1) count
+
+abbrev pub places_between : Tables → ℕ → ℕ → List Place
+places_between t from to = places_of t from (to - from)
+
+-- a tracer's empty pocket was filled with what stands from one granule up to another; it is full, or that is the heap's end
+pub record FillsPocket (t : Tables) (blocks from to : ℕ) (before after : TracerState) : Type 0 where
+  pub reached : from ≤ to
+  pub within : to ≤ GRANULES_IN_BLOCK * blocks
+  pub places : after ≡ holding_places before (places_between t from to)
+  pub few : length (places_between t from to) ≤ 64
+  pub full : length (places_between t from to) < 64 → to ≡ GRANULES_IN_BLOCK * blocks
+
+-- so it is with an actor; only tracers' pockets are filled
+abbrev pub FillsActor : Tables → ℕ → ℕ → ℕ → AnyActor → AnyActor → Type 0
+FillsActor t blocks from to (any.Tracer d) after = (e : TracerState) × (after ≡ any.Tracer e) × FillsPocket t blocks from to d e
+FillsActor t blocks from to before after = (after ≡ before) × (to ≡ from)
+
+-- an actor's pocket may be filled in a space of these limits: a tracer's is empty
+abbrev pub MayFill : Limits → AnyActor → Type 0
+MayFill l (any.Tracer d) = IsTracerOf l d × (d.pocket.items ≡ [])
+MayFill l a = Unit {0}
+
+abbrev pub MayAllFill : Limits → List AnyActor → Type 0
+MayAllFill l actors = (i : ℕ) (a : AnyActor) → slice_get actors i ≡ Some a → MayFill l a
+
+-- the pockets of the first so many actors are filled, with what stands up to a granule
+pub record HaveFilled (t : Tables) (blocks to : ℕ) (before after : List AnyActor) (count : ℕ) : Type 0 where
+  pub within : to ≤ GRANULES_IN_BLOCK * blocks
+  pub same : map unfilled after ≡ map unfilled before
+  pub others : (i : ℕ) → count ≤ i → slice_get after i ≡ slice_get before i
+  pub places : in_pockets (tracers_in (take count after)) ≡ places_between t 0 to
+  pub few : (i : ℕ) (d : TracerState) → slice_get (tracers_in (take count after)) i ≡ Some d → length d.pocket.items ≤ 64
+  pub full : (i : ℕ) (d : TracerState) → slice_get (tracers_in (take count after)) i ≡ Some d → length d.pocket.items < 64 → to ≡ GRANULES_IN_BLOCK * blocks

@@ -1,0 +1,5 @@
+pub mod GroundLemmas
+pub mod TurnLemmas
+pub mod StepLemmas
+pub mod SoundLemmas
+pub mod KeepingLemmas

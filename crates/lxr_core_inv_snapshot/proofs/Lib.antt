@@ -1,0 +1,10 @@
+pub mod FindLemmas
+pub mod CoverLemmas
+pub mod TracerLemmas
+pub mod DecrementerLemmas
+pub mod HelperLemmas
+pub mod SafepointLemmas
+pub mod OldLemmas
+pub mod TurnLemmas
+pub mod StoreLemmas
+pub mod MutatorLemmas

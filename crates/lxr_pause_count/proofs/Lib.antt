@@ -1,0 +1,4 @@
+pub mod StartLemmas
+pub mod EntryLemmas
+pub mod CountLemmas
+pub mod ToldLemmas

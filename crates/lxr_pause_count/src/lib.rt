@@ -1,0 +1,7 @@
+//! The counts of a report: each unreclaimed object with its count, in the order of names.
+#![tactic(auto)]
+
+mod counting;
+mod starts;
+
+pub use counting::count_unreclaimed;

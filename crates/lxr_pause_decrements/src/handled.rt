@@ -1,0 +1,162 @@
+//! Reclaiming what decrementers have handled, a block at a time.
+//!
+//! What such an object referred to was lowered when it was handled, and made gray if a trace ran, so it is reported, and its bits
+//! and marks are cleared. All names of a block are reported first: so its headers are read one right after another, and none waits
+//! until the one before it has come from memory. The bits of 64 granules are cleared together.
+ghost use Rattle.std.specs.Prelude.{◌≡◌, ◌==◌, ℕ, ◌+◌, ◌*◌, ◌/◌, ◌<◌, ◌≤◌, IfNone, IfSome, false, if◌then◌else◌, length};
+ghost use Rattle.lxr_layout.specs.declared.TheConstants.{GRANULES_IN_BLOCK};
+ghost use Rattle.lxr_layout.specs.declared.Name.{Name as NameOf};
+ghost use Rattle.lxr_layout.specs.declared.Shape.{Shape as ShapeOf};
+ghost use Rattle.lxr_layout.specs.Objects.{word_count};
+ghost use Rattle.lxr_base.specs.Roomy.{pushed};
+ghost use Rattle.lxr_image.specs.Spaces.{IsSpace, Turns, tables_of};
+ghost use Rattle.lxr_pause_decrements.specs.Cascade.{IsHeader, Keeps, with_lists};
+ghost use Rattle.lxr_pause_decrements.specs.Handled.{HandledStand, IsNextBit, MayReport, NoBit, OnlyReports, ReportsBlock, ReportsWord, reclaimed_from, reclaimed_words, without_reach};
+ghost use Rattle.lxr_pause_decrements.specs.Steps.{MayReclaimAllHandled, ReclaimsAllHandled, ReclaimsSomeHandled};
+
+use crate::reclaiming::{clear_line_marks, clear_logs};
+use crate::wanted::{Wanted, may_want};
+use lxr_image::Space;
+use lxr_layout::{Header, unpack, words_of};
+
+/// The first bit of a word, from one on, that is set.
+#[inline(always)]
+fn next_bit(word: u64, from: u32) -> Option<u32>
+    ensures none { IfNone result (NoBit word from 64) }
+    ensures next { IfSome result (λ bit. IsNextBit word from bit) }
+{
+    if from >= 64 {
+        return None;
+    }
+    let rest = word >> from;
+    if rest == 0 {
+        return None;
+    }
+    Some(from + rest.trailing_zeros())
+}
+
+/// Reports the object that begins at a granule as dead.
+#[inline(always)]
+fn report_dead(space: &mut Space, granule: u32)
+    requires space { IsSpace space.old }
+    requires heap { granule < GRANULES_IN_BLOCK * space.old.limits.blocks }
+    requires room { length space.old.report.dead.items < space.old.report.dead.room }
+    ensures { (n : NameOf) (shape : ShapeOf) → IsHeader (tables_of space.old) (granule + 1) n shape
+        → space.new ≡ with_lists space.old space.old.words space.old.work (pushed space.old.report.dead n) }
+{
+    if let Header::Object(name, _) = unpack(space.heap_word(2 * granule)) {
+        space.report.dead.push(name);
+    }
+}
+
+/// Reports the handled objects that begin at 64 granules in a row.
+#[inline(always)]
+fn report_word(space: &mut Space, at: u32)
+    requires at { at < 32 * space.old.limits.blocks }
+    requires stage { MayReport space.old (64 * at) }
+    ensures reports { ReportsWord space.old space.new at }
+    ensures only { OnlyReports space.old space.new }
+{
+    let dones = space.done_word(at);
+    let mut from = 0;
+    while let Some(bit) = next_bit(dones, from) {
+        report_dead(space, 64 * at + bit);
+        from = bit + 1;
+    }
+}
+
+/// Reports the handled objects that begin in a block.
+fn report_block(space: &mut Space, block: u32)
+    requires block { block < space.old.limits.blocks }
+    requires stage { MayReport space.old (GRANULES_IN_BLOCK * block) }
+    ensures reports { ReportsBlock space.old space.new block }
+    ensures only { OnlyReports space.old space.new }
+{
+    for i in 0..32 {
+        report_word(space, 32 * block + i);
+    }
+}
+
+/// Clears the marks of the further lines of the object that begins at a granule, and the unlogged bits of its references.
+#[inline(always)]
+fn clear_reach(space: &mut Space, granule: u32)
+    requires space { IsSpace space.old }
+    requires header { (n : NameOf) × (shape : ShapeOf) × IsHeader (tables_of space.old) (granule + 1) n shape × (granule + word_count shape / 2 ≤ GRANULES_IN_BLOCK * space.old.limits.blocks) }
+    ensures { Turns space.old space.new (without_reach (tables_of space.old) granule) }
+{
+    if let Header::Object(_, shape) = unpack(space.heap_word(2 * granule)) {
+        clear_line_marks(space, granule, words_of(shape) / 2);
+        clear_logs(space, 2 * granule + 1, shape.refs);
+    }
+}
+
+/// Clears what the handled objects leave that begin at 64 granules in a row.
+#[inline(always)]
+fn clear_word(space: &mut Space, at: u32)
+    requires space { IsSpace space.old }
+    requires at { at < 32 * space.old.limits.blocks }
+    requires stand { HandledStand (tables_of space.old) space.old.limits.blocks (64 * at) (64 * at + 64) }
+    ensures { Turns space.old space.new (reclaimed_from (tables_of space.old) (64 * at) 64) }
+{
+    let dones = space.done_word(at);
+    let mut from = 0;
+    while let Some(bit) = next_bit(dones, from) {
+        clear_reach(space, 64 * at + bit);
+        from = bit + 1;
+    }
+    let starts = space.start_word(at);
+    space.put_start_word(at, starts & !dones);
+    let marks = space.mark_word(at);
+    space.put_mark_word(at, marks & !dones);
+    let grays = space.gray_word(at);
+    space.put_gray_word(at, grays & !dones);
+    space.put_done_word(at, 0);
+}
+
+/// Clears what the handled objects leave that begin in a block.
+fn clear_block(space: &mut Space, block: u32)
+    requires space { IsSpace space.old }
+    requires block { block < space.old.limits.blocks }
+    requires stand { HandledStand (tables_of space.old) space.old.limits.blocks (GRANULES_IN_BLOCK * block) (GRANULES_IN_BLOCK * (block + 1)) }
+    ensures { Turns space.old space.new (reclaimed_words (tables_of space.old) (32 * block) 32) }
+{
+    for i in 0..32 {
+        clear_word(space, 32 * block + i);
+    }
+}
+
+/// Reclaims the handled objects that begin in a block.
+fn reclaim_block(space: &mut Space, block: u32)
+    requires stage { MayReclaimAllHandled space.old }
+    requires block { block < space.old.limits.blocks }
+    ensures reclaims { ReclaimsSomeHandled space.old space.new }
+    ensures dones { (k : ℕ) → (tables_of space.new).dones k ≡ (if k / GRANULES_IN_BLOCK == block then false else (tables_of space.old).dones k) }
+    ensures keeps { Keeps space.old space.new }
+{
+    report_block(space, block);
+    clear_block(space, block);
+}
+
+/// Reclaims the handled objects that begin in a block, where there may be some.
+fn reclaim_wanted(space: &mut Space, block: u32)
+    requires stage { MayReclaimAllHandled space.old }
+    requires block { block < space.old.limits.blocks }
+    ensures reclaims { ReclaimsSomeHandled space.old space.new }
+    ensures dones { (k : ℕ) → (tables_of space.new).dones k ≡ (if k / GRANULES_IN_BLOCK == block then false else (tables_of space.old).dones k) }
+    ensures keeps { Keeps space.old space.new }
+{
+    if may_want(space, Wanted::Handled, block) {
+        reclaim_block(space, block);
+    }
+}
+
+/// Reclaims each object that a decrementer has handled.
+pub(crate) fn reclaim_all_handled(space: &mut Space)
+    requires { MayReclaimAllHandled space.old }
+    ensures reclaims { ReclaimsAllHandled space.old space.new }
+    ensures keeps { Keeps space.old space.new }
+{
+    for block in 0..space.limits.blocks {
+        reclaim_wanted(space, block);
+    }
+}

@@ -1,0 +1,80 @@
+//! Reclaiming one object: its bits and marks are cleared, and it is reported.
+ghost use Rattle.std.specs.Prelude.{◌≡◌, ◌+◌, ◌-◌, ◌*◌, ◌/◌, ◌<◌, ◌≤◌, length};
+ghost use Rattle.lxr_layout.specs.declared.TheConstants.{GRANULES_IN_BLOCK, WORDS_IN_BLOCK};
+ghost use Rattle.lxr_layout.specs.declared.Name.{Name as NameOf};
+ghost use Rattle.lxr_layout.specs.declared.Shape.{Shape as ShapeOf};
+ghost use Rattle.lxr_layout.specs.Objects.{FitsShape, word_count};
+ghost use Rattle.lxr_layout.specs.Places.{IsPlace};
+ghost use Rattle.lxr_image.specs.Spaces.{IsSpace, Turns, tables_of};
+ghost use Rattle.lxr_invariant.specs.Lines.{line_behind, next_line};
+ghost use Rattle.lxr_pause_decrements.specs.Cascade.{Buries, IsHeader, Reclaims, without_object};
+ghost use Rattle.lxr_pause_decrements.specs.Wipe.{cleared, wiped};
+
+use lxr_image::Space;
+use lxr_layout::{GRANULES_IN_LINE, Header, Place, Shape, unpack, word_of, words_of};
+
+/// Clears the marks of the further lines of an object of so many granules.
+pub(crate) fn clear_line_marks(space: &mut Space, granule: u32, count: u32)
+    requires space { IsSpace space.old }
+    requires count { 1 ≤ count }
+    requires heap { granule + count ≤ GRANULES_IN_BLOCK * space.old.limits.blocks }
+    ensures { Turns space.old space.new (record (tables_of space.old) { counts = wiped (tables_of space.old).counts (next_line granule) (line_behind granule count) }) }
+{
+    for line in granule / GRANULES_IN_LINE + 1..(granule + count - 1) / GRANULES_IN_LINE + 1 {
+        space.set_count(GRANULES_IN_LINE * line, 0);
+    }
+}
+
+/// Clears the unlogged bits of so many heap words.
+pub(crate) fn clear_logs(space: &mut Space, at: u32, count: u16)
+    requires space { IsSpace space.old }
+    requires heap { at + count ≤ WORDS_IN_BLOCK * space.old.limits.blocks }
+    ensures { Turns space.old space.new (record (tables_of space.old) { unlogged = cleared (tables_of space.old).unlogged at (at + count) }) }
+{
+    for i in 0..count {
+        space.clear_unlogged(at + u32::from(i));
+    }
+}
+
+/// Clears the bits and marks of an object. Its count is 0 already.
+pub fn clear_object(space: &mut Space, place: Place, shape: Shape)
+    requires space { IsSpace space.old }
+    requires place { IsPlace place }
+    requires shape { FitsShape shape }
+    requires heap { place.0 - 1 + word_count shape / 2 ≤ GRANULES_IN_BLOCK * space.old.limits.blocks }
+    ensures { Turns space.old space.new (without_object (tables_of space.old) place.0 shape) }
+{
+    let granule = place.0 - 1;
+    space.clear_start(granule);
+    space.clear_mark(granule);
+    space.clear_gray(granule);
+    clear_line_marks(space, granule, words_of(shape) / 2);
+    clear_logs(space, 2 * granule + 1, shape.refs);
+}
+
+/// Clears what an object at a place leaves, whose count is 0, and reports it: it begins no more.
+pub fn bury(space: &mut Space, place: Place)
+    requires space { IsSpace space.old }
+    requires place { IsPlace place }
+    requires header { (n : NameOf) × (shape : ShapeOf) × IsHeader (tables_of space.old) place.0 n shape × (place.0 - 1 + word_count shape / 2 ≤ GRANULES_IN_BLOCK * space.old.limits.blocks) }
+    requires dead { length space.old.report.dead.items < space.old.report.dead.room }
+    ensures { (n : NameOf) (shape : ShapeOf) → IsHeader (tables_of space.old) place.0 n shape → Buries space.old space.new place n shape }
+{
+    if let Header::Object(name, shape) = unpack(space.heap_word(word_of(place))) {
+        clear_object(space, place, shape);
+        space.report.dead.push(name);
+    }
+}
+
+/// Reclaims the object at a place, whose count is 0: it begins no more, is reported, and waits in the worklist.
+pub fn reclaim(space: &mut Space, place: Place)
+    requires space { IsSpace space.old }
+    requires place { IsPlace place }
+    requires header { (n : NameOf) × (shape : ShapeOf) × IsHeader (tables_of space.old) place.0 n shape × (place.0 - 1 + word_count shape / 2 ≤ GRANULES_IN_BLOCK * space.old.limits.blocks) }
+    requires work { length space.old.work.items < space.old.work.room }
+    requires dead { length space.old.report.dead.items < space.old.report.dead.room }
+    ensures { (n : NameOf) (shape : ShapeOf) → IsHeader (tables_of space.old) place.0 n shape → Reclaims space.old space.new place n shape }
+{
+    bury(space, place);
+    space.work.push(place);
+}

@@ -1,0 +1,84 @@
+-- What holds of a trace stays with another number, another order of stuck names, other states of blocks and another tracing word.
+use Rattle.std.proofs.Common.{◌≡◌, ℕ, ◌/◌, ◌<◌, ◌≤◌, sym, subst, ◌∙◌, inl, inr, ◌⊎◌, arith, List}
+use Rattle.std.specs.Prelude.{Option, Some, None}
+use Rattle.lxr_layout.specs.declared.limits.Limits.{Limits}
+use Rattle.lxr_layout.specs.declared.Name.{Name}
+use Rattle.lxr_layout.specs.declared.LogEntry.{LogEntry}
+use Rattle.lxr_layout.specs.declared.TheConstants.{GRANULES_IN_BLOCK, REMEMBERED_CURSOR}
+use Rattle.lxr_graph.specs.Names.{has}
+use Rattle.lxr_graph.specs.History.{PauseReport}
+use Rattle.lxr_image.specs.Tables.{Tables}
+use Rattle.lxr_image.specs.Reads.{granule_of}
+use Rattle.lxr_blocks.specs.declared.states.BlockState.TheVariants.{Chosen}
+use Rattle.lxr_blocks.specs.States.{state_in}
+use Rattle.lxr_model.specs.Moments.{Moment, Trace, rememberable}
+use Rattle.lxr_invariant.specs.AbstractState.{AbstractState}
+use Rattle.lxr_invariant.specs.Tracing.{HasOverflowed, IsRemembered, IsRememberedSoFar, IsTracedBy, MarksStayInside, SnapshotIsCovered, TraceHolds}
+use Rattle.lxr_run_pause.proofs.FrameLemmas.{renumbered}
+
+module _ (l : Limits) (t : Tables) (states cursors : ℕ → ℕ) (entries : List LogEntry) (g : AbstractState) (number : ℕ) (stuck : List Name) (running : Option Trace) (reported : PauseReport)
+    (same : (n : Name) → has stuck n ≡ has g.moment.stuck n) (later : g.moment.number ≤ number) (cursor : cursors REMEMBERED_CURSOR ≡ t.cursors REMEMBERED_CURSOR)
+    (chosen : (b : ℕ) → state_in (record t { states = states; cursors = cursors }) b ≡ Chosen → state_in t b ≡ Chosen) where
+  abbrev u : Tables
+  u = record t { states = states; cursors = cursors }
+
+  abbrev m : Moment
+  m = g.moment
+
+  abbrev then : Moment
+  then = renumbered m number stuck running
+
+  -- what the state is then
+  abbrev pub abstract_then : AbstractState
+  abstract_then = record { moment = then; at = g.at; reported = reported }
+
+  module _ (trace : Trace) (is : TraceHolds l t entries g trace) where
+    covered : SnapshotIsCovered u then g.at entries trace
+    covered = record {
+      world = is.covered.world;
+      registers = is.covered.registers;
+      references = λ x v i r e. elim (is.covered.references x v i r e) [
+        | inl c ↦ inl c
+        | inr scan ↦ inr (record { member = scan.member; unmarked = scan.unmarked; undone = scan.undone; holds = scan.holds })
+      ];
+    }
+
+    inside : MarksStayInside u then g.at trace
+    inside = record {
+      marks = is.inside.marks;
+      grays = is.inside.grays;
+      dones = is.inside.dones;
+      members = is.inside.members;
+      referred = is.inside.referred;
+      garbage = λ n q.
+          let stays = is.inside.garbage n q in
+          record { member = stays.member; dropped = stays.dropped; undone = stays.undone; references = stays.references; referred = λ unstuck. stays.referred (sym (same n) ∙ unstuck) };
+    }
+
+    remembers : (n : Name) (i : ℕ) → IsRemembered l t g.at n i ⊎ HasOverflowed l t → IsRemembered l u g.at n i ⊎ HasOverflowed l u
+    remembers n i (inl r) = inl (r.0, subst (λ z. r.0 < z) (sym cursor) r.1, r.2, r.3)
+    remembers n i (inr over) = inr (subst (λ z. l.remember < z) (sym cursor) over)
+
+    remembered : IsRememberedSoFar l u then g.at trace (rememberable trace is.snapshot)
+    remembered = record {
+      fields = λ n v i k scan e bit c. remembers n i (is.remembered.fields n v i k scan e bit (chosen (granule_of (g.at v) / GRANULES_IN_BLOCK) c));
+      entries = λ k drawn within.
+          let r = is.remembered.entries k (subst (λ z. k < z) cursor drawn) within in
+          (r.0, r.1, r.2, record { is = r.3.is; entry = r.3.entry; in_heap = r.3.in_heap });
+      drawn = subst (λ z. z ≤ rememberable trace is.snapshot) (sym cursor) is.remembered.drawn;
+    }
+
+    pub trace_still : TraceHolds l u entries abstract_then trace
+    trace_still = record {
+      snapshot = is.snapshot;
+      reachable = is.reachable;
+      covered = covered;
+      inside = inside;
+      handled = is.handled;
+      remembered = remembered;
+      few = let few = is.few in omega (arith, few, later);
+    }
+
+  pub traced_still : (trace : Option Trace) → IsTracedBy l t entries g trace → IsTracedBy l u entries abstract_then trace
+  traced_still None is = tt
+  traced_still (Some trace) is = trace_still trace is

@@ -1,0 +1,59 @@
+use Rattle.lxr_run_pause.specs.Tracing.{drained}
+use Rattle.lxr_model_counting.specs.Garbage.{IsGarbageOf}
+use Rattle.lxr_run_pause.proofs.TracingLemmas.{can_finish, can_sweep, can_trace, end_traced}
+use Rattle.lxr_run_pause.proofs.tracing.end.Goals as goal
+
+pub finish_decrements-requires : goal.finish_decrements-requires
+finish_decrements-requires c = (c.requires.0.moment, c.requires.0.at, can_finish c.args.space.now c.requires.0 c.requires.1.drains)
+
+pub finish_trace-requires : goal.finish_trace-requires
+finish_trace-requires c =
+    let g = c.requires.0 in
+    let f = c.finish_decrements.ensures g.moment g.at (can_finish c.args.space.now g c.requires.1.drains) in
+    (drained g f.0, g.at, can_trace c.args.space.now g c.requires.1.drains c.finish_decrements.new.space f.0 f.1)
+
+pub sweep_unmarked-requires : goal.sweep_unmarked-requires
+sweep_unmarked-requires c =
+    let s = c.args.space.now in
+    let g = c.requires.0 in
+    let can = c.requires.1 in
+    let f = c.finish_decrements.ensures g.moment g.at (can_finish s g can.drains) in
+    let t = c.finish_trace.ensures (drained g f.0) g.at (can_trace s g can.drains c.finish_decrements.new.space f.0 f.1) in (
+      drained g f.0,
+      g.at,
+      can_sweep s g can.drains c.finish_decrements.new.space f.0 f.1 c.finish_trace.new.space (record { tables = t.tables; space = t.space }) t.holds (IsGarbageOf can.trace)
+          (end_traced s g can c.finish_decrements.new.space c.finish_trace.new.space f.0 f.1 t).0,
+    )
+
+pub set_trace-requires : goal.set_trace-requires
+set_trace-requires c =
+    let s = c.args.space.now in
+    let g = c.requires.0 in
+    let can = c.requires.1 in
+    let f = c.finish_decrements.ensures g.moment g.at (can_finish s g can.drains) in
+    let t = c.finish_trace.ensures (drained g f.0) g.at (can_trace s g can.drains c.finish_decrements.new.space f.0 f.1) in
+    let w = c.sweep_unmarked.ensures (drained g f.0) g.at
+    (can_sweep s g can.drains c.finish_decrements.new.space f.0 f.1 c.finish_trace.new.space (record { tables = t.tables; space = t.space }) t.holds (IsGarbageOf can.trace)
+    (end_traced s g can c.finish_decrements.new.space c.finish_trace.new.space f.0 f.1 t).0) in
+    w.2.holds.space
+
+pub returns : goal.returns
+returns c g can =
+    let s = c.args.space.now in
+    let f = c.finish_decrements.ensures g.moment g.at (can_finish s g can.drains) in
+    let t = c.finish_trace.ensures (drained g f.0) g.at (can_trace s g can.drains c.finish_decrements.new.space f.0 f.1) in
+    let w = c.sweep_unmarked.ensures (drained g f.0) g.at
+    (can_sweep s g can.drains c.finish_decrements.new.space f.0 f.1 c.finish_trace.new.space (record { tables = t.tables; space = t.space }) t.holds (IsGarbageOf can.trace)
+    (end_traced s g can c.finish_decrements.new.space c.finish_trace.new.space f.0 f.1 t).0) in
+    record {
+      gone = f.0;
+      swept = w.0;
+      third = w.1;
+      found = c.finish_decrements.new.space;
+      traced = c.finish_trace.new.space;
+      cleared = c.sweep_unmarked.new.space;
+      finishes = f.1;
+      traces = t;
+      sweeps = w.2;
+      sets = c.set_trace.ensures;
+    }

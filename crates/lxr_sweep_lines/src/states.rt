@@ -1,0 +1,17 @@
+//! The sweep over all blocks.
+ghost use Rattle.lxr_image.specs.Spaces.{IsSpace, Turns, tables_of};
+ghost use Rattle.lxr_sweep_lines.specs.Swept.{with_states_by_lines};
+
+use lxr_blocks::renew_state;
+use lxr_image::Space;
+
+/// Gives each block the state of its free lines, unless it is Chosen or World.
+pub fn sweep_lines(space: &mut Space)
+    requires { IsSpace space.old }
+    ensures states { Turns space.old space.new (with_states_by_lines (tables_of space.old) space.old.limits.blocks) }
+    ensures space { IsSpace space.new }
+{
+    for block in 0..space.limits.blocks {
+        renew_state(space, block);
+    }
+}

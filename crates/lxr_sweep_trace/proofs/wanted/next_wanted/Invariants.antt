@@ -1,0 +1,14 @@
+use Rattle.std.proofs.Common.{◌-◌, ◌≤◌}
+use Rattle.lxr_image.specs.Spaces.{tables_of}
+use Rattle.lxr_sweep_trace.specs.Marking.{NoneWanted, granules}
+use Rattle.lxr_sweep_trace.proofs.wanted.next_wanted.Given as goal
+
+abbrev pub invariant-loop-at : goal.invariant-loop-at
+invariant-loop-at l =
+    record {
+      past : l.from ≤ l.at;
+      none : NoneWanted (tables_of l.space) l.from l.at;
+    }
+
+abbrev pub decreases-loop-at : goal.decreases-loop-at
+decreases-loop-at l = granules l.space - l.at

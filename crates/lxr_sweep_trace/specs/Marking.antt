@@ -1,0 +1,182 @@
+-- A trace by places: what is left to mark, and what holds while it is marked.
+use Rattle.std.specs.Prelude.{◌≡◌, ℕ, ◌+◌, ◌*◌, ◌<◌, ◌≤◌, ◌⊎◌, ◌&&◌, not, Bool, true, false, Option, Some, None, List, [], IsTrue, length, slice_get, if◌then◌else◌}
+use Rattle.std.specs.List.{Contains}
+use Rattle.lxr_layout.specs.declared.TheConstants.{GRANULES_IN_BLOCK}
+use Rattle.lxr_layout.specs.declared.Place.{Place}
+use Rattle.lxr_layout.specs.declared.Header.{Header}
+use Rattle.lxr_layout.specs.declared.Header.TheVariants.{Object, Moved}
+use Rattle.lxr_base.specs.Roomy.{pushed}
+use Rattle.lxr_image.specs.declared.space.Space.{Space}
+use Rattle.lxr_image.specs.Spaces.{IsSpace, tables_of}
+use Rattle.lxr_image.specs.Tables.{Tables, changed}
+use Rattle.lxr_image.specs.Reads.{StartsStandWhole, field_at, granule_of, header_at}
+use Rattle.lxr_invariant.specs.Counting.{passing}
+
+-- the granules of a space's heap
+abbrev pub granules : Space → ℕ
+granules s = GRANULES_IN_BLOCK * s.limits.blocks
+
+-- ---- what is left to mark
+
+-- a reference of the object at a place holds another place
+abbrev pub RefersAt : Tables → ℕ → ℕ → Type 0
+RefersAt t p q = (1 ≤ q) × (i : ℕ) × (field_at t p i ≡ Some q)
+
+-- The least set of places whose objects are not marked yet and are gray, or to which one of the set refers.
+pub data IsLeft (t : Tables) : ℕ → Type 0 where
+  gray : (p : ℕ) → 1 ≤ p → IsTrue (t.grays (granule_of p)) → t.marks (granule_of p) ≡ false → IsLeft t p
+  referred : (p q : ℕ) → IsLeft t p → RefersAt t p q → t.marks (granule_of q) ≡ false → IsLeft t q
+
+-- an object is to be found: it is gray, or one that is left to mark refers to it
+pub record IsDue (t : Tables) (q : ℕ) : Type 0 where
+  pub placed : 1 ≤ q
+  pub by : IsTrue (t.grays (granule_of q)) ⊎ ((p : ℕ) × IsLeft t p × RefersAt t p q)
+
+-- what a trace reads: each object stands whole, each of its references is nil or holds an object's place, and what is gray is
+-- an object
+pub record IsTraceable (t : Tables) (blocks : ℕ) : Type 0 where
+  pub whole : StartsStandWhole t blocks
+  pub closed : (p q : ℕ) → RefersAt t p q → IsTrue (t.starts (granule_of q))
+  pub grays : (k : ℕ) → IsTrue (t.grays k) → IsTrue (t.starts k)
+
+-- how many references an object has, by its header
+abbrev pub slots_in : Option Header → ℕ
+slots_in (Some (Object n shape)) = shape.refs
+slots_in (Some (Moved p)) = 0
+slots_in None = 0
+
+-- so it has at a place
+abbrev pub slots_at : Tables → ℕ → ℕ
+slots_at t p = slots_in (header_at t p)
+
+-- ---- what is found
+
+-- the object at a place is found: it is gray and marked
+pub record IsFound (t : Tables) (q : ℕ) : Type 0 where
+  pub gray : IsTrue (t.grays (granule_of q))
+  pub marked : IsTrue (t.marks (granule_of q))
+
+-- the object at a place is found, and where it was unmarked it waits in the worklist
+pub record Finds (before after : Space) (place : Place) : Type 0 where
+  pub tables : let t : Tables = tables_of before in
+      tables_of after ≡ record t { grays = changed t.grays (granule_of place.0) true; marks = changed t.marks (granule_of place.0) true }
+  pub work : after.work ≡ (if (tables_of before).marks (granule_of place.0) then before.work else pushed before.work place)
+  pub rest : after ≡ record before { words = after.words; work = after.work }
+
+-- ---- the next gray object that is unmarked
+
+-- the object at a granule is gray and unmarked
+abbrev pub is_wanted : Tables → ℕ → Bool
+is_wanted t k = t.grays k && not (t.marks k)
+
+-- no object from a granule on and below another is gray and unmarked
+abbrev pub NoneWanted : Tables → ℕ → ℕ → Type 0
+NoneWanted t from end = (k : ℕ) → from ≤ k → k < end → is_wanted t k ≡ false
+
+-- the first one from a granule on is at another, which is below the end
+pub record IsNextWanted (t : Tables) (from end granule : ℕ) : Type 0 where
+  pub reached : from ≤ granule
+  pub within : granule < end
+  pub is : IsTrue (is_wanted t granule)
+  pub passed : NoneWanted t from granule
+
+-- ---- a trace that is being finished
+
+-- A place in the worklist: its object was left to mark, and is marked.
+pub record IsWaiting (before now : Tables) (p : ℕ) : Type 0 where
+  pub left : IsLeft before p
+  pub marked : IsTrue (now.marks (granule_of p))
+
+-- Marking has come to these tables. Marked is what was marked and some of what is left, and gray is what was gray and some of
+-- what the latter refers to.
+pub record IsMarkedSoFar (before now : Tables) : Type 0 where
+  pub marks_kept : (k : ℕ) → IsTrue (before.marks k) → IsTrue (now.marks k)
+  pub marks_left : (p : ℕ) → 1 ≤ p → IsTrue (now.marks (granule_of p)) → IsTrue (before.marks (granule_of p)) ⊎ IsLeft before p
+  pub grays_kept : (k : ℕ) → IsTrue (before.grays k) → IsTrue (now.grays k)
+  pub grays_due : (p : ℕ) → 1 ≤ p → IsTrue (now.grays (granule_of p)) → IsDue before p
+
+-- A space while a trace is finished that began with another space: the grays below a granule are marked. Each marked object that
+-- was left waits in the worklist, or what it refers to is found, but for the references that are pending.
+pub record MarkingStage (before s : Space) (end : ℕ) (pending : ℕ → ℕ → Type 0) : Type 0 where
+  pub space : IsSpace s
+  pub traceable : IsTraceable (tables_of before) before.limits.blocks
+  pub so_far : IsMarkedSoFar (tables_of before) (tables_of s)
+  pub ended : (k : ℕ) → k < end → IsTrue ((tables_of s).grays k) → IsTrue ((tables_of s).marks k)
+  pub waiting : (p : Place) → Contains s.work.items p → IsWaiting (tables_of before) (tables_of s) p.0
+  pub scanned : (p q i : ℕ) → IsWaiting (tables_of before) (tables_of s) p → 1 ≤ q → field_at (tables_of before) p i ≡ Some q
+      → Contains s.work.items (record { 0 = p }) ⊎ pending p i ⊎ IsFound (tables_of s) q
+  pub room : passing (λ k. not ((tables_of s).marks k)) (granules s) + length s.work.items ≤ s.work.room
+  pub tables : tables_of s ≡ record (tables_of before) { marks = (tables_of s).marks; grays = (tables_of s).grays }
+  pub rest : s ≡ record before { words = s.words; work = record before.work { items = s.work.items } }
+
+-- no reference is pending
+abbrev pub IsMarking : Space → Space → ℕ → Type 0
+IsMarking before s end = MarkingStage before s end (λ p i. ⊥)
+
+-- the object at a place is out of the worklist, and its references from number i on are pending; all grays are marked
+pub record IsScanning (before s : Space) (place i : ℕ) : Type 0 where
+  pub stage : MarkingStage before s (granules s) (λ p j. (p ≡ place) × (i ≤ j))
+  pub waited : IsWaiting (tables_of before) (tables_of s) place
+
+-- nothing waits any more
+pub record IsOver (before s : Space) : Type 0 where
+  pub stage : IsMarking before s (granules s)
+  pub no_work : s.work.items ≡ []
+
+-- what is left to do: each unmarked object may come into the worklist once
+abbrev pub to_do : Space → ℕ
+to_do s = passing (λ k. not ((tables_of s).marks k)) (granules s) + length s.work.items
+
+-- ---- what each step asks, and what it does, for every space with which the trace may have begun
+
+-- nothing is found yet; then all that is gray is marked
+abbrev pub MayFindGrays : Space → Type 0
+MayFindGrays s = (before : Space) × IsMarking before s 0
+
+abbrev pub FindsGrays : Space → Space → Type 0
+FindsGrays s after = (before : Space) → IsMarking before s 0 → IsMarking before after (granules after)
+
+-- an object is out of the worklist; then what its references hold is found
+abbrev pub MayScan : Space → ℕ → Type 0
+MayScan s place = (before : Space) × IsScanning before s place 0
+
+abbrev pub Scans : Space → Space → ℕ → Type 0
+Scans s after place = (before : Space) → IsScanning before s place 0 → IsMarking before after (granules after)
+
+-- so with one reference of it
+abbrev pub MayScanField : Space → ℕ → ℕ → Type 0
+MayScanField s place i = (before : Space) × IsScanning before s place i × (i < slots_at (tables_of s) place)
+
+abbrev pub ScansField : Space → Space → ℕ → ℕ → Type 0
+ScansField s after place i = (before : Space) → IsScanning before s place i → i < slots_at (tables_of s) place → IsScanning before after place (i + 1)
+
+-- all that is gray is marked; then nothing waits
+abbrev pub MayEmpty : Space → Type 0
+MayEmpty s = (before : Space) × IsMarking before s (granules s)
+
+abbrev pub Empties : Space → Space → Type 0
+Empties s after = (before : Space) → IsMarking before s (granules s) → IsOver before after
+
+-- ---- the roots
+
+-- one of the first registers holds an object that stands at a granule
+pub record IsHeldAt (registers : List Place) (count k : ℕ) : Type 0 where
+  pub register : ℕ
+  pub place : Place
+  pub among : register < count
+  pub holds : slice_get registers register ≡ Some place
+  pub placed : 1 ≤ place.0
+  pub stands : k ≡ granule_of place.0
+
+-- what the first registers hold is made gray; nothing else has changed
+pub record ShadesRegisters (before after : Space) (count : ℕ) : Type 0 where
+  pub space : IsSpace after
+  pub grays_kept : (k : ℕ) → IsTrue ((tables_of before).grays k) → IsTrue ((tables_of after).grays k)
+  pub grays_held : (k : ℕ) → IsHeldAt before.registers.items count k → IsTrue ((tables_of after).grays k)
+  pub grays_only : (k : ℕ) → IsTrue ((tables_of after).grays k) → IsTrue ((tables_of before).grays k) ⊎ IsHeldAt before.registers.items count k
+  pub tables : tables_of after ≡ record (tables_of before) { grays = (tables_of after).grays }
+  pub rest : after ≡ record before { words = after.words }
+
+-- registers hold places of the heap, or nil
+abbrev pub HoldPlaces : Space → Type 0
+HoldPlaces s = (i : ℕ) (p : Place) → slice_get s.registers.items i ≡ Some p → p.0 ≤ granules s

@@ -1,0 +1,6 @@
+pub mod UnmarkedLemmas
+pub mod ClearingLemmas
+pub mod ReleasingLemmas
+pub mod FollowLemmas
+pub mod ReleaseBeginLemmas
+pub mod SweepLemmas

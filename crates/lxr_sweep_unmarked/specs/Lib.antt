@@ -1,0 +1,4 @@
+pub mod Unmarked
+pub mod Sweeping
+pub mod Clearing
+pub mod Releasing
