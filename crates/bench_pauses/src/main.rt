@@ -64,6 +64,9 @@ const FOLLOWED_FAR: [Work; 4] = [
     Work::Collect,
 ];
 
+/// The same for a list whose objects have as many references as can be.
+const FOLLOWED_WIDE: [Work; 4] = [Work::Wide, Work::Begin, Work::End(300_000), Work::Collect];
+
 /// A ring, which counting doesn't find dead.
 const SWEPT: [Work; 3] = [Work::Ring, Work::LetGo, Work::Collect];
 
@@ -153,6 +156,7 @@ fn time_all<R: AllocGlobal + Clock + Print + Threads + Sync>(rt: &R) -> Result<(
         traced("1024", 1_000_000, &TRACED),
         traced("1024", 100_000, &FOLLOWED),
         traced("1024", 100_000, &FOLLOWED_FAR),
+        traced("64", 100, &FOLLOWED_WIDE),
         counted("1024", 100_000, &SWEPT),
     ] {
         time(rt, run)?;

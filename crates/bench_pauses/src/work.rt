@@ -39,6 +39,8 @@ pub(crate) enum Work {
     Scatter,
     /// A list whose first object refers to its last is held by the world.
     Ring,
+    /// A list whose objects have as many references as can be, all to the next one, is held by the world.
+    Wide,
     /// A trace begins.
     Begin,
     /// A trace ends, and tracers had the time of so many operations of the thread, of three steps each.
@@ -59,6 +61,7 @@ impl Work {
             Work::Help(_) => "help",
             Work::Scatter => "scatter",
             Work::Ring => "ring",
+            Work::Wide => "wide",
             Work::Begin => "begin",
             Work::End(_) => "end",
             Work::Collect => "collect",
@@ -70,7 +73,7 @@ impl Work {
         match self {
             Work::Nothing | Work::Begin => 0,
             Work::Promote | Work::Kill | Work::Help(_) | Work::Scatter => objects,
-            Work::Ring | Work::End(_) | Work::Collect => objects,
+            Work::Ring | Work::Wide | Work::End(_) | Work::Collect => objects,
             Work::Log | Work::Lower => objects.min(MOST_LOGGED),
             Work::LetGo => 1,
         }
@@ -97,6 +100,7 @@ impl Work {
             Work::Help(operations) | Work::End(operations) => write_help(script, operations),
             Work::Scatter => write_scatter(script, objects),
             Work::Ring => write_ring(script, objects),
+            Work::Wide => write_wide(script, objects),
         }
     }
 
@@ -141,6 +145,24 @@ fn write_ring(script: &mut String, objects: u32) -> Result<(), AllocError> {
     script.push_str("new r1 1 0\nmove r3 r1\n")?;
     write_list(script, objects.saturating_sub(1))?;
     script.push_str("store r3 0 r1\nstore r0 0 r1\nnil r1\nnil r2\nnil r3\n")
+}
+
+/// Makes a list of so many objects, each with as many references as can be, all to the object made before it, and leaves it to the
+/// world.
+fn write_wide(script: &mut String, objects: u32) -> Result<(), AllocError> {
+    for _ in 0..objects {
+        write_widest(script)?;
+    }
+    script.push_str("store r0 0 r1\nnil r1\nnil r2\n")
+}
+
+/// Makes an object all of whose references are to the one that r1 holds, and puts it into r1.
+fn write_widest(script: &mut String) -> Result<(), AllocError> {
+    script.push_str("new r2 1023 0\n")?;
+    for index in 0..ROW {
+        write!(script, "store r2 {index} r1\n")?;
+    }
+    script.push_str("move r1 r2\n")
 }
 
 /// Makes so many objects of a line each, links them to a list in an order in which neighbours lie far apart, and leaves it to the
