@@ -1,159 +1,287 @@
 //! Units of decrementers, worked out by hand, in a space of one block.
-
-use crate::steps::{LIMITS, advance, finish, no_words, put, word};
-use lxr_actor::Actor;
+//!
+//! The count of the object at place 5 begins at bit 8 of its word, and its bit is bit 4; those of place 7 are at bit 12, and
+//! bit 6.
+use crate::steps::{End, LIMITS, Move, Play, TABLES, TWO_REFERENCES, Unit, play, words_with};
 use lxr_decrement::{DecEnd, Decrementer};
-use lxr_layout::{DECREMENT_COUNT, DECREMENT_CURSOR, Name, Place, Shape, TRACING_WORD, pack};
-use std::alloc::AllocError;
+use lxr_layout::{DECREMENT_COUNT, DECREMENT_CURSOR, TRACING_WORD};
+use std::alloc::Global;
+use std::process::Abort;
 
-/// A place whose count begins at bit 8 of its word, and whose bit is bit 4.
-const PLACE: Place = Place(5);
+/// How many entries are drawn, and how many the list has.
+const DRAWN: u32 = TABLES.cursors + DECREMENT_CURSOR;
 
-/// A second place, whose count begins at bit 12 of the same word, and whose bit is bit 6.
-const OTHER: Place = Place(7);
+const LISTED: u32 = TABLES.cursors + DECREMENT_COUNT;
+
+/// Whether a trace runs.
+const TRACING: u32 = TABLES.cursors + TRACING_WORD;
+
+impl Unit for Decrementer {
+    fn end(&self) -> End {
+        match self.ended() {
+            None => End::Open,
+            Some(DecEnd::Worked) => End::Worked,
+            Some(DecEnd::Nothing) => End::Nothing,
+        }
+    }
+
+    fn again(&mut self) {
+        self.start_again();
+    }
+}
+
+/// Plays each by two decrementers as an epoch begins.
+fn play_each(rt: &impl Abort, alloc: Global, plays: &[Play]) {
+    for (rows, moves) in plays {
+        let mut words = words_with(rt, alloc, rows);
+        let mut first = Decrementer::new(alloc, LIMITS).expect(rt, "memory");
+        let mut second = Decrementer::new(alloc, LIMITS).expect(rt, "memory");
+        play(rt, &mut words, &mut first, &mut second, moves);
+    }
+}
+
+/// An entry for an object with a count from 0 to 3, beside another object with count 3.
+const ENTRIES: &[Play] = &[
+    (
+        &[(LISTED, 1), (TABLES.decs, 5), (TABLES.counts, 0xc00)],
+        &[
+            (0, Move::Ended(End::Open)),
+            (0, Move::Finish(5, End::Worked)),
+            (0, Move::Word(TABLES.counts, 0xc00)),
+            (0, Move::Spare(0)),
+            (0, Move::Finish(2, End::Nothing)),
+        ],
+    ),
+    (
+        &[(LISTED, 1), (TABLES.decs, 5), (TABLES.counts, 0xd00)],
+        &[
+            (0, Move::Finish(6, End::Worked)),
+            (0, Move::Word(TABLES.counts, 0xc00)),
+            (0, Move::Spare(5)),
+            (0, Move::Finish(2, End::Nothing)),
+        ],
+    ),
+    (
+        &[(LISTED, 1), (TABLES.decs, 5), (TABLES.counts, 0xe00)],
+        &[
+            (0, Move::Finish(6, End::Worked)),
+            (0, Move::Word(TABLES.counts, 0xd00)),
+            (0, Move::Spare(0)),
+            (0, Move::Finish(2, End::Nothing)),
+        ],
+    ),
+    (
+        &[(LISTED, 1), (TABLES.decs, 5), (TABLES.counts, 0xf00)],
+        &[
+            (0, Move::Finish(5, End::Worked)),
+            (0, Move::Word(TABLES.counts, 0xf00)),
+            (0, Move::Spare(0)),
+            (0, Move::Finish(2, End::Nothing)),
+        ],
+    ),
+];
 
 /// An entry is drawn once, and its count is lowered unless it is 0 or stuck. An object whose last reference is gone goes into
 /// the pocket.
 #[test]
-fn entries_are_lowered(rt: HostRuntime) -> Result<(), AllocError> {
-    for (count, steps, lowered, dead) in [
-        (0, 5, 0, None),
-        (1, 6, 0, Some(PLACE)),
-        (2, 6, 1, None),
-        (3, 5, 3, None),
-    ] {
-        let (mut words, regions) = no_words(&rt)?;
-        put(&rt, &mut words, regions.cursors + DECREMENT_COUNT, 1);
-        put(&rt, &mut words, regions.decs, 5);
-        put(&rt, &mut words, regions.counts, count << 8 | 3 << 10);
-        let mut decrementer = Decrementer::new(rt.alloc(), LIMITS)?;
-        assert_eq!(rt; decrementer.ended(), None);
-        assert_eq!(rt; finish(&rt, &mut words, &mut decrementer), steps);
-        assert_eq!(rt; decrementer.ended(), Some(DecEnd::Worked));
-        assert_eq!(rt; word(&rt, &words, regions.counts), lowered << 8 | 3 << 10);
-        assert_eq!(rt; decrementer.surplus(), dead);
-        assert_eq!(rt; finish(&rt, &mut words, &mut decrementer), 2);
-        assert_eq!(rt; decrementer.ended(), Some(DecEnd::Nothing));
-    }
-    Ok(())
+fn entries_are_lowered(rt: HostRuntime) {
+    play_each(&rt, rt.alloc(), ENTRIES);
 }
+
+const IDLE: &[Play] = &[(
+    &[],
+    &[
+        (0, Move::HasStep(true)),
+        (0, Move::Finish(2, End::Nothing)),
+        (0, Move::HasStep(false)),
+        (0, Move::Give(0, false)),
+        (0, Move::Give(2049, false)),
+        (0, Move::HasStep(false)),
+        (0, Move::Spare(0)),
+        (0, Move::Give(1, true)),
+        (0, Move::HasStep(true)),
+        (0, Move::Spare(1)),
+        (0, Move::HasStep(false)),
+        (0, Move::Give(2048, true)),
+        (0, Move::HasStep(true)),
+        (0, Move::Spare(2048)),
+        (0, Move::HasStep(false)),
+        (0, Move::Again),
+        (0, Move::Ended(End::Open)),
+        (0, Move::HasStep(true)),
+    ],
+)];
 
 /// A decrementer that found nothing is finished while its pocket is empty, until a new epoch begins.
 #[test]
-fn finished_without_places(rt: HostRuntime) -> Result<(), AllocError> {
-    for (place, taken) in [(0, false), (2049, false), (1, true), (2048, true)] {
-        let (mut words, _regions) = no_words(&rt)?;
-        let mut decrementer = Decrementer::new(rt.alloc(), LIMITS)?;
-        assert!(rt; decrementer.next().is_some());
-        assert_eq!(rt; finish(&rt, &mut words, &mut decrementer), 2);
-        assert_eq!(rt; decrementer.ended(), Some(DecEnd::Nothing));
-        assert!(rt; decrementer.next().is_none());
-        assert_eq!(rt; decrementer.offer(Place(place)), taken, "at {place}");
-        assert_eq!(rt; decrementer.next().is_some(), taken, "at {place}");
-        assert_eq!(rt; decrementer.surplus().is_some(), taken, "at {place}");
-        assert!(rt; decrementer.next().is_none(), "at {place}");
-        decrementer.start_again();
-        assert_eq!(rt; decrementer.ended(), None);
-        assert!(rt; decrementer.next().is_some());
-    }
-    Ok(())
+fn finished_without_places(rt: HostRuntime) {
+    play_each(&rt, rt.alloc(), IDLE);
 }
+
+const POCKET: &[Play] = &[(
+    &[],
+    &[
+        (0, Move::Give(0, false)),
+        (0, Move::Give(2049, false)),
+        (0, Move::Give(1, true)),
+        (0, Move::Give(2048, true)),
+        (0, Move::Fill(3, 65)),
+        (0, Move::Give(65, false)),
+        (0, Move::Spare(64)),
+        (0, Move::Give(65, true)),
+        (0, Move::Spare(65)),
+        (0, Move::Spare(63)),
+        (0, Move::Again),
+        (0, Move::Spare(0)),
+    ],
+)];
 
 /// A pocket has room for 64 places of the heap, and gives out last what it took in first.
 #[test]
-fn pocket_has_room(rt: HostRuntime) -> Result<(), AllocError> {
-    let mut decrementer = Decrementer::new(rt.alloc(), LIMITS)?;
-    for (place, taken) in [(0, false), (2049, false), (1, true), (2048, true)] {
-        assert_eq!(rt; decrementer.offer(Place(place)), taken, "at {place}");
-    }
-    for place in 3..65_u32 {
-        assert!(rt; decrementer.offer(Place(place)), "at {place}");
-    }
-    assert!(rt; !decrementer.offer(Place(65)));
-    assert_eq!(rt; decrementer.surplus(), Some(Place(64)));
-    assert!(rt; decrementer.offer(Place(65)));
-    assert_eq!(rt; decrementer.surplus(), Some(Place(65)));
-    assert_eq!(rt; decrementer.surplus(), Some(Place(63)));
-    decrementer.start_again();
-    assert_eq!(rt; decrementer.surplus(), None);
-    Ok(())
+fn pocket_has_room(rt: HostRuntime) {
+    play_each(&rt, rt.alloc(), POCKET);
 }
+
+const LAST_ENTRY: &[Play] = &[(
+    &[(LISTED, 1), (TABLES.decs, 5), (TABLES.counts, 0x200)],
+    &[
+        (0, Move::Advance(2)),
+        (1, Move::Advance(2)),
+        (0, Move::Advance(1)),
+        (1, Move::Finish(1, End::Nothing)),
+        (0, Move::Finish(3, End::Worked)),
+        (0, Move::Word(TABLES.counts, 0x100)),
+        (0, Move::Word(DRAWN, 2)),
+    ],
+)];
 
 /// Two decrementers see the same entry left, and one of them draws it.
 #[test]
-fn last_entry_goes_to_one(rt: HostRuntime) -> Result<(), AllocError> {
-    let (mut words, regions) = no_words(&rt)?;
-    put(&rt, &mut words, regions.cursors + DECREMENT_COUNT, 1);
-    put(&rt, &mut words, regions.decs, 5);
-    put(&rt, &mut words, regions.counts, 2 << 8);
-    let mut first = Decrementer::new(rt.alloc(), LIMITS)?;
-    let mut second = Decrementer::new(rt.alloc(), LIMITS)?;
-    advance(&rt, &mut words, &mut first, 2);
-    advance(&rt, &mut words, &mut second, 2);
-    advance(&rt, &mut words, &mut first, 1);
-    assert_eq!(rt; finish(&rt, &mut words, &mut second), 1);
-    assert_eq!(rt; second.ended(), Some(DecEnd::Nothing));
-    assert_eq!(rt; finish(&rt, &mut words, &mut first), 3);
-    assert_eq!(rt; first.ended(), Some(DecEnd::Worked));
-    assert_eq!(rt; word(&rt, &words, regions.counts), 1 << 8);
-    assert_eq!(rt; word(&rt, &words, regions.cursors + DECREMENT_CURSOR), 2);
-    Ok(())
+fn last_entry_goes_to_one(rt: HostRuntime) {
+    play_each(&rt, rt.alloc(), LAST_ENTRY);
 }
+
+const STOPPED: &[Play] = &[(
+    &[
+        (LISTED, 2),
+        (TABLES.decs, 5),
+        (TABLES.decs + 1, 5),
+        (TABLES.counts, 0x200),
+    ],
+    &[
+        (0, Move::Advance(5)),
+        (1, Move::Finish(6, End::Worked)),
+        (1, Move::Word(TABLES.counts, 0x100)),
+        (0, Move::Finish(1, End::Worked)),
+        (0, Move::Word(TABLES.counts, 0)),
+        (1, Move::Spare(0)),
+        (0, Move::Spare(5)),
+    ],
+)];
 
 /// A decrementer is stopped between the look at a count and its lowering, while another lowers the same count. Who lowers it to
 /// 0 finds the object dead.
 #[test]
-fn stopped_before_lowering(rt: HostRuntime) -> Result<(), AllocError> {
-    let (mut words, regions) = no_words(&rt)?;
-    put(&rt, &mut words, regions.cursors + DECREMENT_COUNT, 2);
-    put(&rt, &mut words, regions.decs, 5);
-    put(&rt, &mut words, regions.decs + 1, 5);
-    put(&rt, &mut words, regions.counts, 2 << 8);
-    let mut first = Decrementer::new(rt.alloc(), LIMITS)?;
-    let mut second = Decrementer::new(rt.alloc(), LIMITS)?;
-    advance(&rt, &mut words, &mut first, 5);
-    assert_eq!(rt; finish(&rt, &mut words, &mut second), 6);
-    assert_eq!(rt; word(&rt, &words, regions.counts), 1 << 8);
-    assert_eq!(rt; finish(&rt, &mut words, &mut first), 1);
-    assert_eq!(rt; word(&rt, &words, regions.counts), 0);
-    assert_eq!(rt; second.surplus(), None);
-    assert_eq!(rt; first.surplus(), Some(PLACE));
-    Ok(())
+fn stopped_before_lowering(rt: HostRuntime) {
+    play_each(&rt, rt.alloc(), STOPPED);
 }
 
-/// A dead object is claimed, and each of its references is lowered, and made gray where a trace runs. One that was claimed
-/// before, that has a count, or that is no unreclaimed object, needs no work.
+/// The object at place 5 is dead, and its second reference leads to place 7.
+const DEAD: &[Play] = &[
+    (
+        &[
+            (8, TWO_REFERENCES),
+            (10, 7),
+            (TABLES.counts, 0x1000),
+            (TABLES.starts, 0x50),
+        ],
+        &[
+            (0, Move::Give(5, true)),
+            (0, Move::Finish(9, End::Worked)),
+            (0, Move::HasStep(true)),
+            (0, Move::Word(TABLES.grays, 0)),
+            (0, Move::Spare(7)),
+        ],
+    ),
+    (
+        &[
+            (8, TWO_REFERENCES),
+            (10, 7),
+            (TABLES.counts, 0x1000),
+            (TABLES.starts, 0x50),
+            (TRACING, 1),
+        ],
+        &[
+            (0, Move::Give(5, true)),
+            (0, Move::Finish(10, End::Worked)),
+            (0, Move::HasStep(true)),
+            (0, Move::Word(TABLES.grays, 0x40)),
+            (0, Move::Spare(7)),
+        ],
+    ),
+];
+
+/// A dead object is claimed, and each of its references is lowered, and made gray where a trace runs.
 #[test]
-fn dead_objects_are_handled(rt: HostRuntime) -> Result<(), AllocError> {
-    for (count, start, done, tracing, steps, end, gray) in [
-        (0, 1, 0, 0, 9, DecEnd::Worked, 0),
-        (0, 1, 0, 1, 10, DecEnd::Worked, 1 << 6),
-        (0, 1, 1, 1, 5, DecEnd::Nothing, 0),
-        (0, 0, 0, 1, 4, DecEnd::Nothing, 0),
-        (1, 1, 0, 1, 4, DecEnd::Nothing, 0),
-    ] {
-        let (mut words, regions) = no_words(&rt)?;
-        let name = Name {
-            thread: 1,
-            serial: 1,
-        };
-        put(&rt, &mut words, 8, pack(name, Shape { refs: 2, values: 0 }));
-        put(&rt, &mut words, 10, 7);
-        put(&rt, &mut words, regions.counts, count << 8 | 1 << 12);
-        put(&rt, &mut words, regions.starts, start << 4 | 1 << 6);
-        put(&rt, &mut words, regions.dones, done << 4);
-        put(&rt, &mut words, regions.cursors + TRACING_WORD, tracing);
-        let mut decrementer = Decrementer::new(rt.alloc(), LIMITS)?;
-        assert!(rt; decrementer.offer(PLACE));
-        assert_eq!(rt; finish(&rt, &mut words, &mut decrementer), steps);
-        assert_eq!(rt; decrementer.ended(), Some(end));
-        assert_eq!(rt; decrementer.next().is_some(), end == DecEnd::Worked);
-        assert_eq!(rt; word(&rt, &words, regions.grays), gray);
-        let dead = match end {
-            DecEnd::Worked => Some(OTHER),
-            DecEnd::Nothing => None,
-        };
-        assert_eq!(rt; decrementer.surplus(), dead);
-    }
-    Ok(())
+fn dead_objects_are_handled(rt: HostRuntime) {
+    play_each(&rt, rt.alloc(), DEAD);
+}
+
+/// The object at place 5 was claimed before, isn't unreclaimed, or has a count.
+const NOT_DEAD: &[Play] = &[
+    (
+        &[
+            (8, TWO_REFERENCES),
+            (10, 7),
+            (TABLES.counts, 0x1000),
+            (TABLES.starts, 0x50),
+            (TABLES.dones, 0x10),
+            (TRACING, 1),
+        ],
+        &[
+            (0, Move::Give(5, true)),
+            (0, Move::Finish(5, End::Nothing)),
+            (0, Move::HasStep(false)),
+            (0, Move::Word(TABLES.grays, 0)),
+            (0, Move::Spare(0)),
+        ],
+    ),
+    (
+        &[
+            (8, TWO_REFERENCES),
+            (10, 7),
+            (TABLES.counts, 0x1000),
+            (TABLES.starts, 0x40),
+            (TRACING, 1),
+        ],
+        &[
+            (0, Move::Give(5, true)),
+            (0, Move::Finish(4, End::Nothing)),
+            (0, Move::HasStep(false)),
+            (0, Move::Word(TABLES.grays, 0)),
+            (0, Move::Spare(0)),
+        ],
+    ),
+    (
+        &[
+            (8, TWO_REFERENCES),
+            (10, 7),
+            (TABLES.counts, 0x1100),
+            (TABLES.starts, 0x50),
+            (TRACING, 1),
+        ],
+        &[
+            (0, Move::Give(5, true)),
+            (0, Move::Finish(4, End::Nothing)),
+            (0, Move::HasStep(false)),
+            (0, Move::Word(TABLES.grays, 0)),
+            (0, Move::Spare(0)),
+        ],
+    ),
+];
+
+/// Such an object needs no work.
+#[test]
+fn other_places_need_no_work(rt: HostRuntime) {
+    play_each(&rt, rt.alloc(), NOT_DEAD);
 }

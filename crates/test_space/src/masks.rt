@@ -14,8 +14,7 @@ use lxr_sweep_lines::zero_lines;
 #[test]
 fn masks_of_an_opened_space(rt: HostRuntime) {
     let mut space = opened(&rt, rt.alloc(), 2);
-    let world = free_mask(&space, 0);
-    assert!(rt; world == u128::MAX - 7);
+    assert!(rt; free_mask(&space, 0) == u128::MAX - 7);
     assert!(rt; free_mask(&space, 1) == u128::MAX);
     let shape = Shape {
         refs: 0,
@@ -27,6 +26,7 @@ fn masks_of_an_opened_space(rt: HostRuntime) {
     };
     assert!(rt; place_now(&mut space, name, shape) == Some(Place(49)));
     assert!(rt; free_mask(&space, 0) == u128::MAX - 31);
+    drop(space);
 }
 
 /// Words of which only those from one index up to another are 0.
@@ -114,6 +114,7 @@ fn masks_of_drawn_blocks(rt: HostRuntime) {
             "block {block}"
         );
     }
+    drop(space);
 }
 
 /// The objects without a count that begin at 64 granules in a row, by a look at each.
@@ -161,4 +162,5 @@ fn objects_of_drawn_words(rt: HostRuntime) {
         assert!(rt; uncounted == plain_starts(&space, 32), "word {word}");
         assert!(rt; uncounted & !space.done_word(32) == 0, "word {word}");
     }
+    drop(space);
 }

@@ -1,10 +1,10 @@
 //! Machines of single steps, one step at a time, in a space of one block.
-ghost use Rattle.std.specs.Prelude.{◌+◌, ◌^◌, ◌<◌, IfOk};
-
+//!
+//! What a test does with two machines, and what it must see, are rows of constants, which are played one after another.
 use lxr_actor::{Actor, step};
-use lxr_layout::{Limits, Regions, regions};
+use lxr_layout::{Limits, Place, Regions, regions};
 use lxr_tables::{PlainWords, Words};
-use std::alloc::AllocError;
+use std::alloc::Global;
 use std::process::Abort;
 
 /// A heap of one block, whose places are 1 to 2,048.
@@ -15,31 +15,100 @@ pub const LIMITS: Limits = Limits {
     remember: 1,
 };
 
-/// The words of a space, all 0, and its regions.
-pub fn no_words(rt: &HostRuntime) -> Result<(PlainWords, Regions), AllocError>
-    ensures { IfOk result (λ it. (it.1.decs + 1 < 2 ^ 32) × (it.1.cursors + 16 < 2 ^ 32)) }
-{
-    let regions = regions(LIMITS);
-    let words = PlainWords::new(rt.alloc(), regions.total as usize)?;
-    Ok((words, regions))
+/// Where its tables begin, worked out by hand.
+pub const TABLES: Regions = Regions {
+    heap: 0,
+    counts: 4096,
+    starts: 4160,
+    marks: 4192,
+    grays: 4224,
+    dones: 4256,
+    unlogged: 4288,
+    reuse: 4352,
+    outs: 4416,
+    states: 4418,
+    runs: 4419,
+    frees: 4483,
+    decs: 4484,
+    remembered: 4501,
+    cursors: 4502,
+    total: 4518,
+};
+
+/// The header of the first object of thread 1, where it has one reference.
+pub const ONE_REFERENCE: u64 = 0x0010_0000_0010_0400;
+
+/// That header, where it has two.
+pub const TWO_REFERENCES: u64 = 0x0010_0000_0010_0800;
+
+/// How a unit of a machine ended.
+#[derive(Clone, Copy, Debug, PartialEq, Eq)]
+pub enum End {
+    /// No unit ended in this epoch.
+    Open,
+    Worked,
+    Nothing,
+    RememberFull,
 }
 
-/// Writes a word.
-pub fn put(rt: &impl Abort, words: &mut PlainWords, at: u32, value: u64) {
-    let at = at as usize;
-    assert!(rt; at < words.count(), "word {at}");
-    words.set(at, value);
+/// A machine that tells how its last unit ended, and begins an epoch.
+pub trait Unit: Actor {
+    fn end(&self) -> End;
+
+    fn again(&mut self);
+}
+
+/// What a test does with a machine, or looks at, and what it must see.
+#[derive(Clone, Copy, Debug)]
+pub enum Move {
+    /// Does so many steps.
+    Advance(u32),
+    /// Goes on to the end of the unit in progress, or of the next one: in so many steps, and to this end.
+    Finish(u32, End),
+    /// Offers a place, and whether it is taken.
+    Give(u32, bool),
+    /// Offers the places from one up to another, and all are taken.
+    Fill(u32, u32),
+    /// Gives up a place: this one, or 0 for none.
+    Spare(u32),
+    /// Whether there is a step to do.
+    HasStep(bool),
+    /// How the last unit ended.
+    Ended(End),
+    /// A new epoch begins.
+    Again,
+    /// The word at an index is this.
+    Word(u32, u64),
+}
+
+/// The words that aren't 0, each with its index, and the moves of the machines 0 and 1.
+pub type Play = (&'static [(u32, u64)], &'static [(u8, Move)]);
+
+#[test]
+fn tables_of_one_block(rt: HostRuntime) {
+    assert!(rt; regions(LIMITS) == TABLES);
+}
+
+/// The words of a space, all 0 but these, each at its index.
+pub fn words_with(rt: &impl Abort, alloc: Global, rows: &[(u32, u64)]) -> PlainWords {
+    let mut words = PlainWords::new(alloc, TABLES.total as usize).expect(rt, "memory");
+    for (at, value) in rows {
+        let at = *at as usize;
+        assert!(rt; at < words.count());
+        words.set(at, *value);
+    }
+    words
 }
 
 /// Reads a word.
-pub fn word(rt: &impl Abort, words: &PlainWords, at: u32) -> u64 {
+fn word(rt: &impl Abort, words: &PlainWords, at: u32) -> u64 {
     let at = at as usize;
     assert!(rt; at < words.count(), "word {at}");
     words.get(at)
 }
 
 /// Does so many steps.
-pub fn advance<A: Actor>(rt: &impl Abort, words: &mut PlainWords, actor: &mut A, steps: u32) {
+fn advance<A: Actor>(rt: &impl Abort, words: &mut PlainWords, actor: &mut A, steps: u32) {
     for _number in 0..steps {
         let Some(action) = actor.next() else {
             return;
@@ -51,7 +120,7 @@ pub fn advance<A: Actor>(rt: &impl Abort, words: &mut PlainWords, actor: &mut A,
 }
 
 /// The steps of the unit in progress, or of the next one, to its end.
-pub fn finish<A: Actor>(rt: &impl Abort, words: &mut PlainWords, actor: &mut A) -> u32 {
+fn finish<A: Actor>(rt: &impl Abort, words: &mut PlainWords, actor: &mut A) -> u32 {
     for steps in 1..8192_u32 {
         advance(rt, words, actor, 1);
         if actor.resting() {
@@ -59,4 +128,60 @@ pub fn finish<A: Actor>(rt: &impl Abort, words: &mut PlainWords, actor: &mut A) 
         }
     }
     0
+}
+
+/// Offers the places from one up to another. Whether all were taken.
+fn fill<A: Actor>(actor: &mut A, first: u32, end: u32) -> bool {
+    for place in first..end {
+        if !actor.offer(Place(place)) {
+            return false;
+        }
+    }
+    true
+}
+
+/// The place that a machine gives up, 0 if it has none.
+fn spare<A: Actor>(actor: &mut A) -> u32 {
+    match actor.surplus() {
+        Some(place) => place.0,
+        None => 0,
+    }
+}
+
+/// Does a move. Whether what it must show was seen.
+fn shows<A: Unit>(rt: &impl Abort, words: &mut PlainWords, actor: &mut A, next: Move) -> bool {
+    match next {
+        Move::Advance(steps) => {
+            advance(rt, words, actor, steps);
+            true
+        }
+        Move::Finish(steps, end) => finish(rt, words, actor) == steps && actor.end() == end,
+        Move::Give(place, taken) => actor.offer(Place(place)) == taken,
+        Move::Fill(first, end) => fill(actor, first, end),
+        Move::Spare(place) => spare(actor) == place,
+        Move::HasStep(has) => actor.next().is_some() == has,
+        Move::Ended(end) => actor.end() == end,
+        Move::Again => {
+            actor.again();
+            true
+        }
+        Move::Word(at, value) => word(rt, words, at) == value,
+    }
+}
+
+/// Does the moves of two machines, each of which must show what it says.
+pub fn play<A: Unit>(
+    rt: &impl Abort,
+    words: &mut PlainWords,
+    first: &mut A,
+    second: &mut A,
+    moves: &[(u8, Move)],
+) {
+    for (who, next) in moves {
+        let shown = match *who {
+            0 => shows(rt, words, first, *next),
+            _ => shows(rt, words, second, *next),
+        };
+        assert!(rt; shown, "machine {who}: {next:?}");
+    }
 }

@@ -8,6 +8,7 @@ use lxr_tables::{
     Lowered, PlainWords, Raised, Words, bit, clear_bit, lower_two, raise_two, set_bit, set_two,
     two, zero_counts,
 };
+use std::process::Abort;
 
 const FIRST: Name = Name {
     thread: 1,
@@ -83,25 +84,46 @@ fn tables_words(rt: HostRuntime) {
     );
 }
 
+/// Sets a bit that was clear of two words.
+fn set_clear_bit(rt: &impl Abort, words: &mut PlainWords, index: usize) {
+    assert!(rt; words.count() == 2 && index < 128);
+    assert!(rt; !bit(words, 0, index), "{index}");
+    set_bit(words, 0, index);
+    assert!(rt; words.count() == 2);
+    assert!(rt; bit(words, 0, index), "{index}");
+}
+
+/// Both of two words.
+fn both(rt: &impl Abort, words: &PlainWords) -> [u64; 2] {
+    assert!(rt; words.count() == 2);
+    [words.get(0), words.get(1)]
+}
+
 /// The tables' word has bits and counts at the places that the layout of a word gives them.
 #[test]
 fn bits_of_words(rt: HostRuntime) {
     let mut words = PlainWords::new(rt.alloc(), 2).expect(&rt, "memory");
-    assert!(rt; words.count() == 2);
-    for (index, low, high) in [(0, 1, 0), (63, 1 << 63 | 1, 0), (64, 1 << 63 | 1, 1)] {
-        assert!(rt; words.count() == 2);
-        assert!(rt; !bit(&words, 0, index));
-        set_bit(&mut words, 0, index);
-        assert!(rt; words.count() == 2);
-        assert!(rt; bit(&words, 0, index));
-        assert_eq!(rt; words.get(0), low, "bits of the first word at {index}");
-        assert_eq!(rt; words.get(1), high, "bits of the second word at {index}");
+    for (index, after) in [(0, [1, 0]), (63, [1 << 63 | 1, 0]), (64, [1 << 63 | 1, 1])] {
+        set_clear_bit(&rt, &mut words, index);
+        assert!(rt; both(&rt, &words) == after, "{index}");
     }
     assert!(rt; words.count() == 2);
     clear_bit(&mut words, 1, 0);
-    assert!(rt; words.count() == 2);
-    assert_eq!(rt; words.get(1), 0);
-    assert_eq!(rt; words.get(0), 1 << 63 | 1);
+    assert!(rt; both(&rt, &words) == [1 << 63 | 1, 0]);
+    drop(words);
+}
+
+/// Raises the last count of a word.
+fn raise_last(rt: &impl Abort, words: &mut PlainWords) -> Raised {
+    assert!(rt; words.count() == 1);
+    raise_two(words, 0, 31)
+}
+
+/// Lowers the last count of a word, which is not 0.
+fn lower_last(rt: &impl Abort, words: &mut PlainWords) -> Lowered {
+    assert!(rt; words.count() == 1);
+    assert!(rt; two(words, 0, 31) != 0);
+    lower_two(words, 0, 31)
 }
 
 /// The last count of a word is raised to where it is stuck, and then stays.
@@ -109,19 +131,15 @@ fn bits_of_words(rt: HostRuntime) {
 fn counts_saturate(rt: HostRuntime) {
     let mut words = PlainWords::new(rt.alloc(), 1).expect(&rt, "memory");
     for (old, now) in [(0, 1), (1, 2), (2, 3), (3, 3)] {
-        assert!(rt; words.count() == 1);
-        assert!(rt; raise_two(&mut words, 0, 31) == Raised { old, now });
+        assert!(rt; raise_last(&rt, &mut words) == Raised { old, now });
     }
+    assert!(rt; lower_last(&rt, &mut words) == Lowered::Stuck);
     assert!(rt; words.count() == 1);
     assert!(rt; two(&words, 0, 31) == 3);
-    assert!(rt; lower_two(&mut words, 0, 31) == Lowered::Stuck);
-    for (count, answer) in [(2, Lowered::Now(1)), (1, Lowered::Zero)] {
-        assert!(rt; words.count() == 1);
-        set_two(&mut words, 0, 31, count);
-        assert!(rt; words.count() == 1);
-        assert!(rt; two(&words, 0, 31) != 0);
-        assert!(rt; lower_two(&mut words, 0, 31) == answer);
-    }
+    set_two(&mut words, 0, 31, 2);
+    assert!(rt; lower_last(&rt, &mut words) == Lowered::Now(1));
+    assert!(rt; lower_last(&rt, &mut words) == Lowered::Zero);
+    drop(words);
 }
 
 /// From 7.
