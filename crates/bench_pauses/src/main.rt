@@ -156,7 +156,7 @@ fn time_all<R: AllocGlobal + Clock + Print + Threads + Sync>(rt: &R) -> Result<(
         traced("1024", 1_000_000, &TRACED),
         traced("1024", 100_000, &FOLLOWED),
         traced("1024", 100_000, &FOLLOWED_FAR),
-        traced("64", 100, &FOLLOWED_WIDE),
+        traced("64", 200, &FOLLOWED_WIDE),
         counted("1024", 100_000, &SWEPT),
     ] {
         time(rt, run)?;
