@@ -1,9 +1,10 @@
 //! How long a pause takes, by what there is to do at it.
 //!
-//! A run does work on a list of objects that the world holds, and pauses after each piece of work. `--time` prints the
-//! microseconds of each pause, the least of several runs, for lists of several lengths and heaps of several sizes; for a list
-//! that dies before decrementers had time to work and after they had; for one that is traced before and after tracers had; and for a ring
-//! that is swept. With no word the program does short runs and prints what their pauses found, which is always the same.
+//! A run does work on a list of objects that the world holds, and pauses after each piece of work. `--time` prints the microseconds of
+//! each pause, the least of several runs, and how many lines were taken before it and after it: for lists of several lengths and heaps of
+//! several sizes; for larger objects, and for a nursery of which every third object is in use; for a list that dies before decrementers had
+//! time to work and after they had; for one that is traced before and after tracers had; and for a ring that is swept. With no word the
+//! program does short runs and prints what their pauses found, which is always the same.
 #![tactic(auto)]
 
 mod watch;
@@ -35,6 +36,14 @@ const BUSY: [Work; 7] = [
     Work::Kill,
     Work::Nothing,
 ];
+
+/// New objects of 40 bytes, and of a line each, which are copied.
+const SMALL: [Work; 1] = [Work::Small];
+
+const LINES: [Work; 1] = [Work::Lines];
+
+/// A nursery of which every third object is in use.
+const NURSERY: [Work; 2] = [Work::Nursery, Work::Nothing];
 
 /// A list in the order of its objects, which dies before decrementers had time, and after they had.
 const KILLED: [Work; 3] = [Work::Promote, Work::LetGo, Work::Kill];
@@ -123,6 +132,7 @@ fn tell_all<R: AllocGlobal + Clock + Print + Threads + Sync>(rt: &R) -> Result<(
         counted("1", 10, &BUSY),
         counted("4", 10, &SHORT),
         counted("4", 10, &SWEPT),
+        counted("4", 300, &NURSERY),
         traced("4", 10, &SHORT_FOLLOWED),
     ] {
         tell(rt, run)?;
@@ -133,8 +143,15 @@ fn tell_all<R: AllocGlobal + Clock + Print + Threads + Sync>(rt: &R) -> Result<(
 /// Times all runs, and prints a table with a line for each pause.
 fn time_all<R: AllocGlobal + Clock + Print + Threads + Sync>(rt: &R) -> Result<()> {
     println!(rt;
-        "{:<8} {:>6} {:>8} {:>14} {:>16} {:>16}",
-        "work", "blocks", "objects", "microseconds", "nanoseconds each", "thread's steps"
+        "{:<8} {:>6} {:>8} {:>14} {:>12} {:>11} {:>16} {:>16}",
+        "work",
+        "blocks",
+        "objects",
+        "microseconds",
+        "lines before",
+        "lines after",
+        "nanoseconds each",
+        "thread's steps"
     )?;
     for run in [
         counted("1", 0, &IDLE),
@@ -145,6 +162,14 @@ fn time_all<R: AllocGlobal + Clock + Print + Threads + Sync>(rt: &R) -> Result<(
         counted("64", 10_000, &BUSY),
         counted("64", 100_000, &BUSY),
         counted("1024", 100_000, &BUSY),
+        counted("1024", 1_000, &SMALL),
+        counted("1024", 10_000, &SMALL),
+        counted("1024", 100_000, &SMALL),
+        counted("1024", 300_000, &SMALL),
+        counted("1024", 1_000, &LINES),
+        counted("1024", 10_000, &LINES),
+        counted("1024", 60_000, &LINES),
+        counted("1024", 100_000, &NURSERY),
         counted("1024", 100_000, &KILLED),
         counted("1024", 100_000, &HELPED),
         counted("1024", 100_000, &KILLED_FAR),
@@ -168,7 +193,7 @@ fn time_all<R: AllocGlobal + Clock + Print + Threads + Sync>(rt: &R) -> Result<(
 fn time<R: AllocGlobal + Clock + Print + Threads + Sync>(rt: &R, run: Run) -> Result<()> {
     let best = best_of(rt, run)?;
     for (work, pause) in run.works.iter().zip(&best) {
-        print_time(rt, run, *work, pause.nanos)?;
+        print_time(rt, run, *work, *pause)?;
     }
     Ok(())
 }
@@ -191,13 +216,14 @@ fn keep_least(best: &mut [Pause], again: &[Pause]) {
 }
 
 /// Prints how long a pause took, and how long that is for each unit of its work, where it has units.
-fn print_time(rt: &impl Print, run: Run, work: Work, nanos: u128) -> Result<()> {
+fn print_time(rt: &impl Print, run: Run, work: Work, pause: Pause) -> Result<()> {
     let name = work.name();
+    let nanos = pause.nanos;
     let micros = nanos / 1000;
     let tenths = nanos % 1000 / 100;
     print!(rt;
-        "{name:<8} {:>6} {:>8} {micros:>12}.{tenths}",
-        run.blocks, run.objects
+        "{name:<8} {:>6} {:>8} {micros:>12}.{tenths} {:>12} {:>11}",
+        run.blocks, run.objects, pause.taken_before, pause.taken_after
     )?;
     match work.units(run.objects) {
         0 => (),
@@ -216,8 +242,13 @@ fn tell<R: AllocGlobal + Clock + Print + Threads + Sync>(rt: &R, run: Run) -> Re
     for (work, pause) in run.works.iter().zip(&pauses) {
         let name = work.name();
         println!(rt;
-            "{name}: {} logged, {} promoted, {} dead, {} swept",
-            pause.logged, pause.promoted, pause.dead, pause.swept
+            "{name}: {} logged, {} promoted, {} dead, {} swept, lines taken {} and then {}",
+            pause.logged,
+            pause.promoted,
+            pause.dead,
+            pause.swept,
+            pause.taken_before,
+            pause.taken_after
         )?;
     }
     Ok(())

@@ -1,14 +1,25 @@
 //! The watch that reads the clock.
 use lxr_image::Space;
 use lxr_run_watch::Watch;
+use lxr_tables::Words;
 use std::alloc::{AllocError, Global};
 use std::rt::Clock;
 use std::time::Instant;
 
-/// What a look saw: the time, where the clock gave one, and how much the space had logged, promoted, found dead and swept.
+/// The words of the heap that a block has, and those of its counts. Behind all counts come five tables of bits, of which the last
+/// has a bit for each word of the heap and the others one for each granule; then the reuse counters, and then the bits of lines that are out.
+const HEAP_WORDS: usize = 4096;
+
+const COUNT_WORDS: usize = 64;
+
+const WORDS_BEFORE_OUTS: usize = HEAP_WORDS + COUNT_WORDS + 4 * 32 + 64 + 64;
+
+/// What a look saw: the time, where the clock gave one, how much the space had logged, promoted, found dead and swept, and how many of its
+/// lines were taken.
 #[derive(Clone, Copy)]
 struct Glance {
     time: Option<Instant>,
+    taken: usize,
     logged: usize,
     promoted: usize,
     dead: usize,
@@ -24,6 +35,9 @@ pub(crate) struct Pause {
     pub(crate) promoted: usize,
     pub(crate) dead: usize,
     pub(crate) swept: usize,
+    /// The lines that weren't free before the pause and after it.
+    pub(crate) taken_before: usize,
+    pub(crate) taken_after: usize,
 }
 
 /// A watch that notes the time at each look, in room that it takes before.
@@ -68,7 +82,37 @@ fn pause_between(before: Glance, after: Glance) -> Pause {
         promoted: after.promoted,
         dead: after.dead,
         swept: after.swept,
+        taken_before: before.taken,
+        taken_after: after.taken,
     }
+}
+
+/// A word of a space, or 0 behind its end.
+fn word(space: &Space, at: usize) -> u64 {
+    if at < space.words.count() {
+        space.words.get(at)
+    } else {
+        0
+    }
+}
+
+/// How many of two lines in a row are taken: those that are out, and those with a count that isn't 0. A word has the counts of both.
+fn taken_of_two(space: &Space, pair: usize) -> usize {
+    let blocks = space.limits.blocks as usize;
+    let counts = word(space, HEAP_WORDS * blocks + pair);
+    let outs = word(space, WORDS_BEFORE_OUTS * blocks + pair / 32) >> (2 * (pair % 32));
+    let first = counts & 0xffff_ffff != 0 || outs & 1 != 0;
+    let second = counts >> 32 != 0 || outs & 2 != 0;
+    usize::from(first) + usize::from(second)
+}
+
+/// How many lines aren't free.
+fn lines_taken(space: &Space) -> usize {
+    let mut taken = 0_usize;
+    for pair in 0..COUNT_WORDS * space.limits.blocks as usize {
+        taken = taken.saturating_add(taken_of_two(space, pair));
+    }
+    taken
 }
 
 impl<'a, R: Clock> Watch for Clocked<'a, R> {
@@ -76,10 +120,16 @@ impl<'a, R: Clock> Watch for Clocked<'a, R> {
 
     ghost seen = { λ _. None };
 
-    /// Notes the time and what the space has to tell, unless there is no room left.
+    /// Notes the time and what the space has to tell, unless there is no room left. Looks come in pairs: before a pause the time is noted last, and
+    /// behind it first, so that none of the noting counts as the pause's.
     fn look(&mut self, space: &Space) {
+        let behind = self.glances.len() % 2 == 1;
+        let first = Instant::now(self.clock).ok();
+        let taken = lines_taken(space);
+        let last = Instant::now(self.clock).ok();
         let glance = Glance {
-            time: Instant::now(self.clock).ok(),
+            time: if behind { first } else { last },
+            taken,
             logged: space.logged.len(),
             promoted: space.report.promoted.len(),
             dead: space.report.dead.len(),

@@ -25,6 +25,11 @@ pub(crate) enum Work {
     Nothing,
     /// A list of new objects is held by the world.
     Promote,
+    /// So for a list of objects of 40 bytes, and for one of objects that take a line each.
+    Small,
+    Lines,
+    /// So for a list of objects of 40 bytes that were made with two others each, which nothing holds.
+    Nursery,
     /// Each object of the list was stored into again.
     Log,
     /// The references that were in those fields are counted down, which a pause does one later.
@@ -54,6 +59,9 @@ impl Work {
         match self {
             Work::Nothing => "nothing",
             Work::Promote => "promote",
+            Work::Small => "small",
+            Work::Lines => "lines",
+            Work::Nursery => "nursery",
             Work::Log => "log",
             Work::Lower => "lower",
             Work::LetGo => "let go",
@@ -73,6 +81,7 @@ impl Work {
         match self {
             Work::Nothing | Work::Begin => 0,
             Work::Promote | Work::Kill | Work::Help(_) | Work::Scatter => objects,
+            Work::Small | Work::Lines | Work::Nursery => objects,
             Work::Ring | Work::Wide | Work::End(_) | Work::Collect => objects,
             Work::Log | Work::Lower => objects.min(MOST_LOGGED),
             Work::LetGo => 1,
@@ -95,6 +104,9 @@ impl Work {
         match self {
             Work::Nothing | Work::Lower | Work::Kill | Work::Begin | Work::Collect => Ok(()),
             Work::Promote => write_promote(script, objects),
+            Work::Small => write_shaped(script, objects, "new r2 1 3\n"),
+            Work::Lines => write_shaped(script, objects, "new r2 1 30\n"),
+            Work::Nursery => write_shaped(script, objects, "new r2 1 3\nnew r2 1 3\nnew r2 1 3\n"),
             Work::Log => write_log(script, self.units(objects)),
             Work::LetGo => script.push_str("store r0 0 r1\n"),
             Work::Help(operations) | Work::End(operations) => write_help(script, operations),
@@ -136,6 +148,15 @@ fn write_promote(script: &mut String, objects: u32) -> Result<(), AllocError> {
         write_help(script, WAIT)?;
     } else {
         write_list(script, objects)?;
+    }
+    script.push_str("store r0 0 r1\nnil r1\nnil r2\n")
+}
+
+/// Makes a list of so many objects, each by these operations, which leave it in r2, and leaves the list to the world.
+fn write_shaped(script: &mut String, objects: u32, made: &str) -> Result<(), AllocError> {
+    for _ in 0..objects {
+        script.push_str(made)?;
+        script.push_str("store r2 0 r1\nmove r1 r2\n")?;
     }
     script.push_str("store r0 0 r1\nnil r1\nnil r2\n")
 }

@@ -55,10 +55,10 @@ handing_keeps_states t r b =
     let v : Tables = with_lines_out t (first_line r) (first_line r + r.lines) in
     let new : ℕ = state_number (state_by_lines v r.block) in
     elim (is_fixed (state_in v r.block)) as (λ c. is_fixed (state_in t r.block) ≡ c
-    → (state_of ((cond c t.states (changed t.states r.block new)) b) ≡ state_in t b) ⊎ ((is_fixed (state_in t b) ≡ false) × (is_fixed (state_of ((cond c t.states (changed t.states r.block new)) b)) ≡ false))) [
+    → ((cond c t.states (changed t.states r.block new)) b ≡ t.states b) ⊎ ((is_fixed (state_in t b) ≡ false) × (is_fixed (state_of ((cond c t.states (changed t.states r.block new)) b)) ≡ false))) [
       | true ↦ λ e. inl refl
       | false ↦ λ e. elim (nat_eq b r.block) as (λ c. nat_eq b r.block ≡ c
-          → (state_of (cond c new (t.states b)) ≡ state_in t b) ⊎ ((is_fixed (state_in t b) ≡ false) × (is_fixed (state_of (cond c new (t.states b))) ≡ false))) [
+          → (cond c new (t.states b) ≡ t.states b) ⊎ ((is_fixed (state_in t b) ≡ false) × (is_fixed (state_of (cond c new (t.states b))) ≡ false))) [
             | false ↦ λ f. inl refl
             | true ↦ λ f.
                 let same : b ≡ r.block = grind arith in

@@ -1,3 +1,4 @@
+pub mod BesideLemmas
 mod EdgeLemmas
 pub mod HandedLemmas
 pub mod HandingLemmas

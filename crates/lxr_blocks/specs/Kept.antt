@@ -1,22 +1,19 @@
 -- Which lines objects keep, so that none of them is handed out while an object lies on it.
-use Rattle.std.specs.Prelude.{◌≡◌, ◌≢◌, ℕ, ◌+◌, ◌*◌, ◌/◌, ◌<◌, ◌≤◌, ◌⊎◌, ◌↔◌, false, Some, List, [], ◌∷◌, IsTrue, length}
-use Rattle.lxr_layout.specs.declared.TheConstants.{GRANULES_IN_LINE}
-use Rattle.lxr_layout.specs.declared.limits.Limits.{Limits}
+use Rattle.std.specs.Prelude.{◌≡◌, ◌≢◌, ℕ, ◌+◌, ◌-◌, ◌*◌, ◌/◌, ◌%◌, ◌^◌, ◌<◌, ◌≤◌, ◌⊎◌, ◌↔◌, ◌&&◌, not, false, IsTrue, if◌then◌else◌}
+use Rattle.lxr_layout.specs.declared.TheConstants.{GRANULES_IN_BLOCK, GRANULES_IN_LINE}
 use Rattle.lxr_layout.specs.declared.Name.{Name}
 use Rattle.lxr_layout.specs.declared.Place.{Place}
 use Rattle.lxr_layout.specs.declared.Shape.{Shape}
-use Rattle.lxr_graph.specs.State.{Object, Graph, next_name, object_at, opening, with_new, world_name}
-use Rattle.lxr_graph.specs.Step.{fresh}
-use Rattle.lxr_graph.specs.Names.{has}
+use Rattle.lxr_layout.specs.Objects.{FitsShape}
 use Rattle.lxr_image.specs.declared.space.Space.{Space}
 use Rattle.lxr_image.specs.Tables.{Tables}
 use Rattle.lxr_image.specs.Spaces.{tables_of}
-use Rattle.lxr_image.specs.Opened.{IsOpened}
 use Rattle.lxr_image.specs.Reads.{granule_of}
-use Rattle.lxr_image.specs.Image.{granules_of, opening_at}
-use Rattle.lxr_image.specs.ImageLaws.{IsRoom, WritesNew, placed}
+use Rattle.lxr_image.specs.ImageLaws.{WritesNew}
+use Rattle.lxr_blocks.specs.declared.states.BlockState.TheVariants.{Chosen}
 use Rattle.lxr_blocks.specs.Lines.{is_free}
-use Rattle.lxr_blocks.specs.Placing.{IsPlaced, IsRest}
+use Rattle.lxr_blocks.specs.Placing.{IsPlaced, IsRest, granule_count}
+use Rattle.lxr_blocks.specs.States.{KeepsState, state_in}
 
 -- a free line: it isn't handed out, and each count on it is 0
 pub record IsFreeLine (t : Tables) (n : ℕ) : Type 0 where
@@ -37,23 +34,48 @@ pub record KeepsLines (t : Tables) (g k : ℕ) : Type 0 where
 abbrev pub KeptLineIsTaken : Type 0
 KeptLineIsTaken = (t : Tables) (g k n : ℕ) → KeepsLines t g k → g < GRANULES_IN_LINE * n + GRANULES_IN_LINE → GRANULES_IN_LINE * n < g + k → is_free t n ≡ false
 
--- the objects of these names keep their lines, and none of them reaches into the rest of the lines that were placed on last
-pub record AreKept (s : Space) (at : Name → ℕ) (g : Graph) (us : List Name) : Type 0 where
-  pub lines : (n : Name) (o : Object) → IsTrue (has us n) → object_at g n ≡ Some o → KeepsLines (tables_of s) (granule_of (at n)) (granules_of o)
-  pub rest : (n : Name) (o : Object) → IsTrue (has us n) → object_at g n ≡ Some o → s.rest_next < s.rest_end
-      → (granule_of (at n) + granules_of o ≤ s.rest_next) ⊎ (s.rest_end ≤ granule_of (at n))
+-- ---- granules that are kept, whatever keeps them
 
--- the world is kept in an opened space
-abbrev pub OpenedIsKept : Type 0
-OpenedIsKept = (s : Space) (l : Limits) → IsOpened s l → AreKept s opening_at (opening l.threads).graph (world_name ∷ [])
+-- a granule is one of so many from one on
+abbrev pub IsAmong : ℕ → ℕ → ℕ → Type 0
+IsAmong first many k = (first ≤ k) × (k < first + many)
 
--- a new object stands on room that no object reaches into, is written there, and is kept with all others
-pub record IsPlacedApart (before after : Space) (at : Name → ℕ) (g : Graph) (us : List Name) (thread : ℕ) (s : Shape) (p : Place) : Type 0 where
-  pub room : IsRoom before.limits.blocks at g us p.0 s
-  pub written : WritesNew (tables_of before) (tables_of after) p.0 (next_name g thread) s
-  pub kept : AreKept after (placed at (next_name g thread) p.0) (with_new g thread (fresh s)) (next_name g thread ∷ us)
+-- a granule is kept: its line isn't free, and it isn't left of the lines that were placed on last
+pub record IsKeptGranule (s : Space) (k : ℕ) : Type 0 where
+  pub line : is_free (tables_of s) (k / GRANULES_IN_LINE) ≡ false
+  pub rest : (k < s.rest_next) ⊎ (s.rest_end ≤ k)
 
--- so it is with each object that is placed where all were kept
-abbrev pub PlacedIsApart : Type 0
-PlacedIsApart = (before after : Space) (at : Name → ℕ) (g : Graph) (us : List Name) (thread : ℕ) (s : Shape) (p : Place)
-    → IsRest before → AreKept before at g us → thread < length g → IsPlaced before after (next_name g thread) s p → IsPlacedApart before after at g us thread s p
+-- a granule is open to be placed on: its line is free, or it is left of the lines that were placed on last
+abbrev pub IsOpenGranule : Space → ℕ → Type 0
+IsOpenGranule s k = IsTrue (is_free (tables_of s) (k / GRANULES_IN_LINE)) ⊎ ((s.rest_next ≤ k) × (k < s.rest_end))
+
+-- these granules are kept: no free line has one of them, and none is left of the lines that were placed on last
+pub record KeepsGranules (s : Space) (taken : ℕ → Type 0) : Type 0 where
+  pub lines : (k : ℕ) → taken k → is_free (tables_of s) (k / GRANULES_IN_LINE) ≡ false
+  pub rest : (k : ℕ) → taken k → (k < s.rest_next) ⊎ (s.rest_end ≤ k)
+
+-- An object was placed on granules that were open and not kept, whole in one block of the heap, outside Chosen blocks. Its header and
+-- zeros are written there, and all its lines are out. A line that wasn't out before is counted as handed out once more, and no block has
+-- become Chosen or World or ceased to be so. Nothing else has changed, and what was kept is, and the object's granules.
+pub record IsPlacedBeside (before after : Space) (taken : ℕ → Type 0) (n : Name) (s : Shape) (p : Place) : Type 0 where
+  pub placed : 1 ≤ p.0
+  pub in_heap : granule_of p.0 + granule_count s ≤ GRANULES_IN_BLOCK * before.limits.blocks
+  pub in_block : granule_of p.0 / GRANULES_IN_BLOCK ≡ (granule_of p.0 + granule_count s - 1) / GRANULES_IN_BLOCK
+  pub unchosen : state_in (tables_of before) (granule_of p.0 / GRANULES_IN_BLOCK) ≢ Chosen
+  pub apart : (k : ℕ) → taken k → ¬ IsAmong (granule_of p.0) (granule_count s) k
+  pub onto : (k : ℕ) → IsAmong (granule_of p.0) (granule_count s) k → IsOpenGranule before k
+  pub written : WritesNew (tables_of before) (tables_of after) p.0 n s
+  pub outs : (line : ℕ) → IsTrue ((tables_of after).outs line)
+      ↔ (IsTrue ((tables_of before).outs line) ⊎ ((k : ℕ) × IsAmong (granule_of p.0) (granule_count s) k × (k / GRANULES_IN_LINE ≡ line)))
+  pub reuse : (line : ℕ) → (tables_of after).reuse line
+      ≡ if (tables_of after).outs line && not ((tables_of before).outs line) then (((tables_of before).reuse line + 1) % 2 ^ 32) else (tables_of before).reuse line
+  pub states : (b : ℕ) → KeepsState (tables_of before) (tables_of after) b
+  pub tables : tables_of after ≡ record (tables_of before) { heap = (tables_of after).heap; outs = (tables_of after).outs; reuse = (tables_of after).reuse; states = (tables_of after).states }
+  pub space : after ≡ record before { words = after.words; rest_next = after.rest_next; rest_end = after.rest_end }
+  pub rest : IsRest after
+  pub kept : KeepsGranules after (λ k. taken k ⊎ IsAmong (granule_of p.0) (granule_count s) k)
+
+-- so it is with each object that is placed, beside all granules that were kept
+abbrev pub PlacedIsBeside : Type 0
+PlacedIsBeside = (before after : Space) (n : Name) (s : Shape) (p : Place)
+    → IsRest before → FitsShape s → IsPlaced before after n s p → IsPlacedBeside before after (IsKeptGranule before) n s p

@@ -35,9 +35,9 @@ is_fixed Whole = false
 is_fixed Chosen = true
 is_fixed World = true
 
--- a block has the state that it had, or neither that one nor its own is Chosen or World
+-- a block has the number of the state that it had, or neither that state nor its own is Chosen or World
 abbrev pub KeepsState : Tables → Tables → ℕ → Type 0
-KeepsState t u b = (state_in u b ≡ state_in t b) ⊎ ((is_fixed (state_in t b) ≡ false) × (is_fixed (state_in u b) ≡ false))
+KeepsState t u b = (u.states b ≡ t.states b) ⊎ ((is_fixed (state_in t b) ≡ false) × (is_fixed (state_in u b) ≡ false))
 
 -- the block has the state of its lines, unless it is Chosen or World
 abbrev pub with_state_by_lines : Tables → ℕ → Tables

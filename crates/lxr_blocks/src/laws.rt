@@ -1,5 +1,5 @@
 //! Laws of free lines, each the contract of a function that does nothing.
-ghost use Rattle.lxr_blocks.specs.Kept.{FreeLineIsTold, KeptLineIsTaken, OpenedIsKept, PlacedIsApart};
+ghost use Rattle.lxr_blocks.specs.Kept.{FreeLineIsTold, KeptLineIsTaken, PlacedIsBeside};
 
 /// A line is free exactly where it isn't handed out and each count on it is 0.
 pub fn free_line_is_told()
@@ -11,12 +11,7 @@ pub fn kept_line_is_taken()
     ensures { KeptLineIsTaken }
 {}
 
-/// The world keeps its lines in an opened space.
-pub fn opened_is_kept()
-    ensures { OpenedIsKept }
-{}
-
-/// An object is placed on room that no object that was kept reaches into, and is kept from then on.
-pub fn placed_is_apart()
-    ensures { PlacedIsApart }
+/// An object is placed on granules that nothing kept, and keeps them from then on.
+pub fn placed_is_beside()
+    ensures { PlacedIsBeside }
 {}

@@ -14,7 +14,7 @@ mod placing;
 mod states;
 
 pub use handing::hand_out;
-pub use laws::{free_line_is_told, kept_line_is_taken, opened_is_kept, placed_is_apart};
+pub use laws::{free_line_is_told, kept_line_is_taken, placed_is_beside};
 pub use listing::list_runs;
 pub use masks::free_mask;
 pub use placing::place_now;

@@ -259,7 +259,7 @@ out_before lines t u n is out = elim (is.lines_are n) [ inl handed ↦ inr hande
 
 -- each block keeps its state, or has that of its lines
 pub keeps_state : (lines : ℕ → Type 0) (t u : Tables) (b : ℕ) → AreHandedOut lines t u → KeepsState t u b
-keeps_state lines t u b is = elim (is.blocks_are b) [ inl new ↦ inr (new.loose, new_loose lines t u b new) | inr keeps ↦ inl (ap state_of keeps.state) ]
+keeps_state lines t u b is = elim (is.blocks_are b) [ inl new ↦ inr (new.loose, new_loose lines t u b new) | inr keeps ↦ inl keeps.state ]
 
 -- ---- what is left free
 

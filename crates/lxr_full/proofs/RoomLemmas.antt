@@ -1,8 +1,9 @@
 -- A full heap has an object in each block, and so at least as many objects as blocks: names are taken out block by block.
--- Right after a pause the unreclaimed objects but the world take all lines behind the world's three.
-use Rattle.std.proofs.Common.{◌≡◌, ℕ, zero, suc, ◌+◌, ◌-◌, ◌*◌, ◌/◌, ◌<◌, ◌≤◌, refl, sym, ap, subst, ◌∙◌, inl, inr, ◌⊎◌, arith, Bool, true, false, nat_eq, List, [], ◌∷◌, ◌++◌, length}
-use Rattle.std.specs.Prelude.{Some, None, IsTrue, not, map, filter}
-use Rattle.std.proofs.lemmas.Bool.{cases_Bool, false_from_ne_true, or_left}
+-- All objects but the world take all lines behind the world's three, so they can leave no run where none is left.
+use Rattle.std.proofs.Common.{◌≡◌, ◌≢◌, ℕ, zero, suc, ◌+◌, ◌-◌, ◌*◌, ◌/◌, ◌<◌, ◌≤◌, refl, sym, ap, subst, ◌∙◌, inl, inr, ◌⊎◌, arith, Bool, true, false, nat_eq, List, [], ◌∷◌, ◌++◌, length}
+use Rattle.std.specs.Prelude.{◌↔◌, Some, IsTrue, not, map, filter}
+use Rattle.std.proofs.Math.Nat.{mul-le-mul_right}
+use Rattle.std.proofs.lemmas.Bool.{cases_Bool, false_from_ne_true, or_cases, or_left, or_right}
 use Rattle.std.proofs.lemmas.Bool.Decides.{nat_tests}
 use Rattle.std.proofs.lemmas.List.{append-nil, length-append, length-map}
 use Rattle.std.proofs.lemmas.List.Filters.{length-filter_both}
@@ -14,23 +15,30 @@ use Rattle.lxr_layout.specs.declared.Name.{Name}
 use Rattle.lxr_layout.specs.declared.Shape.{Shape}
 use Rattle.lxr_layout.specs.Objects.{FitsShape, line_count}
 use Rattle.lxr_graph.specs.State.{Graph, Object, world_name}
-use Rattle.lxr_graph.specs.Names.{has, same_name, without}
-use Rattle.lxr_graph.proofs.NameSets.{has_one, in_without, same_names, without_parts}
+use Rattle.lxr_graph.specs.Names.{AreInOrder, IsSetOf, has, same_name, union, without}
+use Rattle.lxr_graph.proofs.NameSets.{has_one, in_order-without, in_without, not_both, same_names, union_cases, union_left, union_right, without_parts}
 use Rattle.lxr_image.specs.declared.space.Space.{Space}
 use Rattle.lxr_image.specs.Tables.{Tables}
 use Rattle.lxr_image.specs.Spaces.{tables_of}
 use Rattle.lxr_image.specs.Reads.{granule_of}
 use Rattle.lxr_image.specs.Image.{IsImage, granules_of}
+use Rattle.lxr_blocks.specs.declared.states.BlockState.{BlockState}
+use Rattle.lxr_blocks.specs.declared.states.BlockState.TheVariants.{Chosen, World}
 use Rattle.lxr_blocks.specs.Lines.{free_in, is_free}
+use Rattle.lxr_blocks.specs.States.{state_in}
 use Rattle.lxr_blocks.specs.Placing.{IsFull}
+use Rattle.lxr_model.specs.Full.{LeaveNoRun}
+use Rattle.lxr_model.specs.Moments.{Moment}
+use Rattle.lxr_model.specs.Reachable.{Reachable}
+use Rattle.lxr_model_counting.proofs.DistinctLemmas.{first_has}
 use Rattle.lxr_full.specs.Taken.{LinesAreTaken}
 use Rattle.lxr_full.proofs.TakenLemmas.{taken_leaves_no_run}
 use Rattle.lxr_invariant.specs.AbstractState.{AbstractState, members}
 use Rattle.lxr_invariant.specs.Standing.{entry_of}
-use Rattle.lxr_invariant.specs.Lines.{Covers, IsTakenBy, NoneChosen, OutsAreTaken}
+use Rattle.lxr_invariant.specs.Lines.{Covers, IsTakenBy, NoneChosen, OutsAreTaken, chosen_count, is_chosen}
 use Rattle.lxr_invariant.specs.Quiescent.{HoldsMoment, IsQuiescent}
 use Rattle.lxr_invariant.proofs.BlockLemmas.{none_counted}
-use Rattle.lxr_full.specs.Room.{HasWorld, LogIsWritten, PausedFullLeavesNoRun, RoomlessBlocksAreTaken}
+use Rattle.lxr_full.specs.Room.{CollectedFullLeavesNoRun, HasWorld, LogIsWritten, RoomlessBlocksAreTaken, WaitingMayCollect}
 use Rattle.lxr_full.proofs.TakenLines.{all_or_one, line_taken}
 
 -- ---- one name a block
@@ -100,12 +108,17 @@ begins_in_block t blocks g at ms b i image within taken =
     let high : taken.2 < granule_of (at taken.0) + granules_of a.0 = subst (λ o. taken.2 < granule_of (at taken.0) + granules_of o) same taken.4.behind in
     (taken.0, taken.3, block_of (granule_of (at taken.0)) (granules_of a.0) taken.2 b i taken.4.first high a.2.whole.in_block taken.5 within)
 
+-- what is unreclaimed or made since the last pause is a member
+in_members : (m : Moment) (n : Name) → IsTrue (has m.unreclaimed n) ⊎ IsTrue (has m.made n) → IsTrue (has (members m) n)
+in_members m n (inl old) = list_any-append (same_name n) m.unreclaimed m.made ∙ or_left (has m.unreclaimed n) (has m.made n) old
+in_members m n (inr new) = list_any-append (same_name n) m.unreclaimed m.made ∙ or_right (has m.unreclaimed n) (has m.made n) new
+
 -- in a space that holds a moment, an object of a member overlaps a line that isn't free
 pub member_takes : (s : Space) (g : AbstractState) → HoldsMoment s g.moment g.at → OutsAreTaken (tables_of s) g.moment.state.graph g.at (members g.moment) → (line : ℕ) → is_free (tables_of s) line ≡ false
     → IsTakenBy g.moment.state.graph g.at (members g.moment) line
 member_takes s g holds outs =
     line_taken (tables_of s) s.limits.blocks g.moment.state.graph g.at g.moment.unreclaimed (members g.moment) holds.image.image
-    (λ n h. list_any-append (same_name n) g.moment.unreclaimed g.moment.made ∙ or_left (has g.moment.unreclaimed n) (has g.moment.made n) h) holds.marks outs
+    (λ n h. in_members g.moment n (inl h)) holds.marks outs
 
 block_is_taken : (s : Space) (g : AbstractState) (shape : Shape) → IsQuiescent s g → NoneChosen (tables_of s) s.limits.blocks → FitsShape shape → IsFull s shape → (b : ℕ) → b < s.limits.blocks
     → (n : Name) × IsTrue (has (members g.moment) n) × (granule_of (g.at n) / GRANULES_IN_BLOCK ≡ b)
@@ -128,7 +141,7 @@ roomless_blocks_are_taken s g shape between unchosen fits full =
     let sum = length-append g.moment.unreclaimed g.moment.made in
     omega (arith, many, sum)
 
--- ---- right after a pause
+-- ---- what all objects but the world take
 
 -- the world has the lines 0 to 2 alone
 world_is_low : (g : Graph) (at : Name → ℕ) (o : Object) (k line : ℕ) → HasWorld g → at world_name ≡ 1 → Covers g at world_name o k → k / GRANULES_IN_LINE ≡ line → line < 3
@@ -149,9 +162,6 @@ not_the_world g at n o k line world place is same_line past one =
     let low = world_is_low g at o k line world place (subst (λ m. Covers g at m o k) (has_one world_name n one) is) same_line in
     absurd (omega (arith, low, past))
 
-unreclaimed_member : (us made : List Name) (n : Name) → made ≡ [] → IsTrue (has (us ++ made) n) → IsTrue (has us n)
-unreclaimed_member us made n none h = subst (λ ns. IsTrue (has ns n)) (ap (λ ns. us ++ ns) none ∙ append-nil us) h
-
 -- an object of a line has granules before its end and behind its begin
 overlaps_low : (first k line : ℕ) → first ≤ k → k / GRANULES_IN_LINE ≡ line → first < GRANULES_IN_LINE * line + GRANULES_IN_LINE
 overlaps_low first k line low is = omega arith
@@ -159,16 +169,20 @@ overlaps_low first k line low is = omega arith
 overlaps_high : (end k line : ℕ) → k < end → k / GRANULES_IN_LINE ≡ line → GRANULES_IN_LINE * line < end
 overlaps_high end k line high is = omega arith
 
-lines_are_taken : (s : Space) (g : AbstractState) → IsQuiescent s g → g.moment.made ≡ [] → HasWorld g.moment.state.graph
-    → LinesAreTaken (tables_of s) s.limits.blocks g.at g.moment.state.graph (without g.moment.unreclaimed (world_name ∷ []))
-lines_are_taken s g between none_made world line past in_heap taken =
+-- these are the members but the world
+record AreOthers (m : Moment) (ns : List Name) : Type 0 where
+  among : (n : Name) → IsTrue (has ns n) → IsTrue (has (members m) n)
+  all : (n : Name) → IsTrue (has (members m) n) → (IsTrue (has (world_name ∷ []) n) → ⊥) → IsTrue (has ns n)
+
+lines_are_taken : (s : Space) (g : AbstractState) (ns : List Name) → IsQuiescent s g → HasWorld g.moment.state.graph → AreOthers g.moment ns
+    → LinesAreTaken (tables_of s) s.limits.blocks g.at g.moment.state.graph ns
+lines_are_taken s g ns between world others line past in_heap taken =
     let holds = between.safepoint.holds in
     let is = member_takes s g holds between.outs line taken in
-    let n : Name = is.0 in
-    let others = not_the_world g.moment.state.graph g.at n is.1 is.2 line world holds.image.world is.4 is.5 past in (
+    let n : Name = is.0 in (
       n,
       is.1,
-      in_without g.moment.unreclaimed (world_name ∷ []) n (unreclaimed_member g.moment.unreclaimed g.moment.made n none_made is.3) others,
+      others.all n is.3 (not_the_world g.moment.state.graph g.at n is.1 is.2 line world holds.image.world is.4 is.5 past),
       is.4.object,
       overlaps_low (granule_of (g.at n)) is.2 line is.4.first is.5,
       overlaps_high (granule_of (g.at n) + granules_of is.1) is.2 line is.4.behind is.5,
@@ -177,18 +191,80 @@ lines_are_taken s g between none_made world line past in_heap taken =
 some_lines : (shape : Shape) → 1 ≤ line_count shape
 some_lines shape = omega arith
 
-pub paused_full_leaves_no_run : PausedFullLeavesNoRun
-paused_full_leaves_no_run s g shape between none_made unchosen world full =
+-- the world's block isn't Chosen
+world_is_open : (state : BlockState) → state ≡ World → state ≢ Chosen
+world_is_open state world chosen = let both : false ≡ true = sym (ap is_chosen world) ∙ ap is_chosen chosen in cc
+
+-- where no room is left, they can leave no run outside Chosen blocks
+full_leaves_no_run : (s : Space) (g : AbstractState) (shape : Shape) (ns : List Name) → IsQuiescent s g → HasWorld g.moment.state.graph → IsFull s shape → AreOthers g.moment ns
+    → LeaveNoRun g.moment.state.graph ns (s.limits.blocks - chosen_count (tables_of s) s.limits.blocks) (line_count shape)
+full_leaves_no_run s g shape ns between world full others =
     let holds = between.safepoint.holds in
-    taken_leaves_no_run (tables_of s) s.limits.blocks g.at g.moment.state.graph (members g.moment) (without g.moment.unreclaimed (world_name ∷ [])) (line_count shape)
-    (some_lines shape) holds.space.limits.blocks.0
-    (record {
-      image = holds.image.image;
-      among = λ n h. list_any-append (same_name n) g.moment.unreclaimed g.moment.made
-          ∙ or_left (has g.moment.unreclaimed n) (has g.moment.made n) (without_parts g.moment.unreclaimed (world_name ∷ []) n h).0;
-      lines = lines_are_taken s g between none_made world;
-    })
-    (λ q run long. full.lines q (record { run = run; outside = none_counted (tables_of s) s.limits.blocks q.block unchosen run.block }) long)
+    taken_leaves_no_run (tables_of s) s.limits.blocks g.at g.moment.state.graph (members g.moment) ns (line_count shape) (some_lines shape) holds.space.limits.blocks.0
+    (world_is_open (state_in (tables_of s) 0) holds.blocks.world)
+    (record { image = holds.image.image; among = others.among; lines = lines_are_taken s g ns between world others })
+    full.lines
+
+-- ---- where a `new` waits
+
+member_cases : (m : Moment) (n : Name) → IsTrue (has (members m) n) → IsTrue (has m.unreclaimed n) ⊎ IsTrue (has m.made n)
+member_cases m n h = or_cases (has m.unreclaimed n) (has m.made n) (sym (list_any-append (same_name n) m.unreclaimed m.made) ∙ h)
+
+in_union : (m : Moment) (n : Name) → IsTrue (has m.unreclaimed n) ⊎ IsTrue (has m.made n) → IsTrue (has (union m.made m.unreclaimed) n)
+in_union m n (inl old) = union_right m.made m.unreclaimed n old
+in_union m n (inr new) = union_left m.made m.unreclaimed n new
+
+union_is_members : (m : Moment) (n : Name) → IsTrue (has (union m.made m.unreclaimed) n) → IsTrue (has (members m) n)
+union_is_members m n h = elim (union_cases m.made m.unreclaimed n h) [ inl new ↦ in_members m n (inr new) | inr old ↦ in_members m n (inl old) ]
+
+union_are_others : (m : Moment) → AreOthers m (without (union m.made m.unreclaimed) (world_name ∷ []))
+union_are_others m = record {
+  among = λ n h. union_is_members m n (without_parts (union m.made m.unreclaimed) (world_name ∷ []) n h).0;
+  all = λ n h other. in_without (union m.made m.unreclaimed) (world_name ∷ []) n (in_union m n (member_cases m n h)) other;
+}
+
+pub waiting_may_collect : WaitingMayCollect
+waiting_may_collect s g shape between world fits full =
+    let none = full_leaves_no_run s g shape (without (union g.moment.made g.moment.unreclaimed) (world_name ∷ [])) between world full (union_are_others g.moment) in
+    let few = between.safepoint.holds.blocks.few in
+    let more : s.limits.blocks - 1 - s.limits.blocks / 8 ≤ s.limits.blocks - chosen_count (tables_of s) s.limits.blocks - 1 = omega (arith, few) in
+    let slots = mul-le-mul_right (LINES_IN_BLOCK / line_count shape) more in
+    omega (arith, none, slots)
+
+-- ---- right after a pause
+
+unreclaimed_member : (us made : List Name) (n : Name) → made ≡ [] → IsTrue (has (us ++ made) n) → IsTrue (has us n)
+unreclaimed_member us made n none h = subst (λ ns. IsTrue (has ns n)) (ap (λ ns. us ++ ns) none ∙ append-nil us) h
+
+unreclaimed_are_others : (m : Moment) → m.made ≡ [] → AreOthers m (without m.unreclaimed (world_name ∷ []))
+unreclaimed_are_others m none_made = record {
+  among = λ n h. in_members m n (inl (without_parts m.unreclaimed (world_name ∷ []) n h).0);
+  all = λ n h other. in_without m.unreclaimed (world_name ∷ []) n (unreclaimed_member m.unreclaimed m.made n none_made h) other;
+}
+
+-- a name that isn't one of the world's alone isn't the world
+not_world : (n : Name) → has (world_name ∷ []) n ≡ false → n ≢ world_name
+not_world n other is = not_both (has (world_name ∷ []) n) (subst (λ m. IsTrue (has (world_name ∷ []) m)) (sym is) (first_has world_name [])) other
+
+-- where exactly the reachable is unreclaimed, these are the reachable names but the world
+reachable_set : (m : Moment) → AreInOrder m.unreclaimed → ((n : Name) → IsTrue (has m.unreclaimed n) ↔ Reachable m.state n)
+    → IsSetOf (without m.unreclaimed (world_name ∷ [])) (λ o. Reachable m.state o × (o ≢ world_name))
+reachable_set m order exactly = record {
+  in_order = in_order-without m.unreclaimed (world_name ∷ []) order;
+  members = λ n. (
+    λ h. let both = without_parts m.unreclaimed (world_name ∷ []) n h in ((exactly n).0 both.0, not_world n both.1),
+    λ is. in_without m.unreclaimed (world_name ∷ []) n ((exactly n).1 is.0) (λ one. is.1 (has_one world_name n one)),
+  );
+}
+
+pub collected_full_leaves_no_run : CollectedFullLeavesNoRun
+collected_full_leaves_no_run s g shape between none_made unchosen exactly world full =
+    let none = full_leaves_no_run s g shape (without g.moment.unreclaimed (world_name ∷ [])) between world full (unreclaimed_are_others g.moment none_made) in
+    let all : s.limits.blocks - chosen_count (tables_of s) s.limits.blocks ≡ s.limits.blocks = omega (arith, unchosen) in (
+      without g.moment.unreclaimed (world_name ∷ []),
+      reachable_set g.moment between.safepoint.holds.follows.unreclaimed exactly,
+      subst (λ b. LeaveNoRun g.moment.state.graph (without g.moment.unreclaimed (world_name ∷ [])) b (line_count shape)) all none,
+    )
 
 -- ---- at a safepoint before a pause
 

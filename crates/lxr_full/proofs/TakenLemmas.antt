@@ -127,7 +127,7 @@ taken_touches_few t blocks at g ms ns k some is =
     omega (arith, more, few)
 
 pub taken_leaves_no_run : TakenLeavesNoRun
-taken_leaves_no_run t blocks at g ms ns k some blocks_are is none =
-    let all = no_run_touches_all t blocks k blocks_are none in
+taken_leaves_no_run t blocks at g ms ns k some blocks_are first is none =
+    let all = no_run_touches_all t blocks k blocks_are first none in
     let few = taken_touches_few t blocks at g ms ns k some is in
     omega (arith, all, few)

@@ -1,5 +1,5 @@
--- What touches slots: nothing at the opening, a row of lines few, such as a run that is handed out, and all are touched
--- where no run is left.
+-- What touches slots: nothing at the opening, a row of lines few, such as a run that is handed out, and all outside Chosen
+-- blocks are touched where no run is left there.
 use Rattle.std.proofs.Common.{◌≡◌, ◌≢◌, ℕ, zero, suc, ◌+◌, ◌-◌, ◌*◌, ◌/◌, ◌<◌, ◌≤◌, refl, sym, ap, subst, ◌∙◌, inl, inr, ◌⊎◌, arith, true, false}
 use Rattle.std.specs.Prelude.{◌&&◌, not, if◌then◌else◌}
 use Rattle.std.proofs.Math.Path.{fun_ext}
@@ -10,13 +10,17 @@ use Rattle.lxr_layout.specs.declared.limits.Limits.{Limits}
 use Rattle.lxr_layout.specs.declared.runs.Run.{Run}
 use Rattle.lxr_image.specs.Tables.{Tables}
 use Rattle.lxr_image.specs.Opened.{opened_tables}
+use Rattle.lxr_blocks.specs.declared.states.BlockState.{BlockState}
+use Rattle.lxr_blocks.specs.declared.states.BlockState.TheVariants.{Chosen, Free, Partly, Whole, World}
 use Rattle.lxr_blocks.specs.Lines.{IsFreeRun, are_zero, free_in, is_free}
+use Rattle.lxr_blocks.specs.States.{IsOpenRun, state_in}
 use Rattle.lxr_blocks.specs.Handing.{first_line, handed_out, is_between}
 use Rattle.lxr_blocks.proofs.LineLemmas.{all_zero}
 use Rattle.lxr_model.specs.Full.{slots_in, slots_touched}
+use Rattle.lxr_invariant.specs.Lines.{chosen_count, is_chosen}
 use Rattle.lxr_full.specs.Touched.{are_free, is_touched, slots_begin, slots_of, touched_in, touched_slots}
 use Rattle.lxr_full.specs.TouchedLaws.{HandingOutTouchesFew, NoRunTouchesAll, OpenedTouchesNone, TouchedReadsLines}
-use Rattle.lxr_full.proofs.SlotLemmas.{IsInWindow, counts_all, counts_in_window, counts_more, counts_none, counts_same, row_has_free, row_is_free, same_row, slot_in_window, slot_within}
+use Rattle.lxr_full.proofs.SlotLemmas.{IsInWindow, counts_all, counts_in_window, counts_more, counts_none, counts_same, one_at_most, row_has_free, row_is_free, same_row, slot_in_window, slot_within}
 
 pub begins_early : (b : ℕ) → slots_begin b ≤ 3
 begins_early zero = omega arith
@@ -185,9 +189,9 @@ handing_out_touches_few t blocks k r some is =
 
 -- ---- no run is left
 
--- no run of so many free lines
+-- no run of so many free lines outside Chosen blocks
 abbrev pub NoRun : Tables → ℕ → ℕ → Type 0
-NoRun t blocks k = (q : Run) → IsFreeRun t blocks q → k ≤ q.lines → ⊥
+NoRun t blocks k = (q : Run) → IsOpenRun t blocks q → k ≤ q.lines → ⊥
 
 -- a slot that isn't touched is a run
 slot_is_run : (t : Tables) (blocks k b j : ℕ) → b < blocks → j < slots_of k b → are_free (free_in t b) (slots_begin b + j * k) k ≡ true
@@ -200,27 +204,58 @@ slot_is_run t blocks k b j in_heap h is =
           subst (λ x. free_in t b x ≡ true) at (row_has_free (free_in t b) (slots_begin b + j * k) k (i - (slots_begin b + j * k)) (omega (arith, low, high)) is);
     }
 
-all_touched : (t : Tables) (blocks k b j : ℕ) → NoRun t blocks k → b < blocks → j < slots_of k b → is_touched (free_in t b) k (slots_begin b) j ≡ true
-all_touched t blocks k b j none in_heap h = elim (cases_Bool (are_free (free_in t b) (slots_begin b + j * k) k)) [
-  | inl is ↦ absurd (none _ (slot_is_run t blocks k b j in_heap h is) (omega arith))
+all_touched : (t : Tables) (blocks k b j : ℕ) → NoRun t blocks k → b < blocks → state_in t b ≢ Chosen → j < slots_of k b → is_touched (free_in t b) k (slots_begin b) j ≡ true
+all_touched t blocks k b j none in_heap open_block h = elim (cases_Bool (are_free (free_in t b) (slots_begin b + j * k) k)) [
+  | inl is ↦ absurd (none _ (record { run = slot_is_run t blocks k b j in_heap h is; outside = open_block }) (omega arith))
   | inr is ↦ ap not is
 ]
 
-full_block : (t : Tables) (blocks k b : ℕ) → NoRun t blocks k → b < blocks → touched_in t k b ≡ slots_of k b
-full_block t blocks k b none in_heap =
-    counts_all (is_touched (free_in t b) k (slots_begin b)) (slots_of k b) (λ j h. all_touched t blocks k b j none in_heap h)
+full_block : (t : Tables) (blocks k b : ℕ) → NoRun t blocks k → b < blocks → state_in t b ≢ Chosen → touched_in t k b ≡ slots_of k b
+full_block t blocks k b none in_heap open_block =
+    counts_all (is_touched (free_in t b) k (slots_begin b)) (slots_of k b) (λ j h. all_touched t blocks k b j none in_heap open_block h)
 
--- block 0 and so many further blocks
-full_blocks : (t : Tables) (blocks k n : ℕ) → NoRun t blocks k → n < blocks → touched_slots t (suc n) k ≡ slots_in k n
+-- ---- Chosen blocks
+
+-- what tells Chosen from other states
+is_other : (state : BlockState) → is_chosen state ≡ false → state ≢ Chosen
+is_other state told is = let both : true ≡ false = sym (ap is_chosen is) ∙ told in cc
+
+other_is_told : (state : BlockState) → state ≢ Chosen → is_chosen state ≡ false
+other_is_told Free other = refl
+other_is_told Partly other = refl
+other_is_told Whole other = refl
+other_is_told Chosen other = absurd (other refl)
+other_is_told World other = refl
+
+-- where block 0 isn't Chosen, at most so many further blocks are
+few_chosen : (t : Tables) (n : ℕ) → state_in t 0 ≢ Chosen → chosen_count t (suc n) ≤ n
+few_chosen t zero first = let here = ap (λ b. (if b then 1 else 0) + chosen_count t zero) (other_is_told (state_in t 0) first) in omega (arith, here)
+few_chosen t (suc n) first =
+    let before = few_chosen t n first in let one = one_at_most (is_chosen (state_in t (suc n))) in omega (arith, before, one)
+
+-- of block 0 and so many further blocks, only slots of Chosen ones aren't touched
+most_touched : (t : Tables) (blocks k n : ℕ) → NoRun t blocks k → state_in t 0 ≢ Chosen → n < blocks
+    → slots_in k n ≤ touched_slots t (suc n) k + chosen_count t (suc n) * (LINES_IN_BLOCK / k)
 unfolding touched_slots
-full_blocks t blocks k zero none h = let here = full_block t blocks k zero none h in omega (arith, here)
-full_blocks t blocks k (suc n) none h =
-    let before = full_blocks t blocks k n none (omega arith) in
-    let here = full_block t blocks k (suc n) none h in
-    omega (arith, before, here)
+most_touched t blocks k zero none first h = let here = full_block t blocks k zero none h first in omega (arith, here)
+most_touched t blocks k (suc n) none first h =
+    let before = most_touched t blocks k n none first (omega (arith, h)) in
+    elim (cases_Bool (is_chosen (state_in t (suc n)))) [
+      | inl chosen ↦ let one = ap (λ b. (if b then 1 else 0) + chosen_count t (suc n)) chosen in
+          let more = ap (λ c. c * (LINES_IN_BLOCK / k)) one in omega (arith, before, more)
+      | inr told ↦
+          let none_more = ap (λ b. (if b then 1 else 0) + chosen_count t (suc n)) told in
+          let as_before = ap (λ c. c * (LINES_IN_BLOCK / k)) none_more in
+          let here = full_block t blocks k (suc n) none h (is_other (state_in t (suc n)) told) in
+          omega (arith, before, as_before, here)
+    ]
 
 pub no_run_touches_all : NoRunTouchesAll
-no_run_touches_all t zero k some none = absurd (omega arith)
-no_run_touches_all t (suc n) k some none =
-    let all = full_blocks t (suc n) k n none (omega arith) in let less : suc n - 1 ≡ n = omega arith in
-    subst (λ x. slots_in k x ≤ touched_slots t (suc n) k) (sym less) (omega (arith, all))
+no_run_touches_all t zero k some first none = absurd (omega arith)
+no_run_touches_all t (suc n) k some first none =
+    let most = most_touched t (suc n) k n none first (omega arith) in
+    let few = few_chosen t n first in
+    let open_blocks = suc n - chosen_count t (suc n) - 1 in
+    let all : n ≡ open_blocks + chosen_count t (suc n) = omega (arith, few) in
+    let parts = ap (λ m. m * (LINES_IN_BLOCK / k)) all in
+    omega (arith, most, parts)

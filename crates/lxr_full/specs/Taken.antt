@@ -1,5 +1,5 @@
 -- Objects that take all lines that aren't free, as a pause leaves them, and how many slots they touch at most.
-use Rattle.std.specs.Prelude.{◌≡◌, ℕ, ◌+◌, ◌*◌, ◌<◌, ◌≤◌, false, Some, List, IsTrue}
+use Rattle.std.specs.Prelude.{◌≡◌, ◌≢◌, ℕ, ◌+◌, ◌-◌, ◌*◌, ◌<◌, ◌≤◌, false, Some, List, IsTrue}
 use Rattle.lxr_layout.specs.declared.TheConstants.{GRANULES_IN_LINE, LINES_IN_BLOCK}
 use Rattle.lxr_layout.specs.declared.Name.{Name}
 use Rattle.lxr_layout.specs.declared.runs.Run.{Run}
@@ -9,7 +9,10 @@ use Rattle.lxr_model.specs.Full.{LeaveNoRun, slots_taken}
 use Rattle.lxr_image.specs.Tables.{Tables}
 use Rattle.lxr_image.specs.Reads.{granule_of}
 use Rattle.lxr_image.specs.Image.{IsImage, granules_of}
-use Rattle.lxr_blocks.specs.Lines.{IsFreeRun, is_free}
+use Rattle.lxr_blocks.specs.declared.states.BlockState.TheVariants.{Chosen}
+use Rattle.lxr_blocks.specs.Lines.{is_free}
+use Rattle.lxr_blocks.specs.States.{IsOpenRun, state_in}
+use Rattle.lxr_invariant.specs.Lines.{chosen_count}
 use Rattle.lxr_full.specs.Touched.{touched_slots}
 
 -- a line, counted over the whole heap, is overlapped by the object of one of these names
@@ -33,7 +36,7 @@ abbrev pub TakenTouchesFew : Type 0
 TakenTouchesFew = (t : Tables) (blocks : ℕ) (at : Name → ℕ) (g : Graph) (ms ns : List Name) (k : ℕ) → 1 ≤ k
     → TakeAllLines t blocks at g ms ns → touched_slots t blocks k ≤ slots_taken g k ns
 
--- so they can leave no run of k lines where no free lines in a row are k or more
+-- so they can leave no run of k lines in as many blocks as aren't Chosen, where no free lines in a row of these are k or more
 abbrev pub TakenLeavesNoRun : Type 0
-TakenLeavesNoRun = (t : Tables) (blocks : ℕ) (at : Name → ℕ) (g : Graph) (ms ns : List Name) (k : ℕ) → 1 ≤ k → 1 ≤ blocks
-    → TakeAllLines t blocks at g ms ns → ((q : Run) → IsFreeRun t blocks q → k ≤ q.lines → ⊥) → LeaveNoRun g ns blocks k
+TakenLeavesNoRun = (t : Tables) (blocks : ℕ) (at : Name → ℕ) (g : Graph) (ms ns : List Name) (k : ℕ) → 1 ≤ k → 1 ≤ blocks → state_in t 0 ≢ Chosen
+    → TakeAllLines t blocks at g ms ns → ((q : Run) → IsOpenRun t blocks q → k ≤ q.lines → ⊥) → LeaveNoRun g ns (blocks - chosen_count t blocks) k

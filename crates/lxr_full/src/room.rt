@@ -2,20 +2,27 @@
 //!
 //! A heap is full for a shape where neither the rest nor free lines in a row fit it. A line that isn't free is
 //! overlapped by an object: it is out, or one of its granules begins an unreclaimed object or is a line mark of one.
-//! So where no block is Chosen, a full heap has an object in each of its blocks, and right after a pause the unreclaimed
-//! objects alone can leave no run for the shape. Blocks and lines are those of Immix (Blackburn and McKinley, 2008),
+//! So where no block is Chosen, a full heap has an object in each of its blocks. Whatever blocks are Chosen, the objects
+//! that are unreclaimed or new can leave no run for the shape in the others; and right after a pause that left exactly
+//! what is reachable, these alone can leave none. Blocks and lines are those of Immix (Blackburn and McKinley, 2008),
 //! line marks in the table of counts those of LXR (Zhao, Blackburn and McKinley, 2022). The functions here do
 //! nothing: the contract of each is a law.
-ghost use Rattle.lxr_full.specs.Room.{LogIsWritten, PausedFullLeavesNoRun, RoomlessBlocksAreTaken, WorldKeepsShape};
+ghost use Rattle.lxr_full.specs.Room.{CollectedFullLeavesNoRun, LogIsWritten, RoomlessBlocksAreTaken, WaitingMayCollect, WorldKeepsShape};
 
 /// Where no room is left between epochs and no block is Chosen, there are at least as many objects as blocks.
 pub fn roomless_blocks_are_taken()
     ensures { RoomlessBlocksAreTaken }
 {}
 
-/// Where no room is left right after a pause, the unreclaimed objects can leave no run.
-pub fn paused_full_leaves_no_run()
-    ensures { PausedFullLeavesNoRun }
+/// Where no room is left between epochs, the objects that are unreclaimed or new can leave no run outside the blocks that may
+/// be Chosen.
+pub fn waiting_may_collect()
+    ensures { WaitingMayCollect }
+{}
+
+/// Where no room is left right after a pause that left exactly what is reachable, the reachable objects can leave no run.
+pub fn collected_full_leaves_no_run()
+    ensures { CollectedFullLeavesNoRun }
 {}
 
 /// The world has 64 references and no data after each legal history.

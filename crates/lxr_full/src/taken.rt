@@ -8,7 +8,8 @@ pub fn taken_touches_few()
     ensures { TakenTouchesFew }
 {}
 
-/// Where no run has k free lines, objects that take each line that isn't free can leave no run of k lines.
+/// Where no run outside Chosen blocks has k free lines, objects that take each line that isn't free can leave no run of k
+/// lines there.
 pub fn taken_leaves_no_run()
     ensures { TakenLeavesNoRun }
 {}

@@ -1,5 +1,5 @@
 //! Laws of the touched slots, by which a loop that places objects counts them: none at the opening, few more with each
-//! run that is handed out, none with any other change, and all of them once no run is left.
+//! run that is handed out, none with any other change, and all outside Chosen blocks once no run is left there.
 ghost use Rattle.lxr_full.specs.TouchedLaws.{HandingOutTouchesFew, NoRunTouchesAll, OpenedTouchesNone, TouchedReadsLines};
 
 /// No slot of an opened space is touched.
@@ -17,7 +17,7 @@ pub fn touched_reads_lines()
     ensures { TouchedReadsLines }
 {}
 
-/// Where no run has k free lines, all slots of k lines are touched.
+/// Where no run outside Chosen blocks has k free lines, all slots of k lines there are touched.
 pub fn no_run_touches_all()
     ensures { NoRunTouchesAll }
 {}

@@ -250,6 +250,14 @@ no_start_past l ws g size past =
     let none : slice_index (table 1 64 region) g ≡ 0 = get_or-eq_default (table 1 64 region) 0 {n = g} (omega arith) in
     ap (λ x. x == 1) none
 
+-- past the last block no state is told
+pub no_state_past : (l : Limits) (ws : List ℕ) (b : ℕ) → (tables_in l ws).size ≡ region_begin l 15 → l.blocks ≤ b → (tables_in l ws).states b ≡ 0
+unfolding tables_in
+no_state_past l ws b size past =
+    let region : List ℕ = slice_index_or (cut (region_sizes l) ws) 9 [] in
+    let len = length_region (region_sizes l) ws 9 (lit< tt) (omega arith) in
+    get_or-eq_default region 0 {n = b} (omega arith)
+
 -- ---- what entries can be
 
 pub count_fits : (l : Limits) (ws : List ℕ) (g : ℕ) → (tables_in l ws).counts g ≤ 3

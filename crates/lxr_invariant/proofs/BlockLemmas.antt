@@ -1,6 +1,6 @@
 -- What is known of Chosen blocks and of the world's block stays where each block keeps its state, and lines that are handed
 -- out leave other blocks as free as they were.
-use Rattle.std.proofs.Common.{◌≡◌, ◌≢◌, ℕ, zero, suc, ◌+◌, ◌-◌, ◌*◌, ◌/◌, ◌<◌, ◌≤◌, refl, sym, ap, subst, ◌∙◌, inl, inr, arith, cond, Bool, true, false, nat_eq}
+use Rattle.std.proofs.Common.{◌≡◌, ◌≢◌, ℕ, zero, suc, ◌+◌, ◌-◌, ◌*◌, ◌/◌, ◌<◌, ◌≤◌, refl, sym, ap, subst, ◌∙◌, inl, inr, ◌⊎◌, arith, cond, Bool, true, false, nat_eq}
 use Rattle.std.specs.Prelude.{◌&&◌, ◌==◌, not, IsTrue, Option, None, if◌then◌else◌}
 use Rattle.std.proofs.lemmas.Bool.Decides.{eqb_tells}
 use Rattle.lxr_layout.specs.declared.TheConstants.{GRANULES_IN_LINE, LINES_IN_BLOCK, TRACING_WORD}
@@ -9,10 +9,10 @@ use Rattle.lxr_image.specs.Tables.{Tables}
 use Rattle.lxr_blocks.specs.declared.states.BlockState.{BlockState}
 use Rattle.lxr_blocks.specs.declared.states.BlockState.TheVariants.{Chosen, Free, Partly, Whole, World}
 use Rattle.lxr_blocks.specs.Lines.{IsFreeRun, are_zero, free_count, free_in, is_free}
-use Rattle.lxr_blocks.specs.States.{KeepsState, is_fixed, state_by_lines, state_in}
+use Rattle.lxr_blocks.specs.States.{KeepsState, is_fixed, state_by_lines, state_in, state_of}
 use Rattle.lxr_blocks.specs.Handing.{first_line, is_between, with_lines_out}
 use Rattle.lxr_model.specs.Moments.{Trace}
-use Rattle.lxr_invariant.specs.Lines.{ChosenNeedTrace, HasBlocks, NoneChosen, chosen_count, is_chosen}
+use Rattle.lxr_invariant.specs.Lines.{ChosenNeedTrace, HasBlocks, NoneChosen, is_chosen}
 use Rattle.lxr_invariant.proofs.FrameLemmas.{chosen_same, need_same}
 
 -- ---- kept states
@@ -25,19 +25,25 @@ unfixed_unchosen Whole e = refl
 unfixed_unchosen Chosen e = absurd (cc)
 unfixed_unchosen World e = refl
 
+-- where states are those of other tables, a block keeps its state where it does there
+pub keeps_state_still : (t u v w : Tables) (b : ℕ) → v.states ≡ t.states → w.states ≡ u.states → KeepsState t u b → KeepsState v w b
+keeps_state_still t u v w b before after is =
+    subst (λ f. (w.states b ≡ f b) ⊎ ((is_fixed (state_of (f b)) ≡ false) × (is_fixed (state_in w b) ≡ false))) (sym before)
+    (subst (λ f. (f b ≡ t.states b) ⊎ ((is_fixed (state_in t b) ≡ false) × (is_fixed (state_of (f b)) ≡ false))) (sym after) is)
+
 -- a block is Chosen exactly where it was
 still_chosen : (t u : Tables) (b : ℕ) → KeepsState t u b → is_chosen (state_in u b) ≡ is_chosen (state_in t b)
-still_chosen t u b (inl e) = ap is_chosen e
+still_chosen t u b (inl e) = ap (λ k. is_chosen (state_of k)) e
 still_chosen t u b (inr (was, now)) = unfixed_unchosen (state_in u b) now ∙ sym (unfixed_unchosen (state_in t b) was)
 
 -- a block that isn't in a fixed state doesn't get into it
 pub still_not : (t u : Tables) (b : ℕ) (s : BlockState) → is_fixed s ≡ true → KeepsState t u b → state_in t b ≢ s → state_in u b ≢ s
-still_not t u b s fixed (inl e) not_s h = not_s (sym e ∙ h)
+still_not t u b s fixed (inl e) not_s h = not_s (sym (ap state_of e) ∙ h)
 still_not t u b s fixed (inr (was, now)) not_s h = let k : true ≡ false = sym fixed ∙ ap is_fixed (sym h) ∙ now in cc
 
 -- the block of the world stays World
 still_world : (t u : Tables) → KeepsState t u 0 → state_in t 0 ≡ World → state_in u 0 ≡ World
-still_world t u (inl e) h = e ∙ h
+still_world t u (inl e) h = ap state_of e ∙ h
 still_world t u (inr (was, now)) h = absurd (let k : true ≡ false = ap is_fixed (sym h) ∙ was in cc)
 
 -- the same blocks are Chosen, and block 0 alone is World

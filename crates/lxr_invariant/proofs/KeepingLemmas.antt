@@ -1,7 +1,7 @@
 -- What is kept by one step and by the next is kept by both.
-use Rattle.std.proofs.Common.{◌≡◌, ap, ◌∙◌}
+use Rattle.std.proofs.Common.{◌≡◌, refl, ap, ◌∙◌}
 use Rattle.lxr_image.specs.Tables.{Tables}
-use Rattle.lxr_invariant.specs.Keeping.{KeepsListsAndCounters}
+use Rattle.lxr_invariant.specs.Keeping.{KeepsLists, KeepsListsAndCounters}
 
 pub keeps_same : (t u : Tables) → u ≡ t → KeepsListsAndCounters t u
 keeps_same t u e = record {
@@ -21,4 +21,15 @@ keeps_both t u v x y = record {
   frees = y.frees ∙ x.frees;
   remembered = y.remembered ∙ x.remembered;
   cursors = λ k h j. y.cursors k h j ∙ x.cursors k h j;
+}
+
+-- where lists alone are kept between two steps that keep counters too, lists are kept
+pub keeps_lists : (t u v w : Tables) → KeepsListsAndCounters t u → KeepsLists u v → KeepsListsAndCounters v w → KeepsLists t w
+keeps_lists t u v w first middle last = record {
+  heap = refl;
+  reuse = refl;
+  runs = last.runs ∙ middle.runs ∙ first.runs;
+  frees = last.frees ∙ middle.frees ∙ first.frees;
+  remembered = last.remembered ∙ middle.remembered ∙ first.remembered;
+  cursors = λ k a b. last.cursors k a b ∙ middle.cursors k a b ∙ first.cursors k a b;
 }

@@ -8,3 +8,5 @@ pub mod ToldLemmas
 pub mod MemberLemmas
 pub mod KeepingLemmas
 pub mod InsideLemmas
+pub mod CopiedLemmas
+pub mod LandingLemmas

@@ -26,6 +26,6 @@ members m = m.unreclaimed ++ m.made
 abbrev pub leaving : Moment → List Name → Moment
 leaving m us = record m { unreclaimed = us }
 
--- what a space stands for after a pause that moved no object
-abbrev pub paused : AbstractState → PauseReport → AbstractState
-paused g report = record g { moment = after_pause g.moment report; reported = report }
+-- what a space stands for after a pause, which has left objects at these places
+abbrev pub paused : AbstractState → (Name → ℕ) → PauseReport → AbstractState
+paused g at report = record g { moment = after_pause g.moment report; at = at; reported = report }

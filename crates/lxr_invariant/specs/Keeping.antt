@@ -12,3 +12,7 @@ pub record KeepsListsAndCounters (t u : Tables) : Type 0 where
   pub frees : u.frees ≡ t.frees
   pub remembered : u.remembered ≡ t.remembered
   pub cursors : (k : ℕ) → k ≢ DECREMENT_CURSOR → k ≢ DECREMENT_COUNT → u.cursors k ≡ t.cursors k
+
+-- the same but for the heap and how often each line was handed out
+abbrev pub KeepsLists : Tables → Tables → Type 0
+KeepsLists t u = KeepsListsAndCounters (record t { heap = u.heap; reuse = u.reuse }) u

@@ -8,3 +8,4 @@ pub mod Listed
 pub mod Raised
 pub mod Settled
 pub mod Keeping
+pub mod Copied

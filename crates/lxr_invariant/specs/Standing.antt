@@ -1,5 +1,5 @@
 -- Where objects stand, and the bits that tell of them.
-use Rattle.std.specs.Prelude.{◌≡◌, ℕ, ◌+◌, ◌<◌, ◌↔◌, false, None, List, IsTrue, length, map, slice_index_or}
+use Rattle.std.specs.Prelude.{◌≡◌, ℕ, ◌<◌, ◌↔◌, false, None, List, IsTrue, length, map, slice_index_or}
 use Rattle.std.specs.List.Sorted.{IsPermutation}
 use Rattle.lxr_layout.specs.declared.Name.{Name}
 use Rattle.lxr_layout.specs.declared.LogEntry.{LogEntry}

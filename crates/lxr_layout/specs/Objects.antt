@@ -21,6 +21,10 @@ line_count s = (word_count s + 31) / 32
 abbrev pub header_word : Name → Shape → ℕ
 header_word n s = s.values + s.refs * 2 ^ 10 + n.serial * 2 ^ 20 + n.thread * 2 ^ 52
 
+-- the word that stands where an object stood before it was moved: bit 63, and the place where it stands
+abbrev pub moved_word : ℕ → ℕ
+moved_word p = 2 ^ 63 + p
+
 -- what a header word says: bit 63 tells the new place of a moved object from an object
 abbrev pub header_of : ℕ → Header
 header_of word =

@@ -6,7 +6,7 @@
 #![tactic(auto)]
 
 ghost use Rattle.std.specs.Prelude.{◌≡◌, ◌↔◌, IsTrue};
-ghost use Rattle.lxr_layout.specs.Objects.{FitsShape, header_of, header_word, line_count, word_count};
+ghost use Rattle.lxr_layout.specs.Objects.{FitsShape, header_of, header_word, line_count, moved_word, word_count};
 ghost use Rattle.lxr_layout.specs.Places.{IsPlace, block_at, field_word as field_at, first_word, line_at};
 
 mod laws;
@@ -135,6 +135,15 @@ pub fn pack(name: Name, shape: Shape) -> u64
     let serial = u64::from(name.serial) << 20;
     let thread = u64::from(name.thread) << 52;
     values | refs | serial | thread
+}
+
+/// The word that is left where an object stood, once it was moved to a place.
+pub fn pack_moved(place: Place) -> u64
+    ensures word { result ≡ moved_word place.0 }
+    // `unpack` gives the place again.
+    ensures unpacked { header_of result ≡ Header.Moved place }
+{
+    1 << 63 | u64::from(place.0)
 }
 
 /// What a header word says.

@@ -4,6 +4,8 @@ use Rattle.std.proofs.Common.{◌≡◌, refl, subst, ◌∙◌, inl, inr, List,
 use Rattle.std.specs.Prelude.{ℕ, ◌≢◌}
 use Rattle.std.proofs.lemmas.List.{append-nil}
 use Rattle.lxr_layout.specs.declared.Name.{Name}
+use Rattle.lxr_graph.specs.declared.Op.TheVariants as op
+use Rattle.lxr_graph.specs.declared.Reply.TheVariants as reply
 use Rattle.lxr_graph.specs.declared.report.Kind.{Kind}
 use Rattle.lxr_graph.specs.declared.report.Kind.TheVariants as kind
 use Rattle.lxr_graph.specs.Names.{has, without}
@@ -15,7 +17,7 @@ use Rattle.lxr_model.specs.Moments.{Moment, moment, unreclaimed_after}
 use Rattle.lxr_model.specs.Reports.{PauseParts, IsReportWith, IsSwept, kept_names}
 use Rattle.lxr_model.specs.Kinds.{MustCollect, MayStand}
 use Rattle.lxr_model.specs.Belongs.{EarlierPausesWereEarly, EndsWithPause}
-use Rattle.lxr_model.specs.HistoryLaws.{CollectingKeepsTheReachable, LastUnreclaimedAreReachable, WholeHistoriesAreSoFar}
+use Rattle.lxr_model.specs.HistoryLaws.{CollectingKeepsTheReachable, LastUnreclaimedAreReachable, RefusalsKeepReachable, WholeHistoriesAreSoFar}
 use Rattle.lxr_model.proofs.HistoryLemmas.{good_history, reachable_kept, reachable_are_kept}
 use Rattle.lxr_model.proofs.DrainLemmas.{left_remain}
 use Rattle.lxr_model.proofs.DecideLemmas.{decide_reachable}
@@ -40,6 +42,12 @@ collecting_keeps terms h report legal collects n =
       collected_reachable m report parts is (reachable_kept terms.threads m report parts is (good_history terms h legal.0)) collects n,
       reachable_are_kept terms h report legal n,
     )
+
+pub refused_keep : RefusalsKeepReachable
+refused_keep terms [] legal after n = absurd after
+refused_keep terms (Pause report ∷ h) legal after n = collecting_keeps terms h report legal after n
+refused_keep terms (Call t (op.New dest shape) reply.Full ∷ h) legal after n = refused_keep terms h legal.0 after n
+refused_keep terms (Call t o r ∷ h) legal after n = absurd after
 
 -- where a pause must collect and not all are plain, it does
 must_collect : (terms : Terms) (h : List Item) (m : Moment) (k : ℕ) (kd : Kind) → terms.kinds ≢ OnlyPlain → MustCollect terms h → MayStand terms h m k kd → kd ≡ kind.Collect

@@ -11,6 +11,7 @@ use Rattle.lxr_model.specs.References.{references}
 use Rattle.lxr_model.specs.Terms.{Terms, OnlyPlain}
 use Rattle.lxr_model.specs.Moments.{moment, state_at, unreclaimed_at, stuck_at}
 use Rattle.lxr_model.specs.Reports.{is_draining}
+use Rattle.lxr_model.specs.Full.{IsRightAfterPause}
 use Rattle.lxr_model.specs.Legal.{IsLegalSoFar, IsLegal}
 use Rattle.lxr_model.specs.Belongs.{Script, Belongs, IsHistorySoFar}
 
@@ -51,6 +52,12 @@ CollectingKeepsTheReachable =
     (terms : Terms) (h : List Item) (report : PauseReport) → IsLegalSoFar terms (Pause report ∷ h)
     → report.kind ≡ kind.Collect → (n : Name)
     → IsTrue (has (unreclaimed_at terms (Pause report ∷ h)) n) ↔ Reachable (state_at terms h) n
+
+-- so it is as long as nothing but refused calls of `new` stand behind it
+abbrev pub RefusalsKeepReachable : Type 0
+RefusalsKeepReachable =
+    (terms : Terms) (h : List Item) → IsLegalSoFar terms h → IsRightAfterPause (λ report. report.kind ≡ kind.Collect) h
+    → (n : Name) → IsTrue (has (unreclaimed_at terms h) n) ↔ Reachable (state_at terms h) n
 
 -- where traces are in force, the unreclaimed names at the end of a history that belongs to a script are exactly the
 -- reachable ones

@@ -1,5 +1,5 @@
 //! Laws of legal histories: what pauses reclaim is unreachable, what is reachable stays, and what counts say.
-ghost use Rattle.lxr_model.specs.HistoryLaws.{CollectingKeepsTheReachable, CountsAreExact, DrainingLeavesNoZero, LastUnreclaimedAreReachable, MadeAreYoung, ReachableAreKept, ReachableAreOldOrMade, ReclaimedAreUnreachable, RowsAreThreads, WholeHistoriesAreSoFar};
+ghost use Rattle.lxr_model.specs.HistoryLaws.{CollectingKeepsTheReachable, CountsAreExact, DrainingLeavesNoZero, LastUnreclaimedAreReachable, MadeAreYoung, ReachableAreKept, ReachableAreOldOrMade, ReclaimedAreUnreachable, RefusalsKeepReachable, RowsAreThreads, WholeHistoriesAreSoFar};
 
 /// No name that a pause of a legal history reclaims, dead or swept, is reachable there.
 pub fn reclaimed_are_unreachable()
@@ -29,6 +29,11 @@ pub fn rows_are_threads()
 /// After a collecting pause the unreclaimed names are exactly the reachable ones.
 pub fn collecting_keeps_the_reachable()
     ensures { CollectingKeepsTheReachable }
+{}
+
+/// So it is behind a collecting pause as long as calls of `new` alone came and all were refused.
+pub fn refusals_keep_reachable()
+    ensures { RefusalsKeepReachable }
 {}
 
 /// At the end of a history that belongs to a script the unreclaimed names are exactly the reachable ones, where

@@ -14,7 +14,8 @@ mod laws;
 pub use history_laws::{
     collecting_keeps_the_reachable, counts_are_exact, draining_leaves_no_zero,
     last_unreclaimed_are_reachable, made_are_young, reachable_are_kept, reachable_are_old_or_made,
-    reclaimed_are_unreachable, rows_are_threads, whole_histories_are_so_far,
+    reclaimed_are_unreachable, refusals_keep_reachable, rows_are_threads,
+    whole_histories_are_so_far,
 };
 pub use laws::{
     dead_are_unreachable, dead_is_least, promoted_is_least, reachable_is_least, step_keeps_objects,

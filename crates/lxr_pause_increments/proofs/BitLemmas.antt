@@ -13,7 +13,8 @@ use Rattle.lxr_model.specs.Moments.{Moment}
 use Rattle.lxr_model_counting.specs.Distinct.{has_field}
 use Rattle.lxr_invariant.specs.Standing.{HasBits, IsUnwritten}
 use Rattle.lxr_invariant.proofs.EntryLemmas.{changed_cases, changed_here}
-use Rattle.lxr_pause_increments.specs.Promotion.{with_promotion, with_raised}
+use Rattle.lxr_pause_promote.specs.Promotion.{with_promotion}
+use Rattle.lxr_pause_increments.specs.Promotion.{with_raised}
 use Rattle.lxr_pause_increments.proofs.RangeLemmas.{set_cases}
 use Rattle.lxr_pause_increments.proofs.TracedLemmas.{mark_starts}
 
@@ -47,7 +48,7 @@ unwritten_in m at us vs w more is = let x = is.2 in (is.0, is.1, record { member
 
 -- a new object is promoted, of whose references none was stored to
 pub bits_promoted : (t : Tables) (m : Moment) (at : Name → ℕ) (us vs : List Name) (o : Name) (b : Object) → object_at m.state.graph o ≡ Some b → ((i : ℕ) → has_field m.written (o, i) ≡ false)
-    → ((n : Name) → has vs n ≡ (same_name n o || has us n)) → HasBits t m at us → HasBits (with_promotion (with_raised t (granule_of (at o))) (at o) (shape_of b)) m at vs
+    → ((n : Name) → has vs n ≡ (same_name n o || has us n)) → HasBits t m at us → HasBits (with_promotion t (at o) (shape_of b)) m at vs
 bits_promoted t m at us vs o b has_o unwritten joined is =
     let gr : ℕ = granule_of (at o) in
     let first : ℕ = first_word (at o) + 1 in
@@ -67,7 +68,7 @@ bits_promoted t m at us vs o b has_o unwritten joined is =
           | inr q ↦ let u = is.starts.only k (sym q.1 ∙ start) in (u.0, more u.0 u.1, u.2)
         ];
       };
-      marks = mark_starts (with_raised t gr) gr is.marks;
+      marks = mark_starts t gr is.marks;
       grays = λ k h. stays k (is.grays k h);
       dones = λ k h. stays k (is.dones k h);
       unlogged = λ w. (

@@ -86,8 +86,8 @@ references_popped g (p ∷ ps) ws u o d h e = elim (tested (same_name p u)) [
 
 -- ---- accounts
 
-same_out : (m : Moment) (st : IncrementStage) (o : Name) → without (stage_with m st o).promoted (stage_with m st o).work ≡ without st.promoted st.work
-same_out m st o = elim (tested (is_unpromoted m st o)) [
+same_out : (m : Moment) (st : IncrementStage) (o : Name) (q : ℕ) → without (stage_with m st o q).promoted (stage_with m st o q).work ≡ without st.promoted st.work
+same_out m st o q = elim (tested (is_unpromoted m st o)) [
   | inl e ↦
       let absent : has st.promoted o ≡ false = not_true (has st.promoted o) (and_parts (has m.made o) (not (has st.promoted o)) e).1 in
       ap (λ b. without (cond b (o ∷ st.promoted) st.promoted) (cond b (st.work ++ o ∷ []) st.work)) e ∙ without_pushed st.promoted st.work o absent
@@ -99,15 +99,15 @@ same_out m st o = elim (tested (is_unpromoted m st o)) [
     not_true false h = refl
 
 -- what is held is raised: so much more is asked for, or so much less is pending
-pub accounts_held : (m : Moment) (st : IncrementStage) (held : Option Name) (base pending after rest : Name → ℕ) → Accounts m st base pending
-    → ((o : Name) → after o + pending o ≡ base o + (cond (same_held (Some o) held) 1 0 + rest o)) → Accounts m (stage_with_held m st held) after rest
-accounts_held m st None base pending after rest is e o = let a = is o in let b = e o in omega (arith, a, b)
-accounts_held m st (Some n) base pending after rest is e o =
+pub accounts_held : (m : Moment) (st : IncrementStage) (held : Option Name) (q : ℕ) (base pending after rest : Name → ℕ) → Accounts m st base pending
+    → ((o : Name) → after o + pending o ≡ base o + (cond (same_held (Some o) held) 1 0 + rest o)) → Accounts m (stage_with_held m st held q) after rest
+accounts_held m st None q base pending after rest is e o = let a = is o in let b = e o in omega (arith, a, b)
+accounts_held m st (Some n) q base pending after rest is e o =
     let a = is o in
     let b = e o in
-    let c : references_from m.state.graph (without (stage_with m st n).promoted (stage_with m st n).work) o ≡ references_from m.state.graph (without st.promoted st.work) o =
-    ap (λ x. references_from m.state.graph x o) (same_out m st n) in
-    let d : (stage_with m st n).added o ≡ cond (same_held (Some o) (Some n)) 1 0 + st.added o = refl in
+    let c : references_from m.state.graph (without (stage_with m st n q).promoted (stage_with m st n q).work) o ≡ references_from m.state.graph (without st.promoted st.work) o =
+    ap (λ x. references_from m.state.graph x o) (same_out m st n q) in
+    let d : (stage_with m st n q).added o ≡ cond (same_held (Some o) (Some n)) 1 0 + st.added o = refl in
     omega (arith, a, b, c, d)
 
 -- other words for the same accounts

@@ -1,5 +1,5 @@
 -- The first stage of the increments, and what holds after the last.
-use Rattle.std.proofs.Common.{◌≡◌, ℕ, zero, suc, ◌+◌, ◌<◌, refl, sym, ap, subst, ◌∙◌, inl, inr, arith, false, Bool, cond, List, [], ◌∷◌, IsTrue, length}
+use Rattle.std.proofs.Common.{◌≡◌, ℕ, zero, suc, ◌+◌, ◌<◌, refl, sym, ap, subst, ◌∙◌, inl, inr, arith, false, cond, List, [], ◌∷◌, IsTrue, length}
 use Rattle.std.specs.Prelude.{count_by, map, take}
 use Rattle.std.specs.List.Sorted.{IsPermutation}
 use Rattle.std.proofs.Math.ListN.{length-map}
@@ -8,11 +8,13 @@ use Rattle.std.proofs.lemmas.List.Sorted.{IsPermutation-reverse}
 use Rattle.lxr_layout.specs.declared.Name.{Name}
 use Rattle.lxr_layout.specs.declared.TheConstants.{DECREMENT_COUNT, DECREMENT_CURSOR, STUCK, TRACING_WORD}
 use Rattle.lxr_graph.specs.Names.{has, without}
+use Rattle.lxr_graph.specs.State.{world_name}
 use Rattle.lxr_graph.proofs.NameSets.{has-union, not_both, union_cases}
 use Rattle.lxr_image.specs.declared.space.Space.{Space}
 use Rattle.lxr_image.specs.Tables.{Tables, tables_in}
 use Rattle.lxr_image.specs.Reads.{granule_of}
 use Rattle.lxr_image.specs.Spaces.{Turns, tables_of}
+use Rattle.lxr_blocks.specs.States.{KeepsState}
 use Rattle.lxr_model.specs.References.{references, references_from}
 use Rattle.lxr_model.specs.Moments.{Moment}
 use Rattle.lxr_model.specs.Reports.{field_holds, newly_held}
@@ -22,29 +24,30 @@ use Rattle.lxr_model_counting.proofs.BalanceLemmas.{has_permuted, references_per
 use Rattle.lxr_model_counting.proofs.DistinctLemmas.{distinct_permuted, or_false, union_same}
 use Rattle.lxr_model_counting.proofs.LoweringLemmas.{without_none}
 use Rattle.lxr_model_counting.proofs.RaisingLemmas.{growth_is_promoted}
-use Rattle.lxr_invariant.specs.AbstractState.{members}
 use Rattle.lxr_invariant.specs.Standing.{HasBits, place_of}
 use Rattle.lxr_invariant.specs.Counting.{count_at, entries_between, undone, waiting_at}
-use Rattle.lxr_invariant.specs.Keeping.{KeepsListsAndCounters}
+use Rattle.lxr_invariant.specs.Copied.{CopiesLieOnFreeLines, CopiesPromoted, StayForWantOfLines}
+use Rattle.lxr_invariant.specs.Keeping.{KeepsLists}
 use Rattle.lxr_invariant.specs.Lines.{HasMarks}
 use Rattle.lxr_invariant.specs.Raised.{AreRaised, CountsAreRaised, IsRaised, count_found, count_raised, with_promoted}
-use Rattle.lxr_invariant.proofs.KeepingLemmas.{keeps_both}
 use Rattle.lxr_invariant.proofs.FrameLemmas.{blocks_still, image_still, marks_still, none_undone}
 use Rattle.lxr_pause_increments.specs.Increments.{IsIncrementing, RaisingLeaves, IncrementStage, count_so_far}
-use Rattle.lxr_pause_increments.specs.Accounted.{IsSettled, roots_held}
+use Rattle.lxr_pause_increments.specs.Accounted.{HasRaisedRoots, IsSettled, roots_held}
 use Rattle.lxr_pause_increments.specs.Raising.{CanRaise, Raises, RaisesGrays, RaisesMarks}
 use Rattle.lxr_pause_increments.specs.Traced.{with_old_grays}
 use Rattle.lxr_pause_increments.proofs.TracedLemmas.{old_grays_from, only_old_grays}
 use Rattle.lxr_pause_increments.proofs.BitLemmas.{bits_grayed}
 use Rattle.lxr_pause_increments.proofs.SnapshotLemmas.{grays_raise, marks_raise, old_value_starts}
 use Rattle.lxr_pause_increments.proofs.GrownLemmas.{grown}
-use Rattle.lxr_pause_increments.proofs.StageLemmas.{promoted_within}
+use Rattle.lxr_pause_increments.proofs.EndsLemmas.{AllFixed, copies_end, deferred_end, image_ends, logs_end, moving_begins, onto_ends, registers_end, stay_ends}
+use Rattle.lxr_pause_increments.proofs.MovingLemmas.{AreMade, unreclaimed_still}
+use Rattle.lxr_pause_increments.proofs.StageLemmas.{all_made}
 
 -- ---- the first stage
 
--- nothing is promoted or raised yet
-abbrev pub first_stage : IncrementStage
-first_stage = record { promoted = []; work = []; added = λ n. 0 }
+-- nothing is promoted or raised yet, and objects stand where they stood
+abbrev pub first_stage : (Name → ℕ) → Space → IncrementStage
+first_stage at found = record { promoted = []; work = []; added = λ n. 0; now = at; found = found }
 
 -- a count is the references, where nothing is done and nothing waits
 count_begins : (s : Space) (m : Moment) (at : Name → ℕ) (n : Name) → CanRaise s m at → IsTrue (has m.unreclaimed n) → has m.stuck n ≡ false
@@ -55,7 +58,7 @@ count_begins s m at n can member unstuck =
     let none : waiting_at (tables_of s) (at n) ≡ 0 = ap (λ k. entries_between (tables_of s).decs ((tables_of s).cursors DECREMENT_CURSOR) k (at n)) can.empty in
     (omega (arith, exact, all, none), can.holds.counts.below n member unstuck)
 
-pub begun : (s : Space) (m : Moment) (at : Name → ℕ) → CanRaise s m at → IsSettled s m at first_stage (λ o. 0)
+pub begun : (s : Space) (m : Moment) (at : Name → ℕ) → CanRaise s m at → IsSettled s m at (first_stage at s) (λ o. 0)
 begun s m at can = record {
   accounted = record {
     incrementing = record {
@@ -63,7 +66,7 @@ begun s m at can = record {
       room = can.holds.room;
       as_many = can.holds.as_many;
       follows = can.holds.follows;
-      image = can.holds.image;
+      moving = moving_begins s m at can.holds can.undecremented;
       growth = tt;
       once_promoted = tt;
       work_promoted = λ n h. h;
@@ -95,6 +98,7 @@ begun s m at can = record {
       };
     };
     accounts = λ o. refl;
+    fixed = λ u i h. absurd (cc);
   };
   no_work = refl;
 }
@@ -113,8 +117,8 @@ sum_raised : (s : Space) (m : Moment) (at : Name → ℕ) (st : IncrementStage) 
 sum_raised s m at st is o =
     let incrementing = is.accounted.incrementing in
     let sum = is.accounted.accounts o in
-    let now : length s.registers.items ≡ length m.state.registers = sym (length-map s.registers.items (λ p. p.0)) ∙ ap length incrementing.image.registers ∙ length-map m.state.registers _ in
-    let before : length s.registers.items ≡ length m.last.registers = let a = incrementing.as_many.0 in let b = incrementing.as_many.1 in let c = sym (length-map s.deferred.items (λ p. p.0)) ∙ ap length incrementing.image.deferred ∙ length-map m.last.registers _ in omega (arith, a, b, c) in
+    let now : length s.registers.items ≡ length m.state.registers = incrementing.moving.registers.as_many in
+    let before : length s.registers.items ≡ length m.last.registers = let a = incrementing.as_many.0 in let b = incrementing.as_many.1 in let c = sym (length-map s.deferred.items (λ p. p.0)) ∙ ap length incrementing.moving.deferred ∙ length-map m.last.registers _ in omega (arith, a, b, c) in
     let registers : newly_held (take (length s.registers.items) m.last.registers) (take (length s.registers.items) m.state.registers) o ≡ newly_held m.last.registers m.state.registers o =
     ap (λ z. newly_held z (take (length s.registers.items) m.state.registers) o) (all_taken m.last.registers (length s.registers.items) before)
     ∙ ap (λ z. newly_held m.last.registers z o) (all_taken m.state.registers (length s.registers.items) now) in
@@ -169,7 +173,7 @@ are_raised s m at st incrementing last = record {
 }
 
 counts_raised : (s : Space) (t : Tables) (m : Moment) (at : Name → ℕ) (st : IncrementStage) → t.counts ≡ (tables_of s).counts → IsIncrementing s m at st → IsLast m st s.report.promoted.items
-    → CountsAreRaised t m at s.report.promoted.items s.report.stuck.items
+    → CountsAreRaised t m st.now s.report.promoted.items s.report.stuck.items
 counts_raised s t m at st e incrementing last = record {
   full = λ n member stuck. same n ∙ elim (union_cases s.report.stuck.items m.stuck n stuck) [
     | inl h ↦ let full = (incrementing.counts.reported n).0 h in let c = incrementing.counts.exact n full.member full.unstuck in let r = full.reaches in omega (arith, c, r)
@@ -181,11 +185,11 @@ counts_raised s t m at st e incrementing last = record {
       let c = incrementing.counts.exact n in_stage parts.1 in
       let few : count_so_far m st n < STUCK = below n in_stage parts.1 parts.0 in
       let k = last.counted n in
-      same n ∙ (let z : count_at (tables_of s) at n ≡ count_raised m s.report.promoted.items n = omega (arith, c, few, k) in z);
+      same n ∙ (let z : count_at (tables_of s) st.now n ≡ count_raised m s.report.promoted.items n = omega (arith, c, few, k) in z);
 }
   where
-    same : (n : Name) → count_at t at n ≡ count_at (tables_of s) at n
-    same n = ap (λ f. f (granule_of (at n))) e
+    same : (n : Name) → count_at t st.now n ≡ count_at (tables_of s) st.now n
+    same n = ap (λ f. f (granule_of (st.now n))) e
 
     below : (n : Name) → IsTrue (has (with_promoted m st.promoted) n) → has m.stuck n ≡ false → has s.report.stuck.items n ≡ false → count_so_far m st n < STUCK
     below n member unstuck unreported = elim (cases_lt (count_so_far m st n) STUCK) [
@@ -203,85 +207,164 @@ ending s g b grays outs = record {
   rest = outs.rest ∙ ap {A = Space} (λ x. record x { words = b.words }) grays.rest;
 }
 
--- the counts of the last stage are those of a pause, old values are gray at objects that begin, and no line is out
-ended : (s : Space) (w : List ℕ) (m : Moment) (at : Name → ℕ) (st : IncrementStage) → tables_in s.limits w ≡ with_ended s
-    → IsSettled s m at st (roots_held m (length s.registers.items)) → IsRaised (record s { words = w; rest_next = 0; rest_end = 0 }) m at s.report.promoted.items s.report.stuck.items
-ended s w m at st tables is =
-    let incrementing = is.accounted.incrementing in
-    let last = last_stage s m at st is in
-    let t : Tables = tables_in s.limits w in
-    let names : (n : Name) → has (with_promoted m s.report.promoted.items) n ≡ has (with_promoted m st.promoted) n = λ n. ap (λ ns. has ns n) last.all in
-    let within : (n : Name) → IsTrue (has (with_promoted m s.report.promoted.items) n) → IsTrue (has (members m) n) = λ n h. promoted_within m st.promoted incrementing.growth n (sym (names n) ∙ h) in
-    let image = image_still (tables_of s) t s.limits.blocks at m.state.graph (members m) (with_promoted m s.report.promoted.items) (ap (λ x. x.heap) tables) within incrementing.image.image in
-    let counts : t.counts ≡ (tables_of s).counts = ap (λ x. x.counts) tables in
-    record {
-      space = record { limits = incrementing.space.limits; size = ap (λ x. x.size) tables ∙ incrementing.space.size };
-      room = record { registers = incrementing.room.registers; deferred = incrementing.room.deferred; logged = incrementing.room.logged; work = incrementing.room.work; report = incrementing.room.report };
-      as_many = incrementing.as_many;
-      follows = incrementing.follows;
-      raised = are_raised s m at st incrementing last;
-      image = image;
-      registers = incrementing.image.registers;
-      deferred = incrementing.image.deferred;
-      world = incrementing.image.world;
-      bits = bits_grayed (tables_of s) t m at (with_promoted m s.report.promoted.items) (ap (λ x. x.starts) tables) (ap (λ x. x.marks) tables) (ap (λ x. x.dones) tables) (ap (λ x. x.unlogged) tables)
-          (λ k h. gray_starts k (sym (ap (λ x. x.grays k) tables) ∙ h)) (subst (HasBits (tables_of s) m at) (sym last.all) incrementing.bits);
-      logs = incrementing.logs;
-      few_logs = incrementing.few_logs;
-      counts = counts_raised s t m at st counts incrementing last;
-      positive = λ n h e. incrementing.counts.positive n (sym (names n) ∙ h) (sym (ap (λ f. f (granule_of (at n))) counts) ∙ e);
-      marks = marks_still (tables_of s) t m.state.graph at (with_promoted m s.report.promoted.items) counts (subst (HasMarks (tables_of s) m.state.graph at) (sym last.all) incrementing.marks);
-      none_done = λ k. ap (λ x. x.dones k) tables ∙ incrementing.none_done k;
-      none_out = λ line. ap (λ x. x.outs line) tables;
-      blocks = blocks_still (tables_of s) t s.limits.blocks m.trace (ap (λ x. x.states) tables) (ap (λ x. x.cursors TRACING_WORD) tables) incrementing.blocks;
-      decrements = (ap (λ x. x.cursors DECREMENT_CURSOR) tables ∙ incrementing.decrements.0, ap (λ x. x.cursors DECREMENT_COUNT) tables ∙ incrementing.decrements.1);
-      no_rest = refl;
-      no_work = incrementing.worklist ∙ ap (map (place_of at)) is.no_work;
-    }
-  where
-    gray_starts : (k : ℕ) → IsTrue ((with_old_grays (tables_of s) s.logged.items).grays k) → IsTrue ((tables_of s).starts k)
-    gray_starts k h = elim (old_grays_from (tables_of s) s.logged.items k h) [
-      | inl g ↦ is.accounted.incrementing.bits.grays k g
-      | inr old ↦ ap (tables_of s).starts old.3 ∙ old_value_starts s m at st is.accounted.incrementing old.0 old.1 old.2
-    ]
+-- all registers are raised, and the worklist is empty
+abbrev pub IsAtEnd : Space → Moment → (Name → ℕ) → IncrementStage → Type 0
+IsAtEnd s m at st = HasRaisedRoots s m at st (length s.registers.items)
+
+module _ (s : Space) (m : Moment) (at : Name → ℕ) (st : IncrementStage) (is : IsAtEnd s m at st) where
+  incrementing : IsIncrementing s m at st
+  incrementing = is.settled.accounted.incrementing
+
+  pub last : IsLast m st s.report.promoted.items
+  last = last_stage s m at st is.settled
+
+  made : AreMade m st.promoted
+  made = all_made s m at st incrementing
+
+  -- all references are fixed
+  all_fixed : AllFixed s m st
+  all_fixed = record {
+    promoted = λ u i h below. elim (is.settled.accounted.fixed u i h (ap (λ z. has z u) is.settled.no_work) below) [ inl fixed ↦ fixed | inr none ↦ absurd none ];
+    written = is.written;
+  }
+
+  names : (n : Name) → has (with_promoted m s.report.promoted.items) n ≡ has (with_promoted m st.promoted) n
+  names n = ap (λ ns. has ns n) last.all
+
+  gray_starts : (k : ℕ) → IsTrue ((with_old_grays (tables_of s) s.logged.items).grays k) → IsTrue ((tables_of s).starts k)
+  gray_starts k h = elim (old_grays_from (tables_of s) s.logged.items k h) [
+    | inl g ↦ incrementing.bits.grays k g
+    | inr old ↦ ap (tables_of s).starts old.3 ∙ old_value_starts s m at st incrementing old.0 old.1 old.2
+  ]
+
+  -- the counts of the last stage are those of a pause, old values are gray at objects that begin, and no line is out
+  ended : (w : List ℕ) → tables_in s.limits w ≡ with_ended s → IsRaised (record s { words = w; rest_next = 0; rest_end = 0 }) m st.now s.report.promoted.items s.report.stuck.items
+  ended w tables =
+      let t : Tables = tables_in s.limits w in
+      let counts : t.counts ≡ (tables_of s).counts = ap (λ x. x.counts) tables in
+      record {
+        space = record { limits = incrementing.space.limits; size = ap (λ x. x.size) tables ∙ incrementing.space.size };
+        room = record { registers = incrementing.room.registers; deferred = incrementing.room.deferred; logged = incrementing.room.logged; work = incrementing.room.work; report = incrementing.room.report };
+        as_many = incrementing.as_many;
+        follows = incrementing.follows;
+        raised = are_raised s m at st incrementing last;
+        image = image_still (tables_of s) t s.limits.blocks st.now m.state.graph (with_promoted m st.promoted) (with_promoted m s.report.promoted.items) (ap (λ x. x.heap) tables) (λ n h. sym (names n) ∙ h)
+            (image_ends s m at st incrementing.moving incrementing.follows made all_fixed);
+        registers = registers_end s m at st incrementing.moving is.registers;
+        deferred = deferred_end s st.found m at st.now st.promoted incrementing.moving incrementing.follows made;
+        world = unreclaimed_still s st.found m at st.now st.promoted incrementing.moving made incrementing.follows.apart world_name (incrementing.follows.stuck world_name incrementing.follows.world) ∙ incrementing.moving.world;
+        bits = bits_grayed (tables_of s) t m st.now (with_promoted m s.report.promoted.items) (ap (λ x. x.starts) tables) (ap (λ x. x.marks) tables) (ap (λ x. x.dones) tables) (ap (λ x. x.unlogged) tables)
+            (λ k h. gray_starts k (sym (ap (λ x. x.grays k) tables) ∙ h)) (subst (HasBits (tables_of s) m st.now) (sym last.all) incrementing.bits);
+        logs = logs_end s st.found m at st.now st.promoted s.logged.items incrementing.moving incrementing.follows made incrementing.logs;
+        few_logs = incrementing.few_logs;
+        counts = counts_raised s t m at st counts incrementing last;
+        positive = λ n h e. incrementing.counts.positive n (sym (names n) ∙ h) (sym (ap (λ f. f (granule_of (st.now n))) counts) ∙ e);
+        marks = marks_still (tables_of s) t m.state.graph st.now (with_promoted m s.report.promoted.items) counts (subst (HasMarks (tables_of s) m.state.graph st.now) (sym last.all) incrementing.marks);
+        none_done = λ k. ap (λ x. x.dones k) tables ∙ incrementing.none_done k;
+        none_out = λ line. ap (λ x. x.outs line) tables;
+        blocks = blocks_still (tables_of s) t s.limits.blocks m.trace (ap (λ x. x.states) tables) (ap (λ x. x.cursors TRACING_WORD) tables) incrementing.blocks;
+        decrements = (ap (λ x. x.cursors DECREMENT_CURSOR) tables ∙ incrementing.decrements.0, ap (λ x. x.cursors DECREMENT_COUNT) tables ∙ incrementing.decrements.1);
+        no_rest = refl;
+        no_work = incrementing.worklist ∙ ap (map (place_of st.now)) is.settled.no_work;
+      }
+
+-- ---- what the increments leave
+
+-- a block that is kept is, where states stay
+states_kept : (t u v : Tables) (k : ℕ) → v.states ≡ u.states → KeepsState t u k → KeepsState t v k
+states_kept t u v k e is = subst (λ f. KeepsState t (record u { states = f }) k) (sym e) is
 
 -- so the increments raise
-pub raises : (before s b : Space) (m : Moment) (at : Name → ℕ) (st : IncrementStage) → CanRaise before m at → RaisingLeaves before s → IsSettled s m at st (roots_held m (length s.registers.items))
-    → Turns s b (with_ended s) → Raises before (record b { rest_next = 0; rest_end = 0 }) m at
-raises before s b m at st can leaves is turns =
-    let incrementing = is.accounted.incrementing in
-    let words : tables_in s.limits b.words ≡ with_ended s = ap {A = Space} (λ x. tables_in x.limits b.words) (sym turns.rest) ∙ turns.tables in
-    let keeps : KeepsListsAndCounters (tables_of s) (with_ended s) = record { heap = refl; reuse = refl; runs = refl; frees = refl; remembered = refl; cursors = λ k h j. refl } in
-    let same : record s { words = b.words; rest_next = 0; rest_end = 0 } ≡ record b { rest_next = 0; rest_end = 0 } = sym (ap {A = Space} (λ x. record x { rest_next = 0; rest_end = 0 }) turns.rest) in
-    let work : s.work.items ≡ before.work.items = incrementing.worklist ∙ ap (map (place_of at)) is.no_work ∙ sym can.holds.no_work in
-    let marks : RaisesMarks m.trace (tables_of before).marks (tables_of s).marks at s.report.promoted.items =
-    marks_raise (tables_of before) s m at st s.report.promoted.items can.holds.bits incrementing leaves.tables (last_stage s m at st is).same m.trace can.holds.blocks.tracing in
-    let grays : ℕ → Bool = (with_old_grays (tables_of s) s.logged.items).grays in
-    let gray : RaisesGrays m.trace (tables_of s).grays grays before.logged.items =
-    subst (RaisesGrays m.trace (tables_of s).grays grays) (ap {A = Space} (λ x. x.logged.items) leaves.space) (grays_raise (tables_of s) s.logged.items m.trace incrementing.blocks.tracing) in
-    record {
-      raised = subst (λ x. IsRaised x m at x.report.promoted.items x.report.stuck.items) same (ended s b.words m at st words is);
-      keeps = keeps_both (tables_of before) (tables_of s) (tables_of b) leaves.tables.keeps (subst (KeepsListsAndCounters (tables_of s)) (sym turns.tables) keeps);
-      states = ap (λ t. t.states) turns.tables ∙ leaves.tables.states;
-      marks = subst (λ (x : Space). RaisesMarks m.trace (tables_of before).marks (tables_of b).marks at x.report.promoted.items) same
-          (subst (λ f. RaisesMarks m.trace (tables_of before).marks f at s.report.promoted.items) (sym (ap (λ t. t.marks) turns.tables)) marks);
-      grays = subst (λ f. RaisesGrays m.trace f (tables_of b).grays before.logged.items) leaves.tables.grays
-          (subst (λ f. RaisesGrays m.trace (tables_of s).grays f before.logged.items) (sym (ap (λ t. t.grays) turns.tables)) gray);
-      decs = ap (λ t. t.decs) turns.tables ∙ leaves.tables.decs;
-      space = sym same
-          ∙ ap {A = Space} (λ x. record x { words = b.words; rest_next = 0; rest_end = 0 }) leaves.space
-          ∙ (λ i. record before {
-            words = b.words;
-            work = record before.work { items = work i };
-            report = record before.report {
-              promoted = record before.report.promoted { items = (same i).report.promoted.items };
-              stuck = record before.report.stuck { items = (same i).report.stuck.items };
-            };
-            rest_next = 0;
-            rest_end = 0;
-          });
-    }
+module _ (before s b : Space) (m : Moment) (at : Name → ℕ) (st : IncrementStage) (can : CanRaise before m at) (leaves : RaisingLeaves before s) (found : st.found ≡ before) (is : IsAtEnd s m at st) (turns : Turns s b (with_ended s)) where
+  here : IsIncrementing s m at st
+  here = is.settled.accounted.incrementing
 
--- raising keeps the registers
-pub same_registers : (s now : Space) (m : Moment) (at : Name → ℕ) (st : IncrementStage) → RaisingLeaves s now → IsSettled now m at st (roots_held m (length s.registers.items)) → IsSettled now m at st (roots_held m (length now.registers.items))
-same_registers s now m at st leaves is = subst (λ n. IsSettled now m at st (roots_held m n)) (sym (ap {A = Space} (λ x. length x.registers.items) leaves.space)) is
+  words : tables_in s.limits b.words ≡ with_ended s
+  words = ap {A = Space} (λ x. tables_in x.limits b.words) (sym turns.rest) ∙ turns.tables
+
+  abbrev after : Space
+  after = record b { rest_next = 0; rest_end = 0 }
+
+  same : record s { words = b.words; rest_next = 0; rest_end = 0 } ≡ after
+  same = sym (ap {A = Space} (λ x. record x { rest_next = 0; rest_end = 0 }) turns.rest)
+
+  blocks : s.limits.blocks ≡ before.limits.blocks
+  blocks = ap {A = Space} (λ x. x.limits.blocks) leaves.space
+
+  reported : s.report.promoted.items ≡ after.report.promoted.items
+  reported = ap {A = Space} (λ x. x.report.promoted.items) same
+
+  copies : CopiesPromoted (tables_of before) (tables_of b) m at st.now after.report.promoted.items
+  copies = subst (CopiesPromoted (tables_of before) (tables_of b) m at st.now) reported (subst (λ x. CopiesPromoted (tables_of x) (tables_of b) m at st.now s.report.promoted.items) found
+      (copies_end s st.found (tables_of b) m at st.now st.promoted s.report.promoted.items here.moving (last s m at st is).same (ap (λ t. t.heap) turns.tables) (ap (λ t. t.reuse) turns.tables)))
+
+  stay : StayForWantOfLines (tables_of before) (tables_of b) before.limits.blocks m at st.now after.report.promoted.items (λ line. ⊥)
+  stay = subst (λ ns. StayForWantOfLines (tables_of before) (tables_of b) before.limits.blocks m at st.now ns (λ line. ⊥)) reported
+      (subst (λ z. StayForWantOfLines (tables_of before) (tables_of b) z m at st.now s.report.promoted.items (λ line. ⊥)) blocks
+      (subst (λ x. StayForWantOfLines (tables_of x) (tables_of b) s.limits.blocks m at st.now s.report.promoted.items (λ line. ⊥)) found
+      (stay_ends s st.found (tables_of b) m at st.now st.promoted s.report.promoted.items here.moving (last s m at st is).same (ap (λ t. t.counts) turns.tables) here.counts.positive here.marks)))
+
+  onto : CopiesLieOnFreeLines before m at st.now after.report.promoted.items
+  onto = subst (CopiesLieOnFreeLines before m at st.now) reported (subst (λ x. CopiesLieOnFreeLines x m at st.now s.report.promoted.items) found
+      (onto_ends s st.found m at st.now st.promoted s.report.promoted.items here.moving (last s m at st is).same))
+
+  keeps : KeepsLists (tables_of before) (tables_of b)
+  keeps = record {
+    heap = refl;
+    reuse = refl;
+    runs = ap (λ t. t.runs) turns.tables ∙ leaves.tables.runs;
+    frees = ap (λ t. t.frees) turns.tables ∙ leaves.tables.frees;
+    remembered = ap (λ t. t.remembered) turns.tables ∙ leaves.tables.remembered;
+    cursors = λ k h j. ap (λ t. t.cursors k) turns.tables ∙ ap (λ f. f k) leaves.tables.cursors;
+  }
+
+  states : (k : ℕ) → KeepsState (tables_of before) (tables_of b) k
+  states k = states_kept (tables_of before) (tables_of s) (tables_of b) k (ap (λ t. t.states) turns.tables) (subst (λ x. KeepsState (tables_of x) (tables_of s) k) found (here.moving.states k))
+
+  marks : RaisesMarks m.trace (tables_of before).marks (tables_of b).marks st.now after.report.promoted.items
+  marks = subst (RaisesMarks m.trace (tables_of before).marks (tables_of b).marks st.now) reported (subst (λ f. RaisesMarks m.trace (tables_of before).marks f st.now s.report.promoted.items) (sym (ap (λ t. t.marks) turns.tables))
+      (marks_raise (tables_of before) s m at st s.report.promoted.items can.holds.bits here leaves.tables (last s m at st is).same m.trace can.holds.blocks.tracing))
+
+  grays : RaisesGrays m.trace (tables_of before).grays (tables_of b).grays before.logged.items
+  grays = subst (λ f. RaisesGrays m.trace f (tables_of b).grays before.logged.items) leaves.tables.grays (subst (λ f. RaisesGrays m.trace (tables_of s).grays f before.logged.items) (sym (ap (λ t. t.grays) turns.tables))
+      (subst (RaisesGrays m.trace (tables_of s).grays (with_old_grays (tables_of s) s.logged.items).grays) (ap {A = Space} (λ x. x.logged.items) leaves.space)
+      (grays_raise (tables_of s) s.logged.items m.trace here.blocks.tracing)))
+
+  -- nothing else of the space has changed
+  rest : after ≡ record before {
+    words = after.words;
+    registers = record before.registers { items = after.registers.items };
+    report = record before.report {
+      promoted = record before.report.promoted { items = after.report.promoted.items };
+      stuck = record before.report.stuck { items = after.report.stuck.items };
+    };
+    rest_next = 0;
+    rest_end = 0;
+  }
+  rest = sym same
+      ∙ ap {A = Space} (λ x. record x { words = b.words; rest_next = 0; rest_end = 0 }) leaves.space
+      ∙ (λ i. record before {
+        words = b.words;
+        registers = record before.registers { items = (same i).registers.items };
+        work = record before.work { items = (here.worklist ∙ ap (map (place_of st.now)) is.settled.no_work ∙ sym can.holds.no_work) i };
+        report = record before.report {
+          promoted = record before.report.promoted { items = (same i).report.promoted.items };
+          stuck = record before.report.stuck { items = (same i).report.stuck.items };
+        };
+        rest_next = 0;
+        rest_end = 0;
+      })
+
+  pub raises : Raises before after m at st.now
+  raises = record {
+    raised = subst (λ x. IsRaised x m st.now x.report.promoted.items x.report.stuck.items) same (ended s m at st is b.words words);
+    copies = copies;
+    onto = onto;
+    stay = stay;
+    keeps = keeps;
+    states = states;
+    marks = marks;
+    grays = grays;
+    decs = ap (λ t. t.decs) turns.tables ∙ leaves.tables.decs;
+    space = rest;
+  }

@@ -5,7 +5,8 @@ use Rattle.std.proofs.lemmas.Bool.Decides.{eqb_tells, leb_tells, nat_tests}
 use Rattle.lxr_layout.specs.declared.TheConstants.{GRANULES_IN_LINE, STUCK}
 use Rattle.lxr_tables.specs.Counts.{raised_count}
 use Rattle.lxr_invariant.proofs.PlaceLemmas.{BeginsLine}
-use Rattle.lxr_pause_increments.specs.Promotion.{fills, marked_between, set_between}
+use Rattle.lxr_pause_promote.specs.Promotion.{marked_between, set_between}
+use Rattle.lxr_pause_increments.specs.Promotion.{fills}
 
 -- ---- ranges
 

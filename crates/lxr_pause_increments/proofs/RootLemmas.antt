@@ -1,31 +1,37 @@
 -- What logged references and registers hold: each log entry is a written field, and a register's place changed exactly where
--- what it holds did.
-use Rattle.std.proofs.Common.{◌≡◌, ◌≢◌, ℕ, zero, suc, ◌+◌, ◌<◌, ◌≤◌, refl, sym, ap, subst, ◌∙◌, inl, inr, arith, Bool, true, false, List, [], ◌∷◌, IsTrue, length}
+-- what it holds did. What is raised is fixed, and stays so.
+use Rattle.std.proofs.Common.{◌≡◌, ◌≢◌, ℕ, zero, suc, ◌+◌, ◌<◌, ◌≤◌, refl, sym, ap, subst, ◌∙◌, inl, inr, ◌⊎◌, arith, Bool, true, false, List, [], ◌∷◌, IsTrue, length}
 use Rattle.std.specs.Prelude.{not, ◌&&◌, Option, None, Some, count_by, map, slice_get, slice_index_or, take}
 use Rattle.std.specs.List.{zip}
 use Rattle.std.proofs.Math.ListN.{length-map}
+use Rattle.std.proofs.lemmas.Bool.{or_right}
+use Rattle.std.proofs.lemmas.Bool.Decides.{eqb_tells}
+use Rattle.std.proofs.lemmas.Option.{slice_get-get_or, slice_get_within}
 use Rattle.lxr_layout.specs.declared.Name.{Name}
 use Rattle.lxr_layout.specs.declared.Place.{Place}
 use Rattle.lxr_layout.specs.declared.LogEntry.{LogEntry}
-use Rattle.lxr_graph.specs.Names.{has, same_held, same_name}
-use Rattle.lxr_graph.proofs.NameSets.{same_names}
+use Rattle.lxr_graph.specs.Names.{has, same_held}
+use Rattle.lxr_graph.proofs.NameSets.{has-union}
 use Rattle.lxr_image.specs.declared.space.Space.{Space}
-use Rattle.lxr_image.specs.Spaces.{tables_of}
-use Rattle.lxr_image.specs.Image.{ArePlacesOf, IsImage, granules_of, place_word}
-use Rattle.lxr_image.specs.Tables.{Tables}
+use Rattle.lxr_image.specs.Image.{ArePlacesOf, place_word}
 use Rattle.lxr_model.specs.Reachable as reach
 use Rattle.lxr_model.specs.Moments.{Field, Moment}
 use Rattle.lxr_model.specs.Reports.{field_holds, newly_held}
 use Rattle.lxr_model.proofs.CountLemmas.{held_same}
 use Rattle.lxr_model_counting.specs.Distinct.{has_field}
 use Rattle.lxr_model_counting.proofs.BalanceLemmas.{count_permuted, has_field_permuted, same_sizes}
-use Rattle.lxr_model_counting.proofs.DistinctLemmas.{first_field, later_field, tested}
+use Rattle.lxr_model_counting.proofs.DistinctLemmas.{field_split, first_field, later_field}
 use Rattle.lxr_invariant.specs.AbstractState.{members}
 use Rattle.lxr_invariant.specs.Standing.{entry_of}
 use Rattle.lxr_invariant.proofs.EntryLemmas.{one_if}
-use Rattle.lxr_invariant.proofs.NameLemmas.{live_member}
+use Rattle.lxr_invariant.proofs.NameLemmas.{in_first, live_member}
 use Rattle.lxr_pause_increments.specs.Increments.{IsIncrementing, RaisingLeaves, IncrementStage}
-use Rattle.lxr_pause_increments.specs.Accounted.{IsAccounted, IsHolder, IsLogOrder, IsSettled, HeldMayBeRaised, fields_held, references_at, stage_with_held, roots_held}
+use Rattle.lxr_pause_increments.specs.Accounted.{GoesOn, HasRaisedEntries, HasRaisedRoots, IsEven, IsFixed, IsHolder, IsLogOrder, IsRaisable, IsRegisterFixed, IsSettled, Settles, fields_held, references_at, roots_held, stage_with_held}
+use Rattle.lxr_pause_increments.specs.Moving.{HoldsEither, IsPlaceOf}
+use Rattle.lxr_pause_increments.specs.Steps.{AtLater, FixesField, FixesRegister, HeldIsRaised}
+use Rattle.lxr_pause_increments.proofs.HeldLemmas.{was_promoted}
+use Rattle.lxr_pause_increments.proofs.MovingLemmas.{place_some, unreclaimed_still}
+use Rattle.lxr_pause_increments.proofs.StageLemmas.{all_made}
 use Rattle.lxr_pause_increments.proofs.OrderLemmas.{accounts_held, accounts_same, counted_more, unmapped, zip_got, zip_taken}
 
 -- ---- logged references
@@ -41,6 +47,13 @@ got_field [] i w e = absurd (cc)
 got_field (x ∷ ws) zero w e = let k : x ≡ w = cc in subst (λ z. IsTrue (has_field (z ∷ ws) w)) (sym k) (first_field w ws)
 got_field (x ∷ ws) (suc i) w e = later_field x ws w (got_field ws i w e)
 
+field_got : (ws : List Field) (w : Field) → IsTrue (has_field ws w) → (i : ℕ) × (slice_get ws i ≡ Some w)
+field_got [] w h = absurd (cc)
+field_got (x ∷ ws) w h = elim (field_split x ws w h) [
+  | inl k ↦ (0, ap Some (sym k))
+  | inr k ↦ let r = field_got ws w k in (suc r.0, r.1)
+]
+
 -- the written fields have an order in which they are logged
 pub log_order : (s : Space) (m : Moment) (at : Name → ℕ) (st : IncrementStage) → IsIncrementing s m at st → (fields : List Field) × IsLogOrder m at fields s.logged.items
 log_order s m at st incrementing = let x = unmapped (entry_of m at) m.written s.logged.items incrementing.logs in (x.0, record { entries = x.1; order = x.2 })
@@ -52,9 +65,16 @@ as_many_fields m at fields logged is = sym (ap length is.entries) ∙ length-map
 pub same_logs : (s now : Space) (m : Moment) (at : Name → ℕ) (fields : List Field) → RaisingLeaves s now → IsLogOrder m at fields s.logged.items → IsLogOrder m at fields now.logged.items
 same_logs s now m at fields leaves order = subst (IsLogOrder m at fields) (sym (ap {A = Space} (λ x. x.logged.items) leaves.space)) order
 
--- an entry is that of a written field
+-- an entry is that of a written field, which may be raised
+pub record IsEntryOf (m : Moment) (st : IncrementStage) (fields : List Field) (i : ℕ) (entry : LogEntry) : Type 0 where
+  pub field : Field
+  pub got : slice_get fields i ≡ Some field
+  pub holder : IsHolder m st field.0 entry.place.0
+  pub index : entry.index ≡ field.1
+  pub raisable : IsRaisable m st field.0 entry.index
+
 pub entry_field : (s : Space) (m : Moment) (at : Name → ℕ) (st : IncrementStage) (fields : List Field) (i : ℕ) (entry : LogEntry) → IsIncrementing s m at st → IsLogOrder m at fields s.logged.items → slice_get s.logged.items i ≡ Some entry
-    → (w : Field) × (slice_get fields i ≡ Some w) × IsHolder m at st w.0 entry.place.0 × (entry.index ≡ w.1) × (entry.index < length (references_at m w.0))
+    → IsEntryOf m st fields i entry
 entry_field s m at st fields i entry incrementing order got =
     let x = got_mapped (entry_of m at) fields i entry (ap (λ z. slice_get z i) order.entries ∙ got) in
     let w : Field = x.0 in
@@ -62,53 +82,98 @@ entry_field s m at st fields i entry incrementing order got =
     let facts = incrementing.follows.written w.0 w.1 written in
     let size = same_sizes m incrementing.follows w.0 facts.0 in
     let index : entry.index ≡ w.1 = ap (λ z. z.index) x.2 in
-    let below = facts.2 in (
-      w,
-      x.1,
-      record { live = inl facts.1; known = inl facts.0; stands = ap (λ z. z.place.0) x.2 },
-      index,
-      omega (arith, size, index, below),
-    )
+    let below = facts.2 in
+    let still = unreclaimed_still s st.found m at st.now st.promoted incrementing.moving (all_made s m at st incrementing) incrementing.follows.apart w.0 facts.0 in
+    record {
+      field = w;
+      got = x.1;
+      holder = record { live = inl facts.1; known = inl facts.0; stands = ap (λ z. z.place.0) x.2 ∙ sym still };
+      index = index;
+      raisable = record { within = omega (arith, size, index, below); changes = inr (ap (λ z. has_field m.written (w.0, z)) index ∙ written) };
+    }
 
--- it is raised: one more field is accounted for
-pub entry_raised : (s now : Space) (m : Moment) (at : Name → ℕ) (st : IncrementStage) (fields : List Field) (i j : ℕ) (w : Field) → IsSettled s m at st (fields_held m fields i) → slice_get fields i ≡ Some w → j ≡ w.1
-    → IsIncrementing now m at (stage_with_held m st (slice_index_or (references_at m w.0) j None)) → IsAccounted now m at (stage_with_held m st (slice_index_or (references_at m w.0) j None)) (fields_held m fields (i + 1)) (λ o. 0)
-entry_raised s now m at st fields i j w settled got index incrementing = record {
-  incrementing = incrementing;
-  accounts = accounts_held m st (slice_index_or (references_at m w.0) j None) (fields_held m fields i) (λ o. 0) (fields_held m fields (i + 1)) (λ o. 0) settled.accounted.accounts
-      (λ o.
-      let k = counted_more (field_holds m.state.graph o) fields i w got in
-      let e : one_if (same_held (Some o) (slice_index_or (references_at m w.0) j None)) ≡ one_if (field_holds m.state.graph o w) = ap (λ z. one_if (same_held (Some o) (slice_index_or (references_at m w.0) z None))) index in
-      omega (arith, k, e));
-}
+-- Once what is held is raised, references of promoted objects outside the worklist are fixed as before.
+pub still_fixed : (s now : Space) (m : Moment) (at : Name → ℕ) (st : IncrementStage) (held : Option Name) (q : ℕ) (base : Name → ℕ) → IsEven s m at st base → GoesOn s now m st (stage_with_held m st held q)
+    → (u : Name) (i : ℕ) → IsTrue (has (stage_with_held m st held q).promoted u) → has (stage_with_held m st held q).work u ≡ false → i < length (references_at m u) → IsFixed now m (stage_with_held m st held q) u i ⊎ ⊥
+still_fixed s now m at st held q base is goes_on u i promoted out below =
+    let was = was_promoted m st held q u promoted out in
+    elim (is.fixed u i was.0 was.1 below) [ inl fixed ↦ inl (goes_on.fields u i fixed) | inr none ↦ inr none ]
+
+-- an entry is raised: one more field is accounted for
+pub entry_raised : (s now : Space) (m : Moment) (at : Name → ℕ) (st : IncrementStage) (fields : List Field) (i : ℕ) (entry : LogEntry) (q : ℕ) → IsSettled s m at st (fields_held m fields i) → (x : IsEntryOf m st fields i entry)
+    → FixesField s now m at st x.field.0 entry.index q → IsEven now m at (stage_with_held m st (slice_index_or (references_at m x.field.0) entry.index None) q) (fields_held m fields (i + 1))
+entry_raised s now m at st fields i entry q settled x fixes =
+    let held : Option Name = slice_index_or (references_at m x.field.0) entry.index None in
+    record {
+      incrementing = fixes.incrementing;
+      accounts = accounts_held m st held q (fields_held m fields i) (λ o. 0) (fields_held m fields (i + 1)) (λ o. 0) settled.accounted.accounts
+          (λ o.
+          let k = counted_more (field_holds m.state.graph o) fields i x.field x.got in
+          let e : one_if (same_held (Some o) held) ≡ one_if (field_holds m.state.graph o x.field) = ap (λ z. one_if (same_held (Some o) (slice_index_or (references_at m x.field.0) z None))) x.index in
+          omega (arith, k, e));
+      fixed = still_fixed s now m at st held q (fields_held m fields i) settled.accounted fixes.goes_on;
+    }
+
+-- with all that it brought along
+pub entry_settled : (s now after : Space) (m : Moment) (at : Name → ℕ) (st : IncrementStage) (fields : List Field) (i : ℕ) (entry : LogEntry) (q : ℕ) → HasRaisedEntries s m at st fields i → (x : IsEntryOf m st fields i entry)
+    → FixesField s now m at st x.field.0 entry.index q → RaisingLeaves s after
+    → Settles now after m at (stage_with_held m st (slice_index_or (references_at m x.field.0) entry.index None) q) (fields_held m fields (i + 1)) → AtLater st (λ later. HasRaisedEntries after m at later fields (i + 1))
+entry_settled s now after m at st fields i entry q is x fixes leaves settles = (
+  settles.0,
+  settles.2.found ∙ fixes.goes_on.found,
+  record {
+    order = same_logs s after m at fields leaves is.order;
+    settled = settles.1;
+    fixed = λ k w below got. elim (eqb_tells k i) [
+      | inl e ↦
+          let same : Some w ≡ Some x.field = sym got ∙ ap (slice_get fields) e.1 ∙ x.got in
+          let is_w : w ≡ x.field = cc in
+          subst (λ z. IsFixed after m settles.0 z.0 z.1) (sym is_w) (subst (λ z. IsFixed after m settles.0 x.field.0 z) x.index (settles.2.fields x.field.0 entry.index fixes.fixed))
+      | inr e ↦ settles.2.fields w.0 w.1 (fixes.goes_on.fields w.0 w.1 (is.fixed k w (let ne = e.1 in omega (arith, below, ne)) got))
+    ];
+  },
+)
 
 -- before the first entry nothing is
-pub no_entries : (s : Space) (m : Moment) (at : Name → ℕ) (st : IncrementStage) (fields : List Field) → IsSettled s m at st (λ o. 0) → IsSettled s m at st (fields_held m fields 0)
-no_entries s m at st fields is = record {
-  accounted = record {
-    incrementing = is.accounted.incrementing;
-    accounts = accounts_same m st (λ o. 0) (λ o. 0) (fields_held m fields 0) (λ o. 0) (λ o. none fields o) (λ o. refl) is.accounted.accounts;
+pub no_entries : (s : Space) (m : Moment) (at : Name → ℕ) (st : IncrementStage) (fields : List Field) → IsLogOrder m at fields s.logged.items → IsSettled s m at st (λ o. 0) → HasRaisedEntries s m at st fields 0
+no_entries s m at st fields order is = record {
+  order = order;
+  settled = record {
+    accounted = record {
+      incrementing = is.accounted.incrementing;
+      accounts = accounts_same m st (λ o. 0) (λ o. 0) (fields_held m fields 0) (λ o. 0) (λ o. none fields o) (λ o. refl) is.accounted.accounts;
+      fixed = is.accounted.fixed;
+    };
+    no_work = is.no_work;
   };
-  no_work = is.no_work;
+  fixed = λ k w below got. absurd (omega (arith, below));
 }
   where
     none : (ws : List Field) (o : Name) → fields_held m ws 0 o ≡ 0
     none [] o = refl
     none (w ∷ ws) o = refl
 
--- after the last, all written fields are
-pub all_entries : (s : Space) (m : Moment) (at : Name → ℕ) (st : IncrementStage) (fields : List Field) (logged : List LogEntry) (i : ℕ) → IsLogOrder m at fields logged → i ≡ length fields → IsSettled s m at st (fields_held m fields i) → IsSettled s m at st (roots_held m 0)
-all_entries s m at st fields logged i order end is = record {
-  accounted = record {
-    incrementing = is.accounted.incrementing;
-    accounts = accounts_same m st (fields_held m fields i) (λ o. 0) (roots_held m 0) (λ o. 0)
-        (λ o.
-        let whole : fields_held m fields i o ≡ count_by (field_holds m.state.graph o) fields = ap (λ z. fields_held m fields z o) end ∙ ap (count_by (field_holds m.state.graph o)) (all_taken fields) in
-        let same = count_permuted (field_holds m.state.graph o) m.written fields order.order in
-        let none = none_new m.last.registers m.state.registers o in
-        omega (arith, whole, same, none)) (λ o. refl) is.accounted.accounts;
+-- after the last, all written fields are, and no register is yet
+pub all_entries : (s : Space) (m : Moment) (at : Name → ℕ) (st : IncrementStage) (fields : List Field) (i : ℕ) → i ≡ length fields → HasRaisedEntries s m at st fields i → HasRaisedRoots s m at st 0
+all_entries s m at st fields i end is = record {
+  settled = record {
+    accounted = record {
+      incrementing = is.settled.accounted.incrementing;
+      accounts = accounts_same m st (fields_held m fields i) (λ o. 0) (roots_held m 0) (λ o. 0)
+          (λ o.
+          let whole : fields_held m fields i o ≡ count_by (field_holds m.state.graph o) fields = ap (λ z. fields_held m fields z o) end ∙ ap (count_by (field_holds m.state.graph o)) (all_taken fields) in
+          let same = count_permuted (field_holds m.state.graph o) m.written fields is.order.order in
+          let none = none_new m.last.registers m.state.registers o in
+          omega (arith, whole, same, none)) (λ o. refl) is.settled.accounted.accounts;
+      fixed = is.settled.accounted.fixed;
+    };
+    no_work = is.settled.no_work;
   };
-  no_work = is.no_work;
+  written = λ u j h.
+      let got = field_got fields (u, j) (sym (has_field_permuted m.written fields (u, j) is.order.order) ∙ h) in
+      let below = slice_get_within fields got.0 (u, j) got.1 in
+      is.fixed got.0 (u, j) (omega (arith, below, end)) got.1;
+  registers = λ k below. absurd (omega (arith, below));
 }
   where
     all_taken : (ws : List Field) → take (length ws) ws ≡ ws
@@ -134,49 +199,70 @@ place_got at (q ∷ places) (v ∷ held) (suc i) p are e =
     let rest : map (λ z. z.0) places ≡ map (place_word at) held = cc in
     place_got at places held i p rest e
 
--- two members at one place are the same
-one_place : (t : Tables) (blocks : ℕ) (at : Name → ℕ) (m : Moment) (a b : Name) → IsImage t blocks at m.state.graph (members m) → IsTrue (has (members m) a) → IsTrue (has (members m) b) → at a ≡ at b → a ≡ b
-one_place t blocks at m a b image in_a in_b e = elim (tested (same_name a b)) [
-  | inl k ↦ same_names a b k
-  | inr k ↦
-      let x = image.stands a in_a in
-      let y = image.stands b in_b in
-      let size : 1 ≤ granules_of x.0 = omega arith in
-      let size_too : 1 ≤ granules_of y.0 = omega arith in
-      elim (image.apart a b x.0 y.0 in_a in_b k x.1 y.1) [ inl q ↦ absurd (omega (arith, q, e, size)) | inr q ↦ absurd (omega (arith, q, e, size_too)) ]
-]
-
 -- a register's two places are the same exactly where it holds what it held
-pub record IsRegisterAt (m : Moment) (at : Name → ℕ) (st : IncrementStage) (i now before : ℕ) (v b : Option Name) : Type 0 where
-  pub holds : slice_get m.state.registers i ≡ Some v
+pub record IsRegisterAt (s : Space) (m : Moment) (at : Name → ℕ) (st : IncrementStage) (i : ℕ) (p q : Place) (v b : Option Name) : Type 0 where
+  pub raises : HeldIsRaised s m at st i p v
   pub held : slice_get m.last.registers i ≡ Some b
-  pub raises : HeldMayBeRaised m at st v now
-  pub same : now ≡ before → v ≡ b
-  pub changed : now ≢ before → v ≢ b
+  pub same : p.0 ≡ q.0 → v ≡ b
+  pub changed : p.0 ≢ q.0 → v ≢ b
+  -- what it held is unreclaimed, and stands where it stood
+  pub was : (o : Name) → b ≡ Some o → IsTrue (has m.unreclaimed o)
+  pub word_was : q.0 ≡ place_word st.now b
 
-pub register_at : (s : Space) (m : Moment) (at : Name → ℕ) (st : IncrementStage) (i : ℕ) (p q : Place) → IsIncrementing s m at st → slice_get s.registers.items i ≡ Some p → slice_get s.deferred.items i ≡ Some q
-    → (v : Option Name) × (b : Option Name) × IsRegisterAt m at st i p.0 q.0 v b
-register_at s m at st i p q incrementing e f =
-    let x = place_got at s.registers.items m.state.registers i p incrementing.image.registers e in
-    let y = place_got at s.deferred.items m.last.registers i q incrementing.image.deferred f in
-    let in_now : (o : Name) → x.0 ≡ Some o → IsTrue (has (members m) o) = λ o k. live_member m o incrementing.follows (incrementing.follows.held o (i, x.1 ∙ ap Some k)) in
-    let in_before : (o : Name) → y.0 ≡ Some o → IsTrue (has (members m) o) = λ o k. live_member m o incrementing.follows (inl (reach.held (i, y.1 ∙ ap Some k))) in (
-      x.0,
-      y.0,
-      record {
-        holds = x.1;
-        held = y.1;
-        raises = record { word = x.2; member = in_now; held_up = λ o k. inl (i, x.1 ∙ ap Some k) };
-        same = λ k. one_held x.0 y.0 in_now in_before (sym x.2 ∙ k ∙ y.2);
-        changed = λ k h. k (x.2 ∙ ap (place_word at) h ∙ sym y.2);
-      },
-    )
-  where
-    one_held : (v b : Option Name) → ((o : Name) → v ≡ Some o → IsTrue (has (members m) o)) → ((o : Name) → b ≡ Some o → IsTrue (has (members m) o)) → place_word at v ≡ place_word at b → v ≡ b
-    one_held None None g h k = refl
-    one_held None (Some b) g h k = let placed = (incrementing.image.image.stands b (h b refl)).2.placed in absurd (omega (arith, placed, k))
-    one_held (Some v) None g h k = let placed = (incrementing.image.image.stands v (g v refl)).2.placed in absurd (omega (arith, placed, k))
-    one_held (Some v) (Some b) g h k = ap Some (one_place (tables_of s) s.limits.blocks at m v b incrementing.image.image (g v refl) (h b refl) k)
+module _ (s : Space) (m : Moment) (at : Name → ℕ) (st : IncrementStage) (incrementing : IsIncrementing s m at st) where
+  kept_member : (o : Name) → IsTrue (has m.unreclaimed o) → IsTrue (has (members m) o)
+  kept_member o h = in_first m.unreclaimed m.made o h
+
+  kept_still : (o : Name) → IsTrue (has m.unreclaimed o) → st.now o ≡ at o
+  kept_still = unreclaimed_still s st.found m at st.now st.promoted incrementing.moving (all_made s m at st incrementing) incrementing.follows.apart
+
+  held_still : (b : Option Name) → ((o : Name) → b ≡ Some o → IsTrue (has m.unreclaimed o)) → place_word at b ≡ place_word st.now b
+  held_still None was = refl
+  held_still (Some o) was = sym (kept_still o (was o refl))
+
+  some_place : (o : Name) (p : ℕ) → IsTrue (has (members m) o) → IsPlaceOf at st.now o p → 1 ≤ p
+  some_place o p member place = (place_some s st.found m at st.now st.promoted incrementing.moving o p member place).0
+
+  one_held : (p : ℕ) (v b : Option Name) → ((o : Name) → v ≡ Some o → IsTrue (has (members m) o)) → ((o : Name) → b ≡ Some o → IsTrue (has m.unreclaimed o)) → HoldsEither at st.now p v → p ≡ place_word at b → v ≡ b
+  one_held p None None g h x k = refl
+  one_held p None (Some b) g h x k =
+      let placed = some_place b (at b) (kept_member b (h b refl)) (inl refl) in
+      absurd (elim x [ inl e ↦ omega (arith, placed, k, e) | inr e ↦ omega (arith, placed, k, e) ])
+  one_held p (Some v) None g h x k =
+      let placed = some_place v p (g v refl) (elim x as (λ z. IsPlaceOf at st.now v p) [ inl e ↦ inr e | inr e ↦ inl e ]) in
+      absurd (omega (arith, placed, k))
+  one_held p (Some v) (Some b) g h x k =
+      ap Some (incrementing.moving.own v b p (g v refl) (kept_member b (h b refl)) (elim x as (λ z. IsPlaceOf at st.now v p) [ inl e ↦ inr e | inr e ↦ inl e ]) (inl k))
+
+  -- where a register holds what it held, it has the place that it had
+  one_place : (p : ℕ) (v b : Option Name) → ((o : Name) → b ≡ Some o → IsTrue (has m.unreclaimed o)) → HoldsEither at st.now p v → v ≡ b → p ≡ place_word at b
+  one_place p v b was x e = elim x [ inl h ↦ h ∙ ap (place_word st.now) e ∙ sym (held_still b was) | inr h ↦ h ∙ ap (place_word at) e ]
+
+  pub register_at : (i : ℕ) (p q : Place) → slice_get s.registers.items i ≡ Some p → slice_get s.deferred.items i ≡ Some q → (v : Option Name) × (b : Option Name) × IsRegisterAt s m at st i p q v b
+  register_at i p q e f =
+      let below = slice_get_within s.registers.items i p e in
+      let as_many = incrementing.moving.registers.as_many in
+      let v : Option Name = slice_index_or m.state.registers i None in
+      let holds : slice_get m.state.registers i ≡ Some v = slice_get-get_or m.state.registers i None (omega (arith, below, as_many)) in
+      let word : HoldsEither at st.now p.0 v = incrementing.moving.registers.each i p v e holds in
+      let y = place_got at s.deferred.items m.last.registers i q incrementing.moving.deferred f in
+      let in_now : (o : Name) → v ≡ Some o → IsTrue (has (members m) o) = λ o k. live_member m o incrementing.follows (incrementing.follows.held o (i, holds ∙ ap Some k)) in
+      let was : (o : Name) → y.0 ≡ Some o → IsTrue (has m.unreclaimed o) = λ o k. incrementing.follows.kept o (reach.held (i, y.1 ∙ ap Some k)) in (
+        v,
+        y.0,
+        record {
+          raises = record { incrementing = incrementing; may = record { word = word; member = in_now; held_up = λ o k. inl (i, holds ∙ ap Some k) }; place_is = e; held_is = holds };
+          held = y.1;
+          same = λ k. one_held p.0 v y.0 in_now was word (k ∙ y.2);
+          changed = λ k h. k (one_place p.0 v y.0 was word h ∙ sym y.2);
+          was = was;
+          word_was = y.2 ∙ held_still y.0 was;
+        },
+      )
+
+-- at two stages there are as many registers
+pub same_registers : (s now : Space) (m : Moment) (at : Name → ℕ) (st later : IncrementStage) → IsIncrementing s m at st → IsIncrementing now m at later → length now.registers.items ≡ length s.registers.items
+same_registers s now m at st later is then_is = then_is.moving.registers.as_many ∙ sym is.moving.registers.as_many
 
 -- one more register
 roots_more : (m : Moment) (i : ℕ) (v b : Option Name) (o : Name) → slice_get m.state.registers i ≡ Some v → slice_get m.last.registers i ≡ Some b
@@ -192,30 +278,49 @@ none_new : (x : Bool) → (x && not x) ≡ false
 none_new true = refl
 none_new false = refl
 
--- it holds what it held
-pub register_same : (s : Space) (m : Moment) (at : Name → ℕ) (st : IncrementStage) (i now before : ℕ) (v b : Option Name) → IsRegisterAt m at st i now before v b → now ≡ before → IsSettled s m at st (roots_held m i) → IsSettled s m at st (roots_held m (i + 1))
-register_same s m at st i now before v b is e settled = record {
-  accounted = record {
-    incrementing = settled.accounted.incrementing;
-    accounts = accounts_same m st (roots_held m i) (λ o. 0) (roots_held m (i + 1)) (λ o. 0)
-        (λ o.
-        let k = roots_more m i v b o is.holds is.held in
-        let n : one_if (same_held (Some o) v && not (same_held (Some o) b)) ≡ 0 = ap (λ z. one_if (same_held (Some o) v && not (same_held (Some o) z))) (sym (is.same e)) ∙ ap one_if (none_new (same_held (Some o) v)) in
-        omega (arith, k, n)) (λ o. refl) settled.accounted.accounts;
+-- it holds what it held, and is fixed
+pub register_same : (s : Space) (m : Moment) (at : Name → ℕ) (st : IncrementStage) (i : ℕ) (p q : Place) (v b : Option Name) → IsRegisterAt s m at st i p q v b → p.0 ≡ q.0 → HasRaisedRoots s m at st i → HasRaisedRoots s m at st (i + 1)
+register_same s m at st i p q v b is e roots = record {
+  settled = record {
+    accounted = record {
+      incrementing = roots.settled.accounted.incrementing;
+      accounts = accounts_same m st (roots_held m i) (λ o. 0) (roots_held m (i + 1)) (λ o. 0)
+          (λ o.
+          let k = roots_more m i v b o is.raises.held_is is.held in
+          let n : one_if (same_held (Some o) v && not (same_held (Some o) b)) ≡ 0 = ap (λ z. one_if (same_held (Some o) v && not (same_held (Some o) z))) (sym (is.same e)) ∙ ap one_if (none_new (same_held (Some o) v)) in
+          omega (arith, k, n)) (λ o. refl) roots.settled.accounted.accounts;
+      fixed = roots.settled.accounted.fixed;
+    };
+    no_work = roots.settled.no_work;
   };
-  no_work = settled.no_work;
+  written = roots.written;
+  registers = λ k below. elim (eqb_tells k i) [
+    | inl h ↦ subst (IsRegisterFixed s m st) (sym h.1) here
+    | inr h ↦ roots.registers k (let ne = h.1 in omega (arith, below, ne))
+  ];
 }
+  where
+    here : IsRegisterFixed s m st i
+    here = record {
+      place = p;
+      held = v;
+      place_is = is.raises.place_is;
+      held_is = is.raises.held_is;
+      holds = e ∙ is.word_was ∙ ap (place_word st.now) (sym (is.same e));
+      known = λ o k. has-union st.promoted m.unreclaimed o ∙ or_right (has st.promoted o) (has m.unreclaimed o) (is.was o (sym (is.same e) ∙ k));
+    }
 
 -- it holds something else, which was raised
-pub register_raised : (s now : Space) (m : Moment) (at : Name → ℕ) (st : IncrementStage) (i p q : ℕ) (v b : Option Name) → IsRegisterAt m at st i p q v b → p ≢ q → IsSettled s m at st (roots_held m i)
-    → IsIncrementing now m at (stage_with_held m st v) → IsAccounted now m at (stage_with_held m st v) (roots_held m (i + 1)) (λ o. 0)
-register_raised s now m at st i p q v b is differ settled incrementing = record {
-  incrementing = incrementing;
-  accounts = accounts_held m st v (roots_held m i) (λ o. 0) (roots_held m (i + 1)) (λ o. 0) settled.accounted.accounts
+pub register_raised : (s now : Space) (m : Moment) (at : Name → ℕ) (st : IncrementStage) (i : ℕ) (p q : Place) (v b : Option Name) (w : ℕ) → IsRegisterAt s m at st i p q v b → p.0 ≢ q.0 → HasRaisedRoots s m at st i
+    → FixesRegister s now m at st i v w → IsEven now m at (stage_with_held m st v w) (roots_held m (i + 1))
+register_raised s now m at st i p q v b w is differ roots fixes = record {
+  incrementing = fixes.incrementing;
+  accounts = accounts_held m st v w (roots_held m i) (λ o. 0) (roots_held m (i + 1)) (λ o. 0) roots.settled.accounted.accounts
       (λ o.
-      let k = roots_more m i v b o is.holds is.held in
+      let k = roots_more m i v b o is.raises.held_is is.held in
       let n : one_if (same_held (Some o) v && not (same_held (Some o) b)) ≡ one_if (same_held (Some o) v) = ap one_if (new o) in
       omega (arith, k, n));
+  fixed = still_fixed s now m at st v w (roots_held m i) roots.settled.accounted fixes.goes_on;
 }
   where
     not_same : (x y : Bool) → (IsTrue x → IsTrue y → ⊥) → (x && not y) ≡ x
@@ -225,3 +330,19 @@ register_raised s now m at st i p q v b is differ settled incrementing = record 
 
     new : (o : Name) → (same_held (Some o) v && not (same_held (Some o) b)) ≡ same_held (Some o) v
     new o = not_same (same_held (Some o) v) (same_held (Some o) b) (λ h k. is.changed differ (held_same o v h ∙ sym (held_same o b k)))
+
+-- with all that it brought along
+pub register_settled : (s now after : Space) (m : Moment) (at : Name → ℕ) (st : IncrementStage) (i : ℕ) (v : Option Name) (w : ℕ) → HasRaisedRoots s m at st i → FixesRegister s now m at st i v w
+    → Settles now after m at (stage_with_held m st v w) (roots_held m (i + 1)) → AtLater st (λ later. HasRaisedRoots after m at later (i + 1))
+register_settled s now after m at st i v w is fixes settles = (
+  settles.0,
+  settles.2.found ∙ fixes.goes_on.found,
+  record {
+    settled = settles.1;
+    written = λ u j h. settles.2.fields u j (fixes.goes_on.fields u j (is.written u j h));
+    registers = λ k below. elim (eqb_tells k i) [
+      | inl h ↦ settles.2.registers k (subst (IsRegisterFixed now m (stage_with_held m st v w)) (sym h.1) fixes.fixed)
+      | inr h ↦ settles.2.registers k (fixes.goes_on.registers k (is.registers k (let ne = h.1 in omega (arith, below, ne))))
+    ];
+  },
+)

@@ -1,5 +1,6 @@
--- What increments did for a trace that runs: what begins newly is what was promoted, and old values stand at places that are unreclaimed.
-use Rattle.std.proofs.Common.{◌≡◌, ◌≢◌, ℕ, sym, ap, ◌∙◌, inl, inr, arith, Bool, true, false, cond, List, IsTrue, nat_eq}
+-- What increments did for a trace that runs: what begins newly is what was promoted, and old values stand at places that are
+-- unreclaimed.
+use Rattle.std.proofs.Common.{◌≡◌, ◌≢◌, ℕ, refl, sym, ap, ◌∙◌, inl, inr, arith, Bool, true, false, cond, List, IsTrue, nat_eq}
 use Rattle.std.specs.Prelude.{◌||◌, ◌&&◌, not, Option, None, Some, slice_get, slice_index_or}
 use Rattle.std.proofs.lemmas.Bool.{and_parts, or_cases, or_left, or_right}
 use Rattle.std.proofs.lemmas.Bool.Decides.{eqb_tells}
@@ -20,18 +21,19 @@ use Rattle.lxr_model.specs.Moments.{Field, Moment, Trace}
 use Rattle.lxr_model_counting.proofs.BalanceLemmas.{has_field_permuted}
 use Rattle.lxr_model_counting.proofs.DistinctLemmas.{tested}
 use Rattle.lxr_model_counting.proofs.RaisingLemmas.{growth_made}
-use Rattle.lxr_invariant.specs.AbstractState.{members}
 use Rattle.lxr_invariant.specs.Standing.{HasBits, entry_of}
 use Rattle.lxr_invariant.specs.Lines.{tracing_word}
 use Rattle.lxr_invariant.specs.Tracing.{IsOldValue}
 use Rattle.lxr_invariant.proofs.NameLemmas.{in_first, in_second}
-use Rattle.lxr_invariant.proofs.PlaceLemmas.{granules_differ}
 use Rattle.lxr_pause_increments.specs.Increments.{IncrementStage, IsIncrementing, RaisingLeavesTables}
 use Rattle.lxr_pause_increments.specs.Raising.{RaisesGrays, RaisesMarks}
-use Rattle.lxr_pause_increments.specs.Traced.{OldValuesFit, is_tracing, with_grays, with_old_grays}
+use Rattle.lxr_pause_promote.specs.Promotion.{is_tracing}
+use Rattle.lxr_pause_increments.specs.Traced.{OldValuesFit, with_grays, with_old_grays}
 use Rattle.lxr_pause_increments.proofs.TracedLemmas.{grays_join, old_grays_from, only_old_grays, or_none}
 use Rattle.lxr_pause_increments.proofs.RootLemmas.{got_field, got_mapped, log_order}
-use Rattle.lxr_pause_increments.proofs.ScanLemmas.{member_place}
+use Rattle.lxr_pause_increments.proofs.HeldLemmas.{member_place}
+use Rattle.lxr_pause_increments.proofs.MovingLemmas.{differ_now, unreclaimed_still}
+use Rattle.lxr_pause_increments.proofs.StageLemmas.{all_made}
 
 -- ---- the tracing word
 
@@ -46,33 +48,37 @@ untraced t e = ap (λ n. nat_eq n 1) e
 module _ (before : Tables) (s : Space) (m : Moment) (at : Name → ℕ) (st : IncrementStage) (promoted : List Name) (bits : HasBits before m at m.unreclaimed) (is : IsIncrementing s m at st)
     (leaves : RaisingLeavesTables before (tables_of s)) (same : (n : Name) → has promoted n ≡ has st.promoted n) where
   -- a promoted object is one of those that begin now
-  promoted_starts : (n : Name) → IsTrue (has st.promoted n) → IsTrue ((tables_of s).starts (granule_of (at n)))
+  promoted_starts : (n : Name) → IsTrue (has st.promoted n) → IsTrue ((tables_of s).starts (granule_of (st.now n)))
   promoted_starts n h = is.bits.starts.each n (has-union st.promoted m.unreclaimed n ∙ or_left (has st.promoted n) (has m.unreclaimed n) h)
 
-  -- and didn't begin before
-  promoted_new : (n : Name) → IsTrue (has st.promoted n) → before.starts (granule_of (at n)) ≡ false
+  -- an unreclaimed object stands where it stood
+  kept_still : (n : Name) → IsTrue (has m.unreclaimed n) → st.now n ≡ at n
+  kept_still = unreclaimed_still s st.found m at st.now st.promoted is.moving (all_made s m at st is) is.follows.apart
+
+  -- and a promoted one didn't begin before
+  promoted_new : (n : Name) → IsTrue (has st.promoted n) → before.starts (granule_of (st.now n)) ≡ false
   promoted_new n h =
       let made = growth_made m.state m.unreclaimed m.made st.promoted is.growth n h in
-      elim (tested (before.starts (granule_of (at n)))) [
+      elim (tested (before.starts (granule_of (st.now n)))) [
         | inl q ↦
-            let u = bits.starts.only (granule_of (at n)) q in
+            let u = bits.starts.only (granule_of (st.now n)) q in
             elim (tested (same_name u.0 n)) [
               | inl k ↦ absurd (let old : IsTrue (has m.unreclaimed n) = ap (has m.unreclaimed) (sym (same_names u.0 n k)) ∙ u.1 in let new = is.follows.apart n made in cc)
-              | inr k ↦ absurd (granules_differ (tables_of s) s.limits.blocks at m.state.graph (members m) is.image.image u.0 n (in_first m.unreclaimed m.made u.0 u.1) (in_second m.unreclaimed m.made n made) k u.2)
+              | inr k ↦ absurd (differ_now s st.found m at st.now st.promoted is.moving u.0 n (in_first m.unreclaimed m.made u.0 u.1) (in_second m.unreclaimed m.made n made) k (ap granule_of (kept_still u.0 u.1) ∙ u.2))
             ]
         | inr q ↦ q
       ]
 
   -- what begins newly is what was promoted
-  new_promoted : (k : ℕ) → IsTrue ((tables_of s).starts k) → IsTrue (not (before.starts k)) → (n : Name) × IsTrue (has promoted n) × (k ≡ granule_of (at n))
+  new_promoted : (k : ℕ) → IsTrue ((tables_of s).starts k) → IsTrue (not (before.starts k)) → (n : Name) × IsTrue (has promoted n) × (k ≡ granule_of (st.now n))
   new_promoted k start new =
       let u = is.bits.starts.only k start in
       elim (union_cases st.promoted m.unreclaimed u.0 u.1) [
         | inl h ↦ (u.0, same u.0 ∙ h, sym u.2)
-        | inr h ↦ absurd (let old : IsTrue (before.starts k) = ap before.starts (sym u.2) ∙ bits.starts.each u.0 h in let no : not (before.starts k) ≡ false = ap not old in cc)
+        | inr h ↦ absurd (let old : IsTrue (before.starts k) = ap before.starts (sym u.2 ∙ ap granule_of (kept_still u.0 h)) ∙ bits.starts.each u.0 h in let no : not (before.starts k) ≡ false = ap not old in cc)
       ]
 
-  pub marks_raise : (trace : Option Trace) → before.cursors TRACING_WORD ≡ tracing_word trace → RaisesMarks trace before.marks (tables_of s).marks at promoted
+  pub marks_raise : (trace : Option Trace) → before.cursors TRACING_WORD ≡ tracing_word trace → RaisesMarks trace before.marks (tables_of s).marks st.now promoted
   marks_raise None e = λ i k. (leaves.marks k ∙ (λ j. before.marks k || (untraced before e j && ((tables_of s).starts k && not (before.starts k)))) ∙ sym (or_none (before.marks k))) i
   marks_raise (Some trace) e = λ k.
       let new : Bool = (tables_of s).starts k && not (before.starts k) in
@@ -104,8 +110,8 @@ grays_raise t es (Some trace) e = λ k. (
   λ h. ap (λ b. (cond b (with_grays t es) t).grays k) (traced t e) ∙ grays_join t es k h,
 )
 
--- an old value that isn't nil is the place of an unreclaimed object
-old_value_stands : (s : Space) (m : Moment) (at : Name → ℕ) (st : IncrementStage) → IsIncrementing s m at st → (p : ℕ) → IsOldValue s.logged.items p → p ≢ 0 → (o : Name) × IsTrue (has m.unreclaimed o) × (p ≡ at o)
+-- an old value that isn't nil is the place of an unreclaimed object, which stands where it stood
+old_value_stands : (s : Space) (m : Moment) (at : Name → ℕ) (st : IncrementStage) → IsIncrementing s m at st → (p : ℕ) → IsOldValue s.logged.items p → p ≢ 0 → (o : Name) × IsTrue (has m.unreclaimed o) × (p ≡ st.now o)
 old_value_stands s m at st is p old some =
     let order = log_order s m at st is in
     let x = got_mapped (entry_of m at) order.0 old.0 old.1 (ap (λ z. slice_get z old.0) order.1.entries ∙ old.2) in
@@ -114,9 +120,11 @@ old_value_stands s m at st is p old some =
     let facts = is.follows.written w.0 w.1 written in
     held w facts.0 (slice_index_or (refs_of (object_at m.last.graph w.0)) w.1 None) (slice_get-get_or (refs_of (object_at m.last.graph w.0)) w.1 None facts.2) (sym old.3 ∙ ap (λ z. z.old.0) x.2)
   where
-    held : (w : Field) → IsTrue (has m.unreclaimed w.0) → (v : Option Name) → slice_get (refs_of (object_at m.last.graph w.0)) w.1 ≡ Some v → p ≡ place_word at v → (o : Name) × IsTrue (has m.unreclaimed o) × (p ≡ at o)
+    held : (w : Field) → IsTrue (has m.unreclaimed w.0) → (v : Option Name) → slice_get (refs_of (object_at m.last.graph w.0)) w.1 ≡ Some v → p ≡ place_word at v → (o : Name) × IsTrue (has m.unreclaimed o) × (p ≡ st.now o)
     held w member None got e = absurd (some e)
-    held w member (Some o) got e = (o, is.follows.closed w.0 o member (w.1, got), e)
+    held w member (Some o) got e =
+        let kept = is.follows.closed w.0 o member (w.1, got) in
+        (o, kept, e ∙ sym (unreclaimed_still s st.found m at st.now st.promoted is.moving (all_made s m at st is) is.follows.apart o kept))
 
 -- so it begins there
 pub old_value_starts : (s : Space) (m : Moment) (at : Name → ℕ) (st : IncrementStage) → IsIncrementing s m at st → (p : ℕ) → IsOldValue s.logged.items p → p ≢ 0 → IsTrue ((tables_of s).starts (granule_of p))
@@ -129,7 +137,7 @@ old_values_fit s m at st is p old = elim (eqb_tells p 0) [
   | inl q ↦ let e = q.1 in omega arith
   | inr q ↦
       let o = old_value_stands s m at st is p old q.1 in
-      let place = (member_place s m at st o.0 is (in_first m.unreclaimed m.made o.0 o.1)).2 in
+      let place = (member_place s m at st o.0 (st.now o.0) is (in_first m.unreclaimed m.made o.0 o.1) (inr refl)).2 in
       let e = o.2 in
       omega (arith, place, e)
 ]

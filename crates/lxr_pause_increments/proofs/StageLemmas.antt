@@ -1,41 +1,35 @@
--- What is known of a name that is raised: where its object stands, whether it is promoted already, and the next stage.
-use Rattle.std.proofs.Common.{◌≡◌, ℕ, ◌+◌, ◌≤◌, refl, sym, ap, subst, ◌∙◌, inl, inr, arith, Bool, true, false, cond, List, [], ◌∷◌, ◌++◌}
-use Rattle.std.specs.Prelude.{◌||◌, ◌&&◌, not, Some, IsTrue}
+-- What is known of a name that is raised: whether it is promoted already, and the next stage.
+use Rattle.std.proofs.Common.{◌≡◌, ℕ, ◌+◌, refl, sym, ap, ◌∙◌, inl, inr, arith, Bool, true, false, cond, List, [], ◌∷◌, ◌++◌}
+use Rattle.std.specs.Prelude.{◌||◌, ◌&&◌, not, IsTrue}
+use Rattle.std.proofs.lemmas.Bool.{or_right}
 use Rattle.lxr_layout.specs.declared.Name.{Name}
-use Rattle.lxr_layout.specs.declared.Place.{Place}
 use Rattle.lxr_graph.specs.Names.{has, same_name}
-use Rattle.lxr_graph.specs.State.{Object, object_at, shape_of}
-use Rattle.lxr_graph.proofs.NameSets.{has-union, same_itself, same_names, union_cases}
+use Rattle.lxr_graph.proofs.NameSets.{has-union, same_itself, union_cases}
 use Rattle.lxr_image.specs.declared.space.Space.{Space}
-use Rattle.lxr_image.specs.Spaces.{tables_of}
-use Rattle.lxr_image.specs.Reads.{StandsWhole, granule_of}
+use Rattle.lxr_image.specs.ImageLaws.{placed}
 use Rattle.lxr_model.specs.Moments.{Moment}
 use Rattle.lxr_model.specs.References.{references}
 use Rattle.lxr_model_counting.specs.Distinct.{has_field}
 use Rattle.lxr_model_counting.specs.Following.{FollowsPause}
 use Rattle.lxr_model_counting.specs.Lowering.{once}
-use Rattle.lxr_model_counting.specs.Raising.{IsGrowth}
 use Rattle.lxr_model_counting.proofs.DistinctLemmas.{or_false, tested}
 use Rattle.lxr_model_counting.proofs.LoweringLemmas.{once_other, once_same}
 use Rattle.lxr_model_counting.proofs.RaisingLemmas.{growth_made}
 use Rattle.lxr_invariant.specs.AbstractState.{members}
-use Rattle.lxr_invariant.specs.Counting.{count_at}
 use Rattle.lxr_invariant.specs.Raised.{with_promoted}
-use Rattle.lxr_invariant.proofs.NameLemmas.{in_either, in_first, in_second}
-use Rattle.lxr_invariant.proofs.PlaceLemmas.{granules_differ, mark_apart}
-use Rattle.lxr_pause_increments.specs.Increments.{IsIncrementing, MayBeRaised, IncrementStage, is_unpromoted, stage_with, count_so_far}
-use Rattle.lxr_pause_increments.specs.Promotion.{StandsAt}
+use Rattle.lxr_invariant.proofs.NameLemmas.{in_either}
+use Rattle.lxr_pause_increments.specs.Increments.{IsIncrementing, IncrementStage, is_unpromoted, stage_with, count_so_far}
+use Rattle.lxr_pause_increments.proofs.MovingLemmas.{AreMade}
 
--- ---- members
+-- ---- names that are known
 
-pub promoted_within : (m : Moment) (promoted : List Name) → IsGrowth m.state m.unreclaimed m.made promoted → (n : Name) → IsTrue (has (with_promoted m promoted) n) → IsTrue (has (members m) n)
-promoted_within m promoted growth n h = elim (union_cases promoted m.unreclaimed n h) [
-  | inl k ↦ in_second m.unreclaimed m.made n (growth_made m.state m.unreclaimed m.made promoted growth n k)
-  | inr k ↦ in_first m.unreclaimed m.made n k
-]
+-- what is stuck is known
+pub stuck_known : (m : Moment) (promoted : List Name) → FollowsPause m → (n : Name) → IsTrue (has m.stuck n) → IsTrue (has (with_promoted m promoted) n)
+stuck_known m promoted follows n h = has-union promoted m.unreclaimed n ∙ or_right (has promoted n) (has m.unreclaimed n) (follows.stuck n h)
 
-pub stuck_within : (m : Moment) → FollowsPause m → (n : Name) → IsTrue (has m.stuck n) → IsTrue (has (members m) n)
-stuck_within m follows n h = in_first m.unreclaimed m.made n (follows.stuck n h)
+-- what is promoted was made since the last pause
+pub all_made : (s : Space) (m : Moment) (at : Name → ℕ) (st : IncrementStage) → IsIncrementing s m at st → AreMade m st.promoted
+all_made s m at st is n h = growth_made m.state m.unreclaimed m.made st.promoted is.growth n h
 
 -- nothing was stored to a reference of a new object that counts
 pub made_unwritten : (m : Moment) → FollowsPause m → (o : Name) → IsTrue (has m.made o) → (i : ℕ) → has_field m.written (o, i) ≡ false
@@ -45,45 +39,6 @@ made_unwritten m follows o made i = elim (tested (has_field m.written (o, i))) [
 ]
 
 -- ---- the name that is raised
-
--- where its object stands
-pub record Raised (s : Space) (m : Moment) (at : Name → ℕ) (o : Name) : Type 0 where
-  pub object : Object
-  pub there : object_at m.state.graph o ≡ Some object
-  pub placed : 1 ≤ at o
-  pub whole : StandsWhole (tables_of s) s.limits.blocks (granule_of (at o)) o (shape_of object)
-
-pub raised_object : (s : Space) (m : Moment) (at : Name → ℕ) (st : IncrementStage) (o : Name) (p : ℕ) → IsIncrementing s m at st → MayBeRaised m at st o p → Raised s m at o
-raised_object s m at st o p is may =
-    let a = is.image.image.stands o may.member in
-    record { object = a.0; there = a.1; placed = a.2.placed; whole = a.2.whole }
-
-pub raised_stands : (s : Space) (m : Moment) (at : Name → ℕ) (st : IncrementStage) (o : Name) (p : Place) → (is : IsIncrementing s m at st) → (may : MayBeRaised m at st o p.0)
-    → StandsAt s p o (shape_of (raised_object s m at st o p.0 is may).object)
-raised_stands s m at st o p is may =
-    let a = raised_object s m at st o p.0 is may in
-    record {
-      space = is.space;
-      placed = subst (λ z. 1 ≤ z) (sym may.stands) a.placed;
-      whole = subst (λ z. StandsWhole (tables_of s) s.limits.blocks (granule_of z) o (shape_of a.object)) (sym may.stands) a.whole;
-    }
-
--- its start bit tells whether it is unreclaimed or promoted already
-pub started_known : (s : Space) (m : Moment) (at : Name → ℕ) (st : IncrementStage) (o : Name) → IsIncrementing s m at st → IsTrue (has (members m) o)
-    → IsTrue ((tables_of s).starts (granule_of (at o))) → IsTrue (has (with_promoted m st.promoted) o)
-started_known s m at st o is member start =
-    let u = is.bits.starts.only (granule_of (at o)) start in
-    elim (tested (same_name u.0 o)) [
-      | inl k ↦ subst (λ z. IsTrue (has (with_promoted m st.promoted) z)) (same_names u.0 o k) u.1
-      | inr k ↦ absurd (granules_differ (tables_of s) s.limits.blocks at m.state.graph (members m) is.image.image u.0 o (promoted_within m st.promoted is.growth u.0 u.1) member k u.2)
-    ]
-
-pub clear_unknown : (s : Space) (m : Moment) (at : Name → ℕ) (st : IncrementStage) (o : Name) → IsIncrementing s m at st → (tables_of s).starts (granule_of (at o)) ≡ false
-    → has (with_promoted m st.promoted) o ≡ false
-clear_unknown s m at st o is clear = elim (tested (has (with_promoted m st.promoted) o)) [
-  | inl k ↦ absurd (let a = is.bits.starts.each o k in cc)
-  | inr k ↦ k
-]
 
 and_false : (a : Bool) → (a && false) ≡ false
 and_false true = refl
@@ -119,22 +74,24 @@ unknown_found m st o member unknown =
 abbrev pub raised_again : IncrementStage → Name → IncrementStage
 raised_again st o = record st { added = λ n. once n o + st.added n }
 
--- a new object is promoted and raised
-abbrev pub raised_first : IncrementStage → Name → IncrementStage
-raised_first st o = record { promoted = o ∷ st.promoted; work = st.work ++ o ∷ []; added = λ n. once n o + st.added n }
+-- a new object is promoted and raised, and stands at a place
+abbrev pub raised_first : IncrementStage → Name → ℕ → IncrementStage
+raised_first st o q = record { promoted = o ∷ st.promoted; work = st.work ++ o ∷ []; added = λ n. once n o + st.added n; now = placed st.now o q; found = st.found }
 
-abbrev next_of : IncrementStage → Name → Bool → IncrementStage
-next_of st o b = record {
+abbrev next_of : IncrementStage → Name → ℕ → Bool → IncrementStage
+next_of st o q b = record {
   promoted = cond b (o ∷ st.promoted) st.promoted;
   work = cond b (st.work ++ o ∷ []) st.work;
   added = λ n. once n o + st.added n;
+  now = cond b (placed st.now o q) st.now;
+  found = st.found;
 }
 
-pub stage_again : (m : Moment) (st : IncrementStage) (o : Name) → is_unpromoted m st o ≡ false → stage_with m st o ≡ raised_again st o
-stage_again m st o e = ap (next_of st o) e
+pub stage_again : (m : Moment) (st : IncrementStage) (o : Name) (q : ℕ) → is_unpromoted m st o ≡ false → stage_with m st o q ≡ raised_again st o
+stage_again m st o q e = ap (next_of st o q) e
 
-pub stage_first : (m : Moment) (st : IncrementStage) (o : Name) → is_unpromoted m st o ≡ true → stage_with m st o ≡ raised_first st o
-stage_first m st o e = ap (next_of st o) e
+pub stage_first : (m : Moment) (st : IncrementStage) (o : Name) (q : ℕ) → is_unpromoted m st o ≡ true → stage_with m st o q ≡ raised_first st o q
+stage_first m st o q e = ap (next_of st o q) e
 
 -- how often each name was raised then
 pub again_here : (m : Moment) (st : IncrementStage) (o : Name) → count_so_far m (raised_again st o) o ≡ count_so_far m st o + 1
@@ -150,12 +107,12 @@ again_other m st o n ne = ap (λ z. cond (has st.promoted n) 0 (references m.las
     none : (x y : ℕ) → x + (0 + y) ≡ x + y
     none x y = omega arith
 
-pub first_here : (m : Moment) (st : IncrementStage) (o : Name) → st.added o ≡ 0 → count_so_far m (raised_first st o) o ≡ 1
-first_here m st o zero =
+pub first_here : (m : Moment) (st : IncrementStage) (o : Name) (q : ℕ) → st.added o ≡ 0 → count_so_far m (raised_first st o q) o ≡ 1
+first_here m st o q zero =
     (λ i. cond (same_itself o i || has st.promoted o) 0 (references m.last m.unreclaimed o) + (once_same o o (same_itself o) i + zero i))
 
-pub first_other : (m : Moment) (st : IncrementStage) (o n : Name) → same_name n o ≡ false → count_so_far m (raised_first st o) n ≡ count_so_far m st n
-first_other m st o n ne =
+pub first_other : (m : Moment) (st : IncrementStage) (o : Name) (q : ℕ) (n : Name) → same_name n o ≡ false → count_so_far m (raised_first st o q) n ≡ count_so_far m st n
+first_other m st o q n ne =
     ap (λ b. cond (b || has st.promoted n) 0 (references m.last m.unreclaimed n) + (once n o + st.added n)) ne ∙ again_other m st o n ne
 
 -- the known names with a new one
@@ -167,17 +124,3 @@ first_joined m st o n =
     or_group : (a b c : Bool) → ((a || b) || c) ≡ (a || (b || c))
     or_group true b c = refl
     or_group false b c = refl
-
--- ---- its count
-
--- a new object has count 0
-pub new_uncounted : (s : Space) (m : Moment) (at : Name → ℕ) (st : IncrementStage) (o : Name) → IsIncrementing s m at st → IsTrue (has (members m) o) → has (with_promoted m st.promoted) o ≡ false
-    → count_at (tables_of s) at o ≡ 0
-new_uncounted s m at st o is member unknown =
-    let image = is.image.image in
-    is.marks.elsewhere (granule_of (at o))
-    (λ n in_n e. elim (tested (same_name n o)) [
-      | inl k ↦ absurd (let same : has (with_promoted m st.promoted) n ≡ has (with_promoted m st.promoted) o = ap (has (with_promoted m st.promoted)) (same_names n o k) in cc)
-      | inr k ↦ granules_differ (tables_of s) s.limits.blocks at m.state.graph (members m) image n o (promoted_within m st.promoted is.growth n in_n) member k e
-    ])
-    (λ n b in_n has_b mark. mark_apart (tables_of s) s.limits.blocks at m.state.graph (members m) image n o b (granule_of (at o)) (promoted_within m st.promoted is.growth n in_n) member has_b mark refl)

@@ -1,8 +1,8 @@
 -- The mark and gray bits of a trace that runs: newly begun objects are marked, step after step, and old values are gray, entry after
 -- entry.
-use Rattle.std.proofs.Common.{◌≡◌, ◌≢◌, ℕ, zero, suc, ◌+◌, ◌*◌, ◌≤◌, refl, sym, ap, subst, ◌∙◌, inl, inr, ◌⊎◌, Bool, true, false, cond, List, [], ◌∷◌, IsTrue, length, drop, add-one}
+use Rattle.std.proofs.Common.{◌≡◌, ◌≢◌, ℕ, zero, suc, ◌+◌, ◌*◌, ◌≤◌, refl, sym, ap, subst, ◌∙◌, inl, inr, ◌⊎◌, Bool, true, false, cond, List, [], ◌∷◌, IsTrue, drop, add-one}
 use Rattle.std.specs.Prelude.{◌||◌, ◌&&◌, not, Some, slice_get}
-use Rattle.std.proofs.Math.Seq.{drop-cons, drop-length}
+use Rattle.std.proofs.Math.Seq.{drop-cons}
 use Rattle.std.proofs.lemmas.Bool.Decides.{eqb_tells}
 use Rattle.std.proofs.lemmas.Option.{slice_get_within, get_or_from_slice_get}
 use Rattle.lxr_layout.specs.declared.TheConstants.{GRANULES_IN_BLOCK}
@@ -14,7 +14,8 @@ use Rattle.lxr_image.specs.Reads.{granule_of}
 use Rattle.lxr_image.proofs.SpaceLemmas.{still_space}
 use Rattle.lxr_invariant.specs.Tracing.{IsOldValue}
 use Rattle.lxr_invariant.proofs.EntryLemmas.{changed_cases, changed_here}
-use Rattle.lxr_pause_increments.specs.Traced.{OldValuesFit, is_tracing, marks_with, with_gray, with_grays, with_old_grays}
+use Rattle.lxr_pause_promote.specs.Promotion.{is_tracing}
+use Rattle.lxr_pause_increments.specs.Traced.{OldValuesFit, marks_with, with_gray, with_grays, with_old_grays}
 
 -- ---- marks
 
@@ -174,9 +175,6 @@ pub record GrayedSoFar (a b : Space) (k : ℕ) : Type 0 where
   pub rest : b ≡ record a { words = b.words }
   pub left : with_grays (tables_of b) (drop k a.logged.items) ≡ with_grays (tables_of a) a.logged.items
 
-pub grays_begin : (a : Space) → IsSpace a → GrayedSoFar a a 0
-grays_begin a space = record { space = space; rest = refl; left = refl }
-
 pub gray_fits : (a b : Space) (k : ℕ) (e : LogEntry) → GrayedSoFar a b k → OldValuesFit a.limits.blocks a.logged.items → slice_get b.logged.items k ≡ Some e → e.old.0 ≤ GRANULES_IN_BLOCK * b.limits.blocks
 gray_fits a b k e so_far fit there =
     let at_k : slice_get a.logged.items k ≡ Some e = sym (ap (λ s. slice_get s.logged.items k) so_far.rest) ∙ there in
@@ -190,9 +188,3 @@ grays_next a b c k e so_far there call =
       rest = call.rest ∙ ap {A = Space} (λ s. record s { words = c.words }) so_far.rest;
       left = ap (λ t. with_grays t (drop (k + 1) a.logged.items)) call.tables ∙ sym (ap (with_grays (tables_of b)) (rest_from a.logged.items k e at_k)) ∙ so_far.left;
     }
-
-pub grays_end : (a b : Space) (k : ℕ) → GrayedSoFar a b k → k ≡ length a.logged.items → Turns a b (with_grays (tables_of a) a.logged.items)
-grays_end a b k so_far all = record {
-  tables = sym (ap (with_grays (tables_of b)) (ap (λ n. drop n a.logged.items) all ∙ drop-length a.logged.items)) ∙ so_far.left;
-  rest = so_far.rest;
-}

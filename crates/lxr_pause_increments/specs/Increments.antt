@@ -7,6 +7,7 @@ use Rattle.lxr_image.specs.declared.space.Space.{Space}
 use Rattle.lxr_image.specs.Spaces.{IsSpace, tables_of}
 use Rattle.lxr_image.specs.Tables.{Tables}
 use Rattle.lxr_image.specs.Opened.{HasRoom}
+use Rattle.lxr_image.specs.ImageLaws.{placed}
 use Rattle.lxr_model.specs.References.{references_from}
 use Rattle.lxr_model.specs.Moments.{Moment}
 use Rattle.lxr_model_counting.specs.Distinct.{IsDistinct}
@@ -14,11 +15,11 @@ use Rattle.lxr_model_counting.specs.Following.{FollowsPause}
 use Rattle.lxr_model_counting.specs.Lowering.{once}
 use Rattle.lxr_model_counting.specs.Raising.{IsGrowth, IsHeldUp}
 use Rattle.lxr_invariant.specs.AbstractState.{members}
-use Rattle.lxr_invariant.specs.Standing.{AreLogged, HasBits, IsImaged, place_of}
+use Rattle.lxr_invariant.specs.Standing.{AreLogged, HasBits, place_of}
 use Rattle.lxr_invariant.specs.Counting.{count_at, passing}
-use Rattle.lxr_invariant.specs.Keeping.{KeepsListsAndCounters}
 use Rattle.lxr_invariant.specs.Lines.{HasBlocks, HasMarks}
 use Rattle.lxr_invariant.specs.Raised.{count_found, with_promoted}
+use Rattle.lxr_pause_increments.specs.Moving.{IsMoving, IsPlaceOf}
 use Rattle.lxr_pause_increments.specs.Traced.{marks_with}
 
 -- A stage of the increments; no code holds it.
@@ -29,6 +30,10 @@ pub record IncrementStage : Type 0 where
   pub work : List Name
   -- how often each name was raised so far
   pub added : Name → ℕ
+  -- where each object stands now
+  pub now : Name → ℕ
+  -- the space as increments found it
+  pub found : Space
 
 -- the count of a name as it would be without a largest value
 abbrev pub count_so_far : Moment → IncrementStage → Name → ℕ
@@ -41,10 +46,10 @@ pub record IsFull (m : Moment) (st : IncrementStage) (n : Name) : Type 0 where
   pub reaches : STUCK ≤ count_so_far m st n
 
 -- the counts at a stage: STUCK for what was stuck, and else as often as raised, but at most STUCK
-pub record HasCountsSoFar (s : Space) (m : Moment) (at : Name → ℕ) (st : IncrementStage) : Type 0 where
-  pub stuck : (n : Name) → IsTrue (has m.stuck n) → count_at (tables_of s) at n ≡ STUCK
-  pub exact : (n : Name) → IsTrue (has (with_promoted m st.promoted) n) → has m.stuck n ≡ false → count_at (tables_of s) at n ≡ min (count_so_far m st n) STUCK
-  pub positive : (n : Name) → IsTrue (has (with_promoted m st.promoted) n) → count_at (tables_of s) at n ≢ 0
+pub record HasCountsSoFar (s : Space) (m : Moment) (st : IncrementStage) : Type 0 where
+  pub stuck : (n : Name) → IsTrue (has m.stuck n) → count_at (tables_of s) st.now n ≡ STUCK
+  pub exact : (n : Name) → IsTrue (has (with_promoted m st.promoted) n) → has m.stuck n ≡ false → count_at (tables_of s) st.now n ≡ min (count_so_far m st n) STUCK
+  pub positive : (n : Name) → IsTrue (has (with_promoted m st.promoted) n) → count_at (tables_of s) st.now n ≢ 0
   -- a new object is promoted where it is raised first
   pub unraised : (n : Name) → IsTrue (has m.made n) → has st.promoted n ≡ false → st.added n ≡ 0
   -- those that became stuck are reported, each once
@@ -57,21 +62,21 @@ pub record HasRoomToRaise (s : Space) : Type 0 where
   pub work : length s.work.items ≤ length s.report.promoted.items
   pub stuck : length s.report.stuck.items ≤ passing (λ k. (tables_of s).counts k == STUCK) (GRANULES_IN_BLOCK * s.limits.blocks)
 
--- The space at a stage of the increments, for a moment whose dead are gone.
+-- The space at a stage of the increments, for a moment whose dead are gone. Objects stood where `at` says as increments began.
 pub record IsIncrementing (s : Space) (m : Moment) (at : Name → ℕ) (st : IncrementStage) : Type 0 where
   pub space : IsSpace s
   pub room : HasRoom s
   pub as_many : (length s.registers.items ≡ 16 * s.limits.threads) × (length s.deferred.items ≡ 16 * s.limits.threads)
   pub follows : FollowsPause m
-  pub image : IsImaged s m at
+  pub moving : IsMoving s st.found m at st.now st.promoted
   -- each promoted name was made since the last pause and held up when it was promoted, and each is promoted once
   pub growth : IsGrowth m.state m.unreclaimed m.made st.promoted
   pub once_promoted : IsDistinct st.promoted
   pub work_promoted : (n : Name) → IsTrue (has st.work n) → IsTrue (has st.promoted n)
   pub once_work : IsDistinct st.work
-  pub bits : HasBits (tables_of s) m at (with_promoted m st.promoted)
-  pub marks : HasMarks (tables_of s) m.state.graph at (with_promoted m st.promoted)
-  pub counts : HasCountsSoFar s m at st
+  pub bits : HasBits (tables_of s) m st.now (with_promoted m st.promoted)
+  pub marks : HasMarks (tables_of s) m.state.graph st.now (with_promoted m st.promoted)
+  pub counts : HasCountsSoFar s m st
   pub logs : AreLogged m at s.logged.items
   pub few_logs : length s.logged.items ≤ s.limits.threads * s.limits.log
   pub none_done : (k : ℕ) → (tables_of s).dones k ≡ false
@@ -79,26 +84,29 @@ pub record IsIncrementing (s : Space) (m : Moment) (at : Name → ℕ) (st : Inc
   pub decrements : ((tables_of s).cursors DECREMENT_CURSOR ≡ 0) × ((tables_of s).cursors DECREMENT_COUNT ≡ 0)
   -- the lists of the space are those of the stage
   pub reported : s.report.promoted.items ≡ reverse st.promoted
-  pub worklist : s.work.items ≡ map (place_of at) st.work
+  pub worklist : s.work.items ≡ map (place_of st.now) st.work
   pub lists : HasRoomToRaise s
 
 -- a name is a new object that isn't promoted yet
 abbrev pub is_unpromoted : Moment → IncrementStage → Name → Bool
 is_unpromoted m st o = has m.made o && not (has st.promoted o)
 
--- the stage once a name is raised: where it is a new object that isn't promoted yet, it is, and waits in the worklist
-abbrev pub stage_with : Moment → IncrementStage → Name → IncrementStage
-stage_with m st o = record {
+-- the stage once a name is raised: where it is a new object that isn't promoted yet, it is, stands at a place, and waits in the
+-- worklist
+abbrev pub stage_with : Moment → IncrementStage → Name → ℕ → IncrementStage
+stage_with m st o q = record {
   promoted = if is_unpromoted m st o then (o ∷ st.promoted) else st.promoted;
   work = if is_unpromoted m st o then (st.work ++ o ∷ []) else st.work;
   added = λ n. once n o + st.added n;
+  now = if is_unpromoted m st o then placed st.now o q else st.now;
+  found = st.found;
 }
 
--- a name may be raised: its object stands at a place, and something kept or promoted holds it up
+-- a name may be raised: its object stands or stood at a place, and something kept or promoted holds it up
 pub record MayBeRaised (m : Moment) (at : Name → ℕ) (st : IncrementStage) (o : Name) (place : ℕ) : Type 0 where
   pub member : IsTrue (has (members m) o)
   pub held_up : IsHeldUp m.state m.unreclaimed st.promoted o
-  pub stands : place ≡ at o
+  pub stands : IsPlaceOf at st.now o place
 
 -- what is left to do: new objects that may be promoted, and the worklist
 abbrev pub left : Space → ℕ
@@ -109,24 +117,30 @@ left s = (GRANULES_IN_BLOCK * s.limits.blocks - passing (tables_of s).starts (GR
 abbrev pub Accounts : Moment → IncrementStage → (Name → ℕ) → (Name → ℕ) → Type 0
 Accounts m st base pending = (o : Name) → st.added o + pending o ≡ base o + references_from m.state.graph (without st.promoted st.work) o
 
--- Lists and counters, states of blocks, gray bits and the entries of the table of decrements are as they were. Each object begins where
--- it did, and while a trace runs, those that begin newly are marked; no other mark bit changes.
+-- Lists, gray bits, the entries of the table of decrements and all cursors are as they were. Each object that began somewhere begins
+-- there, and while a trace runs, those that begin newly are marked; no other mark bit changes.
 pub record RaisingLeavesTables (t u : Tables) : Type 0 where
-  pub keeps : KeepsListsAndCounters t u
-  pub states : u.states ≡ t.states
+  pub runs : u.runs ≡ t.runs
+  pub frees : u.frees ≡ t.frees
+  pub remembered : u.remembered ≡ t.remembered
+  pub cursors : u.cursors ≡ t.cursors
   pub starts : (k : ℕ) → IsTrue (t.starts k) → IsTrue (u.starts k)
   pub marks : (k : ℕ) → u.marks k ≡ marks_with t u.starts k
   pub grays : u.grays ≡ t.grays
   pub decs : u.decs ≡ t.decs
 
--- What raising leaves of a space: all but its words, the worklist, and the promoted and stuck names of the report.
+-- What raising leaves of a space: all but its words, what registers hold, the worklist, the promoted and stuck names of the report,
+-- and the rest of the lines that were placed on last.
 pub record RaisingLeaves (before after : Space) : Type 0 where
   pub space : after ≡ record before {
     words = after.words;
+    registers = record before.registers { items = after.registers.items };
     work = record before.work { items = after.work.items };
     report = record before.report {
       promoted = record before.report.promoted { items = after.report.promoted.items };
       stuck = record before.report.stuck { items = after.report.stuck.items };
     };
+    rest_next = after.rest_next;
+    rest_end = after.rest_end;
   }
   pub tables : RaisingLeavesTables (tables_of before) (tables_of after)

@@ -1,3 +1,4 @@
+pub mod Moving
 pub mod Traced
 pub mod Increments
 pub mod Accounted

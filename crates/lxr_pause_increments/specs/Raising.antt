@@ -7,9 +7,11 @@ use Rattle.lxr_graph.specs.Names.{has}
 use Rattle.lxr_image.specs.declared.space.Space.{Space}
 use Rattle.lxr_image.specs.Spaces.{tables_of}
 use Rattle.lxr_image.specs.Reads.{granule_of}
+use Rattle.lxr_blocks.specs.States.{KeepsState}
 use Rattle.lxr_model.specs.Moments.{Moment, Trace}
 use Rattle.lxr_invariant.specs.Counting.{IsUndecremented}
-use Rattle.lxr_invariant.specs.Keeping.{KeepsListsAndCounters}
+use Rattle.lxr_invariant.specs.Copied.{CopiesLieOnFreeLines, CopiesPromoted, StayForWantOfLines}
+use Rattle.lxr_invariant.specs.Keeping.{KeepsLists}
 use Rattle.lxr_invariant.specs.Quiescent.{HoldsMoment}
 use Rattle.lxr_invariant.specs.Raised.{IsRaised}
 use Rattle.lxr_invariant.specs.Tracing.{IsOldValue}
@@ -35,18 +37,23 @@ RaisesGrays None before after entries = after ≡ before
 RaisesGrays (Some trace) before after entries =
     (k : ℕ) → IsTrue (after k) ↔ (IsTrue (before k) ⊎ ((p : ℕ) × IsOldValue entries p × (p ≢ 0) × (k ≡ granule_of p)))
 
--- Counts are raised, and what the report has is what was promoted and became stuck. While a trace runs, what is promoted is marked,
--- and what logged references held is made gray. Lists, counters, states of blocks and the entries of the table of decrements stay.
+-- Counts are raised, and what the report has is what was promoted and became stuck. The promoted objects are copied where lines fit
+-- them, and stand at their new places, which registers hold. While a trace runs, what is promoted is marked, and what logged references
+-- held is made gray. Lists and the entries of the table of decrements stay, and no block has become Chosen or World or ceased to be so.
 -- Nothing else has changed, but that no line is out, and no rest is left of the lines that a pause placed on last.
-pub record Raises (before after : Space) (m : Moment) (at : Name → ℕ) : Type 0 where
-  pub raised : IsRaised after m at after.report.promoted.items after.report.stuck.items
-  pub keeps : KeepsListsAndCounters (tables_of before) (tables_of after)
-  pub states : (tables_of after).states ≡ (tables_of before).states
-  pub marks : RaisesMarks m.trace (tables_of before).marks (tables_of after).marks at after.report.promoted.items
+pub record Raises (before after : Space) (m : Moment) (at at' : Name → ℕ) : Type 0 where
+  pub raised : IsRaised after m at' after.report.promoted.items after.report.stuck.items
+  pub copies : CopiesPromoted (tables_of before) (tables_of after) m at at' after.report.promoted.items
+  pub onto : CopiesLieOnFreeLines before m at at' after.report.promoted.items
+  pub stay : StayForWantOfLines (tables_of before) (tables_of after) before.limits.blocks m at at' after.report.promoted.items (λ line. ⊥)
+  pub keeps : KeepsLists (tables_of before) (tables_of after)
+  pub states : (b : ℕ) → KeepsState (tables_of before) (tables_of after) b
+  pub marks : RaisesMarks m.trace (tables_of before).marks (tables_of after).marks at' after.report.promoted.items
   pub grays : RaisesGrays m.trace (tables_of before).grays (tables_of after).grays before.logged.items
   pub decs : (tables_of after).decs ≡ (tables_of before).decs
   pub space : after ≡ record before {
     words = after.words;
+    registers = record before.registers { items = after.registers.items };
     report = record before.report {
       promoted = record before.report.promoted { items = after.report.promoted.items };
       stuck = record before.report.stuck { items = after.report.stuck.items };

@@ -1,20 +1,13 @@
 -- What increments do for a trace that runs: each object that begins newly is marked, and what logged references held is made gray.
 use Rattle.std.specs.Prelude.{ℕ, ◌*◌, ◌≤◌, ◌||◌, ◌&&◌, nat_eq, not, Bool, true, List, [], ◌∷◌, if◌then◌else◌}
-use Rattle.lxr_layout.specs.declared.TheConstants.{GRANULES_IN_BLOCK, TRACING_WORD}
+use Rattle.lxr_layout.specs.declared.TheConstants.{GRANULES_IN_BLOCK}
 use Rattle.lxr_layout.specs.declared.LogEntry.{LogEntry}
 use Rattle.lxr_image.specs.Tables.{Tables, changed}
 use Rattle.lxr_image.specs.Reads.{granule_of}
 use Rattle.lxr_invariant.specs.Tracing.{IsOldValue}
-
--- a trace runs
-abbrev pub is_tracing : Tables → Bool
-is_tracing t = nat_eq (t.cursors TRACING_WORD) 1
+use Rattle.lxr_pause_promote.specs.Promotion.{is_tracing}
 
 -- ---- marks
-
--- the tables with the object at a granule marked while a trace runs
-abbrev pub with_mark : Tables → ℕ → Tables
-with_mark t granule = record t { marks = if is_tracing t then changed t.marks granule true else t.marks }
 
 -- The mark bits once objects begin at these granules: while a trace runs, each that hasn't begun there before is marked.
 abbrev pub marks_with : Tables → (ℕ → Bool) → ℕ → Bool

@@ -1,83 +1,59 @@
-//! Raising one count, and promoting a new object that is raised first.
-ghost use Rattle.std.specs.Prelude.{◌≡◌, ◌+◌, ◌*◌, ◌<◌, ◌≤◌, IsTrue, length};
-ghost use Rattle.lxr_layout.specs.declared.TheConstants.{GRANULES_IN_BLOCK, WORDS_IN_BLOCK};
+//! Raising one count, and taking in a new object that is raised first.
+ghost use Rattle.std.specs.Prelude.{◌≡◌, ◌<◌, IsTrue, length};
 ghost use Rattle.lxr_layout.specs.declared.Name.{Name as NameOf};
 ghost use Rattle.lxr_layout.specs.declared.Shape.{Shape as ShapeOf};
 ghost use Rattle.lxr_base.specs.Roomy.{pushed};
 ghost use Rattle.lxr_image.specs.Reads.{granule_of};
-ghost use Rattle.lxr_image.specs.Spaces.{IsSpace, Turns, tables_of};
-ghost use Rattle.lxr_pause_increments.specs.Promotion.{StandsAt, TakesIn, fills, with_marks, with_unlogged};
+ghost use Rattle.lxr_image.specs.Spaces.{tables_of};
+ghost use Rattle.lxr_pause_promote.specs.Copying.{HasKeptAt, HasObjectAt, StandsAt, StandsKept};
+ghost use Rattle.lxr_pause_increments.specs.Promotion.{TakesIn, fills};
 ghost use Rattle.lxr_pause_increments.specs.Increments.{RaisingLeaves, left};
-ghost use Rattle.lxr_pause_increments.specs.Steps.{HasObjectAt, MayRaise, Promotes, RaisesCount, RaisesName};
+ghost use Rattle.lxr_pause_increments.specs.Steps.{FindsPlace, MayRaise, RaisesCount, RaisesName};
 
-use crate::tracing::mark_promoted;
 use lxr_image::Space;
-use lxr_layout::{GRANULES_IN_LINE, Header, Name, Place, STUCK, Shape, unpack, word_of, words_of};
+use lxr_layout::{Header, Name, Place, STUCK, unpack, word_of};
+use lxr_pause_promote::{object, promote};
 
-/// Raises the count of the object at a place. Where it reaches its largest value it is reported as stuck; a new object that
-/// is raised first is promoted, reported, and put into the worklist.
-pub(crate) fn raise(space: &mut Space, place: Place)
+/// Raises the count of the object that stands or stood at a place. Where it reaches its largest value it is reported as stuck; a
+/// new object that is raised first is promoted before, reported, and put into the worklist. Answers where the object stands now.
+pub(crate) fn raise(space: &mut Space, place: Place) -> Place
     requires { MayRaise space.old place.0 }
-    ensures raises { RaisesName space.old space.new place.0 }
+    ensures raises { RaisesName space.old space.new place.0 result.0 }
     ensures left { left space.new ≡ left space.old }
     ensures leaves { RaisingLeaves space.old space.new }
 {
-    raise_at(space, place);
-    if !space.has_start(place.0 - 1) {
-        take_in(space, place);
+    let now = settle(space, place);
+    raise_at(space, now);
+    now
+}
+
+/// Where the object that stands or stood at a place stands now. At a start bit this is the place itself, and its header isn't
+/// looked at; else the header tells where the object was copied to, or that it is new, and it is taken in.
+fn settle(space: &mut Space, place: Place) -> Place
+    requires { MayRaise space.old place.0 }
+    ensures { FindsPlace space.old space.new place.0 result }
+{
+    if space.has_start(place.0 - 1) {
+        place
+    } else {
+        match unpack(space.heap_word(word_of(place))) {
+            Header::Moved(now) => now,
+            Header::Object(name, _) => take_in(space, place, name),
+        }
     }
 }
 
-/// Promotes the new object at a place: from now on it begins there, its references are to be logged, and each further line
-/// that it reaches into is marked. While a trace runs, the object is marked too. Answers where the object now is.
-pub fn promote(space: &mut Space, place: Place) -> Place
-    requires { HasObjectAt space.old place }
-    ensures stays { result ≡ place }
-    ensures promotes { Promotes space.old space.new place }
-    ensures space { IsSpace space.new }
-    ensures limits { space.new.limits ≡ space.old.limits }
+/// Promotes the new object of a name at a place, reports the name, and puts the place where it stands now into the worklist.
+fn take_in(space: &mut Space, place: Place, name: Name) -> Place
+    requires stands { HasKeptAt space.old place }
+    requires promoted { length space.old.report.promoted.items < space.old.report.promoted.room }
+    requires work { length space.old.work.items < space.old.work.room }
+    ensures { (n : NameOf) (shape : ShapeOf) → StandsKept space.old place n shape → name ≡ n → TakesIn space.old space.new place result n shape }
 {
-    let (_, shape) = object(space, place);
-    let granule = place.0 - 1;
-    space.set_start(granule);
-    mark_promoted(space, granule);
-    mark_lines(space, granule, words_of(shape) / 2);
-    log_references(space, word_of(place) + 1, shape.refs);
-    place
-}
-
-/// The name and the shape of the object at a place, by its header.
-fn object(space: &Space, place: Place) -> (Name, Shape)
-    requires { HasObjectAt space.now place }
-    ensures { (n : NameOf) (shape : ShapeOf) → StandsAt space.now place n shape → result ≡ (n, shape) }
-{
-    match unpack(space.heap_word(word_of(place))) {
-        Header::Object(name, shape) => (name, shape),
-        Header::Moved(_) => unreachable!(),
-    }
-}
-
-/// Marks each further line of an object of so many granules, by the largest count at its first granule.
-fn mark_lines(space: &mut Space, granule: u32, granules: u32)
-    requires space { IsSpace space.old }
-    requires some { 1 ≤ granules }
-    requires heap { granule + granules ≤ GRANULES_IN_BLOCK * space.old.limits.blocks }
-    ensures { Turns space.old space.new (with_marks (tables_of space.old) granule granules) }
-{
-    for line in granule / GRANULES_IN_LINE + 1..(granule + granules - 1) / GRANULES_IN_LINE + 1 {
-        space.set_count(GRANULES_IN_LINE * line, STUCK);
-    }
-}
-
-/// Sets the unlogged bits of so many heap words.
-fn log_references(space: &mut Space, first: u32, refs: u16)
-    requires space { IsSpace space.old }
-    requires heap { first + refs ≤ WORDS_IN_BLOCK * space.old.limits.blocks }
-    ensures { Turns space.old space.new (with_unlogged (tables_of space.old) first (first + refs)) }
-{
-    for at in first..first + u32::from(refs) {
-        space.set_unlogged(at);
-    }
+    let now = promote(space, place);
+    space.report.promoted.push(name);
+    space.work.push(now);
+    now
 }
 
 /// Raises the count of the object at a place. Where it reaches its largest value its name is reported.
@@ -101,17 +77,4 @@ fn report_stuck(space: &mut Space, place: Place)
 {
     let (name, _) = object(space, place);
     space.report.stuck.push(name);
-}
-
-/// Promotes the new object at a place, reports its name, and puts its place into the worklist.
-fn take_in(space: &mut Space, place: Place)
-    requires stands { HasObjectAt space.old place }
-    requires promoted { length space.old.report.promoted.items < space.old.report.promoted.room }
-    requires work { length space.old.work.items < space.old.work.room }
-    ensures { (n : NameOf) (shape : ShapeOf) → StandsAt space.old place n shape → TakesIn space.old space.new place n shape }
-{
-    let (name, _) = object(space, place);
-    let place = promote(space, place);
-    space.report.promoted.push(name);
-    space.work.push(place);
 }

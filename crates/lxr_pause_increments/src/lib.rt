@@ -2,12 +2,12 @@
 //! and each new object that is raised is promoted, with all that it refers to.
 //!
 //! New objects have no counts until a pause finds them, as in LXR (Zhao, Blackburn and McKinley, 2022), so most of them die
-//! without ever being counted. While a trace runs, promoted objects are marked, and what logged references held is made gray.
+//! without ever being counted. Those that are promoted are copied next to one another where lines fit them, and what referred to
+//! them refers to the copies. While a trace runs, what logged references held is made gray.
 #![tactic(auto)]
 
 mod counts;
 mod order;
 mod tracing;
 
-pub use counts::promote;
 pub use order::increments;

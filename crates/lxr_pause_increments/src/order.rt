@@ -1,14 +1,15 @@
 //! The increments: what is raised, in its order.
 //!
-//! The order decides in which order objects are promoted: those that written references hold come first, in the order of
-//! their log entries, and after each root all that it brings along.
+//! The order decides in which order objects are promoted and copied: those that written references hold come first, in the
+//! order of their log entries, and after each root all that it brings along. What is raised may be copied by that, so each
+//! reference and each register that is raised gets the place where its object stands now.
 ghost use Rattle.std.specs.Prelude.{◌≡◌, ℕ, ◌<◌, false, length, slice_get};
 ghost use Rattle.lxr_layout.specs.declared.Name.{Name as NameOf};
 ghost use Rattle.lxr_image.specs.Spaces.{IsSpace, Turns, tables_of};
 ghost use Rattle.lxr_model.specs.Moments.{Moment};
 ghost use Rattle.lxr_pause_increments.specs.Raising.{CanRaise, Raises};
 ghost use Rattle.lxr_pause_increments.specs.Increments.{RaisingLeaves, left};
-ghost use Rattle.lxr_pause_increments.specs.Steps.{Empties, HasHolder, HasSlots, MayEmpty, MayRaiseEntries, MayRaiseEntry, MayRaiseField, MayRaiseRegister, MayRaiseRegisters, MayRaiseWord, MayScan, RaisesEntries, RaisesEntry, RaisesField, RaisesRegister, RaisesRegisters, RaisesWord, Scans};
+ghost use Rattle.lxr_pause_increments.specs.Steps.{Empties, HasHolder, HasSlots, MayEmpty, MayRaiseEntries, MayRaiseEntry, MayRaiseField, MayRaiseHeld, MayRaiseRegister, MayRaiseRegisters, MayRaiseWord, MayScan, RaisesEntries, RaisesEntry, RaisesField, RaisesHeldIn, RaisesRegister, RaisesRegisters, RaisesWord, Scans};
 
 use crate::counts::raise;
 use crate::tracing::gray_old_values;
@@ -27,27 +28,34 @@ pub(crate) fn item_at<T: Copy>(list: &Listed<T>, index: usize) -> T
     }
 }
 
-/// Raises the object at the place that a word tells; 0 is nil, which raises nothing.
-fn raise_word(space: &mut Space, word: u64)
+/// Raises the object at the place that a word tells, and answers the word of the place where it stands now; 0 is nil, which
+/// raises nothing and stays 0.
+fn raise_word(space: &mut Space, word: u64) -> u64
     requires { MayRaiseWord space.old word }
-    ensures raises { RaisesWord space.old space.new word }
+    ensures raises { RaisesWord space.old space.new word result }
     ensures left { left space.new ≡ left space.old }
     ensures leaves { RaisingLeaves space.old space.new }
 {
-    if word != 0 {
-        raise(space, Place(word as u32));
+    if word == 0 {
+        0
+    } else {
+        u64::from(raise(space, Place(word as u32)).0)
     }
 }
 
-/// Raises what a reference of the object at a place holds now.
+/// Raises what a reference of the object at a place holds, and writes to it where that stands now.
 fn raise_field(space: &mut Space, place: Place, index: u16)
     requires { MayRaiseField space.old place.0 index }
     ensures raises { RaisesField space.old space.new place.0 index }
     ensures left { left space.new ≡ left space.old }
     ensures leaves { RaisingLeaves space.old space.new }
 {
-    let word = space.heap_word(field_word(place, index));
-    raise_word(space, word);
+    let at = field_word(place, index);
+    let word = space.heap_word(at);
+    let now = raise_word(space, word);
+    if now != word {
+        space.put_heap(at, now);
+    }
 }
 
 /// How many references the object at a place has.
@@ -107,6 +115,18 @@ fn raise_entries(space: &mut Space)
     }
 }
 
+/// Raises what a register holds, and puts into it where that stands now.
+fn raise_held(space: &mut Space, register: usize, held: Place)
+    requires { MayRaiseHeld space.old register held }
+    ensures raises { RaisesHeldIn space.old space.new register held }
+    ensures leaves { RaisingLeaves space.old space.new }
+{
+    let now = raise_word(space, u64::from(held.0));
+    if now != u64::from(held.0) {
+        space.registers.set(register, Place(now as u32));
+    }
+}
+
 /// Raises what a register holds, where it held something else at the last pause, and the references of all that is promoted
 /// by it.
 fn raise_register(space: &mut Space, register: usize)
@@ -116,7 +136,7 @@ fn raise_register(space: &mut Space, register: usize)
 {
     let held = item_at(&space.registers, register);
     if held.0 != item_at(&space.deferred, register).0 {
-        raise_word(space, u64::from(held.0));
+        raise_held(space, register, held);
         empty_worklist(space);
     }
 }
@@ -147,7 +167,7 @@ fn clear_outs(space: &mut Space)
 /// references held is made gray then. At last no line is out any more.
 pub fn increments(space: &mut Space)
     requires { (m : Moment) × (at : NameOf → ℕ) × CanRaise space.old m at }
-    ensures { (m : Moment) (at : NameOf → ℕ) → CanRaise space.old m at → Raises space.old space.new m at }
+    ensures { (m : Moment) (at : NameOf → ℕ) → CanRaise space.old m at → (at' : NameOf → ℕ) × Raises space.old space.new m at at' }
 {
     raise_entries(space);
     raise_registers(space);

@@ -1,7 +1,8 @@
--- Increments, the queue and deferred roots keep a trace. What is promoted is marked; it was made since the last pause, so it is younger
--- than the trace and refers to no garbage. What an old value was of is gray; it was reachable at the last pause, so it is no garbage.
+-- Increments, the queue and deferred roots keep a trace. What is promoted is marked where it stands now; it was made since the last pause,
+-- so it is younger than the trace and refers to no garbage. What an old value was of is gray; it was reachable at the last pause, so it is no
+-- garbage. All that was unreclaimed stands where it did, since only what is promoted moves.
 use Rattle.std.proofs.Common.{◌≡◌, ◌≢◌, ℕ, ◌+◌, ◌*◌, ◌/◌, ◌^◌, ◌<◌, ◌≤◌, refl, sym, ap, subst, ◌∙◌, inl, inr, arith, false, List, [], IsTrue, length}
-use Rattle.std.specs.Prelude.{Some, is_some, map}
+use Rattle.std.specs.Prelude.{Bool, Some, is_some, map}
 use Rattle.std.proofs.lemmas.Bool.{false_from_ne_true}
 use Rattle.std.proofs.lemmas.List.{length-map}
 use Rattle.std.proofs.lemmas.Nat.{mul-le}
@@ -30,7 +31,7 @@ use Rattle.lxr_invariant.specs.Quiescent.{HoldsMoment}
 use Rattle.lxr_invariant.specs.Raised.{with_promoted}
 use Rattle.lxr_invariant.specs.Standing.{entry_of}
 use Rattle.lxr_invariant.specs.Tracing.{IsCovered, IsGray, IsInSnapshot, IsMarked, IsOldValue, IsRememberedSoFar, IsToBeScanned, IsYounger, MarksStayInside, SnapshotIsCovered, StaysGarbage, TraceHolds}
-use Rattle.lxr_invariant.proofs.BlockLemmas.{none_counted}
+use Rattle.lxr_invariant.proofs.BlockLemmas.{none_counted, still_not}
 use Rattle.lxr_invariant.proofs.InsideLemmas.{inside_unless_garbage}
 use Rattle.lxr_pause_increments.specs.Raising.{Raises, RaisesGrays, RaisesMarks}
 use Rattle.lxr_pause_queue.specs.Queueing.{Queues}
@@ -39,10 +40,10 @@ use Rattle.lxr_pause_trace.proofs.GranuleLemmas.{is_placed, lies_in_block, one_n
 use Rattle.lxr_pause_trace.proofs.OldLemmas.{old_live}
 use Rattle.lxr_pause_trace.proofs.PackingLemmas.{references_fit}
 
-module _ (found raised queued : Space) (g : AbstractState) (trace : Trace) (holds : HoldsMoment found g.moment g.at)
+module _ (found raised queued : Space) (g : AbstractState) (at' : Name → ℕ) (trace : Trace) (holds : HoldsMoment found g.moment g.at)
     (runs : g.moment.trace ≡ Some trace) (unchosen : NoneChosen (tables_of found) found.limits.blocks) (older : KeepsObjectsOf trace g.moment)
-    (is : TraceHolds found.limits (tables_of found) found.logged.items g trace) (raises : Raises found raised g.moment g.at)
-    (queues : Queues raised queued g.moment g.at raised.report.promoted.items raised.report.stuck.items) where
+    (is : TraceHolds found.limits (tables_of found) found.logged.items g trace) (raises : Raises found raised g.moment g.at at')
+    (queues : Queues raised queued g.moment at' raised.report.promoted.items raised.report.stuck.items) where
   abbrev m : Moment
   m = g.moment
 
@@ -75,6 +76,14 @@ module _ (found raised queued : Space) (g : AbstractState) (trace : Trace) (hold
   new_apart : (n : Name) → IsTrue (has m.unreclaimed n) → IsTrue (has promoted n) → ⊥
   new_apart n h p = not_both (has m.unreclaimed n) h (holds.follows.apart n (made_new n p))
 
+  -- what was unreclaimed stands where it did
+  same_place : (n : Name) → IsTrue (has m.unreclaimed n) → at' n ≡ at n
+  same_place n h = raises.copies.others n (false_from_ne_true (has promoted n) (new_apart n h))
+
+  -- so a bit of its granule is that of the place where it stood
+  same_bit : (f : ℕ → Bool) (n : Name) → IsTrue (has m.unreclaimed n) → f (granule_of (at' n)) ≡ f (granule_of (at n))
+  same_bit f n h = ap (λ p. f (granule_of p)) (same_place n h)
+
   younger : (n : Name) → IsTrue (has promoted n) → IsYounger m trace n
   younger n p =
       let young = holds.follows.young n (made_new n p) in
@@ -82,8 +91,8 @@ module _ (found raised queued : Space) (g : AbstractState) (trace : Trace) (hold
       (none_from_no_object (object_at trace.state.graph n) (λ was. not_both (is_some (object_at m.last.graph n)) (older n was) none), young.1)
 
   -- members of the space at one granule are one
-  one : (n o : Name) → IsTrue (has all n) → IsTrue (has all o) → granule_of (at n) ≡ granule_of (at o) → n ≡ o
-  one = one_name (tables_of raised) raised.limits.blocks at m.state.graph all raises.raised.image
+  one : (n o : Name) → IsTrue (has all n) → IsTrue (has all o) → granule_of (at' n) ≡ granule_of (at' o) → n ≡ o
+  one = one_name (tables_of raised) raised.limits.blocks at' m.state.graph all raises.raised.image
 
   -- ---- bits
 
@@ -93,46 +102,47 @@ module _ (found raised queued : Space) (g : AbstractState) (trace : Trace) (hold
   same_grays : u.grays ≡ (tables_of raised).grays
   same_grays = ap (λ z. z.grays) queues.tables
 
-  marks : RaisesMarks (Some trace) t.marks (tables_of raised).marks at promoted
-  marks = subst (λ o. RaisesMarks o t.marks (tables_of raised).marks at promoted) runs raises.marks
+  marks : RaisesMarks (Some trace) t.marks (tables_of raised).marks at' promoted
+  marks = subst (λ o. RaisesMarks o t.marks (tables_of raised).marks at' promoted) runs raises.marks
 
   grays : RaisesGrays (Some trace) t.grays (tables_of raised).grays found.logged.items
   grays = subst (λ o. RaisesGrays o t.grays (tables_of raised).grays found.logged.items) runs raises.grays
 
-  was_marked : (n : Name) → IsTrue (has m.unreclaimed n) → IsMarked u at n → IsMarked t at n
-  was_marked n h k = elim ((marks (granule_of (at n))).0 (sym (ap (λ f. f (granule_of (at n))) same_marks) ∙ k)) [
-    | inl was ↦ was
+  was_marked : (n : Name) → IsTrue (has m.unreclaimed n) → IsMarked u at' n → IsMarked t at n
+  was_marked n h k = elim ((marks (granule_of (at' n))).0 (sym (ap (λ f. f (granule_of (at' n))) same_marks) ∙ k)) [
+    | inl was ↦ sym (same_bit t.marks n h) ∙ was
     | inr q ↦
         let same = one n q.0 (union_right promoted m.unreclaimed n h) (union_left promoted m.unreclaimed q.0 q.1) q.2 in
         absurd (new_apart n h (subst (λ x. IsTrue (has promoted x)) (sym same) q.1))
   ]
 
-  stays_marked : (n : Name) → IsMarked t at n → IsMarked u at n
-  stays_marked n k = ap (λ f. f (granule_of (at n))) same_marks ∙ (marks (granule_of (at n))).1 (inl k)
+  stays_marked : (n : Name) → IsTrue (has m.unreclaimed n) → IsMarked t at n → IsMarked u at' n
+  stays_marked n h k = ap (λ f. f (granule_of (at' n))) same_marks ∙ (marks (granule_of (at' n))).1 (inl (same_bit t.marks n h ∙ k))
 
-  new_marked : (n : Name) → IsTrue (has promoted n) → IsMarked u at n
-  new_marked n p = ap (λ f. f (granule_of (at n))) same_marks ∙ (marks (granule_of (at n))).1 (inr (n, p, refl))
+  new_marked : (n : Name) → IsTrue (has promoted n) → IsMarked u at' n
+  new_marked n p = ap (λ f. f (granule_of (at' n))) same_marks ∙ (marks (granule_of (at' n))).1 (inr (n, p, refl))
 
-  stays_gray : (n : Name) → IsGray t at n → IsGray u at n
-  stays_gray n k = ap (λ f. f (granule_of (at n))) same_grays ∙ (grays (granule_of (at n))).1 (inl k)
+  stays_gray : (n : Name) → IsTrue (has m.unreclaimed n) → IsGray t at n → IsGray u at' n
+  stays_gray n h k = ap (λ f. f (granule_of (at' n))) same_grays ∙ (grays (granule_of (at' n))).1 (inl (same_bit t.grays n h ∙ k))
 
-  placed : (n : Name) → IsTrue (has all n) → 1 ≤ at n
-  placed = is_placed (tables_of raised) raised.limits.blocks at m.state.graph all raises.raised.image
+  placed : (n : Name) → IsTrue (has all n) → 1 ≤ at' n
+  placed = is_placed (tables_of raised) raised.limits.blocks at' m.state.graph all raises.raised.image
 
-  old_gray : (n : Name) → IsTrue (has m.unreclaimed n) → IsOldValue found.logged.items (at n) → IsGray u at n
+  old_gray : (n : Name) → IsTrue (has m.unreclaimed n) → IsOldValue found.logged.items (at n) → IsGray u at' n
   old_gray n h old =
       let some = placed n (union_right promoted m.unreclaimed n h) in
-      ap (λ f. f (granule_of (at n))) same_grays ∙ (grays (granule_of (at n))).1 (inr (at n, old, (λ e. omega (arith, some, e)), refl))
+      let old_now = subst (IsOldValue found.logged.items) (sym (same_place n h)) old in
+      ap (λ f. f (granule_of (at' n))) same_grays ∙ (grays (granule_of (at' n))).1 (inr (at' n, old_now, (λ e. omega (arith, some, e)), refl))
 
   -- ---- the snapshot
 
-  covered_old : (n : Name) → IsTrue (has m.unreclaimed n) → IsCovered t m at found.logged.items n → IsCovered u now at [] n
+  covered_old : (n : Name) → IsTrue (has m.unreclaimed n) → IsCovered t m at found.logged.items n → IsCovered u now at' [] n
   covered_old n h (inl none) = not_both (has m.unreclaimed n) h none
-  covered_old n h (inr (inl (k, gray))) = inr (inl (union_right promoted m.unreclaimed n h, stays_gray n gray))
-  covered_old n h (inr (inr (inl (k, marked)))) = inr (inr (inl (union_right promoted m.unreclaimed n h, stays_marked n marked)))
+  covered_old n h (inr (inl (k, gray))) = inr (inl (union_right promoted m.unreclaimed n h, stays_gray n h gray))
+  covered_old n h (inr (inr (inl (k, marked)))) = inr (inr (inl (union_right promoted m.unreclaimed n h, stays_marked n h marked)))
   covered_old n h (inr (inr (inr (k, old)))) = inr (inl (union_right promoted m.unreclaimed n h, old_gray n h old))
 
-  covered : (n : Name) → IsCovered t m at found.logged.items n → IsCovered u now at [] n
+  covered : (n : Name) → IsCovered t m at found.logged.items n → IsCovered u now at' [] n
   covered n c = elim (tested (has all n)) [
     | inr none ↦ inl none
     | inl k ↦ elim (union_cases promoted m.unreclaimed n k) [
@@ -141,15 +151,15 @@ module _ (found raised queued : Space) (g : AbstractState) (trace : Trace) (hold
     ]
   ]
 
-  still_scanned : (x v : Name) (i : ℕ) → IsToBeScanned t m at x i v → IsToBeScanned u now at x i v
+  still_scanned : (x v : Name) (i : ℕ) → IsToBeScanned t m at x i v → IsToBeScanned u now at' x i v
   still_scanned x v i scan = record {
     member = union_right promoted m.unreclaimed x scan.member;
-    unmarked = false_from_ne_true (u.marks (granule_of (at x))) (λ k. not_both (t.marks (granule_of (at x))) (was_marked x scan.member k) scan.unmarked);
-    undone = queues.undecremented.none_done (granule_of (at x));
+    unmarked = false_from_ne_true (u.marks (granule_of (at' x))) (λ k. not_both (t.marks (granule_of (at x))) (was_marked x scan.member k) scan.unmarked);
+    undone = queues.undecremented.none_done (granule_of (at' x));
     holds = scan.holds;
   }
 
-  snapshot_covered : SnapshotIsCovered u now at [] goes_on
+  snapshot_covered : SnapshotIsCovered u now at' [] goes_on
   snapshot_covered = record {
     world = covered world_name is.covered.world;
     registers = λ n h. covered n (is.covered.registers n h);
@@ -162,27 +172,27 @@ module _ (found raised queued : Space) (g : AbstractState) (trace : Trace) (hold
   was_garbage n q = record { member = q.member; unreachable = q.unreachable }
 
   -- an old value was of what was reachable at the last pause, which is no garbage
-  old_inside : (n : Name) (p : ℕ) → IsTrue (has all n) → IsOldValue found.logged.items p → p ≢ 0 → granule_of (at n) ≡ granule_of p → IsInSnapshot m trace n
+  old_inside : (n : Name) (p : ℕ) → IsTrue (has all n) → IsOldValue found.logged.items p → p ≢ 0 → granule_of (at' n) ≡ granule_of p → IsInSnapshot m trace n
   old_inside n p k old some e =
       let live = old_live m at holds.follows found.logged.items p holds.logs old some in
       let h = holds.follows.kept live.0 live.1 in
-      let same : n ≡ live.0 = one n live.0 k (union_right promoted m.unreclaimed live.0 h) (e ∙ ap granule_of live.2) in
+      let same : n ≡ live.0 = one n live.0 k (union_right promoted m.unreclaimed live.0 h) (e ∙ ap granule_of (live.2 ∙ sym (same_place live.0 h))) in
       subst (IsInSnapshot m trace) (sym same)
       (inside_unless_garbage t m at trace is.inside is.snapshot is.reachable live.0 h (λ q. (is.inside.garbage live.0 q).dropped (inl live.1)))
 
-  gray_inside : (n : Name) → IsTrue (has all n) → IsGray u at n → IsInSnapshot m trace n
-  gray_inside n k gray = elim ((grays (granule_of (at n))).0 (sym (ap (λ f. f (granule_of (at n))) same_grays) ∙ gray)) [
-    | inl was ↦ elim (union_cases promoted m.unreclaimed n k) [ inl p ↦ inr (younger n p) | inr h ↦ is.inside.grays n h was ]
+  gray_inside : (n : Name) → IsTrue (has all n) → IsGray u at' n → IsInSnapshot m trace n
+  gray_inside n k gray = elim ((grays (granule_of (at' n))).0 (sym (ap (λ f. f (granule_of (at' n))) same_grays) ∙ gray)) [
+    | inl was ↦ elim (union_cases promoted m.unreclaimed n k) [ inl p ↦ inr (younger n p) | inr h ↦ is.inside.grays n h (sym (same_bit t.grays n h) ∙ was) ]
     | inr q ↦ old_inside n q.0 k q.1 q.2 q.3
   ]
 
-  garbage_stays : (n : Name) → IsGarbageOf goes_on n → StaysGarbage u now at goes_on n
+  garbage_stays : (n : Name) → IsGarbageOf goes_on n → StaysGarbage u now at' goes_on n
   garbage_stays n q =
       let stays = is.inside.garbage n (was_garbage n q) in
       record {
         member = union_right promoted m.unreclaimed n stays.member;
         dropped = λ live. elim live [ inl r ↦ stays.dropped (live_reachable m holds.follows n r) | inr k ↦ cc ];
-        undone = queues.undecremented.none_done (granule_of (at n));
+        undone = queues.undecremented.none_done (granule_of (at' n));
         references = stays.references;
         referred = λ unstuck.
             let r = stays.referred (false_from_ne_true (has m.stuck n) (λ k. not_both (has now.stuck n) (union_right raised.report.stuck.items m.stuck n k) unstuck)) in
@@ -196,14 +206,14 @@ module _ (found raised queued : Space) (g : AbstractState) (trace : Trace) (hold
     | inr h ↦ (is.inside.referred x n h inside q).1 f
   ]
 
-  stay_inside : MarksStayInside u now at goes_on
+  stay_inside : MarksStayInside u now at' goes_on
   stay_inside = record {
     marks = λ n k marked. elim (union_cases promoted m.unreclaimed n k) [ inl p ↦ inr (younger n p) | inr h ↦ is.inside.marks n h (was_marked n h marked) ];
     grays = gray_inside;
-    dones = λ n k done. not_both (u.dones (granule_of (at n))) done (queues.undecremented.none_done (granule_of (at n)));
+    dones = λ n k done. not_both (u.dones (granule_of (at' n))) done (queues.undecremented.none_done (granule_of (at' n)));
     members = λ n k. elim (union_cases promoted m.unreclaimed n k) [
       | inl p ↦ inr (younger n p, new_marked n p)
-      | inr h ↦ elim (is.inside.members n h) [ inl old ↦ inl old | inr q ↦ inr (q.0, stays_marked n q.1) ]
+      | inr h ↦ elim (is.inside.members n h) [ inl old ↦ inl old | inr q ↦ inr (q.0, stays_marked n h q.1) ]
     ];
     referred = λ x n k inside q. (unreferred x n k inside (was_garbage n q), unreferred x n k inside (was_garbage n q));
     garbage = garbage_stays;
@@ -214,8 +224,8 @@ module _ (found raised queued : Space) (g : AbstractState) (trace : Trace) (hold
   cursor : u.cursors REMEMBERED_CURSOR ≡ t.cursors REMEMBERED_CURSOR
   cursor = queues.keeps.cursors REMEMBERED_CURSOR (λ e. cc) (λ e. cc) ∙ raises.keeps.cursors REMEMBERED_CURSOR (λ e. cc) (λ e. cc)
 
-  states : u.states ≡ t.states
-  states = ap (λ z. z.states) queues.tables ∙ raises.states
+  states : u.states ≡ (tables_of raised).states
+  states = ap (λ z. z.states) queues.tables
 
   limits_raised : raised.limits ≡ found.limits
   limits_raised = ap (λ z. z.limits) raises.space
@@ -223,16 +233,17 @@ module _ (found raised queued : Space) (g : AbstractState) (trace : Trace) (hold
   limits : queued.limits ≡ found.limits
   limits = ap (λ z. z.limits) queues.space ∙ limits_raised
 
-  none_chosen : (n : Name) → IsTrue (has all n) → state_in u (granule_of (at n) / GRANULES_IN_BLOCK) ≢ Chosen
+  none_chosen : (n : Name) → IsTrue (has all n) → state_in u (granule_of (at' n) / GRANULES_IN_BLOCK) ≢ Chosen
   none_chosen n k e =
-      let within = subst (λ l. granule_of (at n) / GRANULES_IN_BLOCK < l.blocks) limits_raised (lies_in_block (tables_of raised) raised.limits.blocks at m.state.graph all raises.raised.image n k) in
-      none_counted t found.limits.blocks (granule_of (at n) / GRANULES_IN_BLOCK) unchosen within (sym (ap (λ f. state_of (f (granule_of (at n) / GRANULES_IN_BLOCK))) states) ∙ e)
+      let b : ℕ = granule_of (at' n) / GRANULES_IN_BLOCK in
+      let within = subst (λ l. b < l.blocks) limits_raised (lies_in_block (tables_of raised) raised.limits.blocks at' m.state.graph all raises.raised.image n k) in
+      still_not t (tables_of raised) b Chosen refl (raises.states b) (none_counted t found.limits.blocks b unchosen within) (sym (ap (λ f. state_of (f b)) states) ∙ e)
 
   -- a trace that goes on may remember more
   more : rememberable trace is.snapshot ≤ rememberable goes_on is.snapshot
   more = omega arith
 
-  remembered : IsRememberedSoFar found.limits u now at goes_on (rememberable goes_on is.snapshot)
+  remembered : IsRememberedSoFar found.limits u now at' goes_on (rememberable goes_on is.snapshot)
   remembered = record {
     fields = λ n v i k scan e bit chosen. absurd (none_chosen v (queues.holds.follows.closed n v k (i, e)) chosen);
     entries = λ k drawn within.
@@ -244,7 +255,7 @@ module _ (found raised queued : Space) (g : AbstractState) (trace : Trace) (hold
   -- at most 2 ^ 22 references are promoted, and at most 2 ^ 20 were stored to
   few_promoted : reference_slots m.state.graph promoted ≤ 2 ^ 22
   few_promoted =
-      let fit = references_fit (tables_of raised) raised.limits.blocks at m.state.graph all raises.raised.image promoted raises.raised.raised.promoted_once (λ x p. union_left promoted m.unreclaimed x p) in
+      let fit = references_fit (tables_of raised) raised.limits.blocks at' m.state.graph all raises.raised.image promoted raises.raised.raised.promoted_once (λ x p. union_left promoted m.unreclaimed x p) in
       let blocks = raises.raised.space.limits.blocks.1 in
       omega (arith, fit, blocks)
 
@@ -259,16 +270,16 @@ module _ (found raised queued : Space) (g : AbstractState) (trace : Trace) (hold
   few : rememberable goes_on is.snapshot ≤ 2 ^ 23 * (now.number + 1)
   few = let before = is.few in let p = few_promoted in let w = few_written in omega (arith, before, p, w)
 
-  holds_on : TraceHolds queued.limits u [] (record g { moment = now }) goes_on
+  holds_on : TraceHolds queued.limits u [] (record g { moment = now; at = at' }) goes_on
   holds_on = record {
     snapshot = is.snapshot;
     reachable = is.reachable;
     covered = snapshot_covered;
     inside = stay_inside;
-    handled = λ x n k done f. not_both (u.dones (granule_of (at x))) done (queues.undecremented.none_done (granule_of (at x)));
-    remembered = subst (λ l. IsRememberedSoFar l u now at goes_on (rememberable goes_on is.snapshot)) (sym limits) remembered;
+    handled = λ x n k done f. not_both (u.dones (granule_of (at' x))) done (queues.undecremented.none_done (granule_of (at' x)));
+    remembered = subst (λ l. IsRememberedSoFar l u now at' goes_on (rememberable goes_on is.snapshot)) (sym limits) remembered;
     few = few;
   }
 
 pub counting_keeps : CountingKeepsTrace
-counting_keeps found raised queued g trace holds runs unchosen older is raises queues = holds_on found raised queued g trace holds runs unchosen older is raises queues
+counting_keeps found raised queued g at' trace holds runs unchosen older is raises queues = holds_on found raised queued g at' trace holds runs unchosen older is raises queues

@@ -1,7 +1,8 @@
 -- All that is gray once increments are done was gray, was referred to by what is reclaimed, or was an old value; so it is marked exactly where
--- nothing was left to trace at the safepoint. A promoted object has a mark of its own, and isn't gray.
+-- nothing was left to trace at the safepoint. A promoted object has a mark of its own, and isn't gray. What is left stands where it did.
 use Rattle.std.proofs.Common.{◌≡◌, ◌≢◌, ℕ, ◌≤◌, refl, sym, ap, subst, ◌∙◌, inl, inr, ◌⊎◌, arith, List, IsTrue}
 use Rattle.std.specs.Prelude.{Some}
+use Rattle.std.proofs.lemmas.Bool.{false_from_ne_true}
 use Rattle.lxr_layout.specs.declared.Name.{Name}
 use Rattle.lxr_graph.specs.Names.{has, without}
 use Rattle.lxr_graph.proofs.NameSets.{not_both, union_left, union_right}
@@ -23,8 +24,8 @@ use Rattle.lxr_pause_trace.proofs.FinishingLemmas.{mark_stays}
 use Rattle.lxr_pause_trace.proofs.GranuleLemmas.{is_placed, one_name}
 use Rattle.lxr_pause_trace.proofs.OldLemmas.{old_live}
 
-module _ (before found raised : Space) (m : Moment) (at : Name → ℕ) (gone : List Name) (trace : Trace) (holds : HoldsMoment before m at) (runs : m.trace ≡ Some trace)
-    (finishes : Finishes before found m at gone) (raises : Raises found raised (leaving m (without m.unreclaimed gone)) at) where
+module _ (before found raised : Space) (m : Moment) (at at' : Name → ℕ) (gone : List Name) (trace : Trace) (holds : HoldsMoment before m at) (runs : m.trace ≡ Some trace)
+    (finishes : Finishes before found m at gone) (raises : Raises found raised (leaving m (without m.unreclaimed gone)) at at') where
   abbrev left : List Name
   left = without m.unreclaimed gone
 
@@ -45,8 +46,8 @@ module _ (before found raised : Space) (m : Moment) (at : Name → ℕ) (gone : 
   finished : GraysReferents t.grays (tables_of found).grays m at gone
   finished = subst (λ o. FinishesGrays o t.grays (tables_of found).grays m at gone) runs finishes.grays
 
-  marks : RaisesMarks (Some trace) (tables_of found).marks u.marks at promoted
-  marks = subst (λ o. RaisesMarks o (tables_of found).marks u.marks at promoted) runs raises.marks
+  marks : RaisesMarks (Some trace) (tables_of found).marks u.marks at' promoted
+  marks = subst (λ o. RaisesMarks o (tables_of found).marks u.marks at' promoted) runs raises.marks
 
   grays : RaisesGrays (Some trace) (tables_of found).grays u.grays before.logged.items
   grays = subst (λ z. RaisesGrays (Some trace) (tables_of found).grays u.grays z.logged.items) finishes.space
@@ -55,15 +56,21 @@ module _ (before found raised : Space) (m : Moment) (at : Name → ℕ) (gone : 
   same_mark : (n : Name) → IsTrue (has left n) → (tables_of found).marks (granule_of (at n)) ≡ t.marks (granule_of (at n))
   same_mark = mark_stays before found m at gone holds finishes
 
-  one : (n o : Name) → IsTrue (has all n) → IsTrue (has all o) → granule_of (at n) ≡ granule_of (at o) → n ≡ o
-  one = one_name u raised.limits.blocks at m.state.graph all raises.raised.image
+  one : (n o : Name) → IsTrue (has all n) → IsTrue (has all o) → granule_of (at' n) ≡ granule_of (at' o) → n ≡ o
+  one = one_name u raised.limits.blocks at' m.state.graph all raises.raised.image
 
-  -- what is left stands apart from what is promoted too, so it is marked where it was
-  new_apart : (n o : Name) → IsTrue (has left n) → IsTrue (has promoted o) → granule_of (at n) ≢ granule_of (at o)
+  -- what is left isn't promoted, so it stands where it did
+  unpromoted : (n : Name) → IsTrue (has left n) → IsTrue (has promoted n) → ⊥
+  unpromoted n k p = not_both (has left n) k (raises.raised.follows.apart n (promoted_made ((raises.raised.raised.promoted_are n).0 p)))
+
+  same_place : (n : Name) → IsTrue (has left n) → at' n ≡ at n
+  same_place n k = raises.copies.others n (false_from_ne_true (has promoted n) (unpromoted n k))
+
+  -- and apart from what is promoted, so it is marked where it was
+  new_apart : (n o : Name) → IsTrue (has left n) → IsTrue (has promoted o) → granule_of (at n) ≢ granule_of (at' o)
   new_apart n o k p e =
-      let same : n ≡ o = one n o (union_right promoted left n k) (union_left promoted left o p) e in
-      let made : IsTrue (has m.made o) = promoted_made ((raises.raised.raised.promoted_are o).0 p) in
-      not_both (has left o) (subst (λ x. IsTrue (has left x)) same k) (raises.raised.follows.apart o made)
+      let same : n ≡ o = one n o (union_right promoted left n k) (union_left promoted left o p) (ap granule_of (same_place n k) ∙ e) in
+      unpromoted o (subst (λ x. IsTrue (has left x)) same k) p
 
   was_marked : (n : Name) → IsTrue (has left n) → IsMarked u at n → IsMarked t at n
   was_marked n k marked = elim ((marks (granule_of (at n))).0 marked) [
@@ -80,7 +87,7 @@ module _ (before found raised : Space) (m : Moment) (at : Name → ℕ) (gone : 
   IsLeftToTrace n = IsGray t at n ⊎ ((x : Name) × IsTrue (has gone x) × Refers m.last.graph x n) ⊎ IsOldValue before.logged.items (at n)
 
   placed : (n : Name) → IsTrue (has left n) → 1 ≤ at n
-  placed n k = is_placed u raised.limits.blocks at m.state.graph all raises.raised.image n (union_right promoted left n k)
+  placed n k = subst (λ p. 1 ≤ p) (same_place n k) (is_placed u raised.limits.blocks at' m.state.graph all raises.raised.image n (union_right promoted left n k))
 
   gray_then : (n : Name) → IsTrue (has left n) → IsLeftToTrace n → IsGray u at n
   gray_then n k (inl is) = (grays (granule_of (at n))).1 (inl ((finished.left n k).1 (inl is)))
@@ -113,5 +120,5 @@ module _ (before found raised : Space) (m : Moment) (at : Name → ℕ) (gone : 
   all_marked nothing k is = elim ((grays k).0 is) [ inl was ↦ gray_marked nothing k was | inr q ↦ old_marked nothing k q.0 q.1 q.2 q.3 ]
 
 pub marks_tell : MarksTellTheEnd
-marks_tell before found raised m at gone trace holds runs finishes raises =
-    (none_left before found raised m at gone trace holds runs finishes raises, all_marked before found raised m at gone trace holds runs finishes raises)
+marks_tell before found raised m at at' gone trace holds runs finishes raises =
+    (none_left before found raised m at at' gone trace holds runs finishes raises, all_marked before found raised m at at' gone trace holds runs finishes raises)

@@ -17,6 +17,7 @@ use Rattle.lxr_model.specs.Reachable.{Reachable, Refers}
 use Rattle.lxr_model.specs.References.{reference_slots}
 use Rattle.lxr_model.specs.Terms.{Terms}
 use Rattle.lxr_model_counting.specs.Garbage.{FollowsTrace, IsGarbageOf}
+use Rattle.lxr_invariant.specs.Copied.{standing}
 use Rattle.lxr_invariant.specs.AbstractState.{AbstractState, leaving}
 use Rattle.lxr_invariant.specs.Counting.{IsUndecremented}
 use Rattle.lxr_invariant.specs.Lines.{NoneChosen}
@@ -70,14 +71,15 @@ with_slots m promoted trace = record trace {
 abbrev pub settled_next : Moment → List Name → List Name → Moment
 settled_next m promoted stuck = record (settled m promoted stuck) { number = m.number + 1 }
 
--- increments, the queue and deferred roots keep a trace, where no block is Chosen: what is promoted is marked, and old values are gray
+-- increments, the queue and deferred roots keep a trace, where no block is Chosen: what is promoted is marked where it stands now, and
+-- old values are gray
 abbrev pub CountingKeepsTrace : Type 0
-CountingKeepsTrace = (found raised queued : Space) (g : AbstractState) (trace : Trace)
+CountingKeepsTrace = (found raised queued : Space) (g : AbstractState) (at' : Name → ℕ) (trace : Trace)
     → HoldsMoment found g.moment g.at → g.moment.trace ≡ Some trace → NoneChosen (tables_of found) found.limits.blocks
     → KeepsObjectsOf trace g.moment → TraceHolds found.limits (tables_of found) found.logged.items g trace
-    → Raises found raised g.moment g.at
-    → Queues raised queued g.moment g.at raised.report.promoted.items raised.report.stuck.items
-    → TraceHolds queued.limits (tables_of queued) [] (at_moment g (settled_next g.moment raised.report.promoted.items raised.report.stuck.items))
+    → Raises found raised g.moment g.at at'
+    → Queues raised queued g.moment at' raised.report.promoted.items raised.report.stuck.items
+    → TraceHolds queued.limits (tables_of queued) [] (at_moment (standing g at') (settled_next g.moment raised.report.promoted.items raised.report.stuck.items))
     (with_slots g.moment raised.report.promoted.items trace)
 
 -- ---- a trace begins
@@ -128,7 +130,7 @@ AllGrayAreMarked t = (k : ℕ) → IsTrue (t.grays k) → IsTrue (t.marks k)
 
 -- so it is exactly where, once increments are done, all that is gray is marked
 abbrev pub MarksTellTheEnd : Type 0
-MarksTellTheEnd = (before found raised : Space) (m : Moment) (at : Name → ℕ) (gone : List Name) (trace : Trace)
+MarksTellTheEnd = (before found raised : Space) (m : Moment) (at at' : Name → ℕ) (gone : List Name) (trace : Trace)
     → HoldsMoment before m at → m.trace ≡ Some trace → Finishes before found m at gone
-    → Raises found raised (leaving m (without m.unreclaimed gone)) at
+    → Raises found raised (leaving m (without m.unreclaimed gone)) at at'
     → AllGrayAreMarked (tables_of raised) ↔ NothingIsLeft (tables_of before) m at before.logged.items gone

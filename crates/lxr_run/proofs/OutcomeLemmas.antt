@@ -8,9 +8,11 @@ use Rattle.lxr_text_script.specs.Reading.{reading_of}
 use Rattle.lxr_text_stream.specs.Streams.{IsAtEnd, Takes}
 use Rattle.lxr_run_watch.specs.Sights.{Sight}
 use Rattle.lxr_model.specs.Belongs.{Script}
+use Rattle.lxr_model.proofs.CollectLemmas.{last_reachable}
 use Rattle.lxr_image.specs.declared.space.Space.{Space}
 use Rattle.lxr_run_words.specs.declared.RunOptions.{RunOptions}
 use Rattle.lxr_run_words.specs.CommandLines.{IsCommandLine}
+use Rattle.lxr_run_history.specs.Run.{script_terms}
 use Rattle.lxr_run_invariant.specs.LoopInvariant.{Task}
 use Rattle.lxr_run_loop.specs.Printed.{IsCutShort, IsPrinted}
 use Rattle.lxr_run.specs.Outcome.{IsCutOff, IsDone, IsRunCommand, WasAsked, WasJudged, judged_part}
@@ -81,6 +83,7 @@ done_by task space written seen printed words left left' asked = record {
   text = printed.text;
   space_left = printed.space_left;
   sights = printed.sights;
+  reachable = last_reachable (script_terms task.options task.script) task.script printed.history (λ e. cc) printed.run.legal printed.run.belongs;
 }
 
 -- one that was cut off

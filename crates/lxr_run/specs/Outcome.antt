@@ -1,9 +1,13 @@
 -- What a caller is promised of each way in which a run ends.
-use Rattle.std.specs.Prelude.{ℕ, ◌+◌, ◌⊎◌, Option, List, IfSome, length, take}
+use Rattle.std.specs.Prelude.{ℕ, ◌+◌, ◌⊎◌, ◌↔◌, Option, List, IfSome, IsTrue, length, take}
+use Rattle.lxr_layout.specs.declared.Name.{Name}
 use Rattle.lxr_text_script.specs.Limits.{most_bytes}
 use Rattle.lxr_graph.specs.History.{Item}
+use Rattle.lxr_graph.specs.Names.{has}
 use Rattle.lxr_text_stream.specs.Streams.{Appends, AppendsFront, IsAtEnd}
 use Rattle.lxr_model.specs.Belongs.{IsHistorySoFar, Script}
+use Rattle.lxr_model.specs.Moments.{moment}
+use Rattle.lxr_model.specs.Reachable.{Reachable}
 use Rattle.lxr_run_watch.specs.Sights.{Sight}
 use Rattle.lxr_run_history.specs.Left.{IsLeftBy}
 use Rattle.lxr_run_history.specs.Run.{IsHistoryOf, history_text, reports_text, script_terms}
@@ -51,7 +55,7 @@ pub record WasAsked (words : List (List ℕ)) (left left' : Option (List ℕ)) (
   pub read : IsAtEnd left'
 
 -- A run that is done: the text of one history of the script was written, the space is left by it, and the watch has
--- seen its pauses.
+-- seen its pauses. What is left unreclaimed is exactly what can be reached.
 pub record IsDone (words : List (List ℕ)) (left left' written written' : Option (List ℕ)) (seen seen' : Option (List Sight)) (space : Space) : Type 0 where
   pub options : RunOptions
   pub script : Script
@@ -61,6 +65,7 @@ pub record IsDone (words : List (List ℕ)) (left left' written written' : Optio
   pub text : Appends written written' (history_text options.counts (length script) history)
   pub space_left : IsLeftBy options (length script) history space
   pub sights : Sees (length script) history seen seen'
+  pub reachable : (n : Name) → IsTrue (has (moment (length script) history).unreclaimed n) ↔ Reachable (moment (length script) history).state n
 
 -- A run that was cut off at a report: a front of the reports of a history so far was written, and the space is left by it.
 pub record IsCutOffEarly (words : List (List ℕ)) (left left' written written' : Option (List ℕ)) (space : Space) : Type 0 where

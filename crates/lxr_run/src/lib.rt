@@ -23,6 +23,7 @@ use lxr_image::Space;
 use lxr_run_loop::{open, run_and_print};
 pub use lxr_run_pause::{Ask, Pace, one_pause};
 pub use lxr_run_replay::{Gate, Open, replay_epoch};
+pub use lxr_run_serve::{Served, serve_waiting};
 pub use lxr_run_watch::{Seen, Unseen, Watch};
 use lxr_run_words::read_options;
 use lxr_text_script::MOST_BYTES;

@@ -1,6 +1,6 @@
 -- How the history of a run grows: by the calls of an epoch, by the call of a `new` that waited, by a pause that has a
 -- cause, and by its end.
-use Rattle.std.proofs.Common.{◌≡◌, ℕ, suc, ◌<◌, ◌≤◌, refl, sym, ap, subst, ◌∙◌, arith, Bool, true, false, List, [], ◌∷◌, ◌++◌, length, drop, nat_eq}
+use Rattle.std.proofs.Common.{◌≡◌, ℕ, suc, ◌<◌, ◌≤◌, refl, sym, ap, subst, ◌∙◌, inr, arith, Bool, true, false, List, [], ◌∷◌, ◌++◌, length, drop, nat_eq}
 use Rattle.std.specs.Prelude.{Some, slice_get, if◌then◌else◌}
 use Rattle.std.proofs.lemmas.List.{take-append-drop}
 use Rattle.std.proofs.lemmas.Bool.{eq-eqb}
@@ -12,8 +12,9 @@ use Rattle.lxr_graph.specs.declared.Reply.TheVariants as reply
 use Rattle.lxr_graph.specs.History.{Item, Call, Pause, PauseReport, calls_of}
 use Rattle.lxr_graph.specs.Step.{IsReply, IsWellFormed}
 use Rattle.lxr_model.specs.Moments.{moment}
-use Rattle.lxr_model.specs.Kinds.{MayStand, ends}
-use Rattle.lxr_model.specs.Legal.{IsLegalSoFar, IsPause, KeepsPromise, Replies, StandsForWaiting}
+use Rattle.lxr_model.specs.Kinds.{ends}
+use Rattle.lxr_model.specs.Legal.{IsLegalSoFar, IsPause, KeepsPromise, OwesNoCall, Replies}
+use Rattle.lxr_model.specs.Terms.{Terms}
 use Rattle.lxr_model.specs.Belongs.{AskedPausesComeFirst, CallsBeginOperations, EarlierPausesWereEarly, HasCause, IsHistorySoFar, LastPauseWasEarly, PausesHaveCauses, Script, TurnsAreShort, calls_since_pause, has_asked, next_operation, operations_of}
 use Rattle.lxr_core_events.specs.EpochStates.{Extends, same, called}
 use Rattle.lxr_run_words.specs.declared.RunOptions.{RunOptions}
@@ -22,15 +23,16 @@ use Rattle.lxr_run_history.specs.Run.{IsHistoryOf, run_terms, script_terms}
 
 -- ---- promises
 
--- where pauses collect only as they are asked to, none stands for a waiting `new`
-waits_not : (options : RunOptions) (threads : ℕ) (h : List Item) (report : PauseReport) → IsPause (run_terms options threads) h report → StandsForWaiting (run_terms options threads) h report → ⊥
-waits_not options threads h report pause (collects, unasked) = unasked (subst (MayStand (run_terms options threads) h (moment threads h) report.number) collects pause.stands)
+-- where no pause stands at the end for a `new` that is still to come, anything may come
+pub promise_kept : (terms : Terms) (h : List Item) (x : Item) → OwesNoCall terms h → KeepsPromise terms h x
+promise_kept terms [] x none = tt
+promise_kept terms (Call t o r ∷ h) x none = tt
+promise_kept terms (Pause report ∷ h) x none = λ waiting. absurd (none waiting)
 
--- so no pause promises anything
-promise_kept : (options : RunOptions) (threads : ℕ) (h : List Item) (x : Item) → IsLegalSoFar (run_terms options threads) h → KeepsPromise (run_terms options threads) h x
-promise_kept options threads [] x legal = tt
-promise_kept options threads (Call t o r ∷ h) x legal = tt
-promise_kept options threads (Pause report ∷ h) x legal = λ waiting. absurd (waits_not options threads h report legal.2 waiting)
+-- so it is behind the calls of an epoch
+pub owes_extends : (terms : Terms) (threads every : ℕ) (h k : List Item) → Extends threads every h k → OwesNoCall terms h → OwesNoCall terms k
+owes_extends terms threads every h k (same) none = none
+owes_extends terms threads every h k (called l t o r before is) none = tt
 
 -- ---- the calls of an epoch
 
@@ -45,11 +47,13 @@ pub since_call : (t : ℕ) (o : Op) (r : Reply) (h : List Item) → calls_since_
 since_call t o r h = ap (λ b. if b then suc (calls_since_pause t h) else calls_since_pause t h) (eq-eqb t t refl)
 
 -- the calls of an epoch are legal
-pub legal_extends : (options : RunOptions) (threads every : ℕ) (h k : List Item) → Extends threads every h k → IsLegalSoFar (run_terms options threads) h → IsLegalSoFar (run_terms options threads) k
-legal_extends options threads every h k (same) legal = legal
-legal_extends options threads every h k (called l t o r before is) legal =
-    let was = legal_extends options threads every h l before legal in
-    (was, promise_kept options threads l (Call t o r) was, record { thread = is.thread; operation = is.formed; reply = replies_in options threads l t o r is.reply })
+pub legal_extends : (options : RunOptions) (threads every : ℕ) (h k : List Item) → Extends threads every h k → IsLegalSoFar (run_terms options threads) h → OwesNoCall (run_terms options threads) h
+    → IsLegalSoFar (run_terms options threads) k
+legal_extends options threads every h k (same) legal none = legal
+legal_extends options threads every h k (called l t o r before is) legal none =
+    let was = legal_extends options threads every h l before legal none in
+    let owes = owes_extends (run_terms options threads) threads every h l before none in
+    (was, promise_kept (run_terms options threads) l (Call t o r) owes, record { thread = is.thread; operation = is.formed; reply = replies_in options threads l t o r is.reply })
 
 -- none stands where its thread waits for a pause that it asked for
 pub asked_extends : (threads every : ℕ) (h k : List Item) → Extends threads every h k → AskedPausesComeFirst h → AskedPausesComeFirst k
@@ -87,10 +91,10 @@ calls_begin options script h begun = λ t low high.
     (drop n (operations_of script t), ap (λ z. z ++ drop n (operations_of script t)) calls ∙ take-append-drop n (operations_of script t))
 
 -- after an epoch it is a history so far
-pub history_extends : (options : RunOptions) (script : Script) (h k : List Item) → IsHistorySoFar (script_terms options script) script h → Extends (length script) options.every h k → CallsBeginScript script k
-    → IsHistorySoFar (script_terms options script) script k
-history_extends options script h k (legal, belongs) extends begun = (
-  legal_extends options (length script) options.every h k extends legal,
+pub history_extends : (options : RunOptions) (script : Script) (h k : List Item) → IsHistorySoFar (script_terms options script) script h → OwesNoCall (script_terms options script) h
+    → Extends (length script) options.every h k → CallsBeginScript script k → IsHistorySoFar (script_terms options script) script k
+history_extends options script h k (legal, belongs) none extends begun = (
+  legal_extends options (length script) options.every h k extends legal none,
   record {
     calls = calls_begin options script k begun;
     asked = asked_extends (length script) options.every h k extends belongs.asked;
@@ -107,6 +111,7 @@ pub record MayBeCalled (options : RunOptions) (script : Script) (h : List Item) 
   pub thread : (1 ≤ t) × (t ≤ length script)
   pub formed : IsWellFormed o
   pub replies : Replies (script_terms options script) h t o r
+  pub promise : KeepsPromise (script_terms options script) h (Call t o r)
   pub next : next_operation script t h ≡ Some o
   pub unasked : has_asked t h ≡ false
   pub turn : calls_since_pause t h ≤ options.every
@@ -143,7 +148,7 @@ calls_with options script h t o r calls next = λ u low high.
 pub history_with_call : (options : RunOptions) (script : Script) (h : List Item) (t : ℕ) (o : Op) (r : Reply) → IsHistorySoFar (script_terms options script) script h
     → MayBeCalled options script h t o r → IsHistorySoFar (script_terms options script) script (Call t o r ∷ h)
 history_with_call options script h t o r (legal, belongs) may = (
-  (legal, promise_kept options (length script) h (Call t o r) legal, record { thread = may.thread; operation = may.formed; reply = may.replies }),
+  (legal, may.promise, record { thread = may.thread; operation = may.formed; reply = may.replies }),
   record {
     calls = calls_with options script h t o r belongs.calls may.next;
     asked = (belongs.asked, may.unasked);
@@ -157,10 +162,10 @@ history_with_call options script h t o r (legal, belongs) may = (
 
 -- so it is with a pause that has a cause and may stand there, where at the last one not all threads had ended
 pub history_with_pause : (options : RunOptions) (script : Script) (h : List Item) (report : PauseReport) → IsHistorySoFar (script_terms options script) script h
-    → IsPause (script_terms options script) h report → HasCause (script_terms options script) script h
+    → OwesNoCall (script_terms options script) h → IsPause (script_terms options script) h report → HasCause (script_terms options script) script h
     → LastPauseWasEarly (script_terms options script) h → IsHistorySoFar (script_terms options script) script (Pause report ∷ h)
-history_with_pause options script h report (legal, belongs) pause cause early = (
-  (legal, promise_kept options (length script) h (Pause report) legal, pause),
+history_with_pause options script h report (legal, belongs) none pause cause early = (
+  (legal, promise_kept (script_terms options script) h (Pause report) none, pause),
   record { calls = belongs.calls; asked = belongs.asked; turns = belongs.turns; causes = (belongs.causes, cause); early = early },
 )
 
@@ -177,7 +182,7 @@ was_early options script (Call t o r ∷ h) more = was_early options script h mo
 pub history_whole : (options : RunOptions) (script : Script) (h : List Item) (report : PauseReport) → IsHistorySoFar (script_terms options script) script (Pause report ∷ h)
     → HasEnded options script h → IsHistoryOf options script (Pause report ∷ h)
 history_whole options script h report (legal, belongs) whole = record {
-  legal = (legal, waits_not options (length script) h report legal.2);
+  legal = (legal, λ waiting. waiting.1 (inr whole.ended));
   belongs = record {
     calls = whole.calls;
     asked = belongs.asked;

@@ -1,26 +1,31 @@
--- What a history says where no room is left for a `new` that waits: right after a pause it may be refused, and else a
--- pause has a cause.
-use Rattle.std.proofs.Common.{◌≡◌, ℕ, ◌+◌, ◌≤◌, refl, sym, ap, subst, ◌∙◌, inl, inr, arith, List, [], ◌∷◌, length}
+-- What a history says where no room is left for a `new` that waits: right after a collecting pause it may be refused; else a pause has
+-- a cause, and may collect for it.
+use Rattle.std.proofs.Common.{◌≡◌, ◌≢◌, ℕ, ◌+◌, ◌-◌, ◌/◌, ◌≤◌, ◌↔◌, refl, sym, ap, subst, ◌∙◌, inl, inr, arith, List, [], ◌∷◌, length}
 use Rattle.std.specs.Prelude.{Some, IsTrue}
+use Rattle.lxr_layout.specs.declared.Name.{Name}
 use Rattle.lxr_layout.specs.declared.Shape.{Shape}
 use Rattle.lxr_layout.specs.Objects.{FitsShape, line_count}
-use Rattle.lxr_graph.specs.Names.{without}
+use Rattle.lxr_graph.specs.Names.{IsSetOf, has, union, without}
 use Rattle.lxr_graph.specs.State.{world_name}
 use Rattle.lxr_graph.specs.declared.Op.TheVariants as op
+use Rattle.lxr_graph.specs.declared.Reply.{Reply}
 use Rattle.lxr_graph.specs.declared.Reply.TheVariants as reply
+use Rattle.lxr_graph.specs.declared.report.Kind.TheVariants as kind
 use Rattle.lxr_graph.specs.History.{Item, Call, Pause, PauseReport}
 use Rattle.lxr_image.specs.declared.space.Space.{Space}
 use Rattle.lxr_image.specs.Spaces.{tables_of}
 use Rattle.lxr_blocks.specs.Placing.{IsFull}
 use Rattle.lxr_model.specs.Moments.{Moment, moment}
-use Rattle.lxr_model.specs.Full.{IsRightAfterPause, LeaveNoRun}
-use Rattle.lxr_model.specs.Legal.{IsLegalSoFar, Replies}
+use Rattle.lxr_model.specs.Full.{IsRightAfterPause, LeaveNoRun, slots_in, slots_taken}
+use Rattle.lxr_model.specs.Reachable.{Reachable}
+use Rattle.lxr_model.specs.Legal.{IsLegalSoFar, IsWaitedFor, Replies}
 use Rattle.lxr_model.specs.Belongs.{HasCause, Script, is_new, next_operation}
 use Rattle.lxr_invariant.specs.AbstractState.{AbstractState}
 use Rattle.lxr_invariant.specs.Lines.{NoneChosen}
 use Rattle.lxr_invariant.specs.Quiescent.{IsQuiescent}
 use Rattle.lxr_full.specs.Room.{HasWorld}
-use Rattle.lxr_full.proofs.RoomLemmas.{paused_full_leaves_no_run, roomless_blocks_are_taken}
+use Rattle.lxr_model.proofs.CollectLemmas.{refused_keep}
+use Rattle.lxr_full.proofs.RoomLemmas.{collected_full_leaves_no_run, roomless_blocks_are_taken, waiting_may_collect}
 use Rattle.lxr_full.proofs.WorldLemmas.{world_keeps_shape}
 use Rattle.lxr_run_words.specs.declared.RunOptions.{RunOptions}
 use Rattle.lxr_run_history.specs.Run.{script_terms}
@@ -32,19 +37,32 @@ none_made threads P (Pause report ∷ h) after = refl
 none_made threads P (Call t (op.New dest shape) reply.Full ∷ h) after = none_made threads P h after
 none_made threads P (Call t o r ∷ h) after = absurd after
 
--- a `new` that finds no room then may be refused
+-- a `new` that finds no room right after a collecting pause may be refused
 pub may_be_refused : (options : RunOptions) (script : Script) (h : List Item) (s : Space) (g : AbstractState) (t dest : ℕ) (shape : Shape) → IsLegalSoFar (script_terms options script) h
-    → IsRightAfterPause (λ report. Unit {0}) h → IsQuiescent s g → g.moment ≡ moment (length script) h → NoneChosen (tables_of s) s.limits.blocks → s.limits.blocks ≡ options.blocks → IsFull s shape
+    → IsRightAfterPause (λ report. report.kind ≡ kind.Collect) h → IsQuiescent s g → g.moment ≡ moment (length script) h → NoneChosen (tables_of s) s.limits.blocks → s.limits.blocks ≡ options.blocks → IsFull s shape
     → Replies (script_terms options script) h t (op.New dest shape) reply.Full
 may_be_refused options script h s g t dest shape legal after between is unchosen blocks full =
     let world : HasWorld (moment (length script) h).state.graph = world_keeps_shape (script_terms options script) h legal in
-    let none : LeaveNoRun g.moment.state.graph (without g.moment.unreclaimed (world_name ∷ [])) s.limits.blocks (line_count shape) =
-    paused_full_leaves_no_run s g shape between (ap (λ (m : Moment). m.made) is ∙ none_made (length script) (λ report. Unit {0}) h after) unchosen
+    let reached : (n : Name) → IsTrue (has (moment (length script) h).unreclaimed n) ↔ Reachable (moment (length script) h).state n = refused_keep (script_terms options script) h legal after in
+    let (ns, set, none) = collected_full_leaves_no_run s g shape between (ap (λ (m : Moment). m.made) is ∙ none_made (length script) (λ report. report.kind ≡ kind.Collect) h after) unchosen
+    (subst (λ (m : Moment). (n : Name) → IsTrue (has m.unreclaimed n) ↔ Reachable m.state n) (sym is) reached)
     (subst (λ (m : Moment). HasWorld m.state.graph) (sym is) world) full in (
       after,
-      subst (λ (m : Moment). LeaveNoRun m.state.graph (without m.unreclaimed (world_name ∷ [])) options.blocks (line_count shape)) is
-          (subst (λ b. LeaveNoRun g.moment.state.graph (without g.moment.unreclaimed (world_name ∷ [])) b (line_count shape)) blocks none),
+      ns,
+      subst (λ (m : Moment). IsSetOf ns (λ o. Reachable m.state o × (o ≢ world_name))) is set,
+      subst (λ (m : Moment). LeaveNoRun m.state.graph ns options.blocks (line_count shape)) is
+          (subst (λ b. LeaveNoRun g.moment.state.graph ns b (line_count shape)) blocks none),
     )
+
+-- for one that finds none a collecting pause may stand, behind which it comes
+pub is_waited_for : (options : RunOptions) (script : Script) (h : List Item) (s : Space) (g : AbstractState) (t dest : ℕ) (shape : Shape) (r : Reply) → IsLegalSoFar (script_terms options script) h
+    → IsQuiescent s g → g.moment ≡ moment (length script) h → s.limits.blocks ≡ options.blocks → FitsShape shape → IsFull s shape → IsWaitedFor (script_terms options script) h (Call t (op.New dest shape) r)
+is_waited_for options script h s g t dest shape r legal between is blocks fits full =
+    let world : HasWorld (moment (length script) h).state.graph = world_keeps_shape (script_terms options script) h legal in
+    let taken : slots_in (line_count shape) (s.limits.blocks - 1 - s.limits.blocks / 8) ≤ slots_taken g.moment.state.graph (line_count shape) (without (union g.moment.made g.moment.unreclaimed) (world_name ∷ [])) =
+    waiting_may_collect s g shape between (subst (λ (m : Moment). HasWorld m.state.graph) (sym is) world) fits full in
+    subst (λ (m : Moment). slots_in (line_count shape) (options.blocks - 1 - options.blocks / 8) ≤ slots_taken m.state.graph (line_count shape) (without (union m.made m.unreclaimed) (world_name ∷ []))) is
+    (subst (λ b. slots_in (line_count shape) (b - 1 - b / 8) ≤ slots_taken g.moment.state.graph (line_count shape) (without (union g.moment.made g.moment.unreclaimed) (world_name ∷ []))) blocks taken)
 
 -- and one that finds none is a cause of a pause
 pub room_cause : (options : RunOptions) (script : Script) (h : List Item) (s : Space) (g : AbstractState) (t dest : ℕ) (shape : Shape) → 1 ≤ t → t ≤ length script

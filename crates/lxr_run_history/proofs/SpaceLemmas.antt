@@ -1,8 +1,8 @@
--- What holds of a space between epochs and at a safepoint before a pause doesn't read its tally.
+-- What holds of a space at a safepoint before a pause doesn't read its tally.
 use Rattle.lxr_image.specs.declared.space.Space.{Space}
 use Rattle.lxr_image.specs.declared.space.Tally.{Tally}
 use Rattle.lxr_invariant.specs.AbstractState.{AbstractState}
-use Rattle.lxr_invariant.specs.Quiescent.{IsAtSafepoint, IsQuiescent}
+use Rattle.lxr_invariant.specs.Quiescent.{IsAtSafepoint}
 use Rattle.lxr_invariant.proofs.ToldLemmas.{holds_told}
 
 -- a safepoint stays one whatever the tally
@@ -11,15 +11,4 @@ safepoint_tallied s g tally safepoint = record {
   holds = holds_told s g.moment g.at s.report tally s.pauses safepoint.holds.room.report safepoint.holds;
   numbers = record { pauses = safepoint.numbers.pauses; trace = safepoint.numbers.trace; report = safepoint.numbers.report };
   traced = safepoint.traced;
-}
-
--- so does what holds between epochs
-pub quiescent_tallied : (s : Space) (g : AbstractState) (tally : Tally) → IsQuiescent s g → IsQuiescent (record s { tally = tally }) g
-quiescent_tallied s g tally between = record {
-  safepoint = safepoint_tallied s g tally between.safepoint;
-  unwritten = between.unwritten;
-  undecremented = between.undecremented;
-  lines = between.lines;
-  outs = between.outs;
-  states = between.states;
 }

@@ -3,7 +3,7 @@ use Rattle.std.specs.Prelude.{◌≡◌, ℕ, ◌≤◌, List, ◌∷◌, length
 use Rattle.lxr_graph.specs.History.{Item, Pause, PauseReport, calls_of}
 use Rattle.lxr_model.specs.Belongs.{HasCause, IsHistorySoFar, LastPauseWasEarly, Script, operations_of}
 use Rattle.lxr_model.specs.Kinds.{ends}
-use Rattle.lxr_model.specs.Legal.{IsPause}
+use Rattle.lxr_model.specs.Legal.{IsPause, OwesNoCall}
 use Rattle.lxr_core_events.specs.EpochStates.{Extends}
 use Rattle.lxr_run_words.specs.declared.RunOptions.{RunOptions}
 use Rattle.lxr_run_history.specs.Run.{IsHistoryOf, script_terms}
@@ -12,15 +12,16 @@ use Rattle.lxr_run_history.specs.Run.{IsHistoryOf, script_terms}
 abbrev pub CallsBeginScript : Script → List Item → Type 0
 CallsBeginScript script h = (t : ℕ) → 1 ≤ t → t ≤ length script → (n : ℕ) × (calls_of t h ≡ take n (operations_of script t))
 
--- the calls of an epoch lead from a history so far to one
+-- The calls of an epoch lead from a history so far to one, where no pause stands at its end for a `new` that is still to come.
 abbrev pub EpochsKeepHistories : Type 0
-EpochsKeepHistories = (options : RunOptions) (script : Script) (h k : List Item) → IsHistorySoFar (script_terms options script) script h → Extends (length script) options.every h k → CallsBeginScript script k
+EpochsKeepHistories = (options : RunOptions) (script : Script) (h k : List Item) → IsHistorySoFar (script_terms options script) script h → OwesNoCall (script_terms options script) h
+    → Extends (length script) options.every h k → CallsBeginScript script k
     → IsHistorySoFar (script_terms options script) script k
 
 -- so does a pause that has a cause and is of a kind that may stand there, where at the last one not all threads had ended
 abbrev pub PausesKeepHistories : Type 0
 PausesKeepHistories = (options : RunOptions) (script : Script) (h : List Item) (report : PauseReport) → IsHistorySoFar (script_terms options script) script h
-    → IsPause (script_terms options script) h report → HasCause (script_terms options script) script h
+    → OwesNoCall (script_terms options script) h → IsPause (script_terms options script) h report → HasCause (script_terms options script) script h
     → LastPauseWasEarly (script_terms options script) h → IsHistorySoFar (script_terms options script) script (Pause report ∷ h)
 
 -- all threads have done all their operations and their ends

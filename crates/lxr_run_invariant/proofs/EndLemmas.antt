@@ -6,6 +6,7 @@ use Rattle.lxr_graph.specs.History.{Item, Pause, PauseReport, calls_of, replies_
 use Rattle.lxr_image.specs.declared.space.Space.{Space}
 use Rattle.lxr_invariant.specs.AbstractState.{AbstractState}
 use Rattle.lxr_run_watch.specs.Sights.{Sight}
+use Rattle.lxr_run_pause.specs.declared.Ask.{Ask}
 use Rattle.lxr_text_print.specs.Replies.{ArePrintable, replies_text, thread_text}
 use Rattle.lxr_mutator.specs.Mutating.{Mutating}
 use Rattle.lxr_core_events.specs.ThreadStates.{all_of}
@@ -20,9 +21,9 @@ use Rattle.lxr_run_invariant.proofs.ActorLemmas.{as_many, ends_are_all, none_end
 use Rattle.lxr_run_invariant.proofs.PauseLemmas.{actors_paused}
 
 -- the pause behind the epoch in which the last thread ended is the last
-pub run_to : (task : Task) (safepoint space : Space) (written written' : Option (List ℕ)) (seen seen' : Option (List Sight)) (before actors : List AnyActor) (h : List Item) (g m : AbstractState) (report : PauseReport)
-    → HasRunEpoch task safepoint written seen before actors h g → HaveEnded (mutators_in actors) → HasPaused task space written' seen' h report m → HasRunTo task space written' seen' actors (Pause report ∷ h)
-run_to task safepoint space written written' seen seen' before actors h g m report ran ended paused = record {
+pub run_to : (task : Task) (safepoint space : Space) (written written' : Option (List ℕ)) (seen seen' : Option (List Sight)) (before actors : List AnyActor) (h : List Item) (g m : AbstractState) (asked : Ask) (report : PauseReport)
+    → HasRunEpoch task safepoint written seen before actors h g → HaveEnded (mutators_in actors) → HasPaused task space written' seen' h asked report m → HasRunTo task space written' seen' actors (Pause report ∷ h)
+run_to task safepoint space written written' seen seen' before actors h g m asked report ran ended paused = record {
   history = history_whole task.options task.script h report paused.come.history (record {
     calls = threads_are_done task h (mutators_in actors) ran.come.history.0 ran.actors_rest.mutators ended;
     ended = ends_are_all task h (mutators_in actors) ran.come.history.0 ran.actors_rest.mutators ended;
@@ -34,8 +35,8 @@ run_to task safepoint space written written' seen seen' before actors h g m repo
 }
 
 pub runs_end : RunsEnd
-runs_end task safepoint space written written' seen seen' before actors h g ran ended (report, m, paused) =
-    (Pause report ∷ h, run_to task safepoint space written written' seen seen' before actors h g m report ran ended paused)
+runs_end task safepoint space written written' seen seen' before actors h g asked ran ended (report, m, paused) =
+    (Pause report ∷ h, run_to task safepoint space written written' seen seen' before actors h g m asked report ran ended paused)
 
 -- ---- the text of the replies
 

@@ -33,7 +33,7 @@ use Rattle.lxr_core.proofs.ClosingLemmas.{given_script}
 use Rattle.lxr_run_history.specs.Left.{last_report}
 use Rattle.lxr_run_history.specs.Run.{reports_text}
 use Rattle.lxr_run_history.specs.Tally.{counted, tally_of}
-use Rattle.lxr_run_history.proofs.HistoryLemmas.{early_extends, history_extends, was_early}
+use Rattle.lxr_run_history.proofs.HistoryLemmas.{early_extends, history_extends, owes_extends, was_early}
 use Rattle.lxr_run_history.proofs.SightLemmas.{sees_epoch}
 use Rattle.lxr_run_history.proofs.TallyLemmas.{loads_are, news_are, stores_are}
 use Rattle.lxr_run_history.proofs.ThreadSums.{counted_in, one}
@@ -189,7 +189,7 @@ module _ (task : Task) (space mid after : Space) (written : Option (List ℕ)) (
 
   -- the history is one so far
   history : IsHistorySoFar (terms_of task) task.script execution.history
-  history = history_extends task.options task.script h execution.history amid.come.history extends (has_begun task execution.history (mutators_in actors) have.mutators)
+  history = history_extends task.options task.script h execution.history amid.come.history amid.owes_none extends (has_begun task execution.history (mutators_in actors) have.mutators)
 
   same_limits : after.limits ≡ space.limits
   same_limits = ap (λ (s : Space). s.limits) closes.rest ∙ ap (λ (s : Space). s.limits) mid_is
@@ -244,12 +244,13 @@ module _ (task : Task) (space mid after : Space) (written : Option (List ℕ)) (
     come = come;
     actors_rest = have;
     news = closes.news;
-    due = (
-      subst (λ s. HasCause (terms_of task) s execution.history) have.mutators.script
-          (closes.cause finished (terms_of task) (record { threads = sym threads; blocks = ap (λ (l : Limits). l.blocks) (sym limits); log = ap (λ (l : Limits). l.log) (sym limits); every = refl }) amid.come.history.0),
-      early_extends task.options task.script task.options.every h execution.history extends
-          (was_early task.options task.script h (ends_are_fewer task h (mutators_in before) amid.come.history.0 amid.actors_rest.mutators amid.more)),
-    );
+    due = record {
+      cause = subst (λ s. HasCause (terms_of task) s execution.history) have.mutators.script
+          (closes.cause finished (terms_of task) (record { threads = sym threads; blocks = ap (λ (l : Limits). l.blocks) (sym limits); log = ap (λ (l : Limits). l.log) (sym limits); every = refl }) amid.come.history.0);
+      early = early_extends task.options task.script task.options.every h execution.history extends
+          (was_early task.options task.script h (ends_are_fewer task h (mutators_in before) amid.come.history.0 amid.actors_rest.mutators amid.more));
+      owes_none = owes_extends (terms_of task) (threads_of task) task.options.every h execution.history extends amid.owes_none;
+    };
     collects = closes.collects (unasked_uncalled h amid.served.unasked);
     progress = progress (closes.progress finished amid.served.unasked);
     grows = let more = grown in let longer = length_extends (threads_of task) task.options.every h execution.history extends in omega arith;

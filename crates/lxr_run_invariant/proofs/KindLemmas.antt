@@ -1,5 +1,5 @@
--- Which kind a pause of a run has: it collects exactly where it must, and else traces begin and end as the options ask.
-use Rattle.std.proofs.Common.{◌≡◌, ◌≢◌, ℕ, ◌+◌, ◌%◌, ◌<◌, ◌↔◌, refl, sym, ap, subst, ◌∙◌, inl, inr, arith, Bool, true, false, ◌&&◌, ◌||◌, List, [], ◌∷◌, nat_eq}
+-- Which kind a pause of a run has: it collects exactly where it is asked to, and else traces begin and end as the options ask.
+use Rattle.std.proofs.Common.{◌≡◌, ◌≢◌, ℕ, ◌+◌, ◌%◌, ◌<◌, ◌⊎◌, ◌↔◌, refl, sym, ap, subst, ◌∙◌, inl, inr, arith, Bool, true, false, ◌&&◌, ◌||◌, List, [], ◌∷◌, nat_eq}
 use Rattle.std.specs.Prelude.{Option, Some, None, nat_le, if◌then◌else◌}
 use Rattle.std.proofs.lemmas.Bool.{eq-eqb}
 use Rattle.std.proofs.lemmas.Bool.Decides.{nat_tests}
@@ -7,9 +7,9 @@ use Rattle.lxr_graph.specs.declared.Op.TheVariants as op
 use Rattle.lxr_graph.specs.declared.report.Kind.TheVariants as kind
 use Rattle.lxr_graph.specs.History.{Item, Call, Pause}
 use Rattle.lxr_model.specs.Belongs.{asks_for_pause, has_asked}
-use Rattle.lxr_model.specs.Kinds.{IsRunning, MayCollect, MayStand, MustCollect, NeedsNoTrace, collect_called, ends}
+use Rattle.lxr_model.specs.Kinds.{IsRunning, MayCollect, MayStand, MustCollect, NeedsNoTrace, OnlyNewsSincePause, collect_called, ends}
 use Rattle.lxr_model.specs.Moments.{Moment, Trace}
-use Rattle.lxr_model.specs.Terms.{Terms, CollectsWhereAsked, OnlyPlain}
+use Rattle.lxr_model.specs.Terms.{Terms, CollectsForWaiting, OnlyPlain}
 use Rattle.lxr_run_pause.specs.declared.Ask.{Ask}
 use Rattle.lxr_run_pause.specs.declared.Ask.TheVariants as ask
 use Rattle.lxr_run_pause.specs.declared.Pace.{Pace}
@@ -46,16 +46,30 @@ asked_right terms h false false all more is = (λ e. absurd (cc), λ must. absur
     none (inl called) = let both : true ≡ false = sym called ∙ is in cc
     none (inr ended) = let few = more refl in absurd (omega arith)
 
--- one that comes where neither is so is an ordinary one
-pub ordinary_right : (terms : Terms) (h : List Item) → collect_called h ≡ false → ends h < terms.threads → (ask.Ordinary ≡ ask.Collect) ↔ MustCollect terms h
-ordinary_right terms h uncalled more = asked_right terms h false false (λ e. absurd (cc)) (λ e. more) uncalled
+-- none must where nobody has called `collect` and not all have ended
+pub must_not : (terms : Terms) (h : List Item) → collect_called h ≡ false → ends h < terms.threads → ¬ MustCollect terms h
+must_not terms h uncalled more must = let e = (asked_right terms h false false (λ e. absurd (cc)) (λ e. more) uncalled).1 must in cc
 
 -- ---- the kind
 
-module _ (terms : Terms) (h : List Item) (m : Moment) (k : ℕ) (pace : Pace) (traced : Bool) (kinds : terms.kinds ≡ CollectsWhereAsked) (trace : pace.trace ≡ terms.trace) (within : pace.within ≡ terms.within) where
+-- a pause collects exactly where it is asked to
+pub kind_collects : (asked : Ask) (pace : Pace) (k : ℕ) (o : Option Trace) (traced : Bool) → (kind_of asked pace k o traced ≡ kind.Collect) ↔ (asked ≡ ask.Collect)
+kind_collects ask.Collect pace k o traced = (λ e. refl, λ e. refl)
+kind_collects ask.Ordinary pace k None traced = (λ e. absurd (apart (nat_eq (k % pace.trace) 0) e), λ e. cc)
+  where
+    apart : (b : Bool) → (if b then kind.Begin else kind.Plain) ≡ kind.Collect → ⊥
+    apart true e = cc
+    apart false e = cc
+kind_collects ask.Ordinary pace k (Some t) traced = (λ e. absurd (along (traced || nat_le (t.began + pace.within) k) e), λ e. cc)
+  where
+    along : (b : Bool) → (if b then kind.End t.began else kind.Plain) ≡ kind.Collect → ⊥
+    along true e = cc
+    along false e = cc
+
+module _ (terms : Terms) (h : List Item) (m : Moment) (k : ℕ) (pace : Pace) (traced : Bool) (kinds : terms.kinds ≡ CollectsForWaiting) (trace : pace.trace ≡ terms.trace) (within : pace.within ≡ terms.within) where
   -- not every pause is plain
   others : terms.kinds ≢ OnlyPlain
-  others e = let both : CollectsWhereAsked ≡ OnlyPlain = sym kinds ∙ e in cc
+  others e = let both : CollectsForWaiting ≡ OnlyPlain = sym kinds ∙ e in cc
 
   module _ (must_not : ¬ MustCollect terms h) where
     -- where no trace runs
@@ -79,7 +93,9 @@ module _ (terms : Terms) (h : List Item) (m : Moment) (k : ℕ) (pace : Pace) (t
     ordinary None none = apart none (nat_eq (k % pace.trace) 0) refl
     ordinary (Some t) runs = along t runs (traced || nat_le (t.began + pace.within) k) refl
 
-  -- a pause of the kind that the rules decide may stand, if it is asked to collect where it must
-  pub kind_may_stand : (asked : Ask) → ((asked ≡ ask.Collect) ↔ MustCollect terms h) → MayStand terms h m k (kind_of asked pace k m.trace traced)
-  kind_may_stand ask.Collect right = subst (λ rule. MayCollect rule terms h) (sym kinds) (right.0 refl)
-  kind_may_stand ask.Ordinary right = ordinary (λ must. let e = right.1 must in cc) m.trace refl
+  -- a pause of the kind that the rules decide may stand, if it is asked to collect exactly where it must, or for a `new` that waits
+  pub kind_may_stand : (asked : Ask) → ((asked ≡ ask.Collect) ↔ MustCollect terms h) ⊎ ((asked ≡ ask.Collect) × OnlyNewsSincePause h) → MayStand terms h m k (kind_of asked pace k m.trace traced)
+  kind_may_stand ask.Collect (inl right) = subst (λ rule. MayCollect rule terms h) (sym kinds) (inl (right.0 refl))
+  kind_may_stand ask.Collect (inr waits) = subst (λ rule. MayCollect rule terms h) (sym kinds) (inr waits.1)
+  kind_may_stand ask.Ordinary (inl right) = ordinary (λ must. let e = right.1 must in cc) m.trace refl
+  kind_may_stand ask.Ordinary (inr waits) = absurd (let e = waits.0 in cc)

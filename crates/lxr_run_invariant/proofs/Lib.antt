@@ -3,6 +3,7 @@ pub mod KindLemmas
 pub mod PauseLemmas
 pub mod ServingLemmas
 pub mod TurnLemmas
+pub mod AnsweringLemmas
 pub mod EpochLemmas
 pub mod EndLemmas
 pub mod OpeningLemmas

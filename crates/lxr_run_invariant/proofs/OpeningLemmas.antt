@@ -109,6 +109,7 @@ between_opened task space g actors some opened are = record {
     few = λ t. omega arith;
     unasked = λ t. refl;
   };
+  owes_none = tt;
   few = let none = opened.pauses in omega arith;
   more =
       let many : length (mutators_in actors) ≡ threads_of task = sym (length-map (mutators_in actors) (λ (m : Mutating). m.operations)) ∙ ap length are.mutators.script in

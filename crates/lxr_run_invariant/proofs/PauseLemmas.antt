@@ -1,9 +1,12 @@
 -- What a pause does to a run: its history has the pause, and a front of its report or all of it was written.
-use Rattle.std.proofs.Common.{◌≡◌, ℕ, ◌+◌, ◌*◌, ◌≤◌, refl, sym, ap, subst, ◌∙◌, arith, List, ◌∷◌, length}
+use Rattle.std.proofs.Common.{◌≡◌, ℕ, ◌+◌, ◌*◌, ◌^◌, ◌<◌, ◌≤◌, ◌↔◌, refl, sym, ap, subst, ◌∙◌, arith, List, ◌∷◌, length, Bool, true, false, IsTrue}
 use Rattle.std.specs.Prelude.{Option, None, Some, slice_get}
 use Rattle.lxr_layout.specs.declared.TheConstants.{REMEMBERED_CURSOR}
+use Rattle.lxr_layout.specs.declared.Name.{Name}
 use Rattle.lxr_layout.specs.declared.limits.Limits.{Limits}
+use Rattle.lxr_graph.specs.declared.report.Kind.TheVariants as kind
 use Rattle.lxr_graph.specs.History.{Item, Pause, PauseReport, report_of}
+use Rattle.lxr_graph.specs.Names.{has}
 use Rattle.lxr_image.specs.declared.space.Space.{Space}
 use Rattle.lxr_image.specs.declared.space.Tally.{Tally}
 use Rattle.lxr_image.specs.Spaces.{tables_of}
@@ -13,11 +16,13 @@ use Rattle.lxr_model.specs.Terms.{Terms}
 use Rattle.lxr_model.specs.Moments.{Moment, Trace, after_pause, moment}
 use Rattle.lxr_model.specs.Reports.{IsReport}
 use Rattle.lxr_model.specs.Belongs.{IsHistorySoFar}
+use Rattle.lxr_model.proofs.ReachableLemmas.{promoted_made}
 use Rattle.lxr_invariant.specs.AbstractState.{AbstractState, paused}
 use Rattle.lxr_invariant.specs.Lines.{NoneChosen}
 use Rattle.lxr_full.proofs.RoomLemmas.{log_is_written}
 use Rattle.lxr_pause_trace.proofs.HistoryLemmas.{history_keeps}
 use Rattle.lxr_run_pause.specs.declared.Ask.{Ask}
+use Rattle.lxr_run_pause.specs.declared.Ask.TheVariants as ask
 use Rattle.lxr_run_pause.specs.Deciding.{kind_of}
 use Rattle.lxr_run_pause.specs.Pausing.{CanPause, KeepsObjects, Pauses}
 use Rattle.lxr_text_stream.specs.Streams.{Appends, AppendsFront}
@@ -39,7 +44,7 @@ use Rattle.lxr_run_history.proofs.TallyLemmas.{logs_few, pauses_are, replies_few
 use Rattle.lxr_run_history.proofs.ThreadSums.{counted_in, one}
 use Rattle.lxr_run_invariant.specs.LoopInvariant.{FitsCounts, HasCome, HaveActors, HaveMutators, IsAskedRight, IsPauseDue, IsPaused, Task, WasCutOff, done_of, pace_of, task_limits, terms_of, threads_of}
 use Rattle.lxr_run_invariant.proofs.ActorLemmas.{as_many, calls_are_done, done_few}
-use Rattle.lxr_run_invariant.proofs.KindLemmas.{kind_may_stand}
+use Rattle.lxr_run_invariant.proofs.KindLemmas.{kind_collects, kind_may_stand}
 
 -- ---- numbers
 
@@ -90,6 +95,16 @@ counts_fit task space written seen h g mutators come have few =
     let logged = logged_is task space written seen h g come in
     record { pauses = (omega arith, omega arith); logs = omega arith; news = omega arith; loads = omega arith; stores = omega arith }
 
+-- so objects can still be counted
+pub news_fit : (task : Task) (space : Space) (written : Option (List ℕ)) (seen : Option (List Sight)) (h : List Item) (g : AbstractState) (mutators : List Mutating)
+    → HasCome task space written seen h g → HaveMutators task h mutators → space.tally.news < 2 ^ 63
+news_fit task space written seen h g mutators come have =
+    let all = all_done_few task h mutators have (few_threads task space written seen h g come) in
+    let calls = calls_are_done task h mutators come.history.0 have in
+    let replies : space.tally.news + space.tally.loads + space.tally.stores ≤ counted_in one h =
+    subst (λ (t : Tally). t.news + t.loads + t.stores ≤ counted_in one h) (sym come.tally) (replies_few (threads_of task) h) in
+    omega arith
+
 -- ---- a pause
 
 -- the space at a safepoint before a pause, with so many log entries counted
@@ -116,13 +131,13 @@ can_pause task space written seen h g come fits = record {
 }
 
 module _ (task : Task) (before after : Space) (written : Option (List ℕ)) (seen amid seen' : Option (List Sight)) (h : List Item) (g : AbstractState)
-    (come : HasCome task before written seen h g) (due : IsPauseDue task h) (asked : Ask) (right : IsAskedRight task h asked) (pauses : Pauses (at_safepoint before) after g asked (pace_of task.options)) where
+    (come : HasCome task before written seen h g) (due : IsPauseDue task h) (asked : Ask) (right : IsAskedRight task h asked) (at' : Name → ℕ) (pauses : Pauses (at_safepoint before) after g at' asked (pace_of task.options)) where
   -- its report, and what the space stands for then
   abbrev report : PauseReport
   report = report_of after.report
 
   abbrev abstract_state : AbstractState
-  abstract_state = paused g report
+  abstract_state = paused g at' report
 
   -- its kind may stand
   stands_so : MayStand (terms_of task) h g.moment report.number report.kind
@@ -130,6 +145,10 @@ module _ (task : Task) (before after : Space) (written : Option (List ℕ)) (see
       subst (λ k. MayStand (terms_of task) h g.moment report.number k) (sym pauses.kind.kind)
       (subst (λ n. MayStand (terms_of task) h g.moment n (kind_of asked (pace_of task.options) (g.moment.number + 1) g.moment.trace pauses.kind.traced)) (sym pauses.reports.1.number)
       (kind_may_stand (terms_of task) h g.moment (g.moment.number + 1) (pace_of task.options) pauses.kind.traced refl refl refl asked right))
+
+  -- it collects exactly where it is asked to
+  collects : (report.kind ≡ kind.Collect) ↔ (asked ≡ ask.Collect)
+  collects = subst (λ k. (k ≡ kind.Collect) ↔ (asked ≡ ask.Collect)) (sym pauses.kind.kind) (kind_collects asked (pace_of task.options) (g.moment.number + 1) g.moment.trace pauses.kind.traced)
 
   is_pause : IsPause (terms_of task) h report
   is_pause = record {
@@ -139,7 +158,7 @@ module _ (task : Task) (before after : Space) (written : Option (List ℕ)) (see
 
   -- the history, the space, the tally and the sights are those of the run with that pause
   history : IsHistorySoFar (terms_of task) task.script (Pause report ∷ h)
-  history = history_with_pause task.options task.script h report come.history is_pause due.0 due.1
+  history = history_with_pause task.options task.script h report come.history due.owes_none is_pause due.cause due.early
 
   stands : StandsAfter (threads_of task) (Pause report ∷ h) abstract_state
   stands = record { moment = ap (λ m. after_pause m report) come.stands.moment; reported = refl }
@@ -159,9 +178,19 @@ module _ (task : Task) (before after : Space) (written : Option (List ℕ)) (see
       ∙ ap (λ n. record before.tally { logs = before.tally.logs + n; pauses = before.tally.pauses + 1 }) (logged_is task before written seen h g come)
       ∙ ap (λ (t : Tally). record t { logs = t.logs + length (moment (threads_of task) h).written; pauses = t.pauses + 1 }) come.tally
 
+  -- what was unreclaimed isn't promoted, so it stands where it did
+  unmoved : (n : Name) → IsTrue (has g.moment.unreclaimed n) → at' n ≡ g.at n
+  unmoved n was = pauses.copies.others n (unpromoted (has report.promoted n) refl)
+    where
+      unpromoted : (b : Bool) → has report.promoted n ≡ b → b ≡ false
+      unpromoted false e = refl
+      unpromoted true e =
+          let made : IsTrue (has g.moment.made n) = promoted_made ((pauses.reports.1.promoted.members n).0 e) in
+          absurd (let both : true ≡ false = sym was ∙ come.safepoint.holds.follows.apart n made in cc)
+
   module _ (first : Looks seen amid (sight_of (at_safepoint before))) (second : Looks amid seen' (sight_of after)) where
-    sights : SeesTo (threads_of task) (Pause report ∷ h) task.seen seen' g.at
-    sights = sees_pause (threads_of task) h report task.seen seen amid seen' (sight_of (at_safepoint before)) (sight_of after) come.places g.at come.sights first second (record {
+    sights : SeesTo (threads_of task) (Pause report ∷ h) task.seen seen' at'
+    sights = sees_pause (threads_of task) h report task.seen seen amid seen' (sight_of (at_safepoint before)) (sight_of after) come.places at' come.sights first second (record {
       abstract_state = g;
       stands = come.stands;
       at_safepoint = (at_safepoint before, refl, safepoint_tallied before g (record before.tally { logs = before.tally.logs + length before.logged.items }) come.safepoint);
@@ -170,10 +199,10 @@ module _ (task : Task) (before after : Space) (written : Option (List ℕ)) (see
       stands' = stands;
       between = (after, refl, pauses.between);
       places_are = refl;
-      unmoved = λ n was stays. refl;
+      unmoved = λ n was stays. unmoved n was;
     })
 
-    pub paused_after : (written' : Option (List ℕ)) → Appends written written' (report_text task.options.counts report) → IsPaused task after written' seen' h
+    pub paused_after : (written' : Option (List ℕ)) → Appends written written' (report_text task.options.counts report) → IsPaused task after written' seen' h asked
     paused_after written' printed = (
       report,
       abstract_state,
@@ -187,11 +216,12 @@ module _ (task : Task) (before after : Space) (written : Option (List ℕ)) (see
           limits = limits ∙ come.limits;
           tally = tally;
           text = Appends-append task.written written written' (reports_text task.options.counts h) (report_text task.options.counts report) come.text printed;
-          places = g.at;
+          places = at';
           sights = sights;
           kept = λ n member. refl;
         };
         between = pauses.between;
+        collects = collects;
       },
     )
 

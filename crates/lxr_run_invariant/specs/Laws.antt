@@ -15,7 +15,9 @@ use Rattle.lxr_core.specs.Actors.{decrementers_in, mutators_in, script_of, trace
 use Rattle.lxr_core.specs.Closing.{AreFinished, Closes}
 use Rattle.lxr_core.specs.Opening.{Begins}
 use Rattle.lxr_core.specs.Executions.{Execution}
-use Rattle.lxr_run_invariant.specs.LoopInvariant.{HasRun, HasRunEpoch, HaveEnded, IsBetweenEpochs, IsPaused, IsServing, KeepsHelpers, Task, done_of}
+use Rattle.lxr_run_pause.specs.declared.Ask.{Ask}
+use Rattle.lxr_run_serve.specs.Serving.{KeepsHelpers}
+use Rattle.lxr_run_invariant.specs.LoopInvariant.{HasRun, HasRunEpoch, HaveEnded, IsBetweenEpochs, IsPaused, IsServing, Task, done_of}
 
 -- ---- epochs
 
@@ -63,13 +65,13 @@ pub record IsAgain (task : Task) (space : Space) (written : Option (List ℕ)) (
   pub more : done_of (mutators_in before) < done_of (mutators_in actors)
 
 abbrev pub RunsGoOn : Type 0
-RunsGoOn = (task : Task) (safepoint space after : Space) (written written' : Option (List ℕ)) (seen seen' : Option (List Sight)) (before actors actors' : List AnyActor) (paused first : ℕ) (served : Bool) (h h' : List Item) (g g' : AbstractState)
-    → HasRunEpoch task safepoint written seen before actors h g → paused ≡ safepoint.pauses + 1 → IsServing task space written' seen' (mutators_in actors) paused (mutators_in actors') first served h' g' → first ≡ length (mutators_in actors')
+RunsGoOn = (task : Task) (safepoint space after : Space) (written written' : Option (List ℕ)) (seen seen' : Option (List Sight)) (before actors actors' : List AnyActor) (paused first : ℕ) (collected served : Bool) (h h' : List Item) (g g' : AbstractState)
+    → HasRunEpoch task safepoint written seen before actors h g → paused ≡ safepoint.pauses + 1 → IsServing task space written' seen' (mutators_in actors) paused collected (mutators_in actors') first served h' g' → first ≡ length (mutators_in actors')
     → KeepsHelpers actors actors' → ListsAnew space after g' → IsAgain task after written' seen' before actors' h' g'
 
 -- ---- the end
 
 -- where all threads have ended, the pause behind the epoch is the last, and the history is whole
 abbrev pub RunsEnd : Type 0
-RunsEnd = (task : Task) (safepoint space : Space) (written written' : Option (List ℕ)) (seen seen' : Option (List Sight)) (before actors : List AnyActor) (h : List Item) (g : AbstractState)
-    → HasRunEpoch task safepoint written seen before actors h g → HaveEnded (mutators_in actors) → IsPaused task space written' seen' h → HasRun task space written' seen' actors
+RunsEnd = (task : Task) (safepoint space : Space) (written written' : Option (List ℕ)) (seen seen' : Option (List Sight)) (before actors : List AnyActor) (h : List Item) (g : AbstractState) (asked : Ask)
+    → HasRunEpoch task safepoint written seen before actors h g → HaveEnded (mutators_in actors) → IsPaused task space written' seen' h asked → HasRun task space written' seen' actors

@@ -1,18 +1,19 @@
 -- How far a run has come: what holds between its steps.
-use Rattle.std.specs.Prelude.{◌≡◌, ℕ, ◌+◌, ◌-◌, ◌*◌, ◌^◌, ◌<◌, ◌≤◌, ◌⊎◌, ◌↔◌, Bool, false, if◌then◌else◌, Option, Some, List, ◌∷◌, [], length, slice_get}
+use Rattle.std.specs.Prelude.{◌≡◌, ℕ, ◌+◌, ◌-◌, ◌*◌, ◌^◌, ◌<◌, ◌≤◌, ◌⊎◌, ◌↔◌, Bool, false, true, if◌then◌else◌, Option, Some, List, ◌∷◌, [], length, slice_get}
 use Rattle.std.specs.List.{list_any}
 use Rattle.lxr_layout.specs.declared.TheConstants.{REMEMBERED_CURSOR}
 use Rattle.lxr_layout.specs.declared.Name.{Name}
 use Rattle.lxr_layout.specs.declared.limits.Limits.{Limits}
-use Rattle.lxr_graph.specs.declared.Op.{Op}
 use Rattle.lxr_graph.specs.declared.Reply.{Reply}
+use Rattle.lxr_graph.specs.declared.report.Kind.TheVariants as kind
 use Rattle.lxr_graph.specs.History.{Item, Call, Pause, PauseReport}
 use Rattle.lxr_image.specs.declared.space.Space.{Space}
 use Rattle.lxr_image.specs.Spaces.{tables_of}
 use Rattle.lxr_text_stream.specs.Streams.{Appends, AppendsFront}
-use Rattle.lxr_model.specs.Belongs.{HasCause, IsHistorySoFar, LastPauseWasEarly, Script, calls_since_pause, has_asked, operations_of}
+use Rattle.lxr_model.specs.Belongs.{HasCause, IsHistorySoFar, LastPauseWasEarly, Script, calls_since_pause, has_asked}
 use Rattle.lxr_model.specs.Full.{IsRightAfterPause}
-use Rattle.lxr_model.specs.Kinds.{MustCollect, collect_called, ends}
+use Rattle.lxr_model.specs.Kinds.{MustCollect, OnlyNewsSincePause, collect_called}
+use Rattle.lxr_model.specs.Legal.{KeepsPromise, OwesNoCall}
 use Rattle.lxr_model.specs.Terms.{Terms}
 use Rattle.lxr_invariant.specs.AbstractState.{AbstractState}
 use Rattle.lxr_invariant.specs.Lines.{NoneChosen}
@@ -20,15 +21,14 @@ use Rattle.lxr_invariant.specs.Quiescent.{IsAtSafepoint, IsQuiescent}
 use Rattle.lxr_invariant.specs.Listed.{FreeBlocksAreListed, IsListed}
 use Rattle.lxr_run_watch.specs.Sights.{Sight}
 use Rattle.lxr_mutator.specs.Mutating.{IsWaiting, Mutating, has_collected, op_now}
-use Rattle.lxr_mutator.specs.Mutators.{IsAnswered, IsThrough}
-use Rattle.lxr_core_events.specs.ThreadStates.{all_of}
-use Rattle.lxr_core_sim_mutator.specs.Showing.{IsNew}
+use Rattle.lxr_mutator.specs.Mutators.{IsThrough}
 use Rattle.lxr_core.specs.declared.actors.AnyActor.{AnyActor}
-use Rattle.lxr_core.specs.Actors.{AreInOrder, decrementers_in, mutators_in, script_of, tracers_in}
-use Rattle.lxr_core.specs.Resting.{AreServed, HelpersRest, RestAfter, RestsAfter}
+use Rattle.lxr_core.specs.Actors.{decrementers_in, mutators_in, script_of, tracers_in}
+use Rattle.lxr_core.specs.Resting.{AreServed, HelpersRest, RestAfter}
 use Rattle.lxr_run_pause.specs.declared.Ask.{Ask}
 use Rattle.lxr_run_pause.specs.declared.Ask.TheVariants as ask
 use Rattle.lxr_run_pause.specs.declared.Pace.{Pace}
+use Rattle.lxr_run_serve.specs.Serving.{NewsWait}
 use Rattle.lxr_run_words.specs.declared.RunOptions.{RunOptions}
 use Rattle.lxr_run_history.specs.Left.{IsLeftBy, StandsAfter, run_limits}
 use Rattle.lxr_run_history.specs.Run.{IsHistoryOf, reports_text, script_terms}
@@ -93,12 +93,6 @@ pub record HaveActors (task : Task) (h : List Item) (actors : List AnyActor) : T
   pub tracers : length (tracers_in actors) ≡ task.options.workers
   pub few : task.options.workers ≤ 8
 
--- mutators alone are other than they were: the helpers stand behind them as before
-pub record KeepsHelpers (before after : List AnyActor) : Type 0 where
-  pub order : AreInOrder after
-  pub same : decrementers_in after ≡ decrementers_in before
-  pub tracers : tracers_in after ≡ tracers_in before
-
 -- how many operations and ends are done
 abbrev pub done_of : List Mutating → ℕ
 done_of [] = 0
@@ -116,15 +110,12 @@ HasMore mutators = (i : ℕ) × (m : Mutating) × (slice_get mutators i ≡ Some
 abbrev pub HaveEnded : List Mutating → Type 0
 HaveEnded mutators = (i : ℕ) (m : Mutating) → slice_get mutators i ≡ Some m → IsThrough m
 
--- some `new` waits; what waits is a `new`
+-- some `new` waits
 abbrev pub SomeWait : List Mutating → Type 0
 SomeWait mutators = (i : ℕ) × (m : Mutating) × (slice_get mutators i ≡ Some m) × IsWaiting m
 
-abbrev pub NewsWait : List Mutating → Type 0
-NewsWait mutators = (i : ℕ) (m : Mutating) → slice_get mutators i ≡ Some m → IsWaiting m → IsNew m
-
--- Between two epochs: the space is between epochs and listed, nobody waits, and not all threads have ended. Two pauses at
--- most were made for each operation or end.
+-- Between two epochs: the space is between epochs and listed, nobody waits, and no pause has collected for a `new` that is still to come.
+-- Not all threads have ended. Two pauses at most were made for each operation or end.
 pub record IsBetweenEpochs (task : Task) (space : Space) (written : Option (List ℕ)) (seen : Option (List Sight)) (actors : List AnyActor) (h : List Item) (g : AbstractState) : Type 0 where
   pub come : HasCome task space written seen h g
   pub between : IsQuiescent space g
@@ -132,20 +123,24 @@ pub record IsBetweenEpochs (task : Task) (space : Space) (written : Option (List
   pub all_listed : FreeBlocksAreListed space
   pub actors_rest : HaveActors task h actors
   pub served : AreServed h (mutators_in actors)
+  pub owes_none : OwesNoCall (terms_of task) h
   pub few : space.pauses ≤ 2 * done_of (mutators_in actors)
   pub more : HasMore (mutators_in actors)
 
--- a pause is due: it has a cause, and at the last one not all threads had ended
-abbrev pub IsPauseDue : Task → List Item → Type 0
-IsPauseDue task h = HasCause (terms_of task) task.script h × LastPauseWasEarly (terms_of task) h
+-- a pause is due: it has a cause, at the last one not all threads had ended, and that one didn't collect for a `new` that is still to come
+pub record IsPauseDue (task : Task) (h : List Item) : Type 0 where
+  pub cause : HasCause (terms_of task) task.script h
+  pub early : LastPauseWasEarly (terms_of task) h
+  pub owes_none : OwesNoCall (terms_of task) h
 
 -- what a pause is asked for, by whether it shall collect
 abbrev pub asked_by : Bool → Ask
 asked_by collects = if collects then ask.Collect else ask.Ordinary
 
--- a pause after h is asked to collect exactly where it must
+-- A pause after h is asked to collect exactly where it must; or it is asked to for a `new` that waits, where nothing but calls of `new`
+-- stands behind the last pause.
 abbrev pub IsAskedRight : Task → List Item → Ask → Type 0
-IsAskedRight task h asked = (asked ≡ ask.Collect) ↔ MustCollect (terms_of task) h
+IsAskedRight task h asked = ((asked ≡ ask.Collect) ↔ MustCollect (terms_of task) h) ⊎ ((asked ≡ ask.Collect) × OnlyNewsSincePause h)
 
 -- An epoch has run from `before`, and a pause is due.
 pub record HasRunEpoch (task : Task) (space : Space) (written : Option (List ℕ)) (seen : Option (List Sight)) (before actors : List AnyActor) (h : List Item) (g : AbstractState) : Type 0 where
@@ -160,64 +155,61 @@ pub record HasRunEpoch (task : Task) (space : Space) (written : Option (List ℕ
   pub grows : done_of (mutators_in before) ≤ done_of (mutators_in actors)
   pub few : space.pauses ≤ 2 * done_of (mutators_in before)
 
--- a pause was made after h
-pub record HasPaused (task : Task) (space : Space) (written : Option (List ℕ)) (seen : Option (List Sight)) (h : List Item) (report : PauseReport) (g : AbstractState) : Type 0 where
+-- a pause that was asked for so was made after h, and it collects exactly where it was asked to
+pub record HasPaused (task : Task) (space : Space) (written : Option (List ℕ)) (seen : Option (List Sight)) (h : List Item) (asked : Ask) (report : PauseReport) (g : AbstractState) : Type 0 where
   pub come : HasCome task space written seen (Pause report ∷ h) g
   pub between : IsQuiescent space g
+  pub collects : (report.kind ≡ kind.Collect) ↔ (asked ≡ ask.Collect)
 
-abbrev pub IsPaused : Task → Space → Option (List ℕ) → Option (List Sight) → List Item → Type 0
-IsPaused task space written seen h = (report : PauseReport) × (g : AbstractState) × HasPaused task space written seen h report g
+abbrev pub IsPaused : Task → Space → Option (List ℕ) → Option (List Sight) → List Item → Ask → Type 0
+IsPaused task space written seen h asked = (report : PauseReport) × (g : AbstractState) × HasPaused task space written seen h asked report g
 
--- there is a last pause, and nothing but refusals stands behind it
-abbrev pub IsRefusedSince : List Item → Type 0
-IsRefusedSince h = IsRightAfterPause (λ report. Unit {0}) h
+-- ---- while waiting `new`s are answered
 
--- Thread t's `new` waits, and its turn has come: the thread has had no call since the last pause. Where none was served since
--- that pause, nothing but refusals stands behind it. Nobody has called `collect` since then, and not all threads have ended.
-pub record MayServe (task : Task) (space : Space) (written : Option (List ℕ)) (seen : Option (List Sight)) (t : ℕ) (m : Mutating) (served : Bool) (h : List Item) (g : AbstractState) : Type 0 where
-  pub come : HasCome task space written seen h g
-  pub between : IsQuiescent space g
-  pub thread : (1 ≤ t) × (t ≤ threads_of task)
-  pub rests : RestsAfter (task_limits task) task.options.every h t m
-  pub operations : operations_of task.script t ≡ all_of m.operations
-  pub waits : IsWaiting m
-  pub news : IsNew m
-  pub none_yet : calls_since_pause t h ≡ 0
-  pub unasked : has_asked t h ≡ false
-  pub unserved : served ≡ false → IsRefusedSince h
-  pub uncalled : collect_called h ≡ false
-  pub more : ends h < threads_of task
+-- a collecting pause stands before, and nothing but refusals behind it
+abbrev pub IsCollectedSince : List Item → Type 0
+IsCollectedSince h = IsRightAfterPause (λ report. report.kind ≡ kind.Collect) h
 
--- a history goes on by a call alone, or by a pause and then the call
-abbrev pub GoesOnBy : ℕ → Op → Reply → List Item → List Item → Type 0
-GoesOnBy t o r h h' = (h' ≡ Call t o r ∷ h) ⊎ ((report : PauseReport) × (h' ≡ Call t o r ∷ Pause report ∷ h))
+-- so many pauses had been made when waiting `new`s began to be answered, by mutators that were `before`: since then one pause at most was made
+-- for each `new` that was answered, and so many more
+abbrev pub ArePausesFew : Space → List Mutating → ℕ → List Mutating → ℕ → Type 0
+ArePausesFew space before paused mutators more = space.pauses + done_of before ≤ paused + done_of mutators + more
 
--- it was served or refused; where none was served since the last pause, nothing but refusals stands behind it
-pub record HasAnswered (task : Task) (space : Space) (written : Option (List ℕ)) (seen : Option (List Sight)) (t : ℕ) (m m' : Mutating) (served : Bool) (h h' : List Item) (g : AbstractState) : Type 0 where
-  pub come : HasCome task space written seen h' g
-  pub between : IsQuiescent space g
-  pub reply : Reply
-  pub goes_on : GoesOnBy t (op_now m) reply h h'
-  pub mutator : IsAnswered m m' reply
-  pub unserved : served ≡ false → IsRefusedSince h'
+-- a history ends with what any call may follow
+pub record OwesNone (task : Task) (space : Space) (before : List Mutating) (paused : ℕ) (mutators : List Mutating) (h : List Item) : Type 0 where
+  pub none : OwesNoCall (terms_of task) h
+  pub few : ArePausesFew space before paused mutators 0
 
--- While waiting `new`s are served: those of the first threads are served or refused. The mutators were `before` when it began,
--- and so many pauses had been made; since then one at most was made for each `new`.
-pub record IsServing (task : Task) (space : Space) (written : Option (List ℕ)) (seen : Option (List Sight)) (before : List Mutating) (paused : ℕ) (mutators : List Mutating) (first : ℕ) (served : Bool) (h : List Item) (g : AbstractState) : Type 0 where
+-- or with a pause that collected for the first `new` that waits, and none was served since: that call may follow, whatever its reply
+pub record OwesOne (task : Task) (space : Space) (before : List Mutating) (paused : ℕ) (collected served : Bool) (mutators : List Mutating) (h : List Item) : Type 0 where
+  pub number : ℕ
+  pub mutator : Mutating
+  pub is : slice_get mutators number ≡ Some mutator
+  pub waits : IsWaiting mutator
+  pub first : (i : ℕ) (m : Mutating) → slice_get mutators i ≡ Some m → i < number → ¬ IsWaiting m
+  pub promise : (r : Reply) → KeepsPromise (terms_of task) h (Call (number + 1) (op_now mutator) r)
+  pub collected_is : collected ≡ true
+  pub unserved : served ≡ false
+  pub few : ArePausesFew space before paused mutators 1
+
+-- While waiting `new`s are answered behind a pause: in this call, those of the first threads are served or refused. The mutators were
+-- `before` when the first call began, and so many pauses had been made. `collected` tells that a collecting pause stands before this
+-- call, `served` that a `new` was served in it.
+pub record IsServing (task : Task) (space : Space) (written : Option (List ℕ)) (seen : Option (List Sight)) (before : List Mutating) (paused : ℕ) (collected : Bool) (mutators : List Mutating) (first : ℕ) (served : Bool) (h : List Item) (g : AbstractState) : Type 0 where
   pub come : HasCome task space written seen h g
   pub between : IsQuiescent space g
   pub mutators_rest : HaveMutators task h mutators
   pub news : NewsWait mutators
-  pub untouched : (i : ℕ) → first ≤ i → slice_get mutators i ≡ slice_get before i
   pub unwaiting : (i : ℕ) (m : Mutating) → slice_get mutators i ≡ Some m → i < first → ¬ IsWaiting m
   pub short : (t : ℕ) → t ≤ first → calls_since_pause t h ≤ 1
   pub none_yet : (t : ℕ) → first < t → calls_since_pause t h ≡ 0
   pub unasked : (t : ℕ) → has_asked t h ≡ false
-  pub unserved : served ≡ false → IsRefusedSince h
+  pub only_news : OnlyNewsSincePause h
+  pub unserved : served ≡ false → collected ≡ true → IsCollectedSince h
   pub more : HasMore mutators
-  pub few : space.pauses + done_of before ≤ paused + done_of mutators
-  pub grows : done_of before ≤ done_of mutators
-  pub done : (i : ℕ) (m : Mutating) → slice_get before i ≡ Some m → i < first → IsWaiting m → done_of before < done_of mutators
+  pub owes : OwesNone task space before paused mutators h ⊎ OwesOne task space before paused collected served mutators h
+  -- something was done, or all wait that did
+  pub progress : (done_of before < done_of mutators) ⊎ (mutators ≡ before)
 
 -- a run that was cut off at a report: a front of the reports of a history so far was written, and the space is left by it
 pub record WasCutOffAt (task : Task) (space : Space) (written : Option (List ℕ)) (h : List Item) : Type 0 where

@@ -1,6 +1,6 @@
 pub mod OpeningLemmas
-pub mod ServeLemmas
 pub mod ProgressLemmas
+pub mod ServeLemmas
 pub mod PrintLemmas
 pub mod PrintedLemmas
 pub mod ThreadLemmas

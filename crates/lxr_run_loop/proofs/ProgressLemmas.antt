@@ -6,7 +6,9 @@ use Rattle.std.proofs.lemmas.List.Elements.{All-nil, All-cons, All-head, All-tai
 use Rattle.lxr_graph.specs.History.{Item}
 use Rattle.lxr_image.specs.declared.space.Space.{Space}
 use Rattle.lxr_invariant.specs.AbstractState.{AbstractState}
+use Rattle.lxr_model.specs.Kinds.{MustCollect}
 use Rattle.lxr_run_pause.specs.declared.Ask.{Ask}
+use Rattle.lxr_run_pause.specs.declared.Ask.TheVariants as ask
 use Rattle.lxr_run_watch.specs.Sights.{Sight}
 use Rattle.lxr_run_words.specs.declared.RunOptions.{RunOptions}
 use Rattle.lxr_mutator.specs.declared.phases.MutEnd.{MutEnd}
@@ -15,7 +17,7 @@ use Rattle.lxr_mutator.specs.Mutating.{Mutating, has_collected}
 use Rattle.lxr_core.specs.declared.actors.AnyActor.{AnyActor}
 use Rattle.lxr_core.specs.declared.actors.AnyActor.TheVariants as any
 use Rattle.lxr_core.specs.Actors.{mutators_in, script_of}
-use Rattle.lxr_run_invariant.specs.LoopInvariant.{HasMore, HasRunEpoch, HaveActors, HaveEnded, HaveMutators, IsAskedRight, Task, asked_by, done_of, left_of, terms_of}
+use Rattle.lxr_run_invariant.specs.LoopInvariant.{HasMore, HasRunEpoch, HaveActors, HaveEnded, HaveMutators, Task, asked_by, done_of, left_of, terms_of}
 use Rattle.lxr_run_invariant.proofs.ActorLemmas.{are_within, done_and_left, ends_are_all, ends_are_fewer, steps_of}
 use Rattle.lxr_run_invariant.proofs.KindLemmas.{asked_right}
 use Rattle.lxr_run_loop.specs.Pausing.{HasComeToPause}
@@ -80,21 +82,23 @@ collected_among (any.Mutator m ∷ actors) = ap (λ b. has_collected m || b) (co
 collected_among (any.Decrementer d ∷ actors) = collected_among actors
 collected_among (any.Tracer d ∷ actors) = collected_among actors
 
--- the pause behind an epoch is due, and it is asked to collect exactly where it must
-pub comes : (task : Task) (space : Space) (written : Option (List ℕ)) (seen : Option (List Sight)) (before actors : List AnyActor) (h : List Item) (g : AbstractState) (ended : Bool) (options : RunOptions) (asked : Ask)
-    → task.options ≡ options → HasRunEpoch task space written seen before actors h g → (IsTrue ended ↔ All NoneGoesOn actors) → asked ≡ asked_by (ended || list_any actor_collected actors)
+-- the pause behind an epoch is asked to collect exactly where it must
+pub asks_right : (task : Task) (space : Space) (written : Option (List ℕ)) (seen : Option (List Sight)) (before actors : List AnyActor) (h : List Item) (g : AbstractState) (ended collects : Bool) (asked : Ask)
+    → HasRunEpoch task space written seen before actors h g → (IsTrue ended ↔ All NoneGoesOn actors) → collects ≡ (ended || list_any actor_collected actors) → asked ≡ asked_by collects
+    → (asked ≡ ask.Collect) ↔ MustCollect (terms_of task) h
+asks_right task space written seen before actors h g ended collects asked ran means shall is =
+    subst (λ a. (a ≡ ask.Collect) ↔ MustCollect (terms_of task) h) (sym (is ∙ ap asked_by shall))
+    (subst (λ b. (asked_by (ended || b) ≡ ask.Collect) ↔ MustCollect (terms_of task) h) (sym (collected_among actors))
+    (asked_right (terms_of task) h ended (list_any has_collected (mutators_in actors))
+    (λ e. ends_are_all task h (mutators_in actors) ran.come.history.0 ran.actors_rest.mutators (have_all_ended task h actors ran.actors_rest (means.0 e)))
+    (λ e. ends_are_fewer task h (mutators_in actors) ran.come.history.0 ran.actors_rest.mutators (has_more actors (not_told ended means e)))
+    ran.collects))
+
+-- and it is due
+pub comes : (task : Task) (space : Space) (written : Option (List ℕ)) (seen : Option (List Sight)) (before actors : List AnyActor) (h : List Item) (g : AbstractState) (options : RunOptions) (asked : Ask)
+    → task.options ≡ options → HasRunEpoch task space written seen before actors h g → (asked ≡ ask.Collect) ↔ MustCollect (terms_of task) h
     → HasComeToPause asked options task space written seen h g
-comes task space written seen before actors h g ended options asked with_options ran means is = record {
-  come = ran.come;
-  due = ran.due;
-  right = subst (IsAskedRight task h) (sym is)
-      (subst (λ b. IsAskedRight task h (asked_by (ended || b))) (sym (collected_among actors))
-      (asked_right (terms_of task) h ended (list_any has_collected (mutators_in actors))
-      (λ e. ends_are_all task h (mutators_in actors) ran.come.history.0 ran.actors_rest.mutators (have_all_ended task h actors ran.actors_rest (means.0 e)))
-      (λ e. ends_are_fewer task h (mutators_in actors) ran.come.history.0 ran.actors_rest.mutators (has_more actors (not_told ended means e)))
-      ran.collects));
-  with_options = with_options;
-}
+comes task space written seen before actors h g options asked with_options ran right = record { come = ran.come; due = ran.due; right = inl right; with_options = with_options }
 
 -- ---- what is left
 

@@ -1,7 +1,9 @@
 -- That a run's history is the one that its generator draws.
-use Rattle.std.specs.Prelude.{◌≡◌, ℕ, Bool, Option, List, [], ◌∷◌, is_some, map, length}
+use Rattle.std.specs.Prelude.{◌≡◌, ◌↔◌, ℕ, Bool, Option, List, [], ◌∷◌, is_some, map, length}
+use Rattle.lxr_graph.specs.declared.report.Kind.TheVariants as kind
 use Rattle.lxr_graph.specs.History.{Item, Pause, PauseReport}
 use Rattle.lxr_image.specs.declared.space.Space.{Space}
+use Rattle.lxr_model.specs.Kinds.{MustCollect}
 use Rattle.lxr_invariant.specs.AbstractState.{AbstractState}
 use Rattle.lxr_actor.specs.declared.Event.TheVariants.{Step}
 use Rattle.lxr_actor.specs.Run.{core_of}
@@ -11,10 +13,10 @@ use Rattle.lxr_core.specs.Actors.{decrementers_in, mutators_in, script_of, trace
 use Rattle.lxr_core.specs.Executions.{tell_all}
 use Rattle.lxr_core.specs.Opening.{Begins, Opens, execution_at}
 use Rattle.lxr_run_replay.specs.Replaying.{Replays}
-use Rattle.lxr_run_invariant.specs.LoopInvariant.{Task, pace_of}
+use Rattle.lxr_run_invariant.specs.LoopInvariant.{Task, pace_of, terms_of}
 use Rattle.lxr_run_invariant.specs.Laws.{beginning_of}
 use Rattle.lxr_run_watch.specs.Sights.{Sight}
-use Rattle.lxr_run_loop.specs.Answering.{AnswersFirst}
+use Rattle.lxr_run_loop.specs.Answering.{AnswersWaiting}
 use Rattle.lxr_run_loop.specs.Serving.{BeginsServing}
 
 -- An epoch of this space and these actors, behind a history h, was replayed: the mutators have the operations of the task, and
@@ -35,10 +37,11 @@ pub record ReplaysEpoch (task : Task) (space : Space) (actors : List AnyActor) (
   pub history : h' ≡ (tell_all (beginning_of task space h abstract_state) (execution_at (beginning_of task space h abstract_state) opened started) (map Step schedule)).history
 
 -- The history of a run, whose generator begins with the number that the options give and goes on from epoch to epoch: behind this
--- history it has come to x. Pauses and the answers behind them draw nothing.
+-- history it has come to x. One pause stands behind each epoch, which collects exactly where it must; it and the answers behind it draw
+-- nothing.
 pub data IsDrawn (task : Task) : List Item → ℕ → Type 0 where
   at_opening : IsDrawn task [] task.options.replay
-  by_epoch : (h h' : List Item) (x x' : ℕ) (space : Space) (actors : List AnyActor) → IsDrawn task h x → ReplaysEpoch task space actors h x h' x' → IsDrawn task h' x'
-  by_pause : (h : List Item) (report : PauseReport) (x : ℕ) → IsDrawn task h x → IsDrawn task (Pause report ∷ h) x
-  by_answers : (h h' : List Item) (x : ℕ) (g : AbstractState) (mutators mutators' : List Mutating) (space space' : Space) (written : Option (List ℕ)) (seen : Option (List Sight)) (served : Bool) → IsDrawn task h x
-      → BeginsServing task space written seen mutators h g → AnswersFirst (pace_of task.options) mutators space h (length mutators') mutators' space' served h' → IsDrawn task h' x
+  by_epoch : (h h' : List Item) (x x' : ℕ) (space : Space) (actors : List AnyActor) (report : PauseReport) → IsDrawn task h x → ReplaysEpoch task space actors h x h' x'
+      → (report.kind ≡ kind.Collect) ↔ MustCollect (terms_of task) h' → IsDrawn task (Pause report ∷ h') x'
+  by_answers : (h h' : List Item) (x : ℕ) (g : AbstractState) (collected : Bool) (mutators mutators' : List Mutating) (space space' : Space) (written : Option (List ℕ)) (seen : Option (List Sight)) → IsDrawn task h x
+      → BeginsServing task space written seen collected mutators h g → AnswersWaiting (pace_of task.options) collected mutators space h mutators' space' h' → IsDrawn task h' x

@@ -1,5 +1,6 @@
 -- A pause between two epochs: when it may be made, and what it leaves.
 use Rattle.std.specs.Prelude.{◌≡◌, ℕ, ◌+◌, Option, List, length}
+use Rattle.lxr_layout.specs.declared.Name.{Name}
 use Rattle.lxr_graph.specs.History.{Item}
 use Rattle.lxr_image.specs.declared.space.Space.{Space}
 use Rattle.lxr_invariant.specs.AbstractState.{AbstractState}
@@ -16,9 +17,9 @@ with_logs_counted s = record s { tally = record s.tally { logs = s.tally.logs + 
 
 -- a pause was made that was asked for so, whatever the space stood for
 abbrev pub MakesPause : Ask → Pace → Space → Space → Type 0
-MakesPause asked pace before after = (g : AbstractState) → CanPause (with_logs_counted before) g → Pauses (with_logs_counted before) after g asked pace
+MakesPause asked pace before after = (g : AbstractState) → CanPause (with_logs_counted before) g → (at' : Name → ℕ) × Pauses (with_logs_counted before) after g at' asked pace
 
--- a run with these options has come to a history behind which a pause is due, which is asked to collect exactly where it must
+-- a run with these options has come to a history behind which a pause is due, which is asked right whether it shall collect
 pub record HasComeToPause (asked : Ask) (options : RunOptions) (task : Task) (space : Space) (written : Option (List ℕ)) (seen : Option (List Sight)) (h : List Item) (g : AbstractState) : Type 0 where
   pub come : HasCome task space written seen h g
   pub due : IsPauseDue task h
@@ -31,7 +32,7 @@ SomePauseIsDue asked options space written seen = (task : Task) × (h : List Ite
 -- whatever the run had come to, it has made a pause
 abbrev pub GoesOnByPause : Ask → RunOptions → Space → Option (List ℕ) → Option (List Sight) → Space → Option (List ℕ) → Option (List Sight) → Type 0
 GoesOnByPause asked options space written seen space' written' seen' =
-    (task : Task) (h : List Item) (g : AbstractState) → HasComeToPause asked options task space written seen h g → IsPaused task space' written' seen' h
+    (task : Task) (h : List Item) (g : AbstractState) → HasComeToPause asked options task space written seen h g → IsPaused task space' written' seen' h asked
 
 -- it was cut off as the report of one was written
 abbrev pub IsCutOffByPause : Ask → RunOptions → Space → Option (List ℕ) → Option (List Sight) → Space → Option (List ℕ) → Type 0

@@ -2,8 +2,9 @@
 //!
 //! A run opens a space for the threads of a script. Then it makes rounds until all threads have ended: an epoch, in which the draws
 //! of a generator pick who makes each step; a pause, whose report is printed; and, where some thread goes on, the `new`s that
-//! waited, served or refused in order of threads, and free lines and blocks listed for the next epoch. The scheme is that of
-//! LXR (Zhao, Blackburn and McKinley, 2022), with blocks and lines of Immix (Blackburn and McKinley, 2008).
+//! waited, served or refused in order of threads, with a collecting pause for each that finds no room before one, and free lines
+//! and blocks listed for the next epoch. The scheme is that of LXR (Zhao, Blackburn and McKinley, 2022), with blocks and lines of
+//! Immix (Blackburn and McKinley, 2008).
 #![tactic(auto)]
 
 ghost use Rattle.std.specs.Prelude.{◌≡◌, OnErr, OnOk};

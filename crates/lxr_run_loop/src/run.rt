@@ -7,7 +7,7 @@ ghost use Rattle.lxr_run_invariant.specs.LoopInvariant.{Task, asked_by};
 ghost use Rattle.lxr_run_loop.specs.Progress.{CanRunEpoch, HasMadeRound, IsComplete, IsCutOffUnderWay, IsUnderWay, NoneGoesOn, RunsEpoch, actor_collected};
 
 use crate::pauses::pause;
-use crate::serving::serve_waiting;
+use crate::serving::answer_waiting;
 use lxr_core::{AnyActor, close_epoch, open_epoch};
 use lxr_image::Space;
 use lxr_mutator::MutEnd;
@@ -65,12 +65,19 @@ fn have_collected(actors: &[AnyActor]) -> bool
     actors.iter().any(|actor| has_collected(actor))
 }
 
-/// What the pause behind an epoch is asked for, by whether each thread has done its end: it shall collect where each has, or
-/// where some thread has called `collect`.
-fn ask_of(actors: &[AnyActor], ended: bool) -> Ask
-    ensures { result ≡ asked_by (ended || list_any actor_collected actors.now) }
+/// Whether the pause behind an epoch shall collect, by whether each thread has done its end: it shall where each has, or where
+/// some thread has called `collect`.
+fn shall_collect(actors: &[AnyActor], ended: bool) -> bool
+    ensures { result ≡ (ended || list_any actor_collected actors.now) }
 {
-    if ended || have_collected(actors) {
+    ended || have_collected(actors)
+}
+
+/// What a pause is asked for, by whether it shall collect.
+fn ask_of(collects: bool) -> Ask
+    ensures { result ≡ asked_by collects }
+{
+    if collects {
         Ask::Collect
     } else {
         Ask::Ordinary
@@ -78,7 +85,7 @@ fn ask_of(actors: &[AnyActor], ended: bool) -> Ask
 }
 
 /// One round: an epoch and the pause behind it. Where not all threads have ended then, waiting `new`s are served or refused,
-/// and the next epoch is prepared. Whether all have.
+/// with more pauses where they need room, and the next epoch is prepared. Whether all have.
 fn make_round<G: Gate, W: Watch, O: Sink>(
     space: &mut Space,
     actors: &mut [AnyActor],
@@ -98,11 +105,12 @@ fn make_round<G: Gate, W: Watch, O: Sink>(
 {
     run_epoch(space, actors, x, gate);
     let ended = have_ended(actors);
-    pause(space, ask_of(actors, ended), options, watch, output)?;
+    let collects = shall_collect(actors, ended);
+    pause(space, ask_of(collects), options, watch, output)?;
     if ended {
         return Ok(true);
     }
-    serve_waiting(space, actors, options, watch, output)?;
+    answer_waiting(space, actors, collects, options, watch, output)?;
     list_for_epoch(space);
     Ok(false)
 }

@@ -1,5 +1,5 @@
 -- What a pause of any kind has done once counting and tracing are: its parts put together, whatever its kind.
-use Rattle.std.proofs.Common.{◌≡◌, ℕ, refl, sym, ap, subst, ◌∙◌, inl, inr, false, List, [], ◌++◌, IsTrue}
+use Rattle.std.proofs.Common.{◌≡◌, ℕ, refl, sym, ap, subst, ◌∙◌, inl, inr, ◌⊎◌, false, List, [], ◌++◌, IsTrue}
 use Rattle.std.specs.Prelude.{Option, Some, None}
 use Rattle.std.specs.Option.{option_map}
 use Rattle.std.proofs.lemmas.Bool.{false_from_ne_true}
@@ -9,30 +9,42 @@ use Rattle.lxr_graph.specs.declared.report.Kind.{Kind}
 use Rattle.lxr_graph.specs.declared.report.Report.{Report}
 use Rattle.lxr_graph.specs.Distinct.{IsDistinct}
 use Rattle.lxr_graph.specs.Names.{has, without}
-use Rattle.lxr_graph.specs.State.{HasObject, State}
+use Rattle.lxr_graph.specs.State.{HasObject, Object, State, object_at}
 use Rattle.lxr_graph.specs.History.{PauseReport, report_of}
-use Rattle.lxr_graph.proofs.NameSets.{not_both, union_cases, without_parts}
+use Rattle.lxr_graph.proofs.NameSets.{in_without, not_both, union_cases, without_parts}
 use Rattle.lxr_image.specs.declared.space.Space.{Space}
 use Rattle.lxr_image.specs.Tables.{Tables, changed}
 use Rattle.lxr_image.specs.Spaces.{tables_of}
 use Rattle.lxr_image.specs.Reads.{granule_of}
+use Rattle.lxr_model.specs.Dead.{Dead}
 use Rattle.lxr_model.specs.Moments.{Moment, Trace, going_on}
 use Rattle.lxr_model.specs.Reports.{PauseParts, is_draining}
 use Rattle.lxr_model.proofs.ReachableLemmas.{dead_parts, promoted_made}
+use Rattle.lxr_blocks.specs.Lines.{is_free}
 use Rattle.lxr_model_counting.specs.Following.{FollowsPause}
+use Rattle.lxr_model_counting.proofs.DistinctLemmas.{tested}
 use Rattle.lxr_invariant.specs.AbstractState.{AbstractState}
+use Rattle.lxr_invariant.specs.Copied.{standing}
 use Rattle.lxr_invariant.specs.Counting.{IsUndecremented}
 use Rattle.lxr_invariant.specs.Lines.{ChosenNeedTrace, HasBlocks, NoneChosen, tracing_word}
 use Rattle.lxr_invariant.specs.Quiescent.{HoldsMoment}
 use Rattle.lxr_invariant.specs.Tracing.{IsTracedBy}
 use Rattle.lxr_invariant.proofs.EntryLemmas.{changed_here, changed_other}
-use Rattle.lxr_invariant.proofs.FrameLemmas.{chosen_still}
+use Rattle.lxr_invariant.proofs.BlockLemmas.{keeps_state_still, none_kept}
+use Rattle.lxr_invariant.proofs.CopiedLemmas.{IsGoneFrom, copies_still, free_was, stay_still}
+use Rattle.lxr_invariant.proofs.NameLemmas.{in_first, in_second}
 use Rattle.lxr_pause_trace.specs.Laws.{at_moment}
 use Rattle.lxr_run_pause.specs.Settling.{DiesBy, IsSweptBy, Settles, SettlesCounts, Tells, counted, kept_by, remaining_by, settled_by}
 use Rattle.lxr_run_pause.specs.Tracing.{CanDrain, SetsTrace, word_of_trace}
-use Rattle.lxr_run_pause.specs.Pausing.{CanPause, IsDrained, KeepsObjects, KeepsThroughPause, Traces}
+use Rattle.lxr_run_pause.specs.Pausing.{CanPause, IsDrained, IsLetGo, KeepsObjects, KeepsThroughPause, Traces}
 use Rattle.lxr_run_pause.proofs.DistinctnessLemmas.{distinct_three}
 use Rattle.lxr_run_pause.proofs.FrameLemmas.{holds_of_kind, holds_reworded}
+
+-- what tracing keeps of the tables once counting is done
+pub record KeepsThroughTracing (t u : Tables) : Type 0 where
+  pub heap : u.heap ≡ t.heap
+  pub reuse : u.reuse ≡ t.reuse
+  pub lists : KeepsThroughPause t u
 
 -- ---- the graph has grown alone
 
@@ -91,7 +103,7 @@ module _ (c x : Space) (began : Option ℕ) (m : Moment) (at : Name → ℕ) (tr
 
 -- ---- what counting leaves may be drained
 
-module _ (s k : Space) (g : AbstractState) (can : CanPause s g) (gone : List Name) (counts : SettlesCounts s k g gone) (is : Kind) where
+module _ (s k : Space) (g : AbstractState) (can : CanPause s g) (at' : Name → ℕ) (gone : List Name) (counts : SettlesCounts s k g at' gone) (is : Kind) where
   abbrev m : Moment
   m = g.moment
 
@@ -100,17 +112,17 @@ module _ (s k : Space) (g : AbstractState) (can : CanPause s g) (gone : List Nam
   with_kind = record k { report = record k.report { kind = is } }
 
   abbrev pub now : AbstractState
-  now = at_moment g (counted m gone k.report)
+  now = at_moment (standing g at') (counted m gone k.report)
 
   same_blocks : k.limits.blocks ≡ s.limits.blocks
   same_blocks = ap (λ (x : Space). x.limits.blocks) counts.space
 
   pub unchosen : NoneChosen (tables_of k) k.limits.blocks
-  unchosen = chosen_still (tables_of s) (tables_of k) k.limits.blocks counts.states ∙ subst (λ n. NoneChosen (tables_of s) n) (sym same_blocks) can.none_chosen
+  unchosen = none_kept (tables_of s) (tables_of k) k.limits.blocks counts.states (subst (λ n. NoneChosen (tables_of s) n) (sym same_blocks) can.none_chosen)
 
   pub can_drain : CanDrain with_kind now
   can_drain = record {
-    holds = holds_of_kind k now.moment g.at is counts.holds;
+    holds = holds_of_kind k now.moment at' is counts.holds;
     settled = record { same = refl; none_made = refl; none_written = refl };
     undecremented = counts.undecremented;
     traced = counts.traced;
@@ -142,6 +154,29 @@ module _ (s k : Space) (g : AbstractState) (can : CanPause s g) (gone : List Nam
     abbrev pub leads : Moment
     leads = settled_by m parts report
 
+    abbrev kept : List Name
+    kept = kept_by m parts report
+
+    -- what is kept once counting is done is left, or died by then or was swept
+    left_or_reclaimed : (n : Name) → IsTrue (has kept n) → IsTrue (has leads.unreclaimed n) ⊎ IsTrue (has (report.dead.items ++ report.swept.items) n)
+    left_or_reclaimed n member = elim (tested (has second n)) [
+      | inl d ↦ inr (in_first report.dead.items swept n (in_second gone (second ++ third) n (in_first second third n d)))
+      | inr undead ↦ elim (tested (has swept n)) [
+        | inl w ↦ inr (in_second report.dead.items swept n w)
+        | inr unswept ↦ elim (tested (has third n)) [
+          | inl d ↦ inr (in_first report.dead.items swept n (in_second gone (second ++ third) n (in_second second third n d)))
+          | inr stays ↦ inl
+              (in_without (remaining_by m parts report) third n
+              (in_without (without kept second) swept n (in_without kept second n member (λ d. not_both (has second n) d undead)) (λ w. not_both (has swept n) w unswept))
+              (λ d. not_both (has third n) d stays))
+        ]
+      ]
+    ]
+
+    -- the objects that are kept once counting is done
+    objects : (n : Name) → IsTrue (has kept n) → (o : Object) × (object_at m.state.graph n ≡ Some o)
+    objects n member = let there = counts.holds.image.image.stands n (in_first kept [] n member) in (there.0, there.1)
+
     -- names of these parts, each once
     pub record AreParts : Type 0 where
       pub second_once : IsDistinct second
@@ -161,6 +196,19 @@ module _ (s k : Space) (g : AbstractState) (can : CanPause s g) (gone : List Nam
             not_both (has m.unreclaimed n) (dead_parts ((counts.tells.are_dead n).0 d)).member (can.safepoint.holds.follows.apart n made))
         | inr h ↦ (without_parts m.unreclaimed gone n h).1
       ]
+
+      -- a name was reclaimed, and wasn't dead when the pause began
+      abbrev IsGone : Name → Type 0
+      IsGone n = IsTrue (has (report.dead.items ++ report.swept.items) n) × ¬ Dead m.last m.unreclaimed m.stuck n
+
+      left_or_gone : (n : Name) → IsTrue (has kept n) → IsTrue (has leads.unreclaimed n) ⊎ IsGone n
+      left_or_gone n member = elim (left_or_reclaimed n member) [
+        | inl stays ↦ inl stays
+        | inr reclaimed ↦ inr (reclaimed, λ d. not_both (has gone n) ((counts.tells.are_dead n).1 d) (kept_alive n member))
+      ]
+
+      let_go : (line : ℕ) → IsGoneFrom m.state.graph at' IsGone line → IsLetGo g at' (report_of report) line
+      let_go line (n, o, k, gone_is, covers, is) = (n, o, k, gone_is.0, gone_is.1, covers, is)
 
       left_parts : (n : Name) → IsTrue (has third n) → IsTrue (has (kept_by m parts report) n) × (has second n ≡ false)
       left_parts n h = without_parts (kept_by m parts report) second n (without_parts (without (kept_by m parts report) second) swept n (names.third_left n h)).0
@@ -182,15 +230,26 @@ module _ (s k : Space) (g : AbstractState) (can : CanPause s g) (gone : List Nam
         counts = counts.tells.counts;
       }
 
-      module _ (holds : HoldsMoment ended leads g.at) (undecremented : IsUndecremented (tables_of ended) leads g.at)
-          (traced : IsTracedBy ended.limits (tables_of ended) [] (at_moment g leads) leads.trace) (trace : began ≡ option_map (λ (trace : Trace). trace.began) leads.trace)
-          (drained : IsDrained ended (is_draining is)) (outs : (tables_of ended).outs ≡ (tables_of k).outs) (keeps : KeepsThroughPause (tables_of k) (tables_of ended))
-          (states : (tables_of ended).states ≡ (tables_of k).states) (traces : Traces is m.trace s ended g (report_of report) leads.unreclaimed) where
-        pub settles : Settles s ended g parts
+      module _ (holds : HoldsMoment ended leads at') (undecremented : IsUndecremented (tables_of ended) leads at')
+          (traced : IsTracedBy ended.limits (tables_of ended) [] (at_moment (standing g at') leads) leads.trace) (trace : began ≡ option_map (λ (trace : Trace). trace.began) leads.trace)
+          (drained : IsDrained ended (is_draining is)) (outs : (tables_of ended).outs ≡ (tables_of k).outs) (keeps : KeepsThroughTracing (tables_of k) (tables_of ended))
+          (states : (tables_of ended).states ≡ (tables_of k).states) (traces : Traces is m.trace s ended g at' (report_of report) leads.unreclaimed) where
+        -- a line that is free then was free once counting was done, unless it is let go
+        line_was_free : (line : ℕ) → ¬ IsLetGo g at' (report_of report) line → IsTrue (is_free (record (tables_of ended) { outs = (tables_of s).outs }) line)
+            → IsTrue (is_free (record (tables_of k) { outs = (tables_of s).outs }) line)
+        line_was_free line kept_line =
+            free_was (tables_of k) (tables_of ended) m.state.graph at' kept leads.unreclaimed IsGone objects counts.holds.marks holds.marks undecremented.positive left_or_gone
+            (tables_of s).outs line (λ from. kept_line (let_go line from))
+
+        pub settles : Settles s ended g at' parts
         settles = record {
           tells = told;
           holds = holds;
           undecremented = undecremented;
+          apart = counts.apart;
+          copies = copies_still (tables_of s) (tables_of k) (tables_of s) (tables_of ended) m m.unreclaimed g.at at' report.promoted.items report.promoted.items refl refl refl keeps.heap keeps.reuse (λ n. refl) counts.copies;
+          stay = stay_still (tables_of s) (tables_of k) (tables_of s) (tables_of ended) s.limits.blocks m g.at at' report.promoted.items report.promoted.items (λ line. ⊥) (IsLetGo g at' (report_of report)) (λ n. refl)
+              refl line_was_free (λ line never. absurd never) counts.stay;
           traced = traced;
           trace = trace;
           drained = drained;
@@ -198,17 +257,16 @@ module _ (s k : Space) (g : AbstractState) (can : CanPause s g) (gone : List Nam
           none_out = λ line. ap (λ f. f line) outs ∙ counts.none_out line;
           no_rest = counts.no_rest;
           keeps = record {
-            heap = keeps.heap ∙ counts.keeps.heap;
-            reuse = keeps.reuse ∙ counts.keeps.reuse;
-            runs = keeps.runs ∙ counts.keeps.runs;
-            frees = keeps.frees ∙ counts.keeps.frees;
-            remembered = keeps.remembered ∙ counts.keeps.remembered;
-            cursors = λ j a b c. keeps.cursors j a b c ∙ counts.keeps.cursors j a b;
+            runs = keeps.lists.runs ∙ counts.keeps.runs;
+            frees = keeps.lists.frees ∙ counts.keeps.frees;
+            remembered = keeps.lists.remembered ∙ counts.keeps.remembered;
+            cursors = λ j a b c. keeps.lists.cursors j a b c ∙ counts.keeps.cursors j a b;
           };
-          states = states ∙ counts.states;
+          states = λ b. keeps_state_still (tables_of s) (tables_of k) (tables_of s) (tables_of ended) b refl states (counts.states b);
           traces = traces;
           space = ap (λ (y : Space). record y {
             words = words;
+            registers = record y.registers { items = k.registers.items };
             deferred = k.deferred;
             logged = k.logged;
             report = report;

@@ -117,7 +117,7 @@ ends_running ask.Ordinary pace k None traced j e = absurd (never (nat_eq (k % pa
     never false j e = cc
 ends_running ask.Ordinary pace k (Some t) traced j e = (t, refl)
 
-module _ (s k : Space) (g : AbstractState) (asked : Ask) (pace : Pace) (can : CanPause s g) (gone : List Name) (settles : SettlesCounts s k g gone) where
+module _ (s k : Space) (g : AbstractState) (asked : Ask) (pace : Pace) (can : CanPause s g) (at' : Name → ℕ) (gone : List Name) (settles : SettlesCounts s k g at' gone) where
   test : (b : Bool) × (IsTrue b ↔ NothingIsLeft (tables_of s) g.moment g.at s.logged.items gone)
   test = some_test (tables_of s) g.moment g.at s.logged.items gone
 

@@ -20,6 +20,7 @@ use Rattle.lxr_model.specs.Moments.{Moment, Trace, going_on}
 use Rattle.lxr_model.proofs.ReachableLemmas.{dead_parts}
 use Rattle.lxr_model_counting.proofs.DistinctLemmas.{tested, without_apart}
 use Rattle.lxr_invariant.specs.AbstractState.{AbstractState}
+use Rattle.lxr_invariant.specs.Copied.{standing}
 use Rattle.lxr_invariant.specs.Counting.{IsUndecremented}
 use Rattle.lxr_invariant.specs.Keeping.{KeepsListsAndCounters}
 use Rattle.lxr_invariant.specs.Lines.{NoneChosen}
@@ -33,8 +34,8 @@ use Rattle.lxr_pause_trace.specs.Laws.{at_moment, fresh_trace}
 use Rattle.lxr_pause_trace.proofs.BeginningLemmas.{beginning}
 use Rattle.lxr_run_pause.specs.Settling.{Settles, SettlesCounts, counted}
 use Rattle.lxr_run_pause.specs.Tracing.{Begins, SetsTrace, drained, word_of_trace}
-use Rattle.lxr_run_pause.specs.Pausing.{BeginsTracing, CanPause, KeepsThroughPause, Traces}
-use Rattle.lxr_run_pause.proofs.BuildingLemmas.{AreParts, can_drain, ended, holds_set, leads, now, report, settles, undecremented_set, unchosen, with_kind}
+use Rattle.lxr_run_pause.specs.Pausing.{BeginsTracing, CanPause, Traces}
+use Rattle.lxr_run_pause.proofs.BuildingLemmas.{AreParts, KeepsThroughTracing, can_drain, ended, holds_set, leads, now, report, settles, undecremented_set, unchosen, with_kind}
 use Rattle.lxr_run_pause.proofs.FrameLemmas.{holds_told}
 use Rattle.lxr_run_pause.proofs.PausingLemmas.{traces_still}
 use Rattle.lxr_run_pause.proofs.TracedLemmas.{trace_still}
@@ -65,14 +66,16 @@ nothing_dead : (s : State) (us stuck gone : List Name) → ((n : Name) → IsTru
 nothing_dead s us stuck gone are n d = not_both (has gone n) ((are n).1 (dead_before s us stuck gone are n d)) (without_parts us gone n (dead_parts d).member).1
 
 -- what is kept through a space whose trace is set
-pub through_set : (t : Tables) (c x : Space) (began : Option ℕ) → KeepsListsAndCounters t (tables_of c) → SetsTrace c x began → KeepsThroughPause t (tables_of x)
+pub through_set : (t : Tables) (c x : Space) (began : Option ℕ) → KeepsListsAndCounters t (tables_of c) → SetsTrace c x began → KeepsThroughTracing t (tables_of x)
 through_set t c x began keeps sets = record {
   heap = ap (λ (z : Tables). z.heap) sets.tables ∙ keeps.heap;
   reuse = ap (λ (z : Tables). z.reuse) sets.tables ∙ keeps.reuse;
-  runs = ap (λ (z : Tables). z.runs) sets.tables ∙ keeps.runs;
-  frees = ap (λ (z : Tables). z.frees) sets.tables ∙ keeps.frees;
-  remembered = ap (λ (z : Tables). z.remembered) sets.tables ∙ keeps.remembered;
-  cursors = λ j a b other. ap (λ (z : Tables). z.cursors j) sets.tables ∙ changed_other (tables_of c).cursors TRACING_WORD (word_of_trace began) j other ∙ keeps.cursors j a b;
+  lists = record {
+    runs = ap (λ (z : Tables). z.runs) sets.tables ∙ keeps.runs;
+    frees = ap (λ (z : Tables). z.frees) sets.tables ∙ keeps.frees;
+    remembered = ap (λ (z : Tables). z.remembered) sets.tables ∙ keeps.remembered;
+    cursors = λ j a b other. ap (λ (z : Tables). z.cursors j) sets.tables ∙ changed_other (tables_of c).cursors TRACING_WORD (word_of_trace began) j other ∙ keeps.cursors j a b;
+  };
 }
 
 pub keeps_marks : (a b : Space) → KeepsButMarks a b → KeepsListsAndCounters (tables_of a) (tables_of b)
@@ -85,7 +88,7 @@ keeps_marks a b keeps = record {
   cursors = λ j a b. ap (λ (z : Tables). z.cursors j) keeps.tables;
 }
 
-module _ (s k : Space) (g : AbstractState) (can : CanPause s g) (gone : List Name) (counts : SettlesCounts s k g gone) where
+module _ (s k : Space) (g : AbstractState) (can : CanPause s g) (at' : Name → ℕ) (gone : List Name) (counts : SettlesCounts s k g at' gone) where
   abbrev m : Moment
   m = g.moment
 
@@ -95,15 +98,15 @@ module _ (s k : Space) (g : AbstractState) (can : CanPause s g) (gone : List Nam
   -- ---- a plain pause
 
   abbrev plain_end : Space
-  plain_end = ended s k g can gone counts kind.Plain [] [] [] k.words k.trace
+  plain_end = ended s k g can at' gone counts kind.Plain [] [] [] k.words k.trace
 
   abbrev plain_report : Report
-  plain_report = report s k g can gone counts kind.Plain [] [] [] k.words k.trace
+  plain_report = report s k g can at' gone counts kind.Plain [] [] [] k.words k.trace
 
   plain_dead : gone ++ [] ≡ k.report.dead.items
   plain_dead = append-nil gone ∙ sym counts.tells.dead
 
-  plain_is : plain_end ≡ with_kind s k g can gone counts kind.Plain
+  plain_is : plain_end ≡ with_kind s k g can at' gone counts kind.Plain
   plain_is i = record k {
     report = record k.report {
       kind = kind.Plain;
@@ -112,7 +115,7 @@ module _ (s k : Space) (g : AbstractState) (can : CanPause s g) (gone : List Nam
     };
   }
 
-  plain_lead : counted m gone k.report ≡ leads s k g can gone counts kind.Plain [] [] [] k.words k.trace
+  plain_lead : counted m gone k.report ≡ leads s k g can at' gone counts kind.Plain [] [] [] k.words k.trace
   plain_lead i = record {
     state = m.state;
     last = m.state;
@@ -124,7 +127,7 @@ module _ (s k : Space) (g : AbstractState) (can : CanPause s g) (gone : List Nam
     written = [];
   }
 
-  plain_parts : AreParts s k g can gone counts kind.Plain [] [] [] k.words k.trace
+  plain_parts : AreParts s k g can at' gone counts kind.Plain [] [] [] k.words k.trace
   plain_parts = record {
     second_once = tt;
     third_once = tt;
@@ -135,27 +138,27 @@ module _ (s k : Space) (g : AbstractState) (can : CanPause s g) (gone : List Nam
     sweeps = refl;
   }
 
-  pub plain_settles : Settles s (with_kind s k g can gone counts kind.Plain) g (record { first_dead = gone; second_dead = []; third_dead = [] })
-  plain_settles = subst (λ y. Settles s y g (record { first_dead = gone; second_dead = []; third_dead = [] })) plain_is
-      (settles s k g can gone counts kind.Plain [] [] [] k.words k.trace plain_parts
-      (subst (λ z. HoldsMoment plain_end z g.at) plain_lead (holds_told k (counted m gone k.report) g.at plain_report k.tally k.pauses
+  pub plain_settles : Settles s (with_kind s k g can at' gone counts kind.Plain) g at' (record { first_dead = gone; second_dead = []; third_dead = [] })
+  plain_settles = subst (λ y. Settles s y g at' (record { first_dead = gone; second_dead = []; third_dead = [] })) plain_is
+      (settles s k g can at' gone counts kind.Plain [] [] [] k.words k.trace plain_parts
+      (subst (λ z. HoldsMoment plain_end z at') plain_lead (holds_told k (counted m gone k.report) at' plain_report k.tally k.pauses
       (record { promoted = counts.holds.room.report.promoted; dead = counts.holds.room.report.dead; stuck = counts.holds.room.report.stuck; swept = counts.holds.room.report.swept; counts = counts.holds.room.report.counts })
       counts.holds))
-      (subst (λ z. IsUndecremented (tables_of plain_end) z g.at) plain_lead counts.undecremented)
-      (subst (λ z. IsTracedBy k.limits (tables_of k) [] (at_moment g z) z.trace) plain_lead counts.traced)
+      (subst (λ z. IsUndecremented (tables_of plain_end) z at') plain_lead counts.undecremented)
+      (subst (λ z. IsTracedBy k.limits (tables_of k) [] (at_moment (standing g at') z) z.trace) plain_lead counts.traced)
       (ap (λ (x : Space). x.trace) counts.space ∙ can.safepoint.numbers.trace ∙ sym (began_on m (report_of plain_report) m.trace))
-      tt refl (record { heap = refl; reuse = refl; runs = refl; frees = refl; remembered = refl; cursors = λ j a b c. refl }) refl
-      (subst (λ ns. Traces kind.Plain m.trace s plain_end g (report_of plain_report) ns) (ap (λ (z : Moment). z.unreclaimed) plain_lead)
-      (traces_still s k plain_end g (report_of k.report) (report_of plain_report) kept refl refl (λ n. refl) (λ n. ap (λ ns. has ns n) plain_dead) kind.Plain m.trace counts.traces)))
+      tt refl (record { heap = refl; reuse = refl; lists = record { runs = refl; frees = refl; remembered = refl; cursors = λ j a b c. refl } }) refl
+      (subst (λ ns. Traces kind.Plain m.trace s plain_end g at' (report_of plain_report) ns) (ap (λ (z : Moment). z.unreclaimed) plain_lead)
+      (traces_still s k plain_end g at' (report_of k.report) (report_of plain_report) kept refl refl (λ n. refl) (λ n. ap (λ ns. has ns n) plain_dead) kind.Plain m.trace counts.traces)))
 
   -- ---- a pause that begins a trace
 
-  module _ (x : Space) (begins : Begins (with_kind s k g can gone counts kind.Begin) x (now s k g can gone counts kind.Begin)) where
+  module _ (x : Space) (begins : Begins (with_kind s k g can at' gone counts kind.Begin) x (now s k g can at' gone counts kind.Begin)) where
     abbrev second : List Name
     second = begins.gone
 
     abbrev left : Moment
-    left = drained (now s k g can gone counts kind.Begin) second
+    left = drained (now s k g can at' gone counts kind.Begin) second
 
     abbrev fresh : Trace
     fresh = fresh_trace left k.report.number
@@ -164,7 +167,7 @@ module _ (s k : Space) (g : AbstractState) (can : CanPause s g) (gone : List Nam
     began = Some k.report.number
 
     abbrev begin_end : Space
-    begin_end = ended s k g can gone counts kind.Begin second [] [] x.words began
+    begin_end = ended s k g can at' gone counts kind.Begin second [] [] x.words began
 
     begin_dead : k.report.dead.items ++ second ≡ gone ++ (second ++ [])
     begin_dead = ap (λ ns. ns ++ second) counts.tells.dead ∙ ap (λ ns. gone ++ ns) (sym (append-nil second))
@@ -184,10 +187,10 @@ module _ (s k : Space) (g : AbstractState) (can : CanPause s g) (gone : List Nam
           };
         })
 
-    begin_left : left.unreclaimed ≡ (leads s k g can gone counts kind.Begin second [] [] x.words began).unreclaimed
+    begin_left : left.unreclaimed ≡ (leads s k g can at' gone counts kind.Begin second [] [] x.words began).unreclaimed
     begin_left = sym (ap (λ ns. without ns []) (without_none (without kept second)) ∙ without_none (without kept second))
 
-    begin_lead : record left { trace = Some fresh } ≡ leads s k g can gone counts kind.Begin second [] [] x.words began
+    begin_lead : record left { trace = Some fresh } ≡ leads s k g can at' gone counts kind.Begin second [] [] x.words began
     begin_lead i = record {
       state = m.state;
       last = m.state;
@@ -202,7 +205,7 @@ module _ (s k : Space) (g : AbstractState) (can : CanPause s g) (gone : List Nam
     none_left_dead : (n : Name) → Dead m.state left.unreclaimed left.stuck n → ⊥
     none_left_dead = nothing_dead m.state kept left.stuck second begins.finishes.dead
 
-    begin_parts : AreParts s k g can gone counts kind.Begin second [] [] x.words began
+    begin_parts : AreParts s k g can at' gone counts kind.Begin second [] [] x.words began
     begin_parts = record {
       second_once = begins.finishes.once;
       third_once = tt;
@@ -216,8 +219,8 @@ module _ (s k : Space) (g : AbstractState) (can : CanPause s g) (gone : List Nam
     begun_marks : KeepsButMarks begins.found begins.begun
     begun_marks = record { tables = begins.begins.tables; space = begins.begins.space }
 
-    begun_undecremented : IsUndecremented (tables_of begins.begun) left g.at
-    begun_undecremented = undecremented_still (tables_of begins.found) (tables_of begins.begun) left g.at (ap (λ (t : Tables). t.dones) begins.begins.tables) (ap (λ (t : Tables). t.counts) begins.begins.tables)
+    begun_undecremented : IsUndecremented (tables_of begins.begun) left at'
+    begun_undecremented = undecremented_still (tables_of begins.found) (tables_of begins.begun) left at' (ap (λ (t : Tables). t.dones) begins.begins.tables) (ap (λ (t : Tables). t.counts) begins.begins.tables)
         (ap (λ (t : Tables). t.cursors DECREMENT_CURSOR) begins.begins.tables) begins.finishes.undecremented
 
     begun_states : (tables_of begins.begun).states ≡ (tables_of k).states
@@ -228,7 +231,7 @@ module _ (s k : Space) (g : AbstractState) (can : CanPause s g) (gone : List Nam
 
     begun_unchosen : NoneChosen (tables_of begins.begun) begins.begun.limits.blocks
     begun_unchosen = chosen_still (tables_of k) (tables_of begins.begun) begins.begun.limits.blocks begun_states
-        ∙ subst (λ l. NoneChosen (tables_of k) l.blocks) (sym begun_limits) (unchosen s k g can gone counts kind.Begin)
+        ∙ subst (λ l. NoneChosen (tables_of k) l.blocks) (sym begun_limits) (unchosen s k g can at' gone counts kind.Begin)
 
     begun_rest : begins.begun.rest_next ≡ begins.begun.rest_end
     begun_rest =
@@ -237,20 +240,20 @@ module _ (s k : Space) (g : AbstractState) (can : CanPause s g) (gone : List Nam
         ∙ sym (ap (λ (y : Space). y.rest_end) begins.begins.space ∙ ap (λ (y : Space). y.rest_end) begins.finishes.space)
 
     none_remembered : (tables_of begins.found).cursors REMEMBERED_CURSOR ≡ 0
-    none_remembered = begins.finishes.keeps.cursors REMEMBERED_CURSOR (λ e. cc) (λ e. cc) ∙ (can_drain s k g can gone counts kind.Begin).none_remembered
+    none_remembered = begins.finishes.keeps.cursors REMEMBERED_CURSOR (λ e. cc) (λ e. cc) ∙ (can_drain s k g can at' gone counts kind.Begin).none_remembered
 
-    begin_traced : TraceHolds x.limits (tables_of x) [] (at_moment g (record left { trace = Some fresh })) fresh
+    begin_traced : TraceHolds x.limits (tables_of x) [] (at_moment (standing g at') (record left { trace = Some fresh })) fresh
     begin_traced =
-        let holds = beginning begins.found begins.begun left g.at g.reported k.report.number
-        (settled_left (with_kind s k g can gone counts kind.Begin) (now s k g can gone counts kind.Begin) (can_drain s k g can gone counts kind.Begin) begins.found second begins.finishes)
+        let holds = beginning begins.found begins.begun left at' g.reported k.report.number
+        (settled_left (with_kind s k g can at' gone counts kind.Begin) (now s k g can at' gone counts kind.Begin) (can_drain s k g can at' gone counts kind.Begin) begins.found second begins.finishes)
         begins.finishes.undecremented none_left_dead none_remembered begins.begins in
-        subst (λ t. TraceHolds x.limits t [] (at_moment g (record left { trace = Some fresh })) fresh) (sym begins.sets.tables)
-        (subst (λ l. TraceHolds l (record (tables_of begins.begun) { cursors = changed (tables_of begins.begun).cursors TRACING_WORD 1 }) [] (at_moment g (record left { trace = Some fresh })) fresh)
+        subst (λ t. TraceHolds x.limits t [] (at_moment (standing g at') (record left { trace = Some fresh })) fresh) (sym begins.sets.tables)
+        (subst (λ l. TraceHolds l (record (tables_of begins.begun) { cursors = changed (tables_of begins.begun).cursors TRACING_WORD 1 }) [] (at_moment (standing g at') (record left { trace = Some fresh })) fresh)
         (sym (ap (λ (y : Space). y.limits) begins.sets.space))
-        (trace_still begins.begun.limits (tables_of begins.begun) (tables_of begins.begun).states (changed (tables_of begins.begun).cursors TRACING_WORD 1) [] (record { moment = left; at = g.at; reported = g.reported })
+        (trace_still begins.begun.limits (tables_of begins.begun) (tables_of begins.begun).states (changed (tables_of begins.begun).cursors TRACING_WORD 1) [] (record { moment = left; at = at'; reported = g.reported })
         left.number left.stuck (Some fresh) g.reported (λ n. refl) (omega arith) (changed_other (tables_of begins.begun).cursors TRACING_WORD 1 REMEMBERED_CURSOR (λ e. cc)) (λ b c. c) fresh holds))
 
-    begin_traces : BeginsTracing x g
+    begin_traces : BeginsTracing x g at'
     begin_traces = record {
       none_marked = λ j. ap (λ (t : Tables). t.marks j) begins.sets.tables ∙ begins.begins.none_marked j;
       grays = λ j. (
@@ -259,21 +262,21 @@ module _ (s k : Space) (g : AbstractState) (can : CanPause s g) (gone : List Nam
       );
     }
 
-    pub begin_settles : Settles s x g (record { first_dead = gone; second_dead = second; third_dead = [] })
-    begin_settles = subst (λ y. Settles s y g (record { first_dead = gone; second_dead = second; third_dead = [] })) (sym begin_is)
-        (settles s k g can gone counts kind.Begin second [] [] x.words began begin_parts
-        (subst (λ y. HoldsMoment y (leads s k g can gone counts kind.Begin second [] [] x.words began) g.at) begin_is
-        (subst (λ z. HoldsMoment x z g.at) begin_lead (holds_set begins.begun x began left g.at (Some fresh) begins.sets refl refl begun_rest begun_unchosen begins.begins.holds)))
-        (subst (λ y. IsUndecremented (tables_of y) (leads s k g can gone counts kind.Begin second [] [] x.words began) g.at) begin_is
-        (subst (λ z. IsUndecremented (tables_of x) z g.at) begin_lead (undecremented_set begins.begun x began left g.at (Some fresh) begins.sets refl refl begun_rest begun_unchosen begun_undecremented)))
-        (subst (λ y. IsTracedBy y.limits (tables_of y) [] (at_moment g (leads s k g can gone counts kind.Begin second [] [] x.words began)) (leads s k g can gone counts kind.Begin second [] [] x.words began).trace) begin_is
-        (subst (λ z. IsTracedBy x.limits (tables_of x) [] (at_moment g z) z.trace) begin_lead begin_traced))
+    pub begin_settles : Settles s x g at' (record { first_dead = gone; second_dead = second; third_dead = [] })
+    begin_settles = subst (λ y. Settles s y g at' (record { first_dead = gone; second_dead = second; third_dead = [] })) (sym begin_is)
+        (settles s k g can at' gone counts kind.Begin second [] [] x.words began begin_parts
+        (subst (λ y. HoldsMoment y (leads s k g can at' gone counts kind.Begin second [] [] x.words began) at') begin_is
+        (subst (λ z. HoldsMoment x z at') begin_lead (holds_set begins.begun x began left at' (Some fresh) begins.sets refl refl begun_rest begun_unchosen begins.begins.holds)))
+        (subst (λ y. IsUndecremented (tables_of y) (leads s k g can at' gone counts kind.Begin second [] [] x.words began) at') begin_is
+        (subst (λ z. IsUndecremented (tables_of x) z at') begin_lead (undecremented_set begins.begun x began left at' (Some fresh) begins.sets refl refl begun_rest begun_unchosen begun_undecremented)))
+        (subst (λ y. IsTracedBy y.limits (tables_of y) [] (at_moment (standing g at') (leads s k g can at' gone counts kind.Begin second [] [] x.words began)) (leads s k g can at' gone counts kind.Begin second [] [] x.words began).trace) begin_is
+        (subst (λ z. IsTracedBy x.limits (tables_of x) [] (at_moment (standing g at') z) z.trace) begin_lead begin_traced))
         refl
         (subst (λ y. (tables_of y).cursors DECREMENT_COUNT ≡ 0) begin_is
         (ap (λ (t : Tables). t.cursors DECREMENT_COUNT) begins.sets.tables ∙ changed_other (tables_of begins.begun).cursors TRACING_WORD 1 DECREMENT_COUNT (λ e. cc)
         ∙ ap (λ (t : Tables). t.cursors DECREMENT_COUNT) begins.begins.tables ∙ begins.finishes.empty))
         (subst (λ y. (tables_of y).outs ≡ (tables_of k).outs) begin_is (ap (λ (t : Tables). t.outs) begins.sets.tables ∙ ap (λ (t : Tables). t.outs) begins.begins.tables ∙ begins.finishes.outs))
-        (subst (λ y. KeepsThroughPause (tables_of k) (tables_of y)) begin_is
+        (subst (λ y. KeepsThroughTracing (tables_of k) (tables_of y)) begin_is
         (through_set (tables_of k) begins.begun x began (keeps_both (tables_of k) (tables_of begins.found) (tables_of begins.begun) begins.finishes.keeps (keeps_marks begins.found begins.begun begun_marks)) begins.sets))
         (subst (λ y. (tables_of y).states ≡ (tables_of k).states) begin_is (ap (λ (t : Tables). t.states) begins.sets.tables ∙ begun_states))
-        (subst (λ y. BeginsTracing y g) begin_is begin_traces))
+        (subst (λ y. BeginsTracing y g at') begin_is begin_traces))

@@ -1,6 +1,6 @@
 -- Once counting and tracing are done, blocks are swept, names are in order, counts are told where the pause drained, and the pause is counted:
 -- a pause was made, whatever its kind.
-use Rattle.std.proofs.Common.{◌≡◌, ℕ, ◌+◌, ◌*◌, refl, sym, ap, subst, ◌∙◌, inl, inr, arith, Bool, true, false, cond, List, [], IsTrue}
+use Rattle.std.proofs.Common.{◌≡◌, ℕ, ◌+◌, ◌*◌, ◌≤◌, refl, sym, ap, subst, ◌∙◌, inl, inr, arith, Bool, true, false, cond, List, [], IsTrue}
 use Rattle.std.specs.Prelude.{Option, Some, None, map, not, ◌&&◌}
 use Rattle.std.specs.Option.{option_map}
 use Rattle.std.proofs.lemmas.List.{append-nil}
@@ -17,6 +17,8 @@ use Rattle.lxr_image.specs.declared.space.Space.{Space}
 use Rattle.lxr_image.specs.Tables.{Tables}
 use Rattle.lxr_image.specs.Spaces.{IsSpace, Turns, tables_of}
 use Rattle.lxr_image.specs.Reads.{granule_of}
+use Rattle.lxr_image.proofs.TableLaws.{no_state_past}
+use Rattle.lxr_blocks.specs.Lines.{is_free}
 use Rattle.lxr_model.specs.Moments.{Moment, Trace, after_pause, stuck_after, unreclaimed_after}
 use Rattle.lxr_model.specs.References.{references}
 use Rattle.lxr_model.specs.Reports.{AreCounts, PauseParts, count_entry, is_draining}
@@ -27,7 +29,9 @@ use Rattle.lxr_invariant.specs.Counting.{IsUndecremented}
 use Rattle.lxr_invariant.specs.Lines.{HasBlocks, HasStates, NoneChosen}
 use Rattle.lxr_invariant.specs.Tracing.{IsTracedBy}
 use Rattle.lxr_invariant.specs.Quiescent.{HasNumbers, HoldsMoment, IsQuiescent}
-use Rattle.lxr_invariant.proofs.FrameLemmas.{chosen_still}
+use Rattle.lxr_invariant.proofs.BlockLemmas.{none_kept}
+use Rattle.lxr_invariant.proofs.CopiedLemmas.{apart_still, copies_still, stay_still}
+use Rattle.lxr_invariant.proofs.NameLemmas.{in_either, in_first, in_second}
 use Rattle.lxr_pause_decrements.proofs.WipeLemmas.{loses_same}
 use Rattle.lxr_pause_decrements.specs.Wipe.{LosesBits}
 use Rattle.lxr_run_pause.specs.declared.Ask.{Ask}
@@ -35,24 +39,24 @@ use Rattle.lxr_run_pause.specs.declared.Pace.{Pace}
 use Rattle.lxr_run_pause.specs.Deciding.{HasKind}
 use Rattle.lxr_run_pause.specs.Steps.{CanCountWhere, CountsWhere, with_names_in_order, with_pause_counted}
 use Rattle.lxr_run_pause.specs.Settling.{Settles, remaining_by, settled_by}
-use Rattle.lxr_run_pause.specs.Pausing.{CanPause, IsDrained, KeepsThroughPause, Pauses, Traces, states_swept}
+use Rattle.lxr_run_pause.specs.Pausing.{CanPause, IsDrained, IsLetGo, KeepsThroughPause, Pauses, Traces, states_swept}
 use Rattle.lxr_run_pause.proofs.ReportLemmas.{entries_same, moment_then, reports, stuck_then, stuck_told, told, unreclaimed_then}
 use Rattle.lxr_run_pause.proofs.OrderLemmas.{has_in_order}
 use Rattle.lxr_run_pause.proofs.FrameLemmas.{AgreesApartFromBlocks, holds_renumbered, holds_reworded, holds_told, ordered_room, renumbered, undecremented_renumbered, undecremented_reworded, with_told}
 use Rattle.lxr_run_pause.proofs.TracedLemmas.{traced_still}
-use Rattle.lxr_run_pause.proofs.SweepLemmas.{as_many_chosen, lines_kept, swept_blocks, swept_states, was_chosen}
+use Rattle.lxr_run_pause.proofs.SweepLemmas.{as_many_chosen, lines_kept, states_from, swept_blocks, swept_states, was_chosen}
 
 -- ---- mark and gray bits, whatever the order of names
 
-module _ (s x z : Space) (g : AbstractState) (p q : PauseReport) (left : List Name) (marks : (tables_of z).marks ≡ (tables_of x).marks) (grays : (tables_of z).grays ≡ (tables_of x).grays)
+module _ (s x z : Space) (g : AbstractState) (at' : Name → ℕ) (p q : PauseReport) (left : List Name) (marks : (tables_of z).marks ≡ (tables_of x).marks) (grays : (tables_of z).grays ≡ (tables_of x).grays)
     (promoted : (n : Name) → has q.promoted n ≡ has p.promoted n) (dead : (n : Name) → has q.dead n ≡ has p.dead n) where
   abbrev bit : (ℕ → Bool) → Name → Type 0
-  bit f n = IsTrue (f (granule_of (g.at n)))
+  bit f n = IsTrue (f (granule_of (at' n)))
 
-  lost : (bits : Tables → ℕ → Bool) → bits (tables_of z) ≡ bits (tables_of x) → LosesBits (bits (tables_of s)) (bits (tables_of x)) g.at p.dead → LosesBits (bits (tables_of s)) (bits (tables_of z)) g.at q.dead
-  lost bits same is = subst (λ f. LosesBits (bits (tables_of s)) f g.at q.dead) (sym same) (loses_same (bits (tables_of s)) (bits (tables_of x)) g.at p.dead q.dead dead is)
+  lost : (bits : Tables → ℕ → Bool) → bits (tables_of z) ≡ bits (tables_of x) → LosesBits (bits (tables_of s)) (bits (tables_of x)) at' p.dead → LosesBits (bits (tables_of s)) (bits (tables_of z)) at' q.dead
+  lost bits same is = subst (λ f. LosesBits (bits (tables_of s)) f at' q.dead) (sym same) (loses_same (bits (tables_of s)) (bits (tables_of x)) at' p.dead q.dead dead is)
 
-  pub traces_still : (k : Kind) (trace : Option Trace) → Traces k trace s x g p left → Traces k trace s z g q left
+  pub traces_still : (k : Kind) (trace : Option Trace) → Traces k trace s x g at' p left → Traces k trace s z g at' q left
   traces_still kind.Plain None is = record { marks = lost (λ t. t.marks) marks is.marks; grays = lost (λ t. t.grays) grays is.grays }
   traces_still kind.Plain (Some trace) is = record {
     marks = λ n k. (
@@ -85,7 +89,7 @@ module _ (s x z : Space) (g : AbstractState) (p q : PauseReport) (left : List Na
 
 -- ---- the end of a pause
 
-module _ (s x : Space) (g : AbstractState) (asked : Ask) (pace : Pace) (can : CanPause s g) (parts : PauseParts) (settles : Settles s x g parts)
+module _ (s x : Space) (g : AbstractState) (asked : Ask) (pace : Pace) (can : CanPause s g) (at' : Name → ℕ) (parts : PauseParts) (settles : Settles s x g at' parts)
     (is_kind : HasKind (tables_of s) g.moment g.at s.logged.items asked pace x.report.kind)
     (words : List ℕ) (tables : tables_of (record x { words = words }) ≡ with_states_by_lines (tables_of x) x.limits.blocks) (space : IsSpace (record x { words = words })) where
   abbrev m : Moment
@@ -113,18 +117,18 @@ module _ (s x : Space) (g : AbstractState) (asked : Ask) (pace : Pace) (can : Ca
   agree : AgreesApartFromBlocks t (tables_of swept)
   agree = record { states = (with_states_by_lines t x.limits.blocks).states; cursors = t.cursors; tables = tables; drawn = refl; waiting = refl }
 
-  holds_swept : HoldsMoment swept leads g.at
-  holds_swept = holds_reworded x words x.trace leads leads.number leads.stuck leads.trace g.at agree (λ n. refl) space refl settles.no_rest
+  holds_swept : HoldsMoment swept leads at'
+  holds_swept = holds_reworded x words x.trace leads leads.number leads.stuck leads.trace at' agree (λ n. refl) space refl settles.no_rest
       (subst (λ z. HasBlocks z x.limits.blocks leads.trace) (sym tables) (swept_blocks t x.limits.blocks leads.trace settles.holds.blocks)) settles.holds
 
-  swept_undecremented : IsUndecremented (tables_of swept) leads g.at
-  swept_undecremented = undecremented_reworded x words x.trace leads leads.number leads.stuck leads.trace g.at agree (λ n. refl) settles.undecremented
+  swept_undecremented : IsUndecremented (tables_of swept) leads at'
+  swept_undecremented = undecremented_reworded x words x.trace leads leads.number leads.stuck leads.trace at' agree (λ n. refl) settles.undecremented
 
   -- where the pause drained, unreclaimed objects may be counted
-  pub can_count : (b : Bool) → IsDrained x b → CanCountWhere b in_order leads g.at
+  pub can_count : (b : Bool) → IsDrained x b → CanCountWhere b in_order leads at'
   can_count false drained = tt
   can_count true drained = record {
-    holds = holds_told swept leads g.at (with_names_in_order r) swept.tally swept.pauses (ordered_room r (GRANULES_IN_BLOCK * x.limits.blocks) settles.holds.room.report) holds_swept;
+    holds = holds_told swept leads at' (with_names_in_order r) swept.tally swept.pauses (ordered_room r (GRANULES_IN_BLOCK * x.limits.blocks) settles.holds.room.report) holds_swept;
     settled = record { same = refl; none_made = refl; none_written = refl };
     undecremented = swept_undecremented;
     empty = ap (λ z. z.cursors DECREMENT_COUNT) tables ∙ drained;
@@ -188,45 +192,45 @@ module _ (s x : Space) (g : AbstractState) (asked : Ask) (pace : Pace) (can : Ca
     stuck_is : (n : Name) → has (stuck_after m said) n ≡ has leads.stuck n
     stuck_is = stuck_then m r parts counts follows settles.tells afresh
 
-    holds_then : HoldsMoment at_end then g.at
+    holds_then : HoldsMoment at_end then at'
     holds_then =
-        holds_told swept then g.at report at_end.tally at_end.pauses
+        holds_told swept then at' report at_end.tally at_end.pauses
         (record { promoted = settles.holds.room.report.promoted; dead = settles.holds.room.report.dead; stuck = settles.holds.room.report.stuck; swept = settles.holds.room.report.swept; counts = settles.holds.room.report.counts })
-        (holds_renumbered swept leads leads.number (stuck_after m said) leads.trace g.at stuck_is refl settles.no_rest holds_swept.blocks holds_swept)
+        (holds_renumbered swept leads leads.number (stuck_after m said) leads.trace at' stuck_is refl settles.no_rest holds_swept.blocks holds_swept)
 
-    holds : HoldsMoment at_end (after_pause m said) g.at
-    holds = subst (λ z. HoldsMoment at_end z g.at) (sym moment_is) holds_then
+    holds : HoldsMoment at_end (after_pause m said) at'
+    holds = subst (λ z. HoldsMoment at_end z at') (sym moment_is) holds_then
 
-    undecremented : IsUndecremented (tables_of at_end) (after_pause m said) g.at
-    undecremented = subst (λ z. IsUndecremented (tables_of at_end) z g.at) (sym moment_is)
-        (undecremented_renumbered leads leads.number (stuck_after m said) leads.trace stuck_is (tables_of at_end) g.at swept_undecremented)
+    undecremented : IsUndecremented (tables_of at_end) (after_pause m said) at'
+    undecremented = subst (λ z. IsUndecremented (tables_of at_end) z at') (sym moment_is)
+        (undecremented_renumbered leads leads.number (stuck_after m said) leads.trace stuck_is (tables_of at_end) at' swept_undecremented)
 
-    numbers : HasNumbers at_end (paused g said)
+    numbers : HasNumbers at_end (paused g at' said)
     numbers = record {
       pauses = ap (λ (y : Space). y.pauses + 1) settles.space ∙ ap (λ k. k + 1) can.safepoint.numbers.pauses ∙ sym settles.tells.number;
       trace = settles.trace ∙ sym (ap (λ (z : Moment). option_map (λ (trace : Trace). trace.began) z.trace) moment_is);
       report = refl;
     }
 
-    traced_then : IsTracedBy x.limits (tables_of at_end) at_end.logged.items (record { moment = then; at = g.at; reported = said }) then.trace
+    traced_then : IsTracedBy x.limits (tables_of at_end) at_end.logged.items (record { moment = then; at = at'; reported = said }) then.trace
     traced_then =
-        subst (λ es. IsTracedBy x.limits (tables_of at_end) es (record { moment = then; at = g.at; reported = said }) then.trace) (sym settles.no_logs)
-        (subst (λ z. IsTracedBy x.limits z [] (record { moment = then; at = g.at; reported = said }) then.trace) (sym tables)
-        (traced_still x.limits t (with_states_by_lines t x.limits.blocks).states t.cursors [] (record { moment = leads; at = g.at; reported = g.reported }) leads.number (stuck_after m said) leads.trace said
+        subst (λ es. IsTracedBy x.limits (tables_of at_end) es (record { moment = then; at = at'; reported = said }) then.trace) (sym settles.no_logs)
+        (subst (λ z. IsTracedBy x.limits z [] (record { moment = then; at = at'; reported = said }) then.trace) (sym tables)
+        (traced_still x.limits t (with_states_by_lines t x.limits.blocks).states t.cursors [] (record { moment = leads; at = at'; reported = g.reported }) leads.number (stuck_after m said) leads.trace said
         stuck_is (omega arith) refl (was_chosen t x.limits.blocks) leads.trace settles.traced))
 
-    traced : IsTracedBy x.limits (tables_of at_end) at_end.logged.items (paused g said) (after_pause m said).trace
-    traced = subst (λ z. IsTracedBy x.limits (tables_of at_end) at_end.logged.items (record { moment = z; at = g.at; reported = said }) z.trace) (sym moment_is) traced_then
+    traced : IsTracedBy x.limits (tables_of at_end) at_end.logged.items (paused g at' said) (after_pause m said).trace
+    traced = subst (λ z. IsTracedBy x.limits (tables_of at_end) at_end.logged.items (record { moment = z; at = at'; reported = said }) z.trace) (sym moment_is) traced_then
 
     none_out : (line : ℕ) → (tables_of at_end).outs line ≡ false
     none_out line = ap (λ z. z.outs line) tables ∙ settles.none_out line
 
-    between : IsQuiescent at_end (paused g said)
+    between : IsQuiescent at_end (paused g at' said)
     between = record {
       safepoint = record { holds = holds; numbers = numbers; traced = traced };
       unwritten = refl;
       undecremented = undecremented;
-      lines = λ n o k member. lines_kept (tables_of at_end) m.state.graph g.at (after_pause m said).unreclaimed holds.marks undecremented.positive n o k
+      lines = λ n o k member. lines_kept (tables_of at_end) m.state.graph at' (after_pause m said).unreclaimed holds.marks undecremented.positive n o k
           (subst (λ ns. IsTrue (has ns n)) (append-nil (after_pause m said).unreclaimed) member);
       outs = record { taken = λ line out. not_both ((tables_of at_end).outs line) out (none_out line); outside = λ line out. not_both ((tables_of at_end).outs line) out (none_out line) };
       states = subst (λ z. HasStates z x.limits.blocks) (sym tables) (swept_states t x.limits.blocks);
@@ -235,22 +239,29 @@ module _ (s x : Space) (g : AbstractState) (asked : Ask) (pace : Pace) (can : Ca
     same_blocks : x.limits.blocks ≡ s.limits.blocks
     same_blocks = ap (λ (y : Space). y.limits.blocks) settles.space
 
-    -- the states before the sweep were those before the pause
+    -- past the last block no state is told
+    past : (b : ℕ) → s.limits.blocks ≤ b → t.states b ≡ (tables_of s).states b
+    past b high =
+        no_state_past x.limits x.words b settles.holds.space.size (subst (λ n. n ≤ b) (sym same_blocks) high)
+        ∙ sym (no_state_past s.limits s.words b can.safepoint.holds.space.size high)
+
+    -- a sweep leaves the same states as from those before the pause
     swept_from_before : (tables_of at_end).states ≡ states_swept (tables_of at_end) (tables_of s).states s.limits.blocks
     swept_from_before =
         ap (λ z. z.states) tables
         ∙ ap (λ n. (with_states_by_lines t n).states) same_blocks
         ∙ ap (λ z. states_swept z t.states s.limits.blocks) (sym tables)
-        ∙ ap (λ f. states_swept (tables_of at_end) f s.limits.blocks) settles.states
+        ∙ states_from (tables_of at_end) (tables_of s) t s.limits.blocks settles.states past
+
+    -- no block is Chosen before the sweep, and none after it
+    unchosen_then : NoneChosen t x.limits.blocks
+    unchosen_then = none_kept (tables_of s) t x.limits.blocks settles.states (subst (λ n. NoneChosen (tables_of s) n) (sym same_blocks) can.none_chosen)
 
     unchosen : NoneChosen (tables_of at_end) s.limits.blocks
-    unchosen = subst (λ n. NoneChosen (tables_of at_end) n) same_blocks
-        (subst (λ z. NoneChosen z x.limits.blocks) (sym tables) (as_many_chosen t x.limits.blocks ∙ chosen_still (tables_of s) t x.limits.blocks settles.states ∙ subst (λ n. NoneChosen (tables_of s) n) (sym same_blocks) can.none_chosen))
+    unchosen = subst (λ n. NoneChosen (tables_of at_end) n) same_blocks (subst (λ z. NoneChosen z x.limits.blocks) (sym tables) (as_many_chosen t x.limits.blocks ∙ unchosen_then))
 
     keeps : KeepsThroughPause (tables_of s) (tables_of at_end)
     keeps = record {
-      heap = ap (λ z. z.heap) tables ∙ settles.keeps.heap;
-      reuse = ap (λ z. z.reuse) tables ∙ settles.keeps.reuse;
       runs = ap (λ z. z.runs) tables ∙ settles.keeps.runs;
       frees = ap (λ z. z.frees) tables ∙ settles.keeps.frees;
       remembered = ap (λ z. z.remembered) tables ∙ settles.keeps.remembered;
@@ -262,25 +273,51 @@ module _ (s x : Space) (g : AbstractState) (asked : Ask) (pace : Pace) (can : Ca
     drained_by false is = tt
     drained_by true none = ap (λ z. z.cursors DECREMENT_COUNT) tables ∙ none
 
+    -- ---- lines, whatever the states of blocks and the order of names
+
+    line_was_free : (line : ℕ) → ¬ IsLetGo g at' said line → IsTrue (is_free (record (tables_of at_end) { outs = (tables_of s).outs }) line) → IsTrue (is_free (record t { outs = (tables_of s).outs }) line)
+    line_was_free line kept free = subst (λ z. IsTrue (is_free (record z { outs = (tables_of s).outs }) line)) tables free
+
+    -- what is reclaimed is so in whatever order its names are told
+    let_go_told : (line : ℕ) → IsLetGo g at' (report_of r) line → IsLetGo g at' said line
+    let_go_told line (n, o, k, gone, alive, covers, is) = (
+      n,
+      o,
+      k,
+      elim (in_either r.dead.items r.swept.items n gone) [
+        | inl d ↦ in_first said.dead said.swept n (has_in_order r.dead.items n ∙ d)
+        | inr w ↦ in_second said.dead said.swept n (has_in_order r.swept.items n ∙ w)
+      ],
+      alive,
+      covers,
+      is,
+    )
+
     left_is : (after_pause m said).unreclaimed ≡ leads.unreclaimed
     left_is = ap (λ (z : Moment). z.unreclaimed) moment_is
 
-    pub pauses_at_end : Pauses s at_end g asked pace
+    pub pauses_at_end : Pauses s at_end g at' asked pace
     pauses_at_end = record {
       kind = is_kind;
       reports = reports m r parts counts follows settles.tells afresh;
       between = between;
       tally = ap (λ (y : Space). record y.tally { pauses = y.tally.pauses + 1 }) settles.space;
+      copies = copies_still (tables_of s) t (tables_of s) (tables_of at_end) m m.unreclaimed g.at at' r.promoted.items said.promoted refl refl refl (ap (λ z. z.heap) tables) (ap (λ z. z.reuse) tables)
+          (has_in_order r.promoted.items) settles.copies;
+      apart = apart_still s g at' r.promoted.items said.promoted (has_in_order r.promoted.items) settles.apart;
+      stay = stay_still (tables_of s) t (tables_of s) (tables_of at_end) s.limits.blocks m g.at at' r.promoted.items said.promoted (IsLetGo g at' (report_of r)) (IsLetGo g at' said) (has_in_order r.promoted.items)
+          refl line_was_free let_go_told settles.stay;
       keeps = keeps;
       drained = drained_by (is_draining r.kind) settles.drained;
       none_out = none_out;
       no_rest = settles.no_rest;
       none_chosen = unchosen;
       states = swept_from_before;
-      traces = subst (λ ns. Traces r.kind m.trace s at_end g said ns) (sym left_is)
-          (traces_still s x at_end g (report_of r) said leads.unreclaimed (ap (λ z. z.marks) tables) (ap (λ z. z.grays) tables) (has_in_order r.promoted.items) (has_in_order r.dead.items) r.kind m.trace settles.traces);
+      traces = subst (λ ns. Traces r.kind m.trace s at_end g at' said ns) (sym left_is)
+          (traces_still s x at_end g at' (report_of r) said leads.unreclaimed (ap (λ z. z.marks) tables) (ap (λ z. z.grays) tables) (has_in_order r.promoted.items) (has_in_order r.dead.items) r.kind m.trace settles.traces);
       space = ap (λ (y : Space). record y {
         words = words;
+        registers = record y.registers { items = x.registers.items };
         deferred = x.deferred;
         logged = x.logged;
         report = report;
@@ -294,7 +331,7 @@ module _ (s x : Space) (g : AbstractState) (asked : Ask) (pace : Pace) (can : Ca
 
 -- ---- a pause was made, however its space came about
 
-module _ (s x swept : Space) (report : Report) (g : AbstractState) (asked : Ask) (pace : Pace) (can : CanPause s g) (parts : PauseParts) (settles : Settles s x g parts) (k : Kind) (same_kind : x.report.kind ≡ k)
+module _ (s x swept : Space) (report : Report) (g : AbstractState) (asked : Ask) (pace : Pace) (can : CanPause s g) (at' : Name → ℕ) (parts : PauseParts) (settles : Settles s x g at' parts) (k : Kind) (same_kind : x.report.kind ≡ k)
     (is_kind : HasKind (tables_of s) g.moment g.at s.logged.items asked pace k) (turns : Turns x swept (with_states_by_lines (tables_of x) x.limits.blocks)) (space : IsSpace swept)
     (orders : report ≡ with_names_in_order swept.report) where
   own_kind : HasKind (tables_of s) g.moment g.at s.logged.items asked pace x.report.kind
@@ -310,15 +347,15 @@ module _ (s x swept : Space) (report : Report) (g : AbstractState) (asked : Ask)
   abbrev sorted : Space
   sorted = record swept { report = report }
 
-  sorted_is : sorted ≡ in_order s x g asked pace can parts settles own_kind swept.words swept_tables swept_space
+  sorted_is : sorted ≡ in_order s x g asked pace can at' parts settles own_kind swept.words swept_tables swept_space
   sorted_is = ap (λ r. record swept { report = r }) orders ∙ ap (λ (y : Space). record y { report = with_names_in_order y.report }) turns.rest
 
   abbrev pub leads_to : Moment
   leads_to = settled_by g.moment parts x.report
 
-  pub can_count_sorted : CanCountWhere (is_draining k) sorted leads_to g.at
-  can_count_sorted = subst (λ y. CanCountWhere (is_draining k) y leads_to g.at) (sym sorted_is)
-      (can_count s x g asked pace can parts settles own_kind swept.words swept_tables swept_space (is_draining k) (subst (λ q. IsDrained x (is_draining q)) same_kind settles.drained))
+  pub can_count_sorted : CanCountWhere (is_draining k) sorted leads_to at'
+  can_count_sorted = subst (λ y. CanCountWhere (is_draining k) y leads_to at') (sym sorted_is)
+      (can_count s x g asked pace can at' parts settles own_kind swept.words swept_tables swept_space (is_draining k) (subst (λ q. IsDrained x (is_draining q)) same_kind settles.drained))
 
   module _ (z counted : Space) (counts : CountsWhere (is_draining k) sorted z leads_to) (ends : counted ≡ with_pause_counted z) where
     told_by : (b : Bool) → CountsWhere b sorted z leads_to → AreCounts g.moment (told x.report z.report.counts.items) b
@@ -326,7 +363,7 @@ module _ (s x swept : Space) (report : Report) (g : AbstractState) (asked : Ask)
         ap (λ (y : Space). y.report.counts.items) same
         ∙ ap (λ (y : Space). y.report.counts.items) sorted_is
         ∙ settles.tells.counts
-    told_by true is = is.counts ∙ right_counts s x g asked pace can parts settles own_kind swept.words swept_tables swept_space
+    told_by true is = is.counts ∙ right_counts s x g asked pace can at' parts settles own_kind swept.words swept_tables swept_space
 
     counted_is : (b : Bool) → CountsWhere b sorted z leads_to → z ≡ record sorted { report = record sorted.report { counts = record sorted.report.counts { items = z.report.counts.items } } }
     counted_is false same = same ∙ ap (λ (y : Space). record sorted { report = record sorted.report { counts = record sorted.report.counts { items = y.report.counts.items } } }) (sym same)
@@ -335,12 +372,12 @@ module _ (s x swept : Space) (report : Report) (g : AbstractState) (asked : Ask)
     afresh_by : (b : Bool) → b ≡ is_draining x.report.kind → AreCounts g.moment (told x.report z.report.counts.items) b
     afresh_by b e = told_by b (subst (λ c. CountsWhere c sorted z leads_to) (sym (e ∙ ap is_draining same_kind)) counts)
 
-    ends_at : counted ≡ at_end s x g asked pace can parts settles own_kind swept.words swept_tables swept_space z.report.counts.items afresh_by
+    ends_at : counted ≡ at_end s x g asked pace can at' parts settles own_kind swept.words swept_tables swept_space z.report.counts.items afresh_by
     ends_at =
         ends
         ∙ ap with_pause_counted (counted_is (is_draining k) counts)
         ∙ ap (λ (y : Space). with_pause_counted (record y { report = record y.report { counts = record y.report.counts { items = z.report.counts.items } } })) sorted_is
 
-    pub pauses : Pauses s counted g asked pace
-    pauses = subst (λ y. Pauses s y g asked pace) (sym ends_at)
-        (pauses_at_end s x g asked pace can parts settles own_kind swept.words swept_tables swept_space z.report.counts.items afresh_by)
+    pub pauses : Pauses s counted g at' asked pace
+    pauses = subst (λ y. Pauses s y g at' asked pace) (sym ends_at)
+        (pauses_at_end s x g asked pace can at' parts settles own_kind swept.words swept_tables swept_space z.report.counts.items afresh_by)

@@ -1,25 +1,32 @@
 -- Each step of counting finds what it asks for, and once roots are deferred, counting is done: a trace that runs goes on.
-use Rattle.std.proofs.Common.{◌≡◌, ℕ, ◌+◌, ◌*◌, ◌≤◌, refl, sym, ap, subst, ◌∙◌, arith, List, [], ◌++◌, length}
+use Rattle.std.proofs.Common.{◌≡◌, ℕ, ◌+◌, ◌*◌, ◌≤◌, refl, sym, ap, subst, ◌∙◌, arith, List, [], ◌++◌, IsTrue, length}
 use Rattle.std.specs.Prelude.{◌↔◌, Option, Some, None}
 use Rattle.lxr_layout.specs.declared.TheConstants.{GRANULES_IN_BLOCK}
 use Rattle.lxr_layout.specs.declared.Name.{Name}
 use Rattle.lxr_graph.specs.declared.report.Kind.TheVariants as kind
-use Rattle.lxr_graph.specs.Names.{without}
+use Rattle.lxr_graph.specs.Names.{has, without}
 use Rattle.lxr_graph.specs.History.{PauseReport, report_of}
+use Rattle.lxr_graph.proofs.NameSets.{in_without}
 use Rattle.lxr_image.specs.declared.space.Space.{Space}
 use Rattle.lxr_image.specs.Tables.{Tables}
 use Rattle.lxr_image.specs.Spaces.{tables_of}
+use Rattle.lxr_blocks.specs.Lines.{is_free}
+use Rattle.lxr_model.specs.Dead.{Dead}
 use Rattle.lxr_model.specs.Moments.{Moment, Trace, going_on}
 use Rattle.lxr_invariant.specs.AbstractState.{AbstractState, leaving}
 use Rattle.lxr_invariant.specs.Counting.{IsUndecremented}
-use Rattle.lxr_invariant.specs.Keeping.{KeepsListsAndCounters}
+use Rattle.lxr_invariant.specs.Copied.{CopiesPromoted, StayForWantOfLines, standing}
+use Rattle.lxr_invariant.specs.Keeping.{KeepsLists, KeepsListsAndCounters}
 use Rattle.lxr_invariant.specs.Lines.{HasBlocks, NoneChosen}
 use Rattle.lxr_invariant.specs.Quiescent.{HoldsMoment}
 use Rattle.lxr_invariant.specs.Raised.{IsRaised, settled}
 use Rattle.lxr_invariant.specs.Tracing.{IsTracedBy, TraceHolds}
 use Rattle.lxr_invariant.proofs.EntryLemmas.{passing_few}
+use Rattle.lxr_invariant.proofs.BlockLemmas.{keeps_state_still}
+use Rattle.lxr_invariant.proofs.CopiedLemmas.{copies_still, free_alike, stay_still}
 use Rattle.lxr_invariant.proofs.FrameLemmas.{chosen_still}
-use Rattle.lxr_invariant.proofs.KeepingLemmas.{keeps_both, keeps_same}
+use Rattle.lxr_invariant.proofs.KeepingLemmas.{keeps_both, keeps_lists, keeps_same}
+use Rattle.lxr_invariant.proofs.LandingLemmas.{copies_apart}
 use Rattle.lxr_pause_decrements.specs.Finishing.{CanFinish, Finishes, FinishesGrays, HandledAreTraced}
 use Rattle.lxr_pause_increments.specs.Raising.{CanRaise, Raises, RaisesGrays, RaisesMarks}
 use Rattle.lxr_pause_queue.specs.Queueing.{Queues, with_roots_deferred}
@@ -36,7 +43,15 @@ use Rattle.lxr_run_pause.proofs.TracedLemmas.{trace_still}
 
 -- a space with what counting changes taken from another
 abbrev settled_as : Space → Space → Space
-settled_as x y = record x { words = y.words; deferred = y.deferred; logged = y.logged; report = y.report; rest_next = y.rest_next; rest_end = y.rest_end }
+settled_as x y = record x {
+  words = y.words;
+  registers = record x.registers { items = y.registers.items };
+  deferred = y.deferred;
+  logged = y.logged;
+  report = y.report;
+  rest_next = y.rest_next;
+  rest_end = y.rest_end;
+}
 
 -- what was handled while a trace runs made gray what it referred to
 handled_by : (s : Space) (g : AbstractState) (trace : Option Trace) → IsTracedBy s.limits (tables_of s) s.logged.items g trace → HandledAreTraced (tables_of s) g.moment g.at trace
@@ -87,12 +102,16 @@ module _ (s began : Space) (g : AbstractState) (can : CanPause s g) (begins : be
         ∙ subst (λ x. NoneChosen (tables_of x) finished.limits.blocks) (sym begins)
         (subst (λ n. NoneChosen (tables_of s) n) (sym (ap (λ (x : Space). x.limits.blocks) finish.space ∙ ap (λ (x : Space). x.limits.blocks) begins)) can.none_chosen)
 
-    module _ (raised : Space) (raises : (m : Moment) (at : Name → ℕ) → CanRaise finished m at → Raises finished raised m at) where
-      raise : Raises finished raised left g.at
-      raise = raises left g.at can_raise
+    module _ (raised : Space) (raises : (m : Moment) (at : Name → ℕ) → CanRaise finished m at → (at' : Name → ℕ) × Raises finished raised m at at') where
+      -- where objects stand then
+      abbrev pub at' : Name → ℕ
+      at' = (raises left g.at can_raise).0
+
+      raise : Raises finished raised left g.at at'
+      raise = (raises left g.at can_raise).1
 
       -- then decrements may be queued
-      pub is_raised : IsRaised raised left g.at raised.report.promoted.items raised.report.stuck.items
+      pub is_raised : IsRaised raised left at' raised.report.promoted.items raised.report.stuck.items
       is_raised = raise.raised
 
       gone_are : raised.report.dead.items ≡ gone
@@ -121,8 +140,8 @@ module _ (s began : Space) (g : AbstractState) (can : CanPause s g) (begins : be
           omega (arith, e, fewer, few, same)
 
       module _ (queued : Space) (queues : (m : Moment) (at : Name → ℕ) (promoted stuck : List Name) → IsRaised raised m at promoted stuck → Queues raised queued m at promoted stuck) where
-        queue : Queues raised queued left g.at raised.report.promoted.items raised.report.stuck.items
-        queue = queues left g.at raised.report.promoted.items raised.report.stuck.items is_raised
+        queue : Queues raised queued left at' raised.report.promoted.items raised.report.stuck.items
+        queue = queues left at' raised.report.promoted.items raised.report.stuck.items is_raised
 
         -- what registers hold has room among the deferred ones
         pub registers_fit : length queued.registers.items ≤ queued.deferred.room
@@ -135,68 +154,108 @@ module _ (s began : Space) (g : AbstractState) (can : CanPause s g) (begins : be
         abbrev done : Moment
         done = counted m gone raised.report
 
-        holds_done : HoldsMoment (with_roots_deferred queued) done g.at
+        holds_done : HoldsMoment (with_roots_deferred queued) done at'
         holds_done =
-            holds_renumbered (with_roots_deferred queued) (settled left raised.report.promoted.items raised.report.stuck.items) done.number done.stuck done.trace g.at (λ n. refl) refl
+            holds_renumbered (with_roots_deferred queued) (settled left raised.report.promoted.items raised.report.stuck.items) done.number done.stuck done.trace at' (λ n. refl) refl
             (ap (λ (x : Space). x.rest_next) queue.space ∙ ap (λ (x : Space). x.rest_next) raise.space ∙ sym (ap (λ (x : Space). x.rest_end) queue.space ∙ ap (λ (x : Space). x.rest_end) raise.space))
             (blocks_on (tables_of queued) queued.limits.blocks m (report_of raised.report) m.trace queue.holds.blocks) queue.holds
 
-        undecremented_done : IsUndecremented (tables_of queued) done g.at
-        undecremented_done = undecremented_renumbered (settled left raised.report.promoted.items raised.report.stuck.items) done.number done.stuck done.trace (λ n. refl) (tables_of queued) g.at queue.undecremented
+        undecremented_done : IsUndecremented (tables_of queued) done at'
+        undecremented_done = undecremented_renumbered (settled left raised.report.promoted.items raised.report.stuck.items) done.number done.stuck done.trace (λ n. refl) (tables_of queued) at' queue.undecremented
 
         -- a trace that runs goes on
         traced_done : (trace : Option Trace) → g.moment.trace ≡ trace → KeepsObjects m trace → IsTracedBy s.limits (tables_of s) s.logged.items g trace
-            → IsTracedBy queued.limits (tables_of queued) [] (at_moment g done) (going_on m (report_of raised.report) trace)
+            → IsTracedBy queued.limits (tables_of queued) [] (at_moment (standing g at') done) (going_on m (report_of raised.report) trace)
         traced_done None runs objects is = tt
         traced_done (Some trace) runs objects is =
             let first : TraceHolds began.limits (tables_of began) began.logged.items g trace = subst (λ x. TraceHolds x.limits (tables_of x) x.logged.items g trace) (sym begins) is in
             let second = finishing_keeps began finished g trace gone can_finish.holds runs first finish in
-            let third = counting_keeps finished raised queued (at_moment g left) trace finish.holds runs none_chosen objects.0 second raise queue in
+            let third = counting_keeps finished raised queued (at_moment g left) at' trace finish.holds runs none_chosen objects.0 second raise queue in
             trace_still queued.limits (tables_of queued) (tables_of queued).states (tables_of queued).cursors [] _ done.number done.stuck done.trace g.reported (λ n. refl) (omega arith) refl (λ b c. c) _ third
 
         -- what is gray then tells whether anything was left to trace
         tells_done : (trace : Option Trace) → g.moment.trace ≡ trace → TellsTheEnd s queued g gone trace
         tells_done None runs = tt
         tells_done (Some trace) runs =
-            let tells = marks_tell began finished raised m g.at gone trace can_finish.holds runs finish raise in
+            let tells = marks_tell began finished raised m g.at at' gone trace can_finish.holds runs finish raise in
             let same : (tables_of queued).grays ≡ (tables_of raised).grays = ap (λ t. t.grays) queue.tables in
             let still : (tables_of queued).marks ≡ (tables_of raised).marks = ap (λ t. t.marks) queue.tables in
             subst (λ x. AllGrayAreMarked (tables_of queued) ↔ NothingIsLeft (tables_of x) m g.at x.logged.items gone) begins
             ((λ all. tells.0 (λ k h. sym (ap (λ f. f k) still) ∙ all k (ap (λ f. f k) same ∙ h))), (λ none k h. ap (λ f. f k) still ∙ tells.1 none k (sym (ap (λ f. f k) same) ∙ h)))
 
-        traces_done : (trace : Option Trace) → g.moment.trace ≡ trace → Traces kind.Plain trace s queued g (report_of raised.report) done.unreclaimed
+        traces_done : (trace : Option Trace) → g.moment.trace ≡ trace → Traces kind.Plain trace s queued g at' (report_of raised.report) done.unreclaimed
         traces_done trace runs = back trace
-            (traces_on began finished raised queued g gone can_finish.holds finish raise (ap (λ (x : Space). x.logged.items) finish.space) (ap (λ t. t.marks) queue.tables) (ap (λ t. t.grays) queue.tables)
+            (traces_on began finished raised queued g at' gone can_finish.holds finish raise (ap (λ (x : Space). x.logged.items) finish.space) (ap (λ t. t.marks) queue.tables) (ap (λ t. t.grays) queue.tables)
             (report_of raised.report) gone_are refl trace
             (subst (λ o. FinishesGrays o (tables_of began).grays (tables_of finished).grays m g.at gone) runs finish.grays)
-            (subst (λ o. RaisesMarks o (tables_of finished).marks (tables_of raised).marks g.at raised.report.promoted.items) runs raise.marks)
+            (subst (λ o. RaisesMarks o (tables_of finished).marks (tables_of raised).marks at' raised.report.promoted.items) runs raise.marks)
             (subst (λ o. RaisesGrays o (tables_of finished).grays (tables_of raised).grays finished.logged.items) runs raise.grays))
           where
-            back : (trace : Option Trace) → Traces kind.Plain trace began queued g (report_of raised.report) done.unreclaimed → Traces kind.Plain trace s queued g (report_of raised.report) done.unreclaimed
+            back : (trace : Option Trace) → Traces kind.Plain trace began queued g at' (report_of raised.report) done.unreclaimed → Traces kind.Plain trace s queued g at' (report_of raised.report) done.unreclaimed
             back None is =
-                let a = subst (λ x. Traces kind.Plain None x queued g (report_of raised.report) done.unreclaimed) begins is in
+                let a = subst (λ x. Traces kind.Plain None x queued g at' (report_of raised.report) done.unreclaimed) begins is in
                 record { marks = record { reclaimed = a.marks.reclaimed; others = a.marks.others }; grays = record { reclaimed = a.grays.reclaimed; others = a.grays.others } }
             back (Some trace) is =
-                let a = subst (λ x. Traces kind.Plain (Some trace) x queued g (report_of raised.report) done.unreclaimed) begins is in
+                let a = subst (λ x. Traces kind.Plain (Some trace) x queued g at' (report_of raised.report) done.unreclaimed) begins is in
                 record { marks = a.marks; grays = a.grays }
 
         module _ (deferred : Space) (defers : deferred ≡ with_roots_deferred queued) where
           same_report : deferred.report ≡ raised.report
           same_report = ap (λ (x : Space). x.report) defers ∙ ap (λ (x : Space). x.report) queue.space
 
-          -- each step keeps lists and counters
-          kept : KeepsListsAndCounters (tables_of s) (tables_of queued)
-          kept =
-              keeps_both (tables_of s) (tables_of finished) (tables_of queued)
-              (keeps_both (tables_of s) (tables_of began) (tables_of finished) (keeps_same (tables_of s) (tables_of began) (ap tables_of begins)) finish.keeps)
-              (keeps_both (tables_of finished) (tables_of raised) (tables_of queued) raise.keeps queue.keeps)
+          -- what comes before increments and behind them keeps lists and counters, and increments keep lists
+          kept_before : KeepsListsAndCounters (tables_of s) (tables_of finished)
+          kept_before = keeps_both (tables_of s) (tables_of began) (tables_of finished) (keeps_same (tables_of s) (tables_of began) (ap tables_of begins)) finish.keeps
+
+          kept : KeepsLists (tables_of s) (tables_of queued)
+          kept = keeps_lists (tables_of s) (tables_of finished) (tables_of raised) (tables_of queued) kept_before raise.keeps queue.keeps
+
+          same_states : (tables_of finished).states ≡ (tables_of s).states
+          same_states = finish.states ∙ ap (λ (x : Space). (tables_of x).states) begins
+
+          same_outs : (tables_of finished).outs ≡ (tables_of s).outs
+          same_outs = finish.outs ∙ ap (λ (x : Space). (tables_of x).outs) begins
+
+          queued_states : (tables_of queued).states ≡ (tables_of raised).states
+          queued_states = ap (λ (t : Tables). t.states) queue.tables
+
+          same_blocks : finished.limits.blocks ≡ s.limits.blocks
+          same_blocks = ap (λ (x : Space). x.limits.blocks) finish.space ∙ ap (λ (x : Space). x.limits.blocks) begins
+
+          copied : CopiesPromoted (tables_of s) (tables_of queued) m g.at at' raised.report.promoted.items
+          copied =
+              copies_still (tables_of finished) (tables_of raised) (tables_of s) (tables_of queued) m (without m.unreclaimed gone) g.at at' raised.report.promoted.items raised.report.promoted.items
+              (sym kept_before.heap) (sym kept_before.reuse) (sym same_outs) queue.keeps.heap queue.keeps.reuse (λ n. refl) raise.copies
+
+          same_rest : (finished.rest_next ≡ s.rest_next) × (finished.rest_end ≡ s.rest_end)
+          same_rest = (
+            ap (λ (x : Space). x.rest_next) finish.space ∙ ap (λ (x : Space). x.rest_next) begins,
+            ap (λ (x : Space). x.rest_end) finish.space ∙ ap (λ (x : Space). x.rest_end) begins,
+          )
+
+          lives_on : (n : Name) → IsTrue (has m.unreclaimed n) → ¬ Dead m.last m.unreclaimed m.stuck n → IsTrue (has left.unreclaimed n)
+          lives_on n member alive = in_without m.unreclaimed gone n member (λ d. alive ((finish.dead n).0 d))
+
+          -- a line that is free was so right behind the increments
+          was_free : (line : ℕ) → IsTrue (is_free (record (tables_of queued) { outs = (tables_of s).outs }) line) → IsTrue (is_free (record (tables_of raised) { outs = (tables_of finished).outs }) line)
+          was_free line = free_alike (record (tables_of raised) { outs = (tables_of finished).outs }) (record (tables_of queued) { outs = (tables_of s).outs }) line (sym same_outs)
+              (ap (λ (t : Tables). t.counts) queue.tables)
+
+          stays : StayForWantOfLines (tables_of s) (tables_of queued) s.limits.blocks m g.at at' raised.report.promoted.items (λ line. ⊥)
+          stays =
+              stay_still (tables_of finished) (tables_of raised) (tables_of s) (tables_of queued) s.limits.blocks m g.at at' raised.report.promoted.items raised.report.promoted.items (λ line. ⊥) (λ line. ⊥) (λ n. refl)
+              (sym same_states) (λ line kept_line free. was_free line free) (λ line never. never)
+              (subst (λ n. StayForWantOfLines (tables_of finished) (tables_of raised) n m g.at at' raised.report.promoted.items (λ line. ⊥)) same_blocks raise.stay)
 
           -- what was settled, with the report as it was after the increments
-          settled_there : SettlesCounts s (record (with_roots_deferred queued) { report = raised.report }) g gone
+          settled_there : SettlesCounts s (record (with_roots_deferred queued) { report = raised.report }) g at' gone
           settled_there = record {
             tells = tells_raised;
-            holds = subst (λ r. HoldsMoment (record (with_roots_deferred queued) { report = r }) done g.at) (ap (λ (x : Space). x.report) queue.space) holds_done;
+            holds = subst (λ r. HoldsMoment (record (with_roots_deferred queued) { report = r }) done at') (ap (λ (x : Space). x.report) queue.space) holds_done;
             undecremented = undecremented_done;
+            copies = copied;
+            apart = copies_apart s finished g left.unreclaimed at' raised.report.promoted.items finish.holds finish.undecremented lives_on same_outs same_rest.0 same_rest.1 raise.onto;
+            stay = stays;
             traced = traced_done g.moment.trace refl can.objects can.safepoint.traced;
             tells_the_end = end_told g.moment.trace (tells_done g.moment.trace refl);
             few_dead = subst (λ l. length raised.report.dead.items ≤ GRANULES_IN_BLOCK * l.blocks) (sym (ap (λ (x : Space). x.limits) queue.space)) few_gone;
@@ -206,7 +265,7 @@ module _ (s began : Space) (g : AbstractState) (can : CanPause s g) (begins : be
                 (ap (λ (x : Space). x.rest_next) queue.space ∙ ap (λ (x : Space). x.rest_next) raise.space)
                 ∙ sym (ap (λ (x : Space). x.rest_end) queue.space ∙ ap (λ (x : Space). x.rest_end) raise.space);
             keeps = kept;
-            states = ap (λ t. t.states) queue.tables ∙ raise.states ∙ finish.states ∙ ap (λ x. (tables_of x).states) begins;
+            states = λ b. keeps_state_still (tables_of finished) (tables_of raised) (tables_of s) (tables_of queued) b (sym same_states) queued_states (raise.states b);
             traces = traces_there g.moment.trace (traces_done g.moment.trace refl);
             space =
                 ap (λ x. settled_as x there) queue.space
@@ -222,9 +281,9 @@ module _ (s began : Space) (g : AbstractState) (can : CanPause s g) (begins : be
               end_told None is = tt
               end_told (Some trace) is = is
 
-              traces_there : (trace : Option Trace) → Traces kind.Plain trace s queued g (report_of raised.report) done.unreclaimed → Traces kind.Plain trace s there g (report_of raised.report) done.unreclaimed
+              traces_there : (trace : Option Trace) → Traces kind.Plain trace s queued g at' (report_of raised.report) done.unreclaimed → Traces kind.Plain trace s there g at' (report_of raised.report) done.unreclaimed
               traces_there None a = record { marks = record { reclaimed = a.marks.reclaimed; others = a.marks.others }; grays = record { reclaimed = a.grays.reclaimed; others = a.grays.others } }
               traces_there (Some trace) a = record { marks = a.marks; grays = a.grays }
 
-          pub settles : SettlesCounts s deferred g gone
-          settles = subst (λ x. SettlesCounts s x g gone) (sym (defers ∙ ap (λ r. record (with_roots_deferred queued) { report = r }) (ap (λ (x : Space). x.report) queue.space))) settled_there
+          pub settles : SettlesCounts s deferred g at' gone
+          settles = subst (λ x. SettlesCounts s x g at' gone) (sym (defers ∙ ap (λ r. record (with_roots_deferred queued) { report = r }) (ap (λ (x : Space). x.report) queue.space))) settled_there

@@ -1,26 +1,24 @@
 -- A sweep of all blocks changes states alone: Chosen blocks stay so, no other becomes Chosen, and each block then has the state of its lines.
-use Rattle.std.proofs.Common.{◌≡◌, ◌≢◌, ℕ, ◌*◌, ◌/◌, ◌<◌, ◌≤◌, refl, sym, ap, subst, ◌∙◌, inl, inr, ◌⊎◌, arith, Bool, true, false, cond, List, IsTrue}
-use Rattle.std.specs.Prelude.{Option, ◌==◌}
-use Rattle.std.proofs.lemmas.Bool.Decides.{leb_tells}
+use Rattle.std.proofs.Common.{◌≡◌, ◌≢◌, ℕ, ◌/◌, ◌<◌, ◌≤◌, refl, sym, ap, subst, ◌∙◌, inl, inr, ◌⊎◌, arith, Bool, true, false, cond, List, IsTrue}
+use Rattle.std.specs.Prelude.{Option, ◌==◌, ◌&&◌, nat_lt, not, if◌then◌else◌}
+use Rattle.std.proofs.lemmas.Bool.Decides.{leb_tells, nat_tests}
 use Rattle.lxr_layout.specs.declared.Name.{Name}
-use Rattle.lxr_layout.specs.declared.TheConstants.{LINES_IN_BLOCK, STUCK}
+use Rattle.lxr_layout.specs.declared.TheConstants.{LINES_IN_BLOCK}
 use Rattle.lxr_graph.specs.Names.{has}
 use Rattle.lxr_graph.specs.State.{Graph}
 use Rattle.lxr_image.specs.Tables.{Tables}
-use Rattle.lxr_image.specs.Reads.{granule_of}
-use Rattle.lxr_image.specs.Image.{granules_of}
 use Rattle.lxr_blocks.specs.declared.states.BlockState.{BlockState}
 use Rattle.lxr_blocks.specs.declared.states.BlockState.TheVariants.{Free, Partly, Whole, Chosen, World}
 use Rattle.lxr_blocks.specs.Lines.{free_count, free_in}
-use Rattle.lxr_blocks.specs.Kept.{KeepsLines}
-use Rattle.lxr_blocks.specs.States.{is_fixed, state_by_lines, state_in, state_of}
-use Rattle.lxr_blocks.proofs.KeptLemmas.{kept_line_is_taken}
+use Rattle.lxr_blocks.specs.States.{KeepsState, is_fixed, state_by_lines, state_in, state_number, state_of}
 use Rattle.lxr_model.specs.Moments.{Trace}
 use Rattle.lxr_sweep_lines.specs.Swept.{AreSwept, with_states_by_lines}
 use Rattle.lxr_sweep_lines.proofs.SweptLemmas.{swept_is_by_lines}
 use Rattle.lxr_invariant.specs.Counting.{count_at}
 use Rattle.lxr_invariant.specs.Lines.{HasBlocks, HasMarks, HasStates, KeepLines, chosen_count, is_chosen}
 use Rattle.lxr_invariant.proofs.FrameLemmas.{chosen_same, need_same}
+use Rattle.lxr_invariant.proofs.LandingLemmas.{counted_line}
+use Rattle.lxr_run_pause.specs.Pausing.{states_swept}
 
 -- ---- states
 
@@ -113,17 +111,38 @@ module _ (t : Tables) (blocks : ℕ) where
     ]
   ]
 
+-- ---- where blocks keep their states
+
+-- the number of a block's state after a sweep that reaches it or not, from the one before
+abbrev swept_number : Tables → ℕ → Bool → ℕ → ℕ
+swept_number t b reached k = if reached && not (is_fixed (state_of k)) then state_number (state_by_lines t b) else k
+
+renewed : (t : Tables) (b k : ℕ) → is_fixed (state_of k) ≡ false → swept_number t b true k ≡ state_number (state_by_lines t b)
+renewed t b k free = ap (λ c. if not c then state_number (state_by_lines t b) else k) free
+
+module _ (t v u : Tables) (blocks : ℕ) (keeps : (b : ℕ) → KeepsState v u b) (past : (b : ℕ) → blocks ≤ b → u.states b ≡ v.states b) where
+  number_from : (b : ℕ) → states_swept t u.states blocks b ≡ states_swept t v.states blocks b
+  number_from b = elim (keeps b) [
+    | inl e ↦ ap (swept_number t b (nat_lt b blocks)) e
+    | inr free ↦ elim (leb_tells blocks b) [
+      | inl high ↦ ap (swept_number t b (nat_lt b blocks)) (past b high.1)
+      | inr low ↦
+          let within = low.1 in
+          let reached : nat_lt b blocks ≡ true = grind (arith, nat_tests) in
+          ap (λ x. swept_number t b x (u.states b)) reached
+          ∙ renewed t b (u.states b) free.1
+          ∙ sym (renewed t b (v.states b) free.0)
+          ∙ sym (ap (λ x. swept_number t b x (v.states b)) reached)
+    ]
+  ]
+
+  -- a sweep leaves the same states
+  pub states_from : states_swept t u.states blocks ≡ states_swept t v.states blocks
+  states_from i b = number_from b i
+
 -- ---- lines
 
 -- an object whose count isn't 0 and whose further lines are marked keeps its lines
 pub lines_kept : (t : Tables) (g : Graph) (at : Name → ℕ) (us : List Name) → HasMarks t g at us → ((n : Name) → IsTrue (has us n) → count_at t at n ≢ 0) → KeepLines t g at us
 lines_kept t g at us marks positive n o k member covers =
-    let first = covers.first in
-    let behind = covers.behind in
-    let keeps : KeepsLines t (granule_of (at n)) (granules_of o) = record {
-      first = inl (positive n member);
-      further = λ line after before. inl (λ none.
-          let is = marks.marked n o (16 * line) member covers.object (record { begins = omega arith; behind = after; within = before }) in
-          let never : STUCK ≡ 0 = sym is ∙ none in cc);
-    } in
-    kept_line_is_taken t (granule_of (at n)) (granules_of o) (k / 16) keeps (omega arith) (omega arith)
+    counted_line t at n o k (positive n member) (λ j mark. marks.marked n o j member covers.object mark) covers.first covers.behind

@@ -23,18 +23,22 @@ use Rattle.lxr_run_pause.proofs.DecidingLemmas.{ends_where_running, grays_in_hea
 use Rattle.lxr_run_pause.proofs.PausingLemmas.{can_count_sorted, pauses}
 use Rattle.lxr_run_pause.proofs.SweepingLemmas.{may_trace, settles_by_kind}
 
-module _ (s k : Space) (g : AbstractState) (can : CanPause s g) (counts : (g : AbstractState) → CanPause s g → (gone : List Name) × SettlesCounts s k g gone) where
-  abbrev gone : List Name
-  gone = (counts g can).0
+module _ (s k : Space) (g : AbstractState) (can : CanPause s g) (counts : (g : AbstractState) → CanPause s g → (at' : Name → ℕ) × (gone : List Name) × SettlesCounts s k g at' gone) where
+  -- where objects stand then, and what died
+  abbrev pub at' : Name → ℕ
+  at' = (counts g can).0
 
-  abbrev settled : SettlesCounts s k g gone
-  settled = (counts g can).1
+  abbrev gone : List Name
+  gone = (counts g can).1
+
+  abbrev settled : SettlesCounts s k g at' gone
+  settled = (counts g can).2
 
   pub space_counted : IsSpace k
   space_counted = settled.holds.space
 
   pub grays_lie : GraysLieInHeap k
-  grays_lie = grays_in_heap k (counted g.moment gone k.report) g.at settled.holds
+  grays_lie = grays_in_heap k (counted g.moment gone k.report) at' settled.holds
 
   module _ (asked : Ask) (pace : Pace) (is : Kind)
       (decides : (trace : Option Trace) (traced : Bool) → k.trace ≡ option_map (λ (trace : Trace). trace.began) trace → TellsOfMarks (tables_of k) trace traced → is ≡ kind_of asked pace k.report.number trace traced) where
@@ -42,17 +46,17 @@ module _ (s k : Space) (g : AbstractState) (can : CanPause s g) (counts : (g : A
     decided = record k { report = record k.report { kind = is } }
 
     kind_is : HasKind (tables_of s) g.moment g.at s.logged.items asked pace is
-    kind_is = has_kind s k g asked pace can gone settled is decides
+    kind_is = has_kind s k g asked pace can at' gone settled is decides
 
     abbrev pub stands : AbstractState
-    stands = now s k g can gone settled is
+    stands = now s k g can at' gone settled is
 
     pub traces_may : MayTrace is decided stands
-    traces_may = may_trace s k g can gone settled k is (ends_where_running s k g asked pace can gone settled is decides)
+    traces_may = may_trace s k g can at' gone settled k is (ends_where_running s k g asked pace can at' gone settled is decides)
 
     module _ (x : Space) (traces : (h : AbstractState) → MayTrace is decided h → HasTraced is decided x h) where
-      abbrev done : (parts : PauseParts) × Settles s x g parts × (x.report.kind ≡ is)
-      done = settles_by_kind s k g can gone settled x is traces_may (traces stands traces_may)
+      abbrev done : (parts : PauseParts) × Settles s x g at' parts × (x.report.kind ≡ is)
+      done = settles_by_kind s k g can at' gone settled x is traces_may (traces stands traces_may)
 
       pub space_traced : IsSpace x
       space_traced = done.1.holds.space
@@ -68,12 +72,12 @@ module _ (s k : Space) (g : AbstractState) (can : CanPause s g) (counts : (g : A
           abbrev sorted : Space
           sorted = record swept { report = report }
 
-          pub may_count : CanCountWhere (is_draining is) sorted leads g.at
-          may_count = can_count_sorted s x swept report g asked pace can done.0 done.1 is done.2 kind_is turns space orders
+          pub may_count : CanCountWhere (is_draining is) sorted leads at'
+          may_count = can_count_sorted s x swept report g asked pace can at' done.0 done.1 is done.2 kind_is turns space orders
 
           module _ (z : Space) (counts_afresh : (m : Moment) (at : Name → ℕ) → CanCountWhere (is_draining is) sorted m at → CountsWhere (is_draining is) sorted z m) where
             told : CountsWhere (is_draining is) sorted z leads
-            told = counts_afresh leads g.at may_count
+            told = counts_afresh leads at' may_count
 
             -- the numbers of pauses are those from before
             numbers_by : {A : Type 0} (number : Space → A) (b : Bool) → ((y : Space) (r : Report) → number (record y { report = r }) ≡ number y) → CountsWhere b sorted z leads → number z ≡ number swept
@@ -96,5 +100,5 @@ module _ (s k : Space) (g : AbstractState) (can : CanPause s g) (counts : (g : A
                 let few = can.counted.1 in
                 omega (arith, a, b, c, few)
 
-            pub pause_made : (ended : Space) → ended ≡ with_pause_counted z → Pauses s ended g asked pace
-            pause_made ended ends = pauses s x swept report g asked pace can done.0 done.1 is done.2 kind_is turns space orders z ended told ends
+            pub pause_made : (ended : Space) → ended ≡ with_pause_counted z → Pauses s ended g at' asked pace
+            pause_made ended ends = pauses s x swept report g asked pace can at' done.0 done.1 is done.2 kind_is turns space orders z ended told ends

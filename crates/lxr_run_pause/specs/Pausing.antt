@@ -1,21 +1,24 @@
 -- What one pause does.
-use Rattle.std.specs.Prelude.{◌≡◌, ◌≢◌, ℕ, ◌+◌, ◌^◌, ◌<◌, ◌↔◌, ◌⊎◌, ⊤, Bool, true, Option, Some, None, List, IsTrue, false}
+use Rattle.std.specs.Prelude.{◌≡◌, ◌≢◌, ℕ, ◌+◌, ◌/◌, ◌^◌, ◌<◌, ◌↔◌, ◌⊎◌, ⊤, Bool, true, Option, Some, None, List, ◌++◌, IsTrue, false}
 use Rattle.lxr_layout.specs.declared.Name.{Name}
-use Rattle.lxr_layout.specs.declared.TheConstants.{DECREMENT_COUNT, DECREMENT_CURSOR, REMEMBERED_CURSOR, TRACING_WORD}
+use Rattle.lxr_layout.specs.declared.TheConstants.{DECREMENT_COUNT, DECREMENT_CURSOR, GRANULES_IN_LINE, REMEMBERED_CURSOR, TRACING_WORD}
 use Rattle.lxr_graph.specs.declared.report.Kind.{Kind}
 use Rattle.lxr_graph.specs.declared.report.Kind.TheVariants as kind
 use Rattle.lxr_graph.specs.Names.{has}
+use Rattle.lxr_graph.specs.State.{Object}
 use Rattle.lxr_graph.specs.History.{PauseReport, report_of}
 use Rattle.lxr_image.specs.declared.space.Space.{Space}
 use Rattle.lxr_image.specs.Tables.{Tables}
 use Rattle.lxr_image.specs.Spaces.{tables_of}
 use Rattle.lxr_image.specs.Reads.{granule_of}
+use Rattle.lxr_model.specs.Dead.{Dead}
 use Rattle.lxr_model.specs.Moments.{Moment, Trace}
 use Rattle.lxr_model.specs.Reachable.{Refers}
 use Rattle.lxr_model.specs.Reports.{IsReport, is_draining}
 use Rattle.lxr_sweep_lines.specs.Swept.{with_states_by_lines}
 use Rattle.lxr_invariant.specs.AbstractState.{AbstractState, paused}
-use Rattle.lxr_invariant.specs.Lines.{NoneChosen}
+use Rattle.lxr_invariant.specs.Copied.{CopiesLieApart, CopiesPromoted, StayForWantOfLines}
+use Rattle.lxr_invariant.specs.Lines.{Covers, NoneChosen}
 use Rattle.lxr_invariant.specs.Quiescent.{IsAtSafepoint, IsQuiescent}
 use Rattle.lxr_invariant.specs.Tracing.{IsGray, IsMarked, IsOldValue, IsRoot}
 use Rattle.lxr_pause_decrements.specs.Wipe.{LosesBits}
@@ -42,11 +45,9 @@ pub record CanPause (s : Space) (g : AbstractState) : Type 0 where
 abbrev pub states_swept : Tables → (ℕ → ℕ) → ℕ → ℕ → ℕ
 states_swept t states blocks = (with_states_by_lines (record t { states = states }) blocks).states
 
--- The heap, the lists of runs and of free blocks, the remembered entries and how often each line was handed out stay, and so do all
--- cursors but the tracing word and those of the list of decrements.
+-- The lists of runs and of free blocks and the remembered entries stay, and so do all cursors but the tracing word and those of the list
+-- of decrements.
 pub record KeepsThroughPause (t u : Tables) : Type 0 where
-  pub heap : u.heap ≡ t.heap
-  pub reuse : u.reuse ≡ t.reuse
   pub runs : u.runs ≡ t.runs
   pub frees : u.frees ≡ t.frees
   pub remembered : u.remembered ≡ t.remembered
@@ -54,58 +55,68 @@ pub record KeepsThroughPause (t u : Tables) : Type 0 where
 
 -- A trace goes on: what is left is marked where it was, or was promoted; and gray where it was, where one of the dead referred to it, and
 -- where it was an old value of a log.
-pub record GoesOnTracing (before after : Space) (g : AbstractState) (r : PauseReport) (left : List Name) : Type 0 where
-  pub marks : (n : Name) → IsTrue (has left n) → IsMarked (tables_of after) g.at n ↔ (IsMarked (tables_of before) g.at n ⊎ IsTrue (has r.promoted n))
-  pub grays : (n : Name) → IsTrue (has left n) → IsGray (tables_of after) g.at n
+pub record GoesOnTracing (before after : Space) (g : AbstractState) (at' : Name → ℕ) (r : PauseReport) (left : List Name) : Type 0 where
+  pub marks : (n : Name) → IsTrue (has left n) → IsMarked (tables_of after) at' n ↔ (IsMarked (tables_of before) g.at n ⊎ IsTrue (has r.promoted n))
+  pub grays : (n : Name) → IsTrue (has left n) → IsGray (tables_of after) at' n
       ↔ (IsGray (tables_of before) g.at n ⊎ ((u : Name) × IsTrue (has r.dead u) × Refers g.moment.last.graph u n) ⊎ IsOldValue before.logged.items (g.at n))
 
 -- A trace begins: nothing is marked, and exactly the world and what registers hold is gray.
-pub record BeginsTracing (after : Space) (g : AbstractState) : Type 0 where
+pub record BeginsTracing (after : Space) (g : AbstractState) (at' : Name → ℕ) : Type 0 where
   pub none_marked : (k : ℕ) → (tables_of after).marks k ≡ false
-  pub grays : (k : ℕ) → IsTrue ((tables_of after).grays k) ↔ ((n : Name) × IsRoot g.moment.state n × (k ≡ granule_of (g.at n)))
+  pub grays : (k : ℕ) → IsTrue ((tables_of after).grays k) ↔ ((n : Name) × IsRoot g.moment.state n × (k ≡ granule_of (at' n)))
 
 -- A trace is over: all that is left is marked, and nothing gray is unmarked.
-pub record EndsTracing (after : Space) (g : AbstractState) (left : List Name) : Type 0 where
-  pub marked : (n : Name) → IsTrue (has left n) → IsMarked (tables_of after) g.at n
+pub record EndsTracing (after : Space) (at' : Name → ℕ) (left : List Name) : Type 0 where
+  pub marked : (n : Name) → IsTrue (has left n) → IsMarked (tables_of after) at' n
   pub none_left : AllGrayAreMarked (tables_of after)
 
 -- a dead object loses its mark and gray bits, and all others are as they were
-pub record LeavesTracing (before after : Space) (g : AbstractState) (r : PauseReport) : Type 0 where
-  pub marks : LosesBits (tables_of before).marks (tables_of after).marks g.at r.dead
-  pub grays : LosesBits (tables_of before).grays (tables_of after).grays g.at r.dead
+pub record LeavesTracing (before after : Space) (at' : Name → ℕ) (r : PauseReport) : Type 0 where
+  pub marks : LosesBits (tables_of before).marks (tables_of after).marks at' r.dead
+  pub grays : LosesBits (tables_of before).grays (tables_of after).grays at' r.dead
 
 -- what a pause does to mark and gray bits, by its kind and whether a trace ran before it
-abbrev pub Traces : Kind → Option Trace → Space → Space → AbstractState → PauseReport → List Name → Type 0
-Traces kind.Plain None before after g r left = LeavesTracing before after g r
-Traces kind.Plain (Some trace) before after g r left = GoesOnTracing before after g r left
-Traces kind.Begin trace before after g r left = BeginsTracing after g
-Traces (kind.End j) trace before after g r left = EndsTracing after g left
-Traces kind.Collect trace before after g r left = EndsTracing after g left
+abbrev pub Traces : Kind → Option Trace → Space → Space → AbstractState → (Name → ℕ) → PauseReport → List Name → Type 0
+Traces kind.Plain None before after g at' r left = LeavesTracing before after at' r
+Traces kind.Plain (Some trace) before after g at' r left = GoesOnTracing before after g at' r left
+Traces kind.Begin trace before after g at' r left = BeginsTracing after g at'
+Traces (kind.End j) trace before after g at' r left = EndsTracing after at' left
+Traces kind.Collect trace before after g at' r left = EndsTracing after at' left
 
 -- where a pause drained, no decrement waits
 abbrev pub IsDrained : Space → Bool → Type 0
 IsDrained s false = ⊤
 IsDrained s true = (tables_of s).cursors DECREMENT_COUNT ≡ 0
 
--- A pause was made: its kind is that of the rules, its report is that of the moment, it is between epochs after it with each object
--- where it was, and the pause is counted. Lists and counters stay, each block that is neither Chosen nor World has the state of its
--- lines, and the other blocks have the state that they had. No line is out, nothing is left of the lines that a pause placed on, and
--- where the pause drained, no decrement waits. Nothing else has changed, but that the tracing word tells whether a trace runs, and
--- mark and gray bits are those that the kind asks for, gray bits after a trace but for this, that what is gray is marked.
-pub record Pauses (before after : Space) (g : AbstractState) (asked : Ask) (pace : Pace) : Type 0 where
+-- a line has a granule of an object that a pause reclaimed, and that wasn't dead when the pause began
+abbrev pub IsLetGo : AbstractState → (Name → ℕ) → PauseReport → ℕ → Type 0
+IsLetGo g at' r line = (n : Name) × (o : Object) × (k : ℕ) × IsTrue (has (r.dead ++ r.swept) n) × ¬ Dead g.moment.last g.moment.unreclaimed g.moment.stuck n
+    × Covers g.moment.state.graph at' n o k × (k / GRANULES_IN_LINE ≡ line)
+
+-- A pause was made: its kind is that of the rules, its report is that of the moment, it is between epochs after it with promoted objects
+-- at their new places and all others where they were, and the pause is counted. Promoted objects are copied where lines fit them, apart from
+-- what lives on, and registers hold their new places. Lists stay, each block that is neither Chosen nor World has the state of its lines,
+-- and the other blocks have the state that they had. No line is out, nothing is left of the lines that a pause placed on, and where the
+-- pause drained, no decrement waits. Nothing else has changed, but that the tracing word tells whether a trace runs, and mark and gray bits
+-- are those that the kind asks for, gray bits after a trace but for this, that what is gray is marked.
+pub record Pauses (before after : Space) (g : AbstractState) (at' : Name → ℕ) (asked : Ask) (pace : Pace) : Type 0 where
   pub kind : HasKind (tables_of before) g.moment g.at before.logged.items asked pace after.report.kind
   pub reports : IsReport g.moment (report_of after.report)
-  pub between : IsQuiescent after (paused g (report_of after.report))
+  pub between : IsQuiescent after (paused g at' (report_of after.report))
   pub tally : after.tally ≡ record before.tally { pauses = before.tally.pauses + 1 }
+  pub copies : CopiesPromoted (tables_of before) (tables_of after) g.moment g.at at' after.report.promoted.items
+  pub apart : CopiesLieApart before g at' after.report.promoted.items
+  pub stay : StayForWantOfLines (tables_of before) (tables_of after) before.limits.blocks g.moment g.at at' after.report.promoted.items (IsLetGo g at' (report_of after.report))
   pub keeps : KeepsThroughPause (tables_of before) (tables_of after)
   pub drained : IsDrained after (is_draining after.report.kind)
   pub none_out : (line : ℕ) → (tables_of after).outs line ≡ false
   pub no_rest : after.rest_next ≡ after.rest_end
   pub none_chosen : NoneChosen (tables_of after) before.limits.blocks
   pub states : (tables_of after).states ≡ states_swept (tables_of after) (tables_of before).states before.limits.blocks
-  pub traces : Traces after.report.kind g.moment.trace before after g (report_of after.report) (paused g (report_of after.report)).moment.unreclaimed
+  pub traces : Traces after.report.kind g.moment.trace before after g at' (report_of after.report) (paused g at' (report_of after.report)).moment.unreclaimed
   pub space : after ≡ record before {
     words = after.words;
+    registers = record before.registers { items = after.registers.items };
     deferred = after.deferred;
     logged = after.logged;
     report = after.report;

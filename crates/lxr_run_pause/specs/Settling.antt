@@ -2,7 +2,7 @@
 use Rattle.std.specs.Prelude.{◌≡◌, ℕ, ◌+◌, ◌*◌, ◌≤◌, ◌↔◌, ⊤, Bool, true, false, Option, Some, None, List, [], ◌++◌, IsTrue, length}
 use Rattle.std.specs.Option.{option_map}
 use Rattle.lxr_layout.specs.declared.Name.{Name}
-use Rattle.lxr_layout.specs.declared.TheConstants.{DECREMENT_COUNT, GRANULES_IN_BLOCK}
+use Rattle.lxr_layout.specs.declared.TheConstants.{GRANULES_IN_BLOCK}
 use Rattle.lxr_graph.specs.declared.report.Kind.{Kind}
 use Rattle.lxr_graph.specs.declared.report.Kind.TheVariants as kind
 use Rattle.lxr_graph.specs.declared.report.Report.{Report}
@@ -11,6 +11,7 @@ use Rattle.lxr_graph.specs.Names.{has, union, without}
 use Rattle.lxr_graph.specs.History.{report_of}
 use Rattle.lxr_image.specs.declared.space.Space.{Space}
 use Rattle.lxr_image.specs.Spaces.{tables_of}
+use Rattle.lxr_blocks.specs.States.{KeepsState}
 use Rattle.lxr_model.specs.Dead.{Dead}
 use Rattle.lxr_model.specs.Moments.{Moment, Trace, going_on}
 use Rattle.lxr_model.specs.Reachable.{Reachable}
@@ -18,12 +19,13 @@ use Rattle.lxr_model.specs.Reports.{PauseParts, is_draining}
 use Rattle.lxr_model_counting.specs.Garbage.{IsGarbageOf}
 use Rattle.lxr_invariant.specs.AbstractState.{AbstractState, leaving}
 use Rattle.lxr_invariant.specs.Counting.{IsUndecremented}
-use Rattle.lxr_invariant.specs.Keeping.{KeepsListsAndCounters}
+use Rattle.lxr_invariant.specs.Copied.{CopiesLieApart, CopiesPromoted, StayForWantOfLines, standing}
+use Rattle.lxr_invariant.specs.Keeping.{KeepsLists}
 use Rattle.lxr_invariant.specs.Quiescent.{HoldsMoment}
 use Rattle.lxr_invariant.specs.Raised.{AreRaised, settled, with_promoted}
 use Rattle.lxr_invariant.specs.Tracing.{IsTracedBy}
 use Rattle.lxr_pause_trace.specs.Laws.{AllGrayAreMarked, NothingIsLeft, at_moment}
-use Rattle.lxr_run_pause.specs.Pausing.{IsDrained, KeepsThroughPause, Traces}
+use Rattle.lxr_run_pause.specs.Pausing.{IsDrained, IsLetGo, KeepsThroughPause, Traces}
 use Rattle.lxr_run_pause.specs.Steps.{HasDistinctNames}
 
 -- ---- counting
@@ -52,23 +54,28 @@ TellsTheEnd before after g gone None = ⊤
 TellsTheEnd before after g gone (Some trace) = AllGrayAreMarked (tables_of after) ↔ NothingIsLeft (tables_of before) g.moment g.at before.logged.items gone
 
 -- Counting is done: the report tells what died, was promoted and became stuck, and the space holds the moment that it leads to. A trace
--- that runs goes on. No line is out, and nothing is left of the lines that a pause placed on. Lists, counters and states of blocks
--- stay. Nothing else has changed, but that the list of decrements is that of the next pause.
-pub record SettlesCounts (before after : Space) (g : AbstractState) (gone : List Name) : Type 0 where
+-- that runs goes on. Promoted objects are copied where lines fit them, apart from what lives on, and registers hold their new places. No
+-- line is out, and nothing is left of the lines that a pause placed on. Lists stay, and no block has become Chosen or World or ceased to be
+-- so. Nothing else has changed, but that the list of decrements is that of the next pause.
+pub record SettlesCounts (before after : Space) (g : AbstractState) (at' : Name → ℕ) (gone : List Name) : Type 0 where
   pub tells : TellsCounts after.report g.moment gone
-  pub holds : HoldsMoment after (counted g.moment gone after.report) g.at
-  pub undecremented : IsUndecremented (tables_of after) (counted g.moment gone after.report) g.at
-  pub traced : IsTracedBy after.limits (tables_of after) [] (at_moment g (counted g.moment gone after.report)) (counted g.moment gone after.report).trace
+  pub holds : HoldsMoment after (counted g.moment gone after.report) at'
+  pub undecremented : IsUndecremented (tables_of after) (counted g.moment gone after.report) at'
+  pub copies : CopiesPromoted (tables_of before) (tables_of after) g.moment g.at at' after.report.promoted.items
+  pub apart : CopiesLieApart before g at' after.report.promoted.items
+  pub stay : StayForWantOfLines (tables_of before) (tables_of after) before.limits.blocks g.moment g.at at' after.report.promoted.items (λ line. ⊥)
+  pub traced : IsTracedBy after.limits (tables_of after) [] (at_moment (standing g at') (counted g.moment gone after.report)) (counted g.moment gone after.report).trace
   pub tells_the_end : TellsTheEnd before after g gone g.moment.trace
   pub few_dead : length after.report.dead.items ≤ GRANULES_IN_BLOCK * after.limits.blocks
   pub no_logs : after.logged.items ≡ []
   pub none_out : (line : ℕ) → (tables_of after).outs line ≡ false
   pub no_rest : after.rest_next ≡ after.rest_end
-  pub keeps : KeepsListsAndCounters (tables_of before) (tables_of after)
-  pub states : (tables_of after).states ≡ (tables_of before).states
-  pub traces : Traces kind.Plain g.moment.trace before after g (report_of after.report) (counted g.moment gone after.report).unreclaimed
+  pub keeps : KeepsLists (tables_of before) (tables_of after)
+  pub states : (b : ℕ) → KeepsState (tables_of before) (tables_of after) b
+  pub traces : Traces kind.Plain g.moment.trace before after g at' (report_of after.report) (counted g.moment gone after.report).unreclaimed
   pub space : after ≡ record before {
     words = after.words;
+    registers = record before.registers { items = after.registers.items };
     deferred = after.deferred;
     logged = after.logged;
     report = after.report;
@@ -144,23 +151,28 @@ pub record Tells (r : Report) (parts : PauseParts) (m : Moment) : Type 0 where
   pub counts : r.counts.items ≡ []
 
 -- Counting and tracing are done: the report tells what died and was promoted, stuck and swept, and the space holds the moment that it
--- leads to. Lists, counters and states of blocks stay. Nothing else has changed, but that the list of decrements is that of the
--- next pause, the tracing word tells whether a trace runs, and mark and gray bits are those that the kind asks for.
-pub record Settles (before after : Space) (g : AbstractState) (parts : PauseParts) : Type 0 where
+-- leads to. Promoted objects are copied where lines fit them, apart from what lives on, and registers hold their new places. Lists stay,
+-- and no block has become Chosen or World or ceased to be so. Nothing else has changed, but that the list of decrements is that of the next
+-- pause, the tracing word tells whether a trace runs, and mark and gray bits are those that the kind asks for.
+pub record Settles (before after : Space) (g : AbstractState) (at' : Name → ℕ) (parts : PauseParts) : Type 0 where
   pub tells : Tells after.report parts g.moment
-  pub holds : HoldsMoment after (settled_by g.moment parts after.report) g.at
-  pub undecremented : IsUndecremented (tables_of after) (settled_by g.moment parts after.report) g.at
-  pub traced : IsTracedBy after.limits (tables_of after) [] (at_moment g (settled_by g.moment parts after.report)) (settled_by g.moment parts after.report).trace
+  pub holds : HoldsMoment after (settled_by g.moment parts after.report) at'
+  pub undecremented : IsUndecremented (tables_of after) (settled_by g.moment parts after.report) at'
+  pub copies : CopiesPromoted (tables_of before) (tables_of after) g.moment g.at at' after.report.promoted.items
+  pub apart : CopiesLieApart before g at' after.report.promoted.items
+  pub stay : StayForWantOfLines (tables_of before) (tables_of after) before.limits.blocks g.moment g.at at' after.report.promoted.items (IsLetGo g at' (report_of after.report))
+  pub traced : IsTracedBy after.limits (tables_of after) [] (at_moment (standing g at') (settled_by g.moment parts after.report)) (settled_by g.moment parts after.report).trace
   pub trace : after.trace ≡ option_map (λ (trace : Trace). trace.began) (settled_by g.moment parts after.report).trace
   pub drained : IsDrained after (is_draining after.report.kind)
   pub no_logs : after.logged.items ≡ []
   pub none_out : (line : ℕ) → (tables_of after).outs line ≡ false
   pub no_rest : after.rest_next ≡ after.rest_end
   pub keeps : KeepsThroughPause (tables_of before) (tables_of after)
-  pub states : (tables_of after).states ≡ (tables_of before).states
-  pub traces : Traces after.report.kind g.moment.trace before after g (report_of after.report) (settled_by g.moment parts after.report).unreclaimed
+  pub states : (b : ℕ) → KeepsState (tables_of before) (tables_of after) b
+  pub traces : Traces after.report.kind g.moment.trace before after g at' (report_of after.report) (settled_by g.moment parts after.report).unreclaimed
   pub space : after ≡ record before {
     words = after.words;
+    registers = record before.registers { items = after.registers.items };
     deferred = after.deferred;
     logged = after.logged;
     report = after.report;

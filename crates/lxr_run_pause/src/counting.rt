@@ -1,5 +1,5 @@
 //! The counting of a pause, in its order.
-ghost use Rattle.std.specs.Prelude.{List};
+ghost use Rattle.std.specs.Prelude.{ℕ, List};
 ghost use Rattle.lxr_layout.specs.declared.Name.{Name};
 ghost use Rattle.lxr_invariant.specs.AbstractState.{AbstractState};
 ghost use Rattle.lxr_run_pause.specs.Pausing.{CanPause};
@@ -15,7 +15,7 @@ use lxr_pause_queue::{defer_roots, queue_decrements};
 /// lowered next, and defers what registers hold.
 pub(crate) fn settle_counts(space: &mut Space)
     requires { (g : AbstractState) × CanPause space.old g }
-    ensures { (g : AbstractState) → CanPause space.old g → (gone : List Name) × SettlesCounts space.old space.new g gone }
+    ensures { (g : AbstractState) → CanPause space.old g → (at' : Name → ℕ) × (gone : List Name) × SettlesCounts space.old space.new g at' gone }
 {
     begin_report(space);
     finish_decrements(space);

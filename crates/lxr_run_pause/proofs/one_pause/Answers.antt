@@ -1,4 +1,4 @@
-use Rattle.lxr_run_pause.proofs.WholeLemmas.{few_pauses, few_tallied, grays_lie, leads, may_count, names_once, pause_made, space_counted, space_traced, stands, traces_may}
+use Rattle.lxr_run_pause.proofs.WholeLemmas.{at', few_pauses, few_tallied, grays_lie, leads, may_count, names_once, pause_made, space_counted, space_traced, stands, traces_may}
 use Rattle.lxr_run_pause.proofs.one_pause.Goals as goal
 
 pub decide_kind-kind-requires-clause-space : goal.decide_kind-kind-requires-clause-space
@@ -27,7 +27,7 @@ pub count_where_drained-requires : goal.count_where_drained-requires
 count_where_drained-requires c = (
   leads c.args.space.now c.settle_counts.new.space c.requires.space.0 c.requires.space.1 c.settle_counts.ensures c.args.ask c.args.pace c.decide_kind-kind.result c.decide_kind-kind.ensures
       c.trace_by_kind.new.space c.trace_by_kind.ensures c.sweep_lines.new.space c.sweep_lines.ensures.states c.sweep_lines.ensures.space c.sort_report.new.report c.sort_report.ensures,
-  c.requires.space.0.at,
+  at' c.args.space.now c.settle_counts.new.space c.requires.space.0 c.requires.space.1 c.settle_counts.ensures,
   may_count c.args.space.now c.settle_counts.new.space c.requires.space.0 c.requires.space.1 c.settle_counts.ensures c.args.ask c.args.pace c.decide_kind-kind.result c.decide_kind-kind.ensures
       c.trace_by_kind.new.space c.trace_by_kind.ensures c.sweep_lines.new.space c.sweep_lines.ensures.states c.sweep_lines.ensures.space c.sort_report.new.report c.sort_report.ensures,
 )
@@ -45,7 +45,9 @@ count_pause-requires-clause-tally c =
     c.count_where_drained.new.space c.count_where_drained.ensures
 
 pub returns : goal.returns
-returns c g can =
-    pause_made c.args.space.now c.settle_counts.new.space g can c.settle_counts.ensures c.args.ask c.args.pace c.decide_kind-kind.result c.decide_kind-kind.ensures
-    c.trace_by_kind.new.space c.trace_by_kind.ensures c.sweep_lines.new.space c.sweep_lines.ensures.states c.sweep_lines.ensures.space c.sort_report.new.report c.sort_report.ensures
-    c.count_where_drained.new.space c.count_where_drained.ensures c.count_pause.new.space c.count_pause.ensures
+returns c g can = (
+  at' c.args.space.now c.settle_counts.new.space g can c.settle_counts.ensures,
+  pause_made c.args.space.now c.settle_counts.new.space g can c.settle_counts.ensures c.args.ask c.args.pace c.decide_kind-kind.result c.decide_kind-kind.ensures
+      c.trace_by_kind.new.space c.trace_by_kind.ensures c.sweep_lines.new.space c.sweep_lines.ensures.states c.sweep_lines.ensures.space c.sort_report.new.report c.sort_report.ensures
+      c.count_where_drained.new.space c.count_where_drained.ensures c.count_pause.new.space c.count_pause.ensures,
+)

@@ -1,13 +1,13 @@
 use Rattle.std.proofs.Common.{ℕ}
 use Rattle.lxr_layout.specs.declared.Name.{Name}
 use Rattle.lxr_model.specs.Moments.{Moment}
-use Rattle.lxr_pause_increments.specs.Accounted.{IsAccounted, Reaches}
+use Rattle.lxr_pause_increments.specs.Accounted.{IsEven, Reaches}
 use Rattle.lxr_pause_increments.specs.Increments.{RaisingLeaves, IncrementStage, left}
 use Rattle.lxr_pause_increments.proofs.order.empty_worklist.Given as goal
 
 abbrev pub invariant-loop-place : goal.invariant-loop-place
 invariant-loop-place l = record {
-  reaches : (m : Moment) (at : Name → ℕ) (st : IncrementStage) (base : Name → ℕ) → IsAccounted l.fn.space m at st base (λ o. 0) → Reaches l.space m at base;
+  reaches : (m : Moment) (at : Name → ℕ) (st : IncrementStage) (base : Name → ℕ) → IsEven l.fn.space m at st base → Reaches l.fn.space l.space m at st base;
   leaves : RaisingLeaves l.fn.space l.space;
 }
 

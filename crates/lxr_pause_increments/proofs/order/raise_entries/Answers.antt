@@ -1,11 +1,11 @@
-use Rattle.std.proofs.Common.{arith}
-use Rattle.lxr_pause_increments.proofs.RootLemmas.{all_entries, as_many_fields, log_order, no_entries, same_logs}
-use Rattle.lxr_pause_increments.proofs.ScanLemmas.{leaves_both, leaves_none}
+use Rattle.std.proofs.Common.{◌∙◌, arith, refl}
+use Rattle.lxr_pause_increments.proofs.FrameLemmas.{leaves_both, leaves_none}
+use Rattle.lxr_pause_increments.proofs.RootLemmas.{all_entries, as_many_fields, log_order, no_entries}
 use Rattle.lxr_pause_increments.proofs.order.raise_entries.Goals as goal
 
 pub loop-index-init : goal.loop-index-init
 loop-index-init c = record {
-  settles = λ m at st fields order settled. (st, no_entries c.args.space.now m at st fields settled);
+  settles = λ m at st fields order settled. (st, refl, no_entries c.args.space.now m at st fields order settled);
   leaves = leaves_none c.args.space.now;
 }
 
@@ -18,7 +18,7 @@ raise_entry-requires c =
     let x = c.loop-index.invariant.settles m at c.requires.2 fields.0 fields.1 c.requires.3 in
     let t = c.loop-index-test.true in
     let e = c.len-index-end.ensures in
-    (m, at, x.0, fields.0, same_logs c.args.space.now c.loop-index.space m at fields.0 c.loop-index.invariant.leaves fields.1, omega (arith, count, t, e), x.1)
+    (m, at, x.0, fields.0, x.2, omega (arith, count, t, e))
 
 pub loop-index-preserved : goal.loop-index-preserved
 loop-index-preserved c = record {
@@ -27,7 +27,8 @@ loop-index-preserved c = record {
       let x = c.loop-index.invariant.settles m at st fields order settled in
       let t = c.loop-index-test.true in
       let e = c.len-index-end.ensures in
-      c.raise_entry.ensures.settles m at x.0 fields (same_logs c.args.space.now c.loop-index.space m at fields c.loop-index.invariant.leaves order) (omega (arith, count, t, e)) x.1;
+      let y = c.raise_entry.ensures.settles m at x.0 fields x.2 (omega (arith, count, t, e)) in
+      (y.0, y.1 ∙ x.1, y.2);
   leaves = leaves_both c.args.space.now c.loop-index.space c.raise_entry.new.space c.loop-index.invariant.leaves c.raise_entry.ensures.leaves;
 }
 
@@ -39,4 +40,4 @@ returns-clause-settles c = λ m at st settled.
     let t = c.loop-index-test.false in
     let u = c.loop-index.auto.index-end in
     let e = c.len-index-end.ensures in
-    (x.0, all_entries c.loop-index.space m at x.0 fields.0 c.args.space.now.logged.items c.loop-index.index fields.1 (omega (arith, count, t, u, e)) x.1)
+    (x.0, x.1, all_entries c.loop-index.space m at x.0 fields.0 c.loop-index.index (omega (arith, count, t, u, e)) x.2)

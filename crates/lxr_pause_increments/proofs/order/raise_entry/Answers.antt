@@ -1,28 +1,27 @@
-use Rattle.lxr_pause_increments.proofs.RootLemmas.{entry_field, entry_raised}
+use Rattle.lxr_pause_increments.proofs.FrameLemmas.{leaves_both}
+use Rattle.lxr_pause_increments.proofs.RootLemmas.{entry_field, entry_raised, entry_settled}
 use Rattle.lxr_pause_increments.proofs.order.raise_entry.Goals as goal
 
 pub raise_field-requires : goal.raise_field-requires
 raise_field-requires c =
-    let m = c.requires.0 in
-    let at = c.requires.1 in
-    let st = c.requires.2 in
-    let incrementing = c.requires.6.accounted.incrementing in
-    let w = entry_field c.args.space.now m at st c.requires.3 c.args.index c.item_at-entry.result incrementing c.requires.4 c.item_at-entry.ensures in
-    (m, at, st, w.0.0, incrementing, w.2, w.4)
+    let r = c.requires in
+    let is = r.4.settled.accounted.incrementing in
+    let x = entry_field c.args.space.now r.0 r.1 r.2 r.3 c.args.index c.item_at-entry.result is r.4.order c.item_at-entry.ensures in
+    (r.0, r.1, r.2, x.field.0, is, x.holder, x.raisable)
 
 pub empty_worklist-requires : goal.empty_worklist-requires
 empty_worklist-requires c =
-    let m = c.requires.0 in
-    let at = c.requires.1 in
-    let st = c.requires.2 in
-    let incrementing = c.requires.6.accounted.incrementing in
-    let w = entry_field c.args.space.now m at st c.requires.3 c.args.index c.item_at-entry.result incrementing c.requires.4 c.item_at-entry.ensures in
-    let now = c.raise_field.ensures.raises m at st w.0.0 incrementing w.2 w.4 in
-    (m, at, _, _, entry_raised c.args.space.now c.raise_field.new.space m at st c.requires.3 c.args.index c.item_at-entry.result.index w.0 c.requires.6 w.1 w.3 now)
+    let r = c.requires in
+    let is = r.4.settled.accounted.incrementing in
+    let x = entry_field c.args.space.now r.0 r.1 r.2 r.3 c.args.index c.item_at-entry.result is r.4.order c.item_at-entry.ensures in
+    let y = c.raise_field.ensures.raises r.0 r.1 r.2 x.field.0 is x.holder x.raisable in
+    (r.0, r.1, _, _, entry_raised c.args.space.now c.raise_field.new.space r.0 r.1 r.2 r.3 c.args.index c.item_at-entry.result y.0 r.4.settled x y.1)
 
 pub returns-clause-settles : goal.returns-clause-settles
-returns-clause-settles c = λ m at st fields order within settled.
-    let incrementing = settled.accounted.incrementing in
-    let w = entry_field c.args.space.now m at st fields c.args.index c.item_at-entry.result incrementing order c.item_at-entry.ensures in
-    let now = c.raise_field.ensures.raises m at st w.0.0 incrementing w.2 w.4 in
-    c.empty_worklist.ensures.settles m at _ _ (entry_raised c.args.space.now c.raise_field.new.space m at st fields c.args.index c.item_at-entry.result.index w.0 settled w.1 w.3 now)
+returns-clause-settles c = λ m at st fields roots within.
+    let is = roots.settled.accounted.incrementing in
+    let x = entry_field c.args.space.now m at st fields c.args.index c.item_at-entry.result is roots.order c.item_at-entry.ensures in
+    let y = c.raise_field.ensures.raises m at st x.field.0 is x.holder x.raisable in
+    let even = entry_raised c.args.space.now c.raise_field.new.space m at st fields c.args.index c.item_at-entry.result y.0 roots.settled x y.1 in
+    entry_settled c.args.space.now c.raise_field.new.space c.empty_worklist.new.space m at st fields c.args.index c.item_at-entry.result y.0 roots x y.1
+    (leaves_both c.args.space.now c.raise_field.new.space c.empty_worklist.new.space c.raise_field.ensures.leaves c.empty_worklist.ensures.leaves) (c.empty_worklist.ensures.settles m at _ _ even)

@@ -3,7 +3,7 @@ use Rattle.lxr_layout.specs.declared.Header.TheVariants.{Moved, Object}
 use Rattle.lxr_layout.specs.Objects.{header_of}
 use Rattle.lxr_graph.specs.State.{shape_of}
 use Rattle.lxr_image.specs.Spaces.{tables_of}
-use Rattle.lxr_pause_increments.proofs.ScanLemmas.{holder_header, holder_place}
+use Rattle.lxr_pause_increments.proofs.HeldLemmas.{holder_header, holder_place}
 use Rattle.lxr_pause_increments.proofs.order.reference_slots.Goals as goal
 
 pub word_of-requires : goal.word_of-requires

@@ -1,4 +1,4 @@
-use Rattle.std.proofs.Common.{◌≡◌, ◌<◌, arith, refl, subst, vec_capacity, vec_len}
+use Rattle.std.proofs.Common.{◌≡◌, arith, refl, subst}
 use Rattle.lxr_text_script.specs.Reading.{lists_in}
 use Rattle.lxr_run_loop.specs.Opening.{AreMade}
 use Rattle.lxr_run_loop.proofs.OpeningLemmas.{helper_pushed}

@@ -1,5 +1,6 @@
 use Rattle.std.proofs.Common.{◌≡◌, ℕ, ap, subst, sym, length}
 use Rattle.std.proofs.lemmas.Result.{on_err_weaker, on_ok_weaker}
+use Rattle.lxr_layout.specs.declared.Name.{Name}
 use Rattle.lxr_image.specs.declared.space.Space.{Space}
 use Rattle.lxr_invariant.specs.AbstractState.{AbstractState}
 use Rattle.lxr_run_watch.specs.Sights.{Looks, sight_of}
@@ -17,12 +18,12 @@ use Rattle.lxr_run_loop.specs.Pausing.{MakesPause, with_logs_counted}
 use Rattle.lxr_run_loop.proofs.pauses.pause.Goals as goal
 
 -- the pause is that of the space with what is logged counted
-made : (asked : Ask) (pace : Pace) (before after : Space) (n : ℕ) → n ≡ length before.logged.items → ((g : AbstractState) → CanPause (safepoint_by before n) g → Pauses (safepoint_by before n) after g asked pace) → MakesPause asked pace before after
-made asked pace before after n is pauses = subst (λ k. (g : AbstractState) → CanPause (safepoint_by before k) g → Pauses (safepoint_by before k) after g asked pace) is pauses
+made : (asked : Ask) (pace : Pace) (before after : Space) (n : ℕ) → n ≡ length before.logged.items → ((g : AbstractState) → CanPause (safepoint_by before n) g → (at' : Name → ℕ) × Pauses (safepoint_by before n) after g at' asked pace) → MakesPause asked pace before after
+made asked pace before after n is pauses = subst (λ k. (g : AbstractState) → CanPause (safepoint_by before k) g → (at' : Name → ℕ) × Pauses (safepoint_by before k) after g at' asked pace) is pauses
 
 -- it keeps the pace of a run's options
 paced : (asked : Ask) (pace : Pace) (options : RunOptions) (before after : Space) (n : ℕ) → pace ≡ pace_of options → n ≡ length before.logged.items
-    → ((g : AbstractState) → CanPause (safepoint_by before n) g → Pauses (safepoint_by before n) after g asked pace) → MakesPause asked (pace_of options) before after
+    → ((g : AbstractState) → CanPause (safepoint_by before n) g → (at' : Name → ℕ) × Pauses (safepoint_by before n) after g at' asked pace) → MakesPause asked (pace_of options) before after
 paced asked pace options before after n same is pauses = subst (λ p. MakesPause asked p before after) same (made asked pace before after n is pauses)
 
 pub one_pause-requires-clause-pace : goal.one_pause-requires-clause-pace
@@ -40,11 +41,11 @@ pub returns-clause-ok : goal.returns-clause-ok
 returns-clause-ok g c = on_ok_weaker c.print_pause.result
     (λ printed. λ task h abstract_state to.
     let can = can_pause task c.args.space.now (g.O.Sink.written c.args.output.now) (g.W.Watch.seen c.args.watch.now) h abstract_state to.come c.requires.counts in
-    let pauses = paced c.args.ask c.pace_of.result c.args.options c.args.space.now c.one_pause.new.space c.len.result c.pace_of.ensures c.len.ensures c.one_pause.ensures abstract_state can in
+    let (at', pauses) = paced c.args.ask c.pace_of.result c.args.options c.args.space.now c.one_pause.new.space c.len.result c.pace_of.ensures c.len.ensures c.one_pause.ensures abstract_state can in
     let first : Looks (g.W.Watch.seen c.args.watch.now) (g.W.Watch.seen c.look.new.self) (sight_of (with_logs_counted c.args.space.now)) =
     subst (λ n. Looks (g.W.Watch.seen c.args.watch.now) (g.W.Watch.seen c.look.new.self) (sight_of (safepoint_by c.args.space.now n))) c.len.ensures c.look.ensures in
     paused_after task c.args.space.now c.one_pause.new.space (g.O.Sink.written c.args.output.now) (g.W.Watch.seen c.args.watch.now) (g.W.Watch.seen c.look.new.self)
-    (g.W.Watch.seen c.look-2.new.self) h abstract_state to.come to.due c.args.ask to.right (subst (λ o. Pauses (with_logs_counted c.args.space.now) c.one_pause.new.space abstract_state c.args.ask (pace_of o)) (sym to.with_options) pauses) first c.look-2.ensures
+    (g.W.Watch.seen c.look-2.new.self) h abstract_state to.come to.due c.args.ask to.right at' (subst (λ o. Pauses (with_logs_counted c.args.space.now) c.one_pause.new.space abstract_state at' c.args.ask (pace_of o)) (sym to.with_options) pauses) first c.look-2.ensures
     (g.O.Sink.written c.print_pause.new.output) (subst (λ (o : RunOptions). Appends (g.O.Sink.written c.args.output.now) (g.O.Sink.written c.print_pause.new.output) (report_text o.counts (report_of c.one_pause.new.space.report))) (sym to.with_options) printed))
     c.print_pause.ensures.ok
 
@@ -52,9 +53,9 @@ pub returns-clause-err : goal.returns-clause-err
 returns-clause-err g c = on_err_weaker c.print_pause.result
     (λ printed. λ task h abstract_state to.
     let can = can_pause task c.args.space.now (g.O.Sink.written c.args.output.now) (g.W.Watch.seen c.args.watch.now) h abstract_state to.come c.requires.counts in
-    let pauses = paced c.args.ask c.pace_of.result c.args.options c.args.space.now c.one_pause.new.space c.len.result c.pace_of.ensures c.len.ensures c.one_pause.ensures abstract_state can in
+    let (at', pauses) = paced c.args.ask c.pace_of.result c.args.options c.args.space.now c.one_pause.new.space c.len.result c.pace_of.ensures c.len.ensures c.one_pause.ensures abstract_state can in
     cut_off_after task c.args.space.now c.one_pause.new.space (g.O.Sink.written c.args.output.now) (g.W.Watch.seen c.args.watch.now) (g.W.Watch.seen c.look.new.self)
-    (g.W.Watch.seen c.look-2.new.self) h abstract_state to.come to.due c.args.ask to.right (subst (λ o. Pauses (with_logs_counted c.args.space.now) c.one_pause.new.space abstract_state c.args.ask (pace_of o)) (sym to.with_options) pauses)
+    (g.W.Watch.seen c.look-2.new.self) h abstract_state to.come to.due c.args.ask to.right at' (subst (λ o. Pauses (with_logs_counted c.args.space.now) c.one_pause.new.space abstract_state at' c.args.ask (pace_of o)) (sym to.with_options) pauses)
     (g.O.Sink.written c.print_pause.new.output) (subst (λ (o : RunOptions). AppendsFront (g.O.Sink.written c.args.output.now) (g.O.Sink.written c.print_pause.new.output) (report_text o.counts (report_of c.one_pause.new.space.report))) (sym to.with_options) printed))
     c.print_pause.ensures.err
 
@@ -65,11 +66,11 @@ pub returns-clause-tally : goal.returns-clause-tally
 returns-clause-tally g c =
     let (task, h, abstract_state, to) = c.requires.due in
     let can = can_pause task c.args.space.now (g.O.Sink.written c.args.output.now) (g.W.Watch.seen c.args.watch.now) h abstract_state to.come c.requires.counts in
-    (made c.args.ask c.pace_of.result c.args.space.now c.one_pause.new.space c.len.result c.len.ensures c.one_pause.ensures abstract_state can).tally
+    (made c.args.ask c.pace_of.result c.args.space.now c.one_pause.new.space c.len.result c.len.ensures c.one_pause.ensures abstract_state can).1.tally
 
 pub returns-clause-pauses : goal.returns-clause-pauses
 returns-clause-pauses g c =
     let (task, h, abstract_state, to) = c.requires.due in
     let can = can_pause task c.args.space.now (g.O.Sink.written c.args.output.now) (g.W.Watch.seen c.args.watch.now) h abstract_state to.come c.requires.counts in
-    let pauses = made c.args.ask c.pace_of.result c.args.space.now c.one_pause.new.space c.len.result c.len.ensures c.one_pause.ensures abstract_state can in
+    let (at', pauses) = made c.args.ask c.pace_of.result c.args.space.now c.one_pause.new.space c.len.result c.len.ensures c.one_pause.ensures abstract_state can in
     ap (λ (s : Space). s.pauses) pauses.space

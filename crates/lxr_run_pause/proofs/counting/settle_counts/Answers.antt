@@ -1,4 +1,4 @@
-use Rattle.lxr_run_pause.proofs.SettlingLemmas.{can_finish, can_raise, gone, is_raised, left, registers_fit, settles}
+use Rattle.lxr_run_pause.proofs.SettlingLemmas.{at', can_finish, can_raise, gone, is_raised, left, registers_fit, settles}
 use Rattle.lxr_run_pause.proofs.counting.settle_counts.Goals as goal
 
 -- src/counting.rt:17:5
@@ -18,7 +18,7 @@ increments-requires c = (
 pub queue_decrements-requires : goal.queue_decrements-requires
 queue_decrements-requires c = (
   left c.args.space.now c.begin_report.new.space c.requires.0 c.requires.1 c.begin_report.ensures c.finish_decrements.new.space c.finish_decrements.ensures,
-  c.requires.0.at,
+  at' c.args.space.now c.begin_report.new.space c.requires.0 c.requires.1 c.begin_report.ensures c.finish_decrements.new.space c.finish_decrements.ensures c.increments.new.space c.increments.ensures,
   c.increments.new.space.report.promoted.items,
   c.increments.new.space.report.stuck.items,
   is_raised c.args.space.now c.begin_report.new.space c.requires.0 c.requires.1 c.begin_report.ensures c.finish_decrements.new.space c.finish_decrements.ensures c.increments.new.space c.increments.ensures,
@@ -33,6 +33,7 @@ defer_roots-requires c =
 -- src/counting.rt:12:1
 pub returns : goal.returns
 returns c g can = (
+  at' c.args.space.now c.begin_report.new.space g can c.begin_report.ensures c.finish_decrements.new.space c.finish_decrements.ensures c.increments.new.space c.increments.ensures,
   gone c.args.space.now c.begin_report.new.space g can c.begin_report.ensures c.finish_decrements.new.space c.finish_decrements.ensures,
   settles c.args.space.now c.begin_report.new.space g can c.begin_report.ensures c.finish_decrements.new.space c.finish_decrements.ensures c.increments.new.space c.increments.ensures
       c.queue_decrements.new.space c.queue_decrements.ensures c.defer_roots.new.space c.defer_roots.ensures,

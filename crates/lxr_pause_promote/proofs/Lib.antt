@@ -1,0 +1,4 @@
+pub mod CopyLemmas
+pub mod PlacedLemmas
+pub mod TableLemmas
+pub mod WordLemmas

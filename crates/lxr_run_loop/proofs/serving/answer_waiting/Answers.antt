@@ -1,0 +1,108 @@
+use Rattle.std.proofs.Common.{arith, refl, ◌∷◌}
+use Rattle.lxr_graph.specs.History.{Pause, report_of}
+use Rattle.lxr_text_print.proofs.PageLemmas.{OnErr-always}
+use Rattle.lxr_core.specs.Actors.{mutators_in}
+use Rattle.lxr_run_invariant.specs.LoopInvariant.{pace_of, task_limits}
+use Rattle.lxr_run_invariant.proofs.AnsweringLemmas.{all_answered, can_serve, wants_collection}
+use Rattle.lxr_run_invariant.proofs.PauseLemmas.{counts_fit}
+use Rattle.lxr_run_invariant.proofs.TurnLemmas.{helpers_rest}
+use Rattle.lxr_run_loop.specs.Answering.{all}
+use Rattle.lxr_run_loop.proofs.ServeLemmas.{all_of_it, answers_behind, begins_again, comes_to_collect, keeps_on, less_left, pauses_few}
+use Rattle.lxr_run_loop.proofs.serving.answer_waiting.Goals as goal
+
+pub loop-space-init : goal.loop-space-init
+loop-space-init g c =
+    let (task0, with_options0, h0, m0, begun0, helpers0) = c.requires.serving in
+    record {
+      serving = λ task with_options h m begun. (h, m, begun.serving, λ mutators' space' h' answers. answers);
+      helpers = record { order = helpers0.order; same = refl; tracers = refl };
+      faults = omega arith;
+    }
+
+pub serve_waiting-requires : goal.serve_waiting-requires
+serve_waiting-requires g c =
+    let (task, with_options, h, m, begun, helpers) = c.requires.serving in
+    let (h', m', serving, on) = c.loop-space.invariant.serving task with_options h m begun in
+    record {
+      serving = (
+        m',
+        can_serve task c.loop-space.space (g.O.Sink.written c.loop-space.output) (g.W.Watch.seen c.loop-space.watch) (mutators_in c.args.actors.now) c.args.space.now.pauses c.loop-space.collected c.loop-space.actors h' m' serving
+            (helpers_rest (task_limits task) c.args.actors.now c.loop-space.actors c.loop-space.invariant.helpers helpers),
+      );
+    }
+
+pub pause-requires-clause-due : goal.pause-requires-clause-due
+pause-requires-clause-due g c =
+    let (task, with_options, h, m, begun, helpers) = c.requires.serving in
+    let (h', m', serving, on) = c.loop-space.invariant.serving task with_options h m begun in
+    let (k, wants) = c.in-Collect.ensures.answers h' in
+    let full = wants_collection task (g.O.Sink.written c.loop-space.output) (g.W.Watch.seen c.loop-space.watch) (mutators_in c.args.actors.now) c.args.space.now.pauses c.loop-space.collected (mutators_in c.loop-space.actors)
+    (mutators_in c.serve_waiting.new.actors) c.loop-space.space c.serve_waiting.new.space h' k m' serving wants in
+    (task, k, full.abstract_state, comes_to_collect task c.args.options _ _ _ _ _ with_options c.serve_waiting.new.space (mutators_in c.serve_waiting.new.actors) k full)
+
+pub pause-requires-clause-counts : goal.pause-requires-clause-counts
+pause-requires-clause-counts g c =
+    let (task, with_options, h, m, begun, helpers) = c.requires.serving in
+    let (h', m', serving, on) = c.loop-space.invariant.serving task with_options h m begun in
+    let (k, wants) = c.in-Collect.ensures.answers h' in
+    let full = wants_collection task (g.O.Sink.written c.loop-space.output) (g.W.Watch.seen c.loop-space.watch) (mutators_in c.args.actors.now) c.args.space.now.pauses c.loop-space.collected (mutators_in c.loop-space.actors)
+    (mutators_in c.serve_waiting.new.actors) c.loop-space.space c.serve_waiting.new.space h' k m' serving wants in
+    counts_fit task c.serve_waiting.new.space (g.O.Sink.written c.loop-space.output) (g.W.Watch.seen c.loop-space.watch) k full.abstract_state (mutators_in c.serve_waiting.new.actors) full.serving.come full.serving.mutators_rest
+    (pauses_few task c.args.options _ _ _ _ _ with_options c.serve_waiting.new.space (mutators_in c.serve_waiting.new.actors) k full c.requires.few)
+
+pub returns-in_err-pause-clause-err : goal.returns-in_err-pause-clause-err
+returns-in_err-pause-clause-err g c = OnErr-always c.from_residual.result (λ task with_options h m begun.
+    let (h', m', serving, on) = c.loop-space.invariant.serving task with_options h m begun in
+    let (k, wants) = c.in-Collect.ensures.answers h' in
+    let full = wants_collection task (g.O.Sink.written c.loop-space.output) (g.W.Watch.seen c.loop-space.watch) (mutators_in c.args.actors.now) c.args.space.now.pauses c.loop-space.collected (mutators_in c.loop-space.actors)
+    (mutators_in c.serve_waiting.new.actors) c.loop-space.space c.serve_waiting.new.space h' k m' serving wants in
+    c.in_err-pause.ensures.err task k full.abstract_state
+    (comes_to_collect task c.args.options _ _ _ _ _ with_options c.serve_waiting.new.space (mutators_in c.serve_waiting.new.actors) k full))
+
+pub loop-space-smaller : goal.loop-space-smaller
+loop-space-smaller g c =
+    let (task, with_options, h, m, begun, helpers) = c.requires.serving in
+    let (h', m', serving, on) = c.loop-space.invariant.serving task with_options h m begun in
+    let (k, wants) = c.in-Collect.ensures.answers h' in
+    let full = wants_collection task (g.O.Sink.written c.loop-space.output) (g.W.Watch.seen c.loop-space.watch) (mutators_in c.args.actors.now) c.args.space.now.pauses c.loop-space.collected (mutators_in c.loop-space.actors)
+    (mutators_in c.serve_waiting.new.actors) c.loop-space.space c.serve_waiting.new.space h' k m' serving wants in
+    less_left task h' k (mutators_in c.loop-space.actors) (mutators_in c.serve_waiting.new.actors) c.loop-space.space c.serve_waiting.new.space h' k c.loop-space.collected serving.mutators_rest full.serving.mutators_rest wants
+
+pub loop-space-preserved : goal.loop-space-preserved
+loop-space-preserved g c = record {
+  serving = λ task with_options h m begun.
+      let (h', m', serving, on) = c.loop-space.invariant.serving task with_options h m begun in
+      let (k, wants) = c.in-Collect.ensures.answers h' in
+      let full = wants_collection task (g.O.Sink.written c.loop-space.output) (g.W.Watch.seen c.loop-space.watch) (mutators_in c.args.actors.now) c.args.space.now.pauses c.loop-space.collected (mutators_in c.loop-space.actors)
+      (mutators_in c.serve_waiting.new.actors) c.loop-space.space c.serve_waiting.new.space h' k m' serving wants in
+      let (report, m'', paused) = c.in_ok-pause.ensures.ok task k full.abstract_state
+      (comes_to_collect task c.args.options _ _ _ _ _ with_options c.serve_waiting.new.space (mutators_in c.serve_waiting.new.actors) k full) in (
+        Pause (report_of c.pause.new.space.report) ∷ k,
+        m'',
+        begins_again task c.args.options _ _ _ _ _ with_options c.serve_waiting.new.space (mutators_in c.serve_waiting.new.actors) k full c.pause.new.space (g.O.Sink.written c.pause.new.output) (g.W.Watch.seen c.pause.new.watch)
+            report m'' paused c.pause.ensures.pauses,
+        answers_behind (pace_of c.args.options) c.args.collected c.loop-space.collected (mutators_in c.args.actors.now) (mutators_in c.loop-space.actors) (mutators_in c.serve_waiting.new.actors) c.args.space.now c.loop-space.space
+            c.serve_waiting.new.space c.pause.new.space h h' k on wants c.pause.ensures.made,
+      );
+  helpers = keeps_on c.args.actors.now c.loop-space.actors c.serve_waiting.new.actors c.loop-space.invariant.helpers c.serve_waiting.ensures.helpers;
+  faults = let before = c.loop-space.invariant.faults in let after = c.pause.ensures.faults in omega arith;
+}
+
+pub returns-clause-ok : goal.returns-clause-ok
+returns-clause-ok g c = λ task with_options h m begun.
+    let (h', m', serving, on) = c.loop-space.invariant.serving task with_options h m begun in
+    let (k, answers) = c.serve_waiting.ensures.answers h' in
+    let whole = all_of_it c.serve_waiting.result c.loop-space.collected (mutators_in c.loop-space.actors) (mutators_in c.serve_waiting.new.actors) c.loop-space.space c.serve_waiting.new.space h' k c.in_default.not-Collect answers in
+    let (served, m'', serving') = all_answered task (g.O.Sink.written c.loop-space.output) (g.W.Watch.seen c.loop-space.watch) (mutators_in c.args.actors.now) c.args.space.now.pauses c.loop-space.collected (mutators_in c.loop-space.actors)
+    (mutators_in c.serve_waiting.new.actors) c.loop-space.space c.serve_waiting.new.space h' k m' serving whole in (
+      c.loop-space.collected,
+      served,
+      k,
+      m'',
+      serving',
+      on (mutators_in c.serve_waiting.new.actors) c.serve_waiting.new.space k
+          (all c.loop-space.collected (mutators_in c.loop-space.actors) (mutators_in c.serve_waiting.new.actors) c.loop-space.space c.serve_waiting.new.space h' k whole),
+    )
+
+pub returns-clause-helpers : goal.returns-clause-helpers
+returns-clause-helpers g c = keeps_on c.args.actors.now c.loop-space.actors c.serve_waiting.new.actors c.loop-space.invariant.helpers c.serve_waiting.ensures.helpers
