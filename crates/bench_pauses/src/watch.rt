@@ -19,7 +19,7 @@ const WORDS_BEFORE_OUTS: usize = HEAP_WORDS + COUNT_WORDS + 4 * 32 + 64 + 64;
 #[derive(Clone, Copy)]
 struct Glance {
     time: Option<Instant>,
-    taken: usize,
+    taken: u32,
     logged: usize,
     promoted: usize,
     dead: usize,
@@ -36,8 +36,8 @@ pub(crate) struct Pause {
     pub(crate) dead: usize,
     pub(crate) swept: usize,
     /// The lines that weren't free before the pause and after it.
-    pub(crate) taken_before: usize,
-    pub(crate) taken_after: usize,
+    pub(crate) taken_before: u32,
+    pub(crate) taken_after: u32,
 }
 
 /// A watch that notes the time at each look, in room that it takes before.
@@ -96,21 +96,32 @@ fn word(space: &Space, at: usize) -> u64 {
     }
 }
 
-/// How many of two lines in a row are taken: those that are out, and those with a count that isn't 0. A word has the counts of both.
-fn taken_of_two(space: &Space, pair: usize) -> usize {
+/// How many of two lines in a row are taken, the pair of a number in a block: those that are out, and those with a count that isn't 0. A word has
+/// the counts of both.
+fn taken_of_two(space: &Space, block: u32, number: u32) -> u32 {
     let blocks = space.limits.blocks as usize;
+    let pair = COUNT_WORDS * block as usize + number as usize;
     let counts = word(space, HEAP_WORDS * blocks + pair);
     let outs = word(space, WORDS_BEFORE_OUTS * blocks + pair / 32) >> (2 * (pair % 32));
     let first = counts & 0xffff_ffff != 0 || outs & 1 != 0;
     let second = counts >> 32 != 0 || outs & 2 != 0;
-    usize::from(first) + usize::from(second)
+    u32::from(first) + u32::from(second)
 }
 
-/// How many lines aren't free.
-fn lines_taken(space: &Space) -> usize {
-    let mut taken = 0_usize;
-    for pair in 0..COUNT_WORDS * space.limits.blocks as usize {
-        taken = taken.saturating_add(taken_of_two(space, pair));
+/// How many lines of a block aren't free.
+fn taken_in(space: &Space, block: u32) -> u32 {
+    let mut taken = 0_u32;
+    for number in 0..COUNT_WORDS as u32 {
+        taken = taken.saturating_add(taken_of_two(space, block, number));
+    }
+    taken
+}
+
+/// How many lines of the heap aren't free.
+fn lines_taken(space: &Space) -> u32 {
+    let mut taken = 0_u32;
+    for block in 0..space.limits.blocks {
+        taken = taken.saturating_add(taken_in(space, block));
     }
     taken
 }

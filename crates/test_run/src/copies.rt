@@ -81,19 +81,20 @@ fn word(space: &Space, at: usize) -> u64 {
 }
 
 /// Whether an object begins at a granule: the start bits stand behind the heap and its counts.
-fn begins(space: &Space, granule: usize) -> bool {
+fn begins(space: &Space, granule: u32) -> bool {
     let blocks = space.limits.blocks as usize;
-    let bits = word(space, blocks * (4096 + 64) + granule / 64);
-    bits >> (granule % 64) & 1 == 1
+    let bits = word(space, blocks * (4096 + 64) + granule as usize / 64);
+    granule / 2048 < space.limits.blocks && bits >> (granule % 64) & 1 == 1
 }
 
 /// Adds a line for the object at a granule: its place, its name, each reference that isn't nil, and each datum that isn't 0.
-fn write_object(text: &mut String, space: &Space, granule: usize) -> Result<(), AllocError> {
-    let first = 2 * granule;
+fn write_object(text: &mut String, space: &Space, granule: u32) -> Result<(), AllocError> {
+    let place = granule as usize + 1;
+    let first = 2 * granule as usize;
     let Header::Object(name, shape) = unpack(word(space, first)) else {
         return text.push_str("moved\n");
     };
-    write!(text, "{} {}.{}", granule + 1, name.thread, name.serial)?;
+    write!(text, "{place} {}.{}", name.thread, name.serial)?;
     for index in 0..usize::from(shape.refs) {
         let held = word(space, first + 1 + index);
         if held != 0 {
@@ -124,7 +125,7 @@ fn what_is_promoted_is_copied_where_lines_fit_it(rt: HostRuntime) -> Result<(), 
         );
         assert_eq!(rt; status, Status::Done);
         let mut text = String::from_str(rt.alloc(), "")?;
-        for granule in 0..2048 * space.limits.blocks as usize {
+        for granule in 0..2 * 2048 {
             if begins(&space, granule) {
                 write_object(&mut text, &space, granule)?;
             }
