@@ -48,12 +48,14 @@ use Rattle.lxr_core_events.specs.Laws.{AllRest}
 use Rattle.lxr_core_events.specs.Through.{IsAsHistory}
 use Rattle.lxr_core_inv_counts.proofs.KeepingLemmas.{closing_counts}
 use Rattle.lxr_core_inv_inside.proofs.KeepingLemmas.{closing_inside}
+use Rattle.lxr_core_inv_remembered.proofs.SafepointLemmas.{closing_remembered}
 use Rattle.lxr_core_inv_snapshot.proofs.SafepointLemmas.{closing_cover}
 use Rattle.lxr_core_inv_history.proofs.EndLemmas.{ends_are_counted}
 use Rattle.lxr_core_inv_history.proofs.ThroughLemmas.{rest_is_history, through_has_cause}
 use Rattle.lxr_core_inv_memory.proofs.ClosingLemmas.{all_blocks_are_taken}
 use Rattle.lxr_core_inv_logs.proofs.ClosingLemmas.{closing_logs}
 use Rattle.lxr_core_close.specs.HandingOut.{AreHandedOut, DrawnIsOut, IsDrawnLine, MayHandOut, drawn_blocks, drawn_runs}
+use Rattle.lxr_invariant.specs.Lines.{NoneChosen}
 use Rattle.lxr_core_close.specs.Safepoint.{HasClosingTrace, HasCollected, registers_of}
 use Rattle.lxr_core_close.specs.Cause.{script_in}
 use Rattle.lxr_core_close.proofs.SafepointLemmas.{closing_reaches_safepoint, drawn_may_be_handed_out, drawn_was_free}
@@ -502,11 +504,11 @@ collects b s space actors is none =
     (mutator_count b s space actors is) none
     ∙ sym (given_collected (mutators_in actors))
 
--- no number of the remembered set is drawn
-none_remembered : (b : Beginning) (s : EpochState) (now after : Space) → IsEpoch b s → tables_of now ≡ s.tables → DrawnIsOut b.space now after → (tables_of after).cursors REMEMBERED_CURSOR ≡ (tables_of b.space).cursors REMEMBERED_CURSOR
-none_remembered b s now after is tables out =
+-- no number of the remembered set is drawn where no block is Chosen
+none_remembered : (b : Beginning) (s : EpochState) (now after : Space) → IsEpoch b s → tables_of now ≡ s.tables → DrawnIsOut b.space now after → NoneChosen (tables_of b.space) b.space.limits.blocks → (tables_of after).cursors REMEMBERED_CURSOR ≡ (tables_of b.space).cursors REMEMBERED_CURSOR
+none_remembered b s now after is tables out unchosen =
     ap (λ (t : Tables). t.cursors REMEMBERED_CURSOR) (out.hands.rest ∙ ap with_outs tables)
-    ∙ is.fixed.cursors REMEMBERED_CURSOR (λ e. absurd (omega (arith, e))) (λ e. absurd (omega (arith, e))) (λ e. absurd (omega (arith, e))) (λ e. absurd (omega (arith, e)))
+    ∙ (is.remembered.idle unchosen).drawn
   where
     with_outs : Tables → Tables
     with_outs t = record t { outs = (tables_of after).outs; reuse = (tables_of after).reuse; states = (tables_of after).states }
@@ -524,7 +526,7 @@ closes b execution space now after before given may gave out =
     let logs = closing_logs b s is.epoch (states_rest b s space before is) in
     let counts = closing_counts b s is.epoch (all_helpers_rest b s space before is) in
     let rests = all_actors_rest b s space before is in
-    let trace : HasClosingTrace b s = record { covers = λ trace e. closing_cover b s trace is.epoch rests e; inside = λ trace e. closing_inside b s trace is.epoch e } in
+    let trace : HasClosingTrace b s = record { covers = λ trace e. closing_cover b s trace is.epoch rests e; inside = λ trace e. closing_inside b s trace is.epoch e; remembered = λ trace snapshot e names. closing_remembered b s trace snapshot is.epoch rests logs.bits e names } in
     let closed = closing_reaches_safepoint b s now after is.epoch logs counts trace (is_collected b s space now before is has) out in
     let held : execution.core.actors ≡ before = ap (λ (c : Core AnyActor). c.actors) may.core in
     let gives = given_mutators before in
@@ -541,7 +543,7 @@ closes b execution space now after before given may gave out =
           (cause_follows through_has_cause ends_are_counted all_blocks_are_taken b s terms is.epoch (all_through b s space before is (subst (λ z. AreFinished (mutators_in z)) held finished)) logs are legal);
       progress = λ finished unasked. subst (HasProgress b execution) (sym gives) (has_progress b execution cleared space before is (subst (λ z. AreFinished (mutators_in z)) held finished) unasked);
       collects = λ none. collects b s space before is none ∙ ap (list_any has_collected) (sym gives);
-      none_chosen = closed.none_chosen;
+      states = closed.states;
       remembered = none_remembered b s now after is.epoch (ap tables_of has ∙ is.tables) out;
       registers = ap (λ (z : Space). z.registers.items) out.rest ∙ ap (λ (z : Space). z.registers.items) has ∙ ap (λ z. all_registers (mutators_in z)) (sym held);
       logged = ap (λ (z : Space). z.logged.items) out.rest ∙ ap (λ (z : Space). z.logged.items) has ∙ ap (λ z. all_entries (mutators_in z)) (sym held);

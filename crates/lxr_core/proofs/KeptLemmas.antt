@@ -1,6 +1,6 @@
 -- Each event of a mutator and each step of a helper keeps the invariant of an epoch: its parts are kept side by side, each by lemmas of its
--- own crate. A helper's step leaves all of them but those that speak of helpers: counts and pending decrements, what tracers know, and the
--- trace's cover and marks.
+-- own crate. A helper's step leaves all of them but those that speak of helpers: counts and pending decrements, what tracers know, the
+-- trace's cover and marks, and what is remembered.
 use Rattle.std.specs.Prelude.{List, slice_set}
 use Rattle.lxr_image.specs.Tables.{Tables}
 use Rattle.lxr_core_access.specs.Accesses.{done_to}
@@ -12,6 +12,7 @@ use Rattle.lxr_core_events.specs.Counted.{AreCountedIn}
 use Rattle.lxr_core_events.specs.Traced.{AreScannedIn}
 use Rattle.lxr_core_events.specs.Covered.{SnapshotIsCoveredIn}
 use Rattle.lxr_core_events.specs.Inside.{MarksStayInsideIn}
+use Rattle.lxr_core_events.specs.Remembered.{AreRememberedIn}
 use Rattle.lxr_core_events.specs.Epoch.{IsEpoch}
 use Rattle.lxr_core_events.specs.Laws.{DecrementersKeepEpoch, EpochIsKept, TracersKeepEpoch}
 use Rattle.lxr_core_inv_counts.proofs.KeepingLemmas.{counts_are_kept, decrementers_are_sound, decrementers_keep_counts, tracers_keep_counts}
@@ -25,6 +26,7 @@ use Rattle.lxr_core_inv_logs.proofs.LeftLemmas.{bits_and_logs_are_left}
 use Rattle.lxr_core_inv_memory.proofs.DrawnLemmas.{drawn_memory_is_kept}
 use Rattle.lxr_core_inv_memory.proofs.FixedLemmas.{fixed_tables_are_kept, fixed_tables_are_left}
 use Rattle.lxr_core_inv_memory.proofs.LeftLemmas.{drawn_memory_is_left}
+use Rattle.lxr_core_inv_remembered.proofs.KeepingLemmas.{decrementers_keep_remembered, remembered_is_kept, tracers_keep_remembered}
 use Rattle.lxr_core_inv_replies.proofs.KeepingLemmas.{registers_are_kept}
 use Rattle.lxr_core_inv_replies.proofs.LeftLemmas.{registers_are_left}
 use Rattle.lxr_core_inv_replies.proofs.ReplyLemmas.{replies_are_steps}
@@ -46,6 +48,7 @@ epoch_is_kept b s i v e epoch shown may =
       scanned = knowledge_is_kept b s i v e epoch shown may;
       covered = cover_is_kept b s i v e epoch shown may;
       inside = inside_is_kept b s i v e epoch shown may;
+      remembered = remembered_is_kept b s i v e epoch shown may;
       drawn = drawn_memory_is_kept b s i v e epoch shown may;
       fixed = fixed_tables_are_kept b s i v e epoch shown may;
       called = history.called;
@@ -57,6 +60,7 @@ record KeepsOfHelpers (b : Beginning) (s : EpochState) : Type 0 where
   scanned : AreScannedIn b s
   covered : SnapshotIsCoveredIn b s
   inside : MarksStayInsideIn b s
+  remembered : AreRememberedIn b s
 
 -- where a helper's step keeps these, all others are left
 helpers_keep : (b : Beginning) (s : EpochState) (u : Tables) (ds : List Decrementing) (ts : List Tracing) → IsEpoch b s → LeavesTables s.tables u
@@ -73,6 +77,7 @@ helpers_keep b s u ds ts epoch leaves keeps =
       scanned = keeps.scanned;
       covered = keeps.covered;
       inside = keeps.inside;
+      remembered = keeps.remembered;
       drawn = drawn_memory_is_left b s u ds ts epoch leaves;
       fixed = fixed_tables_are_left b s u ds ts epoch leaves;
       called = history.called;
@@ -86,6 +91,7 @@ decrementers_keep_epoch b s i access after epoch may =
       scanned = decrementers_keep_knowledge b s i access after epoch may;
       covered = decrementers_keep_cover b s i access after epoch may;
       inside = decrementers_keep_inside decrementers_keep_counts b s i access after epoch may;
+      remembered = decrementers_keep_remembered b s i access after epoch may;
     })
 
 -- and with a tracer's
@@ -96,4 +102,5 @@ tracers_keep_epoch b s i access after epoch may =
       scanned = tracers_keep_knowledge b s i access after epoch may;
       covered = tracers_keep_cover b s i access after epoch may;
       inside = tracers_keep_inside b s i access after epoch may;
+      remembered = tracers_keep_remembered b s i access after epoch may;
     })

@@ -469,11 +469,11 @@ epoch_state_opened b after actors limits tables =
     ap (λ t. epoch_state_with b t (map thread_state_of (mutators_in actors)) (map decrementing_of (decrementers_in actors)) (map tracing_of (tracers_in actors))) (sym same)
 
 -- the invariant of the epoch holds
-holds : (b : Beginning) (after : Space) (before now : List AnyActor) → length before < 2 ^ 63 → Begins b b.space before → Opens b.space after before now → HoldsExecution b (execution_at b after now)
-holds b after before now few is opened =
+holds : (b : Beginning) (after : Space) (before now : List AnyActor) → b.space.pauses < 2 ^ 32 → length before < 2 ^ 63 → Begins b b.space before → Opens b.space after before now → HoldsExecution b (execution_at b after now)
+holds b after before now pauses few is opened =
     let limits : after.limits ≡ b.space.limits = ap (λ s. s.limits) opened.space.rest in
     let start = all_start b before now is.begins is.actors_rest opened.actors in
-    let epoch = opens b (map thread_state_of (mutators_in now)) (map decrementing_of (decrementers_in now)) (map tracing_of (tracers_in now)) is.begins start (helpers_rest b before now is.begins is.actors_rest opened.actors few) is.served.few is.served.unasked in
+    let epoch = opens b (map thread_state_of (mutators_in now)) (map decrementing_of (decrementers_in now)) (map tracing_of (tracers_in now)) is.begins pauses start (helpers_rest b before now is.begins is.actors_rest opened.actors few) is.served.few is.served.unasked in
     let size : (tables_in after.limits after.words).size ≡ region_begin b.space.limits 15 = ap (λ t. t.size) opened.space.tables ∙ is.begins.between.safepoint.holds.space.size in (
       [],
       record {
@@ -486,10 +486,10 @@ holds b after before now few is opened =
       },
     )
 
--- the same of the space as it stood before
-pub holds_at : (b : Beginning) (before after : Space) (actors now : List AnyActor) → length actors < 2 ^ 63 → Begins b before actors → Opens before after actors now → HoldsExecution b (execution_at b after now)
-holds_at b before after actors now few is opened =
-    subst (λ s. Begins b s actors → Opens s after actors now → HoldsExecution b (execution_at b after now)) is.space_is (holds b after actors now few) is opened
+-- the same of the space as it stood before, whose number of pauses has 32 bits
+pub holds_at : (b : Beginning) (before after : Space) (actors now : List AnyActor) → before.pauses < 2 ^ 32 → length actors < 2 ^ 63 → Begins b before actors → Opens before after actors now → HoldsExecution b (execution_at b after now)
+holds_at b before after actors now pauses few is opened =
+    subst (λ s. s.pauses < 2 ^ 32 → Begins b s actors → Opens s after actors now → HoldsExecution b (execution_at b after now)) is.space_is (λ low. holds b after actors now low few) pauses is opened
 
 -- marks and grays are what they were, so what is to be scanned is
 filled_before : (t u : Tables) (blocks : ℕ) (tracers : List TracerState) → u.grays ≡ t.grays → u.marks ≡ t.marks → FillsPockets u blocks tracers → FillsPockets t blocks tracers

@@ -1,5 +1,5 @@
 -- The invariant of an epoch holds as it opens.
-use Rattle.std.proofs.Common.{◌≡◌, ℕ, ◌+◌, ◌≤◌, refl, sym, ap, subst, ◌∙◌, inl, arith, true, false, List, [], ◌∷◌, ◌++◌, length}
+use Rattle.std.proofs.Common.{◌≡◌, ℕ, ◌+◌, ◌^◌, ◌<◌, ◌≤◌, refl, sym, ap, subst, ◌∙◌, inl, arith, true, false, List, [], ◌∷◌, ◌++◌, length}
 use Rattle.std.specs.Prelude.{Some, IsTrue, slice_get, take, suc}
 use Rattle.std.specs.List.Sorted.{IsPermutation}
 use Rattle.std.proofs.lemmas.List.Sorted.{IsPermutation-refl}
@@ -33,6 +33,7 @@ use Rattle.lxr_core_events.specs.Epoch.{IsEpoch}
 use Rattle.lxr_core_events.specs.Laws.{OpensWith}
 use Rattle.lxr_core_inv_counts.proofs.KeepingLemmas.{opening_counts}
 use Rattle.lxr_core_inv_inside.proofs.KeepingLemmas.{opening_inside}
+use Rattle.lxr_core_inv_remembered.proofs.SafepointLemmas.{opening_remembered}
 use Rattle.lxr_core_inv_scans.proofs.KeepingLemmas.{opening_knowledge}
 use Rattle.lxr_core_inv_snapshot.proofs.SafepointLemmas.{opening_cover}
 use Rattle.lxr_core.proofs.StartingLemmas.{AllRest, AllStart, Starts, StartsIn, anew, over, no_work, opening_epoch_state}
@@ -84,7 +85,7 @@ no_logs (v ∷ thread_states) empty =
     flat_map-cons (λ w. w.log.items) v thread_states ∙ (ap (λ z. z ++ logs_of thread_states) (empty 0 v refl) ∙ no_logs thread_states (λ i. empty (suc i)))
 
 -- of an epoch that opens with these thread states, these decrementers and these tracers
-module _ (b : Beginning) (thread_states : List ThreadState) (ds : List Decrementing) (ts : List Tracing) (begins : IsBeginning b) (starts : AllStart b thread_states) (rest : AllRest ds ts)
+module _ (b : Beginning) (thread_states : List ThreadState) (ds : List Decrementing) (ts : List Tracing) (begins : IsBeginning b) (pauses : b.space.pauses < 2 ^ 32) (starts : AllStart b thread_states) (rest : AllRest ds ts)
     (few : (t : ℕ) → calls_since_pause t b.history ≤ 1) (unasked : (t : ℕ) → has_asked t b.history ≡ false) where
   -- its epoch state
   abbrev s : EpochState
@@ -179,7 +180,7 @@ module _ (b : Beginning) (thread_states : List ThreadState) (ds : List Decrement
   fixed = record {
     tables = refl;
     counts = λ k unstarted. refl;
-    cursors = λ c other _ _ _. changed_other (opening_tables b).cursors PAUSE_WORD 0 c other;
+    cursors = λ c other _ _ _ _. changed_other (opening_tables b).cursors PAUSE_WORD 0 c other;
     word = inl refl;
     runs = let none = begins.listed.no_runs_drawn in omega (arith, none);
     blocks = let none = begins.listed.no_blocks_drawn in omega (arith, none);
@@ -216,7 +217,7 @@ module _ (b : Beginning) (thread_states : List ThreadState) (ds : List Decrement
 
   -- it opens with tables of its beginning, and with helpers that rest
   opens_with : OpensWith b s
-  opens_with = record { begins = begins; tables = refl; decrementers = rest.each; tracers = rest.tracers; history = refl; at = refl }
+  opens_with = record { begins = begins; few_pauses = pauses; tables = refl; decrementers = rest.each; tracers = rest.tracers; history = refl; at = refl }
 
   -- all parts hold
   pub opens : IsEpoch b s
@@ -230,6 +231,7 @@ module _ (b : Beginning) (thread_states : List ThreadState) (ds : List Decrement
     scanned = opening_knowledge b s opens_with;
     covered = opening_cover b s opens_with;
     inside = opening_inside b s opens_with;
+    remembered = opening_remembered b s opens_with;
     drawn = drawn;
     fixed = fixed;
     called = called;

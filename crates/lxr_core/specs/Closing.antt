@@ -6,6 +6,7 @@ use Rattle.lxr_layout.specs.declared.Name.{Name}
 use Rattle.lxr_graph.specs.Names.{has}
 use Rattle.lxr_image.specs.declared.space.Space.{Space}
 use Rattle.lxr_image.specs.Spaces.{tables_of}
+use Rattle.lxr_blocks.specs.States.{KeepsState}
 use Rattle.lxr_model.specs.Belongs.{HasCause, has_asked}
 use Rattle.lxr_model.specs.Kinds.{collect_called}
 use Rattle.lxr_model.specs.Legal.{IsLegalSoFar}
@@ -77,9 +78,10 @@ pub record Closes (b : Beginning) (execution : Execution) (before after : Space)
   pub progress : AreFinished (mutators_in execution.core.actors) → ((t : ℕ) → has_asked t b.history ≡ false) → HasProgress b execution (mutators_in actors)
   -- where nobody had called `collect` before, the mutators tell whether somebody has
   pub collects : collect_called b.history ≡ false → collect_called execution.history ≡ list_any has_collected (mutators_in actors)
-  -- no block is Chosen, and no number of the remembered set was drawn
-  pub none_chosen : NoneChosen (tables_of after) after.limits.blocks
-  pub remembered : (tables_of after).cursors REMEMBERED_CURSOR ≡ (tables_of b.space).cursors REMEMBERED_CURSOR
+  -- each block has the state that it had as the epoch opened, or neither that one nor its own is Chosen or World
+  pub states : (n : ℕ) → KeepsState (tables_of b.space) (tables_of after) n
+  -- where no block was Chosen then, no number of the remembered set was drawn
+  pub remembered : NoneChosen (tables_of b.space) b.space.limits.blocks → (tables_of after).cursors REMEMBERED_CURSOR ≡ (tables_of b.space).cursors REMEMBERED_CURSOR
   -- the space has the registers and the entries of all mutators, those of thread 1 first
   pub registers : after.registers.items ≡ all_registers (mutators_in execution.core.actors)
   pub logged : after.logged.items ≡ all_entries (mutators_in execution.core.actors)

@@ -29,7 +29,7 @@ pub record Opens (before after : Space) (resting started : List AnyActor) : Type
   pub actors : HaveStarted before.registers.items resting (map unfilled started) (length resting)
   pub pockets : FillsPockets (tables_of before) before.limits.blocks (tracers_in started)
 
--- A history so far led to the space and the actors: the actors rest for it, no `new` waits, and no block is Chosen.
+-- A history so far led to the space and the actors: the actors rest for it, and no `new` waits.
 pub record Begins (b : Beginning) (space : Space) (actors : List AnyActor) : Type 0 where
   pub space_is : b.space ≡ space
   pub begins : IsBeginning b

@@ -24,6 +24,8 @@ pub fn open_epoch(space: &mut Space, actors: &mut [AnyActor])
     ensures opens { Opens space.old space.new actors.old actors.new }
     ensures execution { (b : Beginning) → Begins b space.old actors.old → HoldsExecution b (execution_at b space.new actors.new) }
 {
+    // The number of pauses has 32 bits, so the cursor of remembered entries doesn't come round in the epoch.
+    let _pauses = space.pauses;
     space.put_cursor(PAUSE_WORD, 0);
     start_all(actors, space.registers.as_slice());
     fill_pockets(space, actors);

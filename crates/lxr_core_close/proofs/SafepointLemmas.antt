@@ -1,11 +1,11 @@
 -- At the end of an epoch, with all that mutators drew handed out, a space is at a safepoint before a pause.
-use Rattle.std.proofs.Common.{◌≡◌, ℕ, ◌+◌, ◌-◌, ◌*◌, ◌/◌, ◌<◌, ◌≤◌, refl, sym, ap, subst, ◌∙◌, inl, inr, arith, Bool, false, List, length}
+use Rattle.std.proofs.Common.{◌≡◌, ◌≢◌, ℕ, ◌+◌, ◌-◌, ◌*◌, ◌/◌, ◌<◌, ◌≤◌, refl, sym, ap, subst, ◌∙◌, inl, inr, ◌⊎◌, arith, Bool, false, List, length}
 use Rattle.std.specs.Prelude.{Option, IsTrue}
 use Rattle.std.specs.Option.{option_map}
 use Rattle.std.proofs.lemmas.Bool.{false_from_ne_true}
 use Rattle.std.proofs.lemmas.Bool.Decides.{leb_tells}
 use Rattle.std.proofs.lemmas.List.{length-map}
-use Rattle.lxr_layout.specs.declared.TheConstants.{DECREMENT_COUNT, DECREMENT_CURSOR, FREE_BLOCK_COUNT, GRANULES_IN_BLOCK, RUN_COUNT, TRACING_WORD}
+use Rattle.lxr_layout.specs.declared.TheConstants.{DECREMENT_COUNT, DECREMENT_CURSOR, FREE_BLOCK_COUNT, GRANULES_IN_BLOCK, GRANULES_IN_LINE, LINES_IN_BLOCK, RUN_COUNT, TRACING_WORD}
 use Rattle.lxr_layout.specs.declared.limits.Limits.{Limits}
 use Rattle.lxr_layout.specs.declared.LogEntry.{LogEntry}
 use Rattle.lxr_layout.specs.declared.Place.{Place}
@@ -21,14 +21,16 @@ use Rattle.lxr_image.specs.Spaces.{IsSpace, tables_of}
 use Rattle.lxr_image.specs.Reads.{granule_of}
 use Rattle.lxr_image.specs.Image.{ArePlacesOf, granules_of, place_word}
 use Rattle.lxr_image.proofs.ImageLemmas.{places_still}
+use Rattle.lxr_blocks.specs.declared.states.BlockState.TheVariants.{Chosen}
 use Rattle.lxr_blocks.specs.Lines.{is_free}
+use Rattle.lxr_blocks.specs.States.{KeepsState, is_fixed, state_in, state_of}
 use Rattle.lxr_model.specs.Moments.{Moment, Trace}
 use Rattle.lxr_model.specs.Reachable.{held}
 use Rattle.lxr_invariant.specs.AbstractState.{members}
-use Rattle.lxr_invariant.specs.Lines.{AvoidChosen, HasBlocks, HasMarks, LinesAreOut, NoneChosen}
+use Rattle.lxr_invariant.specs.Lines.{AvoidChosen, HasBlocks, HasMarks, LinesAreOut}
 use Rattle.lxr_invariant.specs.Quiescent.{HoldsMoment}
-use Rattle.lxr_invariant.proofs.FrameLemmas.{bits_still, blocks_still, chosen_still, counts_still, decrements_still, image_still, marks_still}
-use Rattle.lxr_invariant.proofs.BlockLemmas.{blocks_kept, none_counted, none_kept}
+use Rattle.lxr_invariant.proofs.FrameLemmas.{bits_still, blocks_still, counts_still, decrements_still, image_still, marks_still}
+use Rattle.lxr_invariant.proofs.BlockLemmas.{blocks_kept, still_not}
 use Rattle.lxr_invariant.proofs.NameLemmas.{in_first, in_second}
 use Rattle.lxr_invariant.proofs.PlaceLemmas.{marks_stay}
 use Rattle.lxr_core_events.specs.EpochStates.{Beginning, EpochState, limits_of, moment_of, opening_tables}
@@ -42,8 +44,8 @@ use Rattle.lxr_core_close.proofs.HandingLemmas.{drawn_is_out, keeps_state, liste
 use Rattle.lxr_core_events.proofs.DrawnLemmas.{block_below, run_below}
 use Rattle.lxr_core_events.proofs.PauseLemmas.{one_pause, unmoved}
 use Rattle.lxr_core_close.proofs.ListLemmas.{few_entries, registers_are_places}
-use Rattle.lxr_core_close.proofs.StillLemmas.{marks_unmoved}
-use Rattle.lxr_core_close.proofs.TraceLemmas.{StandOutside, traced_closes}
+use Rattle.lxr_core_close.proofs.StillLemmas.{marks_unmoved, same_size}
+use Rattle.lxr_core_close.proofs.TraceLemmas.{KeepReuse, traced_closes}
 
 -- ---- the end of an epoch
 
@@ -61,8 +63,8 @@ later : (b : Beginning) (s : EpochState) → IsEpoch b s → AreLater (tables_of
 later b s is = record {
   rest = is.fixed.tables;
   uncounted = λ k none. still_uncounted b s k is none;
-  runs = is.fixed.cursors RUN_COUNT (λ e. absurd (omega arith)) (λ e. absurd (omega arith)) (λ e. absurd (omega arith)) (λ e. absurd (omega arith));
-  frees = is.fixed.cursors FREE_BLOCK_COUNT (λ e. absurd (omega arith)) (λ e. absurd (omega arith)) (λ e. absurd (omega arith)) (λ e. absurd (omega arith));
+  runs = is.fixed.cursors RUN_COUNT (λ e. absurd (omega arith)) (λ e. absurd (omega arith)) (λ e. absurd (omega arith)) (λ e. absurd (omega arith)) (λ e. absurd (omega arith));
+  frees = is.fixed.cursors FREE_BLOCK_COUNT (λ e. absurd (omega arith)) (λ e. absurd (omega arith)) (λ e. absurd (omega arith)) (λ e. absurd (omega arith)) (λ e. absurd (omega arith));
 }
 
 -- a drawn line was free as it was listed, and objects keep their lines
@@ -127,27 +129,61 @@ lines_out b s u is hands n o k member covers = elim (is.drawn.made n o member co
   | inr lies ↦ drawn_out b s u (granule_of (s.at n)) (granule_of (s.at n) + granules_of o) k hands (later b s is) is.drawn n.thread lies covers.first covers.behind
 ]
 
--- no block is Chosen, since none was as the epoch opened
-none_left : (b : Beginning) (s : EpochState) (u : Tables) → IsEpoch b s → DrawnAreOut b s u → NoneChosen u (limits_of b).blocks
-none_left b s u is hands =
-    none_kept s.tables u (limits_of b).blocks (λ c. keeps_state (drawn_in b s) s.tables u c hands)
-    (chosen_still (opening_tables b) s.tables (limits_of b).blocks (ap (λ (z : Tables). z.states) is.fixed.tables) ∙ is.begins.none_chosen)
+-- each block has the state that it had as the epoch opened, or neither that one nor its own is Chosen or World
+states_kept : (b : Beginning) (s : EpochState) (u : Tables) → IsEpoch b s → DrawnAreOut b s u → (n : ℕ) → KeepsState (opening_tables b) u n
+states_kept b s u is hands n =
+    subst (λ (f : ℕ → ℕ). (u.states n ≡ f n) ⊎ ((is_fixed (state_of (f n)) ≡ false) × (is_fixed (state_in u n) ≡ false))) (ap (λ (z : Tables). z.states) is.fixed.tables)
+    (keeps_state (drawn_in b s) s.tables u n hands)
 
--- so no object lies in one
-outside : (b : Beginning) (s : EpochState) (u : Tables) → IsEpoch b s → DrawnAreOut b s u → StandOutside u (moment_of b s) s.at
-outside b s u is hands n member =
-    let stands = is.image.placed.image.stands n member in
-    let in_heap = stands.2.whole.in_heap in
-    let some = some_granules stands.0 in
-    let block : granule_of (s.at n) / GRANULES_IN_BLOCK < (limits_of b).blocks = omega (arith, in_heap, some) in
-    none_counted u (limits_of b).blocks (granule_of (s.at n) / GRANULES_IN_BLOCK) (none_left b s u is hands) block
-  where
-    some_granules : (o : Object) → 1 ≤ granules_of o
-    some_granules o = omega arith
+-- what begins within a run of a block, or within a block, begins in the block
+in_run : (g granules block line lines : ℕ) → GRANULES_IN_BLOCK * block + GRANULES_IN_LINE * line ≤ g → g + granules ≤ GRANULES_IN_BLOCK * block + GRANULES_IN_LINE * (line + lines) → line + lines ≤ LINES_IN_BLOCK → 1 ≤ granules
+    → g / GRANULES_IN_BLOCK ≡ block
+in_run g granules block line lines low high within some = omega arith
 
--- nor does what was made
+in_block : (g granules block : ℕ) → GRANULES_IN_BLOCK * block ≤ g → g + granules ≤ GRANULES_IN_BLOCK * (block + 1) → 1 ≤ granules → g / GRANULES_IN_BLOCK ≡ block
+in_block g granules block low high some = omega arith
+
+some_granules : (o : Object) → 1 ≤ granules_of o
+some_granules o = omega arith
+
+-- what was made lay outside the blocks that were Chosen as the epoch opened: it was served before, or lies in what was listed
+made_outside : (b : Beginning) (s : EpochState) → IsEpoch b s → AvoidChosen (opening_tables b) s.at (moment_of b s).made
+made_outside b s is n member =
+    let x = is.image.placed.image.stands n (in_second (moment_of b s).unreclaimed (moment_of b s).made n member) in
+    let some = some_granules x.0 in
+    elim (is.drawn.made n x.0 member x.1) [
+      | inl served ↦
+          let before : Moment = b.abstract_state.moment in
+          subst (λ p. state_in (opening_tables b) (granule_of p / GRANULES_IN_BLOCK) ≢ Chosen) (sym (is.image.placed.unmoved n (in_second before.unreclaimed before.made n served.stood)))
+          (is.begins.between.safepoint.holds.unchosen n served.stood)
+      | inr (inl run) ↦
+          subst (λ c. state_in (opening_tables b) c ≢ Chosen) (sym (in_run (granule_of (s.at n)) (granules_of x.0) run.run.block run.run.line run.run.lines run.within.0 run.within.1 run.lists.run.run.within some)) run.lists.run.outside
+      | inr (inr block) ↦
+          subst (λ c. state_in (opening_tables b) c ≢ Chosen) (sym (in_block (granule_of (s.at n)) (granules_of x.0) ((opening_tables b).frees block.number) block.within.0 block.within.1 some))
+          (is.begins.listed.blocks block.number block.listed).run.outside
+    ]
+
+-- so it does now
 unchosen : (b : Beginning) (s : EpochState) (u : Tables) → IsEpoch b s → DrawnAreOut b s u → AvoidChosen u s.at (moment_of b s).made
-unchosen b s u is hands n member = outside b s u is hands n (in_second (moment_of b s).unreclaimed (moment_of b s).made n member)
+unchosen b s u is hands n member = still_not (opening_tables b) u (granule_of (s.at n) / GRANULES_IN_BLOCK) Chosen refl (states_kept b s u is hands (granule_of (s.at n) / GRANULES_IN_BLOCK)) (made_outside b s is n member)
+
+-- no unreclaimed object overlaps a line that is handed out: such a line was free as the epoch opened
+reuse_kept : (b : Beginning) (s : EpochState) (u : Tables) → IsEpoch b s → DrawnAreOut b s u → KeepReuse s.tables u (moment_of b s).state.graph s.at (moment_of b s).unreclaimed
+reuse_kept b s u is hands n o k member covers = elim (hands.lines_are (k / GRANULES_IN_LINE)) [
+  | inr left ↦ left.reuse
+  | inl handed ↦
+      let before : Moment = b.abstract_state.moment in
+      let one = one_pause b s is in
+      let in_n : IsTrue (has before.unreclaimed n) = subst (λ us. IsTrue (has us n)) one.unreclaimed member in
+      let sized = same_size before (moment_of b s) n o is.begins.between.safepoint.holds.follows is.lives one.last in_n member covers.object in
+      let there = unmoved b s is n in_n in
+      let free = listed_was_free b.space s.tables (k / GRANULES_IN_LINE) is.begins.listed (later b s is) handed.drawn in
+      let low = covers.first in
+      let high = covers.behind in
+      let size = sized.2 in
+      absurd (not_both (is_free (opening_tables b) (k / GRANULES_IN_LINE)) free
+      (is.begins.between.lines n sized.0 k (in_first before.unreclaimed before.made n in_n) (record { object = sized.1; first = omega (arith, low, there); behind = omega (arith, high, there, size) })))
+]
 
 -- ---- registers and logs
 
@@ -222,7 +258,7 @@ holds_closed b s words tally is closing counted hands =
     let marked = marks_unmoved t before m b.abstract_state.at s.at opened.follows is.lives one still bare in
     let blocks : HasBlocks t (limits_of b).blocks b.abstract_state.moment.trace =
     blocks_still o t (limits_of b).blocks b.abstract_state.moment.trace (ap (λ (z : Tables). z.states) late)
-    (is.fixed.cursors TRACING_WORD (λ e. absurd (omega arith)) (λ e. absurd (omega arith)) (λ e. absurd (omega arith)) (λ e. absurd (omega arith))) opened.blocks in
+    (is.fixed.cursors TRACING_WORD (λ e. absurd (omega arith)) (λ e. absurd (omega arith)) (λ e. absurd (omega arith)) (λ e. absurd (omega arith)) (λ e. absurd (omega arith))) opened.blocks in
     record {
       space = record { limits = opened.space.limits; size = ap (λ (z : Tables). z.size) hands.rest ∙ ap (λ (z : Tables). z.size) late ∙ opened.space.size };
       room = record { registers = opened.room.registers; deferred = opened.room.deferred; logged = opened.room.logged; work = opened.room.work; report = opened.room.report };
@@ -265,9 +301,10 @@ is_at_safepoint b s words tally is closing counted runs hands =
           trace = numbers.trace ∙ ap (λ z. option_map (λ (trace : Trace). trace.began) z) (sym one.trace);
           report = numbers.report;
         };
-        traced = traced_closes b s (tables_in (limits_of b) words) is runs hands.rest (outside b s (tables_in (limits_of b) words) is hands);
+        traced = traced_closes b s (tables_in (limits_of b) words) is runs hands.rest (reuse_kept b s (tables_in (limits_of b) words) is hands)
+            (λ n. keeps_state (drawn_in b s) s.tables (tables_in (limits_of b) words) n hands);
       };
-      none_chosen = none_left b s (tables_in (limits_of b) words) is hands;
+      states = states_kept b s (tables_in (limits_of b) words) is hands;
     }
 
 -- the space is the closed one of its words

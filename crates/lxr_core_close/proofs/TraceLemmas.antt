@@ -1,25 +1,27 @@
--- A trace that runs goes on as an epoch closes: lines that are handed out change neither marks nor grays nor dones, no block is Chosen, and
--- the remembered set is that of the beginning.
-use Rattle.std.proofs.Common.{◌≡◌, ◌≢◌, ℕ, ◌+◌, ◌*◌, ◌/◌, ◌^◌, ◌<◌, ◌≤◌, refl, sym, ap, subst, ◌∙◌, inl, inr, ◌⊎◌, arith, Bool, List}
+-- A trace that runs goes on as an epoch closes: lines that are handed out change neither marks nor grays nor dones, blocks that were Chosen are,
+-- and no unreclaimed object overlaps a line that is handed out, so that entries of its fields stay current.
+use Rattle.std.proofs.Common.{◌≡◌, ℕ, ◌+◌, ◌*◌, ◌/◌, ◌^◌, ◌-◌, ◌<◌, ◌≤◌, refl, sym, ap, subst, ◌∙◌, inl, inr, ◌⊎◌, arith, Bool, true, false, List, length}
 use Rattle.std.specs.Prelude.{Option, Some, None, IsTrue}
-use Rattle.lxr_layout.specs.declared.TheConstants.{GRANULES_IN_BLOCK, REMEMBERED_CURSOR}
+use Rattle.std.proofs.lemmas.Option.{slice_get_within}
+use Rattle.lxr_layout.specs.declared.TheConstants.{GRANULES_IN_BLOCK, GRANULES_IN_LINE, REMEMBERED_CURSOR, WORDS_IN_LINE}
 use Rattle.lxr_layout.specs.declared.limits.Limits.{Limits}
 use Rattle.lxr_layout.specs.declared.LogEntry.{LogEntry}
 use Rattle.lxr_layout.specs.declared.Name.{Name}
 use Rattle.lxr_layout.specs.declared.Place.{Place}
+use Rattle.lxr_layout.specs.Runs.{word_of_entry}
 use Rattle.lxr_graph.specs.Names.{has}
+use Rattle.lxr_graph.specs.State.{Graph, Object, object_at, refs_of}
 use Rattle.lxr_image.specs.Tables.{Tables}
 use Rattle.lxr_image.specs.Reads.{granule_of}
-use Rattle.lxr_blocks.specs.declared.states.BlockState.TheVariants.{Chosen}
-use Rattle.lxr_blocks.specs.States.{state_in}
+use Rattle.lxr_image.specs.Image.{IsImage, granules_of}
+use Rattle.lxr_image.proofs.ImageLemmas.{words_cover, words_even}
+use Rattle.lxr_blocks.specs.States.{KeepsState, is_fixed, state_of}
 use Rattle.lxr_model.specs.Moments.{Moment, Trace, rememberable}
-use Rattle.lxr_model.specs.Reachable.{Refers}
-use Rattle.lxr_model_counting.specs.Distinct.{has_field}
-use Rattle.lxr_model_counting.specs.Following.{FollowsPause, IsLive}
-use Rattle.lxr_model_counting.proofs.DistinctLemmas.{tested}
 use Rattle.lxr_invariant.specs.AbstractState.{members}
-use Rattle.lxr_invariant.specs.Tracing.{HandledAreGray, IsCovered, IsEntryWord, IsRememberedSoFar, IsToBeScanned, IsTracedBy, MarksStayInside, SnapshotIsCovered, StaysGarbage, TraceHolds}
-use Rattle.lxr_invariant.proofs.NameLemmas.{in_first, in_second}
+use Rattle.lxr_invariant.specs.Lines.{Covers}
+use Rattle.lxr_invariant.specs.Standing.{word_of_field}
+use Rattle.lxr_invariant.specs.Tracing.{HandledAreGray, HasOverflowed, IsCovered, IsEntryWord, IsInChosen, IsRemembered, IsRememberedSoFar, IsScanned, IsToBeScanned, IsTracedBy, MarksStayInside, SnapshotIsCovered, StaysGarbage, TraceHolds, unscanned_slots}
+use Rattle.lxr_invariant.proofs.NameLemmas.{in_first}
 use Rattle.lxr_core_events.specs.EpochStates.{Beginning, EpochState, limits_of, moment_of, opening_tables}
 use Rattle.lxr_core_events.specs.Logged.{logs_of}
 use Rattle.lxr_core_events.specs.Epoch.{IsEpoch}
@@ -59,35 +61,72 @@ module _ (t : Tables) (outs : ℕ → Bool) (reuse states : ℕ → ℕ) (m : Mo
 
 -- ---- the remembered set
 
--- what is live is a member
-live_member : (m : Moment) (n : Name) → FollowsPause m → IsLive m n → IsTrue (has (members m) n)
-live_member m n follows (inl reached) = in_first m.unreclaimed m.made n (follows.kept n reached)
-live_member m n follows (inr made) = in_second m.unreclaimed m.made n made
+-- the lines of these objects have the reuse counters that they had
+abbrev pub KeepReuse : Tables → Tables → Graph → (Name → ℕ) → List Name → Type 0
+KeepReuse t u g at us = (n : Name) (o : Object) (k : ℕ) → IsTrue (has us n) → Covers g at n o k → u.reuse (k / GRANULES_IN_LINE) ≡ t.reuse (k / GRANULES_IN_LINE)
 
--- what an unreclaimed object refers to now is a member
-referred_member : (m : Moment) (u n : Name) → FollowsPause m → IsTrue (has m.unreclaimed u) → Refers m.state.graph u n → IsTrue (has (members m) n)
-referred_member m u n follows member refers = elim (tested (has_field m.written (u, refers.0))) [
-  | inl stored ↦ live_member m n follows (follows.referred u n (inl (follows.written u refers.0 stored).1) refers)
-  | inr kept ↦ in_first m.unreclaimed m.made n (follows.closed u n member (refers.0, sym (follows.unwritten u refers.0 member kept) ∙ refers.1))
-]
+-- the granule of a reference's word is one of the object, and its line that of the word
+field_granule : (p i refs values words granules : ℕ) → 1 ≤ p → i < refs → 1 + refs + values ≤ words → words ≡ 2 * granules → (p - 1 ≤ (2 * (p - 1) + 1 + i) / 2) × ((2 * (p - 1) + 1 + i) / 2 < p - 1 + granules)
+field_granule p i refs values words granules some within cover even = (omega (arith, some), omega (arith, some, within, cover, even))
 
--- no member's object stands in a Chosen block
-abbrev pub StandOutside : Tables → Moment → (Name → ℕ) → Type 0
-StandOutside u m at = (n : Name) → IsTrue (has (members m) n) → state_in u (granule_of (at n) / GRANULES_IN_BLOCK) ≢ Chosen
+field_line : (w : ℕ) → w / 2 / 16 ≡ w / 32
+field_line w = omega arith
 
--- then no field is to be remembered, and entries are those that there were
-remembered_later : (l : Limits) (o u : Tables) (before m : Moment) (was at : Name → ℕ) (trace : Trace) (most : ℕ) → FollowsPause m → StandOutside u m at → u.remembered ≡ o.remembered → u.cursors REMEMBERED_CURSOR ≡ o.cursors REMEMBERED_CURSOR
-    → IsRememberedSoFar l o before was trace most → IsRememberedSoFar l u m at trace most
-remembered_later l o u before m was at trace most follows outside entries drawn is = record {
-  fields = λ n v i member scanned holds unlogged chosen. absurd (outside v (referred_member m n v follows member (i, holds)) chosen);
-  entries = λ k below within.
-      subst (λ word. (c : ℕ) × (p : Place) × (i : ℕ) × IsEntryWord l word c p i) (sym (ap (λ f. f k) entries)) (is.entries k (subst (λ z. k < z) drawn below) within);
-  drawn = subst (λ z. z ≤ most) (sym drawn) is.drawn;
-}
+module _ (l : Limits) (t u : Tables) (blocks : ℕ) (m : Moment) (at : Name → ℕ) (trace : Trace) (rest : u ≡ record t { outs = u.outs; reuse = u.reuse; states = u.states })
+    (image : IsImage t blocks at m.state.graph (members m)) (reuse : KeepReuse t u m.state.graph at m.unreclaimed) (states : (b : ℕ) → KeepsState t u b) where
+  -- the line of an unreclaimed object's reference has the counter that it had
+  counter_stays : (n : Name) (i : ℕ) → IsTrue (has m.unreclaimed n) → i < length (refs_of (object_at m.state.graph n)) → u.reuse (word_of_field at n i / WORDS_IN_LINE) ≡ t.reuse (word_of_field at n i / WORDS_IN_LINE)
+  counter_stays n i member within =
+      let x = image.stands n (in_first m.unreclaimed m.made n member) in
+      let o : Object = x.0 in
+      let few : i < length o.refs = subst (λ z. i < length (refs_of z)) x.1 within in
+      let granule = field_granule (at n) i (length o.refs) (length o.values) _ (granules_of o) x.2.placed few (words_cover o) (words_even o) in
+      subst (λ line. u.reuse line ≡ t.reuse line) (field_line (word_of_field at n i)) (reuse n o (word_of_field at n i / 2) member (record { object = x.1; first = granule.0; behind = granule.1 }))
+
+  cursor_stays : u.cursors REMEMBERED_CURSOR ≡ t.cursors REMEMBERED_CURSOR
+  cursor_stays = ap (λ (z : Tables). z.cursors REMEMBERED_CURSOR) rest
+
+  -- an entry stays current
+  entry_stays : (n : Name) (i : ℕ) → IsTrue (has m.unreclaimed n) → i < length (refs_of (object_at m.state.graph n)) → IsRemembered l t at n i ⊎ HasOverflowed l t → IsRemembered l u at n i ⊎ HasOverflowed l u
+  entry_stays n i member within (inl (k, drawn, room, word)) = inl (
+    k,
+    subst (λ z. k < z) (sym cursor_stays) drawn,
+    room,
+    ap (λ (z : Tables). z.remembered k) rest ∙ word ∙ ap (λ c. word_of_entry c (record { 0 = at n }) i) (sym (counter_stays n i member within)),
+  )
+  entry_stays n i member within (inr over) = inr (subst (λ z. l.remember < z) (sym cursor_stays) over)
+
+  -- a block is Chosen only where it was
+  chosen_before : (n : Name) → IsInChosen u at n → IsInChosen t at n
+  chosen_before n chosen =
+      let block : ℕ = granule_of (at n) / GRANULES_IN_BLOCK in
+      elim (states block) [
+        | inl same ↦ sym (ap state_of same) ∙ chosen
+        | inr (was, now) ↦ absurd (let k : true ≡ false = ap is_fixed (sym chosen) ∙ now in cc)
+      ]
+
+  marks_stay : u.marks ≡ t.marks
+  marks_stay = ap (λ (z : Tables). z.marks) rest
+
+  scanned_before : (n : Name) → IsScanned u at trace n → IsScanned t at trace n
+  scanned_before n (inl marked) = inl (ap (λ f. f (granule_of (at n))) (sym marks_stay) ∙ marked)
+  scanned_before n (inr promoted) = inr promoted
+
+  -- so all stays remembered
+  remembered_later : (snapshot : List Name) → IsRememberedSoFar l t m at trace snapshot → IsRememberedSoFar l u m at trace snapshot
+  remembered_later snapshot is = record {
+    fields = λ n v i member scanned holds unlogged chosen.
+        entry_stays n i member (slice_get_within (refs_of (object_at m.state.graph n)) i (Some v) holds)
+        (is.fields n v i member (scanned_before n scanned) holds (ap (λ (z : Tables). z.unlogged (word_of_field at n i)) (sym rest) ∙ unlogged) (chosen_before v chosen));
+    entries = λ k below within.
+        subst (λ word. (c : ℕ) × (p : Place) × (i : ℕ) × IsEntryWord l word c p i) (ap (λ (z : Tables). z.remembered k) (sym rest)) (is.entries k (subst (λ z. k < z) cursor_stays below) within);
+    bound = subst (λ (z : Tables). z.cursors REMEMBERED_CURSOR + unscanned_slots z m at snapshot ≤ rememberable trace snapshot) (sym rest) is.bound;
+  }
 
 -- ---- the trace that runs
 
-module _ (b : Beginning) (s : EpochState) (u : Tables) (is : IsEpoch b s) (closing : HasClosingTrace b s) (rest : u ≡ record s.tables { outs = u.outs; reuse = u.reuse; states = u.states }) where
+module _ (b : Beginning) (s : EpochState) (u : Tables) (is : IsEpoch b s) (closing : HasClosingTrace b s) (rest : u ≡ record s.tables { outs = u.outs; reuse = u.reuse; states = u.states })
+    (reuse : KeepReuse s.tables u (moment_of b s).state.graph s.at (moment_of b s).unreclaimed) (states : (n : ℕ) → KeepsState s.tables u n) where
   abbrev m : Moment
   m = moment_of b s
 
@@ -97,14 +136,8 @@ module _ (b : Beginning) (s : EpochState) (u : Tables) (is : IsEpoch b s) (closi
   one : HaveOnePause b.abstract_state.moment m
   one = one_pause b s is
 
-  -- entries that were drawn before the epoch
-  drawn_before : u.cursors REMEMBERED_CURSOR ≡ (opening_tables b).cursors REMEMBERED_CURSOR
-  drawn_before =
-      ap (λ (z : Tables). z.cursors REMEMBERED_CURSOR) rest
-      ∙ is.fixed.cursors REMEMBERED_CURSOR (λ e. absurd (omega arith)) (λ e. absurd (omega arith)) (λ e. absurd (omega arith)) (λ e. absurd (omega arith))
-
-  trace_closes : (trace : Trace) → m.trace ≡ Some trace → StandOutside u m s.at → TraceHolds (limits_of b) u entries (closed_state b s) trace
-  trace_closes trace runs outside =
+  trace_closes : (trace : Trace) → m.trace ≡ Some trace → TraceHolds (limits_of b) u entries (closed_state b s) trace
+  trace_closes trace runs =
       let covers = closing.covers trace runs in
       let began : TraceHolds (limits_of b) (opening_tables b) b.space.logged.items b.abstract_state trace =
       subst (IsTracedBy (limits_of b) (opening_tables b) b.space.logged.items b.abstract_state) (sym one.trace ∙ runs) is.begins.between.safepoint.traced in
@@ -114,15 +147,14 @@ module _ (b : Beginning) (s : EpochState) (u : Tables) (is : IsEpoch b s) (closi
         covered = subst (λ z. SnapshotIsCovered z m s.at entries trace) (sym rest) (covered_later s.tables u.outs u.reuse u.states m s.at entries trace covers.covered);
         inside = subst (λ z. MarksStayInside z m s.at trace) (sym rest) (inside_later s.tables u.outs u.reuse u.states m s.at entries trace (closing.inside trace runs));
         handled = subst (λ z. HandledAreGray z m s.at) (sym rest) covers.handled;
-        remembered = remembered_later (limits_of b) (opening_tables b) u b.abstract_state.moment m b.abstract_state.at s.at trace (rememberable trace began.snapshot) is.lives outside
-            (ap (λ (z : Tables). z.remembered) rest ∙ ap (λ (z : Tables). z.remembered) is.fixed.tables) drawn_before began.remembered;
+        remembered = remembered_later (limits_of b) s.tables u (limits_of b).blocks m s.at trace rest is.image.placed.image reuse states began.snapshot (closing.remembered trace began.snapshot runs began.reachable);
         few = subst (λ z. rememberable trace began.snapshot ≤ 2 ^ 23 * (z + 1)) (sym one.number) began.few;
       }
 
-  traced_so_far : (trace : Option Trace) → m.trace ≡ trace → StandOutside u m s.at → IsTracedBy (limits_of b) u entries (closed_state b s) trace
-  traced_so_far None runs outside = tt
-  traced_so_far (Some trace) runs outside = trace_closes trace runs outside
+  traced_so_far : (trace : Option Trace) → m.trace ≡ trace → IsTracedBy (limits_of b) u entries (closed_state b s) trace
+  traced_so_far None runs = tt
+  traced_so_far (Some trace) runs = trace_closes trace runs
 
   -- what is asked of it holds at the safepoint
-  pub traced_closes : StandOutside u m s.at → IsTracedBy (limits_of b) u entries (closed_state b s) m.trace
-  traced_closes outside = traced_so_far m.trace refl outside
+  pub traced_closes : IsTracedBy (limits_of b) u entries (closed_state b s) m.trace
+  traced_closes = traced_so_far m.trace refl

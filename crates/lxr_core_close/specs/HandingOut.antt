@@ -72,9 +72,9 @@ abbrev pub drawn_blocks : Tables → ℕ
 drawn_blocks t = min (t.cursors FREE_BLOCK_CURSOR) (t.cursors FREE_BLOCK_COUNT)
 
 -- Tables may be those at the end of an epoch: since runs and blocks were listed, only the heap, unlogged bits, counts, marks, grays,
--- dones and cursors have changed, what had no count has none, and runs and blocks are as many.
+-- dones, remembered entries and cursors have changed, what had no count has none, and runs and blocks are as many.
 pub record AreLater (listed t : Tables) : Type 0 where
-  pub rest : t ≡ record listed { heap = t.heap; unlogged = t.unlogged; counts = t.counts; marks = t.marks; grays = t.grays; dones = t.dones; cursors = t.cursors }
+  pub rest : t ≡ record listed { heap = t.heap; unlogged = t.unlogged; counts = t.counts; marks = t.marks; grays = t.grays; dones = t.dones; remembered = t.remembered; cursors = t.cursors }
   pub uncounted : (k : ℕ) → listed.counts k ≡ 0 → t.counts k ≡ 0
   pub runs : t.cursors RUN_COUNT ≡ listed.cursors RUN_COUNT
   pub frees : t.cursors FREE_BLOCK_COUNT ≡ listed.cursors FREE_BLOCK_COUNT

@@ -1,17 +1,21 @@
 -- From the end of an epoch to a safepoint before a pause, and what is known of the lines that were drawn.
 use Rattle.std.specs.Prelude.{◌≡◌, ℕ, Some, List, IsTrue}
 use Rattle.std.specs.List.{flat_map}
+use Rattle.lxr_layout.specs.declared.Name.{Name}
 use Rattle.lxr_layout.specs.declared.Place.{Place}
+use Rattle.lxr_graph.specs.Names.{IsSetOf}
 use Rattle.lxr_image.specs.declared.space.Space.{Space}
 use Rattle.lxr_image.specs.Spaces.{tables_of}
 use Rattle.lxr_blocks.specs.Lines.{is_free}
+use Rattle.lxr_blocks.specs.States.{KeepsState}
 use Rattle.lxr_model.specs.Moments.{Trace}
+use Rattle.lxr_model.specs.Reachable.{Reachable}
 use Rattle.lxr_invariant.specs.AbstractState.{AbstractState, members}
-use Rattle.lxr_invariant.specs.Lines.{IsTakenBy, NoneChosen}
-use Rattle.lxr_invariant.specs.Tracing.{MarksStayInside}
+use Rattle.lxr_invariant.specs.Lines.{IsTakenBy}
+use Rattle.lxr_invariant.specs.Tracing.{IsRememberedSoFar, MarksStayInside}
 use Rattle.lxr_invariant.specs.Quiescent.{IsAtSafepoint}
 use Rattle.lxr_core_events.specs.ThreadStates.{ThreadState}
-use Rattle.lxr_core_events.specs.EpochStates.{Beginning, EpochState, moment_of, opening_tables}
+use Rattle.lxr_core_events.specs.EpochStates.{Beginning, EpochState, limits_of, moment_of, opening_tables}
 use Rattle.lxr_core_events.specs.Logged.{logs_of}
 use Rattle.lxr_core_events.specs.Epoch.{IsEpoch}
 use Rattle.lxr_core_events.specs.Laws.{CoversAtSafepoint, HasClosingCounts, HasClosingLogs}
@@ -33,15 +37,18 @@ pub record HasCollected (b : Beginning) (s : EpochState) (now : Space) : Type 0 
   pub logged : now.logged ≡ record { items = logs_of s.thread_states; room = b.space.logged.room }
   pub rest : now ≡ record b.space { words = now.words; registers = now.registers; logged = now.logged; tally = now.tally }
 
--- What holds of the trace that runs, if one does: its snapshot is covered, and marks stay inside it.
+-- What holds of the trace that runs, if one does: its snapshot is covered, marks stay inside it, and all is remembered so far.
 pub record HasClosingTrace (b : Beginning) (s : EpochState) : Type 0 where
   pub covers : (trace : Trace) → (moment_of b s).trace ≡ Some trace → CoversAtSafepoint s.tables (moment_of b s) s.at (logs_of s.thread_states) trace
   pub inside : (trace : Trace) → (moment_of b s).trace ≡ Some trace → MarksStayInside s.tables (moment_of b s) s.at trace
+  pub remembered : (trace : Trace) (snapshot : List Name) → (moment_of b s).trace ≡ Some trace → IsSetOf snapshot (Reachable trace.state)
+      → IsRememberedSoFar (limits_of b) s.tables (moment_of b s) s.at trace snapshot
 
--- the epoch is closed: the space is at a safepoint before a pause, and no block is Chosen
+-- The epoch is closed: the space is at a safepoint before a pause, and each block has the state that it had, or neither that one nor its own is
+-- Chosen or World.
 pub record IsClosed (b : Beginning) (s : EpochState) (after : Space) : Type 0 where
   pub safepoint : IsAtSafepoint after (closed_state b s)
-  pub none_chosen : NoneChosen (tables_of after) after.limits.blocks
+  pub states : (n : ℕ) → KeepsState (opening_tables b) (tables_of after) n
 
 -- a line was free as the epoch opened, so that no object that stood in the heap then overlaps it
 pub record WasFree (b : Beginning) (line : ℕ) : Type 0 where

@@ -12,8 +12,8 @@ pub fn drawn_may_be_handed_out()
     ensures { DrawnMayBeHandedOut }
 {}
 
-/// With all that was drawn handed out, the space is at a safepoint before a pause, no block is Chosen, and a trace that
-/// runs has what it had: its snapshot is covered, and its marks stay inside.
+/// With all that was drawn handed out, the space is at a safepoint before a pause, blocks that were Chosen are and no others, and a
+/// trace that runs has what it had: its snapshot is covered, its marks stay inside, and all is remembered so far.
 pub fn closing_reaches_safepoint()
     ensures { ClosingReachesSafepoint }
 {}

@@ -35,6 +35,13 @@ shown_cases thread_states i v w j u shown now =
       | inr q ↦ inr (q.1, sym (set ∙ ap (λ b. cond b (Some w) (slice_get thread_states j)) q.0) ∙ now)
     ]
 
+-- what one shows is its own, or is still shown once that one shows something else
+pub own_or_still : {A : Type 0} (xs : List A) (i : ℕ) (d e : A) (j : ℕ) (x : A) → slice_get xs i ≡ Some d → slice_get xs j ≡ Some x → (x ≡ d) ⊎ (slice_get (slice_set xs i e) j ≡ Some x)
+own_or_still xs i d e j x own shown = elim (eqb_tells j i) [
+  | inl q ↦ inl (let same : Some x ≡ Some d = sym shown ∙ ap (slice_get xs) q.1 ∙ own in cc)
+  | inr q ↦ inr (set_elsewhere xs i j e q.1 ∙ shown)
+]
+
 -- the operation in progress is well formed where all operations are
 pub op_formed : (v : ThreadState) (o : Op) → All IsWellFormed v.operations → Does v o → IsWellFormed o
 op_formed v o formed does =

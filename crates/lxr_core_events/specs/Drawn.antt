@@ -1,6 +1,6 @@
 -- Drawn memory is one maker's: no granule has two owners. And cursors and fixed tables.
 use Rattle.std.specs.Prelude.{◌≡◌, ◌≢◌, ℕ, ◌+◌, ◌/◌, ◌<◌, ◌≤◌, ◌⊎◌, ⊤, false, Some, List, [], ◌∷◌, length, slice_get, IsTrue}
-use Rattle.lxr_layout.specs.declared.TheConstants.{DECREMENT_CURSOR, FREE_BLOCK_COUNT, FREE_BLOCK_CURSOR, GRANULES_IN_LINE, PAUSE_WORD, RUN_COUNT, RUN_CURSOR}
+use Rattle.lxr_layout.specs.declared.TheConstants.{DECREMENT_CURSOR, FREE_BLOCK_COUNT, FREE_BLOCK_CURSOR, GRANULES_IN_LINE, PAUSE_WORD, REMEMBERED_CURSOR, RUN_COUNT, RUN_CURSOR}
 use Rattle.lxr_layout.specs.declared.Name.{Name}
 use Rattle.lxr_layout.specs.declared.Shape.{Shape}
 use Rattle.lxr_layout.specs.declared.runs.Run.{Run}
@@ -182,8 +182,8 @@ total f [] = 0
 total f (v ∷ thread_states) = f v + total f thread_states
 
 -- Mutators change the heap, unlogged bits and the pause word and the two cursors of what is drawn alone, decrementers counts, grays, dones
--- and the cursor of decrements, and tracers marks and grays; counts change only where an unreclaimed object begins, so that line marks stay. Cursors have
--- not come round. The pause word is 0 or 1.
+-- and the cursor of decrements, and tracers marks, grays, remembered entries and their cursor; counts change only where an unreclaimed
+-- object begins, so that line marks stay. Cursors have not come round. The pause word is 0 or 1.
 pub record AreFixed (b : Beginning) (s : EpochState) : Type 0 where
   pub tables : s.tables ≡ record (opening_tables b) {
     heap = s.tables.heap;
@@ -192,10 +192,11 @@ pub record AreFixed (b : Beginning) (s : EpochState) : Type 0 where
     marks = s.tables.marks;
     grays = s.tables.grays;
     dones = s.tables.dones;
+    remembered = s.tables.remembered;
     cursors = s.tables.cursors;
   }
   pub counts : (k : ℕ) → (opening_tables b).starts k ≡ false → s.tables.counts k ≡ (opening_tables b).counts k
-  pub cursors : (c : ℕ) → c ≢ PAUSE_WORD → c ≢ RUN_CURSOR → c ≢ FREE_BLOCK_CURSOR → c ≢ DECREMENT_CURSOR → s.tables.cursors c ≡ (opening_tables b).cursors c
+  pub cursors : (c : ℕ) → c ≢ PAUSE_WORD → c ≢ RUN_CURSOR → c ≢ FREE_BLOCK_CURSOR → c ≢ DECREMENT_CURSOR → c ≢ REMEMBERED_CURSOR → s.tables.cursors c ≡ (opening_tables b).cursors c
   pub word : (s.tables.cursors PAUSE_WORD ≡ 0) ⊎ (s.tables.cursors PAUSE_WORD ≡ 1)
   pub runs : s.tables.cursors RUN_CURSOR ≤ total (λ v. length v.replies + run_draws v.stage) s.thread_states
   pub blocks : s.tables.cursors FREE_BLOCK_CURSOR ≤ total (λ v. length v.replies + block_draws v.stage) s.thread_states

@@ -13,6 +13,7 @@ use Rattle.lxr_core_events.specs.Counted.{AreCountedIn}
 use Rattle.lxr_core_events.specs.Traced.{AreScannedIn}
 use Rattle.lxr_core_events.specs.Covered.{SnapshotIsCoveredIn}
 use Rattle.lxr_core_events.specs.Inside.{MarksStayInsideIn}
+use Rattle.lxr_core_events.specs.Remembered.{AreRememberedIn}
 use Rattle.lxr_core_events.specs.Drawn.{AreFixed, IsDrawnMemory}
 use Rattle.lxr_core_events.specs.Called.{AreCalled}
 
@@ -33,6 +34,8 @@ pub record IsEpoch (b : Beginning) (s : EpochState) : Type 0 where
   pub covered : SnapshotIsCoveredIn b s
   -- marks stay inside the snapshot
   pub inside : MarksStayInsideIn b s
+  -- remembered so far
+  pub remembered : AreRememberedIn b s
   -- drawn memory is one maker's
   pub drawn : IsDrawnMemory b s
   -- cursors and fixed tables

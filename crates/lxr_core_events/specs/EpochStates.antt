@@ -16,7 +16,6 @@ use Rattle.lxr_model.specs.Moments.{Field, Moment, moment}
 use Rattle.lxr_model.specs.Belongs.{calls_since_pause, has_asked}
 use Rattle.lxr_invariant.specs.AbstractState.{AbstractState}
 use Rattle.lxr_invariant.specs.Quiescent.{IsQuiescent}
-use Rattle.lxr_invariant.specs.Lines.{NoneChosen}
 use Rattle.lxr_invariant.specs.Listed.{FreeBlocksAreListed, IsListed}
 use Rattle.lxr_core_access.specs.Decrementers.{Decrementing}
 use Rattle.lxr_core_access.specs.Tracers.{Tracing}
@@ -47,13 +46,12 @@ pub record CountsObjects (threads : ℕ) (h : List Item) : Type 0 where
   pub rows : length (moment threads h).state.graph ≡ threads + 1
   pub objects : (t : ℕ) → 1 ≤ t → t ≤ threads → length (row_of (moment threads h).state.graph t) ≡ count_by tells_new (replies_of t h)
 
--- It is between epochs, runs and all free blocks are listed, no block is Chosen, and objects are counted by replies.
+-- It is between epochs, runs and all free blocks are listed, and objects are counted by replies.
 pub record IsBeginning (b : Beginning) : Type 0 where
   pub between : IsQuiescent b.space b.abstract_state
   pub listed : IsListed b.space
   pub all_listed : FreeBlocksAreListed b.space
   pub moment : b.abstract_state.moment ≡ moment b.space.limits.threads b.history
-  pub none_chosen : NoneChosen (tables_of b.space) b.space.limits.blocks
   pub counted : CountsObjects b.space.limits.threads b.history
 
 -- What there is at a moment of an epoch: the tables, what each mutator shows, thread 1 first, what each decrementer and each tracer is

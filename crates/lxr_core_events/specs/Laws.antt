@@ -1,5 +1,5 @@
 -- What every event keeps, and that replies are those of the model.
-use Rattle.std.specs.Prelude.{◌≡◌, ◌≢◌, ℕ, ◌+◌, ◌^◌, ◌<◌, ◌≤◌, ⊤, Option, Some, List, length, slice_get, false, IsTrue}
+use Rattle.std.specs.Prelude.{◌≡◌, ◌≢◌, ℕ, ◌+◌, ◌-◌, ◌/◌, ◌^◌, ◌<◌, ◌≤◌, ⊤, Option, Some, List, length, slice_get, false, IsTrue}
 use Rattle.lxr_layout.specs.Places.{field_word, place_in}
 use Rattle.lxr_layout.specs.declared.TheConstants.{FREE_BLOCK_COUNT, FREE_BLOCK_CURSOR, PAUSE_WORD, RUN_CURSOR}
 use Rattle.lxr_layout.specs.declared.Name.{Name}
@@ -9,14 +9,15 @@ use Rattle.lxr_graph.specs.declared.Reply.{Reply}
 use Rattle.lxr_graph.specs.declared.Reply.TheVariants as reply
 use Rattle.lxr_graph.specs.State.{next_name}
 use Rattle.lxr_graph.specs.Step.{IsReply}
-use Rattle.lxr_graph.specs.Names.{has}
+use Rattle.lxr_graph.specs.Names.{IsSetOf, has}
 use Rattle.lxr_image.specs.Image.{place_word}
 use Rattle.lxr_image.specs.Tables.{Tables}
 use Rattle.lxr_model_counting.specs.Following.{FollowsPause, IsLive}
 use Rattle.lxr_invariant.specs.Counting.{HasCounts, HasDecrements, is_done}
 use Rattle.lxr_invariant.specs.Standing.{AreLogged, HasBits}
-use Rattle.lxr_invariant.specs.Tracing.{HandledAreGray, MarksStayInside, SnapshotIsCovered}
+use Rattle.lxr_invariant.specs.Tracing.{HandledAreGray, IsRememberedSoFar, MarksStayInside, SnapshotIsCovered}
 use Rattle.lxr_model.specs.Moments.{Moment, Trace}
+use Rattle.lxr_model.specs.Reachable.{Reachable}
 use Rattle.lxr_core_access.specs.declared.Access.{Access}
 use Rattle.lxr_core_access.specs.Accesses.{done_to}
 use Rattle.lxr_core_access.specs.Decrementers.{Decrementing, Rests}
@@ -33,6 +34,7 @@ use Rattle.lxr_core_events.specs.Counted.{AreCounted, AreCountedIn}
 use Rattle.lxr_core_events.specs.Traced.{AreScannedIn}
 use Rattle.lxr_core_events.specs.Covered.{SnapshotIsCoveredIn}
 use Rattle.lxr_core_events.specs.Inside.{MarksStayInsideIn}
+use Rattle.lxr_core_events.specs.Remembered.{AreRememberedIn}
 use Rattle.lxr_core_events.specs.Drawn.{AreFixed, IsDrawnMemory}
 use Rattle.lxr_core_events.specs.Called.{AreCalled}
 use Rattle.lxr_core_events.specs.Epoch.{AreResting, AreThrough, DecrementersRest, IsEpoch, TracersRest}
@@ -150,9 +152,24 @@ DecrementersKeepInside = DecrementersKeepCounts → DecrementersKeep MarksStayIn
 abbrev pub TracersKeepInside : Type 0
 TracersKeepInside = TracersKeep MarksStayInsideIn
 
--- an epoch opens: all helpers are between two units, and the tables are those of its beginning, but for the pause word
+-- ---- remembered so far
+
+abbrev pub RememberedIsKept : Type 0
+RememberedIsKept = IsKept AreRememberedIn
+
+abbrev pub DecrementersKeepRemembered : Type 0
+DecrementersKeepRemembered = DecrementersKeep AreRememberedIn
+
+abbrev pub TracersKeepRemembered : Type 0
+TracersKeepRemembered = TracersKeep AreRememberedIn
+
+-- ---- the opening and the close
+
+-- an epoch opens: all helpers are between two units, and the tables are those of its beginning, but for the pause word; the number of pauses has
+-- 32 bits
 pub record OpensWith (b : Beginning) (s : EpochState) : Type 0 where
   pub begins : IsBeginning b
+  pub few_pauses : b.space.pauses < 2 ^ 32
   pub tables : s.tables ≡ with_cursor (opening_tables b) PAUSE_WORD 0
   pub decrementers : DecrementersRest s
   pub tracers : TracersRest s
@@ -168,6 +185,9 @@ OpeningCover = (b : Beginning) (s : EpochState) → OpensWith b s → SnapshotIs
 
 abbrev pub OpeningInside : Type 0
 OpeningInside = (b : Beginning) (s : EpochState) → OpensWith b s → MarksStayInsideIn b s
+
+abbrev pub OpeningRemembered : Type 0
+OpeningRemembered = (b : Beginning) (s : EpochState) → OpensWith b s → AreRememberedIn b s
 
 -- all actors are between two units, or through
 pub record AllRest (s : EpochState) : Type 0 where
@@ -187,6 +207,11 @@ ClosingCover = (b : Beginning) (s : EpochState) (trace : Trace) → IsEpoch b s 
 abbrev pub ClosingInside : Type 0
 ClosingInside = (b : Beginning) (s : EpochState) (trace : Trace) → IsEpoch b s → (moment_of b s).trace ≡ Some trace
     → MarksStayInside s.tables (moment_of b s) s.at trace
+
+-- Where all rest, as much is remembered as at a safepoint, where unlogged bits are those of the references that weren't stored to.
+abbrev pub ClosingRemembered : Type 0
+ClosingRemembered = (b : Beginning) (s : EpochState) (trace : Trace) (snapshot : List Name) → IsEpoch b s → AllRest s → HasBits s.tables (moment_of b s) s.at (moment_of b s).unreclaimed
+    → (moment_of b s).trace ≡ Some trace → IsSetOf snapshot (Reachable trace.state) → IsRememberedSoFar (limits_of b) s.tables (moment_of b s) s.at trace snapshot
 
 -- As an epoch opens, with its pause word clear and all decrementers between two units, nothing is in hand.
 abbrev pub OpeningCounts : Type 0
@@ -264,11 +289,11 @@ pub record CursorsDontFall : Type 0 where
   pub decrementers : (b : Beginning) (s : EpochState) (i : ℕ) (access : Access) (after : Decrementing) → MayDecrement b s i access after → HaveNotFallen s.tables (decremented s i access after).tables
   pub tracers : (b : Beginning) (s : EpochState) (i : ℕ) (access : Access) (after : Tracing) → MayTrace b s i access after → HaveNotFallen s.tables (traced s i access after).tables
 
--- Where all mutators are through and each listed block is drawn, each block has an object. So objects are at least as many
--- as blocks.
+-- Where all mutators are through and each listed block is drawn, each block that isn't Chosen has an object. So objects are at least as many
+-- as these blocks.
 abbrev pub AllBlocksAreTaken : Type 0
 AllBlocksAreTaken = (b : Beginning) (s : EpochState) → IsEpoch b s → AreThrough s → s.tables.cursors FREE_BLOCK_COUNT ≤ s.tables.cursors FREE_BLOCK_CURSOR
-    → (limits_of b).blocks ≤ length (moment_of b s).unreclaimed + length (moment_of b s).made
+    → (limits_of b).blocks - (limits_of b).blocks / 8 ≤ length (moment_of b s).unreclaimed + length (moment_of b s).made
 
 -- all of it
 abbrev pub EpochIsKept : Type 0

@@ -9,6 +9,7 @@ pub mod Counted
 pub mod Traced
 pub mod Covered
 pub mod Inside
+pub mod Remembered
 pub mod Drawn
 pub mod Called
 pub mod Epoch

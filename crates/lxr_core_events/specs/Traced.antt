@@ -1,13 +1,11 @@
--- What tracers know of the objects that they ask for and scan. It holds whether a trace runs or not. No block is Chosen, so none comes to
--- the remembered set. The state at the last pause, the unreclaimed names and the places of their objects stay through an epoch, so they
--- are those of its beginning.
-use Rattle.std.specs.Prelude.{◌≡◌, ◌≢◌, ℕ, ◌+◌, ◌<◌, ◌^◌, ⊤, Bool, true, Option, Some, None, List, IsTrue, length, slice_get}
+-- What tracers know of the objects that they ask for and scan. It holds whether a trace runs or not. The state at the last pause, the
+-- unreclaimed names and the places of their objects stay through an epoch, so they are those of its beginning.
+use Rattle.std.specs.Prelude.{◌≡◌, ℕ, ◌<◌, ⊤, true, Option, Some, None, List, IsTrue, length, slice_get}
 use Rattle.lxr_layout.specs.declared.Name.{Name}
-use Rattle.lxr_graph.specs.Names.{has}
 use Rattle.lxr_image.specs.Tables.{Tables}
 use Rattle.lxr_image.specs.Reads.{granule_of}
 use Rattle.lxr_model.specs.Moments.{Moment}
-use Rattle.lxr_core_access.specs.Tracers.{Tracing, Rests, AsksGray, AsksObject, Marks, ReadsShape, Scans, AsksReferent, GraysReferent, AsksBlock, ReadsReuse, DrawsNumber, Enters, FindsNothing}
+use Rattle.lxr_core_access.specs.Tracers.{Tracing, AsksGray, AsksObject, Marks, ReadsShape, Scans, AsksReferent, GraysReferent, AsksBlock, ReadsReuse, DrawsNumber, Enters}
 use Rattle.lxr_core_events.specs.EpochStates.{Beginning, EpochState, limits_of}
 use Rattle.lxr_core_events.specs.Counted.{IsInHeap, StandsAt, references_at}
 
@@ -40,9 +38,9 @@ KnowsObjects blocks t m at (Scans place refs index) = IsScannedAt t m at place r
 KnowsObjects blocks t m at (AsksReferent place refs index referent) = IsScannedAt t m at place refs index × IsInHeap blocks referent
 KnowsObjects blocks t m at (GraysReferent place refs index referent) = IsScannedAt t m at place refs index × StandsAt m at referent
 KnowsObjects blocks t m at (AsksBlock place refs index referent) = IsScannedAt t m at place refs index × StandsAt m at referent
-KnowsObjects blocks t m at (ReadsReuse place refs index) = ⊥
-KnowsObjects blocks t m at (DrawsNumber place refs index counter) = ⊥
-KnowsObjects blocks t m at (Enters place refs index counter number) = ⊥
+KnowsObjects blocks t m at (ReadsReuse place refs index) = IsScannedAt t m at place refs index
+KnowsObjects blocks t m at (DrawsNumber place refs index counter) = IsScannedAt t m at place refs index
+KnowsObjects blocks t m at (Enters place refs index counter number) = IsScannedAt t m at place refs index
 KnowsObjects blocks t m at _ = ⊤
 
 -- What tracers know, for the moment of the last pause and the places of its unreclaimed objects.

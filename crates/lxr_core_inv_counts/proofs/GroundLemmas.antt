@@ -110,7 +110,7 @@ module _ (b : Beginning) (s : EpochState) (is : IsEpoch b s) where
   -- the list of decrements is the opening's
   listed : HasDecrements (limits_of b) s.tables was stood
   listed = decrements_still (limits_of b) (limits_of b) _ s.tables was stood refl (ap (λ z. z.decs) is.fixed.tables)
-      (is.fixed.cursors DECREMENT_COUNT (λ e. omega arith) (λ e. omega arith) (λ e. omega arith) (λ e. omega arith)) is.begins.between.safepoint.holds.decrements
+      (is.fixed.cursors DECREMENT_COUNT (λ e. omega arith) (λ e. omega arith) (λ e. omega arith) (λ e. omega arith) (λ e. omega arith)) is.begins.between.safepoint.holds.decrements
 
   pub ground_of : IsGround (limits_of b) s.tables was stood
   ground_of = record {

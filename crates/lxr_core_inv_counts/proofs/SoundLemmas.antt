@@ -4,7 +4,7 @@ use Rattle.std.specs.Prelude.{⊤, Option, Some, None, slice_get}
 use Rattle.std.proofs.lemmas.Nat.{mul-le}
 use Rattle.lxr_layout.specs.declared.limits.Limits.{Limits}
 use Rattle.lxr_layout.specs.declared.Name.{Name}
-use Rattle.lxr_layout.specs.declared.TheConstants.{DECREMENT_COUNT, DECREMENT_CURSOR, GRANULES_IN_BLOCK, WORDS_IN_BLOCK}
+use Rattle.lxr_layout.specs.declared.TheConstants.{DECREMENT_COUNT, DECREMENT_CURSOR, GRANULES_IN_BLOCK, REMEMBERED_CURSOR, WORDS_IN_BLOCK}
 use Rattle.lxr_layout.specs.Places.{field_word, first_word}
 use Rattle.lxr_graph.specs.Names.{has}
 use Rattle.lxr_image.specs.Tables.{Tables, changed}
@@ -36,12 +36,12 @@ IsSoundWhere l t (Some access) = IsSoundFor l t access
 -- ---- what each kind of access leaves
 
 look_leaves : (t : Tables) → LeavesTables t t
-look_leaves t = record { rest = refl; cursors = λ c _. refl; counts = λ k. inl refl; marks = λ k. inl refl; grays = λ k. inl refl; dones = λ k. inl refl }
+look_leaves t = record { rest = refl; cursors = λ c _ _. refl; counts = λ k. inl refl; marks = λ k. inl refl; grays = λ k. inl refl; dones = λ k. inl refl }
 
 gray_leaves : (t : Tables) (granule : ℕ) → IsTrue (t.starts granule) → LeavesTables t (done_to t (access.SetGray granule))
 gray_leaves t granule started = record {
   rest = refl;
-  cursors = λ c _. refl;
+  cursors = λ c _ _. refl;
   counts = λ k. inl refl;
   marks = λ k. inl refl;
   grays = λ k. elim (changed_cases t.grays granule true k) [ inl q ↦ inr (ap t.starts q.0 ∙ started) | inr q ↦ inl q.1 ];
@@ -51,7 +51,7 @@ gray_leaves t granule started = record {
 done_leaves : (t : Tables) (granule : ℕ) → IsTrue (t.starts granule) → LeavesTables t (done_to t (access.SetDone granule))
 done_leaves t granule started = record {
   rest = refl;
-  cursors = λ c _. refl;
+  cursors = λ c _ _. refl;
   counts = λ k. inl refl;
   marks = λ k. inl refl;
   grays = λ k. inl refl;
@@ -61,7 +61,7 @@ done_leaves t granule started = record {
 lower_leaves : (t : Tables) (granule : ℕ) → IsTrue (t.starts granule) → LeavesTables t (done_to t (access.LowerCount granule))
 lower_leaves t granule started = record {
   rest = refl;
-  cursors = λ c _. refl;
+  cursors = λ c _ _. refl;
   counts = λ k. elim (changed_cases t.counts granule (t.counts granule - 1) k) [ inl q ↦ inr (ap t.starts q.0 ∙ started) | inr q ↦ inl q.1 ];
   marks = λ k. inl refl;
   grays = λ k. inl refl;
@@ -71,7 +71,7 @@ lower_leaves t granule started = record {
 draw_leaves : (t : Tables) → LeavesTables t (done_to t (access.Draw DECREMENT_CURSOR))
 draw_leaves t = record {
   rest = refl;
-  cursors = λ c other. changed_other t.cursors DECREMENT_CURSOR (t.cursors DECREMENT_CURSOR + 1) c other;
+  cursors = λ c other _. changed_other t.cursors DECREMENT_CURSOR (t.cursors DECREMENT_CURSOR + 1) c other;
   counts = λ k. inl refl;
   marks = λ k. inl refl;
   grays = λ k. inl refl;
@@ -82,19 +82,19 @@ draw_leaves t = record {
 set_stays : (f : ℕ → Bool) (granule k : ℕ) → IsTrue (f k) → IsTrue (changed f granule true k)
 set_stays f granule k set = elim (changed_cases f granule true k) [ inl q ↦ q.1 | inr q ↦ q.1 ∙ set ]
 
--- where no bit changes, none is cleared
-bits_leave : (t u : Tables) → u.marks ≡ t.marks → u.grays ≡ t.grays → u.dones ≡ t.dones → DecrementerLeaves t u
-bits_leave t u marks grays dones = record { marks = marks; grays = λ k set. ap (λ f. f k) grays ∙ set; dones = λ k set. ap (λ f. f k) dones ∙ set }
+-- where no bit and no remembered entry changes, none is cleared
+bits_leave : (t u : Tables) → u.marks ≡ t.marks → u.grays ≡ t.grays → u.dones ≡ t.dones → u.remembered ≡ t.remembered → u.cursors REMEMBERED_CURSOR ≡ t.cursors REMEMBERED_CURSOR → DecrementerLeaves t u
+bits_leave t u marks grays dones remembered drawn = record { marks = marks; remembered = remembered; drawn = drawn; grays = λ k set. ap (λ f. f k) grays ∙ set; dones = λ k set. ap (λ f. f k) dones ∙ set }
 
 gray_set : (t : Tables) (granule : ℕ) → DecrementerLeaves t (done_to t (access.SetGray granule))
-gray_set t granule = record { marks = refl; grays = set_stays t.grays granule; dones = λ k set. set }
+gray_set t granule = record { marks = refl; remembered = refl; drawn = refl; grays = set_stays t.grays granule; dones = λ k set. set }
 
 done_set : (t : Tables) (granule : ℕ) → DecrementerLeaves t (done_to t (access.SetDone granule))
-done_set t granule = record { marks = refl; grays = λ k set. set; dones = set_stays t.dones granule }
+done_set t granule = record { marks = refl; remembered = refl; drawn = refl; grays = λ k set. set; dones = set_stays t.dones granule }
 
 -- a look at an entry that exists
 look_sound : (l : Limits) (t : Tables) (entry : TableEntry) → IsTableEntry l entry → IsSoundFor l t (access.Look entry)
-look_sound l t entry exists = record { may = record { table_entry = exists; entry = tt }; leaves = look_leaves t; decrementer_leaves = bits_leave t t refl refl refl }
+look_sound l t entry exists = record { may = record { table_entry = exists; entry = tt }; leaves = look_leaves t; decrementer_leaves = bits_leave t t refl refl refl refl refl }
 
 -- ---- entries that exist
 
@@ -166,7 +166,7 @@ module _ (l : Limits) (t : Tables) (ds : List Decrementing) (m : Moment) (at : N
           entry = (counted_some l t ds m at ground was i (Lowers referent handling) referent handling shows (λ n. refl) stands, λ e. omega (arith, below, same, e));
         };
         leaves = lower_leaves t (granule_of referent) (started_there referent loose.name loose.member loose.stands);
-        decrementer_leaves = bits_leave t _ refl refl refl;
+        decrementer_leaves = bits_leave t _ refl refl refl refl refl;
       }
   step_sound i AsksCursor shows = look_sound l t _ (omega arith)
   step_sound i (AsksNumber cursor) shows = look_sound l t _ (omega arith)
@@ -176,6 +176,6 @@ module _ (l : Limits) (t : Tables) (ds : List Decrementing) (m : Moment) (at : N
       entry = cursor_within _ _ _ _ _ was.drawn (soon_at (t.cursors DECREMENT_COUNT) ds i (Draws count) shows) refl was.few short;
     };
     leaves = draw_leaves t;
-    decrementer_leaves = bits_leave t _ refl refl refl;
+    decrementer_leaves = bits_leave t _ refl refl refl refl (changed_other t.cursors DECREMENT_CURSOR (t.cursors DECREMENT_CURSOR + 1) REMEMBERED_CURSOR (λ e. absurd (omega arith)));
   }
   step_sound i (ReadsEntry number) shows = let within = was.knows i (ReadsEntry number) shows in let fits = ground.decrements.fits in look_sound l t _ (omega (arith, within, fits))

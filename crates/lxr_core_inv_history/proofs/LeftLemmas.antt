@@ -10,9 +10,9 @@ use Rattle.lxr_core_inv_history.proofs.KeepLemmas.{Keeps, called_kept, sets_kept
 pub history_is_left : HistoryIsLeft
 history_is_left b s u ds ts is leaves =
     let after : EpochState = record s { tables = u; decrementers = ds; tracers = ts } in
-    let word : u.cursors PAUSE_WORD ≡ s.tables.cursors PAUSE_WORD = leaves.cursors PAUSE_WORD (λ e. absurd (omega arith)) in
-    let listed = leaves.cursors FREE_BLOCK_COUNT (λ e. absurd (omega arith)) in
-    let drawn = leaves.cursors FREE_BLOCK_CURSOR (λ e. absurd (omega arith)) in
+    let word : u.cursors PAUSE_WORD ≡ s.tables.cursors PAUSE_WORD = leaves.cursors PAUSE_WORD (λ e. absurd (omega arith)) (λ e. absurd (omega arith)) in
+    let listed = leaves.cursors FREE_BLOCK_COUNT (λ e. absurd (omega arith)) (λ e. absurd (omega arith)) in
+    let drawn = leaves.cursors FREE_BLOCK_CURSOR (λ e. absurd (omega arith)) (λ e. absurd (omega arith)) in
     let keeps : Keeps b s after = record { members = λ n h. (h, refl); word = λ set. word ∙ set; blocks = λ none. omega (arith, listed, drawn, none) } in
     record {
       extends = is.extends;

@@ -22,7 +22,6 @@ use Rattle.lxr_invariant.specs.AbstractState.{members}
 use Rattle.lxr_invariant.specs.Lines.{IsTakenBy}
 use Rattle.lxr_invariant.proofs.NameLemmas.{in_either, in_first, in_second}
 use Rattle.lxr_full.proofs.TakenLines.{all_or_one}
-use Rattle.lxr_invariant.proofs.BlockLemmas.{none_counted}
 use Rattle.lxr_full.proofs.RoomLemmas.{member_takes, pigeonhole}
 use Rattle.lxr_core_events.specs.ThreadStates.{Reason, Stage, ThreadState, GivesUp, Rests, Works, Names, Through}
 use Rattle.lxr_core_events.specs.EpochStates.{Beginning, Extends, EpochState, same, called, limits_of, moment_of, opening_tables}
@@ -118,13 +117,12 @@ began_in b s n is x member began = (
   ap (λ p. granule_of p / GRANULES_IN_BLOCK) (is.image.placed.unmoved x member) ∙ began,
 )
 
--- behind the world's block, a block is Free as the epoch opens or has an object
-free_or_taken : (b : Beginning) (s : EpochState) (n : ℕ) → IsEpoch b s → 1 ≤ n → n < (limits_of b).blocks → (state_in (opening_tables b) n ≡ Free) ⊎ HasObjectIn b s n
-free_or_taken b s n is some below =
+-- behind the world's block, a block that isn't Chosen is Free as the epoch opens or has an object
+free_or_taken : (b : Beginning) (s : EpochState) (n : ℕ) → IsEpoch b s → 1 ≤ n → n < (limits_of b).blocks → state_in (opening_tables b) n ≢ Chosen → (state_in (opening_tables b) n ≡ Free) ⊎ HasObjectIn b s n
+free_or_taken b s n is some below not_chosen =
     let between = is.begins.between in
     let holds = between.safepoint.holds in
     let t : Tables = opening_tables b in
-    let not_chosen = none_counted t (limits_of b).blocks n is.begins.none_chosen below in
     let by_lines = between.states n below (unfixed (state_in t n) not_chosen (holds.blocks.others n some below)) in
     elim (all_or_one (λ i. IsTrue (free_in t n i)) LINES_IN_BLOCK (told_free t n)) [
       | inl free ↦ inl (by_lines ∙ sym (all_free_state t n free))
@@ -164,25 +162,27 @@ used_has b s k n through found (inr (inr made)) = made_in b s k n found made
 
 -- ---- each block
 
--- each block has an object once all are through and each listed block is drawn
-block_has : (b : Beginning) (s : EpochState) → IsEpoch b s → AreThrough s → s.tables.cursors FREE_BLOCK_COUNT ≤ s.tables.cursors FREE_BLOCK_CURSOR → (n : ℕ) → n < (limits_of b).blocks → HasObjectIn b s n
-block_has b s is through drawn zero below = (
+-- each block that isn't Chosen has an object once all are through and each listed block is drawn
+block_has : (b : Beginning) (s : EpochState) → IsEpoch b s → AreThrough s → s.tables.cursors FREE_BLOCK_COUNT ≤ s.tables.cursors FREE_BLOCK_CURSOR → (n : ℕ) → n < (limits_of b).blocks → state_in (opening_tables b) n ≢ Chosen
+    → HasObjectIn b s n
+block_has b s is through drawn zero below unchosen = (
   world_name,
   in_first (moment_of b s).unreclaimed (moment_of b s).made world_name (is.lives.stuck world_name is.lives.world),
   (let place = is.image.placed.world in omega (arith, place)),
 )
-block_has b s is through drawn (suc n) below = elim (free_or_taken b s (suc n) is (omega arith) below) [
+block_has b s is through drawn (suc n) below unchosen = elim (free_or_taken b s (suc n) is (omega arith) below unchosen) [
   | inr taken ↦ taken
   | inl free ↦
       let k = is.begins.all_listed (suc n) below free in
-      let fixed = is.fixed.cursors FREE_BLOCK_COUNT (λ e. cc) (λ e. cc) (λ e. cc) (λ e. cc) in
+      let fixed = is.fixed.cursors FREE_BLOCK_COUNT (λ e. cc) (λ e. cc) (λ e. cc) (λ e. cc) (λ e. cc) in
       let listed = k.1 in
       used_has b s k.0 (suc n) through k.2 (is.drawn.used k.0 (omega (arith, listed, fixed, drawn)) listed)
 ]
 
--- so objects are at least as many as blocks
+-- so objects are at least as many as such blocks, and at most an eighth of all is Chosen
 pub all_blocks_are_taken : AllBlocksAreTaken
 all_blocks_are_taken b s is through drawn =
-    let many = pigeonhole (λ n. granule_of (s.at n) / GRANULES_IN_BLOCK) (members (moment_of b s)) (limits_of b).blocks (block_has b s is through drawn) in
+    let many = pigeonhole (opening_tables b) (λ n. granule_of (s.at n) / GRANULES_IN_BLOCK) (members (moment_of b s)) (limits_of b).blocks (block_has b s is through drawn) in
+    let few = is.begins.between.safepoint.holds.blocks.few in
     let sum = length-append (moment_of b s).unreclaimed (moment_of b s).made in
-    omega (arith, many, sum)
+    omega (arith, many, few, sum)

@@ -182,7 +182,7 @@ run_seen b s i v number is there stage listed =
     let u : EpochState = happen b s i v (event.SeesRun number) in
     let w : ThreadState = intends v (HasRun number) in
     let drawn = subst (λ (z : Stage). HasDrawn b is.drawn.drawers (i + 1) z) stage (is.drawn.hands i v there) in
-    let fixed = is.fixed.cursors RUN_COUNT (λ e. cc) (λ e. cc) (λ e. cc) (λ e. cc) in
+    let fixed = is.fixed.cursors RUN_COUNT (λ e. cc) (λ e. cc) (λ e. cc) (λ e. cc) (λ e. cc) in
     quiet_kept b s u i v w is.drawn (record {
       turns = turns_still s u i v w there refl refl refl;
       carries = still_carries b s s.tables u.thread_states s.cleared;
@@ -204,7 +204,7 @@ block_seen b s i v number is there stage listed =
     let w : ThreadState = intends v (HasBlock number) in
     let turns : Turns s u i v w = turns_still s u i v w there refl refl refl in
     let drawn = subst (λ (z : Stage). HasDrawn b is.drawn.drawers (i + 1) z) stage (is.drawn.hands i v there) in
-    let fixed = is.fixed.cursors FREE_BLOCK_COUNT (λ e. cc) (λ e. cc) (λ e. cc) (λ e. cc) in
+    let fixed = is.fixed.cursors FREE_BLOCK_COUNT (λ e. cc) (λ e. cc) (λ e. cc) (λ e. cc) (λ e. cc) in
     quiet_kept b s u i v w is.drawn (record {
       turns = turns;
       carries = still_carries b s s.tables u.thread_states s.cleared;
@@ -366,7 +366,7 @@ drawn_memory_is_kept b s i v event.MissesBlock is there may =
     (λ k listed h.
     let same : may.number ≡ k = subst (λ (z : Stage). IsHandOf z k) may.stage h in
     let none = may.none in
-    let fixed = is.fixed.cursors FREE_BLOCK_COUNT (λ e. cc) (λ e. cc) (λ e. cc) (λ e. cc) in
+    let fixed = is.fixed.cursors FREE_BLOCK_COUNT (λ e. cc) (λ e. cc) (λ e. cc) (λ e. cc) (λ e. cc) in
     absurd (omega (arith, same, none, fixed, listed)))
     (λ k h. subst (λ (z : Stage). MakesInBlock b z k) may.stage h)
 drawn_memory_is_kept b s i v (event.SeesBlock number) is there may = block_seen b s i v number is there may.stage may.listed

@@ -107,15 +107,15 @@ mutators_leave b s i v _ = record { rest = refl; cursors = λ c _ _ _. refl }
 -- ---- tables
 
 -- tables of which no more differs than in an epoch are fixed as others are
-within_fixed : (o t u : Tables) → u ≡ record t { heap = u.heap; unlogged = u.unlogged; counts = u.counts; marks = u.marks; grays = u.grays; dones = u.dones; cursors = u.cursors }
-    → t ≡ record o { heap = t.heap; unlogged = t.unlogged; counts = t.counts; marks = t.marks; grays = t.grays; dones = t.dones; cursors = t.cursors }
-    → u ≡ record o { heap = u.heap; unlogged = u.unlogged; counts = u.counts; marks = u.marks; grays = u.grays; dones = u.dones; cursors = u.cursors }
+within_fixed : (o t u : Tables) → u ≡ record t { heap = u.heap; unlogged = u.unlogged; counts = u.counts; marks = u.marks; grays = u.grays; dones = u.dones; remembered = u.remembered; cursors = u.cursors }
+    → t ≡ record o { heap = t.heap; unlogged = t.unlogged; counts = t.counts; marks = t.marks; grays = t.grays; dones = t.dones; remembered = t.remembered; cursors = t.cursors }
+    → u ≡ record o { heap = u.heap; unlogged = u.unlogged; counts = u.counts; marks = u.marks; grays = u.grays; dones = u.dones; remembered = u.remembered; cursors = u.cursors }
 within_fixed o t u within fixed =
-    within ∙ ap (λ (z : Tables). record z { heap = u.heap; unlogged = u.unlogged; counts = u.counts; marks = u.marks; grays = u.grays; dones = u.dones; cursors = u.cursors }) fixed
+    within ∙ ap (λ (z : Tables). record z { heap = u.heap; unlogged = u.unlogged; counts = u.counts; marks = u.marks; grays = u.grays; dones = u.dones; remembered = u.remembered; cursors = u.cursors }) fixed
 
 -- so are those of which fewer tables differ
-fewer_differ : (t u : Tables) → LeavesToHelpers t u → u ≡ record t { heap = u.heap; unlogged = u.unlogged; counts = u.counts; marks = u.marks; grays = u.grays; dones = u.dones; cursors = u.cursors }
-fewer_differ t u leaves = ap (λ (z : Tables). record z { heap = u.heap; unlogged = u.unlogged; counts = u.counts; marks = u.marks; grays = u.grays; dones = u.dones; cursors = u.cursors }) leaves.rest
+fewer_differ : (t u : Tables) → LeavesToHelpers t u → u ≡ record t { heap = u.heap; unlogged = u.unlogged; counts = u.counts; marks = u.marks; grays = u.grays; dones = u.dones; remembered = u.remembered; cursors = u.cursors }
+fewer_differ t u leaves = ap (λ (z : Tables). record z { heap = u.heap; unlogged = u.unlogged; counts = u.counts; marks = u.marks; grays = u.grays; dones = u.dones; remembered = u.remembered; cursors = u.cursors }) leaves.rest
 
 -- the mutator shows another thread state, and cursors are these
 fixed_after : (b : Beginning) (s u : EpochState) (i : ℕ) (v w : ThreadState) (runs blocks : ℕ) → AreFixed b s → slice_get s.thread_states i ≡ Some v → u.thread_states ≡ slice_set s.thread_states i w → LeavesToHelpers s.tables u.tables
@@ -129,7 +129,7 @@ fixed_after b s u i v w runs blocks is there thread_states leaves word more_runs
     record {
       tables = within_fixed (opening_tables b) s.tables u.tables (fewer_differ s.tables u.tables leaves) is.tables;
       counts = λ k e. ap (λ (t : Tables). t.counts k) leaves.rest ∙ is.counts k e;
-      cursors = λ c a d e f. leaves.cursors c a d e ∙ is.cursors c a d e f;
+      cursors = λ c a d e f h. leaves.cursors c a d e ∙ is.cursors c a d e f h;
       word = word;
       runs = subst (λ thread_states. u.tables.cursors RUN_CURSOR ≤ total (λ v. length v.replies + run_draws v.stage) thread_states) (sym thread_states)
           (total_grown (λ v. length v.replies + run_draws v.stage) s.thread_states i v w (u.tables.cursors RUN_CURSOR) (s.tables.cursors RUN_CURSOR) runs there all_runs more_runs own_runs);
@@ -203,18 +203,18 @@ fixed_tables_are_left b s u ds ts is leaves =
     let o : Tables = opening_tables b in
     let fixed = is.fixed in
     let starts : s.tables.starts ≡ o.starts = ap (λ (z : Tables). z.starts) fixed.tables in
-    let runs = leaves.cursors RUN_CURSOR (λ e. absurd (omega arith)) in
-    let blocks = leaves.cursors FREE_BLOCK_CURSOR (λ e. absurd (omega arith)) in
+    let runs = leaves.cursors RUN_CURSOR (λ e. absurd (omega arith)) (λ e. absurd (omega arith)) in
+    let blocks = leaves.cursors FREE_BLOCK_CURSOR (λ e. absurd (omega arith)) (λ e. absurd (omega arith)) in
     let all_runs = fixed.runs in
     let all_blocks = fixed.blocks in
     record {
-      tables = within_fixed o s.tables u (ap (λ (z : Tables). record z { heap = u.heap; unlogged = u.unlogged; counts = u.counts; marks = u.marks; grays = u.grays; dones = u.dones; cursors = u.cursors }) leaves.rest) fixed.tables;
+      tables = within_fixed o s.tables u (ap (λ (z : Tables). record z { heap = u.heap; unlogged = u.unlogged; counts = u.counts; marks = u.marks; grays = u.grays; dones = u.dones; remembered = u.remembered; cursors = u.cursors }) leaves.rest) fixed.tables;
       counts = λ k e. elim (leaves.counts k) [
         | inl same ↦ same ∙ fixed.counts k e
         | inr begins ↦ absurd (not_both (o.starts k) (subst (λ (f : ℕ → Bool). IsTrue (f k)) starts begins) e)
       ];
-      cursors = λ c a d e f. leaves.cursors c f ∙ fixed.cursors c a d e f;
-      word = subst (λ z. (z ≡ 0) ⊎ (z ≡ 1)) (sym (leaves.cursors PAUSE_WORD (λ e. absurd (omega arith)))) fixed.word;
+      cursors = λ c a d e f h. leaves.cursors c f h ∙ fixed.cursors c a d e f h;
+      word = subst (λ z. (z ≡ 0) ⊎ (z ≡ 1)) (sym (leaves.cursors PAUSE_WORD (λ e. absurd (omega arith)) (λ e. absurd (omega arith)))) fixed.word;
       runs = omega (arith, runs, all_runs);
       blocks = omega (arith, blocks, all_blocks);
     }

@@ -18,10 +18,10 @@ module _ (b : Beginning) (s : EpochState) (u : Tables) (ds : List Decrementing) 
 
   -- the cursors of what is drawn stay
   runs_stay : u.cursors RUN_CURSOR ≡ s.tables.cursors RUN_CURSOR
-  runs_stay = leaves.cursors RUN_CURSOR (λ e. absurd (omega arith))
+  runs_stay = leaves.cursors RUN_CURSOR (λ e. absurd (omega arith)) (λ e. absurd (omega arith))
 
   blocks_stay : u.cursors FREE_BLOCK_CURSOR ≡ s.tables.cursors FREE_BLOCK_CURSOR
-  blocks_stay = leaves.cursors FREE_BLOCK_CURSOR (λ e. absurd (omega arith))
+  blocks_stay = leaves.cursors FREE_BLOCK_CURSOR (λ e. absurd (omega arith)) (λ e. absurd (omega arith))
 
   -- who owns a granule owned it
   owned_before : (x : Owner) (g : ℕ) → Owns b after x g → Owns b s x g

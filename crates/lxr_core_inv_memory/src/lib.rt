@@ -21,8 +21,8 @@ pub fn fixed_tables_are_kept()
     ensures { FixedTablesAreKept }
 {}
 
-/// Decrementers and tracers change counts, marks, grays, dones and the cursor of decrements alone, and counts only where an unreclaimed
-/// object begins.
+/// Decrementers and tracers change counts, marks, grays, dones, remembered entries and the cursors of both lists alone, and counts only where
+/// an unreclaimed object begins.
 pub fn fixed_tables_are_left()
     ensures { FixedTablesAreLeft }
 {}
@@ -48,7 +48,8 @@ pub fn cursors_dont_fall()
     ensures { CursorsDontFall }
 {}
 
-/// Where all mutators are through and each listed block is drawn, there are at least as many objects as blocks.
+/// Where all mutators are through and each listed block is drawn, there are at least as many objects as blocks that aren't Chosen, and these
+/// are all but an eighth.
 pub fn all_blocks_are_taken()
     ensures { AllBlocksAreTaken }
 {}

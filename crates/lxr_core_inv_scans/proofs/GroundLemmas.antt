@@ -1,6 +1,6 @@
 -- What tracers find below them while mutators work: an unreclaimed object stands where it stood, and each of its references is nil or the
--- place of an object, whatever was stored to it; and no block is Chosen.
-use Rattle.std.proofs.Common.{◌≡◌, ◌≢◌, ℕ, ◌+◌, ◌-◌, ◌*◌, ◌/◌, ◌<◌, ◌≤◌, refl, sym, ap, subst, ◌∙◌, inl, inr, ◌⊎◌, arith, IsTrue, length, get_or}
+-- place of an object, whatever was stored to it.
+use Rattle.std.proofs.Common.{◌≡◌, ℕ, ◌+◌, ◌-◌, ◌*◌, ◌/◌, ◌<◌, ◌≤◌, refl, sym, ap, subst, ◌∙◌, inl, inr, ◌⊎◌, arith, IsTrue, length, get_or}
 use Rattle.std.specs.Prelude.{Option, Some, None, slice_get}
 use Rattle.std.proofs.lemmas.Option.{slice_get-get_or}
 use Rattle.lxr_layout.specs.declared.limits.Limits.{Limits}
@@ -15,12 +15,10 @@ use Rattle.lxr_image.specs.Tables.{Tables}
 use Rattle.lxr_image.specs.Reads.{granule_of}
 use Rattle.lxr_image.specs.Image.{IsImage, Stands, granules_of, place_word}
 use Rattle.lxr_image.proofs.ImageLemmas.{words_cover, words_even}
-use Rattle.lxr_blocks.specs.States.{state_of}
 use Rattle.lxr_model.specs.Moments.{Moment}
 use Rattle.lxr_invariant.specs.AbstractState.{members}
-use Rattle.lxr_invariant.proofs.BlockLemmas.{none_counted}
 use Rattle.lxr_invariant.proofs.NameLemmas.{in_first}
-use Rattle.lxr_core_events.specs.EpochStates.{Beginning, EpochState, limits_of, moment_of, opening_tables}
+use Rattle.lxr_core_events.specs.EpochStates.{Beginning, EpochState, limits_of, moment_of}
 use Rattle.lxr_core_events.specs.Events.{TellsObject}
 use Rattle.lxr_core_events.specs.Counted.{IsInHeap, StandsAt, references_at}
 use Rattle.lxr_core_events.specs.Epoch.{IsEpoch}
@@ -46,11 +44,10 @@ pub record IsObjectAt (l : Limits) (t : Tables) (m : Moment) (at : Name → ℕ)
   pub in_heap : first_word place + word_count shape ≤ WORDS_IN_BLOCK * l.blocks
   pub reads : (index : ℕ) → index < shape.refs → IsReferenceWord l.blocks (t.heap (field_word place index))
 
--- What tracers find below them: unreclaimed objects, each where a start bit is set, and none in a Chosen block.
+-- What tracers find below them: unreclaimed objects, each where a start bit is set.
 pub record IsGround (l : Limits) (t : Tables) (m : Moment) (at : Name → ℕ) : Type 0 where
   pub object : (place : ℕ) → StandsAt m at place → IsObjectAt l t m at place
   pub starts : (place : ℕ) → 1 ≤ place → IsTrue (t.starts (granule_of place)) → StandsAt m at place
-  pub unchosen : (place : ℕ) → StandsAt m at place → t.states (granule_of place / GRANULES_IN_BLOCK) ≢ 3
 
 -- ---- places of the heap
 
@@ -124,18 +121,9 @@ module _ (b : Beginning) (s : EpochState) (is : IsEpoch b s) where
       let x = is.image.placed.image.stands n (in_first now.unreclaimed now.made n (counts.member_now b s is n there.member)) in
       subst (IsObjectAt (limits_of b) s.tables was stood) (sym there.stands) (object_there n x.0 there.member x.1 x.2 (unmoved b s is n there.member))
 
-  -- block states are the opening's
-  unchosen_there : (place : ℕ) → StandsAt was stood place → s.tables.states (granule_of place / GRANULES_IN_BLOCK) ≢ 3
-  unchosen_there place stands e =
-      let block : ℕ = granule_of place / GRANULES_IN_BLOCK in
-      let there = objects place stands in
-      let opening : (opening_tables b).states block ≡ 3 = sym (ap (λ t. t.states block) is.fixed.tables) ∙ e in
-      none_counted (opening_tables b) (limits_of b).blocks block is.begins.none_chosen (block_within (limits_of b).blocks place there.shape there.placed there.in_heap) (ap state_of opening)
-
   -- so this is what tracers find
   pub ground_of : IsGround (limits_of b) s.tables was stood
   ground_of = record {
     object = objects;
     starts = λ place some started. stands_at (limits_of b) s.tables s.decrementers was stood ground is.counted place some started;
-    unchosen = unchosen_there;
   }

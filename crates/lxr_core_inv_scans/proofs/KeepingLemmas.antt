@@ -19,6 +19,7 @@ use Rattle.lxr_core_events.specs.Epoch.{IsEpoch}
 use Rattle.lxr_core_events.specs.Laws.{DecrementersKeepKnowledge, KnowledgeIsKept, OpeningKnowledge, TracersAreSound, TracersKeepKnowledge}
 use Rattle.lxr_core_inv_counts.proofs.KeepingLemmas.{decrementers_are_sound}
 use Rattle.lxr_core_inv_scans.proofs.GroundLemmas.{IsGround, ground_of}
+use Rattle.lxr_core_inv_scans.proofs.NumberLemmas.{may_remember}
 use Rattle.lxr_core_inv_scans.proofs.TurnLemmas.{scans_still}
 use Rattle.lxr_core_inv_scans.proofs.StepLemmas.{IsAbout, after_access, is_about, step_scanned}
 use Rattle.lxr_core_inv_scans.proofs.SoundLemmas.{IsSoundWhere, step_sound}
@@ -78,7 +79,7 @@ module _ (b : Beginning) (s : EpochState) (i : ℕ) (access : Access) (after : T
 
   sound : IsSound b s access × TracerLeaves s.tables (done_to s.tables access)
   sound =
-      let x = subst (IsSoundWhere (limits_of b) s.tables) may.steps.access_is (step_sound (limits_of b) s.tables ready.all m at ground ready.scanned i may.steps.about ready.shows) in
+      let x = subst (IsSoundWhere (limits_of b) s.tables) may.steps.access_is (step_sound (limits_of b) s.tables ready.all m at ground ready.scanned i may.steps.about ready.shows (may_remember b s is i may.before may.steps.about may.shows may.steps.attempts)) in
       (record { may = x.may; leaves = x.leaves }, x.tracer_leaves)
 
 pub tracers_keep_knowledge : TracersKeepKnowledge

@@ -5,8 +5,10 @@ use Rattle.lxr_layout.specs.declared.limits.Limits.{Limits}
 use Rattle.lxr_layout.specs.declared.Header.TheVariants as header
 use Rattle.lxr_layout.specs.declared.Name.{Name}
 use Rattle.lxr_layout.specs.declared.Shape.{Shape}
+use Rattle.lxr_layout.specs.declared.TheConstants.{REMEMBERED_CURSOR}
 use Rattle.lxr_layout.specs.Objects.{header_of}
 use Rattle.lxr_layout.specs.Places.{field_word, first_word}
+use Rattle.lxr_layout.specs.Runs.{word_of_entry}
 use Rattle.lxr_graph.proofs.NameSets.{not_both}
 use Rattle.lxr_image.specs.Tables.{Tables, changed}
 use Rattle.lxr_image.specs.Reads.{granule_of}
@@ -41,6 +43,13 @@ mark_keeps t granule = record { marks = set_stays t.marks granule; grays = λ k 
 pub gray_keeps : (t : Tables) (granule : ℕ) → KeepsBits t (done_to t (access.SetGray granule))
 gray_keeps t granule = record { marks = λ k set. set; grays = set_stays t.grays granule }
 
+-- a number of the remembered set that is drawn, and an entry that is written, change neither
+pub draw_keeps : (t : Tables) → KeepsBits t (done_to t (access.Draw REMEMBERED_CURSOR))
+draw_keeps t = record { marks = λ k set. set; grays = λ k set. set }
+
+pub entry_keeps : (t : Tables) (number word : ℕ) → KeepsBits t (done_to t (access.PutRemembered number word))
+entry_keeps t number word = record { marks = λ k set. set; grays = λ k set. set }
+
 -- ---- what comes next
 
 -- What comes once a reference is scanned, or a shape was read: the same object is scanned, if any, and this is known of it.
@@ -73,9 +82,9 @@ scans_marked blocks t m at (Scans p refs index) place knows by = let same : p �
 scans_marked blocks t m at (AsksReferent p refs index referent) place knows by = let same : p ≡ place = cc in subst (λ q. IsTrue (t.marks (granule_of q))) same knows.0.marked
 scans_marked blocks t m at (GraysReferent p refs index referent) place knows by = let same : p ≡ place = cc in subst (λ q. IsTrue (t.marks (granule_of q))) same knows.0.marked
 scans_marked blocks t m at (AsksBlock p refs index referent) place knows by = let same : p ≡ place = cc in subst (λ q. IsTrue (t.marks (granule_of q))) same knows.0.marked
-scans_marked blocks t m at (ReadsReuse p refs index) place knows by = absurd knows
-scans_marked blocks t m at (DrawsNumber p refs index counter) place knows by = absurd knows
-scans_marked blocks t m at (Enters p refs index counter number) place knows by = absurd knows
+scans_marked blocks t m at (ReadsReuse p refs index) place knows by = let same : p ≡ place = cc in subst (λ q. IsTrue (t.marks (granule_of q))) same knows.marked
+scans_marked blocks t m at (DrawsNumber p refs index counter) place knows by = let same : p ≡ place = cc in subst (λ q. IsTrue (t.marks (granule_of q))) same knows.marked
+scans_marked blocks t m at (Enters p refs index counter number) place knows by = let same : p ≡ place = cc in subst (λ q. IsTrue (t.marks (granule_of q))) same knows.marked
 scans_marked blocks t m at _ place knows by = absurd (cc)
 
 -- ---- the steps
@@ -145,11 +154,12 @@ module _ (l : Limits) (t : Tables) (ts : List Tracing) (m : Moment) (at : Name �
   step_scanned remember d e shows (goes.finds_object place refs index referent set) = let knows = was.knows i d shows in look d e shows (λ p k. k) (knows.0, ground.starts referent knows.1.0 set)
   step_scanned remember d e shows (goes.grays place refs index referent) = scans_still l.blocks t _ (slice_set ts i e) m at (gray_keeps t (granule_of referent)) (look d e shows (λ p k. k) (was.knows i d shows))
   step_scanned remember d e shows (goes.is_other place refs index referent other) = passes d place refs index shows refl (was.knows i d shows).0
-  step_scanned remember d e shows (goes.is_chosen place refs index referent chosen) = absurd (ground.unchosen referent (was.knows i d shows).1 chosen)
-  step_scanned remember d e shows (goes.reads_reuse place refs index) = absurd (was.knows i d shows)
-  step_scanned remember d e shows (goes.is_full place refs index counter full) = absurd (was.knows i d shows)
-  step_scanned remember d e shows (goes.has_room place refs index counter room) = absurd (was.knows i d shows)
-  step_scanned remember d e shows (goes.enters place refs index counter number) = absurd (was.knows i d shows)
+  step_scanned remember d e shows (goes.is_chosen place refs index referent chosen) = look d e shows (λ p k. k) (was.knows i d shows).0
+  step_scanned remember d e shows (goes.reads_reuse place refs index) = look d e shows (λ p k. k) (was.knows i d shows)
+  step_scanned remember d e shows (goes.is_full place refs index counter full) = scans_still l.blocks t _ (slice_set ts i e) m at (draw_keeps t) (passes d place refs index shows refl (was.knows i d shows))
+  step_scanned remember d e shows (goes.has_room place refs index counter room) = scans_still l.blocks t _ (slice_set ts i e) m at (draw_keeps t) (look d e shows (λ p k. k) (was.knows i d shows))
+  step_scanned remember d e shows (goes.enters place refs index counter number) =
+      scans_still l.blocks t _ (slice_set ts i e) m at (entry_keeps t number (word_of_entry counter (record { 0 = place }) index)) (passes d place refs index shows refl (was.knows i d shows))
   step_scanned remember d e shows (goes.finds_nothing) = look d e shows (λ p k. absurd (cc)) tt
 
 -- ---- how a unit begins

@@ -28,9 +28,9 @@ known_kept blocks t u m at (Scans place refs index) keeps is = scanned_kept t u 
 known_kept blocks t u m at (AsksReferent place refs index referent) keeps is = (scanned_kept t u m at place refs index keeps is.0, is.1)
 known_kept blocks t u m at (GraysReferent place refs index referent) keeps is = (scanned_kept t u m at place refs index keeps is.0, is.1)
 known_kept blocks t u m at (AsksBlock place refs index referent) keeps is = (scanned_kept t u m at place refs index keeps is.0, is.1)
-known_kept blocks t u m at (ReadsReuse place refs index) keeps is = is
-known_kept blocks t u m at (DrawsNumber place refs index counter) keeps is = is
-known_kept blocks t u m at (Enters place refs index counter number) keeps is = is
+known_kept blocks t u m at (ReadsReuse place refs index) keeps is = scanned_kept t u m at place refs index keeps is
+known_kept blocks t u m at (DrawsNumber place refs index counter) keeps is = scanned_kept t u m at place refs index keeps is
+known_kept blocks t u m at (Enters place refs index counter number) keeps is = scanned_kept t u m at place refs index keeps is
 known_kept blocks t u m at FindsNothing keeps is = is
 
 -- tables in which no bit is cleared

@@ -2,8 +2,8 @@
 //!
 //! A tracer that asks for a place has been given one of the heap; where the start bit was set, an unreclaimed object stands there. An
 //! object that it scans is marked, has one scanner, and has as many references as its header tells. What it reads of a reference is
-//! nil, or the place of an object; and what is unreclaimed stays where it is until the next pause. No block is Chosen in an epoch, so
-//! no tracer comes to the remembered set. The functions of this crate do nothing: the contract of each is a law.
+//! nil, or the place of an object; and what is unreclaimed stays where it is until the next pause. The functions of this crate do nothing:
+//! the contract of each is a law.
 #![tactic(auto)]
 
 ghost use Rattle.lxr_core_events.specs.Laws.{DecrementersKeepKnowledge, KnowledgeIsKept, OpeningKnowledge, TracersAreSound, TracersKeepKnowledge};
@@ -23,7 +23,8 @@ pub fn tracers_keep_knowledge()
     ensures { TracersKeepKnowledge }
 {}
 
-/// Each step of a tracer finds its entry, and sets marks and grays alone, each where an unreclaimed object begins.
+/// Each step of a tracer finds its entry, and sets marks and grays, each where an unreclaimed object begins, or changes remembered entries and
+/// their cursor alone, which doesn't come round.
 pub fn tracers_are_sound()
     ensures { TracersAreSound }
 {}

@@ -1,7 +1,6 @@
 -- One helper makes a step: what has to be shown of its step, so that the snapshot stays covered.
-use Rattle.std.proofs.Common.{◌≡◌, ℕ, ◌≤◌, sym, ap, ◌∙◌, inl, inr, ◌⊎◌, arith, false, List, IsTrue}
-use Rattle.std.specs.Prelude.{Option, Some, None, slice_get, slice_set}
-use Rattle.std.proofs.lemmas.Bool.Decides.{eqb_tells}
+use Rattle.std.proofs.Common.{◌≡◌, ℕ, ◌≤◌, ap, ◌∙◌, inl, inr, ◌⊎◌, arith, false, List, IsTrue}
+use Rattle.std.specs.Prelude.{Option, Some, None, slice_get}
 use Rattle.lxr_layout.specs.declared.LogEntry.{LogEntry}
 use Rattle.lxr_layout.specs.declared.Name.{Name}
 use Rattle.lxr_graph.specs.Names.{has}
@@ -17,7 +16,6 @@ use Rattle.lxr_core_access.specs.Accesses.{done_to}
 use Rattle.lxr_core_access.specs.Decrementers.{Decrementing, MakesGray}
 use Rattle.lxr_core_access.specs.Tracers.{Tracing}
 use Rattle.lxr_core_events.specs.Covered.{IsCoveredBy, IsCoveredIn, IsFound, IsHandledLater, IsInHand, IsScannedLater, SeesTrace, WaitsIn}
-use Rattle.lxr_core_events.proofs.ShowingLemmas.{set_elsewhere}
 use Rattle.lxr_core_inv_snapshot.proofs.FindLemmas.{HeldThen, HoldsNow}
 
 -- what a dead object's reference held at the last pause is gray, or will be
@@ -96,13 +94,6 @@ GoesOn from hand place i referent = ((next : ℕ) × (from ≡ Some (place, next
 abbrev pub after_access : Tables → Option Access → Tables
 after_access t None = t
 after_access t (Some access) = done_to t access
-
--- what one helper shows is its own, or is still shown once that one shows something else
-pub own_or_still : {A : Type 0} (xs : List A) (i : ℕ) (d e : A) (j : ℕ) (x : A) → slice_get xs i ≡ Some d → slice_get xs j ≡ Some x → (x ≡ d) ⊎ (slice_get (slice_set xs i e) j ≡ Some x)
-own_or_still xs i d e j x own shown = elim (eqb_tells j i) [
-  | inl q ↦ inl (let same : Some x ≡ Some d = sym shown ∙ ap (slice_get xs) q.1 ∙ own in cc)
-  | inr q ↦ inr (set_elsewhere xs i j e q.1 ∙ shown)
-]
 
 -- a place is told by its granule
 pub place_by_granule : (p q : ℕ) → 1 ≤ p → 1 ≤ q → granule_of p ≡ granule_of q → p ≡ q

@@ -21,9 +21,9 @@ use Rattle.lxr_core_access.specs.Tracers.{Tracing}
 use Rattle.lxr_core_events.specs.Counted.{KnowsCounts, KnowsHandling, references_at}
 use Rattle.lxr_core_events.specs.Covered.{HandlesTraced, IsInHand, SeesTrace, handles_from, handling_from, made_gray_by}
 use Rattle.lxr_core_events.proofs.ActingLemmas.{same_pair}
-use Rattle.lxr_core_events.proofs.ShowingLemmas.{set_here, shown_cases}
+use Rattle.lxr_core_events.proofs.ShowingLemmas.{own_or_still, set_here, shown_cases}
 use Rattle.lxr_core_inv_snapshot.proofs.FindLemmas.{HeldThen, HelpersFind, HoldsNow}
-use Rattle.lxr_core_inv_snapshot.proofs.CoverLemmas.{IsHandled, IsUnhandled, KeepsCover, after_access, own_or_still, place_by_granule}
+use Rattle.lxr_core_inv_snapshot.proofs.CoverLemmas.{IsHandled, IsUnhandled, KeepsCover, after_access, place_by_granule}
 
 -- where a decrementer goes on: it handles the object at a place from a number on, and stays so, or it has what it read in hand
 abbrev pub HandlesOn : Decrementing → ℕ → ℕ → ℕ → Type 0

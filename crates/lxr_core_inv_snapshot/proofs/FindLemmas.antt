@@ -117,7 +117,7 @@ module _ (b : Beginning) (s : EpochState) (is : IsEpoch b s) where
   -- the tracing word tells of the trace that runs
   tracing_now : (trace : Trace) → m.trace ≡ Some trace → s.tables.cursors TRACING_WORD ≡ 1
   tracing_now trace runs =
-      is.fixed.cursors TRACING_WORD (λ e. absurd (omega arith)) (λ e. absurd (omega arith)) (λ e. absurd (omega arith)) (λ e. absurd (omega arith))
+      is.fixed.cursors TRACING_WORD (λ e. absurd (omega arith)) (λ e. absurd (omega arith)) (λ e. absurd (omega arith)) (λ e. absurd (omega arith)) (λ e. absurd (omega arith))
       ∙ is.begins.between.safepoint.holds.blocks.tracing ∙ ap tracing_word (sym pause.trace ∙ runs)
 
   pub helpers_find : HelpersFind s.tables was stood m s.at

@@ -24,9 +24,9 @@ use Rattle.lxr_core_events.specs.Counted.{references_at}
 use Rattle.lxr_core_events.specs.Traced.{KnowsObjects}
 use Rattle.lxr_core_events.specs.Covered.{IsInHand, grayed_by, scans_from}
 use Rattle.lxr_core_events.proofs.ActingLemmas.{same_pair}
-use Rattle.lxr_core_events.proofs.ShowingLemmas.{set_here}
+use Rattle.lxr_core_events.proofs.ShowingLemmas.{own_or_still, set_here}
 use Rattle.lxr_core_inv_snapshot.proofs.FindLemmas.{HelpersFind, HoldsNow}
-use Rattle.lxr_core_inv_snapshot.proofs.CoverLemmas.{GoesOn, IsHandled, IsUnscanned, KeepsCover, after_access, own_or_still, place_by_granule}
+use Rattle.lxr_core_inv_snapshot.proofs.CoverLemmas.{GoesOn, IsHandled, IsUnscanned, KeepsCover, after_access, place_by_granule}
 
 -- What has to be shown of a tracer's step, from d to e.
 pub record TracerKeeps (t u : Tables) (m : Moment) (at : Name → ℕ) (d e : Tracing) : Type 0 where
@@ -111,6 +111,20 @@ module _ (blocks remember : ℕ) (t : Tables) (was : Moment) (stood : Name → �
       → ((n v : Name) (first i : ℕ) → IsTrue (has m.unreclaimed n) → HoldsNow m n i v → scans_from d ≡ Some (at n, first) → first ≤ i → GoesOn (scans_from e) (grayed_by e) (at n) i (at v))
       → TracerKeeps t t m at d e
   looks d e hand scanned = record { grays = λ k h. h; marks = λ k h. h; unlogged = refl; dones = refl; hand = hand; marked = λ n h clear. inl clear; scanned = scanned }
+
+  -- it draws a number of the remembered set, or writes an entry, and goes on
+  remembers : (d e : Tracing) (remembered cursors : ℕ → ℕ) → grayed_by d ≡ None
+      → ((n v : Name) (first i : ℕ) → IsTrue (has m.unreclaimed n) → HoldsNow m n i v → scans_from d ≡ Some (at n, first) → first ≤ i → GoesOn (scans_from e) (grayed_by e) (at n) i (at v))
+      → TracerKeeps t (record t { remembered = remembered; cursors = cursors }) m at d e
+  remembers d e remembered cursors hand scanned = record {
+    grays = λ k h. h;
+    marks = λ k h. h;
+    unlogged = refl;
+    dones = refl;
+    hand = λ n h g. absurd (let none : None ≡ Some (at n) = sym hand ∙ g in cc);
+    marked = λ n h clear. inl clear;
+    scanned = scanned;
+  }
 
   -- an object has as many references as its tracer knows, so that each of them is reached
   next_scanned : (place refs index : ℕ) → refs ≡ length (references_at was stood place) → (n v : Name) (first i : ℕ) → IsTrue (has m.unreclaimed n) → HoldsNow m n i v → ◌≡◌ {A = Option (ℕ × ℕ)} (Some (place, index)) (Some (at n, first)) → first ≤ i
@@ -208,7 +222,7 @@ module _ (blocks remember : ℕ) (t : Tables) (was : Moment) (stood : Name → �
     scanned = λ n v first i h holds from low. inl (first, from, low);
   }
 
-  -- each step, by where it leads; no block is Chosen, so none comes to the remembered set
+  -- each step, by where it leads
   pub tracer_step : (d e : Tracing) → KnowsObjects blocks t was stood d → TracerGoes blocks remember t d e → TracerKeeps t (after_access t (tracer_access d)) m at d e
   tracer_step d e knows (goes.asks_gray place) = idle d e refl refl
   tracer_step d e knows (goes.is_white place next try) = idle d e refl refl
@@ -225,10 +239,10 @@ module _ (blocks remember : ℕ) (t : Tables) (was : Moment) (stood : Name → �
   tracer_step d e knows (goes.is_other place refs index referent other) =
       looks d e (λ n h g. absurd (let none : None ≡ Some (at n) = g in cc)) (next_scanned place refs (index + 1) knows.0.refs_are)
   tracer_step d e knows (goes.is_chosen place refs index referent chosen) = looks d e (λ n h g. absurd (let none : None ≡ Some (at n) = g in cc)) (λ n v first i h holds from low. inl (first, from, low))
-  tracer_step d e knows (goes.reads_reuse place refs index) = absurd knows
-  tracer_step d e knows (goes.is_full place refs index counter full) = absurd knows
-  tracer_step d e knows (goes.has_room place refs index counter room) = absurd knows
-  tracer_step d e knows (goes.enters place refs index counter number) = absurd knows
+  tracer_step d e knows (goes.reads_reuse place refs index) = looks d e (λ n h g. absurd (let none : None ≡ Some (at n) = g in cc)) (λ n v first i h holds from low. inl (first, from, low))
+  tracer_step d e knows (goes.is_full place refs index counter full) = remembers d e t.remembered _ refl (next_scanned place refs (index + 1) knows.refs_are)
+  tracer_step d e knows (goes.has_room place refs index counter room) = remembers d e t.remembered _ refl (λ n v first i h holds from low. inl (first, from, low))
+  tracer_step d e knows (goes.enters place refs index counter number) = remembers d e _ t.cursors refl (next_scanned place refs (index + 1) knows.refs_are)
   tracer_step d e knows (goes.finds_nothing) = idle d e refl refl
 
 -- ---- how a unit begins

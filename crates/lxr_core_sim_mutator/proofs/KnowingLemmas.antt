@@ -135,13 +135,13 @@ value_there b s place refs index is at =
 -- how many runs, and how many blocks, are listed
 pub run_count : (b : Beginning) (s : EpochState) → IsEpoch b s → (s.tables.cursors RUN_COUNT ≡ (opening_tables b).cursors RUN_COUNT) × (s.tables.cursors RUN_COUNT ≤ 64 * (limits_of b).blocks)
 run_count b s is =
-    let e = is.fixed.cursors RUN_COUNT (λ q. absurd (omega arith)) (λ q. absurd (omega arith)) (λ q. absurd (omega arith)) (λ q. absurd (omega arith)) in
+    let e = is.fixed.cursors RUN_COUNT (λ q. absurd (omega arith)) (λ q. absurd (omega arith)) (λ q. absurd (omega arith)) (λ q. absurd (omega arith)) (λ q. absurd (omega arith)) in
     let few = is.begins.listed.few_runs in (e, omega (arith, e, few))
 
 -- so it is of blocks
 pub block_count : (b : Beginning) (s : EpochState) → IsEpoch b s → (s.tables.cursors FREE_BLOCK_COUNT ≡ (opening_tables b).cursors FREE_BLOCK_COUNT) × (s.tables.cursors FREE_BLOCK_COUNT ≤ (limits_of b).blocks)
 block_count b s is =
-    let e = is.fixed.cursors FREE_BLOCK_COUNT (λ q. absurd (omega arith)) (λ q. absurd (omega arith)) (λ q. absurd (omega arith)) (λ q. absurd (omega arith)) in
+    let e = is.fixed.cursors FREE_BLOCK_COUNT (λ q. absurd (omega arith)) (λ q. absurd (omega arith)) (λ q. absurd (omega arith)) (λ q. absurd (omega arith)) (λ q. absurd (omega arith)) in
     let few = is.begins.listed.few_blocks in (e, omega (arith, e, few))
 
 -- a listed run is one of its block, and a listed block one of the heap

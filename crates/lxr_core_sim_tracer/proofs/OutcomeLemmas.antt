@@ -1,6 +1,6 @@
 -- A tracer's step is the access of what it is about to do: the word that it finds tells of the access's entry, and by that it
 -- goes where the tables lead.
-use Rattle.std.proofs.Common.{◌≡◌, ◌≢◌, ℕ, ◌+◌, ◌<◌, Bool, true, false, arith, refl, sym, subst, ap, ◌∙◌, List, length}
+use Rattle.std.proofs.Common.{◌≡◌, ◌≢◌, ℕ, ◌+◌, ◌<◌, ◌≤◌, Bool, true, false, arith, refl, sym, subst, ap, ◌∙◌, List, length}
 use Rattle.std.specs.Prelude.{IsSome, Some, nat_eq, nat_lt, slice_index, if◌then◌else◌}
 use Rattle.lxr_layout.specs.declared.limits.Regions.{Regions}
 use Rattle.lxr_image.specs.Tables.{tables_in}
@@ -69,6 +69,12 @@ is_zero n e = grind (arith, e)
 
 pub is_not_zero : (n : ℕ) → nat_eq n 0 ≡ false → n ≢ 0
 is_not_zero n e = grind (arith, e)
+
+pub is_below : (n k : ℕ) → nat_lt n k ≡ true → n < k
+is_below n k e = grind (arith, e)
+
+pub is_not_below : (n k : ℕ) → nat_lt n k ≡ false → k ≤ n
+is_not_below n k e = grind (arith, e)
 
 -- ---- what is scanned
 

@@ -1,22 +1,24 @@
--- The steps that scan a marked object: its header tells how many references it has, each of them is nil or a place of the heap, and no
--- block is Chosen.
+-- The steps that scan a marked object: its header tells how many references it has, and each of them is nil or a place of the heap. Where what
+-- one refers to is in a Chosen block, the reference is entered in the remembered set, while that has room.
 use Rattle.std.proofs.Common.{◌≡◌, ◌≢◌, ℕ, ◌+◌, ◌/◌, Bool, true, false, refl, sym, ap, ◌∙◌, inl, inr, arith}
-use Rattle.std.specs.Prelude.{Option, nat_eq, if◌then◌else◌}
-use Rattle.lxr_layout.specs.declared.TheConstants.{GRANULES_IN_BLOCK}
+use Rattle.std.specs.Prelude.{Option, nat_eq, nat_lt, if◌then◌else◌}
+use Rattle.lxr_layout.specs.declared.TheConstants.{GRANULES_IN_BLOCK, REMEMBERED_CURSOR, WORDS_IN_LINE}
 use Rattle.lxr_layout.specs.declared.Place.{Place}
 use Rattle.lxr_layout.specs.Spaces.{regions_of}
 use Rattle.lxr_layout.specs.Places.{field_word, first_word}
+use Rattle.lxr_layout.specs.Runs.{word_of_entry}
 use Rattle.lxr_image.specs.Reads.{granule_of}
 use Rattle.lxr_pocket.specs.Words.{has_bit, references_in, referent_in}
 use Rattle.lxr_trace.specs.declared.phases.Scan.{Scan}
 use Rattle.lxr_trace.specs.declared.phases.TracerPhase.TheVariants as phase
 use Rattle.lxr_trace.specs.Tracing.{TracerState}
 use Rattle.lxr_trace.specs.Words.{is_chosen}
-use Rattle.lxr_trace.specs.Steps.{in_phase, referred, scan_from_first, scanned}
-use Rattle.lxr_invariant.proofs.EntryLemmas.{unlike_number}
+use Rattle.lxr_trace.specs.Steps.{drawn, in_phase, referred, scan_from_first, scanned}
+use Rattle.lxr_invariant.proofs.BlockLemmas.{other_number}
+use Rattle.lxr_invariant.proofs.EntryLemmas.{equal_numbers}
 use Rattle.lxr_core_access.specs.declared.TableEntry.TheVariants as table_entry
 use Rattle.lxr_core_access.specs.declared.Access.TheVariants as access
-use Rattle.lxr_core_access.specs.Tracers.{Tracing, TracerGoes, AsksBlock, AsksReferent, GraysReferent, scanned_next}
+use Rattle.lxr_core_access.specs.Tracers.{Tracing, TracerGoes, AsksBlock, AsksReferent, DrawsNumber, Enters, GraysReferent, ReadsReuse, scanned_next}
 use Rattle.lxr_core_access.specs.Tracers as goes
 use Rattle.lxr_core_events.specs.EpochStates.{Beginning, EpochState, limits_of}
 use Rattle.lxr_core_events.specs.Counted.{IsInHeap, StandsAt}
@@ -24,8 +26,8 @@ use Rattle.lxr_core_events.specs.Traced.{IsScannedAt}
 use Rattle.lxr_core_events.specs.Epoch.{IsEpoch}
 use Rattle.lxr_core_inv_scans.proofs.GroundLemmas.{ground_of}
 use Rattle.lxr_core_sim_tracer.specs.Showing.{tracing_of}
-use Rattle.lxr_core_sim_tracer.proofs.OutcomeLemmas.{Leads, at_shown, is_not_zero, is_zero, scanned_shown}
-use Rattle.lxr_core_sim_tracer.proofs.KnowingLemmas.{nil_told, place_told, references_are}
+use Rattle.lxr_core_sim_tracer.proofs.OutcomeLemmas.{Leads, at_shown, is_below, is_not_below, is_not_zero, is_zero, scanned_shown}
+use Rattle.lxr_core_sim_tracer.proofs.KnowingLemmas.{nil_told, place_told, references_are, room_is}
 
 -- it looks at the header of an object that it has marked
 pub reads_shape : (b : Beginning) (s : EpochState) (d : TracerState) (place : Place) → IsEpoch b s → d.regions ≡ regions_of (limits_of b)
@@ -129,21 +131,85 @@ module _ (b : Beginning) (s : EpochState) (d : TracerState) (scan : Scan) (refer
     leads = λ old told. refl;
   }
 
-  -- where the block isn't Chosen, the reference is done with
-  other_shown : (chosen : Bool) → chosen ≡ false → tracing_of (if chosen then in_phase d (phase.ReadsReuse scan) else scanned d scan) ≡ scanned_next scan.place.0 scan.refs (scan.index + 1)
-  other_shown true e = absurd (cc)
-  other_shown false e = scanned_shown d scan
+  -- what it is about to do once it has looked at the state of the object's block
+  abbrev block_next : Bool → Tracing
+  block_next true = ReadsReuse scan.place.0 scan.refs scan.index
+  block_next false = scanned_next scan.place.0 scan.refs (scan.index + 1)
 
-  -- it looks at the state of the object's block, which isn't Chosen
-  pub asks_block : IsEpoch b s → StandsAt b.abstract_state.moment b.abstract_state.at referent.0 → Leads b s d (phase.AsksBlock scan referent)
-  asks_block is stands =
-      let block : ℕ = granule_of referent.0 / GRANULES_IN_BLOCK in
-      let other : s.tables.states block ≢ 3 = (ground_of b s is).unchosen referent.0 stands in
-      record {
-        access = access.Look (table_entry.State block);
-        next = scanned_next scan.place.0 scan.refs (scan.index + 1);
-        acts = λ r. refl;
-        access_is = refl;
-        goes = goes.is_other scan.place.0 scan.refs scan.index referent.0 other;
-        leads = λ old told. other_shown (is_chosen old) (ap is_chosen told ∙ unlike_number (s.tables.states block) 3 other);
-      }
+  abbrev state : ℕ
+  state = s.tables.states (granule_of referent.0 / GRANULES_IN_BLOCK)
+
+  block_goes : (chosen : Bool) → is_chosen state ≡ chosen → TracerGoes (limits_of b).blocks (limits_of b).remember s.tables (AsksBlock scan.place.0 scan.refs scan.index referent.0) (block_next chosen)
+  block_goes true e = goes.is_chosen scan.place.0 scan.refs scan.index referent.0 (equal_numbers state 3 e)
+  block_goes false e = goes.is_other scan.place.0 scan.refs scan.index referent.0 (other_number state 3 e)
+
+  block_shown : (chosen : Bool) → tracing_of (if chosen then in_phase d (phase.ReadsReuse scan) else scanned d scan) ≡ block_next chosen
+  block_shown true = refl
+  block_shown false = scanned_shown d scan
+
+  -- it looks at the state of the object's block
+  pub asks_block : Leads b s d (phase.AsksBlock scan referent)
+  asks_block = record {
+    access = access.Look (table_entry.State (granule_of referent.0 / GRANULES_IN_BLOCK));
+    next = block_next (is_chosen state);
+    acts = λ r. refl;
+    access_is = refl;
+    goes = block_goes (is_chosen state) refl;
+    leads = λ old told. block_shown (is_chosen old) ∙ ap (λ w. block_next (is_chosen w)) told;
+  }
+
+-- ---- the remembered set
+
+module _ (b : Beginning) (s : EpochState) (d : TracerState) (scan : Scan) where
+  -- it reads the reuse counter of the field's line
+  pub reads_reuse : Leads b s d (phase.ReadsReuse scan)
+  reads_reuse = record {
+    access = access.Look (table_entry.Reuse (field_word scan.place.0 scan.index / WORDS_IN_LINE));
+    next = DrawsNumber scan.place.0 scan.refs scan.index (s.tables.reuse (field_word scan.place.0 scan.index / WORDS_IN_LINE));
+    acts = λ r. refl;
+    access_is = refl;
+    goes = goes.reads_reuse scan.place.0 scan.refs scan.index;
+    leads = λ old told. ap (DrawsNumber scan.place.0 scan.refs scan.index) told;
+  }
+
+  -- the number that it draws
+  abbrev number : ℕ
+  number = s.tables.cursors REMEMBERED_CURSOR
+
+  -- what it is about to do then, by whether the set has room for it
+  abbrev drawn_next : ℕ → Bool → Tracing
+  drawn_next counter true = Enters scan.place.0 scan.refs scan.index counter number
+  drawn_next counter false = scanned_next scan.place.0 scan.refs (scan.index + 1)
+
+  drawn_goes : (counter : ℕ) (room : Bool) → nat_lt number (limits_of b).remember ≡ room
+      → TracerGoes (limits_of b).blocks (limits_of b).remember s.tables (DrawsNumber scan.place.0 scan.refs scan.index counter) (drawn_next counter room)
+  drawn_goes counter true e = goes.has_room scan.place.0 scan.refs scan.index counter (is_below number (limits_of b).remember e)
+  drawn_goes counter false e = goes.is_full scan.place.0 scan.refs scan.index counter (is_not_below number (limits_of b).remember e)
+
+  drawn_shown : (counter : ℕ) (room : Bool) → tracing_of (if room then in_phase d (phase.Enters scan counter number) else scanned d (record scan { overflowed = true })) ≡ drawn_next counter room
+  drawn_shown counter true = refl
+  drawn_shown counter false = scanned_shown d (record scan { overflowed = true })
+
+  -- it draws a number
+  pub draws_number : (counter : ℕ) → d.regions ≡ regions_of (limits_of b) → Leads b s d (phase.DrawsNumber scan counter)
+  draws_number counter regions = record {
+    access = access.Draw REMEMBERED_CURSOR;
+    next = drawn_next counter (nat_lt number (limits_of b).remember);
+    acts = λ r. refl;
+    access_is = refl;
+    goes = drawn_goes counter (nat_lt number (limits_of b).remember) refl;
+    leads = λ old told. ap (λ w. tracing_of (drawn d scan counter w)) told
+        ∙ ap (λ room. tracing_of (if nat_lt number room then in_phase d (phase.Enters scan counter number) else scanned d (record scan { overflowed = true }))) (room_is (limits_of b) d.regions regions)
+        ∙ drawn_shown counter (nat_lt number (limits_of b).remember);
+  }
+
+  -- it writes the entry
+  pub enters : (counter number : ℕ) → Leads b s d (phase.Enters scan counter number)
+  enters counter number = record {
+    access = access.PutRemembered number (word_of_entry counter (record { 0 = scan.place.0 }) scan.index);
+    next = scanned_next scan.place.0 scan.refs (scan.index + 1);
+    acts = λ r. refl;
+    access_is = refl;
+    goes = goes.enters scan.place.0 scan.refs scan.index counter number;
+    leads = λ old told. scanned_shown d scan;
+  }

@@ -21,7 +21,7 @@ use Rattle.lxr_core_sim_tracer.specs.Showing.{tracing_in, tracing_of}
 use Rattle.lxr_core_sim_tracer.specs.Stepping.{TracerStepIs, TracerStepsAreEvents, ShowsTracer}
 use Rattle.lxr_core_sim_tracer.proofs.OutcomeLemmas.{Leads, by_phase}
 use Rattle.lxr_core_sim_tracer.proofs.AskingSteps.{asks_gray, asks_object, finds_nothing, marks}
-use Rattle.lxr_core_sim_tracer.proofs.ScanningSteps.{asks_block, asks_referent, grays_referent, reads_shape, scans}
+use Rattle.lxr_core_sim_tracer.proofs.ScanningSteps.{asks_block, asks_referent, draws_number, enters, grays_referent, reads_reuse, reads_shape, scans}
 
 -- ---- what is tried
 
@@ -79,10 +79,16 @@ step_in b s words i d (phase.GraysReferent scan referent) shows some =
     by_phase b s words i e shows some (goes_on _) (grays_referent b s e scan referent)
 step_in b s words i d (phase.AsksBlock scan referent) shows some =
     let e = in_phase d (phase.AsksBlock scan referent) in
-    by_phase b s words i e shows some (goes_on _) (asks_block b s e scan referent shows.epoch (shows.epoch.scanned.knows i (tracing_in (phase.AsksBlock scan referent)) shows.shows).1)
-step_in b s words i d (phase.ReadsReuse scan) shows some = absurd (shows.epoch.scanned.knows i (tracing_in (phase.ReadsReuse scan)) shows.shows)
-step_in b s words i d (phase.DrawsNumber scan counter) shows some = absurd (shows.epoch.scanned.knows i (tracing_in (phase.DrawsNumber scan counter)) shows.shows)
-step_in b s words i d (phase.Enters scan counter number) shows some = absurd (shows.epoch.scanned.knows i (tracing_in (phase.Enters scan counter number)) shows.shows)
+    by_phase b s words i e shows some (goes_on _) (asks_block b s e scan referent)
+step_in b s words i d (phase.ReadsReuse scan) shows some =
+    let e = in_phase d (phase.ReadsReuse scan) in
+    by_phase b s words i e shows some (goes_on _) (reads_reuse b s e scan)
+step_in b s words i d (phase.DrawsNumber scan counter) shows some =
+    let e = in_phase d (phase.DrawsNumber scan counter) in
+    by_phase b s words i e shows some (goes_on _) (draws_number b s e scan counter shows.tracer.regions)
+step_in b s words i d (phase.Enters scan counter number) shows some =
+    let e = in_phase d (phase.Enters scan counter number) in
+    by_phase b s words i e shows some (goes_on _) (enters b s e scan counter number)
 step_in b s words i d phase.FindsNothing shows some =
     let e = in_phase d phase.FindsNothing in
     by_phase b s words i e shows some (goes_on _) (finds_nothing b s e)

@@ -1,7 +1,8 @@
--- A full heap has an object in each block, and so at least as many objects as blocks: names are taken out block by block.
+-- A full heap has an object in each block that isn't Chosen, and so at least as many objects as such blocks: names are taken out block by
+-- block.
 -- All objects but the world take all lines behind the world's three, so they can leave no run where none is left.
 use Rattle.std.proofs.Common.{◌≡◌, ◌≢◌, ℕ, zero, suc, ◌+◌, ◌-◌, ◌*◌, ◌/◌, ◌<◌, ◌≤◌, refl, sym, ap, subst, ◌∙◌, inl, inr, ◌⊎◌, arith, Bool, true, false, nat_eq, List, [], ◌∷◌, ◌++◌, length}
-use Rattle.std.specs.Prelude.{◌↔◌, Some, IsTrue, not, map, filter}
+use Rattle.std.specs.Prelude.{◌↔◌, Some, IsTrue, not, map, filter, if◌then◌else◌}
 use Rattle.std.proofs.Math.Nat.{mul-le-mul_right}
 use Rattle.std.proofs.lemmas.Bool.{cases_Bool, false_from_ne_true, or_cases, or_left, or_right}
 use Rattle.std.proofs.lemmas.Bool.Decides.{nat_tests}
@@ -35,9 +36,8 @@ use Rattle.lxr_full.specs.Taken.{LinesAreTaken}
 use Rattle.lxr_full.proofs.TakenLemmas.{taken_leaves_no_run}
 use Rattle.lxr_invariant.specs.AbstractState.{AbstractState, members}
 use Rattle.lxr_invariant.specs.Standing.{entry_of}
-use Rattle.lxr_invariant.specs.Lines.{Covers, IsTakenBy, NoneChosen, OutsAreTaken, chosen_count, is_chosen}
+use Rattle.lxr_invariant.specs.Lines.{Covers, IsTakenBy, OutsAreTaken, chosen_count, is_chosen}
 use Rattle.lxr_invariant.specs.Quiescent.{HoldsMoment, IsQuiescent}
-use Rattle.lxr_invariant.proofs.BlockLemmas.{none_counted}
 use Rattle.lxr_full.specs.Room.{CollectedFullLeavesNoRun, HasWorld, LogIsWritten, RoomlessBlocksAreTaken, WaitingMayCollect}
 use Rattle.lxr_full.proofs.TakenLines.{all_or_one, line_taken}
 
@@ -50,9 +50,9 @@ some_length : (ns : List Name) (n : Name) → IsTrue (has ns n) → 1 ≤ length
 some_length [] n h = absurd (cc)
 some_length (m ∷ ns) n h = omega arith
 
--- a list has a name for each of the numbers below one
-abbrev pub HasEach : (Name → ℕ) → List Name → ℕ → Type 0
-HasEach f ns n = (b : ℕ) → b < n → (x : Name) × IsTrue (has ns x) × (f x ≡ b)
+-- a list has a name for each of the numbers below one of blocks that aren't Chosen
+abbrev pub HasEach : Tables → (Name → ℕ) → List Name → ℕ → Type 0
+HasEach t f ns n = (b : ℕ) → b < n → state_in t b ≢ Chosen → (x : Name) × IsTrue (has ns x) × (f x ≡ b)
 
 -- the names of a number, and all others
 abbrev of_number : (Name → ℕ) → ℕ → Name → Bool
@@ -61,27 +61,40 @@ of_number f n x = nat_eq (f x) n
 abbrev of_others : (Name → ℕ) → ℕ → Name → Bool
 of_others f n x = not (of_number f n x)
 
-others_stay : (f : Name → ℕ) (ns : List Name) (n : ℕ) → HasEach f ns (n + 1) → HasEach f (filter (of_others f n) ns) n
-others_stay f ns n all b below =
-    let x = all b (omega (arith, below)) in
+others_stay : (t : Tables) (f : Name → ℕ) (ns : List Name) (n : ℕ) → HasEach t f ns (n + 1) → HasEach t f (filter (of_others f n) ns) n
+others_stay t f ns n all b below unchosen =
+    let x = all b (omega (arith, below)) unchosen in
     let other : of_number f n x.0 ≡ false = let is = x.2 in grind (arith, nat_tests, is, below) in
     (x.0, in_filter (of_others f n) ns x.0 (ap not other) x.1, x.2)
 
-one_goes : (f : Name → ℕ) (ns : List Name) (n : ℕ) → HasEach f ns (n + 1) → 1 ≤ length (filter (of_number f n) ns)
-one_goes f ns n all =
-    let x = all n (omega arith) in
+one_goes : (t : Tables) (f : Name → ℕ) (ns : List Name) (n : ℕ) → state_in t n ≢ Chosen → HasEach t f ns (n + 1) → 1 ≤ length (filter (of_number f n) ns)
+one_goes t f ns n unchosen all =
+    let x = all n (omega arith) unchosen in
     let own : of_number f n x.0 ≡ true = let is = x.2 in grind (arith, nat_tests, is) in
     some_length (filter (of_number f n) ns) x.0 (in_filter (of_number f n) ns x.0 own x.1)
 
+-- a block is Chosen, and counts as such, or isn't
+chosen_or_open : (state : BlockState) → (1 ≤ (if is_chosen state then 1 else 0)) ⊎ (state ≢ Chosen)
+chosen_or_open state = elim (is_chosen state) as (λ c. is_chosen state ≡ c → (1 ≤ (if c then 1 else 0)) ⊎ (state ≢ Chosen)) [
+  | true ↦ λ e. inl (omega arith)
+  | false ↦ λ e. inr (λ chosen. let both : false ≡ true = sym e ∙ ap is_chosen chosen in cc)
+] refl
+
 -- it has at least as many names then
-pub pigeonhole : (f : Name → ℕ) (ns : List Name) (n : ℕ) → HasEach f ns n → n ≤ length ns
-pigeonhole f ns zero all = omega arith
-pigeonhole f ns (suc n) all =
-    let each : HasEach f ns (n + 1) = λ b below. all b (omega (arith, below)) in
-    let some = one_goes f ns n each in
-    let rest = pigeonhole f (filter (of_others f n) ns) n (others_stay f ns n each) in
-    let both = length-filter_both (of_number f n) (of_others f n) (λ x. refl) ns in
-    omega (arith, some, rest, both)
+pub pigeonhole : (t : Tables) (f : Name → ℕ) (ns : List Name) (n : ℕ) → HasEach t f ns n → n ≤ chosen_count t n + length ns
+pigeonhole t f ns zero all = omega arith
+pigeonhole t f ns (suc n) all =
+    let each : HasEach t f ns (n + 1) = λ b below unchosen. all b (omega (arith, below)) unchosen in
+    elim (chosen_or_open (state_in t n)) [
+      | inl chosen ↦
+          let rest = pigeonhole t f ns n (λ b below unchosen. all b (omega (arith, below)) unchosen) in
+          omega (arith, chosen, rest)
+      | inr unchosen ↦
+          let some = one_goes t f ns n unchosen each in
+          let rest = pigeonhole t f (filter (of_others f n) ns) n (others_stay t f ns n each) in
+          let both = length-filter_both (of_number f n) (of_others f n) (λ x. refl) ns in
+          omega (arith, some, rest, both)
+    ]
 
 -- ---- each block is taken
 
@@ -120,15 +133,15 @@ member_takes s g holds outs =
     line_taken (tables_of s) s.limits.blocks g.moment.state.graph g.at g.moment.unreclaimed (members g.moment) holds.image.image
     (λ n h. in_members g.moment n (inl h)) holds.marks outs
 
-block_is_taken : (s : Space) (g : AbstractState) (shape : Shape) → IsQuiescent s g → NoneChosen (tables_of s) s.limits.blocks → FitsShape shape → IsFull s shape → (b : ℕ) → b < s.limits.blocks
+block_is_taken : (s : Space) (g : AbstractState) (shape : Shape) → IsQuiescent s g → FitsShape shape → IsFull s shape → (b : ℕ) → b < s.limits.blocks → state_in (tables_of s) b ≢ Chosen
     → (n : Name) × IsTrue (has (members g.moment) n) × (granule_of (g.at n) / GRANULES_IN_BLOCK ≡ b)
-block_is_taken s g shape between unchosen fits full b below =
+block_is_taken s g shape between fits full b below unchosen =
     let holds = between.safepoint.holds in
     elim (all_or_one (λ i. IsTrue (free_in (tables_of s) b i)) LINES_IN_BLOCK (told_free (tables_of s) b)) [
       | inl free ↦ absurd (full.lines (record { block = b; line = 0; lines = LINES_IN_BLOCK })
           (record {
             run = record { block = below; within = omega arith; free = λ i low high. free i (omega (arith, high)) };
-            outside = none_counted (tables_of s) s.limits.blocks b unchosen below;
+            outside = unchosen;
           })
           (whole_is_long shape fits))
       | inr x ↦ begins_in_block (tables_of s) s.limits.blocks g.moment.state.graph g.at (members g.moment) b x.0 holds.image.image x.1
@@ -136,10 +149,11 @@ block_is_taken s g shape between unchosen fits full b below =
     ]
 
 pub roomless_blocks_are_taken : RoomlessBlocksAreTaken
-roomless_blocks_are_taken s g shape between unchosen fits full =
-    let many = pigeonhole (λ n. granule_of (g.at n) / GRANULES_IN_BLOCK) (members g.moment) s.limits.blocks (block_is_taken s g shape between unchosen fits full) in
+roomless_blocks_are_taken s g shape between fits full =
+    let many = pigeonhole (tables_of s) (λ n. granule_of (g.at n) / GRANULES_IN_BLOCK) (members g.moment) s.limits.blocks (block_is_taken s g shape between fits full) in
+    let few = between.safepoint.holds.blocks.few in
     let sum = length-append g.moment.unreclaimed g.moment.made in
-    omega (arith, many, sum)
+    omega (arith, many, few, sum)
 
 -- ---- what all objects but the world take
 

@@ -19,10 +19,11 @@ use Rattle.lxr_invariant.specs.AbstractState.{AbstractState}
 use Rattle.lxr_invariant.specs.Lines.{NoneChosen}
 use Rattle.lxr_invariant.specs.Quiescent.{IsAtSafepoint, IsQuiescent}
 
--- Where no room is left between epochs and no block is Chosen, each block has an object. So objects are at least as many as blocks.
+-- Where no room is left between epochs, each block that isn't Chosen has an object. So objects are at least as many as these blocks, and at most
+-- an eighth of all blocks is Chosen.
 abbrev pub RoomlessBlocksAreTaken : Type 0
-RoomlessBlocksAreTaken = (s : Space) (g : AbstractState) (shape : Shape) → IsQuiescent s g → NoneChosen (tables_of s) s.limits.blocks → FitsShape shape → IsFull s shape
-    → s.limits.blocks ≤ length g.moment.unreclaimed + length g.moment.made
+RoomlessBlocksAreTaken = (s : Space) (g : AbstractState) (shape : Shape) → IsQuiescent s g → FitsShape shape → IsFull s shape
+    → s.limits.blocks - s.limits.blocks / 8 ≤ length g.moment.unreclaimed + length g.moment.made
 
 -- the world has the 64 references of the opening, and no data
 abbrev pub HasWorld : Graph → Type 0

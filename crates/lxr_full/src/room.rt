@@ -2,14 +2,14 @@
 //!
 //! A heap is full for a shape where neither the rest nor free lines in a row fit it. A line that isn't free is
 //! overlapped by an object: it is out, or one of its granules begins an unreclaimed object or is a line mark of one.
-//! So where no block is Chosen, a full heap has an object in each of its blocks. Whatever blocks are Chosen, the objects
+//! So a full heap has an object in each block that isn't Chosen. Whatever blocks are Chosen, the objects
 //! that are unreclaimed or new can leave no run for the shape in the others; and right after a pause that left exactly
 //! what is reachable, these alone can leave none. Blocks and lines are those of Immix (Blackburn and McKinley, 2008),
 //! line marks in the table of counts those of LXR (Zhao, Blackburn and McKinley, 2022). The functions here do
 //! nothing: the contract of each is a law.
 ghost use Rattle.lxr_full.specs.Room.{CollectedFullLeavesNoRun, LogIsWritten, RoomlessBlocksAreTaken, WaitingMayCollect, WorldKeepsShape};
 
-/// Where no room is left between epochs and no block is Chosen, there are at least as many objects as blocks.
+/// Where no room is left between epochs, there are at least as many objects as blocks that aren't Chosen, and these are all but an eighth.
 pub fn roomless_blocks_are_taken()
     ensures { RoomlessBlocksAreTaken }
 {}

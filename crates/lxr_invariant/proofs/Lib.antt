@@ -8,5 +8,6 @@ pub mod ToldLemmas
 pub mod MemberLemmas
 pub mod KeepingLemmas
 pub mod InsideLemmas
+pub mod ScanLemmas
 pub mod CopiedLemmas
 pub mod LandingLemmas

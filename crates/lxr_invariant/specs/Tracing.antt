@@ -1,6 +1,6 @@
 -- What holds of marks, grays and remembered entries at a safepoint while a trace runs. A marked object counts as scanned, and
 -- one that is done as handled.
-use Rattle.std.specs.Prelude.{◌≡◌, ℕ, ◌+◌, ◌*◌, ◌/◌, ◌^◌, ◌<◌, ◌≤◌, ◌⊎◌, ⊤, false, Option, Some, None, List, IsTrue, slice_get}
+use Rattle.std.specs.Prelude.{◌≡◌, ℕ, ◌+◌, ◌*◌, ◌/◌, ◌^◌, ◌<◌, ◌≤◌, ◌⊎◌, ◌&&◌, ⊤, not, Bool, false, Option, Some, None, List, IsTrue, filter, slice_get}
 use Rattle.lxr_invariant.specs.Standing.{word_of_field}
 use Rattle.lxr_layout.specs.declared.TheConstants.{GRANULES_IN_BLOCK, REMEMBERED_CURSOR, WORDS_IN_BLOCK, WORDS_IN_LINE}
 use Rattle.lxr_layout.specs.declared.limits.Limits.{Limits}
@@ -16,6 +16,7 @@ use Rattle.lxr_image.specs.Reads.{granule_of}
 use Rattle.lxr_blocks.specs.declared.states.BlockState.TheVariants.{Chosen}
 use Rattle.lxr_blocks.specs.States.{state_in}
 use Rattle.lxr_model.specs.Reachable.{Holds, Reachable, Refers}
+use Rattle.lxr_model.specs.References.{reference_slots}
 use Rattle.lxr_model.specs.Moments.{Moment, Trace, rememberable}
 use Rattle.lxr_model_counting.specs.Following.{IsLive}
 pub use Rattle.lxr_model_counting.specs.Garbage.{IsGarbageOf}
@@ -109,14 +110,27 @@ pub record IsEntryWord (l : Limits) (word : ℕ) (c : ℕ) (p : Place) (i : ℕ)
 abbrev pub IsScanned : Tables → (Name → ℕ) → Trace → Name → Type 0
 IsScanned t at trace n = IsMarked t at n ⊎ (has trace.unreclaimed n ≡ false)
 
+-- the object of a name stands in a Chosen block
+abbrev pub IsInChosen : Tables → (Name → ℕ) → Name → Type 0
+IsInChosen t at n = state_in t (granule_of (at n) / GRANULES_IN_BLOCK) ≡ Chosen
+
+-- the object of a name is unreclaimed, and no tracer has marked it yet
+abbrev pub is_unscanned : Tables → Moment → (Name → ℕ) → Name → Bool
+is_unscanned t m at n = has m.unreclaimed n && not (t.marks (granule_of (at n)))
+
+-- how many references such objects of a snapshot have: those that are still to be scanned
+abbrev pub unscanned_slots : Tables → Moment → (Name → ℕ) → List Name → ℕ
+unscanned_slots t m at snapshot = reference_slots m.last.graph (filter (is_unscanned t m at) snapshot)
+
 -- Remembered so far: each reference of a scanned or promoted object that points into a Chosen block, and that wasn't stored
--- to since the last pause, is remembered, unless the set has overflowed. No more fields were remembered than may be.
-pub record IsRememberedSoFar (l : Limits) (t : Tables) (m : Moment) (at : Name → ℕ) (trace : Trace) (most : ℕ) : Type 0 where
+-- to since the last pause, is remembered, unless the set has overflowed. No more fields were remembered than may be: all that are still to
+-- be scanned may be remembered too.
+pub record IsRememberedSoFar (l : Limits) (t : Tables) (m : Moment) (at : Name → ℕ) (trace : Trace) (snapshot : List Name) : Type 0 where
   pub fields : (n v : Name) (i : ℕ) → IsTrue (has m.unreclaimed n) → IsScanned t at trace n
       → slice_get (refs_of (object_at m.state.graph n)) i ≡ Some (Some v) → IsTrue (t.unlogged (word_of_field at n i))
-      → state_in t (granule_of (at v) / GRANULES_IN_BLOCK) ≡ Chosen → IsRemembered l t at n i ⊎ HasOverflowed l t
+      → IsInChosen t at v → IsRemembered l t at n i ⊎ HasOverflowed l t
   pub entries : (k : ℕ) → k < t.cursors REMEMBERED_CURSOR → k < l.remember → (c : ℕ) × (p : Place) × (i : ℕ) × IsEntryWord l (t.remembered k) c p i
-  pub drawn : t.cursors REMEMBERED_CURSOR ≤ most
+  pub bound : t.cursors REMEMBERED_CURSOR + unscanned_slots t m at snapshot ≤ rememberable trace snapshot
 
 -- all of this, for the trace that runs and the names of its snapshot
 pub record TraceHolds (l : Limits) (t : Tables) (entries : List LogEntry) (g : AbstractState) (trace : Trace) : Type 0 where
@@ -125,7 +139,7 @@ pub record TraceHolds (l : Limits) (t : Tables) (entries : List LogEntry) (g : A
   pub covered : SnapshotIsCovered t g.moment g.at entries trace
   pub inside : MarksStayInside t g.moment g.at trace
   pub handled : HandledAreGray t g.moment g.at
-  pub remembered : IsRememberedSoFar l t g.moment g.at trace (rememberable trace snapshot)
+  pub remembered : IsRememberedSoFar l t g.moment g.at trace snapshot
   pub few : rememberable trace snapshot ≤ 2 ^ 23 * (g.moment.number + 1)
 
 -- nothing is asked where none runs

@@ -8,7 +8,7 @@ use Rattle.std.proofs.lemmas.Map.Views.{any-filter_same}
 use Rattle.lxr_layout.specs.declared.Name.{Name}
 use Rattle.lxr_layout.specs.declared.TheConstants.{REMEMBERED_CURSOR}
 use Rattle.lxr_graph.specs.Names.{AreInOrder, IsSetOf, has, name_order, same_name}
-use Rattle.lxr_graph.specs.State.{object_at, world_name}
+use Rattle.lxr_graph.specs.State.{State, object_at, world_name}
 use Rattle.lxr_graph.specs.History.{PauseReport}
 use Rattle.lxr_graph.proofs.NameSets.{not_both, same_names}
 use Rattle.lxr_image.specs.declared.space.Space.{Space}
@@ -18,14 +18,16 @@ use Rattle.lxr_image.specs.Reads.{granule_of}
 use Rattle.lxr_model.specs.Dead.{Dead}
 use Rattle.lxr_model.specs.Moments.{Moment, Trace, rememberable}
 use Rattle.lxr_model.specs.Reachable.{Reachable, Refers, held, referred, the_world}
+use Rattle.lxr_model.specs.References.{reference_slots}
 use Rattle.lxr_model.proofs.DecideLemmas.{decide_reachable}
 use Rattle.lxr_model_counting.specs.Garbage.{IsGarbageOf}
 use Rattle.lxr_model_counting.proofs.DistinctLemmas.{in_order_distinct}
 use Rattle.lxr_model_counting.proofs.LeavingLemmas.{garbage_referred}
 use Rattle.lxr_invariant.specs.Counting.{IsUndecremented}
 use Rattle.lxr_invariant.specs.Settled.{IsSettled}
-use Rattle.lxr_invariant.specs.Tracing.{IsCovered, IsInSnapshot, IsRememberedSoFar, IsRoot, MarksStayInside, SnapshotIsCovered, StaysGarbage, TraceHolds}
+use Rattle.lxr_invariant.specs.Tracing.{IsCovered, IsInSnapshot, IsRememberedSoFar, IsRoot, MarksStayInside, SnapshotIsCovered, StaysGarbage, TraceHolds, is_unscanned}
 use Rattle.lxr_invariant.proofs.NameLemmas.{in_first}
+use Rattle.lxr_invariant.proofs.ScanLemmas.{slots_within}
 use Rattle.lxr_sweep_trace.specs.Tracing.{BeginsTrace}
 use Rattle.lxr_pause_trace.specs.Laws.{BeginningTraces, fresh_trace}
 use Rattle.lxr_pause_trace.proofs.EndLemmas.{live_now, root_reachable}
@@ -143,14 +145,18 @@ module _ (before after : Space) (m : Moment) (at : Name → ℕ) (reported : Pau
   cursor : u.cursors REMEMBERED_CURSOR ≡ 0
   cursor = ap (λ z. z.cursors REMEMBERED_CURSOR) begins.tables ∙ forgotten
 
-  remembered : IsRememberedSoFar after.limits u m at trace (rememberable trace listed.names)
+  remembered : IsRememberedSoFar after.limits u m at trace listed.names
   remembered = record {
     fields = λ n v i h scanned e bit chosen. elim scanned [
       | inl marked ↦ not_both (u.marks (granule_of (at n))) marked (begins.none_marked (granule_of (at n)))
       | inr young ↦ not_both (has m.unreclaimed n) h young
     ];
     entries = λ j drawn within. let none = cursor in absurd (omega (arith, drawn, none));
-    drawn = let none = cursor in omega (arith, none);
+    bound =
+        let none = cursor in
+        let within = slots_within m.last.graph (is_unscanned u m at) listed.names in
+        let same = ap (λ (s : State). reference_slots s.graph listed.names) settled.same in
+        omega (arith, none, within, same);
   }
 
   -- the references of the snapshot's objects are at most the heap's words

@@ -10,7 +10,7 @@ use Rattle.std.proofs.lemmas.List.Sorted.{length_permutation}
 use Rattle.lxr_layout.specs.declared.Name.{Name}
 use Rattle.lxr_layout.specs.declared.TheConstants.{GRANULES_IN_BLOCK, REMEMBERED_CURSOR}
 use Rattle.lxr_graph.specs.Names.{has}
-use Rattle.lxr_graph.specs.State.{object_at, world_name}
+use Rattle.lxr_graph.specs.State.{object_at, refs_of, world_name}
 use Rattle.lxr_graph.proofs.NameSets.{not_both, union_cases, union_left, union_right}
 use Rattle.lxr_image.specs.declared.space.Space.{Space}
 use Rattle.lxr_image.specs.Tables.{Tables}
@@ -33,6 +33,7 @@ use Rattle.lxr_invariant.specs.Standing.{entry_of}
 use Rattle.lxr_invariant.specs.Tracing.{IsCovered, IsGray, IsInSnapshot, IsMarked, IsOldValue, IsRememberedSoFar, IsToBeScanned, IsYounger, MarksStayInside, SnapshotIsCovered, StaysGarbage, TraceHolds}
 use Rattle.lxr_invariant.proofs.BlockLemmas.{none_counted, still_not}
 use Rattle.lxr_invariant.proofs.InsideLemmas.{inside_unless_garbage}
+use Rattle.lxr_invariant.proofs.ScanLemmas.{fewer_later, slots}
 use Rattle.lxr_pause_increments.specs.Raising.{Raises, RaisesGrays, RaisesMarks}
 use Rattle.lxr_pause_queue.specs.Queueing.{Queues}
 use Rattle.lxr_pause_trace.specs.Laws.{CountingKeepsTrace, KeepsObjectsOf, settled_next, with_slots}
@@ -243,13 +244,30 @@ module _ (found raised queued : Space) (g : AbstractState) (at' : Name → ℕ) 
   more : rememberable trace is.snapshot ≤ rememberable goes_on is.snapshot
   more = omega arith
 
-  remembered : IsRememberedSoFar found.limits u now at' goes_on (rememberable goes_on is.snapshot)
+  -- an object has as many references as it had at the last pause
+  as_many : (n : Name) → IsTrue (has m.unreclaimed n) → slots now.last.graph n ≡ slots m.last.graph n
+  as_many n h =
+      let shape = holds.follows.objects n h in
+      ap (λ z. length (refs_of z)) shape.3 ∙ shape.4.refs ∙ sym (ap (λ z. length (refs_of z)) shape.2)
+
+  -- what is promoted is marked, so what is still to be scanned was so
+  was_unscanned : (n : Name) → IsTrue (has all n) → u.marks (granule_of (at' n)) ≡ false → IsTrue (has m.unreclaimed n) × (t.marks (granule_of (at n)) ≡ false) × (slots now.last.graph n ≡ slots m.last.graph n)
+  was_unscanned n k unmarked = elim (union_cases promoted m.unreclaimed n k) [
+    | inl p ↦ not_both (u.marks (granule_of (at' n))) (new_marked n p) unmarked
+    | inr h ↦ (h, false_from_ne_true (t.marks (granule_of (at n))) (λ was. not_both (u.marks (granule_of (at' n))) (stays_marked n h was) unmarked), as_many n h)
+  ]
+
+  remembered : IsRememberedSoFar found.limits u now at' goes_on is.snapshot
   remembered = record {
     fields = λ n v i k scan e bit chosen. absurd (none_chosen v (queues.holds.follows.closed n v k (i, e)) chosen);
     entries = λ k drawn within.
         let r = is.remembered.entries k (subst (λ z. k < z) cursor drawn) within in
         (r.0, r.1, r.2, record { is = ap (λ f. f k) (queues.keeps.remembered ∙ raises.keeps.remembered) ∙ r.3.is; entry = r.3.entry; in_heap = r.3.in_heap });
-    drawn = let drawn = is.remembered.drawn in let same = cursor in omega (arith, drawn, same, more);
+    bound =
+        let bound = is.remembered.bound in
+        let same = cursor in
+        let fewer = fewer_later t u m now at at' is.snapshot was_unscanned in
+        omega (arith, bound, same, fewer, more);
   }
 
   -- at most 2 ^ 22 references are promoted, and at most 2 ^ 20 were stored to
@@ -277,7 +295,7 @@ module _ (found raised queued : Space) (g : AbstractState) (at' : Name → ℕ) 
     covered = snapshot_covered;
     inside = stay_inside;
     handled = λ x n k done f. not_both (u.dones (granule_of (at' x))) done (queues.undecremented.none_done (granule_of (at' x)));
-    remembered = subst (λ l. IsRememberedSoFar l u now at' goes_on (rememberable goes_on is.snapshot)) (sym limits) remembered;
+    remembered = subst (λ l. IsRememberedSoFar l u now at' goes_on is.snapshot) (sym limits) remembered;
     few = few;
   }
 

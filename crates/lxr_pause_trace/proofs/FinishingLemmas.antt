@@ -1,6 +1,6 @@
 -- What is reclaimed by counting hides nothing from a trace: it is dead, so it is no garbage of the trace and isn't stored to, and what it
 -- referred to is gray now.
-use Rattle.std.proofs.Common.{◌≡◌, ℕ, ◌/◌, ◌<◌, ◌≤◌, sym, ap, subst, ◌∙◌, inl, inr, ◌⊎◌, false, List, IsTrue, ◌≢◌}
+use Rattle.std.proofs.Common.{◌≡◌, ℕ, ◌/◌, ◌<◌, refl, sym, ap, subst, ◌∙◌, inl, inr, ◌⊎◌, arith, false, List, IsTrue, ◌≢◌}
 use Rattle.std.specs.Prelude.{Some}
 use Rattle.std.proofs.lemmas.Bool.{false_from_ne_true}
 use Rattle.lxr_layout.specs.declared.Name.{Name}
@@ -13,7 +13,7 @@ use Rattle.lxr_image.specs.Tables.{Tables}
 use Rattle.lxr_image.specs.Spaces.{tables_of}
 use Rattle.lxr_image.specs.Reads.{granule_of}
 use Rattle.lxr_blocks.specs.States.{state_of}
-use Rattle.lxr_model.specs.Moments.{Moment, Trace, rememberable}
+use Rattle.lxr_model.specs.Moments.{Moment, Trace}
 use Rattle.lxr_model.specs.Reachable.{Refers}
 use Rattle.lxr_model.proofs.ReachableLemmas.{dead_apart, dead_parts}
 use Rattle.lxr_model_counting.specs.Distinct.{has_field}
@@ -25,6 +25,7 @@ use Rattle.lxr_invariant.specs.Standing.{IsUnwritten}
 use Rattle.lxr_invariant.specs.Tracing.{IsCovered, IsInSnapshot, IsOldValue, IsRememberedSoFar, IsScanned, IsToBeScanned, MarksStayInside, SnapshotIsCovered, StaysGarbage, TraceHolds}
 use Rattle.lxr_invariant.proofs.InsideLemmas.{garbage_not_dead, inside_unless_garbage, referred_inside}
 use Rattle.lxr_invariant.proofs.NameLemmas.{in_first}
+use Rattle.lxr_invariant.proofs.ScanLemmas.{fewer_later}
 use Rattle.lxr_pause_decrements.specs.Finishing.{Finishes, FinishesGrays, GraysReferents}
 use Rattle.lxr_pause_trace.specs.Laws.{FinishingKeepsTrace}
 use Rattle.lxr_pause_trace.proofs.GranuleLemmas.{one_name, remembered_still}
@@ -159,7 +160,7 @@ module _ (before after : Space) (g : AbstractState) (trace : Trace) (gone : List
   cursor : u.cursors REMEMBERED_CURSOR ≡ t.cursors REMEMBERED_CURSOR
   cursor = finishes.keeps.cursors REMEMBERED_CURSOR (λ e. cc) (λ e. cc)
 
-  remembered : IsRememberedSoFar before.limits u now at trace (rememberable trace is.snapshot)
+  remembered : IsRememberedSoFar before.limits u now at trace is.snapshot
   remembered = record {
     fields = λ n v i k scan e bit chosen.
         elim (is.remembered.fields n v i (was_there n k) (was_scanned n k scan) e (was_unlogged _ bit) (sym (ap (λ f. state_of (f (granule_of (at v) / GRANULES_IN_BLOCK))) finishes.states) ∙ chosen)) [
@@ -169,7 +170,11 @@ module _ (before after : Space) (g : AbstractState) (trace : Trace) (gone : List
     entries = λ k drawn within.
         let r = is.remembered.entries k (subst (λ z. k < z) cursor drawn) within in
         (r.0, r.1, r.2, record { is = ap (λ f. f k) finishes.keeps.remembered ∙ r.3.is; entry = r.3.entry; in_heap = r.3.in_heap });
-    drawn = subst (λ z. z ≤ rememberable trace is.snapshot) (sym cursor) is.remembered.drawn;
+    bound =
+        let bound = is.remembered.bound in
+        let same = cursor in
+        let fewer = fewer_later t u m now at at is.snapshot (λ n k unmarked. (was_there n k, sym (same_mark n k) ∙ unmarked, refl)) in
+        omega (arith, bound, same, fewer);
   }
 
   holds_on : TraceHolds after.limits u after.logged.items (record g { moment = now }) trace
@@ -179,7 +184,7 @@ module _ (before after : Space) (g : AbstractState) (trace : Trace) (gone : List
     covered = snapshot_covered;
     inside = stay_inside;
     handled = λ x n k done f. not_both (u.dones (granule_of (at x))) done (finishes.undecremented.none_done (granule_of (at x)));
-    remembered = subst (λ z. IsRememberedSoFar z.limits u now at trace (rememberable trace is.snapshot)) (sym finishes.space) remembered;
+    remembered = subst (λ z. IsRememberedSoFar z.limits u now at trace is.snapshot) (sym finishes.space) remembered;
     few = is.few;
   }
 

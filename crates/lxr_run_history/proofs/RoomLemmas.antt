@@ -1,6 +1,6 @@
 -- What a history says where no room is left for a `new` that waits: right after a collecting pause it may be refused; else a pause has
 -- a cause, and may collect for it.
-use Rattle.std.proofs.Common.{◌≡◌, ◌≢◌, ℕ, ◌+◌, ◌-◌, ◌/◌, ◌≤◌, ◌↔◌, refl, sym, ap, subst, ◌∙◌, inl, inr, arith, List, [], ◌∷◌, length}
+use Rattle.std.proofs.Common.{◌≡◌, ◌≢◌, ℕ, ◌+◌, ◌-◌, ◌/◌, ◌≤◌, ◌↔◌, refl, sym, ap, subst, ◌∙◌, inl, inr, List, [], ◌∷◌, length}
 use Rattle.std.specs.Prelude.{Some, IsTrue}
 use Rattle.lxr_layout.specs.declared.Name.{Name}
 use Rattle.lxr_layout.specs.declared.Shape.{Shape}
@@ -66,10 +66,10 @@ is_waited_for options script h s g t dest shape r legal between is blocks fits f
 
 -- and one that finds none is a cause of a pause
 pub room_cause : (options : RunOptions) (script : Script) (h : List Item) (s : Space) (g : AbstractState) (t dest : ℕ) (shape : Shape) → 1 ≤ t → t ≤ length script
-    → next_operation script t h ≡ Some (op.New dest shape) → IsQuiescent s g → g.moment ≡ moment (length script) h → NoneChosen (tables_of s) s.limits.blocks → s.limits.blocks ≡ options.blocks → FitsShape shape → IsFull s shape
+    → next_operation script t h ≡ Some (op.New dest shape) → IsQuiescent s g → g.moment ≡ moment (length script) h → s.limits.blocks ≡ options.blocks → FitsShape shape → IsFull s shape
     → HasCause (script_terms options script) script h
-room_cause options script h s g t dest shape low high next between is unchosen blocks fits full =
-    let taken : s.limits.blocks ≤ length g.moment.unreclaimed + length g.moment.made = roomless_blocks_are_taken s g shape between unchosen fits full in
-    let here : s.limits.blocks ≤ length (moment (length script) h).unreclaimed + length (moment (length script) h).made =
-    subst (λ (m : Moment). s.limits.blocks ≤ length m.unreclaimed + length m.made) is taken in
-    inr (t, low, high, inr (inr (inl (subst (λ x. IsTrue (is_new x)) (sym next) refl, omega arith))))
+room_cause options script h s g t dest shape low high next between is blocks fits full =
+    let taken : s.limits.blocks - s.limits.blocks / 8 ≤ length g.moment.unreclaimed + length g.moment.made = roomless_blocks_are_taken s g shape between fits full in
+    let here : s.limits.blocks - s.limits.blocks / 8 ≤ length (moment (length script) h).unreclaimed + length (moment (length script) h).made =
+    subst (λ (m : Moment). s.limits.blocks - s.limits.blocks / 8 ≤ length m.unreclaimed + length m.made) is taken in
+    inr (t, low, high, inr (inr (inl (subst (λ x. IsTrue (is_new x)) (sym next) refl, subst (λ b. b - b / 8 ≤ length (moment (length script) h).unreclaimed + length (moment (length script) h).made) blocks here))))

@@ -11,10 +11,13 @@ use Rattle.lxr_graph.specs.declared.Reply.TheVariants as reply
 use Rattle.lxr_graph.specs.History.{Item, Call}
 use Rattle.lxr_image.specs.declared.space.Space.{Space}
 use Rattle.lxr_image.specs.declared.space.Tally.{Tally}
+use Rattle.lxr_image.specs.Spaces.{tables_of}
 use Rattle.lxr_model.specs.Belongs.{HasCause, IsHistorySoFar}
 use Rattle.lxr_model.specs.Kinds.{ends}
 use Rattle.lxr_model.specs.Moments.{Moment, moment}
 use Rattle.lxr_invariant.specs.AbstractState.{AbstractState}
+use Rattle.lxr_invariant.specs.Lines.{NoneChosen}
+use Rattle.lxr_invariant.proofs.BlockLemmas.{none_kept}
 use Rattle.lxr_invariant.proofs.NameLemmas.{in_first}
 use Rattle.lxr_text_stream.specs.Streams.{Appends}
 use Rattle.lxr_run_watch.specs.Sights.{Sight}
@@ -57,7 +60,6 @@ may_open task space written seen actors h g amid =
         listed = amid.listed;
         all_listed = amid.all_listed;
         moment = come.stands.moment ∙ ap (λ n. moment n h) threads;
-        none_chosen = come.none_chosen;
         counted = subst (λ n. CountsObjects n h) threads (legal_counts (terms_of task) h come.history.0);
       };
       actors_rest = subst (λ l. ActorsRestAfter l task.options.every h actors) (sym come.limits) (record { mutators = amid.actors_rest.mutators.rest; helpers = amid.actors_rest.helpers });
@@ -212,8 +214,8 @@ module _ (task : Task) (space mid after : Space) (written : Option (List ℕ)) (
     history = history;
     stands = record { moment = moment_is; reported = amid.come.stands.reported ∙ sym (report_extends (threads_of task) task.options.every h execution.history extends) };
     safepoint = closes.safepoint;
-    none_chosen = closes.none_chosen;
-    none_remembered = closes.remembered ∙ amid.come.none_remembered;
+    none_chosen = subst (λ (l : Limits). NoneChosen (tables_of after) l.blocks) (sym same_limits) (none_kept (tables_of space) (tables_of after) space.limits.blocks closes.states amid.come.none_chosen);
+    none_remembered = closes.remembered amid.come.none_chosen ∙ amid.come.none_remembered;
     limits = same_limits ∙ limits;
     tally = tally;
     text = subst (Appends task.written written) (sym (text_extends task.options.counts (threads_of task) task.options.every h execution.history extends)) amid.come.text;

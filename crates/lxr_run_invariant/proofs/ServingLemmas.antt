@@ -201,7 +201,7 @@ pub full_cause : (task : Task) (space : Space) (written : Option (List ℕ)) (se
 full_cause task space written seen t m collected served h g dest shape may is full =
     let come = may.come in
     let formed : IsWellFormed (op.New dest shape) = subst IsWellFormed is (formed_now m may.rests.mutator.sound) in
-    room_cause task.options task.script h space g t dest shape may.thread.0 may.thread.1 (next_is task space written seen t m collected served h g may ∙ ap Some is) may.between come.stands.moment come.none_chosen
+    room_cause task.options task.script h space g t dest shape may.thread.0 may.thread.1 (next_is task space written seen t m collected served h g may ∙ ap Some is) may.between come.stands.moment
     (ap (λ (l : Limits). l.blocks) come.limits) formed.1 full
 
 -- and that one may collect for it: this call keeps what such a pause promises

@@ -1,5 +1,5 @@
 -- What holds of a trace stays with another number, another order of stuck names, other states of blocks and another tracing word.
-use Rattle.std.proofs.Common.{◌≡◌, ℕ, ◌/◌, ◌<◌, ◌≤◌, sym, subst, ◌∙◌, inl, inr, ◌⊎◌, arith, List}
+use Rattle.std.proofs.Common.{◌≡◌, ℕ, ◌/◌, ◌<◌, ◌≤◌, refl, sym, subst, ◌∙◌, inl, inr, ◌⊎◌, arith, List}
 use Rattle.std.specs.Prelude.{Option, Some, None}
 use Rattle.lxr_layout.specs.declared.limits.Limits.{Limits}
 use Rattle.lxr_layout.specs.declared.Name.{Name}
@@ -11,9 +11,10 @@ use Rattle.lxr_image.specs.Tables.{Tables}
 use Rattle.lxr_image.specs.Reads.{granule_of}
 use Rattle.lxr_blocks.specs.declared.states.BlockState.TheVariants.{Chosen}
 use Rattle.lxr_blocks.specs.States.{state_in}
-use Rattle.lxr_model.specs.Moments.{Moment, Trace, rememberable}
+use Rattle.lxr_model.specs.Moments.{Moment, Trace}
 use Rattle.lxr_invariant.specs.AbstractState.{AbstractState}
 use Rattle.lxr_invariant.specs.Tracing.{HasOverflowed, IsRemembered, IsRememberedSoFar, IsTracedBy, MarksStayInside, SnapshotIsCovered, TraceHolds}
+use Rattle.lxr_invariant.proofs.ScanLemmas.{fewer_later}
 use Rattle.lxr_run_pause.proofs.FrameLemmas.{renumbered}
 
 module _ (l : Limits) (t : Tables) (states cursors : ℕ → ℕ) (entries : List LogEntry) (g : AbstractState) (number : ℕ) (stuck : List Name) (running : Option Trace) (reported : PauseReport)
@@ -59,13 +60,16 @@ module _ (l : Limits) (t : Tables) (states cursors : ℕ → ℕ) (entries : Lis
     remembers n i (inl r) = inl (r.0, subst (λ z. r.0 < z) (sym cursor) r.1, r.2, r.3)
     remembers n i (inr over) = inr (subst (λ z. l.remember < z) (sym cursor) over)
 
-    remembered : IsRememberedSoFar l u then g.at trace (rememberable trace is.snapshot)
+    remembered : IsRememberedSoFar l u then g.at trace is.snapshot
     remembered = record {
       fields = λ n v i k scan e bit c. remembers n i (is.remembered.fields n v i k scan e bit (chosen (granule_of (g.at v) / GRANULES_IN_BLOCK) c));
       entries = λ k drawn within.
           let r = is.remembered.entries k (subst (λ z. k < z) cursor drawn) within in
           (r.0, r.1, r.2, record { is = r.3.is; entry = r.3.entry; in_heap = r.3.in_heap });
-      drawn = subst (λ z. z ≤ rememberable trace is.snapshot) (sym cursor) is.remembered.drawn;
+      bound =
+          let bound = is.remembered.bound in
+          let fewer = fewer_later t u m then g.at g.at is.snapshot (λ n h unmarked. (h, unmarked, refl)) in
+          omega (arith, bound, fewer, cursor);
     }
 
     pub trace_still : TraceHolds l u entries abstract_then trace

@@ -50,7 +50,7 @@ module _ (l : Limits) (t : Tables) (runs frees : List ℕ) (entries : List LogEn
       garbage = λ n dropped. garbage_later trace n (is.inside.garbage n dropped);
     };
     handled = is.handled;
-    remembered = record { fields = is.remembered.fields; entries = is.remembered.entries; drawn = is.remembered.drawn };
+    remembered = record { fields = is.remembered.fields; entries = is.remembered.entries; bound = is.remembered.bound };
     few = is.few;
   }
 

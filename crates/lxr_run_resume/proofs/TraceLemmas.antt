@@ -15,7 +15,7 @@ use Rattle.lxr_image.specs.Reads.{granule_of}
 use Rattle.lxr_image.specs.Image.{IsImage}
 use Rattle.lxr_blocks.specs.declared.states.BlockState.TheVariants.{Chosen}
 use Rattle.lxr_blocks.specs.States.{KeepsState, state_in}
-use Rattle.lxr_model.specs.Moments.{Moment, Trace, rememberable}
+use Rattle.lxr_model.specs.Moments.{Moment, Trace}
 use Rattle.lxr_model.specs.Reachable.{Refers}
 use Rattle.lxr_model_counting.specs.Following.{FollowsPause, IsLive}
 use Rattle.lxr_invariant.specs.AbstractState.{AbstractState, members}
@@ -24,6 +24,7 @@ use Rattle.lxr_invariant.specs.Tracing.{HandledAreGray, IsCovered, IsGray, IsInS
 use Rattle.lxr_invariant.proofs.BlockLemmas.{none_counted, still_not}
 use Rattle.lxr_invariant.proofs.MemberLemmas.{member_refers}
 use Rattle.lxr_invariant.proofs.NameLemmas.{in_first}
+use Rattle.lxr_invariant.proofs.ScanLemmas.{fewer_later}
 use Rattle.lxr_run_resume.proofs.NewLemmas.{IsBeside, moment_then, new_name, places_then}
 use Rattle.lxr_run_resume.proofs.PlacingLemmas.{some_granules, with_placed}
 
@@ -169,11 +170,14 @@ module _ (t : Tables) (heap : ℕ → ℕ) (outs : ℕ → Bool) (reuse states :
       member_refers m u n o i follows (member u h) there (ap (λ z. slice_get (refs_of z) i) (sym there) ∙ held_was u n i h holds)
 
   -- so no field is to be remembered, and entries are those that there were
-  remembered_still : (l : Limits) (trace : Trace) (most : ℕ) → IsRememberedSoFar l t m g.at trace most → IsRememberedSoFar l tables then to trace most
-  remembered_still l trace most is = record {
+  remembered_still : (l : Limits) (trace : Trace) (snapshot : List Name) → IsRememberedSoFar l t m g.at trace snapshot → IsRememberedSoFar l tables then to trace snapshot
+  remembered_still l trace snapshot is = record {
     fields = λ n v i h scanned holds unlogged chosen. absurd (stands_outside v (refers_to_member n v i h holds) chosen);
     entries = is.entries;
-    drawn = is.drawn;
+    bound =
+        let bound = is.bound in
+        let fewer = fewer_later t tables m then g.at to snapshot (λ n h unmarked. (h, sym (ap (λ p. t.marks (granule_of p)) (kept_at n h)) ∙ unmarked, refl)) in
+        omega (arith, bound, fewer);
   }
 
   -- ---- the trace that runs
@@ -185,7 +189,7 @@ module _ (t : Tables) (heap : ℕ → ℕ) (outs : ℕ → Bool) (reuse states :
     covered = snapshot_still trace is.covered;
     inside = marks_still trace is.inside;
     handled = handled_still is.handled;
-    remembered = remembered_still l trace (rememberable trace is.snapshot) is.remembered;
+    remembered = remembered_still l trace is.snapshot is.remembered;
     few = is.few;
   }
 

@@ -1,4 +1,4 @@
-use Rattle.std.proofs.Common.{rules, ◌∙◌, length, sym, ap, subst}
+use Rattle.std.proofs.Common.{rules, ◌∙◌, ◌<◌, ◌^◌, length, sym, ap, subst}
 use Rattle.std.specs.List.{All}
 use Rattle.lxr_mutator.specs.Mutators.{IsHeld}
 use Rattle.lxr_core.specs.Filling.{MayAllFill}
@@ -30,4 +30,6 @@ returns-clause-opens c =
     (subst (λ places. HaveStarted places c.args.actors.now c.start_all.new.actors (length c.args.actors.now)) c.as_slice.ensures c.start_all.ensures) c.fill_pockets.ensures.1
 
 pub returns-clause-execution : goal.returns-clause-execution
-returns-clause-execution c = λ b begins. holds_at b c.args.space.now c.put_cursor.new.self c.args.actors.now c.fill_pockets.new.actors (search rules) begins (returns-clause-opens c)
+returns-clause-execution c = λ b begins.
+    let few : c.args.space.now.pauses < 2 ^ 32 = search rules in
+    holds_at b c.args.space.now c.put_cursor.new.self c.args.actors.now c.fill_pockets.new.actors few (search rules) begins (returns-clause-opens c)

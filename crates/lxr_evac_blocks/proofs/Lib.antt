@@ -1,0 +1,5 @@
+pub mod TestLemmas
+pub mod CountLemmas
+pub mod ChoiceLemmas
+pub mod ChosenLemmas
+pub mod ReleaseLemmas

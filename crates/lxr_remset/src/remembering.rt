@@ -1,0 +1,58 @@
+//! Entering references into the remembered set, and reading it.
+ghost use Rattle.std.specs.Prelude.{◌≡◌, ◌↔◌, ◌^◌, ◌<◌, ℕ, IsTrue};
+ghost use Rattle.lxr_layout.specs.declared.TheConstants.{REMEMBERED_CURSOR};
+ghost use Rattle.lxr_layout.specs.declared.Place.{Place as PlaceOf};
+ghost use Rattle.lxr_image.specs.Spaces.{IsSpace, Turns, tables_of};
+ghost use Rattle.lxr_invariant.specs.Tracing.{HasOverflowed, IsEntryWord};
+ghost use Rattle.lxr_remset.specs.Remembering.{IsField, kept_or_full, line_of_field, remembering};
+
+use lxr_image::Space;
+use lxr_layout::{Place, REMEMBERED_CURSOR, WORDS_IN_LINE, entry_of, entry_word, field_word};
+
+/// How a reference was remembered.
+#[derive(Clone, Copy, Debug, PartialEq, Eq)]
+pub enum Remembered {
+    /// It was entered into the set.
+    Kept,
+    /// The set has no room for it, and has overflowed from now on.
+    Full,
+}
+
+/// Remembers a reference of the object at a place: a number is drawn from the remembered cursor. Where the set has room for
+/// it, the entry of the reference is written there, with the reuse counter that the reference's line has now. Else nothing
+/// more is done.
+pub fn remember(space: &mut Space, place: Place, index: u16) -> Remembered
+    requires space { IsSpace space.old }
+    requires field { IsField space.old.limits place index }
+    requires cursor { (tables_of space.old).cursors REMEMBERED_CURSOR < 2 ^ 63 }
+    ensures tables { Turns space.old space.new (remembering space.old.limits (tables_of space.old) place index) }
+    ensures answer { result ≡ kept_or_full space.old.limits (tables_of space.old) }
+    ensures space { IsSpace space.new }
+{
+    let number = space.cursor(REMEMBERED_CURSOR);
+    space.put_cursor(REMEMBERED_CURSOR, number + 1);
+    if u64::from(space.limits.remember) <= number {
+        return Remembered::Full;
+    }
+    let counter = space.reuse(field_word(place, index) / WORDS_IN_LINE);
+    space.put_remembered(number as u32, entry_word(counter, place, index));
+    Remembered::Kept
+}
+
+/// Whether the line of an entry's reference has the reuse counter that the entry has: the line wasn't handed out since.
+pub fn is_current(space: &Space, entry: u64) -> bool
+    requires space { IsSpace space.now }
+    requires entry { (counter : ℕ) × (place : PlaceOf) × (index : ℕ) × IsEntryWord space.now.limits entry counter place index }
+    ensures { (counter : ℕ) (place : PlaceOf) (index : ℕ) → IsEntryWord space.now.limits entry counter place index → (IsTrue result ↔ (counter ≡ (tables_of space.now).reuse (line_of_field place index))) }
+{
+    let (counter, place, index) = entry_of(entry);
+    counter == space.reuse(field_word(place, index) / WORDS_IN_LINE)
+}
+
+/// Whether more references were to be remembered than the set has room for, since it was cleared.
+pub fn overflowed(space: &Space) -> bool
+    requires { IsSpace space.now }
+    ensures { IsTrue result ↔ HasOverflowed space.now.limits (tables_of space.now) }
+{
+    u64::from(space.limits.remember) < space.cursor(REMEMBERED_CURSOR)
+}
