@@ -7,17 +7,13 @@
 //! program does short runs and prints what their pauses found, which is always the same.
 #![tactic(auto)]
 
-mod watch;
 mod work;
 
-use anyhow::{Result, ensure};
-use lxr_image::Space;
-use lxr_run::{Open, Status, lxr};
-use lxr_text_stream::{Plenty, Whole};
+use anyhow::Result;
+use bench_runs::{Pause, best_of, pauses_of};
 use std::env;
 use std::rt::Clock;
 use std::thread::Threads;
-use watch::{Clocked, Pause};
 use work::{Work, script_of};
 
 /// How often a run is done when it is timed.
@@ -191,28 +187,12 @@ fn time_all<R: AllocGlobal + Clock + Print + Threads + Sync>(rt: &R) -> Result<(
 
 /// Does a run several times, and prints the least time of each of its pauses.
 fn time<R: AllocGlobal + Clock + Print + Threads + Sync>(rt: &R, run: Run) -> Result<()> {
-    let best = best_of(rt, run)?;
+    let script = script_of(rt.alloc(), run.works, run.objects)?;
+    let best = best_of(rt, &words_of(run), script.as_str(), run.works.len(), ROUNDS)?;
     for (work, pause) in run.works.iter().zip(&best) {
         print_time(rt, run, *work, *pause)?;
     }
     Ok(())
-}
-
-/// The pauses of a run, each with its least time of several runs.
-fn best_of<R: AllocGlobal + Clock + Threads + Sync>(rt: &R, run: Run) -> Result<Vec<Pause>> {
-    let mut best = pauses_of(rt, run)?;
-    for _ in 1..ROUNDS {
-        let again = pauses_of(rt, run)?;
-        keep_least(&mut best, &again);
-    }
-    Ok(best)
-}
-
-/// Lowers the time of each pause to that of the same pause of another run, where that is less.
-fn keep_least(best: &mut [Pause], again: &[Pause]) {
-    for (pause, other) in best.iter_mut().zip(again) {
-        pause.nanos = pause.nanos.min(other.nanos);
-    }
 }
 
 /// Prints how long a pause took, and how long that is for each unit of its work, where it has units.
@@ -223,7 +203,7 @@ fn print_time(rt: &impl Print, run: Run, work: Work, pause: Pause) -> Result<()>
     let tenths = nanos % 1000 / 100;
     print!(rt;
         "{name:<8} {:>6} {:>8} {micros:>12}.{tenths} {:>12} {:>11}",
-        run.blocks, run.objects, pause.taken_before, pause.taken_after
+        run.blocks, run.objects, pause.before.taken, pause.after.taken
     )?;
     match work.units(run.objects) {
         0 => (),
@@ -238,7 +218,8 @@ fn print_time(rt: &impl Print, run: Run, work: Work, pause: Pause) -> Result<()>
 
 /// Does a run, and prints what each of its pauses found.
 fn tell<R: AllocGlobal + Clock + Print + Threads + Sync>(rt: &R, run: Run) -> Result<()> {
-    let pauses = pauses_of(rt, run)?;
+    let script = script_of(rt.alloc(), run.works, run.objects)?;
+    let pauses = pauses_of(rt, &words_of(run), script.as_str(), run.works.len())?;
     for (work, pause) in run.works.iter().zip(&pauses) {
         let name = work.name();
         println!(rt;
@@ -247,41 +228,17 @@ fn tell<R: AllocGlobal + Clock + Print + Threads + Sync>(rt: &R, run: Run) -> Re
             pause.promoted,
             pause.dead,
             pause.swept,
-            pause.taken_before,
-            pause.taken_after
+            pause.before.taken,
+            pause.after.taken
         )?;
     }
     Ok(())
 }
 
-/// Does a run, and answers what was seen of its pauses.
-fn pauses_of<R: AllocGlobal + Clock + Threads + Sync>(rt: &R, run: Run) -> Result<Vec<Pause>> {
-    let script = script_of(rt.alloc(), run.works, run.objects)?;
-    let mut watch = Clocked::new(rt.alloc(), rt, run.works.len())?;
-    let status = do_run(rt, run, script.as_str(), &mut watch);
-    ensure!(status == Status::Done, "the run ended with {status:?}");
-    Ok(watch.pauses(rt.alloc())?)
-}
-
-/// Runs a script in memory, with room for all its work between two pauses. A trace ends at the pause behind the one that began it.
-fn do_run<R: AllocGlobal + Clock + Threads + Sync>(
-    rt: &R,
-    run: Run,
-    script: &str,
-    watch: &mut Clocked<R>,
-) -> Status {
-    lxr(
-        rt,
-        rt.alloc(),
-        &[
-            "run", "--blocks", run.blocks, "--log", "65536", "--every", "1048576", "--trace",
-            run.trace, "--within", "1",
-        ],
-        &mut Whole::new(script.as_bytes()),
-        &mut Plenty::new(rt.alloc()),
-        &mut Plenty::new(rt.alloc()),
-        &Open,
-        watch,
-        &mut Space::empty(rt.alloc()),
-    )
+/// The words of a run, with room for all its work between two pauses. A trace ends at the pause behind the one that began it.
+fn words_of(run: Run) -> [&'static str; 11] {
+    [
+        "run", "--blocks", run.blocks, "--log", "65536", "--every", "1048576", "--trace",
+        run.trace, "--within", "1",
+    ]
 }

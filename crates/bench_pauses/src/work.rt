@@ -1,4 +1,5 @@
 //! Kinds of work between pauses, as operations of a script.
+use bench_runs::{write_help, write_list};
 use std::alloc::{AllocError, Global};
 
 /// The most fields that a log of 65,536 entries takes between two pauses.
@@ -130,17 +131,6 @@ fn takes_two(objects: u32) -> bool {
     objects > MOST_MADE
 }
 
-/// Makes a list of so many objects, each with one reference, before the one that r1 holds; r1 holds the last one.
-fn write_list(script: &mut String, objects: u32) -> Result<(), AllocError> {
-    for _ in 0..objects / 2 {
-        script.push_str("new r2 1 0\nstore r2 0 r1\nnew r1 1 0\nstore r1 0 r2\n")?;
-    }
-    if objects % 2 == 1 {
-        script.push_str("new r2 1 0\nstore r2 0 r1\nmove r1 r2\n")?;
-    }
-    Ok(())
-}
-
 /// Makes a list of so many objects, or of half of them where the second thread makes the others, and leaves it to the world.
 fn write_promote(script: &mut String, objects: u32) -> Result<(), AllocError> {
     if takes_two(objects) {
@@ -216,14 +206,6 @@ fn write_link(script: &mut String, object: u32) -> Result<(), AllocError> {
         script,
         "load r2 r1 {row}\nload r3 r2 {index}\nstore r3 0 r4\nmove r4 r3\n"
     )
-}
-
-/// Goes on for so many operations of three steps each.
-fn write_help(script: &mut String, operations: u32) -> Result<(), AllocError> {
-    for _ in 0..operations {
-        script.push_str("load r2 r0 1\n")?;
-    }
-    Ok(())
 }
 
 /// Stores into so many objects of the list what is there already.

@@ -1,11 +1,12 @@
 -- A reference or a register is written with the place where what it holds stands now: it is fixed then.
-use Rattle.std.proofs.Common.{◌≡◌, ℕ, ◌<◌, refl, sym, ap, subst, ◌∙◌, inl, inr, ◌⊎◌, arith, false, cond, length}
+use Rattle.std.proofs.Common.{◌≡◌, ◌≢◌, ℕ, ◌<◌, refl, sym, ap, subst, ◌∙◌, inl, inr, ◌⊎◌, arith, false, cond, length}
 use Rattle.std.specs.Prelude.{◌↔◌, Option, None, Some, IsTrue, nat_eq, slice_get, slice_index_or, slice_set}
 use Rattle.std.proofs.lemmas.Bool.Decides.{eqb_tells}
 use Rattle.std.proofs.lemmas.Option.{slice_get-get_or, slice_get_within}
 use Rattle.std.proofs.Math.ListN.{length-set}
 use Rattle.lxr_layout.specs.declared.Name.{Name}
 use Rattle.lxr_layout.specs.declared.Place.{Place}
+use Rattle.lxr_layout.specs.declared.TheConstants.{REMEMBERED_CURSOR}
 use Rattle.lxr_layout.specs.Places.{field_word}
 use Rattle.lxr_graph.specs.Names.{has}
 use Rattle.lxr_graph.proofs.RowLemmas.{slice_get-set}
@@ -21,8 +22,9 @@ use Rattle.lxr_invariant.specs.Raised.{with_promoted}
 use Rattle.lxr_invariant.specs.Standing.{word_of_field}
 use Rattle.lxr_invariant.proofs.EntryLemmas.{same_number}
 use Rattle.lxr_invariant.proofs.FrameLemmas.{bits_still, marks_still}
+use Rattle.lxr_pause_promote.proofs.FewerLemmas.{states_same}
 use Rattle.lxr_pause_increments.specs.Accounted.{IsHolder, IsKnown, IsRaisable, IsRegisterFixed, references_at, stage_with_held}
-use Rattle.lxr_pause_increments.specs.Increments.{HasCountsSoFar, HasRoomToRaise, IncrementStage, IsFull, IsIncrementing, RaisingLeaves, RaisingLeavesTables}
+use Rattle.lxr_pause_increments.specs.Increments.{HasCountsSoFar, HasRoomToRaise, IncrementStage, IsFull, IsIncrementing, RaisingLeaves, RaisingLeavesTables, StaysRemembered, left}
 use Rattle.lxr_pause_increments.specs.Moving.{IsMoving}
 use Rattle.lxr_pause_increments.specs.Steps.{FixesField, FixesRegister, HeldIsRaised, RaisesHeld}
 use Rattle.lxr_pause_increments.proofs.TracedLemmas.{marks_same}
@@ -30,15 +32,16 @@ use Rattle.lxr_pause_increments.proofs.FrameLemmas.{leaves_spread}
 use Rattle.lxr_pause_increments.proofs.IncrementLemmas.{LeavesBlocks, incrementing_with}
 use Rattle.lxr_pause_increments.proofs.RoomLemmas.{full_at, granules}
 use Rattle.lxr_pause_increments.proofs.FixedLemmas.{fixed_left, fixed_written, moving_register, moving_written, register_left, word_written}
+use Rattle.lxr_pause_increments.proofs.RememberedLemmas.{LeavesSet, stays_left}
 use Rattle.lxr_pause_increments.proofs.StageLemmas.{all_made}
-use Rattle.lxr_pause_increments.proofs.StayingLemmas.{states_same}
 use Rattle.lxr_pause_increments.proofs.HeldLemmas.{either_fixed, field_holds, goes_both, holder_known, holder_member, still_held, still_known, still_placed, still_promoted}
 
 -- ---- what a write leaves
 
--- nothing but the heap and what registers hold has changed
+-- nothing but the heap, the remembered set and what registers hold has changed
 pub record ChangesHeld (b c : Space) : Type 0 where
-  pub tables : tables_of c ≡ record (tables_of b) { heap = (tables_of c).heap }
+  pub tables : tables_of c ≡ record (tables_of b) { heap = (tables_of c).heap; remembered = (tables_of c).remembered; cursors = (tables_of c).cursors }
+  pub cursors : (k : ℕ) → k ≢ REMEMBERED_CURSOR → (tables_of c).cursors k ≡ (tables_of b).cursors k
   pub space : c ≡ record b { words = c.words; registers = record b.registers { items = c.registers.items } }
   pub as_many : length c.registers.items ≡ length b.registers.items
 
@@ -47,10 +50,18 @@ module _ (b c : Space) (changes : ChangesHeld b c) where
   changed_leaves =
       leaves_spread b c c.words c.registers.items b.work.items b.report.promoted.items b.report.stuck.items b.rest_next b.rest_end changes.space
       (subst (RaisingLeavesTables (tables_of b)) (sym changes.tables)
-      (record { runs = refl; frees = refl; remembered = refl; cursors = refl; starts = λ k h. h; marks = marks_same (tables_of b); grays = refl; decs = refl }))
+      (record { runs = refl; frees = refl; cursors = changes.cursors; starts = λ k h. h; marks = marks_same (tables_of b); grays = refl; decs = refl }))
 
   changed_starts : passing (tables_of c).starts (granules c) ≡ passing (tables_of b).starts (granules b)
   changed_starts = λ i. passing (changes.tables i).starts (granules (changes.space i))
+
+  -- what is left to do is as much
+  pub changed_left : left c ≡ left b
+  changed_left =
+      let size = ap granules changes.space in
+      let starts = changed_starts in
+      let work = ap (λ s. length s.work.items) changes.space in
+      omega (arith, size, starts, work)
 
   changed_room : HasRoomToRaise b → HasRoomToRaise c
   changed_room is =
@@ -77,8 +88,8 @@ module _ (b c : Space) (changes : ChangesHeld b c) where
         reported_once = subst IsDistinct (sym names) is.reported_once;
       }
 
-  pub changed_incrementing : (m : Moment) (at : Name → ℕ) (st : IncrementStage) → IsMoving c st.found m at st.now st.promoted → IsIncrementing b m at st → IsIncrementing c m at st
-  changed_incrementing m at st moving is = incrementing_with b c m at st st changed_leaves still is (record {
+  pub changed_incrementing : (m : Moment) (at : Name → ℕ) (st : IncrementStage) → StaysRemembered b c m st st → IsMoving c st.found m at st.now st.promoted → IsIncrementing b m at st → IsIncrementing c m at st
+  changed_incrementing m at st stays moving is = incrementing_with b c m at st st changed_leaves still stays refl is (record {
     moving = moving;
     growth = is.growth;
     once_promoted = is.once_promoted;
@@ -100,10 +111,18 @@ module _ (b c : Space) (changes : ChangesHeld b c) where
 
 pub written_changes : (b c : Space) (k w : ℕ) → Turns b c (with_heap (tables_of b) k w) → ChangesHeld b c
 written_changes b c k w turns = record {
-  tables = turns.tables ∙ ap (λ h. record (tables_of b) { heap = h }) (sym (ap (λ t. t.heap) turns.tables));
+  tables = turns.tables ∙ (λ i. record (tables_of b) { heap = (sym turns.tables i).heap; remembered = (sym turns.tables i).remembered; cursors = (sym turns.tables i).cursors });
+  cursors = λ j other. ap (λ t. t.cursors j) turns.tables;
   space = turns.rest ∙ (λ i. record b { words = c.words; registers = record b.registers { items = sym (ap (λ s. s.registers.items) turns.rest) i } });
   as_many = ap (λ s. length s.registers.items) turns.rest;
 }
+
+-- nothing is remembered
+written_set : (b c : Space) (k w : ℕ) → Turns b c (with_heap (tables_of b) k w) → LeavesSet b c
+written_set b c k w turns = record { limits = ap (λ s. s.limits) turns.rest; remembered = ap (λ t. t.remembered) turns.tables; cursor = ap (λ t. t.cursors REMEMBERED_CURSOR) turns.tables }
+
+written_stays : (b c : Space) (k w : ℕ) (m : Moment) (st : IncrementStage) → Turns b c (with_heap (tables_of b) k w) → StaysRemembered b c m st st
+written_stays b c k w m st turns = stays_left b c m st st (record { promoted = refl; now = refl }) (written_set b c k w turns) (ap (λ t. t.reuse) turns.tables) (ap (λ t. t.states) turns.tables)
 
 module _ (a b : Space) (m : Moment) (at : Name → ℕ) (st : IncrementStage) (u : Name) (p i w : ℕ) (is : IsIncrementing a m at st) (holder : IsHolder m st u p) (raisable : IsRaisable m st u i)
     (raises : RaisesHeld a b m at st (slice_index_or (references_at m u) i None) w) where
@@ -135,7 +154,9 @@ module _ (a b : Space) (m : Moment) (at : Name → ℕ) (st : IncrementStage) (u
           (field_holds b m at later u i raises.incrementing member raisable.within);
       known = raises.known;
     };
+    word = raises.word;
     goes_on = raises.goes_on;
+    cursor = raises.cursor;
   }
 
   -- that place was written to it
@@ -147,28 +168,39 @@ module _ (a b : Space) (m : Moment) (at : Name → ℕ) (st : IncrementStage) (u
       let so : Turns b c (with_heap (tables_of b) (word_of_field later.now u i) (place_word later.now ref)) = subst (λ z. Turns b c (with_heap (tables_of b) z (place_word later.now ref))) word (subst (λ z. Turns b c (with_heap (tables_of b) k z)) raises.word turns) in
       let changes : IsTrue (has later.promoted u) ⊎ IsTrue (has_field m.written (u, i)) = elim raisable.changes [ inl h ↦ inl (still_promoted m st ref w u h) | inr h ↦ inr h ] in
       record {
-        incrementing = changed_incrementing b c (written_changes b c k w turns) m at later (moving_written b c m at later moving u i member raisable.within so is.follows made changes) raises.incrementing;
+        incrementing = changed_incrementing b c (written_changes b c k w turns) m at later (written_stays b c k w m later turns) (moving_written b c m at later moving u i member raisable.within so is.follows made changes) raises.incrementing;
         fixed = record {
           holder = still_known m st ref w u known;
           within = raisable.within;
           holds = word_written b c (word_of_field later.now u i) (place_word later.now ref) so;
           known = raises.known;
         };
+        word = raises.word;
         goes_on = goes_both a b c m st later later raises.goes_on (record {
           found = refl;
           fields = fixed_written b c m at later moving u i member raisable.within so made;
           registers = register_left b c m later later (record { promoted = refl; now = refl }) (ap (λ s. s.registers.items) turns.rest);
+          remembered = written_stays b c k w m later turns;
         });
+        cursor = (written_set b c k w turns).cursor ∙ raises.cursor;
       }
 
 -- ---- a register
 
 pub set_changes : (b c : Space) (k : ℕ) (p : Place) → c ≡ record b { registers = record b.registers { items = slice_set b.registers.items k p } } → ChangesHeld b c
 set_changes b c k p same = record {
-  tables = ap {A = Space} tables_of same ∙ (λ i. record (tables_of b) { heap = sym (ap {A = Space} (λ s. (tables_of s).heap) same) i });
+  tables = ap {A = Space} tables_of same ∙ (λ i. record (tables_of b) { heap = (tables_of (sym same i)).heap; remembered = (tables_of (sym same i)).remembered; cursors = (tables_of (sym same i)).cursors });
+  cursors = λ j other. ap {A = Space} (λ s. (tables_of s).cursors j) same;
   space = same ∙ (λ i. record b { words = sym (ap (λ s. s.words) same) i; registers = record b.registers { items = sym (ap (λ s. s.registers.items) same) i } });
   as_many = ap (λ s. length s.registers.items) same ∙ length-set b.registers.items k p;
 }
+
+set_stays : (b c : Space) (k : ℕ) (p : Place) (m : Moment) (st : IncrementStage) → c ≡ record b { registers = record b.registers { items = slice_set b.registers.items k p } } → StaysRemembered b c m st st
+set_stays b c k p m st same = stays_left b c m st st (record { promoted = refl; now = refl }) (record {
+  limits = ap (λ s. s.limits) same;
+  remembered = ap {A = Space} (λ s. (tables_of s).remembered) same;
+  cursor = ap {A = Space} (λ s. (tables_of s).cursors REMEMBERED_CURSOR) same;
+}) (ap {A = Space} (λ s. (tables_of s).reuse) same) (ap {A = Space} (λ s. (tables_of s).states) same)
 
 -- there are as many registers as the state has
 pub registers_as_many : (s : Space) (m : Moment) (at : Name → ℕ) (st : IncrementStage) (k : ℕ) (held : Option Name) → IsIncrementing s m at st → slice_get m.state.registers k ≡ Some held → k < length s.registers.items
@@ -199,6 +231,7 @@ module _ (a b : Space) (m : Moment) (at : Name → ℕ) (st : IncrementStage) (k
           known = raises.known;
         };
         goes_on = raises.goes_on;
+        cursor = raises.cursor;
       }
     where
       known_holds : (q : Place) → slice_get b.registers.items k ≡ Some q → p.0 ≡ w → IsKnown m st held → q.0 ≡ place_word next.now held
@@ -232,7 +265,7 @@ module _ (a b : Space) (m : Moment) (at : Name → ℕ) (st : IncrementStage) (k
         known = raises.known;
       } in
       record {
-        incrementing = changed_incrementing b c (set_changes b c k q same) m at next (moving_register b c next.found m at next.now next.promoted k q held raises.incrementing.moving is.held_is at_q same) raises.incrementing;
+        incrementing = changed_incrementing b c (set_changes b c k q same) m at next (set_stays b c k q m next same) (moving_register b c next.found m at next.now next.promoted k q held raises.incrementing.moving is.held_is at_q same) raises.incrementing;
         fixed = here;
         goes_on = goes_both a b c m st next next raises.goes_on (record {
           found = refl;
@@ -248,7 +281,9 @@ module _ (a b : Space) (m : Moment) (at : Name → ℕ) (st : IncrementStage) (k
               known = fixed.known;
             }
           ];
+          remembered = set_stays b c k q m next same;
         });
+        cursor = ap {A = Space} (λ s. (tables_of s).cursors REMEMBERED_CURSOR) same ∙ raises.cursor;
       }
     where
       set_here : (c : Space) (q : Place) → c ≡ record b { registers = record b.registers { items = slice_set b.registers.items k q } } → k < length b.registers.items → slice_get c.registers.items k ≡ Some q

@@ -1,8 +1,9 @@
 -- A new object is promoted, and perhaps copied: objects move on, and what was fixed stays so.
-use Rattle.std.proofs.Common.{◌≡◌, ℕ, ◌+◌, ◌<◌, refl, sym, ap, subst, ◌∙◌, inl, inr, ◌⊎◌, arith, false, List, ◌∷◌}
-use Rattle.std.specs.Prelude.{None, Option, Some, IsTrue, length, slice_get, slice_index_or}
+use Rattle.std.proofs.Common.{◌≡◌, ℕ, ◌+◌, ◌/◌, ◌<◌, ◌≤◌, refl, sym, ap, subst, ◌∙◌, inl, inr, ◌⊎◌, arith, Bool, false, true, List, ◌∷◌}
+use Rattle.std.specs.Prelude.{◌&&◌, not, if◌then◌else◌, None, Option, Some, IsTrue, length, slice_get, slice_index_or}
 use Rattle.lxr_layout.specs.declared.Name.{Name}
 use Rattle.lxr_layout.specs.declared.Place.{Place}
+use Rattle.lxr_layout.specs.declared.TheConstants.{GRANULES_IN_LINE, WORDS_IN_LINE}
 use Rattle.lxr_layout.specs.Objects.{word_count}
 use Rattle.lxr_layout.specs.Places.{first_word}
 use Rattle.lxr_graph.specs.Names.{has, same_name}
@@ -14,9 +15,10 @@ use Rattle.lxr_image.specs.Spaces.{IsSpace, Turns, tables_of}
 use Rattle.lxr_image.specs.Reads.{granule_of}
 use Rattle.lxr_image.specs.Image.{place_word}
 use Rattle.lxr_image.specs.ImageLaws.{placed}
-use Rattle.lxr_image.proofs.ImageLemmas.{words_cover}
+use Rattle.lxr_image.proofs.ImageLemmas.{words_cover, words_even}
 use Rattle.lxr_blocks.specs.Kept.{IsKeptGranule, KeepsGranules}
-use Rattle.lxr_blocks.specs.Placing.{IsFull}
+use Rattle.lxr_blocks.specs.Lines.{is_free}
+use Rattle.lxr_blocks.specs.Placing.{IsFull, IsRest}
 use Rattle.lxr_model.specs.Moments.{Moment}
 use Rattle.lxr_model_counting.proofs.DistinctLemmas.{tested}
 use Rattle.lxr_invariant.specs.AbstractState.{members}
@@ -28,12 +30,29 @@ use Rattle.lxr_pause_promote.specs.Copying.{StandsKept}
 use Rattle.lxr_pause_promote.specs.Promotion.{Promotes, with_promotion}
 use Rattle.lxr_pause_promote.proofs.CopyLemmas.{StandsBeside, is_promoted, promoted_beside}
 use Rattle.lxr_pause_promote.proofs.PlacedLemmas.{keeps_fewer}
+use Rattle.lxr_pause_promote.proofs.EitherLemmas.{placed_here, placed_other, some_granules}
 use Rattle.lxr_pause_increments.specs.Accounted.{IsFixed, IsRegisterFixed, references_at}
 use Rattle.lxr_pause_increments.specs.Increments.{IncrementStage}
 use Rattle.lxr_pause_increments.specs.Moving.{IsMoving, IsTaken}
-use Rattle.lxr_pause_increments.proofs.MovingLemmas.{AreMade, differ_now, known_member, mark_apart_now, some_granules, stands_kept}
-pub use Rattle.lxr_pause_increments.proofs.EvacuatedLemmas.{placed_here, placed_known, placed_other}
+use Rattle.lxr_pause_increments.proofs.MovingLemmas.{AreMade, differ_now, known_member, mark_apart_now, stands_kept}
+pub use Rattle.lxr_pause_increments.proofs.EvacuatedLemmas.{placed_known}
 use Rattle.lxr_pause_increments.proofs.EvacuatedLemmas.{known_differs, known_more, moving_copied, moving_there, other_place, taken_apart, words_stay}
+
+-- ---- lines that are out
+
+-- a granule of the rest lies in a line that is out
+rest_is_out : (s : Space) (k : ℕ) → IsRest s → s.rest_next ≤ k → k < s.rest_end → IsTrue ((tables_of s).outs (k / GRANULES_IN_LINE))
+rest_is_out s k (inl none) from below = absurd (omega (arith, none, from, below))
+rest_is_out s k (inr rest) from below =
+    let line = rest.in_line in
+    let same : k / GRANULES_IN_LINE ≡ s.rest_next / GRANULES_IN_LINE = omega (arith, line, from, below) in
+    ap (tables_of s).outs same ∙ rest.out
+
+-- what was out before isn't counted
+not_counted : (now was : Bool) (more same : ℕ) → (IsTrue now → IsTrue was) → (if now && not was then more else same) ≡ same
+not_counted true true more same out = refl
+not_counted true false more same out = absurd (let e : false ≡ true = out refl in cc)
+not_counted false was more same out = refl
 
 -- ---- it is promoted
 
@@ -82,6 +101,45 @@ module _ (a b found : Space) (m : Moment) (at now : Name → ℕ) (ps : List Nam
     | inr beside ↦ words_stay a b found m at now ps o q object is new_member unpromoted has_o beside n x (now n) i in_n has_x (inr refl)
         (other_place a b found m at now ps o q object is new_member unpromoted has_o beside n (now n) in_n (inr refl) differ) low
   ]
+
+  -- the line of a granule that a member has is handed out as often as it was
+  handed_out : (k : ℕ) → IsTaken m at now k → IsTrue ((tables_of b).outs (k / GRANULES_IN_LINE)) → IsTrue ((tables_of a).outs (k / GRANULES_IN_LINE))
+  handed_out k taken out = elim copied_or_not [
+    | inl there ↦ sym (ap (λ t. t.outs (k / GRANULES_IN_LINE)) there.2.tables) ∙ out
+    | inr beside ↦ elim ((beside.outs (k / GRANULES_IN_LINE)).0 out) [
+      | inl was ↦ was
+      | inr here ↦ elim (beside.onto here.0 here.1) [
+        | inl free ↦ absurd (let e = ap (is_free (tables_of a)) here.2 in let kept = is.kept.lines k taken in cc)
+        | inr rest ↦ ap (tables_of a).outs (sym here.2) ∙ rest_is_out a here.0 is.rest rest.0 rest.1
+      ]
+    ]
+  ]
+
+  counted_as_before : (k : ℕ) → IsTaken m at now k → (tables_of b).reuse (k / GRANULES_IN_LINE) ≡ (tables_of a).reuse (k / GRANULES_IN_LINE)
+  counted_as_before k taken = elim copied_or_not [
+    | inl there ↦ ap (λ t. t.reuse (k / GRANULES_IN_LINE)) there.2.tables
+    | inr beside ↦ beside.reuse (k / GRANULES_IN_LINE) ∙ not_counted ((tables_of b).outs (k / GRANULES_IN_LINE)) ((tables_of a).outs (k / GRANULES_IN_LINE)) _ _ (handed_out k taken)
+  ]
+
+  -- so is the line of a reference
+  pub line_stays : (u : Name) (i : ℕ) → IsTrue (has (members m) u) → i < length (references_at m u) → (tables_of b).reuse (word_of_field now u i / WORDS_IN_LINE) ≡ (tables_of a).reuse (word_of_field now u i / WORDS_IN_LINE)
+  line_stays u i in_u low =
+      let x = is.stands u in_u in
+      let size : length (references_at m u) ≡ length x.0.refs = ap (λ z. length (refs_of z)) x.1 in
+      let cover = words_cover x.0 in
+      let even = words_even x.0 in
+      let k : ℕ = word_of_field now u i / 2 in
+      let line : word_of_field now u i / WORDS_IN_LINE ≡ k / GRANULES_IN_LINE = omega arith in
+      let taken : IsTaken m at now k = record {
+        name = u;
+        object = x.0;
+        place = now u;
+        member = in_u;
+        is = x.1;
+        place_is = inr refl;
+        among = (omega arith, omega (arith, size, cover, even, low));
+      } in
+      ap (tables_of b).reuse line ∙ counted_as_before k taken ∙ ap (tables_of a).reuse (sym line)
 
   -- no count is at its first granule
   pub placed_uncounted : AreMade m ps → has (with_promoted m ps) o ≡ false → HasMarks (tables_of a) m.state.graph now (with_promoted m ps) → (tables_of a).counts (granule_of q.0) ≡ 0

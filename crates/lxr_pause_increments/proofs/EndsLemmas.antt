@@ -3,8 +3,7 @@ use Rattle.std.proofs.Common.{◌≡◌, ◌≢◌, ℕ, suc, ◌+◌, ◌*◌, 
 use Rattle.std.specs.Prelude.{◌&&◌, not, if◌then◌else◌, Some, None, Option, IsTrue, map, slice_get, slice_index_or}
 use Rattle.std.specs.List.Sorted.{IsPermutation}
 use Rattle.std.proofs.lemmas.Bool.{false_from_ne_true}
-use Rattle.std.proofs.lemmas.List.{length-map}
-use Rattle.std.proofs.lemmas.Option.{get_or_from_slice_get, slice_get-get_or, slice_get-map, slice_get_within}
+use Rattle.std.proofs.lemmas.Option.{get_or_from_slice_get, slice_get-get_or, slice_get_within}
 use Rattle.lxr_layout.specs.declared.LogEntry.{LogEntry}
 use Rattle.lxr_layout.specs.declared.Name.{Name}
 use Rattle.lxr_layout.specs.declared.Place.{Place}
@@ -39,18 +38,14 @@ use Rattle.lxr_invariant.proofs.FrameLemmas.{out_kept}
 use Rattle.lxr_invariant.proofs.LandingLemmas.{counted_line}
 use Rattle.lxr_invariant.proofs.NameLemmas.{in_either, no_member}
 use Rattle.lxr_invariant.proofs.PlaceLemmas.{granules_differ, same_object}
+use Rattle.lxr_pause_promote.proofs.EitherLemmas.{held_began, place_began}
 use Rattle.lxr_pause_increments.specs.Accounted.{IsFixed, IsRegisterFixed, references_at}
 use Rattle.lxr_pause_increments.specs.Increments.{IncrementStage}
-use Rattle.lxr_pause_increments.specs.Moving.{HoldEither, IsMoving, IsPlaceOf, IsTaken}
+use Rattle.lxr_pause_increments.specs.Moving.{IsMoving, IsTaken}
 use Rattle.lxr_pause_increments.proofs.FixedLemmas.{fixed_unwritten}
 use Rattle.lxr_pause_increments.proofs.MovingLemmas.{AreMade, apart_now, known_member, unreclaimed_still}
 
 -- ---- the beginning
-
--- nothing has moved, so either place is the same
-place_began : (at : Name → ℕ) (n : Name) (p : ℕ) → IsPlaceOf at at n p → p ≡ at n
-place_began at n p (inl e) = e
-place_began at n p (inr e) = e
 
 line_began : (s : Space) (m : Moment) (at : Name → ℕ) → HoldsMoment s m at → IsUndecremented (tables_of s) m at → (n : Name) (o : Object) (k : ℕ) → IsTrue (has (members m) n) → Covers m.state.graph at n o k
     → is_free (tables_of s) (k / GRANULES_IN_LINE) ≡ false
@@ -65,22 +60,6 @@ covers_began m at k is =
     let first = is.among.0 in
     let behind = is.among.1 in
     record { object = is.is; first = omega (arith, first, place); behind = omega (arith, behind, place) }
-
-held_began : (at : Name → ℕ) (places : List Place) (names : List (Option Name)) → ArePlacesOf at places names → HoldEither at at places names
-held_began at places names is = record {
-  as_many = sym (length-map places (λ p. p.0)) ∙ ap length is ∙ length-map names (place_word at);
-  each = λ k p r e f.
-      let a : slice_get (map (λ (q : Place). q.0) places) k ≡ Some p.0 = slice_get-map (λ (q : Place). q.0) places k ∙ ap (λ x. option_place x) e in
-      let b : slice_get (map (place_word at) names) k ≡ Some (place_word at r) = slice_get-map (place_word at) names k ∙ ap (λ x. option_word at x) f in
-      let same : Some p.0 ≡ Some (place_word at r) = sym a ∙ ap (λ xs. slice_get xs k) is ∙ b in
-      inl (cc);
-}
-  where
-    option_place : Option Place → Option ℕ
-    option_place x = elim x [ None ↦ None | Some q ↦ Some q.0 ]
-
-    option_word : (Name → ℕ) → Option (Option Name) → Option ℕ
-    option_word to x = elim x [ None ↦ None | Some q ↦ Some (place_word to q) ]
 
 never_both : (b : Bool) → (b && not b) ≡ false
 never_both true = refl
@@ -120,6 +99,7 @@ moving_begins s m at holds undecremented =
       reuse = λ line. ap (λ b. if b then ((t.reuse line + 1) % 2 ^ 32) else t.reuse line) (sym (never_both (t.outs line)));
       heap = λ w left promoted written. refl;
       states = λ b. inl refl;
+      unchosen = holds.unchosen;
       stay = λ n o q promoted. no_member n promoted;
     }
 

@@ -1,11 +1,11 @@
 -- A new object is promoted where it was made, or copied to where nothing stood: objects move on.
-use Rattle.std.proofs.Common.{◌≡◌, ◌≢◌, ℕ, ◌+◌, ◌*◌, ◌/◌, ◌%◌, ◌^◌, ◌<◌, ◌≤◌, refl, sym, ap, subst, ◌∙◌, inl, inr, ◌⊎◌, arith, Bool, true, false, cond, List, ◌∷◌}
-use Rattle.std.specs.Prelude.{◌↔◌, ◌&&◌, not, if◌then◌else◌, None, Option, Some, IsTrue}
+use Rattle.std.proofs.Common.{◌≡◌, ◌≢◌, ℕ, ◌+◌, ◌*◌, ◌/◌, ◌%◌, ◌^◌, ◌<◌, ◌≤◌, refl, sym, ap, subst, ◌∙◌, inl, inr, ◌⊎◌, arith, true, false, List, ◌∷◌}
+use Rattle.std.specs.Prelude.{◌↔◌, ◌&&◌, not, if◌then◌else◌, Some, IsTrue}
 use Rattle.std.proofs.lemmas.Bool.{or_cases, or_left, or_right}
 use Rattle.std.proofs.lemmas.Bool.Decides.{leb_tells}
 use Rattle.lxr_layout.specs.declared.Name.{Name}
 use Rattle.lxr_layout.specs.declared.Place.{Place}
-use Rattle.lxr_layout.specs.declared.TheConstants.{GRANULES_IN_BLOCK, GRANULES_IN_LINE, STUCK}
+use Rattle.lxr_layout.specs.declared.TheConstants.{GRANULES_IN_BLOCK, GRANULES_IN_LINE}
 use Rattle.lxr_layout.specs.declared.runs.Run.{Run}
 use Rattle.lxr_layout.specs.Objects.{line_count, moved_word, word_count}
 use Rattle.lxr_layout.specs.Places.{first_word}
@@ -21,33 +21,31 @@ use Rattle.lxr_image.specs.ImageLaws.{placed}
 use Rattle.lxr_image.proofs.ImageLemmas.{words_cover, words_even}
 use Rattle.lxr_blocks.specs.Kept.{IsAmong, IsKeptGranule, KeepsGranules}
 use Rattle.lxr_blocks.specs.Placing.{IsFull}
-use Rattle.lxr_blocks.specs.States.{IsOpenRun}
+use Rattle.lxr_blocks.specs.declared.states.BlockState.TheVariants.{Chosen}
+use Rattle.lxr_blocks.specs.States.{IsOpenRun, state_in}
 use Rattle.lxr_blocks.proofs.BesideLemmas.{was_open}
 use Rattle.lxr_model.specs.Moments.{Field, Moment}
 use Rattle.lxr_model_counting.specs.Distinct.{has_field}
 use Rattle.lxr_model_counting.proofs.DistinctLemmas.{or_false, tested}
 use Rattle.lxr_invariant.specs.AbstractState.{members}
 use Rattle.lxr_invariant.specs.Copied.{CopiesLieOnFreeLines, HasCopy, HasWord}
-use Rattle.lxr_invariant.specs.Lines.{Covers}
+use Rattle.lxr_invariant.specs.Lines.{AvoidChosen, Covers}
 use Rattle.lxr_invariant.specs.Raised.{with_promoted}
 use Rattle.lxr_invariant.specs.Standing.{place_of, word_of_field}
+use Rattle.lxr_invariant.proofs.BlockLemmas.{still_not}
 use Rattle.lxr_invariant.proofs.NameLemmas.{in_second}
 use Rattle.lxr_invariant.proofs.PlaceLemmas.{same_object}
-use Rattle.lxr_pause_promote.specs.Promotion.{marked_between, with_promotion}
+use Rattle.lxr_pause_promote.specs.Either.{HoldEither, IsPlaceOf, StandsNow}
+use Rattle.lxr_pause_promote.specs.Promotion.{with_promotion}
 use Rattle.lxr_pause_promote.proofs.CopyLemmas.{StandsBeside}
-use Rattle.lxr_pause_increments.specs.Moving.{HoldEither, HoldsEither, IsMoving, IsPlaceOf, IsTaken, StandsNow}
-use Rattle.lxr_pause_increments.proofs.FixedLemmas.{moving_left, stands_moved, whole_on}
-use Rattle.lxr_pause_increments.proofs.MovingLemmas.{AreMade, some_granules}
-use Rattle.lxr_pause_increments.proofs.StayingLemmas.{Grows, open_before, states_joined, states_same}
+use Rattle.lxr_pause_promote.proofs.EitherLemmas.{holds_placed, place_split, placed_here, placed_other, some_granules, stands_moved, whole_on}
+use Rattle.lxr_pause_promote.proofs.FewerLemmas.{HasFewerLines, beside_fewer, handed_on, marked_grows, promotion_fewer, states_joined, was_open_run}
+use Rattle.lxr_pause_promote.proofs.WordLemmas.{ranges_apart}
+use Rattle.lxr_pause_increments.specs.Moving.{IsMoving, IsTaken}
+use Rattle.lxr_pause_increments.proofs.FixedLemmas.{moving_left}
+use Rattle.lxr_pause_increments.proofs.MovingLemmas.{AreMade}
 
 -- ---- one more place
-
--- the place of the name that is placed, and of others
-pub placed_here : (now : Name → ℕ) (o : Name) (p : ℕ) → placed now o p o ≡ p
-placed_here now o p = ap (λ b. cond b p (now o)) (same_itself o)
-
-pub placed_other : (now : Name → ℕ) (o : Name) (p : ℕ) (n : Name) → same_name n o ≡ false → placed now o p n ≡ now n
-placed_other now o p n differ = ap (λ b. cond b p (now n)) differ
 
 -- a name that is known differs from one that isn't
 pub known_differs : (m : Moment) (ps : List Name) (o n : Name) → has (with_promoted m ps) o ≡ false → IsTrue (has (with_promoted m ps) n) → same_name n o ≡ false
@@ -68,29 +66,6 @@ known_more m ps o n known = elim (union_cases ps m.unreclaimed n known) [
 
 pub known_now : (m : Moment) (ps : List Name) (o : Name) → IsTrue (has (with_promoted m (o ∷ ps)) o)
 known_now m ps o = union_left (o ∷ ps) m.unreclaimed o (or_left (same_name o o) (has ps o) (same_itself o))
-
--- ---- lines that are marked
-
-marked_more : (b : Bool) (x : ℕ) → x ≢ 0 → cond b STUCK x ≢ 0
-marked_more true x some e = omega (arith, e)
-marked_more false x some e = some e
-
--- counts only grow from 0 where lines are marked
-pub marked_grows : (f : ℕ → ℕ) (first end k : ℕ) → f k ≢ 0 → marked_between f first end k ≢ 0
-marked_grows f first end k some = marked_more _ (f k) some
-
--- ranges that share no number
-ranges_apart : (r g q h : ℕ) → 1 ≤ g → 1 ≤ h → ((k : ℕ) → IsAmong r g k → ¬ IsAmong q h k) → (r + g ≤ q) ⊎ (q + h ≤ r)
-ranges_apart r g q h some other none = elim (leb_tells (r + g) q) [
-  | inl c ↦ inl c.1
-  | inr c ↦ let long = c.1 in elim (leb_tells (q + h) r) [
-    | inl d ↦ inr d.1
-    | inr d ↦ let wide = d.1 in elim (leb_tells r q) [
-      | inl e ↦ let low = e.1 in absurd (none q (low, omega (arith, long)) (omega arith, omega (arith, other)))
-      | inr e ↦ let high = e.1 in absurd (none r (omega arith, omega (arith, some)) (omega (arith, high), omega (arith, wide)))
-    ]
-  ]
-]
 
 -- ---- it stays where it was made
 
@@ -118,6 +93,7 @@ joined_there s found m at now ps o is still full = record {
   reuse = is.reuse;
   heap = λ w left promoted written. is.heap w (λ n h moved. left n (or_right (same_name n o) (has ps n) h) moved) (λ n h. promoted n (or_right (same_name n o) (has ps n) h)) written;
   states = is.states;
+  unchosen = is.unchosen;
   stay = λ n x q h place has_x run. elim (or_cases (same_name n o) (has ps n) h) [
     | inl same ↦ full x q (ap (object_at m.state.graph) (sym (same_names n o same)) ∙ has_x) run
     | inr old ↦ is.stay n x q old place has_x run
@@ -152,14 +128,10 @@ joined_there s found m at now ps o is still full = record {
       line_is = copy.line_is;
     }
 
--- tables of which bits and counts have changed as promoting changes them
-promoted_grows : (a b : Space) (p : ℕ) (object : Object) → Turns a b (with_promotion (tables_of a) p (shape_of object)) → (k : ℕ) → (tables_of a).counts k ≢ 0 → (tables_of b).counts k ≢ 0
-promoted_grows a b p object turns k some = subst (λ (t : Tables). t.counts k ≢ 0) (sym turns.tables) (marked_grows (tables_of a).counts _ _ k some)
-
 pub moving_there : (a b found : Space) (m : Moment) (at now : Name → ℕ) (ps : List Name) (o : Name) (object : Object) → IsMoving a found m at now ps → now o ≡ at o → object_at m.state.graph o ≡ Some object
     → IsFull a (shape_of object) → Turns a b (with_promotion (tables_of a) (at o) (shape_of object)) → IsMoving b found m at now (o ∷ ps)
 moving_there a b found m at now ps o object is still has_o full turns =
-    let grows = promoted_grows a b (at o) object turns in
+    let fewer = promotion_fewer a b (at o) (shape_of object) turns in
     let states : (tables_of b).states ≡ (tables_of a).states = ap (λ t. t.states) turns.tables in
     let limits : b.limits ≡ a.limits = ap (λ s. s.limits) turns.rest in
     let left = moving_left a b found m at now ps (record {
@@ -168,29 +140,17 @@ moving_there a b found m at now ps o object is still has_o full turns =
       outs = ap (λ t. t.outs) turns.tables;
       reuse = ap (λ t. t.reuse) turns.tables;
       states = states;
-      counts = grows;
+      counts = fewer.grows.counts;
       registers = ap (λ s. s.registers.items) turns.rest;
       deferred = ap (λ s. s.deferred.items) turns.rest;
       rest = (ap (λ s. s.rest_next) turns.rest, ap (λ s. s.rest_end) turns.rest);
     }) is in
     joined_there b found m at now ps o left still (λ x q has_x run.
-    let before : IsOpenRun (tables_of a) a.limits.blocks q = open_before (tables_of a) (tables_of b) a.limits.blocks q
-    (record { outs = λ line out. subst (λ (t : Tables). IsTrue (t.outs line)) (sym turns.tables) out; counts = grows }) (states_same (tables_of a) (tables_of b) q.block states) (subst (λ l. IsOpenRun (tables_of b) l.blocks q) limits run) in
+    let before = was_open_run a b q fewer run in
     let same : object ≡ x = same_object m.state.graph o object x has_o has_x in
     subst (λ z. q.lines < line_count (shape_of z)) same (elim (leb_tells (line_count (shape_of object)) q.lines) [ inl c ↦ absurd (full.lines q before c.1) | inr c ↦ let few = c.1 in omega (arith, few) ]))
 
 -- ---- it is copied
-
--- what was handed out since, and what is handed out then, is counted once
-handed_on : (x y z : Bool) (r f : ℕ) → (IsTrue y → IsTrue x) → (IsTrue z → IsTrue y) → r ≡ (if y && not z then ((f + 1) % 2 ^ 32) else f)
-    → (if x && not y then ((r + 1) % 2 ^ 32) else r) ≡ (if x && not z then ((f + 1) % 2 ^ 32) else f)
-handed_on true true true r f more was e = e
-handed_on true true false r f more was e = e
-handed_on true false true r f more was e = absurd (let no : false ≡ true = was refl in cc)
-handed_on true false false r f more was e = ap (λ k. (k + 1) % 2 ^ 32) e
-handed_on false true z r f more was e = absurd (let no : false ≡ true = more refl in cc)
-handed_on false false true r f more was e = absurd (let no : false ≡ true = was refl in cc)
-handed_on false false false r f more was e = e
 
 module _ (a b found : Space) (m : Moment) (at now : Name → ℕ) (ps : List Name) (o : Name) (q : Place) (object : Object) (is : IsMoving a found m at now ps) (member : IsTrue (has (members m) o))
     (unpromoted : has ps o ≡ false) (has_o : object_at m.state.graph o ≡ Some object)
@@ -217,14 +177,6 @@ module _ (a b found : Space) (m : Moment) (at now : Name → ℕ) (ps : List Nam
       let other = some_granules object in
       elim (taken_apart n x.0 r in_n x.1 place) [ inl h ↦ omega (arith, h, e, some) | inr h ↦ omega (arith, h, e, other) ]
 
-  -- a place is one that it was, or the new one
-  place_split : (n : Name) (r : ℕ) → IsPlaceOf at later n r → IsPlaceOf at now n r ⊎ ((n ≡ o) × (r ≡ q.0))
-  place_split n r (inl e) = inl (inl e)
-  place_split n r (inr e) = elim (tested (same_name n o)) [
-    | inl same ↦ let one = same_names n o same in inr (one, e ∙ ap later one ∙ placed_here now o q.0)
-    | inr differ ↦ inl (inr (e ∙ placed_other now o q.0 n differ))
-  ]
-
   -- the words of another object are as they were
   pub words_stay : (n : Name) (x : Object) (r i : ℕ) → IsTrue (has (members m) n) → object_at m.state.graph n ≡ Some x → IsPlaceOf at now n r → r ≢ at o → i < word_count (shape_of x)
       → (tables_of b).heap (first_word r + i) ≡ (tables_of a).heap (first_word r + i)
@@ -243,15 +195,6 @@ module _ (a b found : Space) (m : Moment) (at now : Name → ℕ) (ps : List Nam
       let told : same_name n o ≡ true = ap (same_name n) (sym same) ∙ same_itself n in
       cc
 
-  -- a word that holds either place does so then
-  holds_later : (w : ℕ) (r : Option Name) → HoldsEither at now w r → HoldsEither at later w r
-  holds_later w r (inr e) = inr e
-  holds_later w None (inl e) = inl e
-  holds_later w (Some v) (inl e) = elim (tested (same_name v o)) [
-    | inl same ↦ let one = same_names v o same in inr (e ∙ ap now one ∙ still_there ∙ ap at (sym one))
-    | inr differ ↦ inl (e ∙ sym (placed_other now o q.0 v differ))
-  ]
-
   -- o stands at the new place
   copy_stands : StandsNow (tables_of b) b.limits.blocks at later o object
   copy_stands =
@@ -262,7 +205,7 @@ module _ (a b found : Space) (m : Moment) (at now : Name → ℕ) (ps : List Nam
       stands_moved (tables_of a) (tables_of b) b.limits.blocks at now later o object (subst (λ z. 1 ≤ z) (sym here) beside.stands.placed)
       (subst (λ z. StandsWhole (tables_of b) b.limits.blocks (granule_of z) o (shape_of object)) (sym here) beside.stands.whole)
       (λ i some low. ap (λ z. (tables_of b).heap (first_word z + i)) here ∙ beside.words i some low ∙ ap (λ z. (tables_of a).heap (first_word z + i)) (sym still_there))
-      holds_later was
+      (λ w r h. holds_placed at now o q.0 w r still_there h) was
 
   -- and others where they stood
   other_stands : (n : Name) (x : Object) → IsTrue (has (members m) n) → object_at m.state.graph n ≡ Some x → same_name n o ≡ false → StandsNow (tables_of a) a.limits.blocks at now n x → StandsNow (tables_of b) a.limits.blocks at later n x
@@ -276,7 +219,7 @@ module _ (a b found : Space) (m : Moment) (at now : Name → ℕ) (ps : List Nam
       stands_moved (tables_of a) (tables_of b) a.limits.blocks at now later n x (subst (λ z. 1 ≤ z) (sym there) stands.placed)
       (subst (λ z. StandsWhole (tables_of b) a.limits.blocks (granule_of z) n (shape_of x)) (sym there) (whole_on (tables_of a) (tables_of b) a.limits.blocks (granule_of (now n)) n (shape_of x) header stands.whole))
       (λ i some low. ap (λ z. (tables_of b).heap (first_word z + i)) there ∙ words_stay n x (now n) i in_n has_x (inr refl) elsewhere low)
-      holds_later stands
+      (λ w r h. holds_placed at now o q.0 w r still_there h) stands
 
   stands_later : (n : Name) → IsTrue (has (members m) n) → (x : Object) × (object_at m.state.graph n ≡ Some x) × StandsNow (tables_of b) b.limits.blocks at later n x
   stands_later n in_n = elim (tested (same_name n o)) [
@@ -301,12 +244,12 @@ module _ (a b found : Space) (m : Moment) (at now : Name → ℕ) (ps : List Nam
   ]
 
   own_later : (n u : Name) (r : ℕ) → IsTrue (has (members m) n) → IsTrue (has (members m) u) → IsPlaceOf at later n r → IsPlaceOf at later u r → n ≡ u
-  own_later n u r in_n in_u here there = elim (place_split n r here) [
-    | inl old ↦ elim (place_split u r there) [
+  own_later n u r in_n in_u here there = elim (place_split at now o q.0 n r here) [
+    | inl old ↦ elim (place_split at now o q.0 u r there) [
       | inl other ↦ is.own n u r in_n in_u old other
       | inr new ↦ absurd (not_there n r in_n old new.1)
     ]
-    | inr new ↦ elim (place_split u r there) [
+    | inr new ↦ elim (place_split at now o q.0 u r there) [
       | inl other ↦ absurd (not_there u r in_u other new.1)
       | inr other ↦ new.0 ∙ sym other.0
     ]
@@ -318,15 +261,15 @@ module _ (a b found : Space) (m : Moment) (at now : Name → ℕ) (ps : List Nam
 
   apart_later : (n u : Name) (x y : Object) (r z : ℕ) → IsTrue (has (members m) n) → IsTrue (has (members m) u) → object_at m.state.graph n ≡ Some x → object_at m.state.graph u ≡ Some y
       → IsPlaceOf at later n r → IsPlaceOf at later u z → r ≢ z → (granule_of r + granules_of x ≤ granule_of z) ⊎ (granule_of z + granules_of y ≤ granule_of r)
-  apart_later n u x y r z in_n in_u has_x has_y here there ne = elim (place_split n r here) [
-    | inl old ↦ elim (place_split u z there) [
+  apart_later n u x y r z in_n in_u has_x has_y here there ne = elim (place_split at now o q.0 n r here) [
+    | inl old ↦ elim (place_split at now o q.0 u z there) [
       | inl other ↦ is.apart n u x y r z in_n in_u has_x has_y old other ne
       | inr new ↦
           let size : granules_of y ≡ granules_of object = ap granules_of (is_object u y has_y new.0) in
           let place = new.1 in
           elim (taken_apart n x r in_n has_x old) [ inl h ↦ inl (omega (arith, h, place)) | inr h ↦ inr (omega (arith, h, place, size)) ]
     ]
-    | inr new ↦ elim (place_split u z there) [
+    | inr new ↦ elim (place_split at now o q.0 u z there) [
       | inl other ↦
           let size : granules_of x ≡ granules_of object = ap granules_of (is_object n x has_x new.0) in
           let place = new.1 in
@@ -339,7 +282,7 @@ module _ (a b found : Space) (m : Moment) (at now : Name → ℕ) (ps : List Nam
   kept_later = record { lines = λ k taken. beside.kept.lines k (split k taken); rest = λ k taken. beside.kept.rest k (split k taken) }
     where
       split : (k : ℕ) → IsTaken m at later k → IsTaken m at now k ⊎ IsAmong (granule_of q.0) (granules_of object) k
-      split k taken = elim (place_split taken.name taken.place taken.place_is) [
+      split k taken = elim (place_split at now o q.0 taken.name taken.place taken.place_is) [
         | inl old ↦ inl (record { name = taken.name; object = taken.object; place = taken.place; member = taken.member; is = taken.is; place_is = old; among = taken.among })
         | inr new ↦
             let size : granules_of taken.object ≡ granules_of object = ap granules_of (is_object taken.name taken.object taken.is new.0) in
@@ -444,15 +387,12 @@ module _ (a b found : Space) (m : Moment) (at now : Name → ℕ) (ps : List Nam
     ]),
   )
 
-  grows_later : Grows (tables_of a) (tables_of b)
-  grows_later = record {
-    outs = λ line out. (beside.outs line).1 (inl out);
-    counts = λ k some e. marked_grows (tables_of a).counts _ _ k some (sym (ap (λ t. t.counts k) beside.tables) ∙ e);
-  }
+  fewer_later : HasFewerLines a b
+  fewer_later = beside_fewer a b (with_promotion (tables_of a) q.0 (shape_of object)) (IsTaken m at now) (place_of at o) q o (shape_of object) beside (λ k some. marked_grows (tables_of a).counts _ _ k some)
 
   reuse_later : (line : ℕ) → (tables_of b).reuse line ≡ if (tables_of b).outs line && not ((tables_of found).outs line) then (((tables_of found).reuse line + 1) % 2 ^ 32) else (tables_of found).reuse line
   reuse_later line = beside.reuse line
-      ∙ handed_on ((tables_of b).outs line) ((tables_of a).outs line) ((tables_of found).outs line) ((tables_of a).reuse line) ((tables_of found).reuse line) (grows_later.outs line) (λ was. (is.outs line).1 (inl was)) (is.reuse line)
+      ∙ handed_on ((tables_of b).outs line) ((tables_of a).outs line) ((tables_of found).outs line) ((tables_of a).reuse line) ((tables_of found).reuse line) (fewer_later.grows.outs line) (λ was. (is.outs line).1 (inl was)) (is.reuse line)
 
   -- a heap word that is none of those is as it was
   heap_later : (w : ℕ) → ((n : Name) → IsTrue (has (o ∷ ps) n) → later n ≢ at n → w ≢ first_word (at n)) → ((n : Name) → IsTrue (has (o ∷ ps) n) → ¬ HasWord m.state.graph later n w)
@@ -485,6 +425,19 @@ module _ (a b found : Space) (m : Moment) (at now : Name → ℕ) (ps : List Nam
           let end = word.behind in
           promoted n (or_right (same_name n o) (has ps n) h) (record { object = word.object; is = word.is; first = omega (arith, first, there); behind = omega (arith, end, there) })
 
+  -- the copy stands outside Chosen blocks, as other new objects do
+  unchosen_later : AvoidChosen (tables_of b) later m.made
+  unchosen_later n made = elim (tested (same_name n o)) [
+    | inl same ↦ subst (outside (tables_of b)) (sym (ap later (same_names n o same) ∙ placed_here now o q.0)) (still q.0 beside.unchosen)
+    | inr differ ↦ subst (outside (tables_of b)) (sym (placed_other now o q.0 n differ)) (still (now n) (is.unchosen n made))
+  ]
+    where
+      outside : Tables → ℕ → Type 0
+      outside t p = state_in t (granule_of p / GRANULES_IN_BLOCK) ≢ Chosen
+
+      still : (p : ℕ) → outside (tables_of a) p → outside (tables_of b) p
+      still p = still_not (tables_of a) (tables_of b) (granule_of p / GRANULES_IN_BLOCK) Chosen refl (beside.states (granule_of p / GRANULES_IN_BLOCK))
+
   pub moving_copied : AreMade m ps → KeepsGranules b (IsKeptGranule found) → IsMoving b found m at later (o ∷ ps)
   moving_copied all_made kept_before = record {
     stands = stands_later;
@@ -498,20 +451,20 @@ module _ (a b found : Space) (m : Moment) (at now : Name → ℕ) (ps : List Nam
     kept_before = kept_before;
     onto = onto_later;
     registers = subst (λ xs. HoldEither at later xs m.state.registers) (sym (ap (λ s. s.registers.items) beside.space))
-        (record { as_many = is.registers.as_many; each = λ k p r e f. holds_later p.0 r (is.registers.each k p r e f) });
+        (record { as_many = is.registers.as_many; each = λ k p r e f. holds_placed at now o q.0 p.0 r still_there (is.registers.each k p r e f) });
     deferred = subst (λ xs. ArePlacesOf at xs m.last.registers) (sym (ap (λ s. s.deferred.items) beside.space)) is.deferred;
     world = is.world;
     outs = outs_later;
     reuse = reuse_later;
     heap = heap_later;
     states = λ k. states_joined (tables_of found) (tables_of a) (tables_of b) k (is.states k) (beside.states k);
+    unchosen = unchosen_later;
     stay = λ n x r h place has_x run. elim (tested (same_name n o)) [
       | inl same ↦
           let one = same_names n o same in
           absurd (moved_later (ap later (sym one) ∙ place ∙ ap at one))
       | inr differ ↦
           let old : IsTrue (has ps n) = elim (or_cases (same_name n o) (has ps n) h) [ inl same ↦ absurd (cc) | inr k ↦ k ] in
-          is.stay n x r old (sym (placed_other now o q.0 n differ) ∙ place) has_x
-          (open_before (tables_of a) (tables_of b) a.limits.blocks r grows_later (beside.states r.block) (subst (λ l. IsOpenRun (tables_of b) l.blocks r) same_limits run))
+          is.stay n x r old (sym (placed_other now o q.0 n differ) ∙ place) has_x (was_open_run a b r fewer_later run)
     ];
   }

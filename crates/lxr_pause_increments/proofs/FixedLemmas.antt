@@ -1,22 +1,18 @@
 -- References that hold the place where their object stands, which won't change any more; and what a write of one leaves.
-use Rattle.std.proofs.Common.{◌≡◌, ◌≢◌, ℕ, ◌+◌, ◌*◌, ◌<◌, ◌≤◌, refl, sym, ap, subst, ◌∙◌, inl, inr, ◌⊎◌, arith, false, cond, List, length}
+use Rattle.std.proofs.Common.{◌≡◌, ◌≢◌, ℕ, ◌+◌, ◌<◌, ◌≤◌, refl, sym, ap, subst, ◌∙◌, inl, inr, ◌⊎◌, arith, false, List, length}
 use Rattle.std.specs.Prelude.{Some, None, Option, IsTrue, slice_get, slice_set, slice_index_or}
-use Rattle.std.proofs.Math.ListN.{length-set}
-use Rattle.std.proofs.lemmas.Bool.Decides.{eqb_tells}
 use Rattle.std.proofs.lemmas.Option.{get_or_from_slice_get, slice_get-get_or, slice_get_within}
 use Rattle.lxr_layout.specs.declared.Name.{Name}
 use Rattle.lxr_layout.specs.declared.Place.{Place}
-use Rattle.lxr_layout.specs.declared.Shape.{Shape}
 use Rattle.lxr_layout.specs.Objects.{word_count}
 use Rattle.lxr_layout.specs.Places.{first_word}
 use Rattle.lxr_graph.specs.Names.{has, same_name}
 use Rattle.lxr_graph.specs.State.{Object, object_at, refs_of, shape_of}
 use Rattle.lxr_graph.proofs.NameSets.{same_names, union_right}
-use Rattle.lxr_graph.proofs.RowLemmas.{slice_get-set}
 use Rattle.lxr_image.specs.declared.space.Space.{Space}
 use Rattle.lxr_image.specs.Tables.{Tables}
 use Rattle.lxr_image.specs.Spaces.{Turns, tables_of}
-use Rattle.lxr_image.specs.Reads.{StandsWhole, granule_of}
+use Rattle.lxr_image.specs.Reads.{granule_of}
 use Rattle.lxr_image.specs.Image.{place_word}
 use Rattle.lxr_image.specs.ImageLaws.{with_heap}
 use Rattle.lxr_image.proofs.ImageLemmas.{words_cover, words_even}
@@ -30,43 +26,13 @@ use Rattle.lxr_invariant.specs.Raised.{with_promoted}
 use Rattle.lxr_invariant.specs.Standing.{word_of_field}
 use Rattle.lxr_invariant.proofs.EntryLemmas.{changed_cases, changed_here}
 use Rattle.lxr_invariant.proofs.NameLemmas.{in_first, in_second}
+use Rattle.lxr_pause_promote.specs.Either.{HoldEither, HoldsEither, StandsNow}
+use Rattle.lxr_pause_promote.proofs.EitherLemmas.{held_still, hold_written, stands_same, whole_on}
 use Rattle.lxr_pause_increments.specs.Accounted.{IsFixed, IsRegisterFixed, references_at}
 use Rattle.lxr_pause_increments.specs.Increments.{IncrementStage}
-use Rattle.lxr_pause_increments.specs.Moving.{HoldEither, HoldsEither, IsMoving, StandsNow}
+use Rattle.lxr_pause_increments.specs.Moving.{IsMoving}
 use Rattle.lxr_pause_increments.proofs.MovingLemmas.{AreMade, apart_now, known_member, unreclaimed_still}
 use Rattle.lxr_pause_increments.proofs.StayingLemmas.{StaysMoving, moving_with}
-
--- ---- an object whose words are as they were
-
-pub whole_on : (t u : Tables) (blocks g : ℕ) (n : Name) (shape : Shape) → u.heap (2 * g) ≡ t.heap (2 * g) → StandsWhole t blocks g n shape → StandsWhole u blocks g n shape
-whole_on t u blocks g n shape header is = record { name = is.name; shape = is.shape; header = header ∙ is.header; in_heap = is.in_heap; in_block = is.in_block }
-
--- it stands at a place where the words behind its header are those that they were, under a map of places that agrees on what it holds
-pub stands_moved : (t u : Tables) (blocks : ℕ) (at now to : Name → ℕ) (n : Name) (o : Object) → 1 ≤ to n → StandsWhole u blocks (granule_of (to n)) n (shape_of o)
-    → ((i : ℕ) → 1 ≤ i → i < word_count (shape_of o) → u.heap (first_word (to n) + i) ≡ t.heap (first_word (now n) + i))
-    → ((w : ℕ) (r : Option Name) → HoldsEither at now w r → HoldsEither at to w r) → StandsNow t blocks at now n o → StandsNow u blocks at to n o
-stands_moved t u blocks at now to n o placed whole words holds is =
-    let cover = words_cover o in
-    record {
-      placed = placed;
-      whole = whole;
-      refs = λ i r e.
-          let within = slice_get_within o.refs i r e in
-          let there = words (1 + i) (omega arith) (omega (arith, within, cover)) in
-          let one : (p : ℕ) → first_word p + (1 + i) ≡ first_word p + 1 + i = λ p. omega arith in
-          let same : u.heap (first_word (to n) + 1 + i) ≡ t.heap (first_word (now n) + 1 + i) = sym (ap u.heap (one (to n))) ∙ there ∙ ap t.heap (one (now n)) in
-          subst (λ w. HoldsEither at to w r) (sym same) (holds (t.heap (first_word (now n) + 1 + i)) r (is.refs i r e));
-      values = λ i v e.
-          let within = slice_get_within o.values i v e in
-          let there = words (1 + length o.refs + i) (omega arith) (omega (arith, within, cover)) in
-          let one : (p : ℕ) → first_word p + (1 + length o.refs + i) ≡ first_word p + 1 + length o.refs + i = λ p. omega arith in
-          sym (ap u.heap (one (to n))) ∙ there ∙ ap t.heap (one (now n)) ∙ is.values i v e;
-    }
-
-stands_same : (t u : Tables) (blocks : ℕ) (at now : Name → ℕ) (n : Name) (o : Object) → u.heap ≡ t.heap → StandsNow t blocks at now n o → StandsNow u blocks at now n o
-stands_same t u blocks at now n o heap is =
-    stands_moved t u blocks at now now n o is.placed (whole_on t u blocks (granule_of (now n)) n (shape_of o) (ap (λ h. h (2 * granule_of (now n))) heap) is.whole)
-    (λ i some low. ap (λ h. h (first_word (now n) + i)) heap) (λ w r h. h) is
 
 -- ---- a step that moves and writes nothing
 
@@ -297,31 +263,6 @@ module _ (a b : Space) (m : Moment) (at : Name → ℕ) (st : IncrementStage) (i
 
 -- ---- a register is written
 
--- the entry of a list that was written, or another one
-cases_at : {X : Type 0} (xs : List X) (i : ℕ) (v : X) (j : ℕ) (x : X) → i < length xs → slice_get (slice_set xs i v) j ≡ Some x → ((j ≡ i) × (v ≡ x)) ⊎ (slice_get xs j ≡ Some x)
-cases_at xs i v j x h e =
-    let s = slice_get-set xs i v j h in
-    elim (eqb_tells j i) [
-      | inl k ↦ inl (k.1, let q : Some v ≡ Some x = sym (ap (λ b. cond b (Some v) (slice_get xs j)) k.0) ∙ sym s ∙ e in cc)
-      | inr k ↦ inr (sym (ap (λ b. cond b (Some v) (slice_get xs j)) k.0) ∙ sym s ∙ e)
-    ]
-
-hold_written : (at now : Name → ℕ) (places : List Place) (held : List (Option Name)) (k : ℕ) (p : Place) (r : Option Name) → slice_get held k ≡ Some r → p.0 ≡ place_word now r → HoldEither at now places held
-    → HoldEither at now (slice_set places k p) held
-hold_written at now places held k p r has_k place is =
-    let low = slice_get_within held k r has_k in
-    let many = is.as_many in
-    record {
-      as_many = length-set places k p ∙ is.as_many;
-      each = λ j q x place_is held_is. elim (cases_at places k p j q (omega (arith, low, many)) place_is) [
-        | inl c ↦
-            let same : Some r ≡ Some x = sym has_k ∙ ap (slice_get held) (sym c.0) ∙ held_is in
-            let one : r ≡ x = cc in
-            inl (ap (λ y. y.0) (sym c.1) ∙ place ∙ ap (place_word now) one)
-        | inr c ↦ is.each j q x c held_is
-      ];
-    }
-
 pub moving_register : (a b found : Space) (m : Moment) (at now : Name → ℕ) (ps : List Name) (k : ℕ) (p : Place) (held : Option Name) → IsMoving a found m at now ps
     → slice_get m.state.registers k ≡ Some held → p.0 ≡ place_word now held → b ≡ record a { registers = record a.registers { items = slice_set a.registers.items k p } } → IsMoving b found m at now ps
 moving_register a b found m at now ps k p held is has_k place same =
@@ -344,12 +285,6 @@ moving_register a b found m at now ps k p held is has_k place same =
 -- one of an unreclaimed object that wasn't stored to refers to an unreclaimed object
 unwritten_kept : (m : Moment) → FollowsPause m → (u o : Name) (i : ℕ) → IsTrue (has m.unreclaimed u) → has_field m.written (u, i) ≡ false → slice_get (references_at m u) i ≡ Some (Some o) → IsTrue (has m.unreclaimed o)
 unwritten_kept m follows u o i kept unwritten refers = follows.closed u o kept (i, sym (follows.unwritten u i kept unwritten) ∙ refers)
-
--- where what is held stands where it stood, either place is the one
-held_still : (at now : Name → ℕ) (w : ℕ) (held : Option Name) → ((o : Name) → held ≡ Some o → now o ≡ at o) → HoldsEither at now w held → w ≡ place_word now held
-held_still at now w held still (inl e) = e
-held_still at now w None still (inr e) = e
-held_still at now w (Some o) still (inr e) = e ∙ sym (still o refl)
 
 pub fixed_unwritten : (s : Space) (m : Moment) (at : Name → ℕ) (st : IncrementStage) → IsMoving s st.found m at st.now st.promoted → FollowsPause m → AreMade m st.promoted
     → (u : Name) (i : ℕ) → IsTrue (has m.unreclaimed u) → i < length (references_at m u) → has_field m.written (u, i) ≡ false → IsFixed s m st u i

@@ -1,8 +1,8 @@
 -- What raising counts, promoting objects and fixing references leave as it was.
-use Rattle.std.proofs.Common.{◌≡◌, ℕ, refl, sym, ap, subst, ◌∙◌, List, nat_eq}
+use Rattle.std.proofs.Common.{◌≡◌, ◌≢◌, ℕ, refl, sym, ap, subst, ◌∙◌, arith, List, nat_eq}
 use Rattle.lxr_layout.specs.declared.Name.{Name}
 use Rattle.lxr_layout.specs.declared.Place.{Place}
-use Rattle.lxr_layout.specs.declared.TheConstants.{TRACING_WORD}
+use Rattle.lxr_layout.specs.declared.TheConstants.{REMEMBERED_CURSOR, TRACING_WORD}
 use Rattle.lxr_image.specs.declared.space.Space.{Space}
 use Rattle.lxr_image.specs.Tables.{Tables}
 use Rattle.lxr_image.specs.Spaces.{IsSpace, tables_of}
@@ -19,23 +19,25 @@ pub tables_same : (t u : Tables) → u ≡ t → RaisingLeavesTables t u
 tables_same t u e = record {
   runs = ap (λ x. x.runs) e;
   frees = ap (λ x. x.frees) e;
-  remembered = ap (λ x. x.remembered) e;
-  cursors = ap (λ x. x.cursors) e;
+  cursors = λ k other. ap (λ x. x.cursors k) e;
   starts = λ k h. ap (λ x. x.starts k) e ∙ h;
   marks = λ k. ap (λ x. x.marks k) e ∙ marks_same t k ∙ ap (λ x. marks_with t x.starts k) (sym e);
   grays = ap (λ x. x.grays) e;
   decs = ap (λ x. x.decs) e;
 }
 
+-- the tracing word is no cursor of the set
+tracing_apart : TRACING_WORD ≢ REMEMBERED_CURSOR
+tracing_apart e = omega (arith, e)
+
 -- one step after another
 pub tables_both : (t u v : Tables) → RaisingLeavesTables t u → RaisingLeavesTables u v → RaisingLeavesTables t v
 tables_both t u v x y = record {
   runs = y.runs ∙ x.runs;
   frees = y.frees ∙ x.frees;
-  remembered = y.remembered ∙ x.remembered;
-  cursors = y.cursors ∙ x.cursors;
+  cursors = λ k other. y.cursors k other ∙ x.cursors k other;
   starts = λ k h. y.starts k (x.starts k h);
-  marks = marks_both t u v (ap (λ f. nat_eq (f TRACING_WORD) 1) x.cursors) x.starts y.starts x.marks y.marks;
+  marks = marks_both t u v (ap (λ k. nat_eq k 1) (x.cursors TRACING_WORD tracing_apart)) x.starts y.starts x.marks y.marks;
   grays = y.grays ∙ x.grays;
   decs = y.decs ∙ x.decs;
 }

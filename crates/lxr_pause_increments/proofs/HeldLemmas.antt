@@ -26,11 +26,12 @@ use Rattle.lxr_invariant.specs.AbstractState.{members}
 use Rattle.lxr_invariant.specs.Raised.{with_promoted}
 use Rattle.lxr_invariant.specs.Standing.{word_of_field}
 use Rattle.lxr_invariant.proofs.NameLemmas.{has_more, live_member}
+use Rattle.lxr_pause_promote.specs.Either.{HoldsEither, IsPlaceOf}
 use Rattle.lxr_pause_increments.specs.Accounted.{GoesOn, HeldMayBeRaised, IsHolder, IsKnown, references_at, stage_with_held}
 use Rattle.lxr_pause_increments.specs.Increments.{IncrementStage, IsIncrementing, MayBeRaised, is_unpromoted, stage_with}
-use Rattle.lxr_pause_increments.specs.Moving.{HoldsEither, IsPlaceOf}
 use Rattle.lxr_pause_increments.specs.Steps.{RaisesHeld}
 use Rattle.lxr_pause_increments.proofs.MovingLemmas.{place_some}
+use Rattle.lxr_pause_increments.proofs.RememberedLemmas.{stays_both, stays_none}
 use Rattle.lxr_pause_increments.proofs.StageLemmas.{known_promoted}
 
 -- ---- objects whose references are raised
@@ -131,13 +132,14 @@ raised_small a b m at st (Some o) w v may raises = (member_place b m at (stage_w
 
 -- what was fixed stays so where nothing is done, and step after step
 pub goes_none : (s : Space) (m : Moment) (st : IncrementStage) → GoesOn s s m st st
-goes_none s m st = record { found = refl; fields = λ u i h. h; registers = λ k h. h }
+goes_none s m st = record { found = refl; fields = λ u i h. h; registers = λ k h. h; remembered = stays_none s m st }
 
 pub goes_both : (a b c : Space) (m : Moment) (st next later : IncrementStage) → GoesOn a b m st next → GoesOn b c m next later → GoesOn a c m st later
 goes_both a b c m st next later x y = record {
   found = y.found ∙ x.found;
   fields = λ u i h. y.fields u i (x.fields u i h);
   registers = λ k h. y.registers k (x.registers k h);
+  remembered = stays_both a b c m st next later x.remembered y.remembered;
 }
 
 -- nil raises nothing
@@ -147,6 +149,7 @@ held_none s m at st None w incrementing may none = record {
   word = refl;
   known = λ o e. absurd (cc);
   goes_on = goes_none s m st;
+  cursor = refl;
 }
 held_none s m at st (Some o) w incrementing may none =
     let some = (member_place s m at st o w incrementing (may.member o refl) (elim may.word as (λ h. IsPlaceOf at st.now o w) [ inl e ↦ inr e | inr e ↦ inl e ])).0 in

@@ -2,7 +2,7 @@
 use Rattle.std.proofs.Common.{◌≡◌, ℕ, ◌+◌, ◌*◌, ◌<◌, ◌≤◌, refl, sym, ap, subst, ◌∙◌, inl, inr, arith, true, false, length}
 use Rattle.std.specs.Prelude.{◌&&◌, not, IsTrue, map, min, reverse}
 use Rattle.lxr_layout.specs.declared.Name.{Name}
-use Rattle.lxr_layout.specs.declared.TheConstants.{DECREMENT_COUNT, DECREMENT_CURSOR, STUCK, TRACING_WORD}
+use Rattle.lxr_layout.specs.declared.TheConstants.{DECREMENT_COUNT, DECREMENT_CURSOR, REMEMBERED_CURSOR, STUCK, TRACING_WORD}
 use Rattle.lxr_tables.specs.Counts.{raised_count}
 use Rattle.lxr_graph.specs.Names.{has, same_name}
 use Rattle.lxr_graph.proofs.NameSets.{same_names}
@@ -23,7 +23,9 @@ use Rattle.lxr_invariant.specs.Lines.{HasBlocks, HasMarks}
 use Rattle.lxr_invariant.specs.Raised.{with_promoted}
 use Rattle.lxr_invariant.proofs.BlockLemmas.{blocks_kept}
 use Rattle.lxr_invariant.proofs.EntryLemmas.{changed_cases, changed_here, changed_other}
-use Rattle.lxr_pause_increments.specs.Increments.{HasCountsSoFar, HasRoomToRaise, IsIncrementing, RaisingLeaves, RaisingLeavesTables, IncrementStage, is_unpromoted, count_so_far}
+use Rattle.lxr_remset.specs.Remembering.{CanRemember}
+use Rattle.lxr_pause_promote.proofs.FewerLemmas.{states_same}
+use Rattle.lxr_pause_increments.specs.Increments.{HasCountsSoFar, HasRoomToRaise, IsIncrementing, RaisingLeaves, RaisingLeavesTables, IncrementStage, StaysRemembered, is_unpromoted, count_so_far, first_stage}
 use Rattle.lxr_pause_increments.specs.Moving.{IsMoving}
 use Rattle.lxr_pause_increments.specs.Promotion.{RaisesAt, stuck_with, with_raised}
 use Rattle.lxr_pause_increments.proofs.TracedLemmas.{marks_same}
@@ -34,9 +36,9 @@ use Rattle.lxr_pause_increments.proofs.BitLemmas.{bits_raised}
 use Rattle.lxr_pause_increments.proofs.RaiseLemmas.{RaisesOnce, counts_then}
 use Rattle.lxr_pause_increments.proofs.MovingLemmas.{differ_now, known_member, mark_apart_now, place_some}
 use Rattle.lxr_pause_increments.proofs.FixedLemmas.{LeavesMoving, moving_left}
+use Rattle.lxr_pause_increments.proofs.RememberedLemmas.{LeavesSet, stays_both, stays_left}
 use Rattle.lxr_pause_increments.proofs.RoomLemmas.{granules, room_raised}
 use Rattle.lxr_pause_increments.proofs.StageLemmas.{again_here, again_other, all_made, known_promoted, raised_again, stuck_known}
-use Rattle.lxr_pause_increments.proofs.StayingLemmas.{states_same}
 
 -- ---- what one count raised leaves as it was
 
@@ -46,7 +48,7 @@ raised_leaves a b p o raised =
     (subst (RaisingLeavesTables (tables_of a)) (sym raised.tables) unwritten)
   where
     unwritten : RaisingLeavesTables (tables_of a) (with_raised (tables_of a) (granule_of p))
-    unwritten = record { runs = refl; frees = refl; remembered = refl; cursors = refl; starts = λ k h. h; marks = marks_same (tables_of a); grays = refl; decs = refl }
+    unwritten = record { runs = refl; frees = refl; cursors = λ k other. refl; starts = λ k h. h; marks = marks_same (tables_of a); grays = refl; decs = refl }
 
 pub raised_still : (a b : Space) (p : ℕ) (o : Name) → RaisesAt a b p o → LeavesMoving a b
 raised_still a b p o raised = record {
@@ -63,6 +65,9 @@ raised_still a b p o raised = record {
   deferred = ap (λ s. s.deferred.items) raised.rest;
   rest = (ap (λ s. s.rest_next) raised.rest, ap (λ s. s.rest_end) raised.rest);
 }
+
+pub raised_set : (a b : Space) (p : ℕ) (o : Name) → RaisesAt a b p o → LeavesSet a b
+raised_set a b p o raised = record { limits = ap (λ s. s.limits) raised.rest; remembered = ap (λ t. t.remembered) raised.tables; cursor = ap (λ t. t.cursors REMEMBERED_CURSOR) raised.tables }
 
 -- ---- all parts together
 
@@ -87,8 +92,9 @@ pub record RaisedOnce (c : Space) (m : Moment) (at : Name → ℕ) (st : Increme
   pub worklist : c.work.items ≡ map (place_of st.now) st.work
   pub lists : HasRoomToRaise c
 
-pub incrementing_with : (a c : Space) (m : Moment) (at : Name → ℕ) (st after : IncrementStage) → RaisingLeaves a c → LeavesBlocks a c → IsIncrementing a m at st → RaisedOnce c m at after → IsIncrementing c m at after
-incrementing_with a c m at st after leaves still is raises = record {
+pub incrementing_with : (a c : Space) (m : Moment) (at : Name → ℕ) (st after : IncrementStage) → RaisingLeaves a c → LeavesBlocks a c → StaysRemembered a c m st after → after.found ≡ st.found → IsIncrementing a m at st
+    → RaisedOnce c m at after → IsIncrementing c m at after
+incrementing_with a c m at st after leaves still stays found is raises = record {
   space = space_stays a c leaves still.size is.space;
   room = room_stays a c leaves is.room;
   as_many = (
@@ -108,14 +114,20 @@ incrementing_with a c m at st after leaves still is raises = record {
   few_logs = subst (λ (s : Space). length s.logged.items ≤ s.limits.threads * s.limits.log) (sym leaves.space) is.few_logs;
   none_done = λ k. ap (λ f. f k) still.dones ∙ is.none_done k;
   blocks = subst (λ z. HasBlocks (tables_of c) z m.trace) (sym (same_blocks a c leaves))
-      (blocks_kept (tables_of a) (tables_of c) a.limits.blocks m.trace still.states (ap (λ f. f TRACING_WORD) leaves.tables.cursors) is.blocks);
-  decrements = (ap (λ f. f DECREMENT_CURSOR) leaves.tables.cursors ∙ is.decrements.0, ap (λ f. f DECREMENT_COUNT) leaves.tables.cursors ∙ is.decrements.1);
+      (blocks_kept (tables_of a) (tables_of c) a.limits.blocks m.trace still.states (leaves.tables.cursors TRACING_WORD (λ e. omega (arith, e))) is.blocks);
+  decrements = (leaves.tables.cursors DECREMENT_CURSOR (λ e. omega (arith, e)) ∙ is.decrements.0, leaves.tables.cursors DECREMENT_COUNT (λ e. omega (arith, e)) ∙ is.decrements.1);
+  might_remember = subst (λ s. CanRemember m.trace (tables_of s)) (sym found) is.might_remember;
+  remembered = subst (λ s. StaysRemembered s c m (first_stage at s) after) (sym found) (stays_both st.found a c m (first_stage at st.found) st after is.remembered stays);
   reported = raises.reported;
   worklist = raises.worklist;
   lists = raises.lists;
 }
 
 -- ---- a name that is known
+
+pub again_stays : (a b : Space) (m : Moment) (st : IncrementStage) (o : Name) (p : ℕ) → RaisesAt a b p o → StaysRemembered a b m st (raised_again st o)
+again_stays a b m st o p raised =
+    stays_left a b m st (raised_again st o) (record { promoted = refl; now = refl }) (raised_set a b p o raised) (ap (λ t. t.reuse) raised.tables) (ap (λ t. t.states) raised.tables)
 
 pub saturates : (n r q : ℕ) → n ≡ min r STUCK → q ≡ r + 1 → raised_count n ≡ min q STUCK
 saturates n r q e f = omega arith
@@ -174,7 +186,7 @@ module _ (a b : Space) (m : Moment) (at : Name → ℕ) (st : IncrementStage) (o
 
   -- it is raised
   pub again_raised : IsIncrementing b m at (raised_again st o)
-  again_raised = incrementing_with a b m at st (raised_again st o) (raised_leaves a b (st.now o) o raised) still is again_is_raised
+  again_raised = incrementing_with a b m at st (raised_again st o) (raised_leaves a b (st.now o) o raised) still (again_stays a b m st o (st.now o) raised) refl is again_is_raised
     where
       still : LeavesBlocks a b
       still = record {

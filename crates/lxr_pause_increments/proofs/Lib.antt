@@ -9,6 +9,7 @@ pub mod RoomLemmas
 pub mod MovingLemmas
 pub mod StayingLemmas
 pub mod FixedLemmas
+pub mod RememberedLemmas
 pub mod EvacuatedLemmas
 pub mod CopiedLemmas
 pub mod EndsLemmas
@@ -17,8 +18,11 @@ pub mod IncrementLemmas
 pub mod TakenLemmas
 pub mod SettleLemmas
 pub mod OrderLemmas
+pub mod FewLemmas
 pub mod HeldLemmas
 pub mod ChangedLemmas
+pub mod ShortLemmas
+pub mod EnteredLemmas
 pub mod GrownLemmas
 pub mod StillLemmas
 pub mod ScanLemmas

@@ -1,12 +1,11 @@
 -- Where objects stand while promoted ones are copied: no two reach into one another, and a start bit tells an object that is known,
 -- and stands there, from a new one and from a copied one.
-use Rattle.std.proofs.Common.{◌≡◌, ◌≢◌, ℕ, ◌+◌, ◌*◌, ◌%◌, ◌^◌, ◌/◌, ◌<◌, ◌≤◌, refl, sym, ap, subst, ◌∙◌, inl, inr, ◌⊎◌, arith, true, false, cond, List, nat_le}
+use Rattle.std.proofs.Common.{◌≡◌, ◌≢◌, ℕ, ◌+◌, ◌*◌, ◌^◌, ◌<◌, ◌≤◌, refl, sym, ap, subst, ◌∙◌, inl, inr, ◌⊎◌, arith, true, false, List}
 use Rattle.std.specs.Prelude.{Some, IsTrue}
-use Rattle.std.proofs.lemmas.Bool.Decides.{nat_tests}
 use Rattle.lxr_layout.specs.declared.Header.TheVariants.{Moved, Object as AnObject}
 use Rattle.lxr_layout.specs.declared.Name.{Name}
 use Rattle.lxr_layout.specs.declared.TheConstants.{GRANULES_IN_BLOCK}
-use Rattle.lxr_layout.specs.Objects.{header_of, moved_word}
+use Rattle.lxr_layout.specs.Objects.{header_of}
 use Rattle.lxr_layout.specs.Places.{first_word}
 use Rattle.lxr_graph.specs.Names.{has, same_name}
 use Rattle.lxr_graph.specs.State.{Object, object_at, shape_of}
@@ -26,7 +25,9 @@ use Rattle.lxr_invariant.specs.Standing.{place_of}
 use Rattle.lxr_invariant.proofs.NameLemmas.{in_either, in_first, in_second}
 use Rattle.lxr_invariant.proofs.PlaceLemmas.{same_object}
 use Rattle.lxr_pause_promote.specs.Copying.{StandsAt, StandsKept}
-use Rattle.lxr_pause_increments.specs.Moving.{IsMoving, IsPlaceOf, IsTaken}
+use Rattle.lxr_pause_promote.specs.Either.{IsPlaceOf}
+use Rattle.lxr_pause_promote.proofs.EitherLemmas.{moved_unpacked, some_granules}
+use Rattle.lxr_pause_increments.specs.Moving.{IsMoving, IsTaken}
 
 -- promoted names were made since the last pause
 abbrev pub AreMade : Moment → List Name → Type 0
@@ -59,24 +60,12 @@ unreclaimed_still s found m at now ps is made apart n kept = is.others n (elim (
   | inr k ↦ k
 ])
 
--- an object has a granule
-pub some_granules : (o : Object) → 1 ≤ granules_of o
-some_granules o = omega arith
-
 -- what is known stands in the heap
 pub known_member : (m : Moment) (ps : List Name) → AreMade m ps → (n : Name) → IsTrue (has (with_promoted m ps) n) → IsTrue (has (members m) n)
 known_member m ps made n known = elim (union_cases ps m.unreclaimed n known) [
   | inl k ↦ in_second m.unreclaimed m.made n (made n k)
   | inr k ↦ in_first m.unreclaimed m.made n k
 ]
-
--- the word that is left behind tells a place
-pub moved_unpacked : (p : ℕ) → p < 2 ^ 32 → header_of (moved_word p) ≡ Moved (record { 0 = p })
-moved_unpacked p small =
-    let w : ℕ = moved_word p in
-    let moved : nat_le (2 ^ 63) w ≡ true = grind (arith, nat_tests) in
-    let place : w % 2 ^ 32 ≡ p = omega arith in
-    ap (λ b. cond b (Moved (record { 0 = w % 2 ^ 32 })) (AnObject (record { thread = w / 2 ^ 52 % 2 ^ 8; serial = w / 2 ^ 20 % 2 ^ 32 }) (record { refs = w / 2 ^ 10 % 2 ^ 10; values = w % 2 ^ 10 }))) moved ∙ ap (λ q. Moved (record { 0 = q })) place
 
 module _ (s found : Space) (m : Moment) (at now : Name → ℕ) (ps : List Name) (is : IsMoving s found m at now ps) where
   -- ---- places

@@ -1,18 +1,18 @@
 -- The accounts of the increments: each step of the order takes as much from what is pending as it raises.
-use Rattle.std.proofs.Common.{◌≡◌, ℕ, zero, suc, ◌+◌, refl, sym, ap, subst, ◌∙◌, inl, inr, arith, Bool, true, false, cond, List, [], ◌∷◌, ◌++◌, IsTrue}
+use Rattle.std.proofs.Common.{◌≡◌, ℕ, zero, suc, ◌+◌, refl, sym, ap, subst, ◌∙◌, inl, inr, arith, Bool, true, false, cond, List, [], ◌∷◌, ◌++◌, IsTrue, length}
 use Rattle.std.specs.Prelude.{not, ◌||◌, Option, None, Some, count_by, map, slice_get, slice_index_or, slice_set, take}
 use Rattle.std.specs.List.{swap, zip}
 use Rattle.std.specs.List.Sorted.{IsPermutation, SwapsInRange, apply_swaps}
 use Rattle.std.proofs.Math.ListN.{length-map}
 use Rattle.std.proofs.lemmas.Bool.{or_cases, or_left, and_parts, false_from_ne_true}
 use Rattle.std.proofs.lemmas.List.{map-set}
-use Rattle.std.proofs.lemmas.List.Sums.{count_by_more_no, count_by_more_yes}
+use Rattle.std.proofs.lemmas.List.Sums.{count_by_more_no, count_by_more_yes, sum_by-cons}
 use Rattle.std.proofs.lemmas.Option.{get_or_from_slice_get, slice_get_within}
 use Rattle.lxr_layout.specs.declared.Name.{Name}
 use Rattle.lxr_graph.specs.Names.{has, same_held, same_name, without}
 use Rattle.lxr_graph.specs.State.{Graph, object_at, refs_of}
 use Rattle.lxr_graph.proofs.NameSets.{not_both, same_names}
-use Rattle.lxr_model.specs.References.{occurrences, references_from}
+use Rattle.lxr_model.specs.References.{occurrences, reference_slots, references_from}
 use Rattle.lxr_model.specs.Moments.{Moment}
 use Rattle.lxr_model_counting.specs.Distinct.{IsDistinct}
 use Rattle.lxr_model_counting.proofs.DistinctLemmas.{or_false, same_flip, tested}
@@ -54,39 +54,47 @@ without_pushed : (ps ws : List Name) (o : Name) → has ps o ≡ false → witho
 without_pushed ps ws o e =
     ap (λ b. cond (not b) (o ∷ without ps (ws ++ o ∷ [])) (without ps (ws ++ o ∷ []))) (has_last ws o) ∙ without_behind ps ws o e
 
--- one that leaves the worklist adds its references
-pub references_popped : (g : Graph) (ps ws : List Name) (u o : Name) → IsDistinct ps → IsTrue (has ps u) → has ws u ≡ false
-    → references_from g (without ps ws) o ≡ occurrences (refs_of (object_at g u)) o + references_from g (without ps (ws ++ u ∷ [])) o
-references_popped g [] ws u o d h e = absurd (cc)
-references_popped g (p ∷ ps) ws u o d h e = elim (tested (same_name p u)) [
+-- one that leaves the worklist adds its part to what is summed over all that are out
+sum_popped : (total : List Name → ℕ) (part : Name → ℕ) → ((n : Name) (ns : List Name) → total (n ∷ ns) ≡ part n + total ns) → (ps ws : List Name) (u : Name) → IsDistinct ps → IsTrue (has ps u) → has ws u ≡ false
+    → total (without ps ws) ≡ part u + total (without ps (ws ++ u ∷ []))
+sum_popped total part more [] ws u d h e = absurd (cc)
+sum_popped total part more (p ∷ ps) ws u d h e = elim (tested (same_name p u)) [
   | inl k ↦
       let same : p ≡ u = same_names p u k in
       let out : has ws p ≡ false = ap (has ws) same ∙ e in
       let in_more : has (ws ++ u ∷ []) p ≡ true = ap (has (ws ++ u ∷ [])) same ∙ has_last ws u in
       let absent : has ps u ≡ false = ap (has ps) (sym same) ∙ d.0 in
-      let left : references_from g (without (p ∷ ps) ws) o ≡ references_from g (p ∷ without ps ws) o = ap (λ b. references_from g (cond (not b) (p ∷ without ps ws) (without ps ws)) o) out in
-      let right : references_from g (without (p ∷ ps) (ws ++ u ∷ [])) o ≡ references_from g (without ps (ws ++ u ∷ [])) o = ap (λ b. references_from g (cond (not b) (p ∷ without ps (ws ++ u ∷ [])) (without ps (ws ++ u ∷ []))) o) in_more in
-      let rest : references_from g (without ps (ws ++ u ∷ [])) o ≡ references_from g (without ps ws) o = ap (λ x. references_from g x o) (without_behind ps ws u absent) in
-      let here : occurrences (refs_of (object_at g p)) o ≡ occurrences (refs_of (object_at g u)) o = ap (λ x. occurrences (refs_of (object_at g x)) o) same in
+      let left : total (without (p ∷ ps) ws) ≡ part p + total (without ps ws) = ap (λ b. total (cond (not b) (p ∷ without ps ws) (without ps ws))) out ∙ more p (without ps ws) in
+      let right : total (without (p ∷ ps) (ws ++ u ∷ [])) ≡ total (without ps (ws ++ u ∷ [])) = ap (λ b. total (cond (not b) (p ∷ without ps (ws ++ u ∷ [])) (without ps (ws ++ u ∷ [])))) in_more in
+      let rest : total (without ps (ws ++ u ∷ [])) ≡ total (without ps ws) = ap total (without_behind ps ws u absent) in
+      let here : part p ≡ part u = ap part same in
       omega (arith, left, right, rest, here)
   | inr k ↦
       let there : IsTrue (has ps u) = elim (or_cases (same_name u p) (has ps u) h) [ inl q ↦ not_both (same_name u p) q (same_flip p u k) | inr q ↦ q ] in
-      let rest = references_popped g ps ws u o d.1 there e in
+      let rest = sum_popped total part more ps ws u d.1 there e in
       let same : has (ws ++ u ∷ []) p ≡ has ws p = has_other ws u p k in
-      let right : references_from g (without (p ∷ ps) (ws ++ u ∷ [])) o ≡ references_from g (cond (not (has ws p)) (p ∷ without ps (ws ++ u ∷ [])) (without ps (ws ++ u ∷ []))) o =
-      ap (λ b. references_from g (cond (not b) (p ∷ without ps (ws ++ u ∷ [])) (without ps (ws ++ u ∷ []))) o) same in
+      let right : total (without (p ∷ ps) (ws ++ u ∷ [])) ≡ total (cond (not (has ws p)) (p ∷ without ps (ws ++ u ∷ [])) (without ps (ws ++ u ∷ []))) =
+      ap (λ b. total (cond (not b) (p ∷ without ps (ws ++ u ∷ [])) (without ps (ws ++ u ∷ [])))) same in
       either (has ws p) (without ps ws) (without ps (ws ++ u ∷ [])) rest right
 ]
   where
-    either : (b : Bool) (xs ys : List Name) → references_from g xs o ≡ occurrences (refs_of (object_at g u)) o + references_from g ys o
-        → references_from g (without (p ∷ ps) (ws ++ u ∷ [])) o ≡ references_from g (cond (not b) (p ∷ ys) ys) o
-        → references_from g (cond (not b) (p ∷ xs) xs) o ≡ occurrences (refs_of (object_at g u)) o + references_from g (without (p ∷ ps) (ws ++ u ∷ [])) o
+    either : (b : Bool) (xs ys : List Name) → total xs ≡ part u + total ys → total (without (p ∷ ps) (ws ++ u ∷ [])) ≡ total (cond (not b) (p ∷ ys) ys)
+        → total (cond (not b) (p ∷ xs) xs) ≡ part u + total (without (p ∷ ps) (ws ++ u ∷ []))
     either true xs ys rest right = omega (arith, rest, right)
-    either false xs ys rest right = omega (arith, rest, right)
+    either false xs ys rest right = let a = more p xs in let b = more p ys in omega (arith, rest, right, a, b)
+
+-- so with its references
+pub references_popped : (g : Graph) (ps ws : List Name) (u o : Name) → IsDistinct ps → IsTrue (has ps u) → has ws u ≡ false
+    → references_from g (without ps ws) o ≡ occurrences (refs_of (object_at g u)) o + references_from g (without ps (ws ++ u ∷ [])) o
+references_popped g ps ws u o = sum_popped (λ ns. references_from g ns o) (λ n. occurrences (refs_of (object_at g n)) o) (λ n ns. refl) ps ws u
+
+pub slots_popped : (g : Graph) (ps ws : List Name) (u : Name) → IsDistinct ps → IsTrue (has ps u) → has ws u ≡ false
+    → reference_slots g (without ps ws) ≡ length (refs_of (object_at g u)) + reference_slots g (without ps (ws ++ u ∷ []))
+slots_popped g ps ws u = sum_popped (reference_slots g) (λ n. length (refs_of (object_at g n))) (sum_by-cons (λ n. length (refs_of (object_at g n)))) ps ws u
 
 -- ---- accounts
 
-same_out : (m : Moment) (st : IncrementStage) (o : Name) (q : ℕ) → without (stage_with m st o q).promoted (stage_with m st o q).work ≡ without st.promoted st.work
+pub same_out : (m : Moment) (st : IncrementStage) (o : Name) (q : ℕ) → without (stage_with m st o q).promoted (stage_with m st o q).work ≡ without st.promoted st.work
 same_out m st o q = elim (tested (is_unpromoted m st o)) [
   | inl e ↦
       let absent : has st.promoted o ≡ false = not_true (has st.promoted o) (and_parts (has m.made o) (not (has st.promoted o)) e).1 in

@@ -1,24 +1,26 @@
 -- The first stage of the increments, and what holds after the last.
-use Rattle.std.proofs.Common.{◌≡◌, ℕ, zero, suc, ◌+◌, ◌<◌, refl, sym, ap, subst, ◌∙◌, inl, inr, arith, false, cond, List, [], ◌∷◌, IsTrue, length}
-use Rattle.std.specs.Prelude.{count_by, map, take}
+use Rattle.std.proofs.Common.{◌≡◌, ℕ, zero, suc, ◌+◌, ◌/◌, ◌<◌, ◌≤◌, refl, sym, ap, subst, ◌∙◌, inl, inr, arith, false, cond, List, [], ◌∷◌, IsTrue, length}
+use Rattle.std.specs.Prelude.{◌⊎◌, Some, None, count_by, map, take}
 use Rattle.std.specs.List.Sorted.{IsPermutation}
 use Rattle.std.proofs.Math.ListN.{length-map}
 use Rattle.std.proofs.lemmas.Bool.{cases_lt}
-use Rattle.std.proofs.lemmas.List.Sorted.{IsPermutation-reverse}
+use Rattle.std.proofs.lemmas.List.Sorted.{IsPermutation-reverse, sum_by-IsPermutation}
+use Rattle.std.proofs.lemmas.Option.{get_or_from_slice_get, slice_get_within}
 use Rattle.lxr_layout.specs.declared.Name.{Name}
-use Rattle.lxr_layout.specs.declared.TheConstants.{DECREMENT_COUNT, DECREMENT_CURSOR, STUCK, TRACING_WORD}
+use Rattle.lxr_layout.specs.declared.TheConstants.{DECREMENT_COUNT, DECREMENT_CURSOR, GRANULES_IN_BLOCK, REMEMBERED_CURSOR, STUCK, TRACING_WORD}
 use Rattle.lxr_graph.specs.Names.{has, without}
-use Rattle.lxr_graph.specs.State.{world_name}
-use Rattle.lxr_graph.proofs.NameSets.{has-union, not_both, union_cases}
+use Rattle.lxr_graph.specs.State.{object_at, refs_of, world_name}
+use Rattle.lxr_graph.proofs.NameSets.{has-union, not_both, union_cases, union_right}
 use Rattle.lxr_image.specs.declared.space.Space.{Space}
 use Rattle.lxr_image.specs.Tables.{Tables, tables_in}
 use Rattle.lxr_image.specs.Reads.{granule_of}
 use Rattle.lxr_image.specs.Spaces.{Turns, tables_of}
+use Rattle.lxr_blocks.specs.declared.states.BlockState.TheVariants.{Chosen}
 use Rattle.lxr_blocks.specs.States.{KeepsState}
-use Rattle.lxr_model.specs.References.{references, references_from}
+use Rattle.lxr_model.specs.References.{reference_slots, references, references_from}
 use Rattle.lxr_model.specs.Moments.{Moment}
 use Rattle.lxr_model.specs.Reports.{field_holds, newly_held}
-use Rattle.lxr_model_counting.specs.Distinct.{IsDistinct}
+use Rattle.lxr_model_counting.specs.Distinct.{IsDistinct, has_field}
 use Rattle.lxr_model_counting.specs.Raising.{IsGrown}
 use Rattle.lxr_model_counting.proofs.BalanceLemmas.{has_permuted, references_permuted}
 use Rattle.lxr_model_counting.proofs.DistinctLemmas.{distinct_permuted, or_false, union_same}
@@ -28,11 +30,16 @@ use Rattle.lxr_invariant.specs.Standing.{HasBits, place_of}
 use Rattle.lxr_invariant.specs.Counting.{count_at, entries_between, undone, waiting_at}
 use Rattle.lxr_invariant.specs.Copied.{CopiesLieOnFreeLines, CopiesPromoted, StayForWantOfLines}
 use Rattle.lxr_invariant.specs.Keeping.{KeepsLists}
-use Rattle.lxr_invariant.specs.Lines.{HasMarks}
+use Rattle.lxr_invariant.specs.Lines.{AvoidChosen, HasMarks}
 use Rattle.lxr_invariant.specs.Raised.{AreRaised, CountsAreRaised, IsRaised, count_found, count_raised, with_promoted}
+use Rattle.lxr_invariant.specs.Tracing.{HasOverflowed, IsInChosen, IsRemembered}
+use Rattle.lxr_invariant.proofs.BlockLemmas.{still_not}
+use Rattle.lxr_invariant.proofs.EntryLemmas.{changed_cases}
 use Rattle.lxr_invariant.proofs.FrameLemmas.{blocks_still, image_still, marks_still, none_undone}
-use Rattle.lxr_pause_increments.specs.Increments.{IsIncrementing, RaisingLeaves, IncrementStage, count_so_far}
-use Rattle.lxr_pause_increments.specs.Accounted.{HasRaisedRoots, IsSettled, roots_held}
+use Rattle.lxr_remset.specs.Remembering.{AreEntries, HasEntryOf, Remembers, with_remembered_of}
+use Rattle.lxr_pause_promote.proofs.FewerLemmas.{states_same}
+use Rattle.lxr_pause_increments.specs.Increments.{IsIncrementing, RaisingLeaves, IncrementStage, count_so_far, first_stage}
+use Rattle.lxr_pause_increments.specs.Accounted.{HasRaisedRoots, IsFieldRaised, IsSettled, none_raised, references_at, roots_raise}
 use Rattle.lxr_pause_increments.specs.Raising.{CanRaise, Raises, RaisesGrays, RaisesMarks}
 use Rattle.lxr_pause_increments.specs.Traced.{with_old_grays}
 use Rattle.lxr_pause_increments.proofs.TracedLemmas.{old_grays_from, only_old_grays}
@@ -41,13 +48,10 @@ use Rattle.lxr_pause_increments.proofs.SnapshotLemmas.{grays_raise, marks_raise,
 use Rattle.lxr_pause_increments.proofs.GrownLemmas.{grown}
 use Rattle.lxr_pause_increments.proofs.EndsLemmas.{AllFixed, copies_end, deferred_end, image_ends, logs_end, moving_begins, onto_ends, registers_end, stay_ends}
 use Rattle.lxr_pause_increments.proofs.MovingLemmas.{AreMade, unreclaimed_still}
+use Rattle.lxr_pause_increments.proofs.RememberedLemmas.{overflowed_on, remembered_on, stays_none}
 use Rattle.lxr_pause_increments.proofs.StageLemmas.{all_made}
 
 -- ---- the first stage
-
--- nothing is promoted or raised yet, and objects stand where they stood
-abbrev pub first_stage : (Name → ℕ) → Space → IncrementStage
-first_stage at found = record { promoted = []; work = []; added = λ n. 0; now = at; found = found }
 
 -- a count is the references, where nothing is done and nothing waits
 count_begins : (s : Space) (m : Moment) (at : Name → ℕ) (n : Name) → CanRaise s m at → IsTrue (has m.unreclaimed n) → has m.stuck n ≡ false
@@ -58,7 +62,7 @@ count_begins s m at n can member unstuck =
     let none : waiting_at (tables_of s) (at n) ≡ 0 = ap (λ k. entries_between (tables_of s).decs ((tables_of s).cursors DECREMENT_CURSOR) k (at n)) can.empty in
     (omega (arith, exact, all, none), can.holds.counts.below n member unstuck)
 
-pub begun : (s : Space) (m : Moment) (at : Name → ℕ) → CanRaise s m at → IsSettled s m at (first_stage at s) (λ o. 0)
+pub begun : (s : Space) (m : Moment) (at : Name → ℕ) → CanRaise s m at → IsSettled s m at (first_stage at s) none_raised
 begun s m at can = record {
   accounted = record {
     incrementing = record {
@@ -89,6 +93,8 @@ begun s m at can = record {
       none_done = can.undecremented.none_done;
       blocks = can.holds.blocks;
       decrements = (can.undecremented.none_drawn, can.empty);
+      might_remember = can.remembers;
+      remembered = stays_none s m (first_stage at s);
       reported = can.none_promoted;
       worklist = can.holds.no_work;
       lists = record {
@@ -98,7 +104,8 @@ begun s m at can = record {
       };
     };
     accounts = λ o. refl;
-    fixed = λ u i h. absurd (cc);
+    few = record { cursor = omega arith; within = omega arith };
+    raised = λ u i h. absurd (cc);
   };
   no_work = refl;
 }
@@ -112,7 +119,7 @@ all_taken (x ∷ xs) zero e = absurd (omega arith)
 all_taken (x ∷ xs) (suc n) e = ap (λ z. x ∷ z) (all_taken xs n (omega arith))
 
 -- all are raised as often as a pause says
-sum_raised : (s : Space) (m : Moment) (at : Name → ℕ) (st : IncrementStage) → IsSettled s m at st (roots_held m (length s.registers.items)) → (o : Name)
+sum_raised : (s : Space) (m : Moment) (at : Name → ℕ) (st : IncrementStage) → IsSettled s m at st (roots_raise m (length s.registers.items)) → (o : Name)
     → st.added o ≡ count_by (field_holds m.state.graph o) m.written + newly_held m.last.registers m.state.registers o + references_from m.state.graph st.promoted o
 sum_raised s m at st is o =
     let incrementing = is.accounted.incrementing in
@@ -134,7 +141,7 @@ pub record IsLast (m : Moment) (st : IncrementStage) (promoted : List Name) : Ty
   pub counted : (n : Name) → count_raised m promoted n ≡ count_so_far m st n
   pub grown : IsGrown m.state m.unreclaimed m.made st.promoted
 
-last_stage : (s : Space) (m : Moment) (at : Name → ℕ) (st : IncrementStage) → IsSettled s m at st (roots_held m (length s.registers.items)) → IsLast m st s.report.promoted.items
+last_stage : (s : Space) (m : Moment) (at : Name → ℕ) (st : IncrementStage) → IsSettled s m at st (roots_raise m (length s.registers.items)) → IsLast m st s.report.promoted.items
 last_stage s m at st is =
     let incrementing = is.accounted.incrementing in
     let order : IsPermutation st.promoted s.report.promoted.items = subst (IsPermutation st.promoted) (sym incrementing.reported) (IsPermutation-reverse st.promoted) in
@@ -221,11 +228,14 @@ module _ (s : Space) (m : Moment) (at : Name → ℕ) (st : IncrementStage) (is 
   made : AreMade m st.promoted
   made = all_made s m at st incrementing
 
-  -- all references are fixed
+  -- all references of promoted objects are raised, and so all are fixed
+  pub promoted_raised : (u : Name) (i : ℕ) → IsTrue (has st.promoted u) → i < length (references_at m u) → IsFieldRaised s m st u i
+  promoted_raised u i h below = elim (is.settled.accounted.raised u i h (ap (λ z. has z u) is.settled.no_work) below) [ inl raised ↦ raised | inr none ↦ absurd none ]
+
   all_fixed : AllFixed s m st
   all_fixed = record {
-    promoted = λ u i h below. elim (is.settled.accounted.fixed u i h (ap (λ z. has z u) is.settled.no_work) below) [ inl fixed ↦ fixed | inr none ↦ absurd none ];
-    written = is.written;
+    promoted = λ u i h below. (promoted_raised u i h below).fixed;
+    written = λ u i h. (is.written u i h).fixed;
   }
 
   names : (n : Name) → has (with_promoted m s.report.promoted.items) n ≡ has (with_promoted m st.promoted) n
@@ -268,6 +278,54 @@ module _ (s : Space) (m : Moment) (at : Name → ℕ) (st : IncrementStage) (is 
         no_work = incrementing.worklist ∙ ap (map (place_of st.now)) is.settled.no_work;
       }
 
+  -- only references that were raised and lead into Chosen blocks are remembered
+  only_end : (u : Tables) → u ≡ with_ended s → (k : ℕ) → (tables_of st.found).cursors REMEMBERED_CURSOR ≤ k → k < u.cursors REMEMBERED_CURSOR → k < st.found.limits.remember
+      → HasEntryOf u m st.now (λ n i. IsTrue (has s.report.promoted.items n) ⊎ IsTrue (has_field m.written (n, i))) k
+  only_end u tables k from high room =
+      let stays = incrementing.remembered in
+      let is = stays.since k from (subst (λ z. k < z) (ap (λ t. t.cursors REMEMBERED_CURSOR) tables) high) (subst (λ l. k < l.remember) (sym stays.limits) room) in
+      subst (λ t. HasEntryOf t m st.now (λ n i. IsTrue (has s.report.promoted.items n) ⊎ IsTrue (has_field m.written (n, i))) k) (sym tables) (record {
+        holder = is.holder;
+        held = is.held;
+        index = is.index;
+        one = elim is.one.changes [ inl h ↦ inl (last.same is.holder ∙ h) | inr h ↦ inr h ];
+        holds = is.holds;
+        chosen = is.chosen;
+        entry = is.entry;
+      })
+
+  -- all of them are, and what was remembered is
+  remembers_end : (u : Tables) → u ≡ with_ended s → Remembers st.found.limits (tables_of st.found) u m at st.now (λ n i. IsTrue (has s.report.promoted.items n) ⊎ IsTrue (has_field m.written (n, i)))
+  remembers_end u tables =
+      let stays = incrementing.remembered in
+      let limits : s.limits ≡ st.found.limits = stays.limits in
+      let kept : (n : Name) → IsTrue (has m.unreclaimed n) → IsTrue (has (with_promoted m (first_stage at st.found).promoted) n) = λ n h. union_right [] m.unreclaimed n h in
+      let ends : (n : Name) (i : ℕ) → IsRemembered s.limits (tables_of s) st.now n i → IsRemembered st.found.limits u st.now n i =
+      λ n i h. subst (λ t. IsRemembered st.found.limits t st.now n i) (sym tables) (subst (λ l. IsRemembered l (with_ended s) st.now n i) limits h) in
+      let full : HasOverflowed s.limits (tables_of s) → HasOverflowed st.found.limits u =
+      λ h. subst (λ t. HasOverflowed st.found.limits t) (sym tables) (subst (λ l. HasOverflowed l (with_ended s)) limits h) in
+      record {
+        fields = λ n v i one held chosen.
+            let within = slice_get_within (references_at m n) i (Some v) held in
+            let raised : IsFieldRaised s m st n i = elim one [ inl h ↦ promoted_raised n i (sym (last.same n) ∙ h) within | inr h ↦ is.written n i h ] in
+            elim (raised.entered v (get_or_from_slice_get (references_at m n) i (Some v) None held) (subst (λ t. IsInChosen t st.now v) tables chosen)) [ inl there ↦ inl (ends n i there) | inr h ↦ inr (full h) ];
+        only = only_end u tables;
+        kept = λ n i held h got there. ends n i (remembered_on st.found s m (first_stage at st.found) st stays n i (kept n h) (slice_get_within (references_at m n) i held got) there);
+        full = λ h. full (overflowed_on st.found s m (first_stage at st.found) st stays h);
+        entries = λ h. subst (λ t. AreEntries st.found.limits t) (sym tables) (subst (λ l. AreEntries l (with_ended s)) limits (stays.entries h));
+        idle = λ none. let same = stays.idle none in (ap (λ t. t.remembered) tables ∙ same.0, ap (λ t. t.cursors REMEMBERED_CURSOR) tables ∙ same.1);
+      }
+
+  -- and no more are than there are such references
+  few_end : (tables_of s).cursors REMEMBERED_CURSOR ≤ (tables_of st.found).cursors REMEMBERED_CURSOR + reference_slots m.state.graph s.report.promoted.items + length m.written
+  few_end =
+      let few = is.settled.accounted.few.cursor in
+      let all : reference_slots m.state.graph (without st.promoted st.work) ≡ reference_slots m.state.graph st.promoted =
+      ap (λ z. reference_slots m.state.graph (without st.promoted z)) is.settled.no_work ∙ ap (reference_slots m.state.graph) (without_none st.promoted) in
+      let order : IsPermutation st.promoted s.report.promoted.items = subst (IsPermutation st.promoted) (sym incrementing.reported) (IsPermutation-reverse st.promoted) in
+      let same = sum_by-IsPermutation (λ u. length (refs_of (object_at m.state.graph u))) st.promoted s.report.promoted.items order in
+      omega (arith, few, all, same)
+
 -- ---- what the increments leave
 
 -- a block that is kept is, where states stay
@@ -308,18 +366,39 @@ module _ (before s b : Space) (m : Moment) (at : Name → ℕ) (st : IncrementSt
   onto = subst (CopiesLieOnFreeLines before m at st.now) reported (subst (λ x. CopiesLieOnFreeLines x m at st.now s.report.promoted.items) found
       (onto_ends s st.found m at st.now st.promoted s.report.promoted.items here.moving (last s m at st is).same))
 
-  keeps : KeepsLists (tables_of before) (tables_of b)
+  keeps : KeepsLists (with_remembered_of (tables_of before) (tables_of b)) (tables_of b)
   keeps = record {
     heap = refl;
     reuse = refl;
     runs = ap (λ t. t.runs) turns.tables ∙ leaves.tables.runs;
     frees = ap (λ t. t.frees) turns.tables ∙ leaves.tables.frees;
-    remembered = ap (λ t. t.remembered) turns.tables ∙ leaves.tables.remembered;
-    cursors = λ k h j. ap (λ t. t.cursors k) turns.tables ∙ ap (λ f. f k) leaves.tables.cursors;
+    remembered = refl;
+    cursors = λ k h j. elim (changed_cases (tables_of before).cursors REMEMBERED_CURSOR ((tables_of b).cursors REMEMBERED_CURSOR) k) [
+      | inl q ↦ ap (tables_of b).cursors q.0 ∙ sym q.1
+      | inr q ↦ ap (λ t. t.cursors k) turns.tables ∙ leaves.tables.cursors k q.0 ∙ sym q.1
+    ];
   }
+
+  remembers : Remembers before.limits (tables_of before) (tables_of b) m at st.now (λ n i. IsTrue (has after.report.promoted.items n) ⊎ IsTrue (has_field m.written (n, i)))
+  remembers = subst (λ ns. Remembers before.limits (tables_of before) (tables_of b) m at st.now (λ n i. IsTrue (has ns n) ⊎ IsTrue (has_field m.written (n, i)))) reported
+      (subst (λ x. Remembers x.limits (tables_of x) (tables_of b) m at st.now (λ n i. IsTrue (has s.report.promoted.items n) ⊎ IsTrue (has_field m.written (n, i)))) found (remembers_end s m at st is (tables_of b) turns.tables))
+
+  bound : (tables_of b).cursors REMEMBERED_CURSOR ≤ (tables_of before).cursors REMEMBERED_CURSOR + reference_slots m.state.graph after.report.promoted.items + length m.written
+  bound =
+      let few = few_end s m at st is in
+      let cursor = ap (λ t. t.cursors REMEMBERED_CURSOR) turns.tables in
+      let began = ap {A = Space} (λ x. (tables_of x).cursors REMEMBERED_CURSOR) found in
+      let slots = ap (reference_slots m.state.graph) reported in
+      omega (arith, few, cursor, began, slots)
 
   states : (k : ℕ) → KeepsState (tables_of before) (tables_of b) k
   states k = states_kept (tables_of before) (tables_of s) (tables_of b) k (ap (λ t. t.states) turns.tables) (subst (λ x. KeepsState (tables_of x) (tables_of s) k) found (here.moving.states k))
+
+  unchosen : AvoidChosen (tables_of b) st.now after.report.promoted.items
+  unchosen n h =
+      let promoted : IsTrue (has st.promoted n) = sym ((last s m at st is).same n) ∙ ap {A = Space} (λ x. has x.report.promoted.items n) same ∙ h in
+      still_not (tables_of s) (tables_of b) (granule_of (st.now n) / GRANULES_IN_BLOCK) Chosen refl (states_same (tables_of s) (tables_of b) (granule_of (st.now n) / GRANULES_IN_BLOCK) (ap (λ t. t.states) turns.tables))
+      (here.moving.unchosen n (all_made s m at st here n promoted))
 
   marks : RaisesMarks m.trace (tables_of before).marks (tables_of b).marks st.now after.report.promoted.items
   marks = subst (RaisesMarks m.trace (tables_of before).marks (tables_of b).marks st.now) reported (subst (λ f. RaisesMarks m.trace (tables_of before).marks f st.now s.report.promoted.items) (sym (ap (λ t. t.marks) turns.tables))
@@ -362,7 +441,10 @@ module _ (before s b : Space) (m : Moment) (at : Name → ℕ) (st : IncrementSt
     onto = onto;
     stay = stay;
     keeps = keeps;
+    remembers = remembers;
+    bound = bound;
     states = states;
+    unchosen = unchosen;
     marks = marks;
     grays = grays;
     decs = ap (λ t. t.decs) turns.tables ∙ leaves.tables.decs;

@@ -6,6 +6,7 @@ use Rattle.std.specs.List.{zip}
 use Rattle.std.proofs.Math.ListN.{length-map}
 use Rattle.std.proofs.lemmas.Bool.{or_right}
 use Rattle.std.proofs.lemmas.Bool.Decides.{eqb_tells}
+use Rattle.std.proofs.lemmas.List.Sorted.{length_permutation}
 use Rattle.std.proofs.lemmas.Option.{slice_get-get_or, slice_get_within}
 use Rattle.lxr_layout.specs.declared.Name.{Name}
 use Rattle.lxr_layout.specs.declared.Place.{Place}
@@ -25,13 +26,15 @@ use Rattle.lxr_invariant.specs.AbstractState.{members}
 use Rattle.lxr_invariant.specs.Standing.{entry_of}
 use Rattle.lxr_invariant.proofs.EntryLemmas.{one_if}
 use Rattle.lxr_invariant.proofs.NameLemmas.{in_first, live_member}
+use Rattle.lxr_pause_promote.specs.Either.{HoldsEither, IsPlaceOf}
 use Rattle.lxr_pause_increments.specs.Increments.{IsIncrementing, RaisingLeaves, IncrementStage}
-use Rattle.lxr_pause_increments.specs.Accounted.{GoesOn, HasRaisedEntries, HasRaisedRoots, IsEven, IsFixed, IsHolder, IsLogOrder, IsRaisable, IsRegisterFixed, IsSettled, Settles, fields_held, references_at, roots_held, stage_with_held}
-use Rattle.lxr_pause_increments.specs.Moving.{HoldsEither, IsPlaceOf}
-use Rattle.lxr_pause_increments.specs.Steps.{AtLater, FixesField, FixesRegister, HeldIsRaised}
+use Rattle.lxr_pause_increments.specs.Accounted.{GoesOn, HasRaisedEntries, HasRaisedRoots, IsEven, IsFieldRaised, IsHolder, IsLogOrder, IsRaisable, IsRegisterFixed, IsSettled, Raisings, Settles, fields_held, fields_raise, none_raised, references_at, roots_held, roots_raise, stage_with_held}
+use Rattle.lxr_pause_increments.specs.Steps.{AtLater, EntersField, FixesRegister, HeldIsRaised}
 use Rattle.lxr_pause_increments.proofs.HeldLemmas.{was_promoted}
 use Rattle.lxr_pause_increments.proofs.MovingLemmas.{place_some, unreclaimed_still}
 use Rattle.lxr_pause_increments.proofs.StageLemmas.{all_made}
+use Rattle.lxr_pause_increments.proofs.RememberedLemmas.{raised_on}
+use Rattle.lxr_pause_increments.proofs.FewLemmas.{few_held}
 use Rattle.lxr_pause_increments.proofs.OrderLemmas.{accounts_held, accounts_same, counted_more, unmapped, zip_got, zip_taken}
 
 -- ---- logged references
@@ -92,17 +95,17 @@ entry_field s m at st fields i entry incrementing order got =
       raisable = record { within = omega (arith, size, index, below); changes = inr (ap (λ z. has_field m.written (w.0, z)) index ∙ written) };
     }
 
--- Once what is held is raised, references of promoted objects outside the worklist are fixed as before.
-pub still_fixed : (s now : Space) (m : Moment) (at : Name → ℕ) (st : IncrementStage) (held : Option Name) (q : ℕ) (base : Name → ℕ) → IsEven s m at st base → GoesOn s now m st (stage_with_held m st held q)
-    → (u : Name) (i : ℕ) → IsTrue (has (stage_with_held m st held q).promoted u) → has (stage_with_held m st held q).work u ≡ false → i < length (references_at m u) → IsFixed now m (stage_with_held m st held q) u i ⊎ ⊥
-still_fixed s now m at st held q base is goes_on u i promoted out below =
+-- Once what is held is raised, references of promoted objects outside the worklist are raised as before.
+pub still_raised : (s now : Space) (m : Moment) (at : Name → ℕ) (st : IncrementStage) (held : Option Name) (q : ℕ) (base : Raisings) → IsEven s m at st base → GoesOn s now m st (stage_with_held m st held q)
+    → (u : Name) (i : ℕ) → IsTrue (has (stage_with_held m st held q).promoted u) → has (stage_with_held m st held q).work u ≡ false → i < length (references_at m u) → IsFieldRaised now m (stage_with_held m st held q) u i ⊎ ⊥
+still_raised s now m at st held q base is goes_on u i promoted out below =
     let was = was_promoted m st held q u promoted out in
-    elim (is.fixed u i was.0 was.1 below) [ inl fixed ↦ inl (goes_on.fields u i fixed) | inr none ↦ inr none ]
+    elim (is.raised u i was.0 was.1 below) [ inl raised ↦ inl (raised_on s now m st (stage_with_held m st held q) u i goes_on raised) | inr none ↦ inr none ]
 
 -- an entry is raised: one more field is accounted for
-pub entry_raised : (s now : Space) (m : Moment) (at : Name → ℕ) (st : IncrementStage) (fields : List Field) (i : ℕ) (entry : LogEntry) (q : ℕ) → IsSettled s m at st (fields_held m fields i) → (x : IsEntryOf m st fields i entry)
-    → FixesField s now m at st x.field.0 entry.index q → IsEven now m at (stage_with_held m st (slice_index_or (references_at m x.field.0) entry.index None) q) (fields_held m fields (i + 1))
-entry_raised s now m at st fields i entry q settled x fixes =
+pub entry_raised : (s now : Space) (m : Moment) (at : Name → ℕ) (st : IncrementStage) (fields : List Field) (i : ℕ) (entry : LogEntry) (q : ℕ) → IsLogOrder m at fields s.logged.items → IsSettled s m at st (fields_raise m fields i) → (x : IsEntryOf m st fields i entry)
+    → EntersField s now m at st x.field.0 entry.index q → IsEven now m at (stage_with_held m st (slice_index_or (references_at m x.field.0) entry.index None) q) (fields_raise m fields (i + 1))
+entry_raised s now m at st fields i entry q order settled x fixes =
     let held : Option Name = slice_index_or (references_at m x.field.0) entry.index None in
     record {
       incrementing = fixes.incrementing;
@@ -111,42 +114,54 @@ entry_raised s now m at st fields i entry q settled x fixes =
           let k = counted_more (field_holds m.state.graph o) fields i x.field x.got in
           let e : one_if (same_held (Some o) held) ≡ one_if (field_holds m.state.graph o x.field) = ap (λ z. one_if (same_held (Some o) (slice_index_or (references_at m x.field.0) z None))) x.index in
           omega (arith, k, e));
-      fixed = still_fixed s now m at st held q (fields_held m fields i) settled.accounted fixes.goes_on;
+      few =
+          let low = slice_get_within fields i x.field x.got in
+          let all = length_permutation m.written fields order.order in
+          let more = fixes.cursor in
+          few_held s now m st held q i 0 (i + 1) 0 fixes.goes_on.found (omega (arith, more)) (omega (arith, low, all)) settled.accounted.few;
+      raised = still_raised s now m at st held q (fields_raise m fields i) settled.accounted fixes.goes_on;
     }
 
 -- with all that it brought along
 pub entry_settled : (s now after : Space) (m : Moment) (at : Name → ℕ) (st : IncrementStage) (fields : List Field) (i : ℕ) (entry : LogEntry) (q : ℕ) → HasRaisedEntries s m at st fields i → (x : IsEntryOf m st fields i entry)
-    → FixesField s now m at st x.field.0 entry.index q → RaisingLeaves s after
-    → Settles now after m at (stage_with_held m st (slice_index_or (references_at m x.field.0) entry.index None) q) (fields_held m fields (i + 1)) → AtLater st (λ later. HasRaisedEntries after m at later fields (i + 1))
+    → EntersField s now m at st x.field.0 entry.index q → RaisingLeaves s after
+    → Settles now after m at (stage_with_held m st (slice_index_or (references_at m x.field.0) entry.index None) q) (fields_raise m fields (i + 1)) → AtLater st (λ later. HasRaisedEntries after m at later fields (i + 1))
 entry_settled s now after m at st fields i entry q is x fixes leaves settles = (
   settles.0,
   settles.2.found ∙ fixes.goes_on.found,
   record {
     order = same_logs s after m at fields leaves is.order;
     settled = settles.1;
-    fixed = λ k w below got. elim (eqb_tells k i) [
+    raised = λ k w below got. elim (eqb_tells k i) [
       | inl e ↦
           let same : Some w ≡ Some x.field = sym got ∙ ap (slice_get fields) e.1 ∙ x.got in
           let is_w : w ≡ x.field = cc in
-          subst (λ z. IsFixed after m settles.0 z.0 z.1) (sym is_w) (subst (λ z. IsFixed after m settles.0 x.field.0 z) x.index (settles.2.fields x.field.0 entry.index fixes.fixed))
-      | inr e ↦ settles.2.fields w.0 w.1 (fixes.goes_on.fields w.0 w.1 (is.fixed k w (let ne = e.1 in omega (arith, below, ne)) got))
+          subst (λ z. IsFieldRaised after m settles.0 z.0 z.1) (sym is_w) (subst (λ z. IsFieldRaised after m settles.0 x.field.0 z) x.index (on x.field.0 entry.index fixes.raised))
+      | inr e ↦ on w.0 w.1 (raised_on s now m st next w.0 w.1 fixes.goes_on (is.raised k w (let ne = e.1 in omega (arith, below, ne)) got))
     ];
   },
 )
+  where
+    next : IncrementStage
+    next = stage_with_held m st (slice_index_or (references_at m x.field.0) entry.index None) q
+
+    on : (u : Name) (j : ℕ) → IsFieldRaised now m next u j → IsFieldRaised after m settles.0 u j
+    on u j raised = raised_on now after m next settles.0 u j settles.2 raised
 
 -- before the first entry nothing is
-pub no_entries : (s : Space) (m : Moment) (at : Name → ℕ) (st : IncrementStage) (fields : List Field) → IsLogOrder m at fields s.logged.items → IsSettled s m at st (λ o. 0) → HasRaisedEntries s m at st fields 0
+pub no_entries : (s : Space) (m : Moment) (at : Name → ℕ) (st : IncrementStage) (fields : List Field) → IsLogOrder m at fields s.logged.items → IsSettled s m at st none_raised → HasRaisedEntries s m at st fields 0
 no_entries s m at st fields order is = record {
   order = order;
   settled = record {
     accounted = record {
       incrementing = is.accounted.incrementing;
       accounts = accounts_same m st (λ o. 0) (λ o. 0) (fields_held m fields 0) (λ o. 0) (λ o. none fields o) (λ o. refl) is.accounted.accounts;
-      fixed = is.accounted.fixed;
+      few = is.accounted.few;
+      raised = is.accounted.raised;
     };
     no_work = is.no_work;
   };
-  fixed = λ k w below got. absurd (omega (arith, below));
+  raised = λ k w below got. absurd (omega (arith, below));
 }
   where
     none : (ws : List Field) (o : Name) → fields_held m ws 0 o ≡ 0
@@ -165,14 +180,15 @@ all_entries s m at st fields i end is = record {
           let same = count_permuted (field_holds m.state.graph o) m.written fields is.order.order in
           let none = none_new m.last.registers m.state.registers o in
           omega (arith, whole, same, none)) (λ o. refl) is.settled.accounted.accounts;
-      fixed = is.settled.accounted.fixed;
+      few = let few = is.settled.accounted.few.cursor in let within = is.settled.accounted.few.within in record { cursor = omega (arith, few, within); within = omega arith };
+      raised = is.settled.accounted.raised;
     };
     no_work = is.settled.no_work;
   };
   written = λ u j h.
       let got = field_got fields (u, j) (sym (has_field_permuted m.written fields (u, j) is.order.order) ∙ h) in
       let below = slice_get_within fields got.0 (u, j) got.1 in
-      is.fixed got.0 (u, j) (omega (arith, below, end)) got.1;
+      is.raised got.0 (u, j) (omega (arith, below, end)) got.1;
   registers = λ k below. absurd (omega (arith, below));
 }
   where
@@ -289,7 +305,8 @@ register_same s m at st i p q v b is e roots = record {
           let k = roots_more m i v b o is.raises.held_is is.held in
           let n : one_if (same_held (Some o) v && not (same_held (Some o) b)) ≡ 0 = ap (λ z. one_if (same_held (Some o) v && not (same_held (Some o) z))) (sym (is.same e)) ∙ ap one_if (none_new (same_held (Some o) v)) in
           omega (arith, k, n)) (λ o. refl) roots.settled.accounted.accounts;
-      fixed = roots.settled.accounted.fixed;
+      few = roots.settled.accounted.few;
+      raised = roots.settled.accounted.raised;
     };
     no_work = roots.settled.no_work;
   };
@@ -312,7 +329,7 @@ register_same s m at st i p q v b is e roots = record {
 
 -- it holds something else, which was raised
 pub register_raised : (s now : Space) (m : Moment) (at : Name → ℕ) (st : IncrementStage) (i : ℕ) (p q : Place) (v b : Option Name) (w : ℕ) → IsRegisterAt s m at st i p q v b → p.0 ≢ q.0 → HasRaisedRoots s m at st i
-    → FixesRegister s now m at st i v w → IsEven now m at (stage_with_held m st v w) (roots_held m (i + 1))
+    → FixesRegister s now m at st i v w → IsEven now m at (stage_with_held m st v w) (roots_raise m (i + 1))
 register_raised s now m at st i p q v b w is differ roots fixes = record {
   incrementing = fixes.incrementing;
   accounts = accounts_held m st v w (roots_held m i) (λ o. 0) (roots_held m (i + 1)) (λ o. 0) roots.settled.accounted.accounts
@@ -320,7 +337,8 @@ register_raised s now m at st i p q v b w is differ roots fixes = record {
       let k = roots_more m i v b o is.raises.held_is is.held in
       let n : one_if (same_held (Some o) v && not (same_held (Some o) b)) ≡ one_if (same_held (Some o) v) = ap one_if (new o) in
       omega (arith, k, n));
-  fixed = still_fixed s now m at st v w (roots_held m i) roots.settled.accounted fixes.goes_on;
+  few = few_held s now m st v w (length m.written) 0 (length m.written) 0 fixes.goes_on.found (let same = fixes.cursor in omega (arith, same)) (omega arith) roots.settled.accounted.few;
+  raised = still_raised s now m at st v w (roots_raise m i) roots.settled.accounted fixes.goes_on;
 }
   where
     not_same : (x y : Bool) → (IsTrue x → IsTrue y → ⊥) → (x && not y) ≡ x
@@ -333,13 +351,13 @@ register_raised s now m at st i p q v b w is differ roots fixes = record {
 
 -- with all that it brought along
 pub register_settled : (s now after : Space) (m : Moment) (at : Name → ℕ) (st : IncrementStage) (i : ℕ) (v : Option Name) (w : ℕ) → HasRaisedRoots s m at st i → FixesRegister s now m at st i v w
-    → Settles now after m at (stage_with_held m st v w) (roots_held m (i + 1)) → AtLater st (λ later. HasRaisedRoots after m at later (i + 1))
+    → Settles now after m at (stage_with_held m st v w) (roots_raise m (i + 1)) → AtLater st (λ later. HasRaisedRoots after m at later (i + 1))
 register_settled s now after m at st i v w is fixes settles = (
   settles.0,
   settles.2.found ∙ fixes.goes_on.found,
   record {
     settled = settles.1;
-    written = λ u j h. settles.2.fields u j (fixes.goes_on.fields u j (is.written u j h));
+    written = λ u j h. raised_on now after m (stage_with_held m st v w) settles.0 u j settles.2 (raised_on s now m st (stage_with_held m st v w) u j fixes.goes_on (is.written u j h));
     registers = λ k below. elim (eqb_tells k i) [
       | inl h ↦ settles.2.registers k (subst (IsRegisterFixed now m (stage_with_held m st v w)) (sym h.1) fixes.fixed)
       | inr h ↦ settles.2.registers k (fixes.goes_on.registers k (is.registers k (let ne = h.1 in omega (arith, below, ne))))

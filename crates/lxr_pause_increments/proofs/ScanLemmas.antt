@@ -1,5 +1,5 @@
 -- References of one promoted object after another are raised, and the worklist is emptied.
-use Rattle.std.proofs.Common.{◌≡◌, ℕ, ◌+◌, ◌<◌, ◌≤◌, refl, sym, ap, subst, ◌∙◌, inl, inr, ◌⊎◌, arith, false, List, [], ◌∷◌, ◌++◌, IsTrue, length, length-append}
+use Rattle.std.proofs.Common.{◌≡◌, ℕ, ◌+◌, ◌-◌, ◌<◌, ◌≤◌, refl, sym, ap, subst, ◌∙◌, inl, inr, ◌⊎◌, arith, false, List, [], ◌∷◌, ◌++◌, IsTrue, length, length-append}
 use Rattle.std.specs.Prelude.{Option, None, map, slice_index_or}
 use Rattle.std.proofs.lemmas.Bool.{or_left}
 use Rattle.std.proofs.lemmas.Bool.Decides.{eqb_tells}
@@ -18,17 +18,19 @@ use Rattle.lxr_invariant.specs.Counting.{occurrences_from}
 use Rattle.lxr_invariant.specs.Raised.{with_promoted}
 use Rattle.lxr_invariant.specs.Standing.{place_of}
 use Rattle.lxr_invariant.proofs.NameLemmas.{has_last, map_empty, occurrences_end, occurrences_step, split_last}
-use Rattle.lxr_pause_increments.specs.Increments.{IncrementStage, IsIncrementing, RaisingLeaves}
-use Rattle.lxr_pause_increments.specs.Accounted.{GoesOn, IsEven, IsFixed, IsScanning, Settles, references_at, stage_with_held}
-use Rattle.lxr_pause_increments.specs.Steps.{FixesField}
+use Rattle.lxr_pause_increments.specs.Increments.{IncrementStage, IsIncrementing, RaisingLeaves, StaysRemembered, first_stage}
+use Rattle.lxr_pause_increments.specs.Accounted.{GoesOn, IsEven, IsFieldRaised, IsScanning, Raisings, Settles, references_at, stage_with_held}
+use Rattle.lxr_pause_increments.specs.Steps.{EntersField}
 use Rattle.lxr_pause_increments.proofs.FrameLemmas.{leaves_spread, tables_same}
 use Rattle.lxr_pause_increments.proofs.FixedLemmas.{LeavesMoving, fixed_left, moving_left, register_left}
 use Rattle.lxr_pause_increments.proofs.HeldLemmas.{goes_none, still_placed, still_promoted, was_promoted}
+use Rattle.lxr_pause_increments.proofs.RememberedLemmas.{raised_on, stays_both, stays_left}
+use Rattle.lxr_pause_increments.proofs.FewLemmas.{few_held, few_popped}
 use Rattle.lxr_pause_increments.proofs.OrderLemmas.{accounts_held, accounts_popped, accounts_same, distinct_last, has_before, has_other}
 
 -- ---- references of one object
 
-module _ (s now : Space) (p i : ℕ) (m : Moment) (at : Name → ℕ) (st : IncrementStage) (u : Name) (base : Name → ℕ) (w : ℕ) (is : IsScanning s p i m at st u base) (within : i < length (references_at m u)) (fixes : FixesField s now m at st u i w) where
+module _ (s now : Space) (p i : ℕ) (m : Moment) (at : Name → ℕ) (st : IncrementStage) (u : Name) (base : Raisings) (w : ℕ) (is : IsScanning s p i m at st u base) (within : i < length (references_at m u)) (fixes : EntersField s now m at st u i w) where
   abbrev ref : Option Name
   ref = slice_index_or (references_at m u) i None
 
@@ -38,14 +40,14 @@ module _ (s now : Space) (p i : ℕ) (m : Moment) (at : Name → ℕ) (st : Incr
   known : IsTrue (has (with_promoted m st.promoted) u)
   known = has-union st.promoted m.unreclaimed u ∙ or_left (has st.promoted u) (has m.unreclaimed u) is.promoted
 
-  -- one reference more is fixed
-  open_less : (v : Name) (j : ℕ) → IsTrue (has later.promoted v) → has later.work v ≡ false → j < length (references_at m v) → IsFixed now m later v j ⊎ ((v ≡ u) × (i + 1 ≤ j))
+  -- one reference more is raised
+  open_less : (v : Name) (j : ℕ) → IsTrue (has later.promoted v) → has later.work v ≡ false → j < length (references_at m v) → IsFieldRaised now m later v j ⊎ ((v ≡ u) × (i + 1 ≤ j))
   open_less v j promoted out below =
       let was = was_promoted m st ref w v promoted out in
-      elim (is.accounted.fixed v j was.0 was.1 below) [
-        | inl fixed ↦ inl (fixes.goes_on.fields v j fixed)
+      elim (is.accounted.raised v j was.0 was.1 below) [
+        | inl raised ↦ inl (raised_on s now m st later v j fixes.goes_on raised)
         | inr open_one ↦ elim (eqb_tells j i) [
-          | inl e ↦ inl (subst (λ z. IsFixed now m later z j) (sym open_one.0) (subst (λ z. IsFixed now m later u z) (sym e.1) fixes.fixed))
+          | inl e ↦ inl (subst (λ z. IsFieldRaised now m later z j) (sym open_one.0) (subst (λ z. IsFieldRaised now m later u z) (sym e.1) fixes.raised))
           | inr e ↦ inr (open_one.0, (let from = open_one.1 in let ne = e.1 in omega (arith, from, ne)))
         ]
       ]
@@ -55,22 +57,25 @@ module _ (s now : Space) (p i : ℕ) (m : Moment) (at : Name → ℕ) (st : Incr
   scanned_more = record {
     accounted = record {
       incrementing = fixes.incrementing;
-      accounts = accounts_held m st ref w base (occurrences_from (references_at m u) i) base (occurrences_from (references_at m u) (i + 1)) is.accounted.accounts
+      accounts = accounts_held m st ref w base.times (occurrences_from (references_at m u) i) base.times (occurrences_from (references_at m u) (i + 1)) is.accounted.accounts
           (λ o. let k = occurrences_step (references_at m u) i ref o (slice_get-get_or (references_at m u) i None within) in omega (arith, k));
-      fixed = open_less;
+      few = few_held s now m st ref w base.fields (length (references_at m u) - i) base.fields (length (references_at m u) - (i + 1)) fixes.goes_on.found (let more = fixes.cursor in omega (arith, more, within))
+          is.accounted.few.within is.accounted.few;
+      raised = open_less;
     };
     promoted = still_promoted m st ref w u is.promoted;
     stands = is.stands ∙ sym (still_placed m st ref w u is.accounted.incrementing.follows known);
   }
 
 -- all are raised
-pub scanned_all : (s : Space) (p i : ℕ) (m : Moment) (at : Name → ℕ) (st : IncrementStage) (u : Name) (base : Name → ℕ) → i ≡ length (references_at m u) → IsScanning s p i m at st u base → IsEven s m at st base
+pub scanned_all : (s : Space) (p i : ℕ) (m : Moment) (at : Name → ℕ) (st : IncrementStage) (u : Name) (base : Raisings) → i ≡ length (references_at m u) → IsScanning s p i m at st u base → IsEven s m at st base
 scanned_all s p i m at st u base end is = record {
   incrementing = is.accounted.incrementing;
-  accounts = accounts_same m st base (occurrences_from (references_at m u) i) base (λ o. 0) (λ o. refl)
+  accounts = accounts_same m st base.times (occurrences_from (references_at m u) i) base.times (λ o. 0) (λ o. refl)
       (λ o. sym (ap (λ z. occurrences_from (references_at m u) z o) end ∙ occurrences_end (references_at m u) o)) is.accounted.accounts;
-  fixed = λ v j promoted out below. elim (is.accounted.fixed v j promoted out below) [
-    | inl fixed ↦ inl fixed
+  few = record { cursor = let few = is.accounted.few.cursor in omega (arith, few); within = is.accounted.few.within };
+  raised = λ v j promoted out below. elim (is.accounted.raised v j promoted out below) [
+    | inl raised ↦ inl raised
     | inr open_one ↦ absurd (
         let longer : length (references_at m v) ≡ length (references_at m u) = ap (λ z. length (references_at m z)) open_one.0 in
         let from = open_one.1 in
@@ -83,6 +88,9 @@ scanned_all s p i m at st u base end is = record {
 -- a space with another worklist has the same places
 relisted : (s : Space) (w : Roomy Place) → LeavesMoving s (record s { work = w })
 relisted s w = record { limits = refl; heap = refl; outs = refl; reuse = refl; states = refl; counts = λ k some. some; registers = refl; deferred = refl; rest = (refl, refl) }
+
+popped_stays : (s : Space) (w : Roomy Place) (m : Moment) (st : IncrementStage) (ws : List Name) → StaysRemembered s (record s { work = w }) m st (record st { work = ws })
+popped_stays s w m st ws = stays_left s (record s { work = w }) m st (record st { work = ws }) (record { promoted = refl; now = refl }) (record { limits = refl; remembered = refl; cursor = refl }) refl refl
 
 -- the stage with the last of the worklist taken out
 popped_incrementing : (s : Space) (w : Roomy Place) (m : Moment) (at : Name → ℕ) (st : IncrementStage) (ws : List Name) (u : Name) → w.room ≡ s.work.room → length w.items ≤ length s.work.items
@@ -115,6 +123,8 @@ popped_incrementing s w m at st ws u room fewer items is r = record {
   none_done = r.none_done;
   blocks = r.blocks;
   decrements = r.decrements;
+  might_remember = r.might_remember;
+  remembered = stays_both st.found s (record s { work = w }) m (first_stage at st.found) st (record st { work = ws }) r.remembered (popped_stays s w m st ws);
   reported = r.reported;
   worklist = items;
   lists = record { promoted = r.lists.promoted; work = let a = r.lists.work in omega (arith, a, fewer); stuck = r.lists.stuck };
@@ -126,16 +136,17 @@ popped_goes_on s w m st ws = record {
   found = refl;
   fields = fixed_left s (record s { work = w }) m st (record st { work = ws }) (record { promoted = refl; now = refl }) refl;
   registers = register_left s (record s { work = w }) m st (record st { work = ws }) (record { promoted = refl; now = refl }) refl;
+  remembered = popped_stays s w m st ws;
 }
 
 -- the last of the worklist is taken out: its references are to be raised
-pub record IsPopped (s : Space) (w : Roomy Place) (p : Place) (m : Moment) (at : Name → ℕ) (st : IncrementStage) (base : Name → ℕ) : Type 0 where
+pub record IsPopped (s : Space) (w : Roomy Place) (p : Place) (m : Moment) (at : Name → ℕ) (st : IncrementStage) (base : Raisings) : Type 0 where
   pub rest : List Name
   pub name : Name
   pub scanning : IsScanning (record s { work = w }) p.0 0 m at (record st { work = rest }) name base
   pub goes_on : GoesOn s (record s { work = w }) m st (record st { work = rest })
 
-pub popped : (s : Space) (w : Roomy Place) (p : Place) (m : Moment) (at : Name → ℕ) (st : IncrementStage) (base : Name → ℕ) → IsEven s m at st base → s.work ≡ pushed w p → IsPopped s w p m at st base
+pub popped : (s : Space) (w : Roomy Place) (p : Place) (m : Moment) (at : Name → ℕ) (st : IncrementStage) (base : Raisings) → IsEven s m at st base → s.work ≡ pushed w p → IsPopped s w p m at st base
 popped s w p m at st base is work =
     let items : s.work.items ≡ w.items ++ p ∷ [] = ap (λ z. z.items) work in
     let x = split_last (place_of st.now) st.work w.items p (sym items ∙ is.incrementing.worklist) in
@@ -151,11 +162,12 @@ popped s w p m at st base is work =
       scanning = record {
         accounted = record {
           incrementing = popped_incrementing s w m at st x.0 x.1 room (omega (arith, longer)) x.3 x.2 is.incrementing;
-          accounts = accounts_popped m st x.0 x.1 base x.2 is.incrementing.once_promoted promoted absent is.accounts;
-          fixed = λ v j in_promoted out below. elim (tested (same_name v x.1)) [
+          accounts = accounts_popped m st x.0 x.1 base.times x.2 is.incrementing.once_promoted promoted absent is.accounts;
+          few = few_popped s w m st x.0 x.1 base.fields x.2 is.incrementing.once_promoted promoted absent is.few;
+          raised = λ v j in_promoted out below. elim (tested (same_name v x.1)) [
             | inl k ↦ inr (same_names v x.1 k, omega arith)
-            | inr k ↦ elim (is.fixed v j in_promoted (ap (λ z. has z v) x.2 ∙ has_other x.0 x.1 v k ∙ out) below) [
-              | inl fixed ↦ inl (goes_on.fields v j fixed)
+            | inr k ↦ elim (is.raised v j in_promoted (ap (λ z. has z v) x.2 ∙ has_other x.0 x.1 v k ∙ out) below) [
+              | inl raised ↦ inl (raised_on s (record s { work = w }) m st (record st { work = x.0 }) v j goes_on raised)
               | inr none ↦ absurd none
             ]
           ];
@@ -173,7 +185,7 @@ popped_leaves s w p work =
     (tables_same (tables_of s) (tables_of s) refl)
 
 -- an empty worklist, as `pop` leaves it
-pub emptied : (s : Space) (w : Roomy Place) (m : Moment) (at : Name → ℕ) (st : IncrementStage) (base : Name → ℕ) → s.work.items ≡ [] → w ≡ s.work → IsEven s m at st base → Settles s (record s { work = w }) m at st base
+pub emptied : (s : Space) (w : Roomy Place) (m : Moment) (at : Name → ℕ) (st : IncrementStage) (base : Raisings) → s.work.items ≡ [] → w ≡ s.work → IsEven s m at st base → Settles s (record s { work = w }) m at st base
 emptied s w m at st base empty same is = (
   st,
   record {

@@ -19,18 +19,18 @@ use Rattle.lxr_model.specs.Moments.{Moment}
 use Rattle.lxr_invariant.specs.Raised.{with_promoted}
 use Rattle.lxr_invariant.specs.Standing.{place_of}
 use Rattle.lxr_pause_promote.specs.Copying.{StandsAt, StandsKept}
+use Rattle.lxr_pause_promote.proofs.EitherLemmas.{placed_here}
 use Rattle.lxr_pause_increments.specs.Accounted.{GoesOn}
 use Rattle.lxr_pause_increments.specs.Increments.{IncrementStage, IsIncrementing, MayBeRaised, RaisingLeaves, left, stage_with}
 use Rattle.lxr_pause_increments.specs.Promotion.{RaisesAt, TakesIn, fills}
-use Rattle.lxr_pause_increments.specs.Steps.{IsTakenIn, RaisesHeld, StandsThere}
-use Rattle.lxr_pause_increments.proofs.CopiedLemmas.{placed_here}
+use Rattle.lxr_pause_increments.specs.Steps.{IsTakenIn, KeepsCursor, RaisesHeld, StandsThere}
 use Rattle.lxr_pause_increments.proofs.FixedLemmas.{fixed_left, register_left}
 use Rattle.lxr_pause_increments.proofs.FrameLemmas.{leaves_both, room_stays}
-use Rattle.lxr_pause_increments.proofs.IncrementLemmas.{again_raised, raised_leaves, raised_still}
+use Rattle.lxr_pause_increments.proofs.IncrementLemmas.{again_raised, again_stays, raised_leaves, raised_set, raised_still}
 use Rattle.lxr_pause_increments.proofs.MovingLemmas.{IsNewAt, begun, place_some, stands_kept, stands_now, unbegun}
 use Rattle.lxr_pause_increments.proofs.RoomLemmas.{granules, left_raised, room_for_new, room_for_stuck}
 use Rattle.lxr_pause_increments.proofs.StageLemmas.{all_made, first_joined, known_promoted, raised_again, raised_first, stage_again, stage_first, unknown_found}
-use Rattle.lxr_pause_increments.proofs.TakenLemmas.{first_goes_on, first_raised, taken_granule, taken_leaves, taken_left, taken_limits, taken_room, taken_stands}
+use Rattle.lxr_pause_increments.proofs.TakenLemmas.{first_cursor, first_goes_on, first_raised, taken_granule, taken_leaves, taken_left, taken_limits, taken_room, taken_stands}
 
 -- ---- where an object stands is found
 
@@ -83,12 +83,13 @@ module _ (a : Space) (m : Moment) (at : Name → ℕ) (st : IncrementStage) (o :
 
 -- with the next stage told by cases
 raises_by : (a c : Space) (m : Moment) (at : Name → ℕ) (st : IncrementStage) (o : Name) (q : ℕ) (later : IncrementStage) → stage_with m st o q ≡ later → IsIncrementing c m at later → q ≡ later.now o
-    → IsTrue (has (with_promoted m later.promoted) o) → GoesOn a c m st later → RaisesHeld a c m at st (Some o) q
-raises_by a c m at st o q later stage incrementing place known goes_on = record {
+    → IsTrue (has (with_promoted m later.promoted) o) → GoesOn a c m st later → KeepsCursor a c → RaisesHeld a c m at st (Some o) q
+raises_by a c m at st o q later stage incrementing place known goes_on cursor = record {
   incrementing = subst (IsIncrementing c m at) (sym stage) incrementing;
   word = place ∙ ap (λ (x : IncrementStage). x.now o) (sym stage);
   known = λ n e. let same : o ≡ n = cc in subst (λ z. IsTrue (has (with_promoted m (stage_with m st o q).promoted) z)) same (subst (λ (x : IncrementStage). IsTrue (has (with_promoted m x.promoted) o)) (sym stage) known);
   goes_on = subst (GoesOn a c m st) (sym stage) goes_on;
+  cursor = cursor;
 }
 
 module _ (a b : Space) (m : Moment) (at : Name → ℕ) (st : IncrementStage) (o : Name) (p : ℕ) (q : Place) (is : IsIncrementing a m at st) (may : MayBeRaised m at st o p) where
@@ -124,13 +125,15 @@ module _ (a b : Space) (m : Moment) (at : Name → ℕ) (st : IncrementStage) (o
           found = refl;
           fields = fixed_left a c m st (raised_again st o) (record { promoted = refl; now = refl }) still.heap;
           registers = register_left a c m st (raised_again st o) (record { promoted = refl; now = refl }) still.registers;
-        })
+          remembered = again_stays a c m st o q.0 from_a;
+        }) (raised_set a c q.0 o from_a).cursor
 
     taken_raised : IsTakenIn a b m at st o q → RaisesHeld a c m at st (Some o) q.0
     taken_raised taken =
         raises_by a c m at st o q.0 (raised_first st o q.0) (stage_first m st o q.0 (unknown_found m st o may.member taken.unknown).test)
         (first_raised a b m at st o q is may.member taken c may.held_up raised) (sym (placed_here st.now o q.0))
         (first_joined m st o o ∙ or_left (same_name o o) (has (with_promoted m st.promoted) o) (same_itself o)) (first_goes_on a b m at st o q is may.member taken c may.held_up raised)
+        (first_cursor a b m at st o q is may.member taken c may.held_up raised)
 
     pub found_raised : StandsThere a b m st o q.0 ⊎ IsTakenIn a b m at st o q → RaisesHeld a c m at st (Some o) q.0
     found_raised (inl there) = there_raised there

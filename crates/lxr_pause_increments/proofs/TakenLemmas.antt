@@ -1,11 +1,13 @@
 -- A new object is taken in, perhaps copied, and then raised: all that holds at a stage holds at the next one.
-use Rattle.std.proofs.Common.{◌≡◌, ◌≢◌, ℕ, ◌+◌, ◌<◌, refl, sym, ap, subst, ◌∙◌, inl, inr, arith, true, false, List, [], ◌∷◌, ◌++◌, length, length-append}
+use Rattle.std.proofs.Common.{◌≡◌, ◌≢◌, ℕ, ◌+◌, ◌/◌, ◌<◌, refl, sym, ap, subst, ◌∙◌, inl, inr, arith, true, false, List, [], ◌∷◌, ◌++◌, length, length-append}
 use Rattle.std.specs.Prelude.{◌||◌, IsTrue, map}
 use Rattle.std.proofs.lemmas.Bool.{or_cases, or_left, or_right}
 use Rattle.std.proofs.lemmas.List.{map-append, reverse-append}
 use Rattle.lxr_layout.specs.declared.Name.{Name}
 use Rattle.lxr_layout.specs.declared.Place.{Place}
 use Rattle.lxr_layout.specs.declared.Shape.{Shape}
+use Rattle.lxr_layout.specs.declared.TheConstants.{REMEMBERED_CURSOR, WORDS_IN_LINE}
+use Rattle.lxr_layout.specs.Places.{field_word}
 use Rattle.lxr_layout.specs.Spaces.{AreLimits, region_begin}
 use Rattle.lxr_tables.specs.Counts.{raised_count}
 use Rattle.lxr_graph.specs.Names.{has, same_name}
@@ -23,7 +25,7 @@ use Rattle.lxr_model.specs.Moments.{Moment}
 use Rattle.lxr_model_counting.specs.Raising.{IsHeldUp}
 use Rattle.lxr_model_counting.proofs.DistinctLemmas.{or_false, tested}
 use Rattle.lxr_invariant.specs.AbstractState.{members}
-use Rattle.lxr_invariant.specs.Standing.{HasBits, place_of}
+use Rattle.lxr_invariant.specs.Standing.{HasBits, place_of, word_of_field}
 use Rattle.lxr_invariant.specs.Counting.{passing}
 use Rattle.lxr_invariant.specs.Lines.{HasMarks, line_behind, next_line}
 use Rattle.lxr_invariant.specs.Raised.{with_promoted}
@@ -34,11 +36,12 @@ use Rattle.lxr_invariant.proofs.PlaceLemmas.{BeginsLine, line_mark}
 use Rattle.lxr_pause_promote.specs.Copying.{StandsAt, StandsKept}
 use Rattle.lxr_pause_promote.specs.Promotion.{Promotes, with_promotion}
 use Rattle.lxr_pause_promote.proofs.CopyLemmas.{IsPromoted, is_promoted}
+use Rattle.lxr_pause_promote.proofs.EitherLemmas.{placed_here}
 use Rattle.lxr_pause_increments.specs.Accounted.{GoesOn}
-use Rattle.lxr_pause_increments.specs.Increments.{HasRoomToRaise, IncrementStage, IsIncrementing, RaisingLeaves, RaisingLeavesTables, count_so_far, left}
+use Rattle.lxr_pause_increments.specs.Increments.{HasRoomToRaise, IncrementStage, IsIncrementing, RaisingLeaves, RaisingLeavesTables, StaysRemembered, count_so_far, left}
 use Rattle.lxr_pause_increments.specs.Moving.{IsMoving}
 use Rattle.lxr_pause_increments.specs.Promotion.{RaisesAt, stuck_with, with_raised}
-use Rattle.lxr_pause_increments.specs.Steps.{IsTakenIn}
+use Rattle.lxr_pause_increments.specs.Steps.{IsTakenIn, KeepsCursor}
 use Rattle.lxr_pause_increments.proofs.TableLemmas.{stands_after}
 use Rattle.lxr_pause_increments.proofs.TracedLemmas.{marks_begun}
 use Rattle.lxr_pause_increments.proofs.RangeLemmas.{marked_cases}
@@ -49,7 +52,8 @@ use Rattle.lxr_pause_increments.proofs.RaiseLemmas.{RaisesOnce, counts_then}
 use Rattle.lxr_pause_increments.proofs.RoomLemmas.{full_at, granules, promoted_fulls, room_raised}
 use Rattle.lxr_pause_increments.proofs.MovingLemmas.{AreMade, differ_now, known_member, mark_apart_now, place_some, stands_kept}
 use Rattle.lxr_pause_increments.proofs.FixedLemmas.{LeavesMoving, fixed_left, moving_left}
-use Rattle.lxr_pause_increments.proofs.CopiedLemmas.{IsNextStage, bits_elsewhere, fixed_promoted, marks_elsewhere, moving_promoted, placed_here, placed_known, placed_uncounted, register_promoted}
+use Rattle.lxr_pause_increments.proofs.RememberedLemmas.{LeavesSet, stays_by}
+use Rattle.lxr_pause_increments.proofs.CopiedLemmas.{IsNextStage, bits_elsewhere, fixed_promoted, line_stays, marks_elsewhere, moving_promoted, placed_known, placed_uncounted, register_promoted}
 use Rattle.lxr_pause_increments.proofs.IncrementLemmas.{LeavesBlocks, RaisedOnce, incrementing_with, raised_leaves, raised_still, saturates, unraised_other}
 use Rattle.lxr_pause_increments.proofs.StageLemmas.{IsFound, all_made, first_here, first_joined, first_other, made_unwritten, raised_first, stuck_known, unknown_found}
 
@@ -220,8 +224,7 @@ module _ (a b : Space) (m : Moment) (at : Name → ℕ) (st : IncrementStage) (o
       unwritten = record {
         runs = refl;
         frees = refl;
-        remembered = refl;
-        cursors = refl;
+        cursors = λ k other. refl;
         starts = λ k h. elim (changed_cases (tables_of a).starts (granule_of q.0) true k) [ inl r ↦ r.1 | inr r ↦ r.1 ∙ h ];
         marks = marks_begun (tables_of a) (granule_of q.0) taken_clear;
         grays = refl;
@@ -337,9 +340,31 @@ module _ (a b : Space) (m : Moment) (at : Name → ℕ) (st : IncrementStage) (o
       lists = room_raised b c q.0 o raised (subst (λ z. granule_of q.0 < z) (sym (ap granules taken_rest)) taken_granule) taken_room;
     }
 
+    -- no reference was remembered, and what was is
+    first_set : LeavesSet a c
+    first_set = record {
+      limits = ap (λ s. s.limits) raised.rest ∙ taken_limits;
+      remembered = ap (λ t. t.remembered) first_tables;
+      cursor = ap (λ t. t.cursors REMEMBERED_CURSOR) first_tables;
+    }
+
+    first_stays : StaysRemembered a c m st (raised_first st o q.0)
+    first_stays = stays_by a c m st (raised_first st o q.0) first_set (record {
+      states = λ k. subst (λ f. KeepsState (tables_of a) (record (tables_of c) { states = f }) k) (sym (ap (λ t. t.states) first_tables)) (promoted.states k);
+      known = λ n h. (still_known n h, elsewhere n h);
+      promoted = λ n h. or_right (same_name n o) (has st.promoted n) h;
+      lines = λ n i h within.
+          ap (λ t. t.reuse (word_of_field to n i / WORDS_IN_LINE)) first_tables
+          ∙ ap (λ p. (tables_of middle).reuse (field_word p i / WORDS_IN_LINE)) (elsewhere n h)
+          ∙ line_stays a middle st.found m at st.now st.promoted o q taken.object is.moving is.space taken_found.made taken_found.unpromoted taken.is taken.takes.promotes n i (known_member m st.promoted all_are_made n h) within;
+    })
+
+    pub first_cursor : KeepsCursor a c
+    first_cursor = first_set.cursor
+
     -- it is raised
     pub first_raised : IsIncrementing c m at (raised_first st o q.0)
-    first_raised = incrementing_with a c m at st (raised_first st o q.0) (leaves_both a b c taken_leaves (raised_leaves b c q.0 o raised)) still is first_is_raised
+    first_raised = incrementing_with a c m at st (raised_first st o q.0) (leaves_both a b c taken_leaves (raised_leaves b c q.0 o raised)) still first_stays refl is first_is_raised
       where
         still : LeavesBlocks a c
         still = record {
@@ -357,6 +382,7 @@ module _ (a b : Space) (m : Moment) (at : Name → ℕ) (st : IncrementStage) (o
           fixed_left middle c m later later (record { promoted = refl; now = refl }) (ap (λ t. t.heap) raised.tables ∙ listed.heap) u i
           (fixed_promoted a middle m at st later o q taken.object is.moving is.space all_are_made taken_found.made taken_found.unpromoted taken.unknown taken.is taken.takes.promotes next u i fixed);
       registers = λ k fixed. register_promoted a c m st later o q.0 taken.unknown next (ap (λ s. s.registers.items) raised.rest ∙ ap (λ s. s.registers.items) taken_rest) k fixed;
+      remembered = first_stays;
     }
       where
         later : IncrementStage

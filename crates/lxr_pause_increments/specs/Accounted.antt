@@ -1,15 +1,17 @@
 -- The steps between two stages of the increments, and what they have raised so far.
-use Rattle.std.specs.Prelude.{◌≡◌, ℕ, ◌+◌, ◌<◌, ◌≤◌, ◌⊎◌, false, None, Option, Some, List, [], IsTrue, count_by, length, map, slice_get, slice_index_or, take}
+use Rattle.std.specs.Prelude.{◌≡◌, ℕ, ◌+◌, ◌-◌, ◌<◌, ◌≤◌, ◌⊎◌, false, None, Option, Some, List, [], IsTrue, count_by, length, map, slice_get, slice_index_or, take}
 use Rattle.std.specs.List.Sorted.{IsPermutation}
 use Rattle.lxr_layout.specs.declared.Name.{Name}
 use Rattle.lxr_layout.specs.declared.LogEntry.{LogEntry}
 use Rattle.lxr_layout.specs.declared.Place.{Place}
-use Rattle.lxr_graph.specs.Names.{has}
+use Rattle.lxr_layout.specs.declared.TheConstants.{REMEMBERED_CURSOR}
+use Rattle.lxr_graph.specs.Names.{has, without}
 use Rattle.lxr_graph.specs.State.{object_at, refs_of}
 use Rattle.lxr_image.specs.declared.space.Space.{Space}
 use Rattle.lxr_image.specs.Image.{place_word}
 use Rattle.lxr_image.specs.Spaces.{tables_of}
 use Rattle.lxr_model.specs.Moments.{Field, Moment}
+use Rattle.lxr_model.specs.References.{reference_slots}
 use Rattle.lxr_model.specs.Reports.{field_holds, newly_held}
 use Rattle.lxr_model_counting.specs.Distinct.{has_field}
 use Rattle.lxr_model_counting.specs.Following.{IsLive}
@@ -18,8 +20,9 @@ use Rattle.lxr_invariant.specs.AbstractState.{members}
 use Rattle.lxr_invariant.specs.Standing.{entry_of, word_of_field}
 use Rattle.lxr_invariant.specs.Counting.{occurrences_from}
 use Rattle.lxr_invariant.specs.Raised.{with_promoted}
-use Rattle.lxr_pause_increments.specs.Moving.{HoldsEither}
-use Rattle.lxr_pause_increments.specs.Increments.{Accounts, IsIncrementing, IncrementStage, stage_with}
+use Rattle.lxr_invariant.specs.Tracing.{HasOverflowed, IsInChosen, IsRemembered}
+use Rattle.lxr_pause_promote.specs.Either.{HoldsEither}
+use Rattle.lxr_pause_increments.specs.Increments.{Accounts, IsIncrementing, IncrementStage, StaysRemembered, stage_with}
 
 -- what an object refers to now
 abbrev pub references_at : Moment → Name → List (Option Name)
@@ -70,40 +73,71 @@ pub record IsRegisterFixed (s : Space) (m : Moment) (st : IncrementStage) (k : �
   pub holds : place.0 ≡ place_word st.now held
   pub known : IsKnown m st held
 
--- between two stages all that was fixed stays so
+-- where what a reference holds stands in a Chosen block, it is remembered, or the set has overflowed
+abbrev pub IsEntered : Space → Moment → IncrementStage → Name → ℕ → Type 0
+IsEntered s m st u i = (v : Name) → slice_index_or (references_at m u) i None ≡ Some v → IsInChosen (tables_of s) st.now v
+    → IsRemembered s.limits (tables_of s) st.now u i ⊎ HasOverflowed s.limits (tables_of s)
+
+-- a reference that was raised is fixed and entered
+pub record IsFieldRaised (s : Space) (m : Moment) (st : IncrementStage) (u : Name) (i : ℕ) : Type 0 where
+  pub fixed : IsFixed s m st u i
+  pub entered : IsEntered s m st u i
+
+-- between two stages all that was fixed stays so, and what was remembered
 pub record GoesOn (before after : Space) (m : Moment) (st later : IncrementStage) : Type 0 where
   pub found : later.found ≡ st.found
   pub fields : (u : Name) (i : ℕ) → IsFixed before m st u i → IsFixed after m later u i
   pub registers : (k : ℕ) → IsRegisterFixed before m st k → IsRegisterFixed after m later k
+  pub remembered : StaysRemembered before after m st later
 
 -- ---- stages
 
--- The space is at a stage with these accounts. All references of promoted objects outside the worklist are fixed, but for those that
+-- how often each name is raised, and by how many references
+pub record Raisings : Type 0 where
+  pub times : Name → ℕ
+  pub fields : ℕ
+
+-- none is raised
+abbrev pub none_raised : Raisings
+none_raised = record { times = λ o. 0; fields = 0 }
+
+-- No more references were remembered since increments began than were raised: so many of those that were stored to, and those of each
+-- promoted object that isn't in the worklist, but for so many that are still pending.
+pub record IsFew (s : Space) (m : Moment) (st : IncrementStage) (base pending : ℕ) : Type 0 where
+  pub cursor : (tables_of s).cursors REMEMBERED_CURSOR + pending ≤ (tables_of st.found).cursors REMEMBERED_CURSOR + base + reference_slots m.state.graph (without st.promoted st.work)
+  pub within : base ≤ length m.written
+
+-- The space is at a stage with these accounts. All references of promoted objects outside the worklist are raised, but for those that
 -- are still open.
-pub record IsAccounted (s : Space) (m : Moment) (at : Name → ℕ) (st : IncrementStage) (base pending : Name → ℕ) (open_fields : Name → ℕ → Type 0) : Type 0 where
+pub record IsAccounted (s : Space) (m : Moment) (at : Name → ℕ) (st : IncrementStage) (base pending : Raisings) (open_fields : Name → ℕ → Type 0) : Type 0 where
   pub incrementing : IsIncrementing s m at st
-  pub accounts : Accounts m st base pending
-  pub fixed : (u : Name) (i : ℕ) → IsTrue (has st.promoted u) → has st.work u ≡ false → i < length (references_at m u) → IsFixed s m st u i ⊎ open_fields u i
+  pub accounts : Accounts m st base.times pending.times
+  pub few : IsFew s m st base.fields pending.fields
+  pub raised : (u : Name) (i : ℕ) → IsTrue (has st.promoted u) → has st.work u ≡ false → i < length (references_at m u) → IsFieldRaised s m st u i ⊎ open_fields u i
 
 -- nothing is pending or open
-abbrev pub IsEven : Space → Moment → (Name → ℕ) → IncrementStage → (Name → ℕ) → Type 0
-IsEven s m at st base = IsAccounted s m at st base (λ o. 0) (λ u i. ⊥)
+abbrev pub IsEven : Space → Moment → (Name → ℕ) → IncrementStage → Raisings → Type 0
+IsEven s m at st base = IsAccounted s m at st base none_raised (λ u i. ⊥)
 
 -- so it is at some stage behind one
-abbrev pub Reaches : Space → Space → Moment → (Name → ℕ) → IncrementStage → (Name → ℕ) → Type 0
+abbrev pub Reaches : Space → Space → Moment → (Name → ℕ) → IncrementStage → Raisings → Type 0
 Reaches before after m at st base = (later : IncrementStage) × IsEven after m at later base × GoesOn before after m st later
 
 -- so it is, and the worklist is empty
-pub record IsSettled (s : Space) (m : Moment) (at : Name → ℕ) (st : IncrementStage) (base : Name → ℕ) : Type 0 where
+pub record IsSettled (s : Space) (m : Moment) (at : Name → ℕ) (st : IncrementStage) (base : Raisings) : Type 0 where
   pub accounted : IsEven s m at st base
   pub no_work : st.work ≡ []
 
-abbrev pub Settles : Space → Space → Moment → (Name → ℕ) → IncrementStage → (Name → ℕ) → Type 0
+abbrev pub Settles : Space → Space → Moment → (Name → ℕ) → IncrementStage → Raisings → Type 0
 Settles before after m at st base = (later : IncrementStage) × IsSettled after m at later base × GoesOn before after m st later
 
+-- what references raise from a number on
+abbrev pub raisings_from : List (Option Name) → ℕ → Raisings
+raisings_from refs i = record { times = occurrences_from refs i; fields = length refs - i }
+
 -- a promoted object out of the worklist, whose references are still to be raised from number i on
-pub record IsScanning (s : Space) (place i : ℕ) (m : Moment) (at : Name → ℕ) (st : IncrementStage) (u : Name) (base : Name → ℕ) : Type 0 where
-  pub accounted : IsAccounted s m at st base (occurrences_from (references_at m u) i) (λ v j. (v ≡ u) × (i ≤ j))
+pub record IsScanning (s : Space) (place i : ℕ) (m : Moment) (at : Name → ℕ) (st : IncrementStage) (u : Name) (base : Raisings) : Type 0 where
+  pub accounted : IsAccounted s m at st base (raisings_from (references_at m u) i) (λ v j. (v ≡ u) × (i ≤ j))
   pub promoted : IsTrue (has st.promoted u)
   pub stands : place ≡ st.now u
 
@@ -122,14 +156,22 @@ fields_held m fields count o = count_by (field_holds m.state.graph o) (take coun
 abbrev pub roots_held : Moment → ℕ → Name → ℕ
 roots_held m count o = count_by (field_holds m.state.graph o) m.written + newly_held (take count m.last.registers) (take count m.state.registers) o
 
+-- what the first so many written fields raise
+abbrev pub fields_raise : Moment → List Field → ℕ → Raisings
+fields_raise m fields count = record { times = fields_held m fields count; fields = count }
+
+-- what the written fields raise and the first so many registers
+abbrev pub roots_raise : Moment → ℕ → Raisings
+roots_raise m count = record { times = roots_held m count; fields = length m.written }
+
 -- the first so many written fields are raised, with all that they bring along
 pub record HasRaisedEntries (s : Space) (m : Moment) (at : Name → ℕ) (st : IncrementStage) (fields : List Field) (count : ℕ) : Type 0 where
   pub order : IsLogOrder m at fields s.logged.items
-  pub settled : IsSettled s m at st (fields_held m fields count)
-  pub fixed : (k : ℕ) (w : Field) → k < count → slice_get fields k ≡ Some w → IsFixed s m st w.0 w.1
+  pub settled : IsSettled s m at st (fields_raise m fields count)
+  pub raised : (k : ℕ) (w : Field) → k < count → slice_get fields k ≡ Some w → IsFieldRaised s m st w.0 w.1
 
 -- all written fields are raised and the first so many registers, with all that they bring along
 pub record HasRaisedRoots (s : Space) (m : Moment) (at : Name → ℕ) (st : IncrementStage) (count : ℕ) : Type 0 where
-  pub settled : IsSettled s m at st (roots_held m count)
-  pub written : (u : Name) (i : ℕ) → IsTrue (has_field m.written (u, i)) → IsFixed s m st u i
+  pub settled : IsSettled s m at st (roots_raise m count)
+  pub written : (u : Name) (i : ℕ) → IsTrue (has_field m.written (u, i)) → IsFieldRaised s m st u i
   pub registers : (k : ℕ) → k < count → IsRegisterFixed s m st k

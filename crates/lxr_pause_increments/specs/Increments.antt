@@ -1,25 +1,29 @@
 -- What holds while counts are raised one after another and objects are promoted.
-use Rattle.std.specs.Prelude.{◌≡◌, ◌≢◌, ℕ, ◌+◌, ◌-◌, ◌*◌, ◌≤◌, ◌↔◌, ◌==◌, ◌&&◌, not, Bool, false, List, [], ◌∷◌, ◌++◌, IsTrue, length, map, min, reverse, if◌then◌else◌}
+use Rattle.std.specs.Prelude.{◌≡◌, ◌≢◌, ℕ, ◌+◌, ◌-◌, ◌*◌, ◌/◌, ◌<◌, ◌≤◌, ◌⊎◌, ◌↔◌, ◌==◌, ◌&&◌, not, Bool, false, Some, List, [], ◌∷◌, ◌++◌, IsTrue, length, map, min, reverse, slice_get, if◌then◌else◌}
 use Rattle.lxr_layout.specs.declared.Name.{Name}
-use Rattle.lxr_layout.specs.declared.TheConstants.{DECREMENT_COUNT, DECREMENT_CURSOR, GRANULES_IN_BLOCK, STUCK}
+use Rattle.lxr_layout.specs.declared.TheConstants.{DECREMENT_COUNT, DECREMENT_CURSOR, GRANULES_IN_BLOCK, REMEMBERED_CURSOR, STUCK, WORDS_IN_LINE}
 use Rattle.lxr_graph.specs.Names.{has, without}
+use Rattle.lxr_graph.specs.State.{object_at, refs_of}
 use Rattle.lxr_image.specs.declared.space.Space.{Space}
 use Rattle.lxr_image.specs.Spaces.{IsSpace, tables_of}
 use Rattle.lxr_image.specs.Tables.{Tables}
 use Rattle.lxr_image.specs.Opened.{HasRoom}
 use Rattle.lxr_image.specs.ImageLaws.{placed}
+use Rattle.lxr_blocks.specs.States.{KeepsState}
 use Rattle.lxr_model.specs.References.{references_from}
 use Rattle.lxr_model.specs.Moments.{Moment}
-use Rattle.lxr_model_counting.specs.Distinct.{IsDistinct}
+use Rattle.lxr_model_counting.specs.Distinct.{IsDistinct, has_field}
 use Rattle.lxr_model_counting.specs.Following.{FollowsPause}
 use Rattle.lxr_model_counting.specs.Lowering.{once}
 use Rattle.lxr_model_counting.specs.Raising.{IsGrowth, IsHeldUp}
 use Rattle.lxr_invariant.specs.AbstractState.{members}
-use Rattle.lxr_invariant.specs.Standing.{AreLogged, HasBits, place_of}
+use Rattle.lxr_invariant.specs.Standing.{AreLogged, HasBits, place_of, word_of_field}
 use Rattle.lxr_invariant.specs.Counting.{count_at, passing}
-use Rattle.lxr_invariant.specs.Lines.{HasBlocks, HasMarks}
+use Rattle.lxr_invariant.specs.Lines.{HasBlocks, HasMarks, NoneChosen}
 use Rattle.lxr_invariant.specs.Raised.{count_found, with_promoted}
-use Rattle.lxr_pause_increments.specs.Moving.{IsMoving, IsPlaceOf}
+use Rattle.lxr_remset.specs.Remembering.{AreEntries, CanRemember, HasEntryOf}
+use Rattle.lxr_pause_promote.specs.Either.{IsPlaceOf}
+use Rattle.lxr_pause_increments.specs.Moving.{IsMoving}
 use Rattle.lxr_pause_increments.specs.Traced.{marks_with}
 
 -- A stage of the increments; no code holds it.
@@ -34,6 +38,34 @@ pub record IncrementStage : Type 0 where
   pub now : Name → ℕ
   -- the space as increments found it
   pub found : Space
+
+-- nothing is promoted or raised yet, and objects stand where they stood
+abbrev pub first_stage : (Name → ℕ) → Space → IncrementStage
+first_stage at found = record { promoted = []; work = []; added = λ n. 0; now = at; found = found }
+
+-- a reference was raised: it is one of a promoted object or was stored to, and what it holds is known
+pub record WasRaised (m : Moment) (st : IncrementStage) (u : Name) (i : ℕ) : Type 0 where
+  pub holder : IsTrue (has (with_promoted m st.promoted) u)
+  pub changes : IsTrue (has st.promoted u) ⊎ IsTrue (has_field m.written (u, i))
+  pub known : (v : Name) → slice_get (refs_of (object_at m.state.graph u)) i ≡ Some (Some v) → IsTrue (has (with_promoted m st.promoted) v)
+
+-- What is known at a stage is known at a later one, and stands where it stood; no line on which it lies is handed out. Entries stay, each
+-- is one of a reference where each was, and each that is new is that of a reference that was raised and leads into a Chosen block. Where
+-- no block is Chosen, nothing is remembered.
+pub record StaysRemembered (before after : Space) (m : Moment) (st later : IncrementStage) : Type 0 where
+  pub limits : after.limits ≡ before.limits
+  pub states : (b : ℕ) → KeepsState (tables_of before) (tables_of after) b
+  pub known : (u : Name) → IsTrue (has (with_promoted m st.promoted) u) → IsTrue (has (with_promoted m later.promoted) u) × (later.now u ≡ st.now u)
+  pub promoted : (u : Name) → IsTrue (has st.promoted u) → IsTrue (has later.promoted u)
+  pub lines : (u : Name) (i : ℕ) → IsTrue (has (with_promoted m st.promoted) u) → i < length (refs_of (object_at m.state.graph u))
+      → (tables_of after).reuse (word_of_field later.now u i / WORDS_IN_LINE) ≡ (tables_of before).reuse (word_of_field st.now u i / WORDS_IN_LINE)
+  pub cursor : (tables_of before).cursors REMEMBERED_CURSOR ≤ (tables_of after).cursors REMEMBERED_CURSOR
+  pub below : (k : ℕ) → k < (tables_of before).cursors REMEMBERED_CURSOR → (tables_of after).remembered k ≡ (tables_of before).remembered k
+  pub since : (k : ℕ) → (tables_of before).cursors REMEMBERED_CURSOR ≤ k → k < (tables_of after).cursors REMEMBERED_CURSOR → k < after.limits.remember
+      → HasEntryOf (tables_of after) m later.now (WasRaised m later) k
+  pub entries : AreEntries before.limits (tables_of before) → AreEntries after.limits (tables_of after)
+  pub idle : NoneChosen (tables_of before) before.limits.blocks
+      → ((tables_of after).remembered ≡ (tables_of before).remembered) × ((tables_of after).cursors REMEMBERED_CURSOR ≡ (tables_of before).cursors REMEMBERED_CURSOR)
 
 -- the count of a name as it would be without a largest value
 abbrev pub count_so_far : Moment → IncrementStage → Name → ℕ
@@ -82,6 +114,9 @@ pub record IsIncrementing (s : Space) (m : Moment) (at : Name → ℕ) (st : Inc
   pub none_done : (k : ℕ) → (tables_of s).dones k ≡ false
   pub blocks : HasBlocks (tables_of s) s.limits.blocks m.trace
   pub decrements : ((tables_of s).cursors DECREMENT_CURSOR ≡ 0) × ((tables_of s).cursors DECREMENT_COUNT ≡ 0)
+  -- references might be remembered as increments began, and what was remembered is
+  pub might_remember : CanRemember m.trace (tables_of st.found)
+  pub remembered : StaysRemembered st.found s m (first_stage at st.found) st
   -- the lists of the space are those of the stage
   pub reported : s.report.promoted.items ≡ reverse st.promoted
   pub worklist : s.work.items ≡ map (place_of st.now) st.work
@@ -117,13 +152,13 @@ left s = (GRANULES_IN_BLOCK * s.limits.blocks - passing (tables_of s).starts (GR
 abbrev pub Accounts : Moment → IncrementStage → (Name → ℕ) → (Name → ℕ) → Type 0
 Accounts m st base pending = (o : Name) → st.added o + pending o ≡ base o + references_from m.state.graph (without st.promoted st.work) o
 
--- Lists, gray bits, the entries of the table of decrements and all cursors are as they were. Each object that began somewhere begins
--- there, and while a trace runs, those that begin newly are marked; no other mark bit changes.
+-- Lists but the remembered set, gray bits, the entries of the table of decrements and all cursors but that of the remembered set are as
+-- they were. Each object that began somewhere begins there, and while a trace runs, those that begin newly are marked; no other mark
+-- bit changes.
 pub record RaisingLeavesTables (t u : Tables) : Type 0 where
   pub runs : u.runs ≡ t.runs
   pub frees : u.frees ≡ t.frees
-  pub remembered : u.remembered ≡ t.remembered
-  pub cursors : u.cursors ≡ t.cursors
+  pub cursors : (k : ℕ) → k ≢ REMEMBERED_CURSOR → u.cursors k ≡ t.cursors k
   pub starts : (k : ℕ) → IsTrue (t.starts k) → IsTrue (u.starts k)
   pub marks : (k : ℕ) → u.marks k ≡ marks_with t u.starts k
   pub grays : u.grays ≡ t.grays

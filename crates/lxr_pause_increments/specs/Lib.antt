@@ -1,5 +1,6 @@
 pub mod Moving
 pub mod Traced
+pub mod Entering
 pub mod Increments
 pub mod Accounted
 pub mod Raising

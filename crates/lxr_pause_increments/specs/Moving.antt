@@ -1,7 +1,6 @@
 -- Where objects stand while promoted ones are copied, one after another, and what refers to them meanwhile.
-use Rattle.std.specs.Prelude.{◌≡◌, ◌≢◌, ℕ, ◌+◌, ◌*◌, ◌%◌, ◌^◌, ◌<◌, ◌≤◌, ◌⊎◌, ◌↔◌, ◌&&◌, not, false, Option, Some, List, IsTrue, length, slice_get, if◌then◌else◌}
+use Rattle.std.specs.Prelude.{◌≡◌, ◌≢◌, ℕ, ◌+◌, ◌*◌, ◌%◌, ◌^◌, ◌<◌, ◌≤◌, ◌⊎◌, ◌↔◌, ◌&&◌, not, false, Some, List, IsTrue, if◌then◌else◌}
 use Rattle.lxr_layout.specs.declared.Name.{Name}
-use Rattle.lxr_layout.specs.declared.Place.{Place}
 use Rattle.lxr_layout.specs.declared.TheConstants.{GRANULES_IN_BLOCK}
 use Rattle.lxr_layout.specs.declared.runs.Run.{Run}
 use Rattle.lxr_layout.specs.Objects.{line_count, moved_word}
@@ -9,10 +8,9 @@ use Rattle.lxr_layout.specs.Places.{first_word}
 use Rattle.lxr_graph.specs.Names.{has}
 use Rattle.lxr_graph.specs.State.{Object, object_at, shape_of, world_name}
 use Rattle.lxr_image.specs.declared.space.Space.{Space}
-use Rattle.lxr_image.specs.Tables.{Tables}
 use Rattle.lxr_image.specs.Spaces.{tables_of}
-use Rattle.lxr_image.specs.Reads.{StandsWhole, granule_of}
-use Rattle.lxr_image.specs.Image.{ArePlacesOf, granules_of, place_word}
+use Rattle.lxr_image.specs.Reads.{granule_of}
+use Rattle.lxr_image.specs.Image.{ArePlacesOf, granules_of}
 use Rattle.lxr_blocks.specs.Kept.{IsAmong, IsKeptGranule, KeepsGranules}
 use Rattle.lxr_blocks.specs.Placing.{IsRest}
 use Rattle.lxr_blocks.specs.States.{IsOpenRun, KeepsState}
@@ -20,24 +18,11 @@ use Rattle.lxr_model.specs.Moments.{Field, Moment}
 use Rattle.lxr_model_counting.specs.Distinct.{has_field}
 use Rattle.lxr_invariant.specs.AbstractState.{members}
 use Rattle.lxr_invariant.specs.Copied.{CopiesLieOnFreeLines, HasCopy, HasWord}
+use Rattle.lxr_invariant.specs.Lines.{AvoidChosen}
 use Rattle.lxr_invariant.specs.Standing.{word_of_field}
+use Rattle.lxr_pause_promote.specs.Either.{HoldEither, IsPlaceOf, StandsNow}
 
 -- `at` tells where objects stood as increments began, `now` where they stand.
-
--- a word holds the place of what is held: where it stands now, or still where it stood
-abbrev pub HoldsEither : (Name → ℕ) → (Name → ℕ) → ℕ → Option Name → Type 0
-HoldsEither at now w held = (w ≡ place_word now held) ⊎ (w ≡ place_word at held)
-
--- an object stands where it stands now; each reference of it holds either place
-pub record StandsNow (t : Tables) (blocks : ℕ) (at now : Name → ℕ) (n : Name) (o : Object) : Type 0 where
-  pub placed : 1 ≤ now n
-  pub whole : StandsWhole t blocks (granule_of (now n)) n (shape_of o)
-  pub refs : (i : ℕ) (r : Option Name) → slice_get o.refs i ≡ Some r → HoldsEither at now (t.heap (first_word (now n) + 1 + i)) r
-  pub values : (i v : ℕ) → slice_get o.values i ≡ Some v → t.heap (first_word (now n) + 1 + length o.refs + i) ≡ v
-
--- an object stands at a place, or stood there
-abbrev pub IsPlaceOf : (Name → ℕ) → (Name → ℕ) → Name → ℕ → Type 0
-IsPlaceOf at now n p = (p ≡ at n) ⊎ (p ≡ now n)
 
 -- a member has a granule, where it stands or where it stood
 pub record IsTaken (m : Moment) (at now : Name → ℕ) (k : ℕ) : Type 0 where
@@ -48,11 +33,6 @@ pub record IsTaken (m : Moment) (at now : Name → ℕ) (k : ℕ) : Type 0 where
   pub is : object_at m.state.graph name ≡ Some object
   pub place_is : IsPlaceOf at now name place
   pub among : IsAmong (granule_of place) (granules_of object) k
-
--- each register holds either place of what it is to hold
-pub record HoldEither (at now : Name → ℕ) (places : List Place) (held : List (Option Name)) : Type 0 where
-  pub as_many : length places ≡ length held
-  pub each : (k : ℕ) (p : Place) (r : Option Name) → slice_get places k ≡ Some p → slice_get held k ≡ Some r → HoldsEither at now p.0 r
 
 -- Objects of a moment stand in a space, where these were promoted so far and all others stand where they stood. `found` is the space as
 -- increments found it.
@@ -81,5 +61,7 @@ pub record IsMoving (s found : Space) (m : Moment) (at now : Name → ℕ) (prom
   pub heap : (w : ℕ) → ((n : Name) → IsTrue (has promoted n) → now n ≢ at n → w ≢ first_word (at n)) → ((n : Name) → IsTrue (has promoted n) → ¬ HasWord m.state.graph now n w)
       → ((field : Field) → IsTrue (has_field m.written field) → w ≢ word_of_field at field.0 field.1) → (tables_of s).heap w ≡ (tables_of found).heap w
   pub states : (b : ℕ) → KeepsState (tables_of found) (tables_of s) b
+  -- no new object stands in a Chosen block
+  pub unchosen : AvoidChosen (tables_of s) now m.made
   -- what is promoted where it was made found no room, and lines only become fewer
   pub stay : (n : Name) (o : Object) (q : Run) → IsTrue (has promoted n) → now n ≡ at n → object_at m.state.graph n ≡ Some o → IsOpenRun (tables_of s) s.limits.blocks q → q.lines < line_count (shape_of o)

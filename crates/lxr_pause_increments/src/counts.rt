@@ -6,51 +6,58 @@ ghost use Rattle.lxr_base.specs.Roomy.{pushed};
 ghost use Rattle.lxr_image.specs.Reads.{granule_of};
 ghost use Rattle.lxr_image.specs.Spaces.{tables_of};
 ghost use Rattle.lxr_pause_promote.specs.Copying.{HasKeptAt, HasObjectAt, StandsAt, StandsKept};
+ghost use Rattle.lxr_pause_promote.specs.Shortages.{IsShortage};
 ghost use Rattle.lxr_pause_increments.specs.Promotion.{TakesIn, fills};
 ghost use Rattle.lxr_pause_increments.specs.Increments.{RaisingLeaves, left};
 ghost use Rattle.lxr_pause_increments.specs.Steps.{FindsPlace, MayRaise, RaisesCount, RaisesName};
 
 use lxr_image::Space;
 use lxr_layout::{Header, Name, Place, STUCK, unpack, word_of};
-use lxr_pause_promote::{object, promote};
+use lxr_pause_promote::{Shortage, object, promote_within};
 
 /// Raises the count of the object that stands or stood at a place. Where it reaches its largest value it is reported as stuck; a
 /// new object that is raised first is promoted before, reported, and put into the worklist. Answers where the object stands now.
-pub(crate) fn raise(space: &mut Space, place: Place) -> Place
-    requires { MayRaise space.old place.0 }
+pub(crate) fn raise(space: &mut Space, place: Place, shortage: &mut Shortage) -> Place
+    requires may { MayRaise space.old place.0 }
+    requires short { IsShortage space.old shortage.old }
     ensures raises { RaisesName space.old space.new place.0 result.0 }
     ensures left { left space.new ≡ left space.old }
     ensures leaves { RaisingLeaves space.old space.new }
+    ensures short { IsShortage space.new shortage.new }
 {
-    let now = settle(space, place);
+    let now = settle(space, place, shortage);
     raise_at(space, now);
     now
 }
 
 /// Where the object that stands or stood at a place stands now. At a start bit this is the place itself, and its header isn't
 /// looked at; else the header tells where the object was copied to, or that it is new, and it is taken in.
-fn settle(space: &mut Space, place: Place) -> Place
-    requires { MayRaise space.old place.0 }
-    ensures { FindsPlace space.old space.new place.0 result }
+fn settle(space: &mut Space, place: Place, shortage: &mut Shortage) -> Place
+    requires may { MayRaise space.old place.0 }
+    requires short { IsShortage space.old shortage.old }
+    ensures finds { FindsPlace space.old space.new place.0 result }
+    ensures short { IsShortage space.new shortage.new }
 {
     if space.has_start(place.0 - 1) {
         place
     } else {
         match unpack(space.heap_word(word_of(place))) {
             Header::Moved(now) => now,
-            Header::Object(name, _) => take_in(space, place, name),
+            Header::Object(name, _) => take_in(space, place, name, shortage),
         }
     }
 }
 
 /// Promotes the new object of a name at a place, reports the name, and puts the place where it stands now into the worklist.
-fn take_in(space: &mut Space, place: Place, name: Name) -> Place
+fn take_in(space: &mut Space, place: Place, name: Name, shortage: &mut Shortage) -> Place
     requires stands { HasKeptAt space.old place }
     requires promoted { length space.old.report.promoted.items < space.old.report.promoted.room }
     requires work { length space.old.work.items < space.old.work.room }
-    ensures { (n : NameOf) (shape : ShapeOf) → StandsKept space.old place n shape → name ≡ n → TakesIn space.old space.new place result n shape }
+    requires short { IsShortage space.old shortage.old }
+    ensures takes { (n : NameOf) (shape : ShapeOf) → StandsKept space.old place n shape → name ≡ n → TakesIn space.old space.new place result n shape }
+    ensures short { IsShortage space.new shortage.new }
 {
-    let now = promote(space, place);
+    let now = promote_within(space, place, shortage);
     space.report.promoted.push(name);
     space.work.push(now);
     now

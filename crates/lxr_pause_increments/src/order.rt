@@ -7,15 +7,18 @@ ghost use Rattle.std.specs.Prelude.{◌≡◌, ℕ, ◌<◌, false, length, slic
 ghost use Rattle.lxr_layout.specs.declared.Name.{Name as NameOf};
 ghost use Rattle.lxr_image.specs.Spaces.{IsSpace, Turns, tables_of};
 ghost use Rattle.lxr_model.specs.Moments.{Moment};
+ghost use Rattle.lxr_pause_promote.specs.Shortages.{IsShortage};
 ghost use Rattle.lxr_pause_increments.specs.Raising.{CanRaise, Raises};
 ghost use Rattle.lxr_pause_increments.specs.Increments.{RaisingLeaves, left};
-ghost use Rattle.lxr_pause_increments.specs.Steps.{Empties, HasHolder, HasSlots, MayEmpty, MayRaiseEntries, MayRaiseEntry, MayRaiseField, MayRaiseHeld, MayRaiseRegister, MayRaiseRegisters, MayRaiseWord, MayScan, RaisesEntries, RaisesEntry, RaisesField, RaisesHeldIn, RaisesRegister, RaisesRegisters, RaisesWord, Scans};
+ghost use Rattle.lxr_pause_increments.specs.Steps.{Empties, FixesFieldWith, HasHolder, HasSlots, MayEmpty, MayFixField, MayRaiseEntries, MayRaiseEntry, MayRaiseField, MayRaiseHeld, MayRaiseRegister, MayRaiseRegisters, MayRaiseWord, MayScan, RaisesEntries, RaisesEntry, RaisesField, RaisesHeldIn, RaisesRegister, RaisesRegisters, RaisesWord, Scans};
 
 use crate::counts::raise;
+use crate::remembering::remember_held;
 use crate::tracing::gray_old_values;
 use lxr_base::Listed;
 use lxr_image::Space;
 use lxr_layout::{Header, Place, field_word, unpack, word_of};
+use lxr_pause_promote::Shortage;
 
 /// The item of a list at an index.
 pub(crate) fn item_at<T: Copy>(list: &Listed<T>, index: usize) -> T
@@ -30,32 +33,52 @@ pub(crate) fn item_at<T: Copy>(list: &Listed<T>, index: usize) -> T
 
 /// Raises the object at the place that a word tells, and answers the word of the place where it stands now; 0 is nil, which
 /// raises nothing and stays 0.
-fn raise_word(space: &mut Space, word: u64) -> u64
-    requires { MayRaiseWord space.old word }
+fn raise_word(space: &mut Space, word: u64, shortage: &mut Shortage) -> u64
+    requires may { MayRaiseWord space.old word }
+    requires short { IsShortage space.old shortage.old }
     ensures raises { RaisesWord space.old space.new word result }
     ensures left { left space.new ≡ left space.old }
     ensures leaves { RaisingLeaves space.old space.new }
+    ensures short { IsShortage space.new shortage.new }
 {
     if word == 0 {
         0
     } else {
-        u64::from(raise(space, Place(word as u32)).0)
+        u64::from(raise(space, Place(word as u32), shortage).0)
     }
 }
 
-/// Raises what a reference of the object at a place holds, and writes to it where that stands now.
-fn raise_field(space: &mut Space, place: Place, index: u16)
-    requires { MayRaiseField space.old place.0 index }
-    ensures raises { RaisesField space.old space.new place.0 index }
+/// Raises what a reference of the object at a place holds, and writes to it where that stands now. Answers that place; 0 is nil.
+fn fix_field(space: &mut Space, place: Place, index: u16, shortage: &mut Shortage) -> Place
+    requires may { MayFixField space.old place.0 index }
+    requires short { IsShortage space.old shortage.old }
+    ensures fixes { FixesFieldWith space.old space.new place.0 index result.0 }
     ensures left { left space.new ≡ left space.old }
     ensures leaves { RaisingLeaves space.old space.new }
+    ensures short { IsShortage space.new shortage.new }
 {
     let at = field_word(place, index);
     let word = space.heap_word(at);
-    let now = raise_word(space, word);
-    if now != word {
-        space.put_heap(at, now);
+    let now = raise_word(space, word, shortage);
+    let held = Place(now as u32);
+    if now == word {
+        return held;
     }
+    space.put_heap(at, now);
+    held
+}
+
+/// Raises what a reference of the object at a place holds, and remembers the reference where that stands in a Chosen block.
+fn raise_field(space: &mut Space, place: Place, index: u16, shortage: &mut Shortage)
+    requires may { MayRaiseField space.old place.0 index }
+    requires short { IsShortage space.old shortage.old }
+    ensures raises { RaisesField space.old space.new place.0 index }
+    ensures left { left space.new ≡ left space.old }
+    ensures leaves { RaisingLeaves space.old space.new }
+    ensures short { IsShortage space.new shortage.new }
+{
+    let held = fix_field(space, place, index, shortage);
+    remember_held(space, place, index, held);
 }
 
 /// How many references the object at a place has.
@@ -70,58 +93,68 @@ fn reference_slots(space: &Space, place: Place) -> u16
 }
 
 /// Raises what each reference of a promoted object holds.
-fn scan(space: &mut Space, place: Place)
-    requires { MayScan space.old place.0 }
+fn scan(space: &mut Space, place: Place, shortage: &mut Shortage)
+    requires may { MayScan space.old place.0 }
+    requires short { IsShortage space.old shortage.old }
     ensures reaches { Scans space.old space.new place.0 }
     ensures left { left space.new ≡ left space.old }
     ensures leaves { RaisingLeaves space.old space.new }
+    ensures short { IsShortage space.new shortage.new }
 {
     let count = reference_slots(space, place);
     for index in 0..count {
-        raise_field(space, place, index);
+        raise_field(space, place, index, shortage);
     }
 }
 
 /// Empties the worklist: raises the references of each object in it, and of those that are promoted meanwhile.
-fn empty_worklist(space: &mut Space)
-    requires { MayEmpty space.old }
+fn empty_worklist(space: &mut Space, shortage: &mut Shortage)
+    requires may { MayEmpty space.old }
+    requires short { IsShortage space.old shortage.old }
     ensures settles { Empties space.old space.new }
     ensures leaves { RaisingLeaves space.old space.new }
+    ensures short { IsShortage space.new shortage.new }
 {
     while let Some(place) = space.work.pop() {
-        scan(space, place);
+        scan(space, place, shortage);
     }
 }
 
 /// Raises what a logged reference holds now, and the references of all that is promoted by it.
-fn raise_entry(space: &mut Space, index: usize)
-    requires { MayRaiseEntry space.old index }
+fn raise_entry(space: &mut Space, index: usize, shortage: &mut Shortage)
+    requires may { MayRaiseEntry space.old index }
+    requires short { IsShortage space.old shortage.old }
     ensures settles { RaisesEntry space.old space.new index }
     ensures leaves { RaisingLeaves space.old space.new }
+    ensures short { IsShortage space.new shortage.new }
 {
     let entry = item_at(&space.logged, index);
-    raise_field(space, entry.place, entry.index);
-    empty_worklist(space);
+    raise_field(space, entry.place, entry.index, shortage);
+    empty_worklist(space, shortage);
 }
 
 /// Raises what logged references hold now.
-fn raise_entries(space: &mut Space)
-    requires { MayRaiseEntries space.old }
+fn raise_entries(space: &mut Space, shortage: &mut Shortage)
+    requires may { MayRaiseEntries space.old }
+    requires short { IsShortage space.old shortage.old }
     ensures settles { RaisesEntries space.old space.new }
     ensures leaves { RaisingLeaves space.old space.new }
+    ensures short { IsShortage space.new shortage.new }
 {
     for index in 0..space.logged.len() {
-        raise_entry(space, index);
+        raise_entry(space, index, shortage);
     }
 }
 
 /// Raises what a register holds, and puts into it where that stands now.
-fn raise_held(space: &mut Space, register: usize, held: Place)
-    requires { MayRaiseHeld space.old register held }
+fn raise_held(space: &mut Space, register: usize, held: Place, shortage: &mut Shortage)
+    requires may { MayRaiseHeld space.old register held }
+    requires short { IsShortage space.old shortage.old }
     ensures raises { RaisesHeldIn space.old space.new register held }
     ensures leaves { RaisingLeaves space.old space.new }
+    ensures short { IsShortage space.new shortage.new }
 {
-    let now = raise_word(space, u64::from(held.0));
+    let now = raise_word(space, u64::from(held.0), shortage);
     if now != u64::from(held.0) {
         space.registers.set(register, Place(now as u32));
     }
@@ -129,26 +162,30 @@ fn raise_held(space: &mut Space, register: usize, held: Place)
 
 /// Raises what a register holds, where it held something else at the last pause, and the references of all that is promoted
 /// by it.
-fn raise_register(space: &mut Space, register: usize)
-    requires { MayRaiseRegister space.old register }
+fn raise_register(space: &mut Space, register: usize, shortage: &mut Shortage)
+    requires may { MayRaiseRegister space.old register }
+    requires short { IsShortage space.old shortage.old }
     ensures settles { RaisesRegister space.old space.new register }
     ensures leaves { RaisingLeaves space.old space.new }
+    ensures short { IsShortage space.new shortage.new }
 {
     let held = item_at(&space.registers, register);
     if held.0 != item_at(&space.deferred, register).0 {
-        raise_held(space, register, held);
-        empty_worklist(space);
+        raise_held(space, register, held, shortage);
+        empty_worklist(space, shortage);
     }
 }
 
 /// Raises what registers hold that they didn't at the last pause.
-fn raise_registers(space: &mut Space)
-    requires { MayRaiseRegisters space.old }
+fn raise_registers(space: &mut Space, shortage: &mut Shortage)
+    requires may { MayRaiseRegisters space.old }
+    requires short { IsShortage space.old shortage.old }
     ensures settles { RaisesRegisters space.old space.new }
     ensures leaves { RaisingLeaves space.old space.new }
+    ensures short { IsShortage space.new shortage.new }
 {
     for register in 0..space.registers.len() {
-        raise_register(space, register);
+        raise_register(space, register, shortage);
     }
 }
 
@@ -169,8 +206,9 @@ pub fn increments(space: &mut Space)
     requires { (m : Moment) × (at : NameOf → ℕ) × CanRaise space.old m at }
     ensures { (m : Moment) (at : NameOf → ℕ) → CanRaise space.old m at → (at' : NameOf → ℕ) × Raises space.old space.new m at at' }
 {
-    raise_entries(space);
-    raise_registers(space);
+    let mut shortage = Shortage::unknown();
+    raise_entries(space, &mut shortage);
+    raise_registers(space, &mut shortage);
     gray_old_values(space);
     clear_outs(space);
     space.rest_next = 0;

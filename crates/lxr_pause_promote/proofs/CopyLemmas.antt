@@ -21,7 +21,7 @@ use Rattle.lxr_pause_promote.specs.Copying.{Evacuates, StandsAt, StandsKept, wit
 use Rattle.lxr_pause_promote.specs.Promotion.{Promotes, marked_between, with_promotion}
 use Rattle.lxr_pause_promote.proofs.PlacedLemmas.{KeepsLinesAndBlocks, keeps_both, keeps_fewer, keeps_state, marked_zero, still_kept, still_rest}
 use Rattle.lxr_pause_promote.proofs.TableLemmas.{space_with, stands_after}
-use Rattle.lxr_pause_promote.proofs.WordLemmas.{elsewhere_copied, lie_apart, moved_there, word_copied, word_left}
+use Rattle.lxr_pause_promote.proofs.WordLemmas.{elsewhere_copied, moved_there, ranges_apart, word_copied, word_left}
 
 -- n's object of a shape, which stood at place p, stands at place q, where neither what was kept nor the object itself stood. `rest` are
 -- the tables as they are but for the heap, and for which lines are out, how often each was handed out, and states of blocks.
@@ -62,7 +62,7 @@ words_apart : (before middle : Space) (taken : ℕ → Type 0) (p q : Place) (n 
     → (first_word p.0 + word_count shape ≤ first_word q.0) ⊎ (first_word q.0 + word_count shape ≤ first_word p.0)
 words_apart before middle taken p q n shape is placed =
     let some : 1 ≤ granule_count shape = omega arith in
-    elim (lie_apart (granule_of p.0) (granule_of q.0) (granule_count shape) some (λ k low high from below. placed.apart k (inr (low, high)) (from, below))) [
+    elim (ranges_apart (granule_of p.0) (granule_count shape) (granule_of q.0) (granule_count shape) some some (λ k here. placed.apart k (inr here))) [
       | inl h ↦ inl (omega (arith, h))
       | inr h ↦ inr (omega (arith, h))
     ]

@@ -5,6 +5,7 @@ use Rattle.lxr_layout.specs.declared.Shape.{Shape}
 use Rattle.lxr_layout.specs.Objects.{moved_word, word_count}
 use Rattle.lxr_layout.specs.Places.{first_word}
 use Rattle.lxr_image.specs.Tables.{Tables}
+use Rattle.lxr_blocks.specs.Kept.{IsAmong}
 use Rattle.lxr_blocks.proofs.HandedLemmas.{between, outside}
 use Rattle.lxr_pause_promote.specs.Copying.{with_copy, with_words}
 
@@ -34,15 +35,15 @@ elsewhere_copied t p q w shape other =
 
 -- ---- granules that aren't shared
 
--- so many granules in a row that have none of as many others lie before or behind these
-pub lie_apart : (a b c : ℕ) → 1 ≤ c → ((k : ℕ) → a ≤ k → k < a + c → b ≤ k → k < b + c → ⊥) → (a + c ≤ b) ⊎ (b + c ≤ a)
-lie_apart a b c some none = elim (leb_tells (a + c) b) [
-  | inl h ↦ inl h.1
-  | inr h ↦ elim (leb_tells (b + c) a) [
-    | inl k ↦ inr k.1
-    | inr k ↦ let low = h.1 in let high = k.1 in elim (leb_tells a b) [
-      | inl m ↦ let first = m.1 in absurd (none b first low (omega arith) (omega arith))
-      | inr m ↦ let first = m.1 in absurd (none a (omega arith) (omega arith) (omega arith) high)
+-- so many granules in a row that have none of others in a row lie before or behind these
+pub ranges_apart : (r g q h : ℕ) → 1 ≤ g → 1 ≤ h → ((k : ℕ) → IsAmong r g k → ¬ IsAmong q h k) → (r + g ≤ q) ⊎ (q + h ≤ r)
+ranges_apart r g q h some other none = elim (leb_tells (r + g) q) [
+  | inl c ↦ inl c.1
+  | inr c ↦ let long = c.1 in elim (leb_tells (q + h) r) [
+    | inl d ↦ inr d.1
+    | inr d ↦ let wide = d.1 in elim (leb_tells r q) [
+      | inl e ↦ let low = e.1 in absurd (none q (low, omega (arith, long)) (omega arith, omega (arith, other)))
+      | inr e ↦ let high = e.1 in absurd (none r (omega arith, omega (arith, some)) (omega (arith, high), omega (arith, wide)))
     ]
   ]
 ]

@@ -1,2 +1,4 @@
 pub mod Promotion
 pub mod Copying
+pub mod Shortages
+pub mod Either

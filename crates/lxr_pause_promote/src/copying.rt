@@ -7,8 +7,9 @@ ghost use Rattle.lxr_layout.specs.Objects.{FitsShape, word_count};
 ghost use Rattle.lxr_image.specs.Spaces.{IsSpace, Turns, tables_of};
 ghost use Rattle.lxr_blocks.specs.Placing.{IsFull};
 ghost use Rattle.lxr_pause_promote.specs.Copying.{Evacuates, HasKeptAt, HasObjectAt, StandsAt, StandsKept, with_words};
+ghost use Rattle.lxr_pause_promote.specs.Shortages.{IsShortage};
 
-use lxr_blocks::place_now;
+use crate::shortage::Shortage;
 use lxr_image::Space;
 use lxr_layout::{Header, Name, Place, Shape, pack_moved, unpack, word_of, words_of};
 
@@ -20,8 +21,25 @@ pub fn young_evacuate(space: &mut Space, place: Place) -> Option<Place>
     ensures unchanged { IfNone result (space.new ≡ space.old) }
     ensures copied { IfSome result (λ copy. (n : NameOf) (shape : ShapeOf) → StandsKept space.old place n shape → Evacuates space.old space.new place copy n shape) }
 {
+    young_evacuate_within(space, place, &mut Shortage::unknown())
+}
+
+/// Copies an object as `young_evacuate` does, within what is known of lines that are wanting: it makes no search that is known to be in
+/// vain, and what one finds wanting is known from then on.
+pub fn young_evacuate_within(
+    space: &mut Space,
+    place: Place,
+    shortage: &mut Shortage,
+) -> Option<Place>
+    requires kept { HasKeptAt space.old place }
+    requires short { IsShortage space.old shortage.old }
+    ensures none { (n : NameOf) (shape : ShapeOf) → StandsKept space.old place n shape → (IsNone result ↔ IsFull space.old shape) }
+    ensures unchanged { IfNone result (space.new ≡ space.old) }
+    ensures copied { IfSome result (λ copy. (n : NameOf) (shape : ShapeOf) → StandsKept space.old place n shape → Evacuates space.old space.new place copy n shape) }
+    ensures short { IsShortage space.new shortage.new }
+{
     let (name, shape) = object(space, place);
-    let copy = place_now(space, name, shape)?;
+    let copy = shortage.place(space, name, shape)?;
     copy_words(space, word_of(place), word_of(copy), shape);
     space.put_heap(word_of(place), pack_moved(copy));
     Some(copy)

@@ -8,6 +8,8 @@
 
 mod copying;
 mod promoting;
+mod shortage;
 
-pub use copying::{object, young_evacuate};
-pub use promoting::{promote, trace_runs};
+pub use copying::{object, young_evacuate, young_evacuate_within};
+pub use promoting::{log_references, mark_lines, promote, promote_within, trace_runs};
+pub use shortage::Shortage;

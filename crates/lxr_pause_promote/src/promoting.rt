@@ -6,8 +6,10 @@ ghost use Rattle.lxr_layout.specs.declared.Shape.{Shape as ShapeOf};
 ghost use Rattle.lxr_image.specs.Spaces.{IsSpace, Turns, tables_of};
 ghost use Rattle.lxr_pause_promote.specs.Copying.{HasKeptAt, HasObjectAt, StandsAt, StandsKept};
 ghost use Rattle.lxr_pause_promote.specs.Promotion.{Promotes, is_tracing, with_mark, with_marks, with_promotion, with_unlogged};
+ghost use Rattle.lxr_pause_promote.specs.Shortages.{IsShortage};
 
-use crate::copying::{object, young_evacuate};
+use crate::copying::{object, young_evacuate_within};
+use crate::shortage::Shortage;
 use lxr_image::Space;
 use lxr_layout::{GRANULES_IN_LINE, Place, STUCK, TRACING_WORD, word_of, words_of};
 
@@ -20,7 +22,19 @@ pub fn promote(space: &mut Space, place: Place) -> Place
     ensures space { IsSpace space.new }
     ensures limits { space.new.limits ≡ space.old.limits }
 {
-    match young_evacuate(space, place) {
+    promote_within(space, place, &mut Shortage::unknown())
+}
+
+/// Promotes an object as `promote` does, within what is known of lines that are wanting.
+pub fn promote_within(space: &mut Space, place: Place, shortage: &mut Shortage) -> Place
+    requires kept { HasKeptAt space.old place }
+    requires short { IsShortage space.old shortage.old }
+    ensures promotes { (n : NameOf) (shape : ShapeOf) → StandsKept space.old place n shape → Promotes space.old space.new place result n shape }
+    ensures space { IsSpace space.new }
+    ensures limits { space.new.limits ≡ space.old.limits }
+    ensures short { IsShortage space.new shortage.new }
+{
+    match young_evacuate_within(space, place, shortage) {
         Some(copy) => promote_here(space, copy),
         None => promote_here(space, place),
     }
@@ -63,7 +77,7 @@ fn mark_promoted(space: &mut Space, granule: u32)
 }
 
 /// Marks each further line of an object of so many granules, by the largest count at its first granule.
-fn mark_lines(space: &mut Space, granule: u32, granules: u32)
+pub fn mark_lines(space: &mut Space, granule: u32, granules: u32)
     requires space { IsSpace space.old }
     requires some { 1 ≤ granules }
     requires heap { granule + granules ≤ GRANULES_IN_BLOCK * space.old.limits.blocks }
@@ -75,7 +89,7 @@ fn mark_lines(space: &mut Space, granule: u32, granules: u32)
 }
 
 /// Sets the unlogged bits of so many heap words.
-fn log_references(space: &mut Space, first: u32, refs: u16)
+pub fn log_references(space: &mut Space, first: u32, refs: u16)
     requires space { IsSpace space.old }
     requires heap { first + refs ≤ WORDS_IN_BLOCK * space.old.limits.blocks }
     ensures { Turns space.old space.new (with_unlogged (tables_of space.old) first (first + refs)) }

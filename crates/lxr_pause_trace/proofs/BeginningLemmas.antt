@@ -1,4 +1,5 @@
--- Where nothing is dead, all holds of a trace that begins: roots are gray, nothing is marked, and each reference is still to be scanned.
+-- Where nothing is dead, all holds of a trace that begins: roots are gray, nothing is marked, and each reference is still to be scanned. Which
+-- blocks are Chosen is nothing to it, since nothing is scanned yet.
 -- Garbage that isn't stuck has a reference, and only from garbage.
 use Rattle.std.proofs.Common.{◌≡◌, ℕ, ◌+◌, ◌*◌, ◌^◌, ◌≤◌, refl, sym, ap, subst, ◌∙◌, inl, inr, ◌⊎◌, arith, Bool, true, false, List, [], IsTrue}
 use Rattle.std.specs.Prelude.{◌&&◌, filter, is_some}
@@ -71,11 +72,11 @@ decided_list P us in_order decide within =
 
 -- ---- a trace that begins
 
-module _ (before after : Space) (m : Moment) (at : Name → ℕ) (reported : PauseReport) (k : ℕ) (settled : IsSettled m)
+module _ (before after : Space) (states entries cursors : ℕ → ℕ) (m : Moment) (at : Name → ℕ) (reported : PauseReport) (k : ℕ) (settled : IsSettled m)
     (undecremented : IsUndecremented (tables_of before) m at) (undead : (n : Name) → ¬ Dead m.state m.unreclaimed m.stuck n)
-    (forgotten : (tables_of before).cursors REMEMBERED_CURSOR ≡ 0) (begins : BeginsTrace before after m at) where
+    (begins : BeginsTrace before after m at) (forgotten : cursors REMEMBERED_CURSOR ≡ 0) where
   abbrev u : Tables
-  u = tables_of after
+  u = record (tables_of after) { states = states; remembered = entries; cursors = cursors }
 
   abbrev trace : Trace
   trace = fresh_trace m k
@@ -109,7 +110,7 @@ module _ (before after : Space) (m : Moment) (at : Name → ℕ) (reported : Pau
       let r = (begins.grays (granule_of (at n))).0 is_gray in
       let reached = root_reachable m.state r.0 r.1 in
       let there : (x : Name) → IsTrue (has m.unreclaimed x) → IsTrue (has _ x) = in_first m.unreclaimed m.made in
-      let same : n ≡ r.0 = one_name u after.limits.blocks at m.state.graph _ begins.holds.image.image n r.0 (there n h) (there r.0 (stands r.0 reached)) r.2 in
+      let same : n ≡ r.0 = one_name (tables_of after) after.limits.blocks at m.state.graph _ begins.holds.image.image n r.0 (there n h) (there r.0 (stands r.0 reached)) r.2 in
       subst (Reachable m.state) (sym same) reached
 
   inside_reachable : (n : Name) → IsInSnapshot m trace n → Reachable m.state n
@@ -142,28 +143,24 @@ module _ (before after : Space) (m : Moment) (at : Name → ℕ) (reported : Pau
 
   -- ---- what is remembered
 
-  cursor : u.cursors REMEMBERED_CURSOR ≡ 0
-  cursor = ap (λ z. z.cursors REMEMBERED_CURSOR) begins.tables ∙ forgotten
-
   remembered : IsRememberedSoFar after.limits u m at trace listed.names
   remembered = record {
     fields = λ n v i h scanned e bit chosen. elim scanned [
       | inl marked ↦ not_both (u.marks (granule_of (at n))) marked (begins.none_marked (granule_of (at n)))
       | inr young ↦ not_both (has m.unreclaimed n) h young
     ];
-    entries = λ j drawn within. let none = cursor in absurd (omega (arith, drawn, none));
+    entries = λ j drawn within. absurd (omega (arith, drawn, forgotten));
     bound =
-        let none = cursor in
         let within = slots_within m.last.graph (is_unscanned u m at) listed.names in
         let same = ap (λ (s : State). reference_slots s.graph listed.names) settled.same in
-        omega (arith, none, within, same);
+        omega (arith, forgotten, within, same);
   }
 
   -- the references of the snapshot's objects are at most the heap's words
   few : rememberable trace listed.names ≤ 2 ^ 23 * (m.number + 1)
   few =
       let within : (x : Name) → IsTrue (has listed.names x) → IsTrue (has _ x) = λ x h. in_first m.unreclaimed m.made x (stands x ((listed.are.members x).0 h)) in
-      let fit = references_fit u after.limits.blocks at m.state.graph _ begins.holds.image.image listed.names (in_order_distinct listed.names listed.are.in_order) within in
+      let fit = references_fit (tables_of after) after.limits.blocks at m.state.graph _ begins.holds.image.image listed.names (in_order_distinct listed.names listed.are.in_order) within in
       let blocks = begins.holds.space.limits.blocks.1 in
       omega (arith, fit, blocks)
 
@@ -179,4 +176,6 @@ module _ (before after : Space) (m : Moment) (at : Name → ℕ) (reported : Pau
   }
 
 pub beginning : BeginningTraces
-beginning before after m at reported k settled undecremented undead forgotten begins = begun before after m at reported k settled undecremented undead forgotten begins
+beginning before after chosen m at reported k settled undecremented undead begins same forgotten =
+    subst (λ t. TraceHolds after.limits t [] (record { moment = m; at = at; reported = reported }) (fresh_trace m k)) (sym same)
+    (begun before after chosen.states chosen.remembered chosen.cursors m at reported k settled undecremented undead begins forgotten)

@@ -1,12 +1,13 @@
 -- Increments, the queue and deferred roots keep a trace. What is promoted is marked where it stands now; it was made since the last pause,
 -- so it is younger than the trace and refers to no garbage. What an old value was of is gray; it was reachable at the last pause, so it is no
 -- garbage. All that was unreclaimed stands where it did, since only what is promoted moves.
-use Rattle.std.proofs.Common.{◌≡◌, ◌≢◌, ℕ, ◌+◌, ◌*◌, ◌/◌, ◌^◌, ◌<◌, ◌≤◌, refl, sym, ap, subst, ◌∙◌, inl, inr, arith, false, List, [], IsTrue, length}
-use Rattle.std.specs.Prelude.{Bool, Some, is_some, map}
+use Rattle.std.proofs.Common.{◌≡◌, ◌≢◌, ℕ, ◌+◌, ◌*◌, ◌/◌, ◌^◌, ◌<◌, ◌≤◌, refl, sym, ap, subst, ◌∙◌, inl, inr, ◌⊎◌, arith, true, false, List, [], IsTrue, length}
+use Rattle.std.specs.Prelude.{Bool, Some, is_some, map, slice_get}
 use Rattle.std.proofs.lemmas.Bool.{false_from_ne_true}
 use Rattle.std.proofs.lemmas.List.{length-map}
 use Rattle.std.proofs.lemmas.Nat.{mul-le}
 use Rattle.std.proofs.lemmas.List.Sorted.{length_permutation}
+use Rattle.std.proofs.lemmas.Option.{slice_get_within}
 use Rattle.lxr_layout.specs.declared.Name.{Name}
 use Rattle.lxr_layout.specs.declared.TheConstants.{GRANULES_IN_BLOCK, REMEMBERED_CURSOR}
 use Rattle.lxr_graph.specs.Names.{has}
@@ -16,33 +17,31 @@ use Rattle.lxr_image.specs.declared.space.Space.{Space}
 use Rattle.lxr_image.specs.Tables.{Tables}
 use Rattle.lxr_image.specs.Spaces.{tables_of}
 use Rattle.lxr_image.specs.Reads.{granule_of}
-use Rattle.lxr_blocks.specs.declared.states.BlockState.TheVariants.{Chosen}
-use Rattle.lxr_blocks.specs.States.{state_in, state_of}
+use Rattle.lxr_blocks.specs.States.{is_fixed, state_in, state_of}
 use Rattle.lxr_model.specs.Moments.{Moment, Trace, rememberable}
 use Rattle.lxr_model.specs.Reachable.{Refers}
 use Rattle.lxr_model.specs.References.{reference_slots}
 use Rattle.lxr_model.proofs.ReachableLemmas.{promoted_made}
+use Rattle.lxr_model_counting.specs.Distinct.{has_field}
 use Rattle.lxr_model_counting.specs.Garbage.{IsGarbageOf}
 use Rattle.lxr_model_counting.proofs.DistinctLemmas.{tested}
 use Rattle.lxr_model_counting.proofs.FollowingLemmas.{live_reachable, none_from_no_object}
 use Rattle.lxr_invariant.specs.AbstractState.{AbstractState}
-use Rattle.lxr_invariant.specs.Lines.{NoneChosen}
 use Rattle.lxr_invariant.specs.Quiescent.{HoldsMoment}
 use Rattle.lxr_invariant.specs.Raised.{with_promoted}
-use Rattle.lxr_invariant.specs.Standing.{entry_of}
-use Rattle.lxr_invariant.specs.Tracing.{IsCovered, IsGray, IsInSnapshot, IsMarked, IsOldValue, IsRememberedSoFar, IsToBeScanned, IsYounger, MarksStayInside, SnapshotIsCovered, StaysGarbage, TraceHolds}
-use Rattle.lxr_invariant.proofs.BlockLemmas.{none_counted, still_not}
+use Rattle.lxr_invariant.specs.Standing.{entry_of, word_of_field}
+use Rattle.lxr_invariant.specs.Tracing.{HasOverflowed, IsCovered, IsGray, IsInChosen, IsInSnapshot, IsMarked, IsOldValue, IsRemembered, IsRememberedSoFar, IsScanned, IsToBeScanned, IsYounger, MarksStayInside, SnapshotIsCovered, StaysGarbage, TraceHolds}
 use Rattle.lxr_invariant.proofs.InsideLemmas.{inside_unless_garbage}
 use Rattle.lxr_invariant.proofs.ScanLemmas.{fewer_later, slots}
 use Rattle.lxr_pause_increments.specs.Raising.{Raises, RaisesGrays, RaisesMarks}
 use Rattle.lxr_pause_queue.specs.Queueing.{Queues}
 use Rattle.lxr_pause_trace.specs.Laws.{CountingKeepsTrace, KeepsObjectsOf, settled_next, with_slots}
-use Rattle.lxr_pause_trace.proofs.GranuleLemmas.{is_placed, lies_in_block, one_name}
+use Rattle.lxr_pause_trace.proofs.GranuleLemmas.{is_placed, one_name, remembered_still}
 use Rattle.lxr_pause_trace.proofs.OldLemmas.{old_live}
 use Rattle.lxr_pause_trace.proofs.PackingLemmas.{references_fit}
 
 module _ (found raised queued : Space) (g : AbstractState) (at' : Name → ℕ) (trace : Trace) (holds : HoldsMoment found g.moment g.at)
-    (runs : g.moment.trace ≡ Some trace) (unchosen : NoneChosen (tables_of found) found.limits.blocks) (older : KeepsObjectsOf trace g.moment)
+    (runs : g.moment.trace ≡ Some trace) (older : KeepsObjectsOf trace g.moment)
     (is : TraceHolds found.limits (tables_of found) found.logged.items g trace) (raises : Raises found raised g.moment g.at at')
     (queues : Queues raised queued g.moment at' raised.report.promoted.items raised.report.stuck.items) where
   abbrev m : Moment
@@ -222,26 +221,59 @@ module _ (found raised queued : Space) (g : AbstractState) (at' : Name → ℕ) 
 
   -- ---- what is remembered
 
-  cursor : u.cursors REMEMBERED_CURSOR ≡ t.cursors REMEMBERED_CURSOR
-  cursor = queues.keeps.cursors REMEMBERED_CURSOR (λ e. cc) (λ e. cc) ∙ raises.keeps.cursors REMEMBERED_CURSOR (λ e. cc) (λ e. cc)
-
-  states : u.states ≡ (tables_of raised).states
-  states = ap (λ z. z.states) queues.tables
-
-  limits_raised : raised.limits ≡ found.limits
-  limits_raised = ap (λ z. z.limits) raises.space
+  cursor : u.cursors REMEMBERED_CURSOR ≡ (tables_of raised).cursors REMEMBERED_CURSOR
+  cursor = queues.keeps.cursors REMEMBERED_CURSOR (λ e. cc) (λ e. cc)
 
   limits : queued.limits ≡ found.limits
-  limits = ap (λ z. z.limits) queues.space ∙ limits_raised
+  limits = ap (λ z. z.limits) queues.space ∙ ap (λ z. z.limits) raises.space
 
-  none_chosen : (n : Name) → IsTrue (has all n) → state_in u (granule_of (at' n) / GRANULES_IN_BLOCK) ≢ Chosen
-  none_chosen n k e =
-      let b : ℕ = granule_of (at' n) / GRANULES_IN_BLOCK in
-      let within = subst (λ l. b < l.blocks) limits_raised (lies_in_block (tables_of raised) raised.limits.blocks at' m.state.graph all raises.raised.image n k) in
-      still_not t (tables_of raised) b Chosen refl (raises.states b) (none_counted t found.limits.blocks b unchosen within) (sym (ap (λ f. state_of (f b)) states) ∙ e)
+  -- a block that is Chosen was so
+  chosen_raised : (v : Name) → IsInChosen u at' v → IsInChosen (tables_of raised) at' v
+  chosen_raised v chosen = sym (ap (λ z. state_in z (granule_of (at' v) / GRANULES_IN_BLOCK)) queues.tables) ∙ chosen
+
+  chosen_found : (v : Name) → IsTrue (has m.unreclaimed v) → IsInChosen (tables_of raised) at' v → IsInChosen t at v
+  chosen_found v h chosen =
+      let b : ℕ = granule_of (at' v) / GRANULES_IN_BLOCK in
+      elim (raises.states b) [
+        | inl same ↦ ap (λ p. state_in t (granule_of p / GRANULES_IN_BLOCK)) (sym (same_place v h)) ∙ ap state_of (sym same) ∙ chosen
+        | inr other ↦ absurd (let fixed : is_fixed (state_in (tables_of raised) b) ≡ true = ap is_fixed chosen in let loose = other.1 in cc)
+      ]
+
+  -- what is remembered once increments are done stays so
+  still_remembered : (n : Name) (i : ℕ) → IsRemembered found.limits (tables_of raised) at' n i ⊎ HasOverflowed found.limits (tables_of raised)
+      → IsRemembered found.limits u at' n i ⊎ HasOverflowed found.limits u
+  still_remembered n i (inl there) = inl (remembered_still found.limits (tables_of raised) u at' n i queues.keeps.remembered queues.keeps.reuse cursor there)
+  still_remembered n i (inr full) = inr (subst (λ c. found.limits.remember < c) (sym cursor) full)
+
+  was_scanned : (n : Name) → IsTrue (has m.unreclaimed n) → IsScanned u at' goes_on n → IsScanned t at trace n
+  was_scanned n h (inl marked) = inl (was_marked n h marked)
+  was_scanned n h (inr young) = inr young
+
+  -- a reference of what was unreclaimed that wasn't stored to holds what it held, and was remembered where that was to be
+  was_remembered : (n v : Name) (i : ℕ) → IsTrue (has m.unreclaimed n) → has_field m.written (n, i) ≡ false → IsScanned u at' goes_on n → slice_get (refs_of (object_at m.state.graph n)) i ≡ Some (Some v)
+      → IsInChosen (tables_of raised) at' v → IsRemembered found.limits t at n i ⊎ HasOverflowed found.limits t
+  was_remembered n v i h unwritten scan e chosen =
+      let member = holds.follows.closed n v h (i, sym (holds.follows.unwritten n i h unwritten) ∙ e) in
+      let bit = (holds.bits.unlogged (word_of_field at n i)).1
+      (n, i, record { member = h; index = slice_get_within (refs_of (object_at m.state.graph n)) i (Some v) e; unwritten = unwritten; word = refl }) in
+      is.remembered.fields n v i h (was_scanned n h scan) e bit (chosen_found v member chosen)
+
+  -- so each reference of what is scanned is remembered where that is to be
+  fields : (n v : Name) (i : ℕ) → IsTrue (has all n) → IsScanned u at' goes_on n → slice_get (refs_of (object_at m.state.graph n)) i ≡ Some (Some v) → IsInChosen (tables_of raised) at' v
+      → IsRemembered found.limits (tables_of raised) at' n i ⊎ HasOverflowed found.limits (tables_of raised)
+  fields n v i k scan e chosen = elim (union_cases promoted m.unreclaimed n k) [
+    | inl p ↦ raises.remembers.fields n v i (inl p) e chosen
+    | inr h ↦ elim (tested (has_field m.written (n, i))) [
+      | inl w ↦ raises.remembers.fields n v i (inr w) e chosen
+      | inr unwritten ↦ elim (was_remembered n v i h unwritten scan e chosen) [
+        | inl there ↦ inl (raises.remembers.kept n i (Some v) h e there)
+        | inr full ↦ inr (raises.remembers.full full)
+      ]
+    ]
+  ]
 
   -- a trace that goes on may remember more
-  more : rememberable trace is.snapshot ≤ rememberable goes_on is.snapshot
+  more : rememberable goes_on is.snapshot ≡ rememberable trace is.snapshot + reference_slots m.state.graph promoted + length m.written
   more = omega arith
 
   -- an object has as many references as it had at the last pause
@@ -259,15 +291,16 @@ module _ (found raised queued : Space) (g : AbstractState) (at' : Name → ℕ) 
 
   remembered : IsRememberedSoFar found.limits u now at' goes_on is.snapshot
   remembered = record {
-    fields = λ n v i k scan e bit chosen. absurd (none_chosen v (queues.holds.follows.closed n v k (i, e)) chosen);
+    fields = λ n v i k scan e bit chosen. still_remembered n i (fields n v i k scan e (chosen_raised v chosen));
     entries = λ k drawn within.
-        let r = is.remembered.entries k (subst (λ z. k < z) cursor drawn) within in
-        (r.0, r.1, r.2, record { is = ap (λ f. f k) (queues.keeps.remembered ∙ raises.keeps.remembered) ∙ r.3.is; entry = r.3.entry; in_heap = r.3.in_heap });
+        let r = raises.remembers.entries is.remembered.entries k (subst (λ z. k < z) cursor drawn) within in
+        (r.0, r.1, r.2, record { is = ap (λ f. f k) queues.keeps.remembered ∙ r.3.is; entry = r.3.entry; in_heap = r.3.in_heap });
     bound =
         let bound = is.remembered.bound in
         let same = cursor in
+        let drawn = raises.bound in
         let fewer = fewer_later t u m now at at' is.snapshot was_unscanned in
-        omega (arith, bound, same, fewer, more);
+        omega (arith, bound, same, drawn, fewer, more);
   }
 
   -- at most 2 ^ 22 references are promoted, and at most 2 ^ 20 were stored to
@@ -300,4 +333,4 @@ module _ (found raised queued : Space) (g : AbstractState) (at' : Name → ℕ) 
   }
 
 pub counting_keeps : CountingKeepsTrace
-counting_keeps found raised queued g at' trace holds runs unchosen older is raises queues = holds_on found raised queued g at' trace holds runs unchosen older is raises queues
+counting_keeps found raised queued g at' trace holds runs older is raises queues = holds_on found raised queued g at' trace holds runs older is raises queues

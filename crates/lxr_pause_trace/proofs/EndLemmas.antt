@@ -82,6 +82,15 @@ module _ (before after : Space) (m : Moment) (at : Name → ℕ) (settled : IsSe
 
 -- ---- a trace that ran
 
+module _ (before after : Space) (g : AbstractState) (trace : Trace) (settled : IsSettled g.moment) (is : TraceHolds before.limits (tables_of before) [] g trace)
+    (finishes : FinishesTrace before after g.moment g.at) where
+  -- what was left to mark is inside
+  pub left_inside : (n : Name) → IsToBeMarked (tables_of before) g.moment g.at n → IsInSnapshot g.moment trace n
+  left_inside n (left_gray _ member unmarked is_gray) = is.inside.grays n member is_gray
+  left_inside n (left_referred x _ waits f unmarked) =
+      let h = left_stands before after g.moment g.at settled finishes x waits in
+      refers_inside (tables_of before) g.moment g.at trace is.inside is.snapshot is.reachable x n h (left_inside x waits) f (stands_referred before after g.moment g.at settled finishes x n h f)
+
 module _ (before after : Space) (g : AbstractState) (trace : Trace) (settled : IsSettled g.moment) (had : HadObjects trace)
     (is : TraceHolds before.limits (tables_of before) [] g trace) (finishes : FinishesTrace before after g.moment g.at) where
   abbrev m : Moment
@@ -120,15 +129,8 @@ module _ (before after : Space) (g : AbstractState) (trace : Trace) (settled : I
     ]
   ]
 
-  -- what was left to mark is inside
-  left_inside : (n : Name) → IsToBeMarked (tables_of before) m at n → IsInSnapshot m trace n
-  left_inside n (left_gray _ member unmarked is_gray) = is.inside.grays n member is_gray
-  left_inside n (left_referred x _ waits f unmarked) =
-      let h = left_stands before after m at settled finishes x waits in
-      refers_inside (tables_of before) m at trace is.inside is.snapshot is.reachable x n h (left_inside x waits) f (stands_referred before after m at settled finishes x n h f)
-
   marked_inside : (n : Name) → IsTrue (has m.unreclaimed n) → IsMarked (tables_of after) at n → IsInSnapshot m trace n
-  marked_inside n h marked = elim ((finishes.marks n h).0 marked) [ inl was ↦ is.inside.marks n h was | inr waits ↦ left_inside n waits ]
+  marked_inside n h marked = elim ((finishes.marks n h).0 marked) [ inl was ↦ is.inside.marks n h was | inr waits ↦ left_inside before after g trace settled is finishes n waits ]
 
   -- no garbage is inside: it had its object when the trace began
   garbage_outside : (n : Name) → IsGarbageOf trace n → IsInSnapshot m trace n → ⊥

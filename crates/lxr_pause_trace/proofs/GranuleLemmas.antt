@@ -1,15 +1,15 @@
--- Members of an image at one granule are one, and each lies in a block of the heap.
-use Rattle.std.proofs.Common.{◌≡◌, ℕ, ◌/◌, ◌<◌, ◌≤◌, sym, ap, subst, ◌∙◌, inl, inr, arith, List, IsTrue}
+-- Members of an image at one granule are one.
+use Rattle.std.proofs.Common.{◌≡◌, ℕ, ◌/◌, ◌<◌, ◌≤◌, sym, ap, subst, ◌∙◌, inl, inr, List, IsTrue}
 use Rattle.lxr_layout.specs.declared.limits.Limits.{Limits}
 use Rattle.lxr_layout.specs.declared.Name.{Name}
-use Rattle.lxr_layout.specs.declared.TheConstants.{GRANULES_IN_BLOCK, REMEMBERED_CURSOR, WORDS_IN_LINE}
+use Rattle.lxr_layout.specs.declared.TheConstants.{REMEMBERED_CURSOR, WORDS_IN_LINE}
 use Rattle.lxr_layout.specs.Runs.{word_of_entry}
 use Rattle.lxr_graph.specs.Names.{has, same_name}
-use Rattle.lxr_graph.specs.State.{Graph, Object}
+use Rattle.lxr_graph.specs.State.{Graph}
 use Rattle.lxr_graph.proofs.NameSets.{same_names}
 use Rattle.lxr_image.specs.Tables.{Tables}
 use Rattle.lxr_image.specs.Reads.{granule_of}
-use Rattle.lxr_image.specs.Image.{IsImage, granules_of}
+use Rattle.lxr_image.specs.Image.{IsImage}
 use Rattle.lxr_model_counting.proofs.DistinctLemmas.{tested}
 use Rattle.lxr_invariant.specs.Standing.{word_of_field}
 use Rattle.lxr_invariant.specs.Tracing.{IsRemembered}
@@ -24,16 +24,6 @@ module _ (t : Tables) (blocks : ℕ) (at : Name → ℕ) (g : Graph) (ms : List 
 
   pub is_placed : (n : Name) → IsTrue (has ms n) → 1 ≤ at n
   is_placed n member = (image.stands n member).2.placed
-
-  pub lies_in_block : (n : Name) → IsTrue (has ms n) → granule_of (at n) / GRANULES_IN_BLOCK < blocks
-  lies_in_block n member =
-      let there = image.stands n member in
-      let fits = there.2.whole.in_heap in
-      let some = some_granules (there.0) in
-      omega (arith, fits, some)
-    where
-      some_granules : (o : Object) → 1 ≤ granules_of o
-      some_granules o = omega arith
 
 -- what is remembered stays so where the remembered entries, their cursor and the reuse counters do
 pub remembered_still : (l : Limits) (t u : Tables) (at : Name → ℕ) (n : Name) (i : ℕ) → u.remembered ≡ t.remembered → u.reuse ≡ t.reuse → u.cursors REMEMBERED_CURSOR ≡ t.cursors REMEMBERED_CURSOR

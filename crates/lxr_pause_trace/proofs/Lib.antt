@@ -4,6 +4,7 @@ pub mod PackingLemmas
 pub mod FinishingLemmas
 pub mod CountingLemmas
 pub mod EndLemmas
+pub mod EndRememberedLemmas
 pub mod BeginningLemmas
 pub mod TellingLemmas
 pub mod HistoryLemmas

@@ -1,18 +1,18 @@
 -- What the steps of a pause do to a trace that runs, begins or ends: laws, each the contract of a function with an empty body.
-use Rattle.std.specs.Prelude.{◌≡◌, ℕ, ◌+◌, ◌↔◌, ◌⊎◌, Some, List, [], IsTrue, length}
+use Rattle.std.specs.Prelude.{◌≡◌, ℕ, ◌+◌, ◌<◌, ◌↔◌, ◌⊎◌, Some, List, [], IsTrue, length, slice_get}
 use Rattle.lxr_layout.specs.declared.limits.Limits.{Limits}
 use Rattle.lxr_layout.specs.declared.Name.{Name}
 use Rattle.lxr_layout.specs.declared.LogEntry.{LogEntry}
 use Rattle.lxr_layout.specs.declared.TheConstants.{REMEMBERED_CURSOR}
-use Rattle.lxr_graph.specs.Names.{has, without}
-use Rattle.lxr_graph.specs.State.{HasObject}
+use Rattle.lxr_graph.specs.Names.{IsSetOf, has, without}
+use Rattle.lxr_graph.specs.State.{HasObject, object_at, refs_of}
 use Rattle.lxr_graph.specs.History.{Item, PauseReport}
 use Rattle.lxr_image.specs.declared.space.Space.{Space}
 use Rattle.lxr_image.specs.Tables.{Tables}
 use Rattle.lxr_image.specs.Spaces.{tables_of}
 use Rattle.lxr_model.specs.Dead.{Dead}
 use Rattle.lxr_model.specs.Legal.{IsLegalSoFar}
-use Rattle.lxr_model.specs.Moments.{Moment, Trace, moment}
+use Rattle.lxr_model.specs.Moments.{Moment, Trace, moment, rememberable}
 use Rattle.lxr_model.specs.Reachable.{Reachable, Refers}
 use Rattle.lxr_model.specs.References.{reference_slots}
 use Rattle.lxr_model.specs.Terms.{Terms}
@@ -20,11 +20,11 @@ use Rattle.lxr_model_counting.specs.Garbage.{FollowsTrace, IsGarbageOf}
 use Rattle.lxr_invariant.specs.Copied.{standing}
 use Rattle.lxr_invariant.specs.AbstractState.{AbstractState, leaving}
 use Rattle.lxr_invariant.specs.Counting.{IsUndecremented}
-use Rattle.lxr_invariant.specs.Lines.{NoneChosen}
 use Rattle.lxr_invariant.specs.Quiescent.{HoldsMoment}
 use Rattle.lxr_invariant.specs.Raised.{settled}
 use Rattle.lxr_invariant.specs.Settled.{IsSettled}
-use Rattle.lxr_invariant.specs.Tracing.{IsGray, IsMarked, IsOldValue, IsRoot, IsUnmarked, TraceHolds}
+use Rattle.lxr_invariant.specs.Tracing.{HasOverflowed, IsGray, IsInChosen, IsMarked, IsOldValue, IsRemembered, IsRoot, IsUnmarked, TraceHolds}
+use Rattle.lxr_remset.specs.Remembering.{AreEntries}
 use Rattle.lxr_pause_decrements.specs.Finishing.{Finishes}
 use Rattle.lxr_pause_increments.specs.Raising.{Raises}
 use Rattle.lxr_pause_queue.specs.Queueing.{Queues}
@@ -71,11 +71,11 @@ with_slots m promoted trace = record trace {
 abbrev pub settled_next : Moment → List Name → List Name → Moment
 settled_next m promoted stuck = record (settled m promoted stuck) { number = m.number + 1 }
 
--- increments, the queue and deferred roots keep a trace, where no block is Chosen: what is promoted is marked where it stands now, and
--- old values are gray
+-- increments, the queue and deferred roots keep a trace: what is promoted is marked where it stands now, old values are gray, and
+-- references into Chosen blocks are remembered
 abbrev pub CountingKeepsTrace : Type 0
 CountingKeepsTrace = (found raised queued : Space) (g : AbstractState) (at' : Name → ℕ) (trace : Trace)
-    → HoldsMoment found g.moment g.at → g.moment.trace ≡ Some trace → NoneChosen (tables_of found) found.limits.blocks
+    → HoldsMoment found g.moment g.at → g.moment.trace ≡ Some trace
     → KeepsObjectsOf trace g.moment → TraceHolds found.limits (tables_of found) found.logged.items g trace
     → Raises found raised g.moment g.at at'
     → Queues raised queued g.moment at' raised.report.promoted.items raised.report.stuck.items
@@ -88,12 +88,14 @@ CountingKeepsTrace = (found raised queued : Space) (g : AbstractState) (at' : Na
 abbrev pub fresh_trace : Moment → ℕ → Trace
 fresh_trace m k = record { began = k; state = m.state; unreclaimed = m.unreclaimed; promoted_slots = 0; written_slots = 0 }
 
--- where nothing is dead, no decrement was begun and nothing is remembered, all holds of a trace that begins
+-- where nothing is dead and no decrement was begun, all holds of a trace that begins, whatever blocks are Chosen then, where nothing is
+-- remembered
 abbrev pub BeginningTraces : Type 0
-BeginningTraces = (before after : Space) (m : Moment) (at : Name → ℕ) (reported : PauseReport) (k : ℕ)
+BeginningTraces = (before after : Space) (chosen : Tables) (m : Moment) (at : Name → ℕ) (reported : PauseReport) (k : ℕ)
     → IsSettled m → IsUndecremented (tables_of before) m at → ((n : Name) → ¬ Dead m.state m.unreclaimed m.stuck n)
-    → (tables_of before).cursors REMEMBERED_CURSOR ≡ 0 → BeginsTrace before after m at
-    → TraceHolds after.limits (tables_of after) [] (record { moment = m; at = at; reported = reported }) (fresh_trace m k)
+    → BeginsTrace before after m at → chosen ≡ record (tables_of after) { states = chosen.states; remembered = chosen.remembered; cursors = chosen.cursors }
+    → chosen.cursors REMEMBERED_CURSOR ≡ 0
+    → TraceHolds after.limits chosen [] (record { moment = m; at = at; reported = reported }) (fresh_trace m k)
 
 -- ---- a trace ends
 
@@ -108,6 +110,20 @@ abbrev pub EndFindsGarbage : Type 0
 EndFindsGarbage = (before after : Space) (g : AbstractState) (trace : Trace)
     → IsSettled g.moment → HadObjects trace → TraceHolds before.limits (tables_of before) [] g trace → FinishesTrace before after g.moment g.at
     → FindsGarbage after g.moment g.at (IsGarbageOf trace) × ((n : Name) → IsGarbageOf trace n → IsTrue (has g.moment.unreclaimed n))
+
+-- Once it is finished, each reference of a marked object that leads into a Chosen block is remembered, or the set has overflowed. Each
+-- entry is one of a reference, and the set has overflowed only where more may have been remembered than there is room for.
+pub record RemembersMarked (l : Limits) (t : Tables) (m : Moment) (at : Name → ℕ) (trace : Trace) : Type 0 where
+  pub fields : (n v : Name) (i : ℕ) → IsTrue (has m.unreclaimed n) → IsMarked t at n → slice_get (refs_of (object_at m.state.graph n)) i ≡ Some (Some v) → IsInChosen t at v
+      → IsRemembered l t at n i ⊎ HasOverflowed l t
+  pub entries : AreEntries l t
+  pub overflows : (snapshot : List Name) → IsSetOf snapshot (Reachable trace.state) → HasOverflowed l t → l.remember < rememberable trace snapshot
+
+-- so it is at the end of the trace that runs
+abbrev pub EndRemembers : Type 0
+EndRemembers = (before after : Space) (g : AbstractState) (trace : Trace)
+    → IsSettled g.moment → g.moment.trace ≡ Some trace → TraceHolds before.limits (tables_of before) [] g trace → FinishesTrace before after g.moment g.at
+    → RemembersMarked before.limits (tables_of after) g.moment g.at trace
 
 -- in a collecting pause, exactly what isn't reachable
 abbrev pub CollectFindsGarbage : Type 0

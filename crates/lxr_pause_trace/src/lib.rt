@@ -2,11 +2,12 @@
 //!
 //! A snapshot-at-the-beginning trace, as in LXR (Zhao, Blackburn and McKinley, 2022), finds all that could be reached when it began.
 //! Counting goes on in the pauses that it spans: what dies makes gray what it referred to, what is promoted is marked, and old values
-//! are gray. So the trace loses nothing, and at its end exactly the garbage of its beginning is unmarked. The functions of this
-//! crate do nothing: the contract of each is a law.
+//! are gray. So the trace loses nothing, and at its end exactly the garbage of its beginning is unmarked. References into Chosen
+//! blocks that are scanned, promoted or stored are remembered, so at its end all of them are. The functions of this crate do
+//! nothing: the contract of each is a law.
 #![tactic(auto)]
 
-ghost use Rattle.lxr_pause_trace.specs.Laws.{BeginningTraces, CollectFindsGarbage, CountingKeepsTrace, EndFindsGarbage, FinishingKeepsTrace, HistoryKeepsObjects, InsideFollows, MarksTellTheEnd};
+ghost use Rattle.lxr_pause_trace.specs.Laws.{BeginningTraces, CollectFindsGarbage, CountingKeepsTrace, EndFindsGarbage, EndRemembers, FinishingKeepsTrace, HistoryKeepsObjects, InsideFollows, MarksTellTheEnd};
 
 /// Where marks stay inside the snapshot, the state follows the beginning of the trace.
 pub fn inside_follows()
@@ -28,7 +29,7 @@ pub fn counting_keeps_trace()
     ensures { CountingKeepsTrace }
 {}
 
-/// Where nothing is dead, all holds of a trace that begins.
+/// Where nothing is dead, all holds of a trace that begins, whatever blocks are chosen then.
 pub fn beginning_traces()
     ensures { BeginningTraces }
 {}
@@ -36,6 +37,12 @@ pub fn beginning_traces()
 /// Once a trace is finished, exactly what was garbage when it began is unmarked.
 pub fn end_finds_garbage()
     ensures { EndFindsGarbage }
+{}
+
+/// Once a trace is finished, each reference that leads into a Chosen block from what is marked is remembered, unless the set has
+/// overflowed.
+pub fn end_remembers()
+    ensures { EndRemembers }
 {}
 
 /// Once a trace of a collecting pause is finished, exactly what isn't reachable is unmarked.

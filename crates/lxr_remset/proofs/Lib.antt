@@ -1,2 +1,3 @@
 pub mod SetLemmas
 pub mod FieldLemmas
+pub mod ChosenLemmas

@@ -41,11 +41,11 @@ there_by t p i false is = absurd (let e : false ≡ true = is in cc)
 
 module _ (l : Limits) (t : Tables) (p : Place) (i : ℕ) where
   -- an entry that was written stays
-  old_entry : (k : ℕ) → k < t.cursors REMEMBERED_CURSOR → (remembering l t p i).remembered k ≡ t.remembered k
+  pub old_entry : (k : ℕ) → k < t.cursors REMEMBERED_CURSOR → (remembering l t p i).remembered k ≡ t.remembered k
   old_entry k below = before_by t p i k (nat_lt (t.cursors REMEMBERED_CURSOR) l.remember) below
 
   -- where the set has room, the entry is there
-  new_entry : t.cursors REMEMBERED_CURSOR < l.remember → (remembering l t p i).remembered (t.cursors REMEMBERED_CURSOR) ≡ entry_now t p i
+  pub new_entry : t.cursors REMEMBERED_CURSOR < l.remember → (remembering l t p i).remembered (t.cursors REMEMBERED_CURSOR) ≡ entry_now t p i
   new_entry room = there_by t p i (nat_lt (t.cursors REMEMBERED_CURSOR) l.remember) (lt-ltb (t.cursors REMEMBERED_CURSOR) l.remember room)
 
   entry_there : AreLimits l → AreWithin t → IsField l p i → t.cursors REMEMBERED_CURSOR < l.remember

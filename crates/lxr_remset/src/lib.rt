@@ -9,5 +9,5 @@
 mod laws;
 mod remembering;
 
-pub use laws::remembering_keeps_set;
-pub use remembering::{Remembered, is_current, overflowed, remember};
+pub use laws::{chosen_are_remembered, remembering_keeps_set};
+pub use remembering::{Remembered, is_current, overflowed, remember, remember_chosen};

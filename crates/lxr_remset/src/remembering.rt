@@ -1,13 +1,17 @@
 //! Entering references into the remembered set, and reading it.
-ghost use Rattle.std.specs.Prelude.{◌≡◌, ◌↔◌, ◌^◌, ◌<◌, ℕ, IsTrue};
+ghost use Rattle.std.specs.Prelude.{◌≡◌, ◌↔◌, ◌*◌, ◌^◌, ◌<◌, ◌≤◌, ℕ, IsTrue};
 ghost use Rattle.lxr_layout.specs.declared.TheConstants.{REMEMBERED_CURSOR};
 ghost use Rattle.lxr_layout.specs.declared.Place.{Place as PlaceOf};
+ghost use Rattle.lxr_image.specs.Reads.{granule_of};
 ghost use Rattle.lxr_image.specs.Spaces.{IsSpace, Turns, tables_of};
 ghost use Rattle.lxr_invariant.specs.Tracing.{HasOverflowed, IsEntryWord};
-ghost use Rattle.lxr_remset.specs.Remembering.{IsField, kept_or_full, line_of_field, remembering};
+ghost use Rattle.lxr_remset.specs.Remembering.{IsField, is_in_chosen, kept_or_full, line_of_field, remembering, remembering_chosen};
 
+use lxr_blocks::{BlockState, state};
 use lxr_image::Space;
-use lxr_layout::{Place, REMEMBERED_CURSOR, WORDS_IN_LINE, entry_of, entry_word, field_word};
+use lxr_layout::{
+    GRANULES_IN_BLOCK, Place, REMEMBERED_CURSOR, WORDS_IN_LINE, entry_of, entry_word, field_word,
+};
 
 /// How a reference was remembered.
 #[derive(Clone, Copy, Debug, PartialEq, Eq)]
@@ -37,6 +41,21 @@ pub fn remember(space: &mut Space, place: Place, index: u16) -> Remembered
     let counter = space.reuse(field_word(place, index) / WORDS_IN_LINE);
     space.put_remembered(number as u32, entry_word(counter, place, index));
     Remembered::Kept
+}
+
+/// Remembers a reference of the object at a place, where what it holds stands in a Chosen block. Else nothing is done.
+pub fn remember_chosen(space: &mut Space, place: Place, index: u16, held: Place)
+    requires space { IsSpace space.old }
+    requires field { IsField space.old.limits place index }
+    requires placed { 1 ≤ held.0 }
+    requires held { granule_of held.0 < GRANULES_IN_BLOCK * space.old.limits.blocks }
+    requires cursor { IsTrue (is_in_chosen (tables_of space.old) held) → (tables_of space.old).cursors REMEMBERED_CURSOR < 2 ^ 63 }
+    ensures tables { Turns space.old space.new (remembering_chosen space.old.limits (tables_of space.old) place index held) }
+    ensures space { IsSpace space.new }
+{
+    if let BlockState::Chosen = state(space, (held.0 - 1) / GRANULES_IN_BLOCK) {
+        remember(space, place, index);
+    }
 }
 
 /// Whether the line of an entry's reference has the reuse counter that the entry has: the line wasn't handed out since.

@@ -1,7 +1,7 @@
 -- What a history says where no room is left for a `new` that waits: right after a collecting pause it may be refused; else a pause has
 -- a cause, and may collect for it.
 use Rattle.std.proofs.Common.{◌≡◌, ◌≢◌, ℕ, ◌+◌, ◌-◌, ◌/◌, ◌≤◌, ◌↔◌, refl, sym, ap, subst, ◌∙◌, inl, inr, List, [], ◌∷◌, length}
-use Rattle.std.specs.Prelude.{Some, IsTrue}
+use Rattle.std.specs.Prelude.{Some, None, IsTrue}
 use Rattle.lxr_layout.specs.declared.Name.{Name}
 use Rattle.lxr_layout.specs.declared.Shape.{Shape}
 use Rattle.lxr_layout.specs.Objects.{FitsShape, line_count}
@@ -15,13 +15,13 @@ use Rattle.lxr_graph.specs.History.{Item, Call, Pause, PauseReport}
 use Rattle.lxr_image.specs.declared.space.Space.{Space}
 use Rattle.lxr_image.specs.Spaces.{tables_of}
 use Rattle.lxr_blocks.specs.Placing.{IsFull}
-use Rattle.lxr_model.specs.Moments.{Moment, moment}
+use Rattle.lxr_model.specs.Moments.{Moment, moment, trace_after}
 use Rattle.lxr_model.specs.Full.{IsRightAfterPause, LeaveNoRun, slots_in, slots_taken}
 use Rattle.lxr_model.specs.Reachable.{Reachable}
 use Rattle.lxr_model.specs.Legal.{IsLegalSoFar, IsWaitedFor, Replies}
 use Rattle.lxr_model.specs.Belongs.{HasCause, Script, is_new, next_operation}
 use Rattle.lxr_invariant.specs.AbstractState.{AbstractState}
-use Rattle.lxr_invariant.specs.Lines.{NoneChosen}
+use Rattle.lxr_invariant.specs.Lines.{ChosenNeedTrace, NoneChosen}
 use Rattle.lxr_invariant.specs.Quiescent.{IsQuiescent}
 use Rattle.lxr_full.specs.Room.{HasWorld}
 use Rattle.lxr_model.proofs.CollectLemmas.{refused_keep}
@@ -37,14 +37,27 @@ none_made threads P (Pause report ∷ h) after = refl
 none_made threads P (Call t (op.New dest shape) reply.Full ∷ h) after = none_made threads P h after
 none_made threads P (Call t o r ∷ h) after = absurd after
 
+-- nor does a trace run right after a collecting pause
+untraced : (threads : ℕ) (h : List Item) → IsRightAfterPause (λ report. report.kind ≡ kind.Collect) h → (moment threads h).trace ≡ None
+untraced threads [] after = absurd after
+untraced threads (Pause report ∷ h) after = ap (trace_after (moment threads h) report) after
+untraced threads (Call t (op.New dest shape) reply.Full ∷ h) after = untraced threads h after
+untraced threads (Call t o r ∷ h) after = absurd after
+
+-- so no block is Chosen then
+none_chosen : (threads : ℕ) (h : List Item) (s : Space) (g : AbstractState) → IsRightAfterPause (λ report. report.kind ≡ kind.Collect) h → IsQuiescent s g → g.moment ≡ moment threads h → NoneChosen (tables_of s) s.limits.blocks
+none_chosen threads h s g after between is =
+    subst (ChosenNeedTrace (tables_of s) s.limits.blocks) (ap (λ (m : Moment). m.trace) is ∙ untraced threads h after) between.safepoint.holds.blocks.chosen
+
 -- a `new` that finds no room right after a collecting pause may be refused
 pub may_be_refused : (options : RunOptions) (script : Script) (h : List Item) (s : Space) (g : AbstractState) (t dest : ℕ) (shape : Shape) → IsLegalSoFar (script_terms options script) h
-    → IsRightAfterPause (λ report. report.kind ≡ kind.Collect) h → IsQuiescent s g → g.moment ≡ moment (length script) h → NoneChosen (tables_of s) s.limits.blocks → s.limits.blocks ≡ options.blocks → IsFull s shape
+    → IsRightAfterPause (λ report. report.kind ≡ kind.Collect) h → IsQuiescent s g → g.moment ≡ moment (length script) h → s.limits.blocks ≡ options.blocks → IsFull s shape
     → Replies (script_terms options script) h t (op.New dest shape) reply.Full
-may_be_refused options script h s g t dest shape legal after between is unchosen blocks full =
+may_be_refused options script h s g t dest shape legal after between is blocks full =
     let world : HasWorld (moment (length script) h).state.graph = world_keeps_shape (script_terms options script) h legal in
     let reached : (n : Name) → IsTrue (has (moment (length script) h).unreclaimed n) ↔ Reachable (moment (length script) h).state n = refused_keep (script_terms options script) h legal after in
-    let (ns, set, none) = collected_full_leaves_no_run s g shape between (ap (λ (m : Moment). m.made) is ∙ none_made (length script) (λ report. report.kind ≡ kind.Collect) h after) unchosen
+    let (ns, set, none) = collected_full_leaves_no_run s g shape between (ap (λ (m : Moment). m.made) is ∙ none_made (length script) (λ report. report.kind ≡ kind.Collect) h after)
+    (none_chosen (length script) h s g after between is)
     (subst (λ (m : Moment). (n : Name) → IsTrue (has m.unreclaimed n) ↔ Reachable m.state n) (sym is) reached)
     (subst (λ (m : Moment). HasWorld m.state.graph) (sym is) world) full in (
       after,

@@ -15,8 +15,12 @@ use Rattle.lxr_model.specs.Legal.{IsLegalSoFar}
 use Rattle.lxr_model.specs.Moments.{Field, Moment, moment, same_field, with_field, written_after, written_with}
 use Rattle.lxr_model.specs.Terms.{Terms}
 use Rattle.lxr_mutator.specs.Mutating.{is_loaded, is_new, is_stored}
-use Rattle.lxr_run_history.specs.Tally.{counted, tally_of}
+use Rattle.lxr_run_history.specs.Tally.{HasNumbersOf, counted, tally_of}
 use Rattle.lxr_run_history.proofs.ThreadSums.{counted_in, one, replied}
+
+-- a tally that has all numbers of a history but how many objects were moved and kept
+pub has_numbers : (threads : ℕ) (h : List Item) (tally : Tally) (moved kept : ℕ) → tally ≡ record (tally_of threads h) { moved = moved; kept = kept } → HasNumbersOf threads h tally
+has_numbers threads h tally moved kept is = is ∙ ap (λ (t : Tally). record (tally_of threads h) { moved = t.moved; kept = t.kept }) (sym is)
 
 -- ---- kinds of replies
 

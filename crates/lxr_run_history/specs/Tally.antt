@@ -1,5 +1,5 @@
 -- The tally: what a space counts of a history.
-use Rattle.std.specs.Prelude.{ℕ, ◌+◌, List, [], ◌∷◌, length}
+use Rattle.std.specs.Prelude.{◌≡◌, ℕ, ◌+◌, List, [], ◌∷◌, length}
 use Rattle.lxr_graph.specs.declared.Reply.{Reply}
 use Rattle.lxr_graph.specs.declared.Reply.TheVariants as reply
 use Rattle.lxr_graph.specs.History.{Item, Call, Pause}
@@ -21,3 +21,7 @@ tally_of threads [] = no_tally
 tally_of threads (Call t o r ∷ h) = counted (tally_of threads h) r
 tally_of threads (Pause report ∷ h) = let before = tally_of threads h in
     record before { logs = before.logs + length (moment threads h).written; pauses = before.pauses + 1 }
+
+-- a tally has the numbers of a history of so many threads; how many objects evacuation moved and kept is no number of a history
+abbrev pub HasNumbersOf : ℕ → List Item → Tally → Type 0
+HasNumbersOf threads h tally = tally ≡ record (tally_of threads h) { moved = tally.moved; kept = tally.kept }

@@ -64,7 +64,6 @@ can_serve task space written seen before paused collected actors h g serving hel
     let threads : space.limits.threads ≡ threads_of task = ap (λ (l : Limits). l.threads) come.limits in
     record {
       between = serving.between;
-      none_chosen = come.none_chosen;
       fit = record {
         as_many = many ∙ sym threads;
         each = λ i m at.
@@ -83,7 +82,6 @@ servable : (task : Task) (space : Space) (written : Option (List ℕ)) (seen : O
     → MayServe task space written seen t m collected served h g → IsServable space g (next_made m)
 servable task space written seen t m collected served h g may = record {
   between = may.between;
-  none_chosen = may.come.none_chosen;
   next = name_is task space written seen t m collected served h g may ∙ ap (next_name g.moment.state.graph) (sym may.rests.thread);
 }
 

@@ -11,13 +11,10 @@ use Rattle.lxr_graph.specs.declared.Reply.TheVariants as reply
 use Rattle.lxr_graph.specs.History.{Item, Call}
 use Rattle.lxr_image.specs.declared.space.Space.{Space}
 use Rattle.lxr_image.specs.declared.space.Tally.{Tally}
-use Rattle.lxr_image.specs.Spaces.{tables_of}
 use Rattle.lxr_model.specs.Belongs.{HasCause, IsHistorySoFar}
 use Rattle.lxr_model.specs.Kinds.{ends}
 use Rattle.lxr_model.specs.Moments.{Moment, moment}
 use Rattle.lxr_invariant.specs.AbstractState.{AbstractState}
-use Rattle.lxr_invariant.specs.Lines.{NoneChosen}
-use Rattle.lxr_invariant.proofs.BlockLemmas.{none_kept}
 use Rattle.lxr_invariant.proofs.NameLemmas.{in_first}
 use Rattle.lxr_text_stream.specs.Streams.{Appends}
 use Rattle.lxr_run_watch.specs.Sights.{Sight}
@@ -35,14 +32,15 @@ use Rattle.lxr_core.specs.Executions.{Execution}
 use Rattle.lxr_core.proofs.ClosingLemmas.{given_script}
 use Rattle.lxr_run_history.specs.Left.{last_report}
 use Rattle.lxr_run_history.specs.Run.{reports_text}
-use Rattle.lxr_run_history.specs.Tally.{counted, tally_of}
+use Rattle.lxr_run_history.specs.Tally.{HasNumbersOf, counted, tally_of}
 use Rattle.lxr_run_history.proofs.HistoryLemmas.{early_extends, history_extends, owes_extends, was_early}
 use Rattle.lxr_run_history.proofs.SightLemmas.{sees_epoch}
-use Rattle.lxr_run_history.proofs.TallyLemmas.{loads_are, news_are, stores_are}
+use Rattle.lxr_run_history.proofs.TallyLemmas.{has_numbers, loads_are, news_are, stores_are}
 use Rattle.lxr_run_history.proofs.ThreadSums.{counted_in, one}
-use Rattle.lxr_run_invariant.specs.LoopInvariant.{HasCome, HasMore, HasRunEpoch, HaveActors, HaveEnded, HaveMutators, IsBetweenEpochs, SomeWait, Task, done_of, task_limits, terms_of, threads_of}
+use Rattle.lxr_run_invariant.specs.LoopInvariant.{HasCome, HasEvacuatedFew, HasMore, HasRunEpoch, HaveActors, HaveEnded, HaveMutators, IsBetweenEpochs, SomeWait, Task, done_of, task_limits, terms_of, threads_of}
 use Rattle.lxr_run_invariant.specs.Laws.{EpochsRun, beginning_of}
 use Rattle.lxr_run_invariant.proofs.ActorLemmas.{calls_are_done, ends_are_all, ends_are_fewer, has_begun, kind_is}
+use Rattle.lxr_run_invariant.proofs.EvacuatedLemmas.{evacuated_still}
 use Rattle.lxr_run_invariant.proofs.KindLemmas.{unasked_uncalled}
 
 -- ---- the opening of an epoch
@@ -197,11 +195,18 @@ module _ (task : Task) (space mid after : Space) (written : Option (List ℕ)) (
   same_limits = ap (λ (s : Space). s.limits) closes.rest ∙ ap (λ (s : Space). s.limits) mid_is
 
   -- the tally has the numbers of the history
-  tally : after.tally ≡ tally_of (threads_of task) execution.history
+  tally : HasNumbersOf (threads_of task) execution.history after.tally
   tally =
+      has_numbers (threads_of task) execution.history after.tally space.tally.moved space.tally.kept (
       closes.tally
       ∙ ap (λ (t : Tally). tally_with t (mutators_in actors)) (ap (λ (s : Space). s.tally) mid_is ∙ amid.come.tally)
-      ∙ tally_told task h execution.history (mutators_in actors) history extends have.mutators
+      ∙ ap (λ (t : Tally). record t { moved = space.tally.moved; kept = space.tally.kept }) (tally_told task h execution.history (mutators_in actors) history extends have.mutators)
+      )
+
+  -- it evacuates nothing
+  evacuated : HasEvacuatedFew after
+  evacuated = evacuated_still space after (ap (λ (t : Tally). t.moved) closes.tally ∙ ap (λ (s : Space). s.tally.moved) mid_is) (ap (λ (t : Tally). t.kept) closes.tally ∙ ap (λ (s : Space). s.tally.kept) mid_is)
+      same_limits (ap (λ (s : Space). s.pauses) closes.rest ∙ ap (λ (s : Space). s.pauses) mid_is) amid.come.evacuated
 
   -- a member then was a member before
   still : (n : Name) → IsTrue (has safepoint_state.moment.unreclaimed n) → IsTrue (has g.moment.unreclaimed n)
@@ -214,10 +219,9 @@ module _ (task : Task) (space mid after : Space) (written : Option (List ℕ)) (
     history = history;
     stands = record { moment = moment_is; reported = amid.come.stands.reported ∙ sym (report_extends (threads_of task) task.options.every h execution.history extends) };
     safepoint = closes.safepoint;
-    none_chosen = subst (λ (l : Limits). NoneChosen (tables_of after) l.blocks) (sym same_limits) (none_kept (tables_of space) (tables_of after) space.limits.blocks closes.states amid.come.none_chosen);
-    none_remembered = closes.remembered amid.come.none_chosen ∙ amid.come.none_remembered;
     limits = same_limits ∙ limits;
     tally = tally;
+    evacuated = evacuated;
     text = subst (Appends task.written written) (sym (text_extends task.options.counts (threads_of task) task.options.every h execution.history extends)) amid.come.text;
     places = amid.come.places;
     sights = sees_epoch (threads_of task) task.options.every h execution.history task.seen seen amid.come.places extends amid.come.sights;

@@ -1,5 +1,6 @@
 pub mod ActorLemmas
 pub mod KindLemmas
+pub mod EvacuatedLemmas
 pub mod PauseLemmas
 pub mod ServingLemmas
 pub mod TurnLemmas

@@ -2,16 +2,14 @@
 use Rattle.std.proofs.Common.{◌≡◌, ℕ, ◌+◌, ◌≤◌, refl, sym, ap, subst, ◌∙◌, arith, List, [], length}
 use Rattle.std.specs.Prelude.{Some, slice_get}
 use Rattle.std.proofs.lemmas.List.{length-map}
-use Rattle.lxr_layout.specs.declared.TheConstants.{REMEMBERED_CURSOR}
 use Rattle.lxr_layout.specs.declared.limits.Limits.{Limits}
 use Rattle.lxr_image.specs.declared.space.Space.{Space}
+use Rattle.lxr_image.specs.declared.space.Tally.{Tally}
 use Rattle.lxr_image.specs.Image.{opening_at}
 use Rattle.lxr_image.specs.Opened.{no_tally}
-use Rattle.lxr_image.specs.Spaces.{tables_of}
 use Rattle.lxr_model.specs.Belongs.{operations_of}
 use Rattle.lxr_model.specs.Moments.{opening_moment}
 use Rattle.lxr_invariant.specs.AbstractState.{AbstractState, no_report}
-use Rattle.lxr_invariant.specs.Lines.{NoneChosen}
 use Rattle.lxr_invariant.specs.Quiescent.{IsQuiescent}
 use Rattle.lxr_invariant.specs.Listed.{FreeBlocksAreListed, IsListed}
 use Rattle.lxr_text_stream.proofs.StreamLemmas.{Appends-nil}
@@ -22,7 +20,9 @@ use Rattle.lxr_core.specs.Actors.{decrementers_in, mutators_in, script_of, trace
 use Rattle.lxr_core.specs.Resting.{HelpersRest, RestsAfter}
 use Rattle.lxr_graph.specs.declared.Op.{Op}
 use Rattle.lxr_run_history.proofs.SightLemmas.{sees_none}
+use Rattle.lxr_run_history.proofs.TallyLemmas.{has_numbers}
 use Rattle.lxr_run_invariant.proofs.ActorLemmas.{found}
+use Rattle.lxr_run_invariant.proofs.EvacuatedLemmas.{none_evacuated}
 use Rattle.lxr_run_invariant.specs.LoopInvariant.{HaveActors, HaveMutators, IsBetweenEpochs, Task, task_limits, threads_of}
 
 -- a space that was just opened, for so many threads: what it stands for, and what is listed
@@ -36,8 +36,6 @@ pub record IsOpenedFor (task : Task) (space : Space) (g : AbstractState) : Type 
   pub limits : space.limits ≡ task_limits task
   pub tally : space.tally ≡ no_tally
   pub pauses : space.pauses ≡ 0
-  pub none_chosen : NoneChosen (tables_of space) space.limits.blocks
-  pub none_remembered : (tables_of space).cursors REMEMBERED_CURSOR ≡ 0
 
 -- a mutator as it is made rests for the empty history
 pub first_rests : (l : Limits) (every t : ℕ) (operations : List Op) → IsMutator (first t operations l every) → RestsAfter l every [] t (first t operations l every)
@@ -91,10 +89,9 @@ between_opened task space g actors some opened are = record {
     history = (tt, record { calls = λ t low high. (operations_of task.script t, refl); asked = tt; turns = tt; causes = tt; early = tt });
     stands = record { moment = opened.moment; reported = opened.reported };
     safepoint = opened.between.safepoint;
-    none_chosen = opened.none_chosen;
-    none_remembered = opened.none_remembered;
     limits = opened.limits;
-    tally = opened.tally;
+    tally = has_numbers (threads_of task) [] space.tally 0 0 opened.tally;
+    evacuated = none_evacuated space (ap (λ (t : Tally). t.moved) opened.tally) (ap (λ (t : Tally). t.kept) opened.tally);
     text = Appends-nil task.written;
     places = opening_at;
     sights = sees_none (threads_of task) task.seen;

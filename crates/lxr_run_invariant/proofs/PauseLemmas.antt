@@ -1,7 +1,7 @@
 -- What a pause does to a run: its history has the pause, and a front of its report or all of it was written.
-use Rattle.std.proofs.Common.{◌≡◌, ℕ, ◌+◌, ◌*◌, ◌^◌, ◌<◌, ◌≤◌, ◌↔◌, refl, sym, ap, subst, ◌∙◌, arith, List, ◌∷◌, length, Bool, true, false, IsTrue}
+use Rattle.std.proofs.Common.{◌≡◌, ℕ, ◌+◌, ◌*◌, ◌^◌, ◌<◌, ◌≤◌, ◌↔◌, ◌⊎◌, refl, sym, ap, subst, ◌∙◌, inl, inr, arith, List, ◌∷◌, length, Bool, true, false, IsTrue}
 use Rattle.std.specs.Prelude.{Option, None, Some, slice_get}
-use Rattle.lxr_layout.specs.declared.TheConstants.{REMEMBERED_CURSOR}
+use Rattle.lxr_layout.specs.declared.TheConstants.{GRANULES_IN_BLOCK}
 use Rattle.lxr_layout.specs.declared.Name.{Name}
 use Rattle.lxr_layout.specs.declared.limits.Limits.{Limits}
 use Rattle.lxr_graph.specs.declared.report.Kind.TheVariants as kind
@@ -9,7 +9,6 @@ use Rattle.lxr_graph.specs.History.{Item, Pause, PauseReport, report_of}
 use Rattle.lxr_graph.specs.Names.{has}
 use Rattle.lxr_image.specs.declared.space.Space.{Space}
 use Rattle.lxr_image.specs.declared.space.Tally.{Tally}
-use Rattle.lxr_image.specs.Spaces.{tables_of}
 use Rattle.lxr_model.specs.Kinds.{MayStand}
 use Rattle.lxr_model.specs.Legal.{IsLegalSoFar, IsPause}
 use Rattle.lxr_model.specs.Terms.{Terms}
@@ -18,7 +17,6 @@ use Rattle.lxr_model.specs.Reports.{IsReport}
 use Rattle.lxr_model.specs.Belongs.{IsHistorySoFar}
 use Rattle.lxr_model.proofs.ReachableLemmas.{promoted_made}
 use Rattle.lxr_invariant.specs.AbstractState.{AbstractState, paused}
-use Rattle.lxr_invariant.specs.Lines.{NoneChosen}
 use Rattle.lxr_full.proofs.RoomLemmas.{log_is_written}
 use Rattle.lxr_pause_trace.proofs.HistoryLemmas.{history_keeps}
 use Rattle.lxr_run_pause.specs.declared.Ask.{Ask}
@@ -35,15 +33,16 @@ use Rattle.lxr_core.specs.Resting.{RestsAfter}
 use Rattle.lxr_mutator.specs.Mutating.{Mutating}
 use Rattle.lxr_run_history.specs.Left.{StandsAfter}
 use Rattle.lxr_run_history.specs.Run.{reports_text}
-use Rattle.lxr_run_history.specs.Sights.{SeesTo}
-use Rattle.lxr_run_history.specs.Tally.{tally_of}
+use Rattle.lxr_run_history.specs.Sights.{MayMove, SeesTo}
+use Rattle.lxr_run_history.specs.Tally.{HasNumbersOf}
 use Rattle.lxr_run_history.proofs.HistoryLemmas.{history_with_pause}
 use Rattle.lxr_run_history.proofs.SightLemmas.{sees_pause}
 use Rattle.lxr_run_history.proofs.SpaceLemmas.{safepoint_tallied}
-use Rattle.lxr_run_history.proofs.TallyLemmas.{logs_few, pauses_are, replies_few}
+use Rattle.lxr_run_history.proofs.TallyLemmas.{has_numbers, logs_few, pauses_are, replies_few}
 use Rattle.lxr_run_history.proofs.ThreadSums.{counted_in, one}
-use Rattle.lxr_run_invariant.specs.LoopInvariant.{FitsCounts, HasCome, HaveActors, HaveMutators, IsAskedRight, IsPauseDue, IsPaused, Task, WasCutOff, done_of, pace_of, task_limits, terms_of, threads_of}
+use Rattle.lxr_run_invariant.specs.LoopInvariant.{FitsCounts, HasCome, HasEvacuatedFew, HaveActors, HaveMutators, IsAskedRight, IsPauseDue, IsPaused, Task, WasCutOff, done_of, pace_of, task_limits, terms_of, threads_of}
 use Rattle.lxr_run_invariant.proofs.ActorLemmas.{as_many, calls_are_done, done_few}
+use Rattle.lxr_run_invariant.proofs.EvacuatedLemmas.{evacuated_more, moved_fits}
 use Rattle.lxr_run_invariant.proofs.KindLemmas.{kind_collects, kind_may_stand}
 
 -- ---- numbers
@@ -125,9 +124,8 @@ pub can_pause : (task : Task) (space : Space) (written : Option (List ℕ)) (see
 can_pause task space written seen h g come fits = record {
   safepoint = safepoint_tallied space g (record space.tally { logs = space.tally.logs + length space.logged.items }) come.safepoint;
   objects = subst (λ (m : Moment). KeepsObjects m m.trace) (sym come.stands.moment) (objects_kept (terms_of task) h come.history.0 (moment (threads_of task) h).trace refl);
-  none_chosen = come.none_chosen;
-  none_remembered = come.none_remembered;
   counted = fits.pauses;
+  evacuated = moved_fits space come.evacuated come.safepoint.holds.space.limits.blocks.1 fits.pauses.0;
 }
 
 module _ (task : Task) (before after : Space) (written : Option (List ℕ)) (seen amid seen' : Option (List Sight)) (h : List Item) (g : AbstractState)
@@ -166,27 +164,40 @@ module _ (task : Task) (before after : Space) (written : Option (List ℕ)) (see
   limits : after.limits ≡ before.limits
   limits = ap (λ (s : Space). s.limits) pauses.space
 
-  none_chosen : NoneChosen (tables_of after) after.limits.blocks
-  none_chosen = subst (λ (l : Limits). NoneChosen (tables_of after) l.blocks) (sym limits) pauses.none_chosen
+  -- how many objects were moved and kept by then
+  abbrev all_moved : ℕ
+  all_moved = before.tally.moved + length pauses.moved
 
-  none_remembered : (tables_of after).cursors REMEMBERED_CURSOR ≡ 0
-  none_remembered = pauses.keeps.cursors REMEMBERED_CURSOR (λ e. absurd (omega arith)) (λ e. absurd (omega arith)) (λ e. absurd (omega arith)) ∙ come.none_remembered
+  abbrev all_kept : ℕ
+  all_kept = before.tally.kept + length pauses.kept
 
-  tally : after.tally ≡ tally_of (threads_of task) (Pause report ∷ h)
+  tally : HasNumbersOf (threads_of task) (Pause report ∷ h) after.tally
   tally =
+      has_numbers (threads_of task) (Pause report ∷ h) after.tally all_moved all_kept (
       pauses.tally
-      ∙ ap (λ n. record before.tally { logs = before.tally.logs + n; pauses = before.tally.pauses + 1 }) (logged_is task before written seen h g come)
-      ∙ ap (λ (t : Tally). record t { logs = t.logs + length (moment (threads_of task) h).written; pauses = t.pauses + 1 }) come.tally
+      ∙ ap (λ n. record before.tally { logs = before.tally.logs + n; pauses = before.tally.pauses + 1; moved = all_moved; kept = all_kept }) (logged_is task before written seen h g come)
+      ∙ ap (λ (t : Tally). record t { logs = t.logs + length (moment (threads_of task) h).written; pauses = t.pauses + 1; moved = all_moved; kept = all_kept }) come.tally
+      )
 
-  -- what was unreclaimed isn't promoted, so it stands where it did
-  unmoved : (n : Name) → IsTrue (has g.moment.unreclaimed n) → at' n ≡ g.at n
-  unmoved n was = pauses.copies.others n (unpromoted (has report.promoted n) refl)
+  evacuated : HasEvacuatedFew after
+  evacuated =
+      subst (λ (t : Tally). t.moved + t.kept ≤ GRANULES_IN_BLOCK * after.limits.blocks * after.pauses) (sym pauses.tally)
+      (subst (λ (s : Space). all_moved + all_kept ≤ GRANULES_IN_BLOCK * s.limits.blocks * s.pauses) (sym pauses.space)
+      (evacuated_more (GRANULES_IN_BLOCK * before.limits.blocks) before.pauses before.tally.moved before.tally.kept (length pauses.moved) (length pauses.kept) come.evacuated pauses.evacuates.few))
+
+  -- what was unreclaimed isn't promoted, so it stands where it did, unless it was moved out of a Chosen block
+  unmoved : (n : Name) → IsTrue (has g.moment.unreclaimed n) → (at' n ≡ g.at n) ⊎ MayMove report (sight_of (at_safepoint before)) g.at n
+  unmoved n was = by (has pauses.moved n) refl
     where
       unpromoted : (b : Bool) → has report.promoted n ≡ b → b ≡ false
       unpromoted false e = refl
       unpromoted true e =
           let made : IsTrue (has g.moment.made n) = promoted_made ((pauses.reports.1.promoted.members n).0 e) in
           absurd (let both : true ≡ false = sym was ∙ come.safepoint.holds.follows.apart n made in cc)
+
+      by : (b : Bool) → has pauses.moved n ≡ b → (at' n ≡ g.at n) ⊎ MayMove report (sight_of (at_safepoint before)) g.at n
+      by true e = let evacuee = ((pauses.evacuates.moved_are.members n).0 e).0 in inr (evacuee.ends, evacuee.chosen)
+      by false e = inl (pauses.relocates.others n (unpromoted (has report.promoted n) refl) e)
 
   module _ (first : Looks seen amid (sight_of (at_safepoint before))) (second : Looks amid seen' (sight_of after)) where
     sights : SeesTo (threads_of task) (Pause report ∷ h) task.seen seen' at'
@@ -211,10 +222,9 @@ module _ (task : Task) (before after : Space) (written : Option (List ℕ)) (see
           history = history;
           stands = stands;
           safepoint = pauses.between.safepoint;
-          none_chosen = none_chosen;
-          none_remembered = none_remembered;
           limits = limits ∙ come.limits;
           tally = tally;
+          evacuated = evacuated;
           text = Appends-append task.written written written' (reports_text task.options.counts h) (report_text task.options.counts report) come.text printed;
           places = at';
           sights = sights;

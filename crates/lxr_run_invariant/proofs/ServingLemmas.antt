@@ -46,7 +46,9 @@ use Rattle.lxr_run_history.specs.Tally.{counted}
 use Rattle.lxr_run_history.proofs.HistoryLemmas.{MayBeCalled, history_with_call, replies_in}
 use Rattle.lxr_run_history.proofs.RoomLemmas.{is_waited_for, may_be_refused, room_cause}
 use Rattle.lxr_run_history.proofs.SightLemmas.{sees_call}
+use Rattle.lxr_run_history.proofs.TallyLemmas.{has_numbers}
 use Rattle.lxr_run_invariant.specs.LoopInvariant.{HasCome, IsCollectedSince, Task, task_limits, terms_of, threads_of}
+use Rattle.lxr_run_invariant.proofs.EvacuatedLemmas.{evacuated_still}
 
 -- ---- a `new` whose turn has come
 
@@ -141,10 +143,11 @@ come_with_new task before after written seen t h g name dest shape place come ca
     reported = come.stands.reported;
   };
   safepoint = serves.between.safepoint;
-  none_chosen = serves.none_chosen;
-  none_remembered = serves.remembered ∙ come.none_remembered;
   limits = ap (λ (s : Space). s.limits) serves.others ∙ come.limits;
-  tally = ap (λ (s : Space). s.tally) serves.others ∙ ap (λ n. record before.tally { news = n }) serves.news ∙ ap (λ t. counted t (reply.New name)) come.tally;
+  tally = has_numbers (threads_of task) (Call t (op.New dest shape) (reply.New name) ∷ h) after.tally before.tally.moved before.tally.kept
+      (ap (λ (s : Space). s.tally) serves.others ∙ ap (λ n. record before.tally { news = n }) serves.news ∙ ap (λ t. counted t (reply.New name)) come.tally);
+  evacuated = evacuated_still before after (ap (λ (s : Space). s.tally.moved) serves.others) (ap (λ (s : Space). s.tally.kept) serves.others) (ap (λ (s : Space). s.limits) serves.others)
+      (ap (λ (s : Space). s.pauses) serves.others) come.evacuated;
   text = come.text;
   places = come.places;
   sights = sees_call (threads_of task) h t (op.New dest shape) (reply.New name) task.seen seen come.places come.sights;
@@ -173,7 +176,7 @@ pub come_refused : (task : Task) (space : Space) (written : Option (List ℕ)) (
 come_refused task space written seen t m h g dest shape may is full =
     let come = may.come in
     let replies : Replies (terms_of task) h t (op.New dest shape) reply.Full =
-    may_be_refused task.options task.script h space g t dest shape come.history.0 (may.unserved refl refl) may.between come.stands.moment come.none_chosen (ap (λ (l : Limits). l.blocks) come.limits) full in
+    may_be_refused task.options task.script h space g t dest shape come.history.0 (may.unserved refl refl) may.between come.stands.moment (ap (λ (l : Limits). l.blocks) come.limits) full in
     let call : MayBeCalled task.options task.script h t (op_now m) reply.Full =
     may_answer task space written seen t m true false h g may reply.Full (subst (λ o. Replies (terms_of task) h t o reply.Full) (sym is) replies) in
     subst (λ o. HasCome task space written seen (Call t o reply.Full ∷ h) g) (sym is)
@@ -185,10 +188,9 @@ come_refused task space written seen t m h g dest shape may is full =
       history = history_with_call task.options task.script h t (op.New dest shape) reply.Full come.history call;
       stands = record { moment = come.stands.moment; reported = come.stands.reported };
       safepoint = come.safepoint;
-      none_chosen = come.none_chosen;
-      none_remembered = come.none_remembered;
       limits = come.limits;
       tally = come.tally;
+      evacuated = come.evacuated;
       text = come.text;
       places = come.places;
       sights = sees_call (threads_of task) h t (op.New dest shape) reply.Full task.seen seen come.places come.sights;

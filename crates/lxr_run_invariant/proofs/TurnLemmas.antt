@@ -13,6 +13,7 @@ use Rattle.lxr_graph.specs.declared.Reply.{Reply}
 use Rattle.lxr_graph.specs.declared.Reply.TheVariants as reply
 use Rattle.lxr_graph.specs.History.{Item, Call, Pause, PauseReport}
 use Rattle.lxr_image.specs.declared.space.Space.{Space}
+use Rattle.lxr_image.specs.declared.space.Tally.{Tally}
 use Rattle.lxr_blocks.specs.Placing.{IsFull}
 use Rattle.lxr_model.specs.Belongs.{asks_for_pause, calls_since_pause, has_asked}
 use Rattle.lxr_model.specs.Kinds.{MustCollect, OnlyNewsSincePause}
@@ -32,10 +33,12 @@ use Rattle.lxr_run_pause.specs.declared.Ask.TheVariants as ask
 use Rattle.lxr_run_serve.specs.Serving.{KeepsHelpers, NewsWait}
 use Rattle.lxr_run_serve.proofs.FitLemmas.{set_each}
 use Rattle.lxr_run_serve.proofs.MutatorLemmas.{AnswersWith, answers_with, with_registers}
+use Rattle.lxr_run_history.specs.Tally.{HasNumbersOf}
 use Rattle.lxr_run_history.proofs.HistoryLemmas.{promise_kept, since_call, was_early}
-use Rattle.lxr_run_invariant.specs.LoopInvariant.{HasCome, HasMore, HasPaused, HasRunEpoch, HaveMutators, IsAskedRight, IsBetweenEpochs, IsCollectedSince, IsPauseDue, IsServing, OwesNone, OwesOne, SomeWait, Task, asked_by, done_of, task_limits, terms_of}
+use Rattle.lxr_run_invariant.specs.LoopInvariant.{HasCome, HasMore, HasPaused, HasRunEpoch, HaveMutators, IsAskedRight, IsBetweenEpochs, IsCollectedSince, IsPauseDue, IsServing, OwesNone, OwesOne, SomeWait, Task, asked_by, done_of, task_limits, terms_of, threads_of}
 use Rattle.lxr_run_invariant.specs.Laws.{ListsAnew, RunsGoOn}
 use Rattle.lxr_run_invariant.proofs.ActorLemmas.{as_many, done_more, ends_are_fewer, operations_at, pauses_stay_few, script_put}
+use Rattle.lxr_run_invariant.proofs.EvacuatedLemmas.{evacuated_still}
 use Rattle.lxr_run_invariant.proofs.PauseLemmas.{mutators_paused}
 use Rattle.lxr_run_invariant.proofs.ServingLemmas.{MayServe, full_cause, full_promise, rests_answered, rests_beside}
 
@@ -332,10 +335,9 @@ come_listed task before after written seen h g come lists = record {
   history = come.history;
   stands = come.stands;
   safepoint = lists.between.safepoint;
-  none_chosen = lists.none_chosen come.none_chosen;
-  none_remembered = lists.remembered ∙ come.none_remembered;
   limits = lists.limits ∙ come.limits;
-  tally = lists.tally ∙ come.tally;
+  tally = subst (HasNumbersOf (threads_of task) h) (sym lists.tally) come.tally;
+  evacuated = evacuated_still before after (ap (λ (t : Tally). t.moved) lists.tally) (ap (λ (t : Tally). t.kept) lists.tally) lists.limits lists.pauses come.evacuated;
   text = come.text;
   places = come.places;
   sights = come.sights;

@@ -1,11 +1,8 @@
 -- What a run keeps from step to step, each law the contract of a function with an empty body.
 use Rattle.std.specs.Prelude.{◌≡◌, ℕ, ◌+◌, ◌<◌, Bool, Option, List, length}
-use Rattle.lxr_layout.specs.declared.TheConstants.{REMEMBERED_CURSOR}
 use Rattle.lxr_graph.specs.History.{Item}
 use Rattle.lxr_image.specs.declared.space.Space.{Space}
-use Rattle.lxr_image.specs.Spaces.{tables_of}
 use Rattle.lxr_invariant.specs.AbstractState.{AbstractState}
-use Rattle.lxr_invariant.specs.Lines.{NoneChosen}
 use Rattle.lxr_invariant.specs.Quiescent.{IsQuiescent}
 use Rattle.lxr_invariant.specs.Listed.{FreeBlocksAreListed, IsListed}
 use Rattle.lxr_run_watch.specs.Sights.{Sight}
@@ -46,8 +43,7 @@ EpochsRun = (task : Task) (space mid after : Space) (written : Option (List ℕ)
 
 -- ---- the way to the next epoch
 
--- what listing runs and free blocks anew leaves of a space between epochs: besides, no block becomes Chosen, and as many
--- references are remembered as before
+-- what listing runs and free blocks anew leaves of a space between epochs
 pub record ListsAnew (before after : Space) (g : AbstractState) : Type 0 where
   pub between : IsQuiescent after g
   pub listed : IsListed after
@@ -55,8 +51,6 @@ pub record ListsAnew (before after : Space) (g : AbstractState) : Type 0 where
   pub limits : after.limits ≡ before.limits
   pub tally : after.tally ≡ before.tally
   pub pauses : after.pauses ≡ before.pauses
-  pub none_chosen : NoneChosen (tables_of before) before.limits.blocks → NoneChosen (tables_of after) after.limits.blocks
-  pub remembered : (tables_of after).cursors REMEMBERED_CURSOR ≡ (tables_of before).cursors REMEMBERED_CURSOR
 
 -- A run is between epochs again, and has done something, once a pause is made behind an epoch, each waiting `new` is served or
 -- refused, and runs and free blocks are listed.

@@ -1,14 +1,13 @@
 -- How far a run has come: what holds between its steps.
 use Rattle.std.specs.Prelude.{◌≡◌, ℕ, ◌+◌, ◌-◌, ◌*◌, ◌^◌, ◌<◌, ◌≤◌, ◌⊎◌, ◌↔◌, Bool, false, true, if◌then◌else◌, Option, Some, List, ◌∷◌, [], length, slice_get}
 use Rattle.std.specs.List.{list_any}
-use Rattle.lxr_layout.specs.declared.TheConstants.{REMEMBERED_CURSOR}
+use Rattle.lxr_layout.specs.declared.TheConstants.{GRANULES_IN_BLOCK}
 use Rattle.lxr_layout.specs.declared.Name.{Name}
 use Rattle.lxr_layout.specs.declared.limits.Limits.{Limits}
 use Rattle.lxr_graph.specs.declared.Reply.{Reply}
 use Rattle.lxr_graph.specs.declared.report.Kind.TheVariants as kind
 use Rattle.lxr_graph.specs.History.{Item, Call, Pause, PauseReport}
 use Rattle.lxr_image.specs.declared.space.Space.{Space}
-use Rattle.lxr_image.specs.Spaces.{tables_of}
 use Rattle.lxr_text_stream.specs.Streams.{Appends, AppendsFront}
 use Rattle.lxr_model.specs.Belongs.{HasCause, IsHistorySoFar, LastPauseWasEarly, Script, calls_since_pause, has_asked}
 use Rattle.lxr_model.specs.Full.{IsRightAfterPause}
@@ -16,7 +15,6 @@ use Rattle.lxr_model.specs.Kinds.{MustCollect, OnlyNewsSincePause, collect_calle
 use Rattle.lxr_model.specs.Legal.{KeepsPromise, OwesNoCall}
 use Rattle.lxr_model.specs.Terms.{Terms}
 use Rattle.lxr_invariant.specs.AbstractState.{AbstractState}
-use Rattle.lxr_invariant.specs.Lines.{NoneChosen}
 use Rattle.lxr_invariant.specs.Quiescent.{IsAtSafepoint, IsQuiescent}
 use Rattle.lxr_invariant.specs.Listed.{FreeBlocksAreListed, IsListed}
 use Rattle.lxr_run_watch.specs.Sights.{Sight}
@@ -33,7 +31,7 @@ use Rattle.lxr_run_words.specs.declared.RunOptions.{RunOptions}
 use Rattle.lxr_run_history.specs.Left.{IsLeftBy, StandsAfter, run_limits}
 use Rattle.lxr_run_history.specs.Run.{IsHistoryOf, reports_text, script_terms}
 use Rattle.lxr_run_history.specs.Sights.{SamePlaces, Sees, SeesTo}
-use Rattle.lxr_run_history.specs.Tally.{tally_of}
+use Rattle.lxr_run_history.specs.Tally.{HasNumbersOf}
 
 -- What a run begins with: its options and script, and what was written and seen before it, where it is told.
 pub record Task : Type 0 where
@@ -55,17 +53,20 @@ task_limits task = run_limits task.options (threads_of task)
 abbrev pub pace_of : RunOptions → Pace
 pace_of options = record { trace = options.trace; within = options.within }
 
--- The run has come to a history so far, and the space stands for what it led to, at a safepoint before a pause; no block is Chosen,
--- and nothing is remembered; the tally has the history's numbers; the reports of its pauses were written, and the watch has seen them; what was unreclaimed at the last
--- one stands where it did.
+-- pauses have moved and kept no more objects each than the heap has granules
+abbrev pub HasEvacuatedFew : Space → Type 0
+HasEvacuatedFew s = s.tally.moved + s.tally.kept ≤ GRANULES_IN_BLOCK * s.limits.blocks * s.pauses
+
+-- The run has come to a history so far, and the space stands for what it led to, at a safepoint before a pause; the tally has the
+-- history's numbers, and few objects were moved and kept; the reports of its pauses were written, and the watch has seen them; what was
+-- unreclaimed at the last one stands where it did.
 pub record HasCome (task : Task) (space : Space) (written : Option (List ℕ)) (seen : Option (List Sight)) (h : List Item) (g : AbstractState) : Type 0 where
   pub history : IsHistorySoFar (terms_of task) task.script h
   pub stands : StandsAfter (threads_of task) h g
   pub safepoint : IsAtSafepoint space g
-  pub none_chosen : NoneChosen (tables_of space) space.limits.blocks
-  pub none_remembered : (tables_of space).cursors REMEMBERED_CURSOR ≡ 0
   pub limits : space.limits ≡ task_limits task
-  pub tally : space.tally ≡ tally_of (threads_of task) h
+  pub tally : HasNumbersOf (threads_of task) h space.tally
+  pub evacuated : HasEvacuatedFew space
   pub text : Appends task.written written (reports_text task.options.counts h)
   pub places : Name → ℕ
   pub sights : SeesTo (threads_of task) h task.seen seen places

@@ -5,7 +5,6 @@ use Rattle.std.specs.List.{All}
 use Rattle.std.proofs.lemmas.List.{append-nil, length-map, length-replicate, map-append}
 use Rattle.std.proofs.lemmas.List.Elements.{All-head, All-replicate, All-tail, All-weaker}
 use Rattle.std.proofs.Math.Nat.{mul-le-mul}
-use Rattle.lxr_layout.specs.declared.TheConstants.{REMEMBERED_CURSOR}
 use Rattle.lxr_layout.specs.declared.limits.Limits.{Limits}
 use Rattle.lxr_layout.specs.Spaces.{AreLimits, regions_of}
 use Rattle.lxr_base.specs.Roomy.{Roomy}
@@ -30,7 +29,6 @@ use Rattle.lxr_model.specs.Belongs.{Script}
 use Rattle.lxr_run_words.specs.CommandLines.{AreInRange}
 use Rattle.lxr_image.specs.declared.space.Space.{Space}
 use Rattle.lxr_image.specs.Opened.{IsOpened}
-use Rattle.lxr_image.specs.Tables.{Tables}
 use Rattle.lxr_model.specs.Moments.{opening_moment}
 use Rattle.lxr_invariant.specs.Quiescent.{IsQuiescent}
 use Rattle.lxr_invariant.specs.Listed.{IsListedWhole}
@@ -265,7 +263,7 @@ run_fits options script ranges is =
     let many = length-map script (λ (x : Roomy Op). x.items) in
     let least = is.least in
     let greatest = is.greatest in
-    record { blocks = ranges.blocks; threads = (omega arith, omega arith); log = ranges.log; remember = (omega arith, omega arith) }
+    record { blocks = ranges.blocks; threads = (omega arith, omega arith); log = ranges.log; remember = ranges.remember }
 
 -- between two epochs, with the empty history, before the first draw
 pub opened_run : (options : RunOptions) (script : List (Roomy Op)) (limits : Limits) (space : Space) (actors : List AnyActor) → limits ≡ run_limits options (length script)
@@ -288,8 +286,6 @@ opened_run options script limits space actors same ranges is made opened between
       limits = opened.limits ∙ of_task;
       tally = opened.tally;
       pauses = opened.pauses;
-      none_chosen = between.safepoint.holds.blocks.chosen;
-      none_remembered = ap (λ (t : Tables). t.cursors REMEMBERED_CURSOR) opened.tables;
     })
     (record {
       mutators = record {

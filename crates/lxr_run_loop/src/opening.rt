@@ -17,9 +17,6 @@ use lxr_text_script::Lists;
 use lxr_trace::Tracer;
 use std::alloc::{AllocError, Global};
 
-/// The entries of the remembered set. Nothing is entered yet.
-const REMEMBER: u32 = 4096;
-
 /// A mutator for each thread of a script, in order, in a list with room for some more actors.
 fn make_mutators(
     alloc: Global,
@@ -111,7 +108,7 @@ pub fn open(
         blocks: options.blocks,
         threads: script.len() as u8,
         log: options.log,
-        remember: REMEMBER,
+        remember: options.remember,
     };
     let actors = make_actors(alloc, script, limits, options.every, options.workers)?;
     space.open(alloc, limits)?;

@@ -37,7 +37,7 @@ pub(crate) fn pause<W: Watch, O: Sink>(
     ensures ok { OnOk result (GoesOnByPause ask options space.old (O.written output.old) (W.seen watch.old) space.new (O.written output.new) (W.seen watch.new)) }
     ensures err { OnErr result (IsCutOffByPause ask options space.old (O.written output.old) (W.seen watch.old) space.new (O.written output.new)) }
     ensures made { MakesPause ask (pace_of options) space.old space.new }
-    ensures tally { space.new.tally ≡ record space.old.tally { logs = space.old.tally.logs + length space.old.logged.items; pauses = space.old.tally.pauses + 1 } }
+    ensures tally { space.new.tally ≡ record space.old.tally { logs = space.old.tally.logs + length space.old.logged.items; pauses = space.old.tally.pauses + 1; moved = space.new.tally.moved; kept = space.new.tally.kept } }
     ensures pauses { space.new.pauses ≡ space.old.pauses + 1 }
     ensures faults { O.faults output.old ≤ O.faults output.new }
     ensures cause { result ≡ Err WriteError.Fault → Rose (O.faults output.old) (O.faults output.new) }

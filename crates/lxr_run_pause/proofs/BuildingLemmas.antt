@@ -1,11 +1,11 @@
 -- What a pause of any kind has done once counting and tracing are: its parts put together, whatever its kind.
-use Rattle.std.proofs.Common.{◌≡◌, ℕ, refl, sym, ap, subst, ◌∙◌, inl, inr, ◌⊎◌, false, List, [], ◌++◌, IsTrue}
-use Rattle.std.specs.Prelude.{Option, Some, None}
+use Rattle.std.proofs.Common.{◌≡◌, ◌≢◌, ℕ, ◌+◌, refl, sym, ap, subst, ◌∙◌, inl, inr, ◌⊎◌, arith, false, List, [], ◌++◌, IsTrue, length}
+use Rattle.std.specs.Prelude.{◌↔◌, Option, Some, None}
 use Rattle.std.specs.Option.{option_map}
 use Rattle.std.proofs.lemmas.Bool.{false_from_ne_true}
 use Rattle.lxr_layout.specs.declared.Name.{Name}
-use Rattle.lxr_layout.specs.declared.TheConstants.{DECREMENT_COUNT, DECREMENT_CURSOR, REMEMBERED_CURSOR, TRACING_WORD}
 use Rattle.lxr_graph.specs.declared.report.Kind.{Kind}
+use Rattle.lxr_graph.specs.declared.report.Kind.TheVariants as kind
 use Rattle.lxr_graph.specs.declared.report.Report.{Report}
 use Rattle.lxr_graph.specs.Distinct.{IsDistinct}
 use Rattle.lxr_graph.specs.Names.{has, without}
@@ -13,9 +13,8 @@ use Rattle.lxr_graph.specs.State.{HasObject, Object, State, object_at}
 use Rattle.lxr_graph.specs.History.{PauseReport, report_of}
 use Rattle.lxr_graph.proofs.NameSets.{in_without, not_both, union_cases, without_parts}
 use Rattle.lxr_image.specs.declared.space.Space.{Space}
-use Rattle.lxr_image.specs.Tables.{Tables, changed}
+use Rattle.lxr_image.specs.Tables.{Tables}
 use Rattle.lxr_image.specs.Spaces.{tables_of}
-use Rattle.lxr_image.specs.Reads.{granule_of}
 use Rattle.lxr_model.specs.Dead.{Dead}
 use Rattle.lxr_model.specs.Moments.{Moment, Trace, going_on}
 use Rattle.lxr_model.specs.Reports.{PauseParts, is_draining}
@@ -24,26 +23,28 @@ use Rattle.lxr_blocks.specs.Lines.{is_free}
 use Rattle.lxr_model_counting.specs.Following.{FollowsPause}
 use Rattle.lxr_model_counting.proofs.DistinctLemmas.{tested}
 use Rattle.lxr_invariant.specs.AbstractState.{AbstractState}
-use Rattle.lxr_invariant.specs.Copied.{standing}
-use Rattle.lxr_invariant.specs.Counting.{IsUndecremented}
-use Rattle.lxr_invariant.specs.Lines.{ChosenNeedTrace, HasBlocks, NoneChosen, tracing_word}
+use Rattle.lxr_invariant.specs.Copied.{CopiesLieApart, CopiesPromoted, HasCopy, StayForWantOfLines, standing}
+use Rattle.lxr_invariant.specs.Counting.{IsUndecremented, count_at}
+use Rattle.lxr_invariant.specs.Lines.{HasMarks}
 use Rattle.lxr_invariant.specs.Quiescent.{HoldsMoment}
 use Rattle.lxr_invariant.specs.Tracing.{IsTracedBy}
-use Rattle.lxr_invariant.proofs.EntryLemmas.{changed_here, changed_other}
-use Rattle.lxr_invariant.proofs.BlockLemmas.{keeps_state_still, none_kept}
 use Rattle.lxr_invariant.proofs.CopiedLemmas.{IsGoneFrom, copies_still, free_was, stay_still}
-use Rattle.lxr_invariant.proofs.NameLemmas.{in_first, in_second}
+use Rattle.lxr_invariant.proofs.NameLemmas.{in_first, in_second, no_member}
 use Rattle.lxr_pause_trace.specs.Laws.{at_moment}
 use Rattle.lxr_run_pause.specs.Settling.{DiesBy, IsSweptBy, Settles, SettlesCounts, Tells, counted, kept_by, remaining_by, settled_by}
-use Rattle.lxr_run_pause.specs.Tracing.{CanDrain, SetsTrace, word_of_trace}
-use Rattle.lxr_run_pause.specs.Pausing.{CanPause, IsDrained, IsLetGo, KeepsObjects, KeepsThroughPause, Traces}
+use Rattle.lxr_run_pause.specs.Tracing.{CanDrain}
+use Rattle.lxr_run_pause.specs.Pausing.{CanPause, IsDrained, IsLetGo, KeepsObjects, KeepsThroughPause, LeavesRemembered, Traces}
+use Rattle.lxr_run_pause.specs.Relocating.{ChoosesBlocks, Evacuates, Relocates}
 use Rattle.lxr_run_pause.proofs.DistinctnessLemmas.{distinct_three}
-use Rattle.lxr_run_pause.proofs.FrameLemmas.{holds_of_kind, holds_reworded}
+use Rattle.lxr_run_pause.proofs.FrameLemmas.{holds_of_kind}
+use Rattle.lxr_run_pause.proofs.RelocatingLemmas.{none_counted, none_evacuated, none_relocated}
+use Rattle.lxr_run_pause.proofs.RememberedLemmas.{can_remember, other_cursors}
 
--- what tracing keeps of the tables once counting is done
+-- what a pause keeps of the tables once counting is done, where it moves nothing
 pub record KeepsThroughTracing (t u : Tables) : Type 0 where
   pub heap : u.heap ≡ t.heap
   pub reuse : u.reuse ≡ t.reuse
+  pub outs : u.outs ≡ t.outs
   pub lists : KeepsThroughPause t u
 
 -- ---- the graph has grown alone
@@ -51,55 +52,6 @@ pub record KeepsThroughTracing (t u : Tables) : Type 0 where
 objects_on : (m : Moment) (r : PauseReport) (last : Moment) → FollowsPause m → last.last ≡ m.state → (trace : Option Trace) → KeepsObjects m trace → KeepsObjects last (going_on m r trace)
 objects_on m r last follows same None is = tt
 objects_on m r last follows same (Some trace) is = ((λ n h. subst (λ (z : State). HasObject z.graph n) (sym same) (follows.grows n (is.0 n h))), is.1)
-
--- ---- the trace of a space is set
-
--- blocks are as they are asked for with another trace, where no block is Chosen
-blocks_set : (t : Tables) (blocks : ℕ) (word : ℕ) (was trace : Option Trace) → tracing_word trace ≡ word → NoneChosen t blocks → HasBlocks t blocks was
-    → HasBlocks (record t { cursors = changed t.cursors TRACING_WORD word }) blocks trace
-blocks_set t blocks word was trace tells none is = record {
-  world = is.world;
-  others = is.others;
-  few = is.few;
-  chosen = needs trace;
-  tracing = changed_here t.cursors TRACING_WORD word TRACING_WORD refl ∙ sym tells;
-}
-  where
-    needs : (trace : Option Trace) → ChosenNeedTrace (record t { cursors = changed t.cursors TRACING_WORD word }) blocks trace
-    needs None = none
-    needs (Some trace) = tt
-
-module _ (c x : Space) (began : Option ℕ) (m : Moment) (at : Name → ℕ) (trace : Option Trace) (sets : SetsTrace c x began) (tells : tracing_word trace ≡ word_of_trace began)
-    (none_made : m.made ≡ []) (no_rest : c.rest_next ≡ c.rest_end) (none_chosen : NoneChosen (tables_of c) c.limits.blocks) where
-  -- the space with its trace set
-  abbrev pub set_space : Space
-  set_space = record c { words = x.words; trace = began }
-
-  set_tables : tables_of set_space ≡ record (tables_of c) { cursors = changed (tables_of c).cursors TRACING_WORD (word_of_trace began) }
-  set_tables = sym (ap tables_of sets.space) ∙ sets.tables
-
-  module _ (holds : HoldsMoment c m at) where
-    holds_there : HoldsMoment set_space (record m { trace = trace }) at
-    holds_there = holds_reworded c x.words began m m.number m.stuck trace at
-        (record {
-          states = (tables_of c).states;
-          cursors = changed (tables_of c).cursors TRACING_WORD (word_of_trace began);
-          tables = set_tables;
-          drawn = changed_other (tables_of c).cursors TRACING_WORD (word_of_trace began) DECREMENT_CURSOR (λ e. cc);
-          waiting = changed_other (tables_of c).cursors TRACING_WORD (word_of_trace began) DECREMENT_COUNT (λ e. cc);
-        })
-        (λ n. refl) (record { limits = holds.space.limits; size = ap (λ t. t.size) set_tables ∙ holds.space.size }) none_made no_rest
-        (subst (λ t. HasBlocks t c.limits.blocks trace) (sym set_tables) (blocks_set (tables_of c) c.limits.blocks (word_of_trace began) m.trace trace tells none_chosen holds.blocks)) holds
-
-    pub holds_set : HoldsMoment x (record m { trace = trace }) at
-    holds_set = subst (λ y. HoldsMoment y (record m { trace = trace }) at) (sym sets.space) holds_there
-
-  pub undecremented_set : IsUndecremented (tables_of c) m at → IsUndecremented (tables_of x) (record m { trace = trace }) at
-  undecremented_set u = record {
-    none_done = λ k. ap (λ t. t.dones k) sets.tables ∙ u.none_done k;
-    none_drawn = ap (λ t. t.cursors DECREMENT_CURSOR) sets.tables ∙ changed_other (tables_of c).cursors TRACING_WORD (word_of_trace began) DECREMENT_CURSOR (λ e. cc) ∙ u.none_drawn;
-    positive = λ n h e. u.positive n h (sym (ap (λ t. t.counts (granule_of (at n))) sets.tables) ∙ e);
-  }
 
 -- ---- what counting leaves may be drained
 
@@ -117,39 +69,33 @@ module _ (s k : Space) (g : AbstractState) (can : CanPause s g) (at' : Name → 
   same_blocks : k.limits.blocks ≡ s.limits.blocks
   same_blocks = ap (λ (x : Space). x.limits.blocks) counts.space
 
-  pub unchosen : NoneChosen (tables_of k) k.limits.blocks
-  unchosen = none_kept (tables_of s) (tables_of k) k.limits.blocks counts.states (subst (λ n. NoneChosen (tables_of s) n) (sym same_blocks) can.none_chosen)
-
   pub can_drain : CanDrain with_kind now
   can_drain = record {
     holds = holds_of_kind k now.moment at' is counts.holds;
     settled = record { same = refl; none_made = refl; none_written = refl };
     undecremented = counts.undecremented;
     traced = counts.traced;
+    remembers = can_remember k.limits (tables_of k) [] now now.moment.trace
+        (let few = can.counted.0 in let same = can.safepoint.numbers.pauses in omega (arith, few, same)) counts.traced;
     objects = objects_on m (report_of k.report) now.moment can.safepoint.holds.follows refl m.trace can.objects;
     no_logs = counts.no_logs;
     few_dead = counts.few_dead;
     none_swept = counts.tells.swept;
-    none_chosen = unchosen;
-    none_remembered = counts.keeps.cursors REMEMBERED_CURSOR (λ e. cc) (λ e. cc) ∙ can.none_remembered;
   }
 
   -- ---- the parts of a pause put together
 
-  module _ (second third swept : List Name) (words : List ℕ) (began : Option ℕ) where
+  module _ (second third swept : List Name) where
     abbrev pub parts : PauseParts
     parts = record { first_dead = gone; second_dead = second; third_dead = third }
 
-    -- the report and the space once these have died and were swept
+    -- the report once these have died and were swept
     abbrev pub report : Report
     report = record k.report {
       kind = is;
       dead = record k.report.dead { items = gone ++ (second ++ third) };
       swept = record k.report.swept { items = swept };
     }
-
-    abbrev pub ended : Space
-    ended = record k { words = words; trace = began; report = report }
 
     abbrev pub leads : Moment
     leads = settled_by m parts report
@@ -189,7 +135,7 @@ module _ (s k : Space) (g : AbstractState) (can : CanPause s g) (at' : Name → 
 
     module _ (names : AreParts) where
       -- what is kept once counting is done isn't among the first dead
-      kept_alive : (n : Name) → IsTrue (has (kept_by m parts report) n) → has gone n ≡ false
+      pub kept_alive : (n : Name) → IsTrue (has (kept_by m parts report) n) → has gone n ≡ false
       kept_alive n h = elim (union_cases k.report.promoted.items (without m.unreclaimed gone) n h) [
         | inl p ↦ false_from_ne_true (has gone n) (λ d.
             let made : IsTrue (has m.made n) = promoted_made ((counts.tells.raised.promoted_are n).0 p) in
@@ -230,48 +176,154 @@ module _ (s k : Space) (g : AbstractState) (can : CanPause s g) (at' : Name → 
         counts = counts.tells.counts;
       }
 
-      module _ (holds : HoldsMoment ended leads at') (undecremented : IsUndecremented (tables_of ended) leads at')
-          (traced : IsTracedBy ended.limits (tables_of ended) [] (at_moment (standing g at') leads) leads.trace) (trace : began ≡ option_map (λ (trace : Trace). trace.began) leads.trace)
-          (drained : IsDrained ended (is_draining is)) (outs : (tables_of ended).outs ≡ (tables_of k).outs) (keeps : KeepsThroughTracing (tables_of k) (tables_of ended))
-          (states : (tables_of ended).states ≡ (tables_of k).states) (traces : Traces is m.trace s ended g at' (report_of report) leads.unreclaimed) where
-        -- a line that is free then was free once counting was done, unless it is let go
-        line_was_free : (line : ℕ) → ¬ IsLetGo g at' (report_of report) line → IsTrue (is_free (record (tables_of ended) { outs = (tables_of s).outs }) line)
-            → IsTrue (is_free (record (tables_of k) { outs = (tables_of s).outs }) line)
-        line_was_free line kept_line =
-            free_was (tables_of k) (tables_of ended) m.state.graph at' kept leads.unreclaimed IsGone objects counts.holds.marks holds.marks undecremented.positive left_or_gone
-            (tables_of s).outs line (λ from. kept_line (let_go line from))
+      -- a line that is free in other tables was free once counting was done, unless it is let go
+      pub line_was_free : (u : Tables) → HasMarks u m.state.graph at' leads.unreclaimed → ((n : Name) → IsTrue (has leads.unreclaimed n) → count_at u at' n ≢ 0)
+          → (line : ℕ) → ¬ IsLetGo g at' (report_of report) line → IsTrue (is_free (record u { outs = (tables_of s).outs }) line) → IsTrue (is_free (record (tables_of k) { outs = (tables_of s).outs }) line)
+      line_was_free u marks positive line kept_line =
+          free_was (tables_of k) u m.state.graph at' kept leads.unreclaimed IsGone objects counts.holds.marks marks positive left_or_gone
+          (tables_of s).outs line (λ from. kept_line (let_go line from))
 
-        pub settles : Settles s ended g at' parts
-        settles = record {
-          tells = told;
-          holds = holds;
-          undecremented = undecremented;
-          apart = counts.apart;
-          copies = copies_still (tables_of s) (tables_of k) (tables_of s) (tables_of ended) m m.unreclaimed g.at at' report.promoted.items report.promoted.items refl refl refl keeps.heap keeps.reuse (λ n. refl) counts.copies;
-          stay = stay_still (tables_of s) (tables_of k) (tables_of s) (tables_of ended) s.limits.blocks m g.at at' report.promoted.items report.promoted.items (λ line. ⊥) (IsLetGo g at' (report_of report)) (λ n. refl)
-              refl line_was_free (λ line never. absurd never) counts.stay;
-          traced = traced;
-          trace = trace;
-          drained = drained;
-          no_logs = counts.no_logs;
-          none_out = λ line. ap (λ f. f line) outs ∙ counts.none_out line;
-          no_rest = counts.no_rest;
-          keeps = record {
-            runs = keeps.lists.runs ∙ counts.keeps.runs;
-            frees = keeps.lists.frees ∙ counts.keeps.frees;
-            remembered = keeps.lists.remembered ∙ counts.keeps.remembered;
-            cursors = λ j a b c. keeps.lists.cursors j a b c ∙ counts.keeps.cursors j a b;
-          };
-          states = λ b. keeps_state_still (tables_of s) (tables_of k) (tables_of s) (tables_of ended) b refl states (counts.states b);
-          traces = traces;
-          space = ap (λ (y : Space). record y {
-            words = words;
-            registers = record y.registers { items = k.registers.items };
-            deferred = k.deferred;
-            logged = k.logged;
+      -- what stayed for want of lines did so for want of lines that are free in other tables
+      pub stay_then : (u : Tables) → HasMarks u m.state.graph at' leads.unreclaimed → ((n : Name) → IsTrue (has leads.unreclaimed n) → count_at u at' n ≢ 0)
+          → StayForWantOfLines (tables_of s) u s.limits.blocks m g.at at' report.promoted.items (IsLetGo g at' (report_of report))
+      stay_then u marks positive = stay_still (tables_of s) (tables_of k) (tables_of s) u s.limits.blocks m g.at at' report.promoted.items report.promoted.items (λ line. ⊥) (IsLetGo g at' (report_of report)) (λ n. refl)
+          refl (line_was_free u marks positive) (λ line never. absurd never) counts.stay
+
+      -- ---- the end, once some were moved and others kept
+
+      module _ (x : Space) (to : Name → ℕ) (moved unmoved : List Name) where
+        -- what is asked of the space then
+        pub record HasEnded : Type 0 where
+          pub space : x ≡ record k {
+            words = x.words;
+            registers = record k.registers { items = x.registers.items };
+            deferred = record k.deferred { items = x.deferred.items };
             report = report;
-            rest_next = k.rest_next;
-            rest_end = k.rest_end;
-            trace = began;
-          }) counts.space;
-        }
+            rest_next = x.rest_next;
+            rest_end = x.rest_end;
+            tally = x.tally;
+            trace = x.trace;
+          }
+          pub holds : HoldsMoment x leads to
+          pub undecremented : IsUndecremented (tables_of x) leads to
+          pub evacuates : Evacuates s x g to leads.unreclaimed moved unmoved
+          pub relocates : Relocates s x g to leads.unreclaimed report.promoted.items moved
+          pub apart : CopiesLieApart s g to report.promoted.items
+          pub stay : StayForWantOfLines (tables_of s) (tables_of x) s.limits.blocks m g.at to report.promoted.items (IsLetGo g to (report_of report))
+          pub traced : IsTracedBy x.limits (tables_of x) [] (at_moment (standing g to) leads) leads.trace
+          pub trace : x.trace ≡ option_map (λ (trace : Trace). trace.began) leads.trace
+          pub drained : IsDrained x (is_draining is)
+          pub outs : (line : ℕ) → IsTrue ((tables_of x).outs line) ↔ HasCopy m.state.graph g.at to moved line
+          pub no_rest : moved ≡ [] → x.rest_next ≡ x.rest_end
+          pub lists : KeepsThroughPause (tables_of k) (tables_of x)
+          pub remembered : LeavesRemembered is (tables_of s) (tables_of x) s.limits.blocks
+          pub chosen : ChoosesBlocks is (tables_of s) (tables_of x) s.limits.blocks
+          pub traces : Traces is m.trace s x g to (report_of report) leads.unreclaimed
+          pub tally : x.tally ≡ record s.tally { moved = s.tally.moved + length moved; kept = s.tally.kept + length unmoved }
+
+        module _ (ends : HasEnded) where
+          same_report : x.report ≡ report
+          same_report = ap (λ (y : Space). y.report) ends.space
+
+          pub settles : Settles s x g to parts moved unmoved
+          settles = record {
+            tells = subst (λ r. Tells r parts m) (sym same_report) told;
+            holds = subst (λ r. HoldsMoment x (settled_by m parts r) to) (sym same_report) ends.holds;
+            undecremented = subst (λ r. IsUndecremented (tables_of x) (settled_by m parts r) to) (sym same_report) ends.undecremented;
+            evacuates = subst (λ r. Evacuates s x g to (settled_by m parts r).unreclaimed moved unmoved) (sym same_report) ends.evacuates;
+            relocates = subst (λ r. Relocates s x g to (settled_by m parts r).unreclaimed r.promoted.items moved) (sym same_report) ends.relocates;
+            apart = subst (λ r. CopiesLieApart s g to r.promoted.items) (sym same_report) ends.apart;
+            stay = subst (λ r. StayForWantOfLines (tables_of s) (tables_of x) s.limits.blocks m g.at to r.promoted.items (IsLetGo g to (report_of r))) (sym same_report) ends.stay;
+            traced = subst (λ r. IsTracedBy x.limits (tables_of x) [] (at_moment (standing g to) (settled_by m parts r)) (settled_by m parts r).trace) (sym same_report) ends.traced;
+            trace = subst (λ r. x.trace ≡ option_map (λ (trace : Trace). trace.began) (settled_by m parts r).trace) (sym same_report) ends.trace;
+            drained = subst (λ r. IsDrained x (is_draining r.kind)) (sym same_report) ends.drained;
+            no_logs = ap (λ (y : Space). y.logged.items) ends.space ∙ counts.no_logs;
+            outs = ends.outs;
+            no_rest = ends.no_rest;
+            keeps = record {
+              runs = ends.lists.runs ∙ counts.keeps.runs;
+              frees = ends.lists.frees ∙ counts.keeps.frees;
+              cursors = λ j a b c d. ends.lists.cursors j a b c d ∙ other_cursors (tables_of s) (tables_of k) j counts.keeps a b c;
+            };
+            remembered = subst (λ r. LeavesRemembered r.kind (tables_of s) (tables_of x) s.limits.blocks) (sym same_report) ends.remembered;
+            chosen = subst (λ r. ChoosesBlocks r.kind (tables_of s) (tables_of x) s.limits.blocks) (sym same_report) ends.chosen;
+            traces = subst (λ r. Traces r.kind m.trace s x g to (report_of r) (settled_by m parts r).unreclaimed) (sym same_report) ends.traces;
+            tally = ends.tally;
+            space =
+                ends.space
+                ∙ ap (λ (y : Space). record y {
+                  words = x.words;
+                  registers = record y.registers { items = x.registers.items };
+                  deferred = record y.deferred { items = x.deferred.items };
+                  report = report;
+                  rest_next = x.rest_next;
+                  rest_end = x.rest_end;
+                  tally = x.tally;
+                  trace = x.trace;
+                }) counts.space
+                ∙ (λ i. record s {
+                  words = x.words;
+                  registers = record s.registers { items = x.registers.items };
+                  deferred = sym (ap (λ (y : Space). y.deferred) ends.space) i;
+                  logged = sym (ap (λ (y : Space). y.logged) ends.space) i;
+                  report = sym same_report i;
+                  rest_next = x.rest_next;
+                  rest_end = x.rest_end;
+                  tally = x.tally;
+                  trace = x.trace;
+                });
+          }
+
+      -- ---- the end, where none was moved
+
+      module _ (x : Space) where
+        -- what is asked of the space then
+        pub record HasEndedThere : Type 0 where
+          pub space : x ≡ record k { words = x.words; report = report; trace = x.trace }
+          pub never_ends : (j : ℕ) → is ≡ kind.End j → ⊥
+          pub holds : HoldsMoment x leads at'
+          pub undecremented : IsUndecremented (tables_of x) leads at'
+          pub traced : IsTracedBy x.limits (tables_of x) [] (at_moment (standing g at') leads) leads.trace
+          pub trace : x.trace ≡ option_map (λ (trace : Trace). trace.began) leads.trace
+          pub drained : IsDrained x (is_draining is)
+          pub keeps : KeepsThroughTracing (tables_of k) (tables_of x)
+          pub remembered : LeavesRemembered is (tables_of s) (tables_of x) s.limits.blocks
+          pub chosen : ChoosesBlocks is (tables_of s) (tables_of x) s.limits.blocks
+          pub traces : Traces is m.trace s x g at' (report_of report) leads.unreclaimed
+
+        module _ (ends : HasEndedThere) where
+          copied : CopiesPromoted (tables_of s) (tables_of x) m g.at at' report.promoted.items
+          copied = copies_still (tables_of s) (tables_of k) (tables_of s) (tables_of x) m m.unreclaimed g.at at' report.promoted.items report.promoted.items refl refl refl ends.keeps.heap ends.keeps.reuse (λ n. refl) counts.copies
+
+          ended : HasEnded x at' [] []
+          ended = record {
+            space = ends.space ∙ (λ i. record k {
+              words = x.words;
+              registers = record k.registers { items = sym (ap (λ (y : Space). y.registers.items) ends.space) i };
+              deferred = record k.deferred { items = sym (ap (λ (y : Space). y.deferred.items) ends.space) i };
+              report = report;
+              rest_next = sym (ap (λ (y : Space). y.rest_next) ends.space) i;
+              rest_end = sym (ap (λ (y : Space). y.rest_end) ends.space) i;
+              tally = sym (ap (λ (y : Space). y.tally) ends.space) i;
+              trace = x.trace;
+            });
+            holds = ends.holds;
+            undecremented = ends.undecremented;
+            evacuates = none_evacuated s x g at' leads.unreclaimed (λ j e. ends.never_ends j (sym (ap (λ (y : Space). y.report.kind) ends.space) ∙ e));
+            relocates = none_relocated s x g at' leads.unreclaimed report.promoted.items copied;
+            apart = counts.apart;
+            stay = stay_then (tables_of x) ends.holds.marks ends.undecremented.positive;
+            traced = ends.traced;
+            trace = ends.trace;
+            drained = ends.drained;
+            outs = λ line. ((λ out. not_both ((tables_of x).outs line) out (ap (λ f. f line) ends.keeps.outs ∙ counts.none_out line)), (λ copy. no_member copy.name copy.promoted_is));
+            no_rest = λ none. ap (λ (y : Space). y.rest_next) ends.space ∙ counts.no_rest ∙ sym (ap (λ (y : Space). y.rest_end) ends.space);
+            lists = ends.keeps.lists;
+            remembered = ends.remembered;
+            chosen = ends.chosen;
+            traces = ends.traces;
+            tally = ap (λ (y : Space). y.tally) ends.space ∙ ap (λ (y : Space). y.tally) counts.space ∙ none_counted s.tally;
+          }
+
+          pub settles_there : Settles s x g at' parts [] []
+          settles_there = settles x at' [] [] ended

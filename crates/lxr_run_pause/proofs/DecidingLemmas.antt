@@ -1,7 +1,7 @@
 -- Whether anything was left to trace at a safepoint can be decided, so a pause has a kind; and where a trace runs, the bits that are gray
 -- once counting is done tell it.
 use Rattle.std.proofs.Common.{◌≡◌, ◌≢◌, ℕ, zero, suc, ◌+◌, refl, sym, ap, subst, ◌∙◌, inl, inr, ◌⊎◌, arith, Bool, true, false, List, [], ◌∷◌, IsTrue}
-use Rattle.std.specs.Prelude.{◌↔◌, Option, Some, None, slice_get, nat_eq, cond, ◌%◌}
+use Rattle.std.specs.Prelude.{◌↔◌, ◌||◌, Option, Some, None, slice_get, nat_eq, nat_le, cond, ◌%◌}
 use Rattle.std.specs.Option.{option_map}
 use Rattle.std.proofs.lemmas.Bool.Decides.{eqb_tells}
 use Rattle.lxr_layout.specs.declared.Name.{Name}
@@ -117,6 +117,16 @@ ends_running ask.Ordinary pace k None traced j e = absurd (never (nat_eq (k % pa
     never false j e = cc
 ends_running ask.Ordinary pace k (Some t) traced j e = (t, refl)
 
+-- and one begins where none runs
+pub begins_apart : (asked : Ask) (pace : Pace) (k : ℕ) (trace : Option Trace) (traced : Bool) → kind_of asked pace k trace traced ≡ kind.Begin → trace ≡ None
+begins_apart ask.Collect pace k trace traced e = absurd (cc)
+begins_apart ask.Ordinary pace k None traced e = refl
+begins_apart ask.Ordinary pace k (Some t) traced e = absurd (never (traced || nat_le (t.began + pace.within) k) t.began e)
+  where
+    never : (b : Bool) (j : ℕ) → cond b (kind.End j) kind.Plain ≡ kind.Begin → ⊥
+    never true j e = cc
+    never false j e = cc
+
 module _ (s k : Space) (g : AbstractState) (asked : Ask) (pace : Pace) (can : CanPause s g) (at' : Name → ℕ) (gone : List Name) (settles : SettlesCounts s k g at' gone) where
   test : (b : Bool) × (IsTrue b ↔ NothingIsLeft (tables_of s) g.moment g.at s.logged.items gone)
   test = some_test (tables_of s) g.moment g.at s.logged.items gone
@@ -137,3 +147,6 @@ module _ (s k : Space) (g : AbstractState) (asked : Ask) (pace : Pace) (can : Ca
 
     pub ends_where_running : (j : ℕ) → is ≡ kind.End j → (t : Trace) × (g.moment.trace ≡ Some t)
     ends_where_running j e = ends_running asked pace (g.moment.number + 1) g.moment.trace test.0 j (sym decided ∙ e)
+
+    pub begins_where_none : is ≡ kind.Begin → g.moment.trace ≡ None
+    begins_where_none e = begins_apart asked pace (g.moment.number + 1) g.moment.trace test.0 (sym decided ∙ e)

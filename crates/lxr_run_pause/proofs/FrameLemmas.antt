@@ -1,8 +1,8 @@
 -- What holds of a space between the steps of a pause reads neither its report nor its tally nor the number of pauses; and it stays with
--- another number, another order of stuck names and another trace, where nothing was made and no block is Chosen.
-use Rattle.std.proofs.Common.{◌≡◌, ℕ, ◌*◌, refl, sym, subst, ◌∙◌, inl, List, [], IsTrue}
+-- another number, another order of stuck names, another trace and other states of blocks, where nothing was made.
+use Rattle.std.proofs.Common.{◌≡◌, ℕ, ◌*◌, ◌/◌, refl, sym, ap, subst, ◌∙◌, inl, inr, List, [], IsTrue}
 use Rattle.std.specs.Prelude.{Option}
-use Rattle.lxr_layout.specs.declared.TheConstants.{DECREMENT_COUNT, DECREMENT_CURSOR, GRANULES_IN_BLOCK}
+use Rattle.lxr_layout.specs.declared.TheConstants.{DECREMENT_COUNT, DECREMENT_CURSOR, GRANULES_IN_BLOCK, GRANULES_IN_LINE}
 use Rattle.lxr_layout.specs.declared.Name.{Name}
 use Rattle.lxr_graph.specs.declared.report.Kind.{Kind}
 use Rattle.lxr_graph.specs.declared.report.Report.{Report}
@@ -14,6 +14,9 @@ use Rattle.lxr_image.specs.Opened.{HasReportRoom}
 use Rattle.lxr_image.specs.Tables.{Tables}
 use Rattle.lxr_image.specs.Spaces.{IsSpace, tables_of}
 use Rattle.lxr_image.specs.Image.{IsImage}
+use Rattle.lxr_blocks.specs.declared.states.BlockState.TheVariants.{Chosen}
+use Rattle.lxr_blocks.specs.Placing.{IsRest}
+use Rattle.lxr_blocks.specs.States.{state_in}
 use Rattle.lxr_model.specs.Moments.{Moment, Trace}
 use Rattle.lxr_model_counting.specs.Following.{FollowsPause}
 use Rattle.lxr_model_counting.proofs.DeathLemmas.{dead_by_names}
@@ -128,6 +131,18 @@ pub record AgreesApartFromBlocks (t u : Tables) : Type 0 where
   pub drawn : cursors DECREMENT_CURSOR ≡ t.cursors DECREMENT_CURSOR
   pub waiting : cursors DECREMENT_COUNT ≡ t.cursors DECREMENT_COUNT
 
+-- what is left of lines stays so where no block has become Chosen
+pub rest_reworded : (s : Space) (words : List ℕ) (began : Option ℕ) → AgreesApartFromBlocks (tables_of s) (tables_of (record s { words = words; trace = began }))
+    → ((b : ℕ) → state_in (tables_of (record s { words = words; trace = began })) b ≡ Chosen → state_in (tables_of s) b ≡ Chosen) → IsRest s → IsRest (record s { words = words; trace = began })
+rest_reworded s words began agree chosen (inl none) = inl none
+rest_reworded s words began agree chosen (inr is) = inr (record {
+  some = is.some;
+  in_heap = is.in_heap;
+  in_line = is.in_line;
+  out = ap (λ z. z.outs (s.rest_next / GRANULES_IN_LINE)) agree.tables ∙ is.out;
+  outside = λ e. is.outside (chosen (s.rest_next / GRANULES_IN_BLOCK) e);
+})
+
 module _ (s : Space) (words : List ℕ) (began : Option ℕ) (m : Moment) (number : ℕ) (stuck : List Name) (trace : Option Trace) (at : Name → ℕ) where
   abbrev pub reworded : Space
   reworded = record s { words = words; trace = began }
@@ -142,9 +157,12 @@ module _ (s : Space) (words : List ℕ) (began : Option ℕ) (m : Moment) (numbe
     abbrev u : Tables
     u = record t { states = agree.states; cursors = agree.cursors }
 
-    pub holds_reworded : IsSpace reworded → m.made ≡ [] → s.rest_next ≡ s.rest_end → HasBlocks (tables_of reworded) s.limits.blocks trace → HoldsMoment s m at → HoldsMoment reworded then at
-    holds_reworded space none_made no_rest blocks h = record {
-      space = space;
+    pub size_reworded : IsSpace s → IsSpace reworded
+    size_reworded space = record { limits = space.limits; size = ap (λ z. z.size) agree.tables ∙ space.size }
+
+    pub holds_reworded : m.made ≡ [] → IsRest reworded → HasBlocks (tables_of reworded) s.limits.blocks trace → HoldsMoment s m at → HoldsMoment reworded then at
+    holds_reworded none_made rest blocks h = record {
+      space = size_reworded h.space;
       room = record { registers = h.room.registers; deferred = h.room.deferred; logged = h.room.logged; work = h.room.work; report = h.room.report };
       as_many = h.as_many;
       follows = follows_renumbered m number stuck trace same h.follows;
@@ -164,7 +182,7 @@ module _ (s : Space) (words : List ℕ) (began : Option ℕ) (m : Moment) (numbe
       lines = λ n o k made. nobody m.made n none_made made;
       unchosen = λ n made. nobody m.made n none_made made;
       blocks = blocks;
-      rest = record { rest = inl no_rest; apart = h.rest.apart };
+      rest = record { rest = rest; apart = h.rest.apart };
       no_work = h.no_work;
     }
 
@@ -175,10 +193,36 @@ module _ (s : Space) (words : List ℕ) (began : Option ℕ) (m : Moment) (numbe
 -- ---- spaces whose words stay
 
 pub holds_renumbered : (s : Space) (m : Moment) (number : ℕ) (stuck : List Name) (trace : Option Trace) (at : Name → ℕ) → ((n : Name) → has stuck n ≡ has m.stuck n)
-    → m.made ≡ [] → s.rest_next ≡ s.rest_end → HasBlocks (tables_of s) s.limits.blocks trace → HoldsMoment s m at → HoldsMoment s (renumbered m number stuck trace) at
-holds_renumbered s m number stuck trace at same none_made no_rest blocks h =
+    → m.made ≡ [] → HasBlocks (tables_of s) s.limits.blocks trace → HoldsMoment s m at → HoldsMoment s (renumbered m number stuck trace) at
+holds_renumbered s m number stuck trace at same none_made blocks h =
     holds_reworded s s.words s.trace m number stuck trace at
-    (record { states = (tables_of s).states; cursors = (tables_of s).cursors; tables = refl; drawn = refl; waiting = refl }) same h.space none_made no_rest blocks h
+    (record { states = (tables_of s).states; cursors = (tables_of s).cursors; tables = refl; drawn = refl; waiting = refl }) same none_made h.rest.rest blocks h
+
+-- ---- spaces with other words and another trace
+
+-- a space whose words and trace alone are others, and whose tables agree
+pub record IsReworded (c x : Space) (began : Option ℕ) : Type 0 where
+  pub same : x ≡ record c { words = x.words; trace = began }
+  pub agree : AgreesApartFromBlocks (tables_of c) (tables_of x)
+
+module _ (c x : Space) (began : Option ℕ) (is : IsReworded c x began) where
+  abbrev there : Space
+  there = record c { words = x.words; trace = began }
+
+  agree_there : AgreesApartFromBlocks (tables_of c) (tables_of there)
+  agree_there = subst (λ y. AgreesApartFromBlocks (tables_of c) (tables_of y)) is.same is.agree
+
+  pub holds_then : (m : Moment) (trace : Option Trace) (at : Name → ℕ) → m.made ≡ [] → IsRest x → HasBlocks (tables_of x) c.limits.blocks trace → HoldsMoment c m at → HoldsMoment x (record m { trace = trace }) at
+  holds_then m trace at none_made rest blocks h = subst (λ y. HoldsMoment y (record m { trace = trace }) at) (sym is.same)
+      (holds_reworded c x.words began m m.number m.stuck trace at agree_there (λ n. refl) none_made (subst IsRest is.same rest) (subst (λ y. HasBlocks (tables_of y) c.limits.blocks trace) is.same blocks) h)
+
+  pub rest_then : ((b : ℕ) → state_in (tables_of x) b ≡ Chosen → state_in (tables_of c) b ≡ Chosen) → IsRest c → IsRest x
+  rest_then chosen rest = subst IsRest (sym is.same)
+      (rest_reworded c x.words began agree_there (λ b e. chosen b (subst (λ y. state_in (tables_of y) b ≡ Chosen) (sym is.same) e)) rest)
+
+  pub undecremented_then : (m : Moment) (trace : Option Trace) (at : Name → ℕ) → IsUndecremented (tables_of c) m at → IsUndecremented (tables_of x) (record m { trace = trace }) at
+  undecremented_then m trace at h = subst (λ y. IsUndecremented (tables_of y) (record m { trace = trace }) at) (sym is.same)
+      (undecremented_reworded c x.words began m m.number m.stuck trace at agree_there (λ n. refl) h)
 
 -- the report may have another kind
 pub holds_of_kind : (s : Space) (m : Moment) (at : Name → ℕ) (k : Kind) → HoldsMoment s m at → HoldsMoment (record s { report = record s.report { kind = k } }) m at

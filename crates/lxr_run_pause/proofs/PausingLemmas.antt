@@ -1,10 +1,10 @@
 -- Once counting and tracing are done, blocks are swept, names are in order, counts are told where the pause drained, and the pause is counted:
 -- a pause was made, whatever its kind.
-use Rattle.std.proofs.Common.{◌≡◌, ℕ, ◌+◌, ◌*◌, ◌≤◌, refl, sym, ap, subst, ◌∙◌, inl, inr, arith, Bool, true, false, cond, List, [], IsTrue}
-use Rattle.std.specs.Prelude.{Option, Some, None, map, not, ◌&&◌}
+use Rattle.std.proofs.Common.{◌≡◌, ◌≢◌, ℕ, ◌+◌, ◌*◌, ◌/◌, ◌≤◌, refl, sym, ap, subst, ◌∙◌, inl, inr, arith, Bool, true, false, cond, List, [], IsTrue}
+use Rattle.std.specs.Prelude.{◌↔◌, Some, None, map, not, ◌&&◌}
 use Rattle.std.specs.Option.{option_map}
 use Rattle.std.proofs.lemmas.List.{append-nil}
-use Rattle.lxr_layout.specs.declared.TheConstants.{DECREMENT_COUNT, GRANULES_IN_BLOCK}
+use Rattle.lxr_layout.specs.declared.TheConstants.{DECREMENT_COUNT, GRANULES_IN_BLOCK, LINES_IN_BLOCK, REMEMBERED_CURSOR}
 use Rattle.lxr_layout.specs.declared.Name.{Name}
 use Rattle.lxr_graph.specs.declared.report.Count.{Count}
 use Rattle.lxr_graph.specs.declared.report.Kind.{Kind}
@@ -12,86 +12,60 @@ use Rattle.lxr_graph.specs.declared.report.Kind.TheVariants as kind
 use Rattle.lxr_graph.specs.declared.report.Report.{Report}
 use Rattle.lxr_graph.specs.Names.{has, union}
 use Rattle.lxr_graph.specs.History.{PauseReport, report_of}
-use Rattle.lxr_graph.proofs.NameSets.{has-without, not_both, without_parts}
+use Rattle.lxr_graph.proofs.NameSets.{has-without, without_parts}
 use Rattle.lxr_image.specs.declared.space.Space.{Space}
+use Rattle.lxr_image.specs.declared.space.Tally.{Tally}
 use Rattle.lxr_image.specs.Tables.{Tables}
-use Rattle.lxr_image.specs.Spaces.{IsSpace, Turns, tables_of}
+use Rattle.lxr_image.specs.Spaces.{Turns, tables_of}
 use Rattle.lxr_image.specs.Reads.{granule_of}
+use Rattle.lxr_image.specs.Image.{granules_of}
 use Rattle.lxr_image.proofs.TableLaws.{no_state_past}
+use Rattle.lxr_blocks.specs.declared.states.BlockState.TheVariants.{Chosen}
 use Rattle.lxr_blocks.specs.Lines.{is_free}
+use Rattle.lxr_blocks.specs.States.{state_in}
 use Rattle.lxr_model.specs.Moments.{Moment, Trace, after_pause, stuck_after, unreclaimed_after}
 use Rattle.lxr_model.specs.References.{references}
 use Rattle.lxr_model.specs.Reports.{AreCounts, PauseParts, count_entry, is_draining}
 use Rattle.lxr_model_counting.specs.Following.{FollowsPause}
 use Rattle.lxr_sweep_lines.specs.Swept.{with_states_by_lines}
 use Rattle.lxr_invariant.specs.AbstractState.{AbstractState, paused}
+use Rattle.lxr_invariant.specs.Copied.{HasCopy}
 use Rattle.lxr_invariant.specs.Counting.{IsUndecremented}
 use Rattle.lxr_invariant.specs.Lines.{HasBlocks, HasStates, NoneChosen}
 use Rattle.lxr_invariant.specs.Tracing.{IsTracedBy}
 use Rattle.lxr_invariant.specs.Quiescent.{HasNumbers, HoldsMoment, IsQuiescent}
-use Rattle.lxr_invariant.proofs.BlockLemmas.{none_kept}
-use Rattle.lxr_invariant.proofs.CopiedLemmas.{apart_still, copies_still, stay_still}
+use Rattle.lxr_invariant.proofs.BlockLemmas.{none_counted}
+use Rattle.lxr_invariant.proofs.CopiedLemmas.{apart_still, stay_still}
 use Rattle.lxr_invariant.proofs.NameLemmas.{in_either, in_first, in_second}
-use Rattle.lxr_pause_decrements.proofs.WipeLemmas.{loses_same}
-use Rattle.lxr_pause_decrements.specs.Wipe.{LosesBits}
+use Rattle.lxr_invariant.proofs.PlaceLemmas.{same_object}
 use Rattle.lxr_run_pause.specs.declared.Ask.{Ask}
 use Rattle.lxr_run_pause.specs.declared.Pace.{Pace}
 use Rattle.lxr_run_pause.specs.Deciding.{HasKind}
 use Rattle.lxr_run_pause.specs.Steps.{CanCountWhere, CountsWhere, with_names_in_order, with_pause_counted}
 use Rattle.lxr_run_pause.specs.Settling.{Settles, remaining_by, settled_by}
-use Rattle.lxr_run_pause.specs.Pausing.{CanPause, IsDrained, IsLetGo, KeepsThroughPause, Pauses, Traces, states_swept}
-use Rattle.lxr_run_pause.proofs.ReportLemmas.{entries_same, moment_then, reports, stuck_then, stuck_told, told, unreclaimed_then}
+use Rattle.lxr_run_pause.specs.Pausing.{CanPause, IsDrained, IsLetGo, KeepsThroughPause, LeavesRemembered, Pauses, SameRemembered, Traces}
+use Rattle.lxr_run_pause.specs.Relocating.{ChoosesBlocks, Evacuates, Relocates}
+use Rattle.lxr_run_pause.proofs.ReportLemmas.{entries_same, goes_on, moment_then, reports, stuck_then, stuck_told, told, unreclaimed_then}
 use Rattle.lxr_run_pause.proofs.OrderLemmas.{has_in_order}
-use Rattle.lxr_run_pause.proofs.FrameLemmas.{AgreesApartFromBlocks, holds_renumbered, holds_reworded, holds_told, ordered_room, renumbered, undecremented_renumbered, undecremented_reworded, with_told}
-use Rattle.lxr_run_pause.proofs.TracedLemmas.{traced_still}
-use Rattle.lxr_run_pause.proofs.SweepLemmas.{as_many_chosen, lines_kept, states_from, swept_blocks, swept_states, was_chosen}
+use Rattle.lxr_run_pause.proofs.BlocksLemmas.{chooses_swept}
+use Rattle.lxr_run_pause.proofs.FrameLemmas.{AgreesApartFromBlocks, holds_renumbered, holds_reworded, holds_told, ordered_room, renumbered, rest_reworded, undecremented_renumbered, undecremented_reworded, with_told}
+use Rattle.lxr_run_pause.proofs.RelocatingLemmas.{evacuates_still, relocates_still}
+use Rattle.lxr_run_pause.proofs.RememberedLemmas.{same_both}
+use Rattle.lxr_run_pause.proofs.TracedLemmas.{traced_still, traces_still}
+use Rattle.lxr_run_pause.proofs.SweepLemmas.{lines_kept, swept_blocks, swept_past, swept_states, was_chosen}
 
--- ---- mark and gray bits, whatever the order of names
-
-module _ (s x z : Space) (g : AbstractState) (at' : Name → ℕ) (p q : PauseReport) (left : List Name) (marks : (tables_of z).marks ≡ (tables_of x).marks) (grays : (tables_of z).grays ≡ (tables_of x).grays)
-    (promoted : (n : Name) → has q.promoted n ≡ has p.promoted n) (dead : (n : Name) → has q.dead n ≡ has p.dead n) where
-  abbrev bit : (ℕ → Bool) → Name → Type 0
-  bit f n = IsTrue (f (granule_of (at' n)))
-
-  lost : (bits : Tables → ℕ → Bool) → bits (tables_of z) ≡ bits (tables_of x) → LosesBits (bits (tables_of s)) (bits (tables_of x)) at' p.dead → LosesBits (bits (tables_of s)) (bits (tables_of z)) at' q.dead
-  lost bits same is = subst (λ f. LosesBits (bits (tables_of s)) f at' q.dead) (sym same) (loses_same (bits (tables_of s)) (bits (tables_of x)) at' p.dead q.dead dead is)
-
-  pub traces_still : (k : Kind) (trace : Option Trace) → Traces k trace s x g at' p left → Traces k trace s z g at' q left
-  traces_still kind.Plain None is = record { marks = lost (λ t. t.marks) marks is.marks; grays = lost (λ t. t.grays) grays is.grays }
-  traces_still kind.Plain (Some trace) is = record {
-    marks = λ n k. (
-      λ h. elim ((is.marks n k).0 (subst (λ f. bit f n) marks h)) [ inl was ↦ inl was | inr new ↦ inr (promoted n ∙ new) ],
-      λ h. subst (λ f. bit f n) (sym marks) ((is.marks n k).1 (elim h [ inl was ↦ inl was | inr new ↦ inr (sym (promoted n) ∙ new) ])),
-    );
-    grays = λ n k. (
-      λ h. elim ((is.grays n k).0 (subst (λ f. bit f n) grays h)) [
-        | inl was ↦ inl was
-        | inr new ↦ inr (elim new [ inl r ↦ inl (r.0, dead r.0 ∙ r.1, r.2) | inr old ↦ inr old ])
-      ],
-      λ h. subst (λ f. bit f n) (sym grays) ((is.grays n k).1 (elim h [
-        | inl was ↦ inl was
-        | inr new ↦ inr (elim new [ inl r ↦ inl (r.0, sym (dead r.0) ∙ r.1, r.2) | inr old ↦ inr old ])
-      ])),
-    );
-  }
-  traces_still kind.Begin trace is = record {
-    none_marked = λ k. ap (λ f. f k) marks ∙ is.none_marked k;
-    grays = λ k. (λ h. (is.grays k).0 (sym (ap (λ f. f k) grays) ∙ h), λ h. ap (λ f. f k) grays ∙ (is.grays k).1 h);
-  }
-  traces_still (kind.End j) trace is = record {
-    marked = λ n k. subst (λ f. bit f n) (sym marks) (is.marked n k);
-    none_left = λ k h. ap (λ f. f k) marks ∙ is.none_left k (sym (ap (λ f. f k) grays) ∙ h);
-  }
-  traces_still kind.Collect trace is = record {
-    marked = λ n k. subst (λ f. bit f n) (sym marks) (is.marked n k);
-    none_left = λ k h. ap (λ f. f k) marks ∙ is.none_left k (sym (ap (λ f. f k) grays) ∙ h);
-  }
+-- a remembered set that stays is left as a pause of its kind leaves it
+leaves_swept : (k : Kind) (t u v : Tables) (blocks : ℕ) → SameRemembered u v → LeavesRemembered k t u blocks → LeavesRemembered k t v blocks
+leaves_swept kind.Plain t u v blocks same is = λ none. same_both t u v (is none) same
+leaves_swept kind.Begin t u v blocks same is = same.cursor ∙ is
+leaves_swept (kind.End j) t u v blocks same is = λ none. same_both t u v (is none) same
+leaves_swept kind.Collect t u v blocks same is = λ none. same_both t u v (is none) same
 
 -- ---- the end of a pause
 
-module _ (s x : Space) (g : AbstractState) (asked : Ask) (pace : Pace) (can : CanPause s g) (at' : Name → ℕ) (parts : PauseParts) (settles : Settles s x g at' parts)
+module _ (s x : Space) (g : AbstractState) (asked : Ask) (pace : Pace) (can : CanPause s g) (at' : Name → ℕ) (parts : PauseParts) (moved kept : List Name) (settles : Settles s x g at' parts moved kept)
     (is_kind : HasKind (tables_of s) g.moment g.at s.logged.items asked pace x.report.kind)
-    (words : List ℕ) (tables : tables_of (record x { words = words }) ≡ with_states_by_lines (tables_of x) x.limits.blocks) (space : IsSpace (record x { words = words })) where
+    (words : List ℕ) (tables : tables_of (record x { words = words }) ≡ with_states_by_lines (tables_of x) x.limits.blocks) where
   abbrev m : Moment
   m = g.moment
 
@@ -118,7 +92,8 @@ module _ (s x : Space) (g : AbstractState) (asked : Ask) (pace : Pace) (can : Ca
   agree = record { states = (with_states_by_lines t x.limits.blocks).states; cursors = t.cursors; tables = tables; drawn = refl; waiting = refl }
 
   holds_swept : HoldsMoment swept leads at'
-  holds_swept = holds_reworded x words x.trace leads leads.number leads.stuck leads.trace at' agree (λ n. refl) space refl settles.no_rest
+  holds_swept = holds_reworded x words x.trace leads leads.number leads.stuck leads.trace at' agree (λ n. refl) refl
+      (rest_reworded x words x.trace agree (λ b e. was_chosen t x.limits.blocks b (subst (λ z. state_in z b ≡ Chosen) tables e)) settles.holds.rest.rest)
       (subst (λ z. HasBlocks z x.limits.blocks leads.trace) (sym tables) (swept_blocks t x.limits.blocks leads.trace settles.holds.blocks)) settles.holds
 
   swept_undecremented : IsUndecremented (tables_of swept) leads at'
@@ -196,7 +171,7 @@ module _ (s x : Space) (g : AbstractState) (asked : Ask) (pace : Pace) (can : Ca
     holds_then =
         holds_told swept then at' report at_end.tally at_end.pauses
         (record { promoted = settles.holds.room.report.promoted; dead = settles.holds.room.report.dead; stuck = settles.holds.room.report.stuck; swept = settles.holds.room.report.swept; counts = settles.holds.room.report.counts })
-        (holds_renumbered swept leads leads.number (stuck_after m said) leads.trace at' stuck_is refl settles.no_rest holds_swept.blocks holds_swept)
+        (holds_renumbered swept leads leads.number (stuck_after m said) leads.trace at' stuck_is refl holds_swept.blocks holds_swept)
 
     holds : HoldsMoment at_end (after_pause m said) at'
     holds = subst (λ z. HoldsMoment at_end z at') (sym moment_is) holds_then
@@ -222,8 +197,38 @@ module _ (s x : Space) (g : AbstractState) (asked : Ask) (pace : Pace) (can : Ca
     traced : IsTracedBy x.limits (tables_of at_end) at_end.logged.items (paused g at' said) (after_pause m said).trace
     traced = subst (λ z. IsTracedBy x.limits (tables_of at_end) at_end.logged.items (record { moment = z; at = at'; reported = said }) z.trace) (sym moment_is) traced_then
 
-    none_out : (line : ℕ) → (tables_of at_end).outs line ≡ false
-    none_out line = ap (λ z. z.outs line) tables ∙ settles.none_out line
+    left_is : (after_pause m said).unreclaimed ≡ leads.unreclaimed
+    left_is = ap (λ (z : Moment). z.unreclaimed) moment_is
+
+    same_blocks : x.limits.blocks ≡ s.limits.blocks
+    same_blocks = ap (λ (y : Space). y.limits.blocks) settles.space
+
+    -- ---- lines that are out, and blocks
+
+    outs : (line : ℕ) → IsTrue ((tables_of at_end).outs line) ↔ HasCopy m.state.graph g.at at' moved line
+    outs line = ((λ out. (settles.outs line).0 (sym (ap (λ z. z.outs line) tables) ∙ out)), (λ copy. ap (λ z. z.outs line) tables ∙ (settles.outs line).1 copy))
+
+    chosen : ChoosesBlocks r.kind (tables_of s) (tables_of at_end) s.limits.blocks
+    chosen = subst (λ z. ChoosesBlocks r.kind (tables_of s) z s.limits.blocks) (sym tables)
+        (subst (λ n. ChoosesBlocks r.kind (tables_of s) (with_states_by_lines t n) s.limits.blocks) (sym same_blocks) (chooses_swept r.kind (tables_of s) t s.limits.blocks settles.chosen))
+
+    moved_stays : (n : Name) → IsTrue (has moved n) → IsTrue (has leads.unreclaimed n)
+    moved_stays n h = ((settles.evacuates.moved_are.members n).0 h).0.stays
+
+    -- a line that is out has a moved object, and once a trace has ended, no block is Chosen
+    out_outside : (line : ℕ) → IsTrue ((tables_of at_end).outs line) → state_in (tables_of at_end) (line / LINES_IN_BLOCK) ≢ Chosen
+    out_outside line out =
+        let copy = (outs line).0 out in
+        let ends = ((settles.evacuates.moved_are.members copy.name).0 copy.promoted_is).0.ends in
+        let none : NoneChosen (tables_of at_end) s.limits.blocks = subst (λ k. ChoosesBlocks k (tables_of s) (tables_of at_end) s.limits.blocks) ends.1 chosen in
+        let there = settles.holds.image.image.stands copy.name (in_first leads.unreclaimed [] copy.name (moved_stays copy.name copy.promoted_is)) in
+        let same = same_object m.state.graph copy.name there.0 copy.object there.1 copy.covers.object in
+        let fits : granule_of (at' copy.name) + granules_of copy.object ≤ GRANULES_IN_BLOCK * s.limits.blocks =
+        subst (λ n. granule_of (at' copy.name) + granules_of copy.object ≤ GRANULES_IN_BLOCK * n) same_blocks
+        (subst (λ o. granule_of (at' copy.name) + granules_of o ≤ GRANULES_IN_BLOCK * x.limits.blocks) same there.2.whole.in_heap) in
+        let behind = copy.covers.behind in
+        let here = copy.line_is in
+        none_counted (tables_of at_end) s.limits.blocks (line / LINES_IN_BLOCK) none (omega (arith, fits, behind, here))
 
     between : IsQuiescent at_end (paused g at' said)
     between = record {
@@ -232,12 +237,15 @@ module _ (s x : Space) (g : AbstractState) (asked : Ask) (pace : Pace) (can : Ca
       undecremented = undecremented;
       lines = λ n o k member. lines_kept (tables_of at_end) m.state.graph at' (after_pause m said).unreclaimed holds.marks undecremented.positive n o k
           (subst (λ ns. IsTrue (has ns n)) (append-nil (after_pause m said).unreclaimed) member);
-      outs = record { taken = λ line out. not_both ((tables_of at_end).outs line) out (none_out line); outside = λ line out. not_both ((tables_of at_end).outs line) out (none_out line) };
+      outs = record {
+        taken = λ line out.
+            let copy = (outs line).0 out in
+            let member : IsTrue (has (after_pause m said).unreclaimed copy.name) = subst (λ ns. IsTrue (has ns copy.name)) (sym left_is) (moved_stays copy.name copy.promoted_is) in
+            (copy.name, copy.object, copy.granule, in_first (after_pause m said).unreclaimed [] copy.name member, copy.covers, copy.line_is);
+        outside = out_outside;
+      };
       states = subst (λ z. HasStates z x.limits.blocks) (sym tables) (swept_states t x.limits.blocks);
     }
-
-    same_blocks : x.limits.blocks ≡ s.limits.blocks
-    same_blocks = ap (λ (y : Space). y.limits.blocks) settles.space
 
     -- past the last block no state is told
     past : (b : ℕ) → s.limits.blocks ≤ b → t.states b ≡ (tables_of s).states b
@@ -245,27 +253,14 @@ module _ (s x : Space) (g : AbstractState) (asked : Ask) (pace : Pace) (can : Ca
         no_state_past x.limits x.words b settles.holds.space.size (subst (λ n. n ≤ b) (sym same_blocks) high)
         ∙ sym (no_state_past s.limits s.words b can.safepoint.holds.space.size high)
 
-    -- a sweep leaves the same states as from those before the pause
-    swept_from_before : (tables_of at_end).states ≡ states_swept (tables_of at_end) (tables_of s).states s.limits.blocks
-    swept_from_before =
-        ap (λ z. z.states) tables
-        ∙ ap (λ n. (with_states_by_lines t n).states) same_blocks
-        ∙ ap (λ z. states_swept z t.states s.limits.blocks) (sym tables)
-        ∙ states_from (tables_of at_end) (tables_of s) t s.limits.blocks settles.states past
-
-    -- no block is Chosen before the sweep, and none after it
-    unchosen_then : NoneChosen t x.limits.blocks
-    unchosen_then = none_kept (tables_of s) t x.limits.blocks settles.states (subst (λ n. NoneChosen (tables_of s) n) (sym same_blocks) can.none_chosen)
-
-    unchosen : NoneChosen (tables_of at_end) s.limits.blocks
-    unchosen = subst (λ n. NoneChosen (tables_of at_end) n) same_blocks (subst (λ z. NoneChosen z x.limits.blocks) (sym tables) (as_many_chosen t x.limits.blocks ∙ unchosen_then))
+    are_past : (b : ℕ) → s.limits.blocks ≤ b → (with_states_by_lines t x.limits.blocks).states b ≡ t.states b
+    are_past b high = swept_past t x.limits.blocks b (subst (λ n. n ≤ b) (sym same_blocks) high)
 
     keeps : KeepsThroughPause (tables_of s) (tables_of at_end)
     keeps = record {
       runs = ap (λ z. z.runs) tables ∙ settles.keeps.runs;
       frees = ap (λ z. z.frees) tables ∙ settles.keeps.frees;
-      remembered = ap (λ z. z.remembered) tables ∙ settles.keeps.remembered;
-      cursors = λ k a b c. ap (λ z. z.cursors k) tables ∙ settles.keeps.cursors k a b c;
+      cursors = λ k a b c d. ap (λ z. z.cursors k) tables ∙ settles.keeps.cursors k a b c d;
     }
 
     -- where nothing waits, nothing does after the sweep of lines
@@ -293,26 +288,28 @@ module _ (s x : Space) (g : AbstractState) (asked : Ask) (pace : Pace) (can : Ca
       is,
     )
 
-    left_is : (after_pause m said).unreclaimed ≡ leads.unreclaimed
-    left_is = ap (λ (z : Moment). z.unreclaimed) moment_is
-
     pub pauses_at_end : Pauses s at_end g at' asked pace
     pauses_at_end = record {
       kind = is_kind;
       reports = reports m r parts counts follows settles.tells afresh;
       between = between;
-      tally = ap (λ (y : Space). record y.tally { pauses = y.tally.pauses + 1 }) settles.space;
-      copies = copies_still (tables_of s) t (tables_of s) (tables_of at_end) m m.unreclaimed g.at at' r.promoted.items said.promoted refl refl refl (ap (λ z. z.heap) tables) (ap (λ z. z.reuse) tables)
-          (has_in_order r.promoted.items) settles.copies;
+      moved = moved;
+      kept = kept;
+      evacuates = subst (λ ns. Evacuates s at_end g at' ns moved kept) (sym left_is)
+          (evacuates_still s x at_end g at' leads.unreclaimed (with_states_by_lines t x.limits.blocks).states tables moved kept refl refl (goes_on m r parts counts follows settles.tells m.trace) settles.evacuates);
+      tally = ap (λ (t : Tally). record t { pauses = t.pauses + 1 }) settles.tally;
+      relocates = subst (λ ns. Relocates s at_end g at' ns said.promoted moved) (sym left_is)
+          (relocates_still s x at_end g at' leads.unreclaimed (with_states_by_lines t x.limits.blocks).states tables r.promoted.items said.promoted moved (has_in_order r.promoted.items) settles.relocates);
       apart = apart_still s g at' r.promoted.items said.promoted (has_in_order r.promoted.items) settles.apart;
       stay = stay_still (tables_of s) t (tables_of s) (tables_of at_end) s.limits.blocks m g.at at' r.promoted.items said.promoted (IsLetGo g at' (report_of r)) (IsLetGo g at' said) (has_in_order r.promoted.items)
           refl line_was_free let_go_told settles.stay;
       keeps = keeps;
+      remembered = leaves_swept r.kind (tables_of s) t (tables_of at_end) s.limits.blocks (record { entries = ap (λ z. z.remembered) tables; cursor = ap (λ z. z.cursors REMEMBERED_CURSOR) tables }) settles.remembered;
       drained = drained_by (is_draining r.kind) settles.drained;
-      none_out = none_out;
+      outs = outs;
       no_rest = settles.no_rest;
-      none_chosen = unchosen;
-      states = swept_from_before;
+      chosen = chosen;
+      beyond = λ b high. ap (λ z. z.states b) tables ∙ are_past b high ∙ past b high;
       traces = subst (λ ns. Traces r.kind m.trace s at_end g at' said ns) (sym left_is)
           (traces_still s x at_end g at' (report_of r) said leads.unreclaimed (ap (λ z. z.marks) tables) (ap (λ z. z.grays) tables) (has_in_order r.promoted.items) (has_in_order r.dead.items) r.kind m.trace settles.traces);
       space = ap (λ (y : Space). record y {
@@ -331,8 +328,8 @@ module _ (s x : Space) (g : AbstractState) (asked : Ask) (pace : Pace) (can : Ca
 
 -- ---- a pause was made, however its space came about
 
-module _ (s x swept : Space) (report : Report) (g : AbstractState) (asked : Ask) (pace : Pace) (can : CanPause s g) (at' : Name → ℕ) (parts : PauseParts) (settles : Settles s x g at' parts) (k : Kind) (same_kind : x.report.kind ≡ k)
-    (is_kind : HasKind (tables_of s) g.moment g.at s.logged.items asked pace k) (turns : Turns x swept (with_states_by_lines (tables_of x) x.limits.blocks)) (space : IsSpace swept)
+module _ (s x swept : Space) (report : Report) (g : AbstractState) (asked : Ask) (pace : Pace) (can : CanPause s g) (at' : Name → ℕ) (parts : PauseParts) (moved kept : List Name) (settles : Settles s x g at' parts moved kept) (k : Kind) (same_kind : x.report.kind ≡ k)
+    (is_kind : HasKind (tables_of s) g.moment g.at s.logged.items asked pace k) (turns : Turns x swept (with_states_by_lines (tables_of x) x.limits.blocks))
     (orders : report ≡ with_names_in_order swept.report) where
   own_kind : HasKind (tables_of s) g.moment g.at s.logged.items asked pace x.report.kind
   own_kind = subst (HasKind (tables_of s) g.moment g.at s.logged.items asked pace) (sym same_kind) is_kind
@@ -340,14 +337,11 @@ module _ (s x swept : Space) (report : Report) (g : AbstractState) (asked : Ask)
   swept_tables : tables_of (record x { words = swept.words }) ≡ with_states_by_lines (tables_of x) x.limits.blocks
   swept_tables = subst (λ y. tables_of y ≡ with_states_by_lines (tables_of x) x.limits.blocks) turns.rest turns.tables
 
-  swept_space : IsSpace (record x { words = swept.words })
-  swept_space = subst IsSpace turns.rest space
-
   -- the space with its names in order
   abbrev sorted : Space
   sorted = record swept { report = report }
 
-  sorted_is : sorted ≡ in_order s x g asked pace can at' parts settles own_kind swept.words swept_tables swept_space
+  sorted_is : sorted ≡ in_order s x g asked pace can at' parts moved kept settles own_kind swept.words swept_tables
   sorted_is = ap (λ r. record swept { report = r }) orders ∙ ap (λ (y : Space). record y { report = with_names_in_order y.report }) turns.rest
 
   abbrev pub leads_to : Moment
@@ -355,7 +349,7 @@ module _ (s x swept : Space) (report : Report) (g : AbstractState) (asked : Ask)
 
   pub can_count_sorted : CanCountWhere (is_draining k) sorted leads_to at'
   can_count_sorted = subst (λ y. CanCountWhere (is_draining k) y leads_to at') (sym sorted_is)
-      (can_count s x g asked pace can at' parts settles own_kind swept.words swept_tables swept_space (is_draining k) (subst (λ q. IsDrained x (is_draining q)) same_kind settles.drained))
+      (can_count s x g asked pace can at' parts moved kept settles own_kind swept.words swept_tables (is_draining k) (subst (λ q. IsDrained x (is_draining q)) same_kind settles.drained))
 
   module _ (z counted : Space) (counts : CountsWhere (is_draining k) sorted z leads_to) (ends : counted ≡ with_pause_counted z) where
     told_by : (b : Bool) → CountsWhere b sorted z leads_to → AreCounts g.moment (told x.report z.report.counts.items) b
@@ -363,7 +357,7 @@ module _ (s x swept : Space) (report : Report) (g : AbstractState) (asked : Ask)
         ap (λ (y : Space). y.report.counts.items) same
         ∙ ap (λ (y : Space). y.report.counts.items) sorted_is
         ∙ settles.tells.counts
-    told_by true is = is.counts ∙ right_counts s x g asked pace can at' parts settles own_kind swept.words swept_tables swept_space
+    told_by true is = is.counts ∙ right_counts s x g asked pace can at' parts moved kept settles own_kind swept.words swept_tables
 
     counted_is : (b : Bool) → CountsWhere b sorted z leads_to → z ≡ record sorted { report = record sorted.report { counts = record sorted.report.counts { items = z.report.counts.items } } }
     counted_is false same = same ∙ ap (λ (y : Space). record sorted { report = record sorted.report { counts = record sorted.report.counts { items = y.report.counts.items } } }) (sym same)
@@ -372,7 +366,7 @@ module _ (s x swept : Space) (report : Report) (g : AbstractState) (asked : Ask)
     afresh_by : (b : Bool) → b ≡ is_draining x.report.kind → AreCounts g.moment (told x.report z.report.counts.items) b
     afresh_by b e = told_by b (subst (λ c. CountsWhere c sorted z leads_to) (sym (e ∙ ap is_draining same_kind)) counts)
 
-    ends_at : counted ≡ at_end s x g asked pace can at' parts settles own_kind swept.words swept_tables swept_space z.report.counts.items afresh_by
+    ends_at : counted ≡ at_end s x g asked pace can at' parts moved kept settles own_kind swept.words swept_tables z.report.counts.items afresh_by
     ends_at =
         ends
         ∙ ap with_pause_counted (counted_is (is_draining k) counts)
@@ -380,4 +374,4 @@ module _ (s x swept : Space) (report : Report) (g : AbstractState) (asked : Ask)
 
     pub pauses : Pauses s counted g at' asked pace
     pauses = subst (λ y. Pauses s y g at' asked pace) (sym ends_at)
-        (pauses_at_end s x g asked pace can at' parts settles own_kind swept.words swept_tables swept_space z.report.counts.items afresh_by)
+        (pauses_at_end s x g asked pace can at' parts moved kept settles own_kind swept.words swept_tables z.report.counts.items afresh_by)

@@ -138,6 +138,11 @@ module _ (m : Moment) (r : Report) (parts : PauseParts) (counts : List Count) (f
     ]),
   )
 
+  -- a trace goes on alike in whatever order promoted names stand
+  pub goes_on : (trace : Option Trace) → going_on m said trace ≡ going_on m (report_of r) trace
+  goes_on None = refl
+  goes_on (Some trace) = ap (λ k. Some (record trace { promoted_slots = trace.promoted_slots + k; written_slots = trace.written_slots + length m.written })) (slots_in_order m.state.graph r.promoted.items tells.raised.promoted_once)
+
   -- ---- the report
 
   module _ (counted_afresh : AreCounts m said (is_draining r.kind)) where
@@ -181,10 +186,6 @@ module _ (m : Moment) (r : Report) (parts : PauseParts) (counts : List Count) (f
 
     pub trace_then : (k : Kind) → trace_after m said k ≡ trace_by m parts r k
     trace_then kind.Plain = goes_on m.trace
-      where
-        goes_on : (trace : Option Trace) → going_on m said trace ≡ going_on m (report_of r) trace
-        goes_on None = refl
-        goes_on (Some trace) = ap (λ k. Some (record trace { promoted_slots = trace.promoted_slots + k; written_slots = trace.written_slots + length m.written })) (slots_in_order m.state.graph r.promoted.items tells.raised.promoted_once)
     trace_then kind.Begin = ap (λ ns. Some (record { began = r.number; state = m.state; unreclaimed = ns; promoted_slots = 0; written_slots = 0 })) unreclaimed_then
     trace_then (kind.End j) = refl
     trace_then kind.Collect = refl

@@ -1,7 +1,7 @@
 -- Each step of counting finds what it asks for, and once roots are deferred, counting is done: a trace that runs goes on.
-use Rattle.std.proofs.Common.{◌≡◌, ℕ, ◌+◌, ◌*◌, ◌≤◌, refl, sym, ap, subst, ◌∙◌, arith, List, [], ◌++◌, IsTrue, length}
+use Rattle.std.proofs.Common.{◌≡◌, ℕ, ◌+◌, ◌*◌, ◌^◌, ◌≤◌, refl, sym, ap, subst, ◌∙◌, arith, List, [], ◌++◌, IsTrue, length}
 use Rattle.std.specs.Prelude.{◌↔◌, Option, Some, None}
-use Rattle.lxr_layout.specs.declared.TheConstants.{GRANULES_IN_BLOCK}
+use Rattle.lxr_layout.specs.declared.TheConstants.{GRANULES_IN_BLOCK, REMEMBERED_CURSOR}
 use Rattle.lxr_layout.specs.declared.Name.{Name}
 use Rattle.lxr_graph.specs.declared.report.Kind.TheVariants as kind
 use Rattle.lxr_graph.specs.Names.{has, without}
@@ -24,9 +24,10 @@ use Rattle.lxr_invariant.specs.Tracing.{IsTracedBy, TraceHolds}
 use Rattle.lxr_invariant.proofs.EntryLemmas.{passing_few}
 use Rattle.lxr_invariant.proofs.BlockLemmas.{keeps_state_still}
 use Rattle.lxr_invariant.proofs.CopiedLemmas.{copies_still, free_alike, stay_still}
-use Rattle.lxr_invariant.proofs.FrameLemmas.{chosen_still}
-use Rattle.lxr_invariant.proofs.KeepingLemmas.{keeps_both, keeps_lists, keeps_same}
+use Rattle.lxr_invariant.proofs.FrameLemmas.{chosen_still, unchosen_still}
+use Rattle.lxr_invariant.proofs.KeepingLemmas.{keeps_both, keeps_same}
 use Rattle.lxr_invariant.proofs.LandingLemmas.{copies_apart}
+use Rattle.lxr_remset.specs.Remembering.{with_remembered_of}
 use Rattle.lxr_pause_decrements.specs.Finishing.{CanFinish, Finishes, FinishesGrays, HandledAreTraced}
 use Rattle.lxr_pause_increments.specs.Raising.{CanRaise, Raises, RaisesGrays, RaisesMarks}
 use Rattle.lxr_pause_queue.specs.Queueing.{Queues, with_roots_deferred}
@@ -36,9 +37,10 @@ use Rattle.lxr_pause_trace.proofs.FinishingLemmas.{finishing_keeps}
 use Rattle.lxr_pause_trace.proofs.TellingLemmas.{marks_tell}
 use Rattle.lxr_run_pause.specs.Steps.{begun, with_report_begun}
 use Rattle.lxr_run_pause.specs.Settling.{SettlesCounts, TellsCounts, TellsTheEnd, counted}
-use Rattle.lxr_run_pause.specs.Pausing.{CanPause, KeepsObjects, Traces}
+use Rattle.lxr_run_pause.specs.Pausing.{CanPause, KeepsObjects, SameRemembered, Traces}
 use Rattle.lxr_run_pause.proofs.FrameLemmas.{begun_room, holds_renumbered, holds_told, undecremented_renumbered}
 use Rattle.lxr_run_pause.proofs.GoingOnLemmas.{traces_on}
+use Rattle.lxr_run_pause.proofs.RememberedLemmas.{can_remember, keeps_remembered, remember_still, same_both, same_kept, same_told}
 use Rattle.lxr_run_pause.proofs.TracedLemmas.{trace_still}
 
 -- a space with what counting changes taken from another
@@ -57,6 +59,13 @@ settled_as x y = record x {
 handled_by : (s : Space) (g : AbstractState) (trace : Option Trace) → IsTracedBy s.limits (tables_of s) s.logged.items g trace → HandledAreTraced (tables_of s) g.moment g.at trace
 handled_by s g None is = tt
 handled_by s g (Some trace) is = is.handled
+
+-- pauses can be counted
+pub few_paused : (s : Space) (g : AbstractState) → CanPause s g → g.moment.number + 1 ≤ 2 ^ 32
+few_paused s g can =
+    let few = can.counted.0 in
+    let same = can.safepoint.numbers.pauses in
+    omega (arith, few, same)
 
 -- blocks stay as they are asked for where a trace goes on
 blocks_on : (t : Tables) (blocks : ℕ) (m : Moment) (r : PauseReport) (trace : Option Trace) → HasBlocks t blocks trace → HasBlocks t blocks (going_on m r trace)
@@ -94,13 +103,10 @@ module _ (s began : Space) (g : AbstractState) (can : CanPause s g) (begins : be
       empty = finish.empty;
       none_promoted = ap (λ (x : Space). x.report.promoted.items) finish.space ∙ ap (λ (x : Space). x.report.promoted.items) begins;
       none_stuck = ap (λ (x : Space). x.report.stuck.items) finish.space ∙ ap (λ (x : Space). x.report.stuck.items) begins;
+      remembers = remember_still (tables_of s) (tables_of finished) m.trace
+          (finish.keeps.cursors REMEMBERED_CURSOR (λ e. cc) (λ e. cc) ∙ ap (λ (x : Space). (tables_of x).cursors REMEMBERED_CURSOR) begins)
+          (can_remember s.limits (tables_of s) s.logged.items g m.trace (few_paused s g can) can.safepoint.traced);
     }
-
-    none_chosen : NoneChosen (tables_of finished) finished.limits.blocks
-    none_chosen =
-        chosen_still (tables_of began) (tables_of finished) finished.limits.blocks finish.states
-        ∙ subst (λ x. NoneChosen (tables_of x) finished.limits.blocks) (sym begins)
-        (subst (λ n. NoneChosen (tables_of s) n) (sym (ap (λ (x : Space). x.limits.blocks) finish.space ∙ ap (λ (x : Space). x.limits.blocks) begins)) can.none_chosen)
 
     module _ (raised : Space) (raises : (m : Moment) (at : Name → ℕ) → CanRaise finished m at → (at' : Name → ℕ) × Raises finished raised m at at') where
       -- where objects stand then
@@ -157,7 +163,6 @@ module _ (s began : Space) (g : AbstractState) (can : CanPause s g) (begins : be
         holds_done : HoldsMoment (with_roots_deferred queued) done at'
         holds_done =
             holds_renumbered (with_roots_deferred queued) (settled left raised.report.promoted.items raised.report.stuck.items) done.number done.stuck done.trace at' (λ n. refl) refl
-            (ap (λ (x : Space). x.rest_next) queue.space ∙ ap (λ (x : Space). x.rest_next) raise.space ∙ sym (ap (λ (x : Space). x.rest_end) queue.space ∙ ap (λ (x : Space). x.rest_end) raise.space))
             (blocks_on (tables_of queued) queued.limits.blocks m (report_of raised.report) m.trace queue.holds.blocks) queue.holds
 
         undecremented_done : IsUndecremented (tables_of queued) done at'
@@ -170,7 +175,7 @@ module _ (s began : Space) (g : AbstractState) (can : CanPause s g) (begins : be
         traced_done (Some trace) runs objects is =
             let first : TraceHolds began.limits (tables_of began) began.logged.items g trace = subst (λ x. TraceHolds x.limits (tables_of x) x.logged.items g trace) (sym begins) is in
             let second = finishing_keeps began finished g trace gone can_finish.holds runs first finish in
-            let third = counting_keeps finished raised queued (at_moment g left) at' trace finish.holds runs none_chosen objects.0 second raise queue in
+            let third = counting_keeps finished raised queued (at_moment g left) at' trace finish.holds runs objects.0 second raise queue in
             trace_still queued.limits (tables_of queued) (tables_of queued).states (tables_of queued).cursors [] _ done.number done.stuck done.trace g.reported (λ n. refl) (omega arith) refl (λ b c. c) _ third
 
         -- what is gray then tells whether anything was left to trace
@@ -207,8 +212,8 @@ module _ (s began : Space) (g : AbstractState) (can : CanPause s g) (begins : be
           kept_before : KeepsListsAndCounters (tables_of s) (tables_of finished)
           kept_before = keeps_both (tables_of s) (tables_of began) (tables_of finished) (keeps_same (tables_of s) (tables_of began) (ap tables_of begins)) finish.keeps
 
-          kept : KeepsLists (tables_of s) (tables_of queued)
-          kept = keeps_lists (tables_of s) (tables_of finished) (tables_of raised) (tables_of queued) kept_before raise.keeps queue.keeps
+          kept : KeepsLists (with_remembered_of (tables_of s) (tables_of queued)) (tables_of queued)
+          kept = keeps_remembered (tables_of s) (tables_of finished) (tables_of raised) (tables_of queued) kept_before raise.keeps queue.keeps
 
           same_states : (tables_of finished).states ≡ (tables_of s).states
           same_states = finish.states ∙ ap (λ (x : Space). (tables_of x).states) begins
@@ -221,6 +226,14 @@ module _ (s began : Space) (g : AbstractState) (can : CanPause s g) (begins : be
 
           same_blocks : finished.limits.blocks ≡ s.limits.blocks
           same_blocks = ap (λ (x : Space). x.limits.blocks) finish.space ∙ ap (λ (x : Space). x.limits.blocks) begins
+
+          -- where no block is Chosen, nothing is remembered
+          remembered : NoneChosen (tables_of s) s.limits.blocks → SameRemembered (tables_of s) (tables_of queued)
+          remembered none =
+              let there : NoneChosen (tables_of finished) finished.limits.blocks =
+              chosen_still (tables_of s) (tables_of finished) finished.limits.blocks same_states ∙ subst (λ n. NoneChosen (tables_of s) n) (sym same_blocks) none in
+              same_both (tables_of s) (tables_of finished) (tables_of queued) (same_kept (tables_of s) (tables_of finished) kept_before)
+              (same_both (tables_of finished) (tables_of raised) (tables_of queued) (same_told (tables_of finished) (tables_of raised) (raise.remembers.idle there)) (same_kept (tables_of raised) (tables_of queued) queue.keeps))
 
           copied : CopiesPromoted (tables_of s) (tables_of queued) m g.at at' raised.report.promoted.items
           copied =
@@ -255,6 +268,7 @@ module _ (s began : Space) (g : AbstractState) (can : CanPause s g) (begins : be
             undecremented = undecremented_done;
             copies = copied;
             apart = copies_apart s finished g left.unreclaimed at' raised.report.promoted.items finish.holds finish.undecremented lives_on same_outs same_rest.0 same_rest.1 raise.onto;
+            unchosen = unchosen_still (tables_of raised) (tables_of queued) at' raised.report.promoted.items queued_states raise.unchosen;
             stay = stays;
             traced = traced_done g.moment.trace refl can.objects can.safepoint.traced;
             tells_the_end = end_told g.moment.trace (tells_done g.moment.trace refl);
@@ -265,6 +279,7 @@ module _ (s began : Space) (g : AbstractState) (can : CanPause s g) (begins : be
                 (ap (λ (x : Space). x.rest_next) queue.space ∙ ap (λ (x : Space). x.rest_next) raise.space)
                 ∙ sym (ap (λ (x : Space). x.rest_end) queue.space ∙ ap (λ (x : Space). x.rest_end) raise.space);
             keeps = kept;
+            remembered = remembered;
             states = λ b. keeps_state_still (tables_of finished) (tables_of raised) (tables_of s) (tables_of queued) b (sym same_states) queued_states (raise.states b);
             traces = traces_there g.moment.trace (traces_done g.moment.trace refl);
             space =

@@ -1,7 +1,7 @@
 -- A sweep of all blocks changes states alone: Chosen blocks stay so, no other becomes Chosen, and each block then has the state of its lines.
-use Rattle.std.proofs.Common.{◌≡◌, ◌≢◌, ℕ, ◌/◌, ◌<◌, ◌≤◌, refl, sym, ap, subst, ◌∙◌, inl, inr, ◌⊎◌, arith, Bool, true, false, cond, List, IsTrue}
-use Rattle.std.specs.Prelude.{Option, ◌==◌, ◌&&◌, nat_lt, not, if◌then◌else◌}
-use Rattle.std.proofs.lemmas.Bool.Decides.{leb_tells, nat_tests}
+use Rattle.std.proofs.Common.{◌≡◌, ◌≢◌, ℕ, ◌/◌, ◌<◌, ◌≤◌, refl, sym, ap, subst, ◌∙◌, inl, inr, ◌⊎◌, Bool, true, false, cond, List, IsTrue}
+use Rattle.std.specs.Prelude.{Option, ◌==◌}
+use Rattle.std.proofs.lemmas.Bool.Decides.{leb_tells}
 use Rattle.lxr_layout.specs.declared.Name.{Name}
 use Rattle.lxr_layout.specs.declared.TheConstants.{LINES_IN_BLOCK}
 use Rattle.lxr_graph.specs.Names.{has}
@@ -10,7 +10,7 @@ use Rattle.lxr_image.specs.Tables.{Tables}
 use Rattle.lxr_blocks.specs.declared.states.BlockState.{BlockState}
 use Rattle.lxr_blocks.specs.declared.states.BlockState.TheVariants.{Free, Partly, Whole, Chosen, World}
 use Rattle.lxr_blocks.specs.Lines.{free_count, free_in}
-use Rattle.lxr_blocks.specs.States.{KeepsState, is_fixed, state_by_lines, state_in, state_number, state_of}
+use Rattle.lxr_blocks.specs.States.{is_fixed, state_by_lines, state_in, state_of}
 use Rattle.lxr_model.specs.Moments.{Trace}
 use Rattle.lxr_sweep_lines.specs.Swept.{AreSwept, with_states_by_lines}
 use Rattle.lxr_sweep_lines.proofs.SweptLemmas.{swept_is_by_lines}
@@ -18,12 +18,11 @@ use Rattle.lxr_invariant.specs.Counting.{count_at}
 use Rattle.lxr_invariant.specs.Lines.{HasBlocks, HasMarks, HasStates, KeepLines, chosen_count, is_chosen}
 use Rattle.lxr_invariant.proofs.FrameLemmas.{chosen_same, need_same}
 use Rattle.lxr_invariant.proofs.LandingLemmas.{counted_line}
-use Rattle.lxr_run_pause.specs.Pausing.{states_swept}
 
 -- ---- states
 
 -- a state is Chosen, is World, or is neither
-which_state : (s : BlockState) → (s ≡ Chosen) ⊎ ((s ≡ World) ⊎ ((s ≢ Chosen) × (s ≢ World)))
+pub which_state : (s : BlockState) → (s ≡ Chosen) ⊎ ((s ≡ World) ⊎ ((s ≢ Chosen) × (s ≢ World)))
 which_state Free = inr (inr ((λ e. cc), (λ e. cc)))
 which_state Partly = inr (inr ((λ e. cc), (λ e. cc)))
 which_state Whole = inr (inr ((λ e. cc), (λ e. cc)))
@@ -36,7 +35,7 @@ open_state false true = ((λ e. cc), (λ e. cc))
 open_state false false = ((λ e. cc), (λ e. cc))
 
 -- the state of lines is neither
-by_lines_open : (t : Tables) (b : ℕ) → (state_by_lines t b ≢ Chosen) × (state_by_lines t b ≢ World)
+pub by_lines_open : (t : Tables) (b : ℕ) → (state_by_lines t b ≢ Chosen) × (state_by_lines t b ≢ World)
 by_lines_open t b = open_state (free_count (free_in t b) LINES_IN_BLOCK == LINES_IN_BLOCK) (free_count (free_in t b) LINES_IN_BLOCK == 0)
 
 not_chosen : (s : BlockState) → s ≢ Chosen → is_chosen s ≡ false
@@ -80,7 +79,10 @@ module _ (t : Tables) (blocks : ℕ) where
   pub as_many_chosen : chosen_count swept blocks ≡ chosen_count t blocks
   as_many_chosen = chosen_same t swept blocks same_chosen
 
-  -- what is Chosen then was so before
+  -- what is Chosen stays so, and what is Chosen then was so before
+  pub stays_chosen : (b : ℕ) → state_in t b ≡ Chosen → state_in swept b ≡ Chosen
+  stays_chosen b = are_swept.chosen b
+
   pub was_chosen : (b : ℕ) → state_in swept b ≡ Chosen → state_in t b ≡ Chosen
   was_chosen b is = elim (which_state (state_in t b)) [
     | inl c ↦ c
@@ -92,6 +94,9 @@ module _ (t : Tables) (blocks : ℕ) where
       ]
     ]
   ]
+
+  pub swept_past : (b : ℕ) → blocks ≤ b → swept.states b ≡ t.states b
+  swept_past b high = are_swept.past b high
 
   pub swept_blocks : (trace : Option Trace) → HasBlocks t blocks trace → HasBlocks swept blocks trace
   swept_blocks trace h = record {
@@ -110,35 +115,6 @@ module _ (t : Tables) (blocks : ℕ) where
       | inr other ↦ are_swept.by_lines b within other.0 other.1
     ]
   ]
-
--- ---- where blocks keep their states
-
--- the number of a block's state after a sweep that reaches it or not, from the one before
-abbrev swept_number : Tables → ℕ → Bool → ℕ → ℕ
-swept_number t b reached k = if reached && not (is_fixed (state_of k)) then state_number (state_by_lines t b) else k
-
-renewed : (t : Tables) (b k : ℕ) → is_fixed (state_of k) ≡ false → swept_number t b true k ≡ state_number (state_by_lines t b)
-renewed t b k free = ap (λ c. if not c then state_number (state_by_lines t b) else k) free
-
-module _ (t v u : Tables) (blocks : ℕ) (keeps : (b : ℕ) → KeepsState v u b) (past : (b : ℕ) → blocks ≤ b → u.states b ≡ v.states b) where
-  number_from : (b : ℕ) → states_swept t u.states blocks b ≡ states_swept t v.states blocks b
-  number_from b = elim (keeps b) [
-    | inl e ↦ ap (swept_number t b (nat_lt b blocks)) e
-    | inr free ↦ elim (leb_tells blocks b) [
-      | inl high ↦ ap (swept_number t b (nat_lt b blocks)) (past b high.1)
-      | inr low ↦
-          let within = low.1 in
-          let reached : nat_lt b blocks ≡ true = grind (arith, nat_tests) in
-          ap (λ x. swept_number t b x (u.states b)) reached
-          ∙ renewed t b (u.states b) free.1
-          ∙ sym (renewed t b (v.states b) free.0)
-          ∙ sym (ap (λ x. swept_number t b x (v.states b)) reached)
-    ]
-  ]
-
-  -- a sweep leaves the same states
-  pub states_from : states_swept t u.states blocks ≡ states_swept t v.states blocks
-  states_from i b = number_from b i
 
 -- ---- lines
 

@@ -1,13 +1,18 @@
--- What holds of a trace stays with another number, another order of stuck names, other states of blocks and another tracing word.
-use Rattle.std.proofs.Common.{◌≡◌, ℕ, ◌/◌, ◌<◌, ◌≤◌, refl, sym, subst, ◌∙◌, inl, inr, ◌⊎◌, arith, List}
+-- What holds of a trace stays with another number, another order of stuck names, other states of blocks and another tracing word; and so does
+-- what is said of mark and gray bits, whatever the order of names.
+use Rattle.std.proofs.Common.{◌≡◌, ℕ, ◌/◌, ◌<◌, ◌≤◌, refl, sym, ap, subst, ◌∙◌, inl, inr, ◌⊎◌, arith, Bool, List, IsTrue}
 use Rattle.std.specs.Prelude.{Option, Some, None}
 use Rattle.lxr_layout.specs.declared.limits.Limits.{Limits}
 use Rattle.lxr_layout.specs.declared.Name.{Name}
 use Rattle.lxr_layout.specs.declared.LogEntry.{LogEntry}
 use Rattle.lxr_layout.specs.declared.TheConstants.{GRANULES_IN_BLOCK, REMEMBERED_CURSOR}
+use Rattle.lxr_graph.specs.declared.report.Kind.{Kind}
+use Rattle.lxr_graph.specs.declared.report.Kind.TheVariants as kind
 use Rattle.lxr_graph.specs.Names.{has}
 use Rattle.lxr_graph.specs.History.{PauseReport}
+use Rattle.lxr_image.specs.declared.space.Space.{Space}
 use Rattle.lxr_image.specs.Tables.{Tables}
+use Rattle.lxr_image.specs.Spaces.{tables_of}
 use Rattle.lxr_image.specs.Reads.{granule_of}
 use Rattle.lxr_blocks.specs.declared.states.BlockState.TheVariants.{Chosen}
 use Rattle.lxr_blocks.specs.States.{state_in}
@@ -15,6 +20,9 @@ use Rattle.lxr_model.specs.Moments.{Moment, Trace}
 use Rattle.lxr_invariant.specs.AbstractState.{AbstractState}
 use Rattle.lxr_invariant.specs.Tracing.{HasOverflowed, IsRemembered, IsRememberedSoFar, IsTracedBy, MarksStayInside, SnapshotIsCovered, TraceHolds}
 use Rattle.lxr_invariant.proofs.ScanLemmas.{fewer_later}
+use Rattle.lxr_pause_decrements.proofs.WipeLemmas.{loses_same}
+use Rattle.lxr_pause_decrements.specs.Wipe.{LosesBits}
+use Rattle.lxr_run_pause.specs.Pausing.{Traces}
 use Rattle.lxr_run_pause.proofs.FrameLemmas.{renumbered}
 
 module _ (l : Limits) (t : Tables) (states cursors : ℕ → ℕ) (entries : List LogEntry) (g : AbstractState) (number : ℕ) (stuck : List Name) (running : Option Trace) (reported : PauseReport)
@@ -86,3 +94,44 @@ module _ (l : Limits) (t : Tables) (states cursors : ℕ → ℕ) (entries : Lis
   pub traced_still : (trace : Option Trace) → IsTracedBy l t entries g trace → IsTracedBy l u entries abstract_then trace
   traced_still None is = tt
   traced_still (Some trace) is = trace_still trace is
+
+-- ---- mark and gray bits, whatever the order of names
+
+module _ (s x z : Space) (g : AbstractState) (at' : Name → ℕ) (p q : PauseReport) (left : List Name) (marks : (tables_of z).marks ≡ (tables_of x).marks) (grays : (tables_of z).grays ≡ (tables_of x).grays)
+    (promoted : (n : Name) → has q.promoted n ≡ has p.promoted n) (dead : (n : Name) → has q.dead n ≡ has p.dead n) where
+  abbrev bit : (ℕ → Bool) → Name → Type 0
+  bit f n = IsTrue (f (granule_of (at' n)))
+
+  lost : (bits : Tables → ℕ → Bool) → bits (tables_of z) ≡ bits (tables_of x) → LosesBits (bits (tables_of s)) (bits (tables_of x)) at' p.dead → LosesBits (bits (tables_of s)) (bits (tables_of z)) at' q.dead
+  lost bits same is = subst (λ f. LosesBits (bits (tables_of s)) f at' q.dead) (sym same) (loses_same (bits (tables_of s)) (bits (tables_of x)) at' p.dead q.dead dead is)
+
+  pub traces_still : (k : Kind) (trace : Option Trace) → Traces k trace s x g at' p left → Traces k trace s z g at' q left
+  traces_still kind.Plain None is = record { marks = lost (λ t. t.marks) marks is.marks; grays = lost (λ t. t.grays) grays is.grays }
+  traces_still kind.Plain (Some trace) is = record {
+    marks = λ n k. (
+      λ h. elim ((is.marks n k).0 (subst (λ f. bit f n) marks h)) [ inl was ↦ inl was | inr new ↦ inr (promoted n ∙ new) ],
+      λ h. subst (λ f. bit f n) (sym marks) ((is.marks n k).1 (elim h [ inl was ↦ inl was | inr new ↦ inr (sym (promoted n) ∙ new) ])),
+    );
+    grays = λ n k. (
+      λ h. elim ((is.grays n k).0 (subst (λ f. bit f n) grays h)) [
+        | inl was ↦ inl was
+        | inr new ↦ inr (elim new [ inl r ↦ inl (r.0, dead r.0 ∙ r.1, r.2) | inr old ↦ inr old ])
+      ],
+      λ h. subst (λ f. bit f n) (sym grays) ((is.grays n k).1 (elim h [
+        | inl was ↦ inl was
+        | inr new ↦ inr (elim new [ inl r ↦ inl (r.0, sym (dead r.0) ∙ r.1, r.2) | inr old ↦ inr old ])
+      ])),
+    );
+  }
+  traces_still kind.Begin trace is = record {
+    none_marked = λ k. ap (λ f. f k) marks ∙ is.none_marked k;
+    grays = λ k. (λ h. (is.grays k).0 (sym (ap (λ f. f k) grays) ∙ h), λ h. ap (λ f. f k) grays ∙ (is.grays k).1 h);
+  }
+  traces_still (kind.End j) trace is = record {
+    marked = λ n k. subst (λ f. bit f n) (sym marks) (is.marked n k);
+    none_left = λ k h. ap (λ f. f k) marks ∙ is.none_left k (sym (ap (λ f. f k) grays) ∙ h);
+  }
+  traces_still kind.Collect trace is = record {
+    marked = λ n k. subst (λ f. bit f n) (sym marks) (is.marked n k);
+    none_left = λ k h. ap (λ f. f k) marks ∙ is.none_left k (sym (ap (λ f. f k) grays) ∙ h);
+  }

@@ -6,39 +6,40 @@ use Rattle.lxr_layout.specs.declared.Name.{Name}
 use Rattle.lxr_graph.specs.declared.report.Kind.{Kind}
 use Rattle.lxr_graph.specs.declared.report.Report.{Report}
 use Rattle.lxr_image.specs.declared.space.Space.{Space}
+use Rattle.lxr_image.specs.declared.space.Tally.{Tally}
 use Rattle.lxr_image.specs.Spaces.{IsSpace, Turns, tables_of}
 use Rattle.lxr_model.specs.Moments.{Moment, Trace}
-use Rattle.lxr_model.specs.Reports.{PauseParts, is_draining}
+use Rattle.lxr_model.specs.Reports.{is_draining}
 use Rattle.lxr_sweep_lines.specs.Swept.{with_states_by_lines}
 use Rattle.lxr_invariant.specs.AbstractState.{AbstractState}
 use Rattle.lxr_run_pause.specs.declared.Ask.{Ask}
 use Rattle.lxr_run_pause.specs.declared.Pace.{Pace}
 use Rattle.lxr_run_pause.specs.Deciding.{GraysLieInHeap, HasKind, TellsOfMarks, kind_of}
 use Rattle.lxr_run_pause.specs.Pausing.{CanPause, Pauses}
-use Rattle.lxr_run_pause.specs.Settling.{Settles, SettlesCounts, counted, settled_by}
+use Rattle.lxr_run_pause.specs.Settling.{SettlesCounts, counted, settled_by}
 use Rattle.lxr_run_pause.specs.Steps.{CanCountWhere, CountsWhere, HasDistinctNames, with_names_in_order, with_pause_counted}
 use Rattle.lxr_run_pause.specs.Tracing.{HasTraced, MayTrace}
 use Rattle.lxr_run_pause.proofs.BuildingLemmas.{now}
-use Rattle.lxr_run_pause.proofs.DecidingLemmas.{ends_where_running, grays_in_heap, has_kind}
+use Rattle.lxr_run_pause.proofs.AnyKindLemmas.{HasSettled, may_trace, settled_by_kind}
+use Rattle.lxr_run_pause.proofs.DecidingLemmas.{begins_where_none, ends_where_running, grays_in_heap, has_kind}
 use Rattle.lxr_run_pause.proofs.PausingLemmas.{can_count_sorted, pauses}
-use Rattle.lxr_run_pause.proofs.SweepingLemmas.{may_trace, settles_by_kind}
 
 module _ (s k : Space) (g : AbstractState) (can : CanPause s g) (counts : (g : AbstractState) → CanPause s g → (at' : Name → ℕ) × (gone : List Name) × SettlesCounts s k g at' gone) where
-  -- where objects stand then, and what died
-  abbrev pub at' : Name → ℕ
-  at' = (counts g can).0
+  -- where objects stand once counting is done, and what died
+  abbrev counted_at : Name → ℕ
+  counted_at = (counts g can).0
 
   abbrev gone : List Name
   gone = (counts g can).1
 
-  abbrev settled : SettlesCounts s k g at' gone
+  abbrev settled : SettlesCounts s k g counted_at gone
   settled = (counts g can).2
 
   pub space_counted : IsSpace k
   space_counted = settled.holds.space
 
   pub grays_lie : GraysLieInHeap k
-  grays_lie = grays_in_heap k (counted g.moment gone k.report) at' settled.holds
+  grays_lie = grays_in_heap k (counted g.moment gone k.report) counted_at settled.holds
 
   module _ (asked : Ask) (pace : Pace) (is : Kind)
       (decides : (trace : Option Trace) (traced : Bool) → k.trace ≡ option_map (λ (trace : Trace). trace.began) trace → TellsOfMarks (tables_of k) trace traced → is ≡ kind_of asked pace k.report.number trace traced) where
@@ -46,34 +47,38 @@ module _ (s k : Space) (g : AbstractState) (can : CanPause s g) (counts : (g : A
     decided = record k { report = record k.report { kind = is } }
 
     kind_is : HasKind (tables_of s) g.moment g.at s.logged.items asked pace is
-    kind_is = has_kind s k g asked pace can at' gone settled is decides
+    kind_is = has_kind s k g asked pace can counted_at gone settled is decides
 
     abbrev pub stands : AbstractState
-    stands = now s k g can at' gone settled is
+    stands = now s k g can counted_at gone settled is
 
     pub traces_may : MayTrace is decided stands
-    traces_may = may_trace s k g can at' gone settled k is (ends_where_running s k g asked pace can at' gone settled is decides)
+    traces_may = may_trace s k g can counted_at gone settled k is (begins_where_none s k g asked pace can counted_at gone settled is decides) (ends_where_running s k g asked pace can counted_at gone settled is decides)
 
     module _ (x : Space) (traces : (h : AbstractState) → MayTrace is decided h → HasTraced is decided x h) where
-      abbrev done : (parts : PauseParts) × Settles s x g at' parts × (x.report.kind ≡ is)
-      done = settles_by_kind s k g can at' gone settled x is traces_may (traces stands traces_may)
+      abbrev done : HasSettled s k g can counted_at gone settled x is
+      done = settled_by_kind s k g can counted_at gone settled x is traces_may (traces stands traces_may)
+
+      -- where objects stand then
+      abbrev pub at' : Name → ℕ
+      at' = done.to
 
       pub space_traced : IsSpace x
-      space_traced = done.1.holds.space
+      space_traced = done.settles.holds.space
 
-      module _ (swept : Space) (turns : Turns x swept (with_states_by_lines (tables_of x) x.limits.blocks)) (space : IsSpace swept) where
+      module _ (swept : Space) (turns : Turns x swept (with_states_by_lines (tables_of x) x.limits.blocks)) where
         pub names_once : HasDistinctNames swept.report
-        names_once = subst HasDistinctNames (sym (ap (λ (y : Space). y.report) turns.rest)) done.1.tells.distinct
+        names_once = subst HasDistinctNames (sym (ap (λ (y : Space). y.report) turns.rest)) done.settles.tells.distinct
 
         module _ (report : Report) (orders : report ≡ with_names_in_order swept.report) where
           abbrev pub leads : Moment
-          leads = settled_by g.moment done.0 x.report
+          leads = settled_by g.moment done.parts x.report
 
           abbrev sorted : Space
           sorted = record swept { report = report }
 
           pub may_count : CanCountWhere (is_draining is) sorted leads at'
-          may_count = can_count_sorted s x swept report g asked pace can at' done.0 done.1 is done.2 kind_is turns space orders
+          may_count = can_count_sorted s x swept report g asked pace can at' done.parts done.moved done.kept done.settles is done.kind_is kind_is turns orders
 
           module _ (z : Space) (counts_afresh : (m : Moment) (at : Name → ℕ) → CanCountWhere (is_draining is) sorted m at → CountsWhere (is_draining is) sorted z m) where
             told : CountsWhere (is_draining is) sorted z leads
@@ -88,7 +93,7 @@ module _ (s k : Space) (g : AbstractState) (can : CanPause s g) (counts : (g : A
             few_pauses =
                 let a = numbers_by (λ (y : Space). y.pauses) (is_draining is) (λ y r i. y.pauses) told in
                 let b = ap (λ (y : Space). y.pauses) turns.rest in
-                let c = ap (λ (y : Space). y.pauses) done.1.space in
+                let c = ap (λ (y : Space). y.pauses) done.settles.space in
                 let few = can.counted.0 in
                 omega (arith, a, b, c, few)
 
@@ -96,9 +101,9 @@ module _ (s k : Space) (g : AbstractState) (can : CanPause s g) (counts : (g : A
             few_tallied =
                 let a = numbers_by (λ (y : Space). y.tally.pauses) (is_draining is) (λ y r i. y.tally.pauses) told in
                 let b = ap (λ (y : Space). y.tally.pauses) turns.rest in
-                let c = ap (λ (y : Space). y.tally.pauses) done.1.space in
+                let c = ap (λ (t : Tally). t.pauses) done.settles.tally in
                 let few = can.counted.1 in
                 omega (arith, a, b, c, few)
 
             pub pause_made : (ended : Space) → ended ≡ with_pause_counted z → Pauses s ended g at' asked pace
-            pause_made ended ends = pauses s x swept report g asked pace can at' done.0 done.1 is done.2 kind_is turns space orders z ended told ends
+            pause_made ended ends = pauses s x swept report g asked pace can at' done.parts done.moved done.kept done.settles is done.kind_is kind_is turns orders z ended told ends

@@ -4,3 +4,4 @@ pub mod Pausing
 pub mod Settling
 pub mod Tracing
 pub mod Opened
+pub mod Relocating

@@ -1,5 +1,5 @@
 -- What one pause does.
-use Rattle.std.specs.Prelude.{◌≡◌, ◌≢◌, ℕ, ◌+◌, ◌/◌, ◌^◌, ◌<◌, ◌↔◌, ◌⊎◌, ⊤, Bool, true, Option, Some, None, List, ◌++◌, IsTrue, false}
+use Rattle.std.specs.Prelude.{◌≡◌, ◌≢◌, ℕ, ◌+◌, ◌/◌, ◌^◌, ◌<◌, ◌≤◌, ◌↔◌, ◌⊎◌, ⊤, Bool, true, Option, Some, None, List, [], ◌++◌, IsTrue, false, length}
 use Rattle.lxr_layout.specs.declared.Name.{Name}
 use Rattle.lxr_layout.specs.declared.TheConstants.{DECREMENT_COUNT, DECREMENT_CURSOR, GRANULES_IN_LINE, REMEMBERED_CURSOR, TRACING_WORD}
 use Rattle.lxr_graph.specs.declared.report.Kind.{Kind}
@@ -15,9 +15,8 @@ use Rattle.lxr_model.specs.Dead.{Dead}
 use Rattle.lxr_model.specs.Moments.{Moment, Trace}
 use Rattle.lxr_model.specs.Reachable.{Refers}
 use Rattle.lxr_model.specs.Reports.{IsReport, is_draining}
-use Rattle.lxr_sweep_lines.specs.Swept.{with_states_by_lines}
 use Rattle.lxr_invariant.specs.AbstractState.{AbstractState, paused}
-use Rattle.lxr_invariant.specs.Copied.{CopiesLieApart, CopiesPromoted, StayForWantOfLines}
+use Rattle.lxr_invariant.specs.Copied.{CopiesLieApart, HasCopy, StayForWantOfLines}
 use Rattle.lxr_invariant.specs.Lines.{Covers, NoneChosen}
 use Rattle.lxr_invariant.specs.Quiescent.{IsAtSafepoint, IsQuiescent}
 use Rattle.lxr_invariant.specs.Tracing.{IsGray, IsMarked, IsOldValue, IsRoot}
@@ -26,6 +25,7 @@ use Rattle.lxr_pause_trace.specs.Laws.{AllGrayAreMarked, HadObjects, KeepsObject
 use Rattle.lxr_run_pause.specs.declared.Ask.{Ask}
 use Rattle.lxr_run_pause.specs.declared.Pace.{Pace}
 use Rattle.lxr_run_pause.specs.Deciding.{HasKind}
+use Rattle.lxr_run_pause.specs.Relocating.{ChoosesBlocks, Evacuates, Relocates}
 
 -- nothing has left the graph since a trace that runs began, and what was unreclaimed then had its object
 abbrev pub KeepsObjects : Moment → Option Trace → Type 0
@@ -33,25 +33,32 @@ KeepsObjects m None = ⊤
 KeepsObjects m (Some trace) = KeepsObjectsOf trace m × HadObjects trace
 
 -- A pause may be made: the space is at a safepoint, whatever decrementers and tracers have done since the last pause, the graph has
--- grown alone since a trace that runs began, no block is Chosen, nothing is remembered, and pauses can still be counted.
+-- grown alone since a trace that runs began, and pauses and what is moved can still be counted.
 pub record CanPause (s : Space) (g : AbstractState) : Type 0 where
   pub safepoint : IsAtSafepoint s g
   pub objects : KeepsObjects g.moment g.moment.trace
-  pub none_chosen : NoneChosen (tables_of s) s.limits.blocks
-  pub none_remembered : (tables_of s).cursors REMEMBERED_CURSOR ≡ 0
   pub counted : (s.pauses + 1 < 2 ^ 32) × (s.tally.pauses < 2 ^ 63)
+  pub evacuated : (s.tally.moved < 2 ^ 63) × (s.tally.kept < 2 ^ 63)
 
--- the states that a sweep gives blocks of these states, where the lines are free that these tables tell
-abbrev pub states_swept : Tables → (ℕ → ℕ) → ℕ → ℕ → ℕ
-states_swept t states blocks = (with_states_by_lines (record t { states = states }) blocks).states
-
--- The lists of runs and of free blocks and the remembered entries stay, and so do all cursors but the tracing word and those of the list
--- of decrements.
+-- The lists of runs and of free blocks stay, and so do all cursors but the tracing word, the remembered cursor and those of the list of
+-- decrements.
 pub record KeepsThroughPause (t u : Tables) : Type 0 where
   pub runs : u.runs ≡ t.runs
   pub frees : u.frees ≡ t.frees
-  pub remembered : u.remembered ≡ t.remembered
-  pub cursors : (k : ℕ) → k ≢ DECREMENT_CURSOR → k ≢ DECREMENT_COUNT → k ≢ TRACING_WORD → u.cursors k ≡ t.cursors k
+  pub cursors : (k : ℕ) → k ≢ DECREMENT_CURSOR → k ≢ DECREMENT_COUNT → k ≢ REMEMBERED_CURSOR → k ≢ TRACING_WORD → u.cursors k ≡ t.cursors k
+
+-- the remembered set is that of other tables
+pub record SameRemembered (t u : Tables) : Type 0 where
+  pub entries : u.remembered ≡ t.remembered
+  pub cursor : u.cursors REMEMBERED_CURSOR ≡ t.cursors REMEMBERED_CURSOR
+
+-- A pause that begins a trace clears the remembered set. Any other leaves it where no block is Chosen; where some are, what holds of a
+-- trace says what is remembered.
+abbrev pub LeavesRemembered : Kind → Tables → Tables → ℕ → Type 0
+LeavesRemembered kind.Plain t u blocks = NoneChosen t blocks → SameRemembered t u
+LeavesRemembered kind.Begin t u blocks = u.cursors REMEMBERED_CURSOR ≡ 0
+LeavesRemembered (kind.End j) t u blocks = NoneChosen t blocks → SameRemembered t u
+LeavesRemembered kind.Collect t u blocks = NoneChosen t blocks → SameRemembered t u
 
 -- A trace goes on: what is left is marked where it was, or was promoted; and gray where it was, where one of the dead referred to it, and
 -- where it was an old value of a log.
@@ -93,26 +100,31 @@ abbrev pub IsLetGo : AbstractState → (Name → ℕ) → PauseReport → ℕ �
 IsLetGo g at' r line = (n : Name) × (o : Object) × (k : ℕ) × IsTrue (has (r.dead ++ r.swept) n) × ¬ Dead g.moment.last g.moment.unreclaimed g.moment.stuck n
     × Covers g.moment.state.graph at' n o k × (k / GRANULES_IN_LINE ≡ line)
 
--- A pause was made: its kind is that of the rules, its report is that of the moment, it is between epochs after it with promoted objects
--- at their new places and all others where they were, and the pause is counted. Promoted objects are copied where lines fit them, apart from
--- what lives on, and registers hold their new places. Lists stay, each block that is neither Chosen nor World has the state of its lines,
--- and the other blocks have the state that they had. No line is out, nothing is left of the lines that a pause placed on, and where the
--- pause drained, no decrement waits. Nothing else has changed, but that the tracing word tells whether a trace runs, and mark and gray bits
--- are those that the kind asks for, gray bits after a trace but for this, that what is gray is marked.
+-- A pause was made: its kind is that of the rules, its report is that of the moment, it is between epochs after it with promoted objects and
+-- those that were moved out of Chosen blocks at their new places and all others where they were, and the pause is counted, with what it moved
+-- and kept. Registers hold the new places. Blocks are chosen and released by its kind, and each that is neither Chosen nor World has the state
+-- of its lines. A line is out only where it has a moved object, nothing is left of the lines that a pause placed on but of those of moved
+-- objects, and where the pause drained, no decrement waits. Nothing else has changed, but that the tracing word tells whether a trace runs, and
+-- mark and gray bits are those that the kind asks for, gray bits after a trace but for this, that what is gray is marked.
 pub record Pauses (before after : Space) (g : AbstractState) (at' : Name → ℕ) (asked : Ask) (pace : Pace) : Type 0 where
   pub kind : HasKind (tables_of before) g.moment g.at before.logged.items asked pace after.report.kind
   pub reports : IsReport g.moment (report_of after.report)
   pub between : IsQuiescent after (paused g at' (report_of after.report))
-  pub tally : after.tally ≡ record before.tally { pauses = before.tally.pauses + 1 }
-  pub copies : CopiesPromoted (tables_of before) (tables_of after) g.moment g.at at' after.report.promoted.items
+  -- what was moved out of Chosen blocks, and what was kept there
+  pub moved : List Name
+  pub kept : List Name
+  pub evacuates : Evacuates before after g at' (paused g at' (report_of after.report)).moment.unreclaimed moved kept
+  pub tally : after.tally ≡ record before.tally { pauses = before.tally.pauses + 1; moved = before.tally.moved + length moved; kept = before.tally.kept + length kept }
+  pub relocates : Relocates before after g at' (paused g at' (report_of after.report)).moment.unreclaimed after.report.promoted.items moved
   pub apart : CopiesLieApart before g at' after.report.promoted.items
   pub stay : StayForWantOfLines (tables_of before) (tables_of after) before.limits.blocks g.moment g.at at' after.report.promoted.items (IsLetGo g at' (report_of after.report))
   pub keeps : KeepsThroughPause (tables_of before) (tables_of after)
+  pub remembered : LeavesRemembered after.report.kind (tables_of before) (tables_of after) before.limits.blocks
   pub drained : IsDrained after (is_draining after.report.kind)
-  pub none_out : (line : ℕ) → (tables_of after).outs line ≡ false
-  pub no_rest : after.rest_next ≡ after.rest_end
-  pub none_chosen : NoneChosen (tables_of after) before.limits.blocks
-  pub states : (tables_of after).states ≡ states_swept (tables_of after) (tables_of before).states before.limits.blocks
+  pub outs : (line : ℕ) → IsTrue ((tables_of after).outs line) ↔ HasCopy g.moment.state.graph g.at at' moved line
+  pub no_rest : moved ≡ [] → after.rest_next ≡ after.rest_end
+  pub chosen : ChoosesBlocks after.report.kind (tables_of before) (tables_of after) before.limits.blocks
+  pub beyond : (b : ℕ) → before.limits.blocks ≤ b → (tables_of after).states b ≡ (tables_of before).states b
   pub traces : Traces after.report.kind g.moment.trace before after g at' (report_of after.report) (paused g at' (report_of after.report)).moment.unreclaimed
   pub space : after ≡ record before {
     words = after.words;

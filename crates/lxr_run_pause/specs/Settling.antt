@@ -19,13 +19,16 @@ use Rattle.lxr_model.specs.Reports.{PauseParts, is_draining}
 use Rattle.lxr_model_counting.specs.Garbage.{IsGarbageOf}
 use Rattle.lxr_invariant.specs.AbstractState.{AbstractState, leaving}
 use Rattle.lxr_invariant.specs.Counting.{IsUndecremented}
-use Rattle.lxr_invariant.specs.Copied.{CopiesLieApart, CopiesPromoted, StayForWantOfLines, standing}
+use Rattle.lxr_invariant.specs.Copied.{CopiesLieApart, CopiesPromoted, HasCopy, StayForWantOfLines, standing}
 use Rattle.lxr_invariant.specs.Keeping.{KeepsLists}
+use Rattle.lxr_invariant.specs.Lines.{AvoidChosen, NoneChosen}
 use Rattle.lxr_invariant.specs.Quiescent.{HoldsMoment}
 use Rattle.lxr_invariant.specs.Raised.{AreRaised, settled, with_promoted}
 use Rattle.lxr_invariant.specs.Tracing.{IsTracedBy}
+use Rattle.lxr_remset.specs.Remembering.{with_remembered_of}
 use Rattle.lxr_pause_trace.specs.Laws.{AllGrayAreMarked, NothingIsLeft, at_moment}
-use Rattle.lxr_run_pause.specs.Pausing.{IsDrained, IsLetGo, KeepsThroughPause, Traces}
+use Rattle.lxr_run_pause.specs.Pausing.{IsDrained, IsLetGo, KeepsThroughPause, LeavesRemembered, SameRemembered, Traces}
+use Rattle.lxr_run_pause.specs.Relocating.{ChoosesBlocks, Evacuates, Relocates}
 use Rattle.lxr_run_pause.specs.Steps.{HasDistinctNames}
 
 -- ---- counting
@@ -54,15 +57,17 @@ TellsTheEnd before after g gone None = ⊤
 TellsTheEnd before after g gone (Some trace) = AllGrayAreMarked (tables_of after) ↔ NothingIsLeft (tables_of before) g.moment g.at before.logged.items gone
 
 -- Counting is done: the report tells what died, was promoted and became stuck, and the space holds the moment that it leads to. A trace
--- that runs goes on. Promoted objects are copied where lines fit them, apart from what lives on, and registers hold their new places. No
--- line is out, and nothing is left of the lines that a pause placed on. Lists stay, and no block has become Chosen or World or ceased to be
--- so. Nothing else has changed, but that the list of decrements is that of the next pause.
+-- that runs goes on. Promoted objects are copied where lines fit them, apart from what lives on and out of Chosen blocks, and registers hold
+-- their new places. No line is out, and nothing is left of the lines that a pause placed on. Lists stay but for what is remembered, which
+-- does so too where no block is Chosen; and no block has become Chosen or World or ceased to be so. Nothing else has changed, but that the
+-- list of decrements is that of the next pause.
 pub record SettlesCounts (before after : Space) (g : AbstractState) (at' : Name → ℕ) (gone : List Name) : Type 0 where
   pub tells : TellsCounts after.report g.moment gone
   pub holds : HoldsMoment after (counted g.moment gone after.report) at'
   pub undecremented : IsUndecremented (tables_of after) (counted g.moment gone after.report) at'
   pub copies : CopiesPromoted (tables_of before) (tables_of after) g.moment g.at at' after.report.promoted.items
   pub apart : CopiesLieApart before g at' after.report.promoted.items
+  pub unchosen : AvoidChosen (tables_of after) at' after.report.promoted.items
   pub stay : StayForWantOfLines (tables_of before) (tables_of after) before.limits.blocks g.moment g.at at' after.report.promoted.items (λ line. ⊥)
   pub traced : IsTracedBy after.limits (tables_of after) [] (at_moment (standing g at') (counted g.moment gone after.report)) (counted g.moment gone after.report).trace
   pub tells_the_end : TellsTheEnd before after g gone g.moment.trace
@@ -70,7 +75,8 @@ pub record SettlesCounts (before after : Space) (g : AbstractState) (at' : Name 
   pub no_logs : after.logged.items ≡ []
   pub none_out : (line : ℕ) → (tables_of after).outs line ≡ false
   pub no_rest : after.rest_next ≡ after.rest_end
-  pub keeps : KeepsLists (tables_of before) (tables_of after)
+  pub keeps : KeepsLists (with_remembered_of (tables_of before) (tables_of after)) (tables_of after)
+  pub remembered : NoneChosen (tables_of before) before.limits.blocks → SameRemembered (tables_of before) (tables_of after)
   pub states : (b : ℕ) → KeepsState (tables_of before) (tables_of after) b
   pub traces : Traces kind.Plain g.moment.trace before after g at' (report_of after.report) (counted g.moment gone after.report).unreclaimed
   pub space : after ≡ record before {
@@ -151,25 +157,29 @@ pub record Tells (r : Report) (parts : PauseParts) (m : Moment) : Type 0 where
   pub counts : r.counts.items ≡ []
 
 -- Counting and tracing are done: the report tells what died and was promoted, stuck and swept, and the space holds the moment that it
--- leads to. Promoted objects are copied where lines fit them, apart from what lives on, and registers hold their new places. Lists stay,
--- and no block has become Chosen or World or ceased to be so. Nothing else has changed, but that the list of decrements is that of the next
--- pause, the tracing word tells whether a trace runs, and mark and gray bits are those that the kind asks for.
-pub record Settles (before after : Space) (g : AbstractState) (at' : Name → ℕ) (parts : PauseParts) : Type 0 where
+-- leads to. Promoted objects are copied where lines fit them, apart from what lives on, those that stood in Chosen blocks as a trace ended are
+-- moved out of them, and registers hold the new places. Lists stay, and blocks are chosen and released by the kind. A line is out where it has a
+-- moved object. Nothing else has changed, but that the list of decrements is that of the next pause, the remembered set and mark and gray bits
+-- are those that the kind asks for, the tracing word tells whether a trace runs, and what was moved and kept is counted.
+pub record Settles (before after : Space) (g : AbstractState) (at' : Name → ℕ) (parts : PauseParts) (moved kept : List Name) : Type 0 where
   pub tells : Tells after.report parts g.moment
   pub holds : HoldsMoment after (settled_by g.moment parts after.report) at'
   pub undecremented : IsUndecremented (tables_of after) (settled_by g.moment parts after.report) at'
-  pub copies : CopiesPromoted (tables_of before) (tables_of after) g.moment g.at at' after.report.promoted.items
+  pub evacuates : Evacuates before after g at' (settled_by g.moment parts after.report).unreclaimed moved kept
+  pub relocates : Relocates before after g at' (settled_by g.moment parts after.report).unreclaimed after.report.promoted.items moved
   pub apart : CopiesLieApart before g at' after.report.promoted.items
   pub stay : StayForWantOfLines (tables_of before) (tables_of after) before.limits.blocks g.moment g.at at' after.report.promoted.items (IsLetGo g at' (report_of after.report))
   pub traced : IsTracedBy after.limits (tables_of after) [] (at_moment (standing g at') (settled_by g.moment parts after.report)) (settled_by g.moment parts after.report).trace
   pub trace : after.trace ≡ option_map (λ (trace : Trace). trace.began) (settled_by g.moment parts after.report).trace
   pub drained : IsDrained after (is_draining after.report.kind)
   pub no_logs : after.logged.items ≡ []
-  pub none_out : (line : ℕ) → (tables_of after).outs line ≡ false
-  pub no_rest : after.rest_next ≡ after.rest_end
+  pub outs : (line : ℕ) → IsTrue ((tables_of after).outs line) ↔ HasCopy g.moment.state.graph g.at at' moved line
+  pub no_rest : moved ≡ [] → after.rest_next ≡ after.rest_end
   pub keeps : KeepsThroughPause (tables_of before) (tables_of after)
-  pub states : (b : ℕ) → KeepsState (tables_of before) (tables_of after) b
+  pub remembered : LeavesRemembered after.report.kind (tables_of before) (tables_of after) before.limits.blocks
+  pub chosen : ChoosesBlocks after.report.kind (tables_of before) (tables_of after) before.limits.blocks
   pub traces : Traces after.report.kind g.moment.trace before after g at' (report_of after.report) (settled_by g.moment parts after.report).unreclaimed
+  pub tally : after.tally ≡ record before.tally { moved = before.tally.moved + length moved; kept = before.tally.kept + length kept }
   pub space : after ≡ record before {
     words = after.words;
     registers = record before.registers { items = after.registers.items };
@@ -178,5 +188,6 @@ pub record Settles (before after : Space) (g : AbstractState) (at' : Name → �
     report = after.report;
     rest_next = after.rest_next;
     rest_end = after.rest_end;
+    tally = after.tally;
     trace = after.trace;
   }

@@ -8,6 +8,7 @@ use Rattle.lxr_graph.specs.Names.{union}
 use Rattle.lxr_image.specs.declared.space.Space.{Space}
 use Rattle.lxr_graph.specs.Distinct.{IsDistinct}
 use Rattle.lxr_model.specs.Moments.{Moment}
+use Rattle.lxr_evac_moving.specs.declared.evacuating.Evacuated.{Evacuated}
 use Rattle.lxr_pause_count.specs.Counting.{CanCount, CountsUnreclaimed}
 
 -- a report of a plain pause of this number, in which nothing is reported yet
@@ -49,6 +50,10 @@ with_names_in_order r = record r {
 -- the space once its pause is counted
 abbrev pub with_pause_counted : Space → Space
 with_pause_counted s = record s { pauses = s.pauses + 1; tally = record s.tally { pauses = s.tally.pauses + 1 } }
+
+-- the space once what evacuation moved and kept is counted
+abbrev pub with_evacuated : Space → Evacuated → Space
+with_evacuated s evacuated = record s { tally = record s.tally { moved = s.tally.moved + evacuated.moved; kept = s.tally.kept + evacuated.kept } }
 
 -- where a pause drained, unreclaimed objects may be counted; else nothing is asked
 abbrev pub CanCountWhere : Bool → Space → Moment → (Name → ℕ) → Type 0

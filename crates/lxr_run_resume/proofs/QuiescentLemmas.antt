@@ -4,7 +4,6 @@ use Rattle.std.specs.Prelude.{Option, Some, None}
 use Rattle.lxr_layout.specs.declared.limits.Limits.{Limits}
 use Rattle.lxr_layout.specs.declared.LogEntry.{LogEntry}
 use Rattle.lxr_layout.specs.declared.Name.{Name}
-use Rattle.lxr_layout.specs.declared.TheConstants.{REMEMBERED_CURSOR}
 use Rattle.lxr_graph.specs.History.{report_of}
 use Rattle.lxr_image.specs.declared.space.Space.{Space}
 use Rattle.lxr_image.specs.Tables.{Tables}
@@ -13,10 +12,9 @@ use Rattle.lxr_blocks.specs.Listing.{TurnsWithRest, with_lists}
 use Rattle.lxr_model.specs.Moments.{Moment, Trace}
 use Rattle.lxr_invariant.specs.AbstractState.{AbstractState, members}
 use Rattle.lxr_invariant.specs.Counting.{IsUndecremented}
-use Rattle.lxr_invariant.specs.Lines.{HasStates, KeepLines, NoneChosen, OutsAreTaken}
+use Rattle.lxr_invariant.specs.Lines.{HasStates, KeepLines, OutsAreTaken}
 use Rattle.lxr_invariant.specs.Tracing.{IsCovered, IsTracedBy, IsToBeScanned, StaysGarbage, TraceHolds}
 use Rattle.lxr_invariant.specs.Quiescent.{HoldsMoment, IsAtSafepoint, IsQuiescent}
-use Rattle.lxr_invariant.proofs.BlockLemmas.{none_kept}
 use Rattle.lxr_invariant.proofs.FrameLemmas.{AgreeOnMoments, holds_still, undecremented_still}
 
 -- ---- the trace that runs
@@ -136,12 +134,3 @@ module _ (s after : Space) (runs frees : List ℕ) (lists : TurnsWithRest s afte
     outs = outs_later g is.outs;
     states = subst (λ l. HasStates (tables_of after) l.blocks) (sym limits) (subst (λ t. HasStates t s.limits.blocks) (sym lists.tables) is.states);
   }
-
-  -- no block is Chosen where none was
-  pub unchosen_later : NoneChosen (tables_of s) s.limits.blocks → NoneChosen (tables_of after) after.limits.blocks
-  unchosen_later none = subst (λ t. NoneChosen t after.limits.blocks) (sym lists.tables)
-      (subst (λ (l : Limits). NoneChosen listed l.blocks) (sym limits) (none_kept (tables_of s) listed s.limits.blocks (λ b. inl refl) none))
-
-  -- as many entries are remembered as before
-  pub remembered_later : (tables_of after).cursors REMEMBERED_CURSOR ≡ (tables_of s).cursors REMEMBERED_CURSOR
-  remembered_later = ap (λ (t : Tables). t.cursors REMEMBERED_CURSOR) lists.tables

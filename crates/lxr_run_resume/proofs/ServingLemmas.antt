@@ -1,19 +1,18 @@
 -- A space that is between epochs is so once an object is made for a thread.
-use Rattle.std.proofs.Common.{◌≡◌, ◌≢◌, ℕ, ◌+◌, ◌-◌, ◌*◌, ◌/◌, ◌^◌, ◌<◌, ◌≤◌, refl, sym, ap, subst, ◌∙◌, inl, inr, arith, Bool, List, [], ◌∷◌, length, map}
+use Rattle.std.proofs.Common.{◌≡◌, ◌≢◌, ℕ, ◌+◌, ◌-◌, ◌*◌, ◌/◌, ◌^◌, ◌<◌, ◌≤◌, ◌⊎◌, refl, sym, ap, subst, ◌∙◌, inl, inr, arith, false, List, [], ◌∷◌, length, map}
 use Rattle.std.specs.Prelude.{Some, IsTrue, slice_set}
 use Rattle.std.specs.List.Sorted.{IsPermutation}
 use Rattle.std.proofs.lemmas.List.{length-map, length-set}
 use Rattle.std.proofs.lemmas.Bool.{or_left, or_right}
-use Rattle.lxr_layout.specs.declared.limits.Limits.{Limits}
 use Rattle.lxr_layout.specs.declared.LogEntry.{LogEntry}
 use Rattle.lxr_layout.specs.declared.Name.{Name}
 use Rattle.lxr_layout.specs.declared.Place.{Place}
 use Rattle.lxr_layout.specs.declared.Shape.{Shape}
-use Rattle.lxr_layout.specs.declared.TheConstants.{GRANULES_IN_BLOCK, GRANULES_IN_LINE, LINES_IN_BLOCK, REMEMBERED_CURSOR, STUCK}
-use Rattle.lxr_layout.specs.Objects.{FitsShape, word_count}
+use Rattle.lxr_layout.specs.declared.TheConstants.{GRANULES_IN_BLOCK, GRANULES_IN_LINE, LINES_IN_BLOCK, STUCK}
+use Rattle.lxr_layout.specs.Objects.{FitsShape}
 use Rattle.lxr_graph.specs.declared.Op.TheVariants as op
 use Rattle.lxr_graph.specs.declared.Reply.TheVariants as reply
-use Rattle.lxr_graph.specs.State.{Graph, refs_of, register_index, world_name}
+use Rattle.lxr_graph.specs.State.{Graph, Object, refs_of, register_index, world_name}
 use Rattle.lxr_graph.specs.Step.{fresh}
 use Rattle.lxr_graph.specs.Names.{has, same_name}
 use Rattle.lxr_graph.proofs.NameSets.{insert_cases, not_both, same_itself}
@@ -26,11 +25,12 @@ use Rattle.lxr_image.specs.ImageLaws.{placed}
 use Rattle.lxr_image.proofs.ImageLemmas.{places_still, register_keeps_places}
 use Rattle.lxr_image.proofs.NewLemmas.{new_keeps_image}
 use Rattle.lxr_blocks.specs.declared.states.BlockState.TheVariants.{Chosen}
-use Rattle.lxr_blocks.specs.States.{KeepsState, state_in}
+use Rattle.lxr_blocks.specs.Lines.{is_free}
+use Rattle.lxr_blocks.specs.Kept.{IsAmong, IsPlacedBeside}
+use Rattle.lxr_blocks.specs.States.{state_in}
 use Rattle.lxr_blocks.specs.Handing.{handed_out}
-use Rattle.lxr_blocks.proofs.HandedLemmas.{handing_keeps_states}
 use Rattle.lxr_blocks.specs.Listing.{TurnsWithRest}
-use Rattle.lxr_blocks.specs.Placing.{HasRest, IsFull, IsPlaced, IsRest, first_granule, granule_count, with_object}
+use Rattle.lxr_blocks.specs.Placing.{IsFull, IsPlaced, IsRest, first_granule, granule_count, with_object}
 use Rattle.lxr_model.specs.Reachable.{held, the_world}
 use Rattle.lxr_model.specs.Moments.{Field, Moment, after_call}
 use Rattle.lxr_model.specs.References.{references}
@@ -39,16 +39,15 @@ use Rattle.lxr_model_counting.proofs.FollowingLemmas.{call_follows}
 use Rattle.lxr_invariant.specs.AbstractState.{AbstractState, members}
 use Rattle.lxr_invariant.specs.Standing.{HasBits, entry_of}
 use Rattle.lxr_invariant.specs.Counting.{HasCounts, HasDecrements, IsUndecremented, undone, waiting_at}
-use Rattle.lxr_invariant.specs.Lines.{AvoidChosen, HasBlocks, HasMarks, HasStates, KeepLines, LinesAreOut, NoneChosen, OutsAreTaken}
+use Rattle.lxr_invariant.specs.Lines.{AvoidChosen, Covers, HasBlocks, HasMarks, HasStates, KeepLines, KeepsRest, LinesAreOut, OutsAreTaken}
 use Rattle.lxr_invariant.specs.Tracing.{IsTracedBy}
 use Rattle.lxr_invariant.specs.Quiescent.{HoldsMoment, IsQuiescent}
 use Rattle.lxr_invariant.proofs.NameLemmas.{in_first, in_second, live_member}
 use Rattle.lxr_invariant.proofs.FrameLemmas.{rest_still}
-use Rattle.lxr_invariant.proofs.BlockLemmas.{blocks_kept, none_kept, still_not}
+use Rattle.lxr_invariant.proofs.BlockLemmas.{blocks_kept, still_not}
 use Rattle.lxr_invariant.proofs.MemberLemmas.{member_refers, undone_all}
 use Rattle.lxr_run_resume.specs.Serving.{IsServable, IsServed, IsServedFrom}
-use Rattle.lxr_run_resume.proofs.PlacingLemmas.{Makes, line_back, made_in_rest, made_on_run, some_granule, with_placed}
-use Rattle.lxr_run_resume.proofs.StateLemmas.{handed_states, out_taken, still_taken}
+use Rattle.lxr_run_resume.proofs.PlacingLemmas.{IsTakenIn, counter_stays, has_room, placed_apart, placed_states}
 use Rattle.lxr_run_resume.proofs.NewLemmas.{IsBeside, covers_after, covers_before, graph_then, is_beside, moment_then, new_name, own_covers, placed_here, places_then, size_fresh}
 use Rattle.lxr_run_resume.proofs.TraceLemmas.{traced_served}
 
@@ -64,22 +63,26 @@ none_logged m k at to ws entries none is = subst (λ es. IsPermutation es entrie
 abbrev pub with_rest : Space → List ℕ → List Place → ℕ → ℕ → Space
 with_rest s words places next end = record s { words = words; registers = record s.registers { items = places }; rest_next = next; rest_end = end }
 
--- a line of an object lies in the object's block
-block_of_line : (a c line : ℕ) → a / GRANULES_IN_BLOCK ≡ (a + c - 1) / GRANULES_IN_BLOCK → a ≤ GRANULES_IN_LINE * line → GRANULES_IN_LINE * line < a + c → a / GRANULES_IN_BLOCK ≡ line / LINES_IN_BLOCK
-block_of_line a c line same low high = omega arith
+-- a line of which an object has a granule lies in the object's block
+block_of_line : (a c k line : ℕ) → a / GRANULES_IN_BLOCK ≡ (a + c - 1) / GRANULES_IN_BLOCK → a ≤ k → k < a + c → k / GRANULES_IN_LINE ≡ line → a / GRANULES_IN_BLOCK ≡ line / LINES_IN_BLOCK
+block_of_line a c k line same low high of_line = omega arith
 
--- what lies before a number lies before a later one
-below_next : (a b c : ℕ) → a < b → b ≤ c → a < c
-below_next a b c h k = omega arith
+-- the tables with the heap, the lines that are out, the reuse counters and the states of blocks that another space has
+abbrev with_placed : Tables → Space → Tables
+with_placed t after = record t { heap = (tables_of after).heap; outs = (tables_of after).outs; reuse = (tables_of after).reuse; states = (tables_of after).states }
 
--- An object is made for a thread at a place of a space that is between epochs, where no block is Chosen; `makes` says what has
--- changed in the tables.
-module _ (space : Space) (g : AbstractState) (thread dest p next end : ℕ) (shape : Shape) (heap : ℕ → ℕ) (outs : ℕ → Bool) (reuse states : ℕ → ℕ) (is : IsQuiescent space g) (none : NoneChosen (tables_of space) space.limits.blocks)
-    (row : thread < length g.moment.state.graph) (fits : FitsShape shape) (name : IsName (new_name g thread)) (follows : FollowsPause (moment_then g thread dest shape))
-    (makes : Makes (tables_of space) (with_placed (tables_of space) heap outs reuse states) space.limits.blocks next end g.at g.moment.state.graph (members g.moment) p (new_name g thread) shape)
-    (by_lines : HasStates (with_placed (tables_of space) heap outs reuse states) space.limits.blocks) where
+-- An object is made for a thread at a place of a space that is between epochs, beside all that stands there.
+module _ (space after : Space) (g : AbstractState) (thread dest : ℕ) (place : Place) (shape : Shape) (is : IsQuiescent space g) (row : thread < length g.moment.state.graph) (fits : FitsShape shape) (name : IsName (new_name g thread))
+    (follows : FollowsPause (moment_then g thread dest shape)) (placed : IsPlacedBeside space after (IsTakenIn g) (new_name g thread) shape place) (by_lines : HasStates (tables_of after) space.limits.blocks) where
+  abbrev p : ℕ
+  p = place.0
+
+  -- the tables then: those of the space after it, which has no other tables changed
   abbrev tables : Tables
-  tables = with_placed (tables_of space) heap outs reuse states
+  tables = with_placed (tables_of space) after
+
+  same : tables_in space.limits after.words ≡ tables
+  same = ap tables_of (sym placed.space) ∙ placed.tables
 
   abbrev then : Moment
   then = moment_then g thread dest shape
@@ -96,19 +99,27 @@ module _ (space : Space) (g : AbstractState) (thread dest p next end : ℕ) (sha
   before : (q : Name) → IsTrue (has g.moment.made q) → IsTrue (has (members g.moment) q)
   before q h = in_second g.moment.unreclaimed g.moment.made q h
 
+  -- a granule of the new object is one of those that it was placed on
+  own_among : (m : Name) (o : Object) (k : ℕ) → m ≡ new_name g thread → Covers (graph_then g thread shape) (places_then g thread p) m o k → IsAmong (granule_of p) (granule_count shape) k
+  own_among m o k e covers = own_covers g thread dest p shape m o k beside e covers
+
   -- each line of an object made since the last pause is out
   lines_out : LinesAreOut tables (graph_then g thread shape) (places_then g thread p) then.made
   lines_out m o k member covers = elim (insert_cases (new_name g thread) g.moment.made m member) [
-    | inl e ↦ let own = own_covers g thread dest p shape m o k beside e covers in makes.own k own.0 own.1
-    | inr h ↦ makes.stays (k / GRANULES_IN_LINE) (is.safepoint.holds.lines m o k h (covers_before g thread dest p shape m o k beside (before m h) covers))
+    | inl e ↦ (placed.outs (k / GRANULES_IN_LINE)).1 (inr (k, own_among m o k e covers, refl))
+    | inr h ↦ (placed.outs (k / GRANULES_IN_LINE)).1 (inl (is.safepoint.holds.lines m o k h (covers_before g thread dest p shape m o k beside (before m h) covers)))
+  ]
+
+  -- a granule of a member was one of a member, or is one of the new object
+  taken_then : (m : Name) (o : Object) (k : ℕ) → IsTrue (has (members then) m) → Covers (graph_then g thread shape) (places_then g thread p) m o k → IsTakenIn g k ⊎ IsAmong (granule_of p) (granule_count shape) k
+  taken_then m o k member covers = elim (beside.member m member) [
+    | inl e ↦ inr (own_among m o k e covers)
+    | inr h ↦ inl (m, o, h, covers_before g thread dest p shape m o k beside h covers)
   ]
 
   -- no line that an object overlaps is free
   lines_kept : KeepLines tables (graph_then g thread shape) (places_then g thread p) (members then)
-  lines_kept m o k member covers = elim (beside.member m member) [
-    | inl e ↦ let own = own_covers g thread dest p shape m o k beside e covers in out_taken tables (k / GRANULES_IN_LINE) (makes.own k own.0 own.1)
-    | inr h ↦ still_taken (tables_of space) tables (k / GRANULES_IN_LINE) refl (makes.stays (k / GRANULES_IN_LINE)) (is.lines m o k h (covers_before g thread dest p shape m o k beside h covers))
-  ]
+  lines_kept m o k member covers = subst (λ t. is_free t (k / GRANULES_IN_LINE) ≡ false) placed.tables (placed.kept.lines k (taken_then m o k member covers))
 
   -- the heap is the image of the graph with the new object
   image_served : IsImage tables space.limits.blocks (places_then g thread p) (graph_then g thread shape) (members then)
@@ -116,7 +127,8 @@ module _ (space : Space) (g : AbstractState) (thread dest p next end : ℕ) (sha
       let m : Moment = g.moment in
       let n : Name = new_name g thread in
       let image = new_keeps_image (tables_of space) tables space.limits.blocks g.at m.state.graph (members m) thread shape p is.safepoint.holds.image.image row fits name
-      (λ q a i in_m has_a e. beside.unmade (member_refers m q n a i is.safepoint.holds.follows in_m has_a e)) makes.room makes.writes in
+      (λ q a i in_m has_a e. beside.unmade (member_refers m q n a i is.safepoint.holds.follows in_m has_a e)) (has_room space after g n shape place placed)
+      (record { header = placed.written.header; zeros = placed.written.zeros; others = placed.written.others }) in
       let among : (q : Name) → IsTrue (has (members then) q) → IsTrue (has (n ∷ members m) q) = λ q h. elim (beside.member q h) [
         | inl e ↦ or_left (same_name q n) (has (members m) q) (ap (λ z. same_name z n) e ∙ same_itself n)
         | inr k ↦ or_right (same_name q n) (has (members m) q) k
@@ -203,7 +215,7 @@ module _ (space : Space) (g : AbstractState) (thread dest p next end : ℕ) (sha
 
   -- the block of the new object isn't Chosen
   own_unchosen : state_in tables (granule_of p / GRANULES_IN_BLOCK) ≢ Chosen
-  own_unchosen = still_not (tables_of space) tables (granule_of p / GRANULES_IN_BLOCK) Chosen refl (makes.states (granule_of p / GRANULES_IN_BLOCK)) makes.block
+  own_unchosen = still_not (tables_of space) tables (granule_of p / GRANULES_IN_BLOCK) Chosen refl (placed.states (granule_of p / GRANULES_IN_BLOCK)) placed.unchosen
 
   -- each line that is out is overlapped by an object that was there, or by the new one
   outs_served : OutsAreTaken tables (graph_then g thread shape) (places_then g thread p) (members then)
@@ -211,26 +223,26 @@ module _ (space : Space) (g : AbstractState) (thread dest p next end : ℕ) (sha
       let n : Name = new_name g thread in
       let here : places_then g thread p n ≡ p = placed_here g.at n p in
       record {
-        taken = λ line out. elim (makes.outs line out) [
+        taken = λ line out. elim ((placed.outs line).0 out) [
           | inl was ↦
               let a = is.outs.taken line was in
               (a.0, a.1, a.2, beside.old_member a.0 a.3, covers_after g thread dest p shape a.0 a.1 a.2 beside a.3 a.4, a.5)
-          | inr own ↦ (
+          | inr (k, own, of_line) ↦ (
             n,
             fresh shape,
-            GRANULES_IN_LINE * line,
+            k,
             beside.own_member,
             record {
               object = beside.own_object;
-              first = subst (λ z. granule_of z ≤ GRANULES_IN_LINE * line) (sym here) own.0;
-              behind = subst (λ z. GRANULES_IN_LINE * line < granule_of z + granules_of (fresh shape)) (sym here) (subst (λ z. GRANULES_IN_LINE * line < granule_of p + z) (sym (size_fresh shape)) own.1);
+              first = subst (λ z. granule_of z ≤ k) (sym here) own.0;
+              behind = subst (λ z. k < granule_of z + granules_of (fresh shape)) (sym here) (subst (λ z. k < granule_of p + z) (sym (size_fresh shape)) own.1);
             },
-            line_back line,
+            of_line,
           )
         ];
-        outside = λ line out. elim (makes.outs line out) [
-          | inl was ↦ still_not (tables_of space) tables (line / LINES_IN_BLOCK) Chosen refl (makes.states (line / LINES_IN_BLOCK)) (is.outs.outside line was)
-          | inr own ↦ subst (λ z. state_in tables z ≢ Chosen) (block_of_line (granule_of p) (word_count shape / 2) line makes.room.in_block own.0 own.1) own_unchosen
+        outside = λ line out. elim ((placed.outs line).0 out) [
+          | inl was ↦ still_not (tables_of space) tables (line / LINES_IN_BLOCK) Chosen refl (placed.states (line / LINES_IN_BLOCK)) (is.outs.outside line was)
+          | inr (k, own, of_line) ↦ subst (λ z. state_in tables z ≢ Chosen) (block_of_line (granule_of p) (granule_count shape) k line placed.in_block own.0 own.1 of_line) own_unchosen
         ];
       }
 
@@ -239,7 +251,7 @@ module _ (space : Space) (g : AbstractState) (thread dest p next end : ℕ) (sha
   made_unchosen q member = elim (insert_cases (new_name g thread) g.moment.made q member) [
     | inl e ↦ subst (λ z. state_in tables (granule_of z / GRANULES_IN_BLOCK) ≢ Chosen) (sym (ap (places_then g thread p) e ∙ placed_here g.at (new_name g thread) p)) own_unchosen
     | inr was ↦ subst (λ z. state_in tables (granule_of z / GRANULES_IN_BLOCK) ≢ Chosen) (sym (beside.old_at q (before q was)))
-        (still_not (tables_of space) tables (granule_of (g.at q) / GRANULES_IN_BLOCK) Chosen refl (makes.states (granule_of (g.at q) / GRANULES_IN_BLOCK)) (is.safepoint.holds.unchosen q was))
+        (still_not (tables_of space) tables (granule_of (g.at q) / GRANULES_IN_BLOCK) Chosen refl (placed.states (granule_of (g.at q) / GRANULES_IN_BLOCK)) (is.safepoint.holds.unchosen q was))
   ]
 
   -- no decrementer has worked
@@ -251,14 +263,14 @@ module _ (space : Space) (g : AbstractState) (thread dest p next end : ℕ) (sha
   }
 
   -- what a register held stands where it did, and the thread's register holds the new object
-  registers_served : (place : Place) → place.0 ≡ p → ArePlacesOf (places_then g thread p) (slice_set space.registers.items (register_index thread dest) place) then.state.registers
-  registers_served place is_p =
+  registers_served : ArePlacesOf (places_then g thread p) (slice_set space.registers.items (register_index thread dest) place) then.state.registers
+  registers_served =
       let m : Moment = g.moment in
       let d = is.safepoint.holds in
       let to : Name → ℕ = places_then g thread p in
       let old : ArePlacesOf to space.registers.items m.state.registers =
       d.image.registers ∙ places_still g.at to m.state.registers (λ i q e. beside.old_at q (live_member m q d.follows (d.follows.held q (i, e)))) in
-      register_keeps_places to space.registers.items m.state.registers (register_index thread dest) place (Some (new_name g thread)) old (is_p ∙ sym (placed_here g.at (new_name g thread) p))
+      register_keeps_places to space.registers.items m.state.registers (register_index thread dest) place (Some (new_name g thread)) old (sym (placed_here g.at (new_name g thread) p))
 
   -- what a deferred register holds stands where it did
   deferred_served : ArePlacesOf (places_then g thread p) space.deferred.items g.moment.last.registers
@@ -266,13 +278,20 @@ module _ (space : Space) (g : AbstractState) (thread dest p next end : ℕ) (sha
       is.safepoint.holds.image.deferred
       ∙ places_still g.at (places_then g thread p) g.moment.last.registers (λ i q e. kept_at q (is.safepoint.holds.follows.kept q (held (i, e))))
 
-  -- the space then: it has these words, and the thread's register holds the place
-  abbrev served : List ℕ → Place → Space
-  served words place = with_rest space words (slice_set space.registers.items (register_index thread dest) place) next end
+  -- the space then: the thread's register holds the place besides
+  abbrev served : Space
+  served = with_rest space after.words (slice_set space.registers.items (register_index thread dest) place) after.rest_next after.rest_end
+
+  -- nothing stands in what is left of the lines that were placed on last
+  rest_served : KeepsRest served then (places_then g thread p)
+  rest_served = record {
+    rest = rest_still (record space { words = after.words; rest_next = after.rest_next; rest_end = after.rest_end }) served refl refl refl refl refl (subst IsRest placed.space placed.rest);
+    apart = λ q o k member covers. placed.kept.rest k (taken_then q o k member covers);
+  }
 
   -- the space holds the moment then
-  holds_served : (words : List ℕ) (place : Place) → tables_in space.limits words ≡ tables → IsRest (served words place) → place.0 ≡ p → HoldsMoment (served words place) then (places_then g thread p)
-  holds_served words place same rest is_p =
+  holds_served : HoldsMoment served then (places_then g thread p)
+  holds_served =
       let m : Moment = g.moment in
       let to : Name → ℕ = places_then g thread p in
       let h : Graph = graph_then g thread shape in
@@ -284,7 +303,7 @@ module _ (space : Space) (g : AbstractState) (thread dest p next end : ℕ) (sha
         follows = follows;
         image = record {
           image = subst (λ z. IsImage z space.limits.blocks to h (members then)) (sym same) image_served;
-          registers = registers_served place is_p;
+          registers = registers_served;
           deferred = deferred_served;
           world = kept_at world_name (d.follows.kept world_name the_world) ∙ d.image.world;
         };
@@ -299,39 +318,31 @@ module _ (space : Space) (g : AbstractState) (thread dest p next end : ℕ) (sha
         marks = subst (λ z. HasMarks z h to m.unreclaimed) (sym same) marks_served;
         lines = subst (λ z. LinesAreOut z h to then.made) (sym same) lines_out;
         unchosen = subst (λ z. AvoidChosen z to then.made) (sym same) made_unchosen;
-        blocks = subst (λ z. HasBlocks z space.limits.blocks m.trace) (sym same) (blocks_kept (tables_of space) tables space.limits.blocks m.trace makes.states refl d.blocks);
-        rest = record {
-          rest = rest;
-          apart = λ q o i member covers. elim (beside.member q member) [
-            | inl e ↦
-                let own = own_covers g thread dest p shape q o i beside e covers in
-                inl (below_next i (granule_of p + word_count shape / 2) next own.1 makes.before)
-            | inr was ↦ makes.apart q o i was (covers_before g thread dest p shape q o i beside was covers)
-          ];
-        };
+        blocks = subst (λ z. HasBlocks z space.limits.blocks m.trace) (sym same) (blocks_kept (tables_of space) tables space.limits.blocks m.trace placed.states refl d.blocks);
+        rest = rest_served;
         no_work = d.no_work;
       }
 
   -- it is between epochs
-  pub quiescent_served : (words : List ℕ) (place : Place) → tables_in space.limits words ≡ tables → IsRest (served words place) → place.0 ≡ p
-      → IsQuiescent (served words place) (record g { moment = then; at = places_then g thread p })
-  quiescent_served words place same rest is_p =
+  pub quiescent_served : IsQuiescent served (record g { moment = then; at = places_then g thread p })
+  quiescent_served =
       let to : Name → ℕ = places_then g thread p in
       let h : Graph = graph_then g thread shape in
+      let d = is.safepoint.holds in
       let numbers = is.safepoint.numbers in
       record {
         safepoint = record {
-          holds = holds_served words place same rest is_p;
+          holds = holds_served;
           numbers = record { pauses = numbers.pauses; trace = numbers.trace; report = numbers.report };
           traced = subst (λ z. IsTracedBy space.limits z space.logged.items (record g { moment = then; at = to }) g.moment.trace) (sym same)
-              (traced_served (tables_of space) heap outs reuse states space.limits.blocks g thread dest p shape space.logged.items is.safepoint.holds.follows is.safepoint.holds.image.image beside none makes.states
-              space.limits g.moment.trace is.safepoint.traced);
+              (traced_served (tables_of space) tables.heap tables.outs tables.reuse tables.states space.limits.blocks g thread dest p shape space.logged.items d.follows d.image.image beside is.lines placed.states
+              (counter_stays space after g (new_name g thread) shape place placed d.rest.rest) space.limits g.moment.trace is.safepoint.traced);
         };
         unwritten = is.unwritten;
         undecremented = subst (λ z. IsUndecremented z then to) (sym same) undecremented_served;
         lines = subst (λ z. KeepLines z h to (members then)) (sym same) lines_kept;
         outs = subst (λ z. OutsAreTaken z h to (members then)) (sym same) outs_served;
-        states = subst (λ z. HasStates z space.limits.blocks) (sym same) by_lines;
+        states = subst (λ z. HasStates z space.limits.blocks) (sym same) (subst (λ z. HasStates z space.limits.blocks) placed.tables by_lines);
       }
 
 -- ---- an object was placed, and a register holds it
@@ -351,91 +362,34 @@ row_of_thread s g thread is some within =
 abbrev pub with_places : Space → List Place → Space
 with_places space places = record space { registers = record space.registers { items = places } }
 
--- where the tables say that an object was made, the space is between epochs once a register holds it
-served_at : (before after : Space) (g : AbstractState) (thread dest q next end : ℕ) (shape : Shape) (p : Place) (heap : ℕ → ℕ) (outs : ℕ → Bool) (reuse states : ℕ → ℕ) → IsQuiescent before g → NoneChosen (tables_of before) before.limits.blocks
-    → (1 ≤ thread) × (thread ≤ before.limits.threads) → dest < 16 → FitsShape shape → IsName (new_name g thread)
-    → TurnsWithRest before after (with_placed (tables_of before) heap outs reuse states) next end → IsRest after → p.0 ≡ q
-    → Makes (tables_of before) (with_placed (tables_of before) heap outs reuse states) before.limits.blocks next end g.at g.moment.state.graph (members g.moment) q (new_name g thread) shape
-    → HasStates (with_placed (tables_of before) heap outs reuse states) before.limits.blocks
-    → IsQuiescent (with_places after (slice_set after.registers.items (register_index thread dest) p)) (record g { moment = moment_then g thread dest shape; at = places_then g thread q })
-served_at before after g thread dest q next end shape p heap outs reuse states is none within small fits name changes rest place makes by_lines =
-    let places : List Place = slice_set before.registers.items (register_index thread dest) p in
-    let middle : Space = record before { words = after.words; rest_next = next; rest_end = end } in
-    let last : Space = with_rest before after.words places next end in
-    let same : tables_in before.limits after.words ≡ with_placed (tables_of before) heap outs reuse states = ap tables_of (sym changes.rest) ∙ changes.tables in
-    let row = row_of_thread before g thread is within.0 within.1 in
-    let follows = call_follows g.moment thread (op.New dest shape) (reply.New (new_name g thread)) is.safepoint.holds.follows (small, fits) (refl, row, within.0) in
-    let between = quiescent_served before g thread dest q next end shape heap outs reuse states is none row fits name follows makes by_lines after.words p same
-    (rest_still middle last refl refl refl refl refl (subst IsRest changes.rest rest)) place in
-    let turned : last ≡ with_places after (slice_set after.registers.items (register_index thread dest) p) =
-    sym (ap (λ z. with_places z (slice_set z.registers.items (register_index thread dest) p)) changes.rest) in
-    subst (λ z. IsQuiescent z (record g { moment = moment_then g thread dest shape; at = places_then g thread q })) turned between
-
--- a rest that fits a shape is not empty
-has_rest : (s : Space) (shape : Shape) → IsRest s → s.rest_next + granule_count shape ≤ s.rest_end → HasRest s
-has_rest s shape (inl e) fits = let some = some_granule shape in absurd (omega (arith, some, e, fits))
-has_rest s shape (inr has) fits = has
-
--- so it is where an object was placed, be it in the rest or on a run
-placed_between : (before after : Space) (g : AbstractState) (thread dest : ℕ) (shape : Shape) (p : Place) → IsQuiescent before g → NoneChosen (tables_of before) before.limits.blocks → (1 ≤ thread) × (thread ≤ before.limits.threads) → dest < 16
-    → FitsShape shape → IsName (new_name g thread) → IsPlaced before after (new_name g thread) shape p → IsRest after
+-- so the space is between epochs where an object was placed and a register holds it
+placed_between : (before after : Space) (g : AbstractState) (thread dest : ℕ) (shape : Shape) (p : Place) → IsQuiescent before g → (1 ≤ thread) × (thread ≤ before.limits.threads) → dest < 16
+    → FitsShape shape → IsName (new_name g thread) → IsPlaced before after (new_name g thread) shape p
     → IsQuiescent (with_places after (slice_set after.registers.items (register_index thread dest) p)) (record g { moment = moment_then g thread dest shape; at = places_then g thread p.0 })
-placed_between before after g thread dest shape p is none within small fits name (inl q) rest =
-    let t : Tables = tables_of before in
+placed_between before after g thread dest shape p is within small fits name at_place =
     let n : Name = new_name g thread in
-    let old : HasRest before = has_rest before shape is.safepoint.holds.rest.rest q.fits in
-    let at_place : p.0 ≡ before.rest_next + 1 = ap (λ z. z.0) q.place in
-    subst (λ z. IsQuiescent (with_places after (slice_set after.registers.items (register_index thread dest) p)) (record g { moment = moment_then g thread dest shape; at = places_then g thread z })) (sym at_place)
-    (served_at before after g thread dest (before.rest_next + 1) (before.rest_next + granule_count shape) before.rest_end shape p (with_object t before.rest_next n shape).heap t.outs t.reuse t.states is none
-    within small fits name q.changes rest at_place
-    (made_in_rest t before.limits.blocks before.rest_next before.rest_end g.at g.moment.state.graph (members g.moment) n shape is.safepoint.holds.rest.apart q.fits old.in_heap old.in_line old.out old.outside)
-    is.states)
-placed_between before after g thread dest shape p is none within small fits name (inr (r, q)) rest =
-    let t : Tables = tables_of before in
-    let n : Name = new_name g thread in
-    let u : Tables = with_object (handed_out t r) (first_granule r) n shape in
-    let at_place : p.0 ≡ first_granule r + 1 = ap (λ z. z.0) q.place in
-    subst (λ z. IsQuiescent (with_places after (slice_set after.registers.items (register_index thread dest) p)) (record g { moment = moment_then g thread dest shape; at = places_then g thread z })) (sym at_place)
-    (served_at before after g thread dest (first_granule r + 1) (first_granule r + granule_count shape) (first_granule r + GRANULES_IN_LINE * r.lines) shape p u.heap u.outs u.reuse u.states is none
-    within small fits name q.changes rest at_place
-    (made_on_run t before.limits.blocks g.at g.moment.state.graph (members g.moment) n shape r is.lines q.run.run.run q.run.run.outside q.run.lines_are)
-    (handed_states t r before.limits.blocks q.run.run.run.within is.states))
+    let placed : IsPlacedBeside before after (IsTakenIn g) n shape p = placed_apart before after g n shape p is fits at_place in
+    let row = row_of_thread before g thread is within.0 within.1 in
+    let follows = call_follows g.moment thread (op.New dest shape) (reply.New n) is.safepoint.holds.follows (small, fits) (refl, row, within.0) in
+    let by_lines = placed_states before after n shape p at_place is.states in
+    subst (λ z. IsQuiescent z (record g { moment = moment_then g thread dest shape; at = places_then g thread p.0 }))
+    (sym (ap (λ z. with_places z (slice_set z.registers.items (register_index thread dest) p)) placed.space))
+    (quiescent_served before after g thread dest p shape is row fits name follows placed by_lines)
 
 -- a thread's number and a serial of 32 bits make a name
 is_name : (name : Name) (threads : ℕ) → name.thread ≤ threads → threads ≤ 16 → name.serial < 2 ^ 32 → IsName name
 is_name name threads within few serial = record { thread = omega arith; serial = serial }
 
--- where tables have turned that keep the states of blocks, no block is Chosen where none was
-turned_unchosen : (before after : Space) (t : Tables) (next end : ℕ) (places : List Place) → TurnsWithRest before after t next end → ((b : ℕ) → KeepsState (tables_of before) t b)
-    → NoneChosen (tables_of before) before.limits.blocks → NoneChosen (tables_of (with_places after places)) (with_places after places).limits.blocks
-turned_unchosen before after t next end places changes keeps none =
-    let limits : after.limits ≡ before.limits = ap (λ z. z.limits) changes.rest in
-    subst (λ u. NoneChosen u after.limits.blocks) (sym changes.tables) (subst (λ (l : Limits). NoneChosen t l.blocks) (sym limits) (none_kept (tables_of before) t before.limits.blocks keeps none))
-
--- so it is where an object was placed, and as many entries are remembered as many entries are remembered
-placed_unchosen : (before after : Space) (name : Name) (shape : Shape) (p : Place) (places : List Place) → IsPlaced before after name shape p → NoneChosen (tables_of before) before.limits.blocks
-    → NoneChosen (tables_of (with_places after places)) (with_places after places).limits.blocks
-placed_unchosen before after name shape p places (inl q) none =
-    turned_unchosen before after (with_object (tables_of before) before.rest_next name shape) (before.rest_next + granule_count shape) before.rest_end places q.changes (λ b. inl refl) none
-placed_unchosen before after name shape p places (inr (r, q)) none =
-    turned_unchosen before after (with_object (handed_out (tables_of before) r) (first_granule r) name shape) (first_granule r + granule_count shape) (first_granule r + GRANULES_IN_LINE * r.lines) places q.changes
-    (λ b. handing_keeps_states (tables_of before) r b) none
-
-placed_remembers : (before after : Space) (name : Name) (shape : Shape) (p : Place) → IsPlaced before after name shape p → (tables_of after).cursors REMEMBERED_CURSOR ≡ (tables_of before).cursors REMEMBERED_CURSOR
-placed_remembers before after name shape p (inl q) = ap (λ (t : Tables). t.cursors REMEMBERED_CURSOR) q.changes.tables
-placed_remembers before after name shape p (inr (r, q)) = ap (λ (t : Tables). t.cursors REMEMBERED_CURSOR) q.changes.tables
-
 -- so it is whatever the space stood for
 placed_serves : (before after : Space) (name : Name) (dest : ℕ) (shape : Shape) (p : Place) → (1 ≤ name.thread) × (name.thread ≤ before.limits.threads) → dest < 16 → FitsShape shape → name.serial < 2 ^ 32
-    → IsPlaced before after name shape p → IsRest after → (g : AbstractState) → IsServable before g name
+    → IsPlaced before after name shape p → (g : AbstractState) → IsServable before g name
     → IsServedFrom (with_places after (slice_set after.registers.items (register_index name.thread dest) p)) g name dest shape p
-placed_serves before after name dest shape p within small fits serial at_place rest g is =
+placed_serves before after name dest shape p within small fits serial at_place g is =
     let last : Space = with_places after (slice_set after.registers.items (register_index name.thread dest) p) in
     let named = is_name name before.limits.threads within.1 is.between.safepoint.holds.space.limits.threads.1 serial in
-    let between = placed_between before after g name.thread dest shape p is.between is.none_chosen within small fits (subst IsName is.next named) (subst (λ z. IsPlaced before after z shape p) is.next at_place) rest in
+    let between = placed_between before after g name.thread dest shape p is.between within small fits (subst IsName is.next named) (subst (λ z. IsPlaced before after z shape p) is.next at_place) in
     record {
       reply = ap reply.New (sym is.next);
-      none_chosen = placed_unchosen before after name shape p (slice_set after.registers.items (register_index name.thread dest) p) at_place is.none_chosen;
       between = subst (λ z. IsQuiescent last (record g { moment = after_call g.moment name.thread (op.New dest shape) (reply.New z); at = placed g.at z p.0 })) (sym is.next) between;
     }
 
@@ -472,13 +426,12 @@ served_keeps before after name dest shape p served = subst (KeepsOthers before) 
 
 -- the `new` whose object was placed is served
 pub placed_is_served : (before after : Space) (name : Name) (dest : ℕ) (shape : Shape) (p : Place) → (1 ≤ name.thread) × (name.thread ≤ before.limits.threads) → dest < 16 → FitsShape shape → name.serial < 2 ^ 32
-    → (IsFull before shape → ⊥) → IsPlaced before after name shape p → IsRest after
+    → (IsFull before shape → ⊥) → IsPlaced before after name shape p
     → IsServed before (with_places after (slice_set after.registers.items (register_index name.thread dest) p)) name dest shape p
-placed_is_served before after name dest shape p within small fits serial room at_place rest = record {
+placed_is_served before after name dest shape p within small fits serial room at_place = record {
   room = room;
   middle = after;
   placed = at_place;
   held = refl;
-  remembered = placed_remembers before after name shape p at_place;
-  abstract_state = placed_serves before after name dest shape p within small fits serial at_place rest;
+  abstract_state = placed_serves before after name dest shape p within small fits serial at_place;
 }

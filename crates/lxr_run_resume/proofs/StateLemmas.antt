@@ -1,36 +1,15 @@
 -- States of blocks where lines of one of them are handed out.
-use Rattle.std.proofs.Common.{◌≡◌, ◌≢◌, ℕ, ◌+◌, ◌*◌, ◌≤◌, refl, sym, ap, ◌∙◌, inl, inr, cond, true, false, nat_eq}
-use Rattle.std.specs.Prelude.{◌&&◌, not, IsTrue}
-use Rattle.std.proofs.lemmas.Bool.{cases_Bool}
-use Rattle.lxr_layout.specs.declared.TheConstants.{GRANULES_IN_LINE, LINES_IN_BLOCK}
+use Rattle.std.proofs.Common.{◌≡◌, ◌≢◌, ℕ, ◌+◌, ◌≤◌, refl, sym, ap, ◌∙◌, cond, true, false, nat_eq}
+use Rattle.lxr_layout.specs.declared.TheConstants.{LINES_IN_BLOCK}
 use Rattle.lxr_layout.specs.declared.runs.Run.{Run}
 use Rattle.lxr_image.specs.Tables.{Tables, changed}
 use Rattle.lxr_blocks.specs.declared.states.BlockState.{BlockState}
 use Rattle.lxr_blocks.specs.declared.states.BlockState.TheVariants.{Chosen, Free, Partly, Whole, World}
-use Rattle.lxr_blocks.specs.Lines.{are_zero, is_free}
 use Rattle.lxr_blocks.specs.States.{is_fixed, state_by_lines, state_in, state_number, state_of}
 use Rattle.lxr_blocks.specs.Handing.{first_line, handed_out, with_lines_out}
 use Rattle.lxr_invariant.specs.Lines.{HasStates}
 use Rattle.lxr_invariant.proofs.BlockLemmas.{other_lines, other_number, states_alike}
 use Rattle.lxr_invariant.proofs.EntryLemmas.{equal_numbers}
-
--- ---- lines
-
--- a line that is out isn't free
-pub out_taken : (t : Tables) (k : ℕ) → t.outs k ≡ true → is_free t k ≡ false
-out_taken t k out = ap (λ b. not b && are_zero t.counts (GRANULES_IN_LINE * k) GRANULES_IN_LINE) out
-
--- a line that isn't free stays so where counts stay, and what is out stays out
-pub still_taken : (t u : Tables) (k : ℕ) → u.counts ≡ t.counts → (IsTrue (t.outs k) → IsTrue (u.outs k)) → is_free t k ≡ false → is_free u k ≡ false
-still_taken t u k counts stays taken = elim (cases_Bool (t.outs k)) [
-  | inl out ↦ out_taken u k (stays out)
-  | inr in_hand ↦ elim (cases_Bool (u.outs k)) [
-    | inl out ↦ out_taken u k out
-    | inr now ↦
-        ap (λ b. not b && are_zero u.counts (GRANULES_IN_LINE * k) GRANULES_IN_LINE) now ∙ ap (λ f. are_zero f (GRANULES_IN_LINE * k) GRANULES_IN_LINE) counts
-        ∙ sym (ap (λ b. not b && are_zero t.counts (GRANULES_IN_LINE * k) GRANULES_IN_LINE) in_hand) ∙ taken
-  ]
-]
 
 -- ---- states by lines
 

@@ -1,43 +1,52 @@
 -- A trace that runs goes on as an object is made between two epochs: unreclaimed objects stand where they did with the references
--- that they had, their bits stay, the new object is neither unreclaimed nor garbage, and no block is Chosen.
-use Rattle.std.proofs.Common.{◌≡◌, ◌≢◌, ℕ, ◌+◌, ◌*◌, ◌/◌, ◌<◌, ◌≤◌, refl, sym, ap, subst, ◌∙◌, inl, inr, ◌⊎◌, arith, Bool, List}
+-- that they had, their bits stay, and so do the reuse counters of their lines and the blocks that are Chosen. The new object is neither
+-- unreclaimed nor garbage.
+use Rattle.std.proofs.Common.{◌≡◌, ℕ, ◌+◌, ◌-◌, ◌*◌, ◌/◌, ◌<◌, ◌≤◌, refl, sym, ap, subst, ◌∙◌, inl, inr, ◌⊎◌, arith, Bool, true, false, List, length}
 use Rattle.std.specs.Prelude.{Option, Some, None, IsTrue, is_some, slice_get}
-use Rattle.lxr_layout.specs.declared.TheConstants.{GRANULES_IN_BLOCK}
+use Rattle.std.proofs.lemmas.Option.{slice_get_within}
+use Rattle.lxr_layout.specs.declared.TheConstants.{GRANULES_IN_BLOCK, GRANULES_IN_LINE, WORDS_IN_LINE}
 use Rattle.lxr_layout.specs.declared.limits.Limits.{Limits}
 use Rattle.lxr_layout.specs.declared.LogEntry.{LogEntry}
 use Rattle.lxr_layout.specs.declared.Name.{Name}
 use Rattle.lxr_layout.specs.declared.Shape.{Shape}
+use Rattle.lxr_layout.specs.Places.{field_word}
+use Rattle.lxr_layout.specs.Runs.{word_of_entry}
 use Rattle.lxr_graph.specs.Names.{has}
 use Rattle.lxr_graph.specs.State.{object_at, refs_of, world_name}
 use Rattle.lxr_graph.proofs.NameSets.{insert_cases}
 use Rattle.lxr_image.specs.Tables.{Tables}
 use Rattle.lxr_image.specs.Reads.{granule_of}
-use Rattle.lxr_image.specs.Image.{IsImage}
+use Rattle.lxr_image.specs.Image.{IsImage, granules_of}
+use Rattle.lxr_image.proofs.ImageLemmas.{words_cover, words_even}
 use Rattle.lxr_blocks.specs.declared.states.BlockState.TheVariants.{Chosen}
-use Rattle.lxr_blocks.specs.States.{KeepsState, state_in}
+use Rattle.lxr_blocks.specs.Lines.{is_free}
+use Rattle.lxr_blocks.specs.States.{KeepsState, is_fixed, state_in, state_of}
 use Rattle.lxr_model.specs.Moments.{Moment, Trace}
 use Rattle.lxr_model.specs.Reachable.{Refers}
 use Rattle.lxr_model_counting.specs.Following.{FollowsPause, IsLive}
 use Rattle.lxr_invariant.specs.AbstractState.{AbstractState, members}
-use Rattle.lxr_invariant.specs.Lines.{NoneChosen}
-use Rattle.lxr_invariant.specs.Tracing.{HandledAreGray, IsCovered, IsGray, IsInSnapshot, IsMarked, IsOldValue, IsRememberedSoFar, IsToBeScanned, IsTracedBy, IsYounger, MarksStayInside, SnapshotIsCovered, StaysGarbage, TraceHolds}
-use Rattle.lxr_invariant.proofs.BlockLemmas.{none_counted, still_not}
+use Rattle.lxr_invariant.specs.Lines.{KeepLines}
+use Rattle.lxr_invariant.specs.Standing.{word_of_field}
+use Rattle.lxr_invariant.specs.Tracing.{HandledAreGray, HasOverflowed, IsCovered, IsGray, IsInChosen, IsInSnapshot, IsMarked, IsOldValue, IsRemembered, IsRememberedSoFar, IsScanned, IsToBeScanned, IsTracedBy, IsYounger, MarksStayInside, SnapshotIsCovered, StaysGarbage, TraceHolds}
 use Rattle.lxr_invariant.proofs.MemberLemmas.{member_refers}
 use Rattle.lxr_invariant.proofs.NameLemmas.{in_first}
 use Rattle.lxr_invariant.proofs.ScanLemmas.{fewer_later}
 use Rattle.lxr_run_resume.proofs.NewLemmas.{IsBeside, moment_then, new_name, places_then}
-use Rattle.lxr_run_resume.proofs.PlacingLemmas.{some_granules, with_placed}
 
--- the block of an object in the heap
-block_below : (granule granules blocks : ℕ) → 1 ≤ granules → granule + granules ≤ GRANULES_IN_BLOCK * blocks → granule / GRANULES_IN_BLOCK < blocks
-block_below granule granules blocks some within = omega arith
+-- the granule of a reference's word is one of the object, and its line that of the word
+granule_of_field : (p i refs values words granules : ℕ) → 1 ≤ p → i < refs → 1 + refs + values ≤ words → words ≡ 2 * granules → (p - 1 ≤ field_word p i / 2) × (field_word p i / 2 < p - 1 + granules)
+granule_of_field p i refs values words granules some within cover even = (omega (arith, some), omega (arith, some, within, cover, even))
 
--- An object is made for a thread at a place: each block keeps its state, and none of the others' objects moves.
+line_of_word : (w : ℕ) → w / 2 / GRANULES_IN_LINE ≡ w / WORDS_IN_LINE
+line_of_word w = omega arith
+
+-- An object is made for a thread at a place: each block keeps its state, none of the others' objects moves, and a line that isn't free is
+-- handed out no more often.
 module _ (t : Tables) (heap : ℕ → ℕ) (outs : ℕ → Bool) (reuse states : ℕ → ℕ) (blocks : ℕ) (g : AbstractState) (thread dest p : ℕ) (shape : Shape) (entries : List LogEntry)
-    (follows : FollowsPause g.moment) (image : IsImage t blocks g.at g.moment.state.graph (members g.moment)) (beside : IsBeside g thread dest p shape)
-    (none : NoneChosen t blocks) (keeps : (b : ℕ) → KeepsState t (with_placed t heap outs reuse states) b) where
+    (follows : FollowsPause g.moment) (image : IsImage t blocks g.at g.moment.state.graph (members g.moment)) (beside : IsBeside g thread dest p shape) (lines : KeepLines t g.moment.state.graph g.at (members g.moment))
+    (keeps : (b : ℕ) → KeepsState t (record t { heap = heap; outs = outs; reuse = reuse; states = states }) b) (counters : (line : ℕ) → is_free t line ≡ false → reuse line ≡ t.reuse line) where
   abbrev tables : Tables
-  tables = with_placed t heap outs reuse states
+  tables = record t { heap = heap; outs = outs; reuse = reuse; states = states }
 
   abbrev m : Moment
   m = g.moment
@@ -155,13 +164,14 @@ module _ (t : Tables) (heap : ℕ → ℕ) (outs : ℕ → Bool) (reuse states :
 
   -- ---- the remembered set
 
-  -- no member stands in a Chosen block
-  stands_outside : (n : Name) → IsTrue (has (members m) n) → state_in tables (granule_of (to n) / GRANULES_IN_BLOCK) ≢ Chosen
-  stands_outside n h =
-      let (o, there, stands) = image.stands n h in
-      let b : ℕ = granule_of (g.at n) / GRANULES_IN_BLOCK in
-      subst (λ z. state_in tables (granule_of z / GRANULES_IN_BLOCK) ≢ Chosen) (sym (beside.old_at n h))
-      (still_not t tables b Chosen refl (keeps b) (none_counted t blocks b none (block_below (granule_of (g.at n)) _ blocks (some_granules o) stands.whole.in_heap)))
+  -- a member stands in a Chosen block only where it did
+  chosen_was : (n : Name) → IsTrue (has (members m) n) → IsInChosen tables to n → IsInChosen t g.at n
+  chosen_was n h chosen =
+      let there : state_in tables (granule_of (g.at n) / GRANULES_IN_BLOCK) ≡ Chosen = subst (λ z. state_in tables (granule_of z / GRANULES_IN_BLOCK) ≡ Chosen) (beside.old_at n h) chosen in
+      elim (keeps (granule_of (g.at n) / GRANULES_IN_BLOCK)) [
+        | inl same ↦ sym (ap state_of same) ∙ there
+        | inr (was, now) ↦ absurd (let k : true ≡ false = ap is_fixed (sym there) ∙ now in cc)
+      ]
 
   -- what an unreclaimed object refers to is a member
   refers_to_member : (u n : Name) (i : ℕ) → IsTrue (has m.unreclaimed u) → slice_get (refs_of (object_at then.state.graph u)) i ≡ Some (Some n) → IsTrue (has (members m) n)
@@ -169,10 +179,38 @@ module _ (t : Tables) (heap : ℕ → ℕ) (outs : ℕ → Bool) (reuse states :
       let (o, there, stands) = image.stands u (member u h) in
       member_refers m u n o i follows (member u h) there (ap (λ z. slice_get (refs_of z) i) (sym there) ∙ held_was u n i h holds)
 
-  -- so no field is to be remembered, and entries are those that there were
+  -- the line of an unreclaimed object's reference has the reuse counter that it had
+  counter_still : (n : Name) (i : ℕ) → IsTrue (has m.unreclaimed n) → i < length (refs_of (object_at m.state.graph n)) → reuse (word_of_field g.at n i / WORDS_IN_LINE) ≡ t.reuse (word_of_field g.at n i / WORDS_IN_LINE)
+  counter_still n i h within =
+      let (o, there, stands) = image.stands n (member n h) in
+      let few : i < length o.refs = subst (λ z. i < length (refs_of z)) there within in
+      let granule = granule_of_field (g.at n) i (length o.refs) (length o.values) _ (granules_of o) stands.placed few (words_cover o) (words_even o) in
+      subst (λ line. reuse line ≡ t.reuse line) (line_of_word (word_of_field g.at n i))
+      (counters (word_of_field g.at n i / 2 / GRANULES_IN_LINE) (lines n o (word_of_field g.at n i / 2) (member n h) (record { object = there; first = granule.0; behind = granule.1 })))
+
+  -- a field that was remembered is
+  entry_still : (l : Limits) (n : Name) (i : ℕ) → IsTrue (has m.unreclaimed n) → i < length (refs_of (object_at m.state.graph n)) → IsRemembered l t g.at n i ⊎ HasOverflowed l t → IsRemembered l tables to n i ⊎ HasOverflowed l tables
+  entry_still l n i h within (inl (k, drawn, room, word)) = inl (
+    k,
+    drawn,
+    room,
+    subst (λ z. t.remembered k ≡ word_of_entry (reuse (field_word z i / WORDS_IN_LINE)) (record { 0 = z }) i) (sym (kept_at n h))
+        (word ∙ ap (λ c. word_of_entry c (record { 0 = g.at n }) i) (sym (counter_still n i h within))),
+  )
+  entry_still l n i h within (inr over) = inr over
+
+  -- an unreclaimed object is scanned only where it was
+  scanned_was : (trace : Trace) (n : Name) → IsTrue (has m.unreclaimed n) → IsScanned tables to trace n → IsScanned t g.at trace n
+  scanned_was trace n h (inl marked) = inl (marked_was n h marked)
+  scanned_was trace n h (inr promoted) = inr promoted
+
+  -- so all stays remembered, and entries are those that there were
   remembered_still : (l : Limits) (trace : Trace) (snapshot : List Name) → IsRememberedSoFar l t m g.at trace snapshot → IsRememberedSoFar l tables then to trace snapshot
   remembered_still l trace snapshot is = record {
-    fields = λ n v i h scanned holds unlogged chosen. absurd (stands_outside v (refers_to_member n v i h holds) chosen);
+    fields = λ n v i h scanned holds unlogged chosen.
+        let held = held_was n v i h holds in
+        entry_still l n i h (slice_get_within (refs_of (object_at m.state.graph n)) i (Some v) held)
+        (is.fields n v i h (scanned_was trace n h scanned) held (subst (λ z. IsTrue (t.unlogged (field_word z i))) (kept_at n h) unlogged) (chosen_was v (refers_to_member n v i h holds) chosen));
     entries = is.entries;
     bound =
         let bound = is.bound in

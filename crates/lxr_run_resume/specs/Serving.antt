@@ -3,24 +3,20 @@ use Rattle.std.specs.Prelude.{◌≡◌, ℕ, Option, Some, None, slice_set}
 use Rattle.lxr_layout.specs.declared.Name.{Name}
 use Rattle.lxr_layout.specs.declared.Place.{Place}
 use Rattle.lxr_layout.specs.declared.Shape.{Shape}
-use Rattle.lxr_layout.specs.declared.TheConstants.{REMEMBERED_CURSOR}
 use Rattle.lxr_graph.specs.declared.Op.TheVariants as op
 use Rattle.lxr_graph.specs.declared.Reply.TheVariants as reply
 use Rattle.lxr_graph.specs.State.{next_name, register_index}
 use Rattle.lxr_graph.specs.Step.{IsReply}
 use Rattle.lxr_image.specs.declared.space.Space.{Space}
-use Rattle.lxr_image.specs.Spaces.{tables_of}
 use Rattle.lxr_image.specs.ImageLaws.{placed}
 use Rattle.lxr_blocks.specs.Placing.{IsFull, IsPlaced}
 use Rattle.lxr_model.specs.Moments.{after_call}
 use Rattle.lxr_invariant.specs.AbstractState.{AbstractState}
-use Rattle.lxr_invariant.specs.Lines.{NoneChosen}
 use Rattle.lxr_invariant.specs.Quiescent.{IsQuiescent}
 
--- A space between epochs, with no block Chosen, stands for an abstract state in which a name is the next one of its thread.
+-- a space between epochs stands for an abstract state in which a name is the next one of its thread
 pub record IsServable (s : Space) (g : AbstractState) (name : Name) : Type 0 where
   pub between : IsQuiescent s g
-  pub none_chosen : NoneChosen (tables_of s) s.limits.blocks
   pub next : name ≡ next_name g.moment.state.graph name.thread
 
 -- the space with a place in one register
@@ -34,20 +30,18 @@ served_abstract_state g name dest shape place = record g {
   at = placed g.at name place.0;
 }
 
--- the reply is that of one step of the model, and the space is between epochs for the abstract state after it, with no block Chosen
+-- the reply is that of one step of the model, and the space is between epochs for the abstract state after it
 pub record IsServedFrom (after : Space) (g : AbstractState) (name : Name) (dest : ℕ) (shape : Shape) (place : Place) : Type 0 where
   pub reply : IsReply g.moment.state name.thread (op.New dest shape) (reply.New name)
   pub between : IsQuiescent after (served_abstract_state g name dest shape place)
-  pub none_chosen : NoneChosen (tables_of after) after.limits.blocks
 
--- There was room: the object was placed, the thread's register holds its place, and nothing else has changed, as many entries being
--- remembered as before. So the `new` is done, whatever the space stood for.
+-- There was room: the object was placed, the thread's register holds its place, and nothing else has changed. So the `new` is done,
+-- whatever the space stood for.
 pub record IsServed (before after : Space) (name : Name) (dest : ℕ) (shape : Shape) (place : Place) : Type 0 where
   pub room : ¬ IsFull before shape
   pub middle : Space
   pub placed : IsPlaced before middle name shape place
   pub held : after ≡ with_register middle (register_index name.thread dest) place
-  pub remembered : (tables_of after).cursors REMEMBERED_CURSOR ≡ (tables_of before).cursors REMEMBERED_CURSOR
   pub abstract_state : (g : AbstractState) → IsServable before g name → IsServedFrom after g name dest shape place
 
 -- a `new` was served with a place, or there was no room, and nothing has changed

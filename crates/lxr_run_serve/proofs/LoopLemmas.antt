@@ -41,7 +41,7 @@ has_begun collected actors space g can = record {
     history = h;
     abstract_state = g;
     turns = begins;
-    on = record { between = can.between; none_chosen = can.none_chosen; fit = can.fit };
+    on = record { between = can.between; fit = can.fit };
     leads = λ threads led. led;
   };
   turns = λ h. (h, begins);

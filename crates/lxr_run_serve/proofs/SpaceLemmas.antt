@@ -2,7 +2,6 @@
 use Rattle.std.proofs.Common.{◌≡◌, ℕ, ◌+◌, ◌<◌, ◌≤◌, sym, ap, subst, ◌∙◌, arith, length}
 use Rattle.std.proofs.lemmas.List.{length-map}
 use Rattle.std.specs.Prelude.{Some}
-use Rattle.lxr_layout.specs.declared.TheConstants.{REMEMBERED_CURSOR}
 use Rattle.lxr_layout.specs.declared.Name.{Name}
 use Rattle.lxr_layout.specs.declared.Place.{Place}
 use Rattle.lxr_layout.specs.declared.Shape.{Shape}
@@ -12,9 +11,7 @@ use Rattle.lxr_graph.specs.Step.{IsReply}
 use Rattle.lxr_image.specs.declared.space.Space.{Space}
 use Rattle.lxr_image.specs.declared.space.Tally.{Tally}
 use Rattle.lxr_image.specs.Image.{place_word}
-use Rattle.lxr_image.specs.Spaces.{tables_of}
 use Rattle.lxr_invariant.specs.AbstractState.{AbstractState}
-use Rattle.lxr_invariant.specs.Lines.{NoneChosen}
 use Rattle.lxr_invariant.specs.Quiescent.{IsQuiescent}
 use Rattle.lxr_invariant.proofs.ToldLemmas.{holds_told}
 use Rattle.lxr_run_resume.specs.Serving.{IsServable, IsServed, IsServedFrom, served_abstract_state}
@@ -75,8 +72,6 @@ serves_one before after m m' w makes =
 pub record IsNewServed (before after : Space) (g : AbstractState) (name : Name) (dest : ℕ) (shape : Shape) (place : Place) : Type 0 where
   pub replied : IsReply g.moment.state name.thread (op.New dest shape) (reply.New name)
   pub between : IsQuiescent after (served_abstract_state g name dest shape place)
-  pub none_chosen : NoneChosen (tables_of after) after.limits.blocks
-  pub remembered : (tables_of after).cursors REMEMBERED_CURSOR ≡ (tables_of before).cursors REMEMBERED_CURSOR
   pub others : KeepsAllElse before after
   pub news : after.tally.news ≡ before.tally.news + 1
 
@@ -91,8 +86,6 @@ new_served before after m m' w dest shape g may waits is makes =
     let to : AbstractState = served_abstract_state g (next_name m) dest shape makes.place in record {
       replied = from.reply;
       between = subst (λ (s : Space). IsQuiescent s to) (sym makes.counted) (quiescent_tallied mid to (record mid.tally { news = mid.tally.news + 1 }) from.between);
-      none_chosen = subst (λ (s : Space). NoneChosen (tables_of s) s.limits.blocks) (sym makes.counted) from.none_chosen;
-      remembered = ap (λ (s : Space). (tables_of s).cursors REMEMBERED_CURSOR) makes.counted ∙ made.remembered;
       others = serves_keeps before after m m' w makes;
       news = serves_one before after m m' w makes;
     }

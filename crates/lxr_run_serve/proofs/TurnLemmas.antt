@@ -45,7 +45,7 @@ served_on actors number m m' w before after g h there can waits makes =
     let graph : Graph = g.moment.state.graph in
     let (dest, shape, is) = new_waits before.limits graph t m fits is_waiting in
     let named : next_made m ≡ next_name graph m.thread = sym fits.name ∙ ap (next_name graph) (sym fits.thread) in
-    let new = new_served before after m m' w dest shape g (record { between = can.between; none_chosen = can.none_chosen; next = named }) waits is makes in
+    let new = new_served before after m m' w dest shape g (record { between = can.between; next = named }) waits is makes in
     let g' : AbstractState = served_abstract_state g (next_made m) dest shape makes.place in
     let graph' : Graph = with_new graph m.thread (fresh shape) in
     let within = slice_get_within (mutators_in actors) number m there.at in
@@ -64,7 +64,6 @@ served_on actors number m m' w before after g h there can waits makes =
       abstract_state = g';
       on = record {
         between = new.between;
-        none_chosen = new.none_chosen;
         fit = subst (λ (l : Limits). FitSpace l graph' (slice_set actors number (any.Mutator m'))) (sym limits) fit;
       };
       leads = λ threads led.
@@ -88,7 +87,6 @@ refused_on actors number m m' w before after g h there can waits refused =
       abstract_state = g;
       on = subst (λ (s : Space). CanServeOn s g (slice_set actors number (any.Mutator m'))) (sym refused.space) (record {
         between = can.between;
-        none_chosen = can.none_chosen;
         fit = fit_answered before.limits graph graph actors number m m' there can.fit own (λ u other. refl);
       });
       leads = λ threads led. led ∙ ap (λ o. after_call (moment threads h) (number + 1) o reply.Full) (sym is);
@@ -126,7 +124,6 @@ turn_comes actors number m space g there can counted =
       number + 1,
       record {
         between = can.between;
-        none_chosen = can.none_chosen;
         thread = (omega arith, omega arith);
         fits = can.fit.each number m there.at;
         counted = counted;

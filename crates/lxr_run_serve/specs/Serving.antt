@@ -3,10 +3,8 @@ use Rattle.std.specs.Prelude.{◌≡◌, ℕ, ◌^◌, ◌<◌, Bool, List, IsTr
 use Rattle.lxr_graph.specs.declared.report.Kind.TheVariants as kind
 use Rattle.lxr_graph.specs.History.{Item}
 use Rattle.lxr_image.specs.declared.space.Space.{Space}
-use Rattle.lxr_image.specs.Spaces.{tables_of}
 use Rattle.lxr_model.specs.Moments.{moment}
 use Rattle.lxr_invariant.specs.AbstractState.{AbstractState}
-use Rattle.lxr_invariant.specs.Lines.{NoneChosen}
 use Rattle.lxr_invariant.specs.Quiescent.{IsQuiescent}
 use Rattle.lxr_mutator.specs.Mutating.{IsWaiting, Mutating}
 use Rattle.lxr_core_sim_mutator.specs.Showing.{IsNew}
@@ -20,11 +18,10 @@ use Rattle.lxr_run_serve.specs.Answering.{Answers}
 abbrev pub NewsWait : List Mutating → Type 0
 NewsWait mutators = (i : ℕ) (m : Mutating) → slice_get mutators i ≡ Some m → IsWaiting m → IsNew m
 
--- Waiting `new`s may be served: the space is between epochs and no block is Chosen, the actors rest and fit it, and a collecting pause is said to
--- stand before only where the last pause was one. New objects can still be counted.
+-- Waiting `new`s may be served: the space is between epochs, the actors rest and fit it, and a collecting pause is said to stand before
+-- only where the last pause was one. New objects can still be counted.
 pub record CanServe (s : Space) (g : AbstractState) (actors : List AnyActor) (collected : Bool) : Type 0 where
   pub between : IsQuiescent s g
-  pub none_chosen : NoneChosen (tables_of s) s.limits.blocks
   pub fit : FitSpace s.limits g.moment.state.graph actors
   pub collected_is : IsTrue collected → s.report.kind ≡ kind.Collect
   pub counted : s.tally.news < 2 ^ 63
@@ -38,7 +35,6 @@ pub record KeepsHelpers (before after : List AnyActor) : Type 0 where
 -- what may be served still may: the space is between epochs for some state, which the actors fit
 pub record CanServeOn (s : Space) (g : AbstractState) (actors : List AnyActor) : Type 0 where
   pub between : IsQuiescent s g
-  pub none_chosen : NoneChosen (tables_of s) s.limits.blocks
   pub fit : FitSpace s.limits g.moment.state.graph actors
 
 -- What a call has come to, behind a history and from the state that the space stood for: the history goes on by the answers, and the space stands for a

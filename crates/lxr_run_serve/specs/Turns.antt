@@ -2,10 +2,8 @@
 use Rattle.std.specs.Prelude.{◌≡◌, ℕ, ◌+◌, ◌^◌, ◌<◌, ◌≤◌, ◌⊎◌, Bool, true, false, Option, Some, None, List}
 use Rattle.lxr_graph.specs.History.{Item}
 use Rattle.lxr_image.specs.declared.space.Space.{Space}
-use Rattle.lxr_image.specs.Spaces.{tables_of}
 use Rattle.lxr_blocks.specs.Placing.{IsFull}
 use Rattle.lxr_invariant.specs.AbstractState.{AbstractState}
-use Rattle.lxr_invariant.specs.Lines.{NoneChosen}
 use Rattle.lxr_invariant.specs.Quiescent.{IsQuiescent}
 use Rattle.lxr_mutator.specs.declared.phases.Waiting.{Waiting}
 use Rattle.lxr_mutator.specs.Mutating.{Mutating, waiting_by}
@@ -14,11 +12,9 @@ use Rattle.lxr_core.specs.declared.actors.AnyActor.TheVariants as any
 use Rattle.lxr_core.specs.Resting.{FitsThread}
 use Rattle.lxr_run_serve.specs.Answering.{TakesTurn}
 
--- The turn of thread t has come: the space is between epochs and no block is Chosen, the thread's mutator rests and fits it, and one more object
--- can be counted.
+-- The turn of thread t has come: the space is between epochs, the thread's mutator rests and fits it, and one more object can be counted.
 pub record MayTakeTurn (s : Space) (g : AbstractState) (t : ℕ) (m : Mutating) : Type 0 where
   pub between : IsQuiescent s g
-  pub none_chosen : NoneChosen (tables_of s) s.limits.blocks
   pub thread : (1 ≤ t) × (t ≤ s.limits.threads)
   pub fits : FitsThread s.limits g.moment.state.graph t m
   pub counted : s.tally.news + 1 < 2 ^ 64

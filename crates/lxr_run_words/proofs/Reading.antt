@@ -252,6 +252,7 @@ rows =
     ∷ record { index = 4; least = 0; greatest = 18446744073709551615 }
     ∷ record { index = 5; least = 1; greatest = 1000000 }
     ∷ record { index = 6; least = 1; greatest = 1000000 }
+    ∷ record { index = 7; least = 1; greatest = 1048576 }
     ∷ []
 
 -- the row of an index; past the last the first
@@ -259,25 +260,26 @@ abbrev pub row : ℕ → NumberOption
 row index = get_or rows index (record { index = 0; least = 1; greatest = 1024 })
 
 -- what holds of each row holds of each option that a word names
-each_row : (P : NumberOption → Type 0) → P (row 0) → P (row 1) → P (row 2) → P (row 3) → P (row 4) → P (row 5) → P (row 6) → (name : Text) (option : NumberOption) → option_named name ≡ Some option → P option
-each_row P blocks workers every log replay trace within name option e =
+each_row : (P : NumberOption → Type 0) → P (row 0) → P (row 1) → P (row 2) → P (row 3) → P (row 4) → P (row 5) → P (row 6) → P (row 7) → (name : Text) (option : NumberOption) → option_named name ≡ Some option → P option
+each_row P blocks workers every log replay trace within remember name option e =
     go (bytes_eq name (codes "--blocks")) (bytes_eq name (codes "--workers")) (bytes_eq name (codes "--every")) (bytes_eq name (codes "--log")) (bytes_eq name (codes "--replay"))
-    (bytes_eq name (codes "--trace")) (bytes_eq name (codes "--within")) e
+    (bytes_eq name (codes "--trace")) (bytes_eq name (codes "--within")) (bytes_eq name (codes "--remember")) e
   where
-    go : (a b c d f g h : Bool)
-        → (if a then Some (row 0) else if b then Some (row 1) else if c then Some (row 2) else if d then Some (row 3) else if f then Some (row 4) else if g then Some (row 5) else if h then Some (row 6) else None) ≡ Some option
+    go : (a b c d f g h i : Bool)
+        → (if a then Some (row 0) else if b then Some (row 1) else if c then Some (row 2) else if d then Some (row 3) else if f then Some (row 4) else if g then Some (row 5) else if h then Some (row 6) else if i then Some (row 7) else None) ≡ Some option
         → P option
-    go true b c d f g h e = subst P (cc) blocks
-    go false true c d f g h e = subst P (cc) workers
-    go false false true d f g h e = subst P (cc) every
-    go false false false true f g h e = subst P (cc) log
-    go false false false false true g h e = subst P (cc) replay
-    go false false false false false true h e = subst P (cc) trace
-    go false false false false false false true e = subst P (cc) within
-    go false false false false false false false e = absurd (cc)
+    go true b c d f g h i e = subst P (cc) blocks
+    go false true c d f g h i e = subst P (cc) workers
+    go false false true d f g h i e = subst P (cc) every
+    go false false false true f g h i e = subst P (cc) log
+    go false false false false true g h i e = subst P (cc) replay
+    go false false false false false true h i e = subst P (cc) trace
+    go false false false false false false true i e = subst P (cc) within
+    go false false false false false false false true e = subst P (cc) remember
+    go false false false false false false false false e = absurd (cc)
 
 is_row : (name : Text) (option : NumberOption) → option_named name ≡ Some option → option ≡ row option.index
-is_row = each_row (λ option. option ≡ row option.index) refl refl refl refl refl refl refl
+is_row = each_row (λ option. option ≡ row option.index) refl refl refl refl refl refl refl refl
 
 range_at : (index : ℕ) → HasRange index (row index).least (row index).greatest
 range_at index name option named same =
@@ -293,16 +295,17 @@ options_in_range words given spells = record {
   replay = (numbers_between words given 4 0 18446744073709551615 0 (range_at 4) (omega arith, omega arith) refl spells).1;
   trace = numbers_between words given 5 1 1000000 8 (range_at 5) (omega arith, omega arith) refl spells;
   within = numbers_between words given 6 1 1000000 4 (range_at 6) (omega arith, omega arith) refl spells;
+  remember = numbers_between words given 7 1 1048576 4096 (range_at 7) (omega arith, omega arith) refl spells;
 }
 
 pub read_in_range : (words : List Text) (given : Given) → given_in words ≡ Some given → AreInRange (options_from given)
 read_in_range words given read = options_in_range words given (read_is_spelled words given read)
 
-pub same_options : (given : Given) {blocks workers every log replay trace within : ℕ} → number_or 0 64 given.numbers ≡ blocks → number_or 1 2 given.numbers ≡ workers
+pub same_options : (given : Given) {blocks workers every log replay trace within remember : ℕ} → number_or 0 64 given.numbers ≡ blocks → number_or 1 2 given.numbers ≡ workers
     → number_or 2 1024 given.numbers ≡ every → number_or 3 1024 given.numbers ≡ log → number_or 4 0 given.numbers ≡ replay → number_or 5 8 given.numbers ≡ trace
-    → number_or 6 4 given.numbers ≡ within
-    → options_from given ≡ record { blocks = blocks; workers = workers; every = every; log = log; replay = replay; trace = trace; within = within; counts = given.counts }
-same_options given {blocks} {workers} {every} {log} {replay} {trace} {within} a b c d e f g = cc
+    → number_or 6 4 given.numbers ≡ within → number_or 7 4096 given.numbers ≡ remember
+    → options_from given ≡ record { blocks = blocks; workers = workers; every = every; log = log; replay = replay; trace = trace; within = within; remember = remember; counts = given.counts }
+same_options given {blocks} {workers} {every} {log} {replay} {trace} {within} {remember} a b c d e f g h = cc
 
 -- ---- the loop
 

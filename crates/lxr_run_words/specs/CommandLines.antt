@@ -27,11 +27,12 @@ option_named word =
     else if bytes_eq word (codes "--replay") then Some (record { index = 4; least = 0; greatest = 18446744073709551615 })
     else if bytes_eq word (codes "--trace") then Some (record { index = 5; least = 1; greatest = 1000000 })
     else if bytes_eq word (codes "--within") then Some (record { index = 6; least = 1; greatest = 1000000 })
+    else if bytes_eq word (codes "--remember") then Some (record { index = 7; least = 1; greatest = 1048576 })
     else None
 
 -- no option is given
 abbrev pub none_given : Given
-none_given = record { numbers = replicate 7 None; counts = false }
+none_given = record { numbers = replicate 8 None; counts = false }
 
 -- the number of the option at an index, or a default where it isn't given
 abbrev pub number_or : ℕ → ℕ → Numbers → ℕ
@@ -47,6 +48,7 @@ options_from given = record {
   replay = number_or 4 0 given.numbers;
   trace = number_or 5 8 given.numbers;
   within = number_or 6 4 given.numbers;
+  remember = number_or 7 4096 given.numbers;
   counts = given.counts;
 }
 
@@ -98,6 +100,7 @@ pub record AreInRange (options : RunOptions) : Type 0 where
   pub replay : options.replay ≤ 18446744073709551615
   pub trace : (1 ≤ options.trace) × (options.trace ≤ 1000000)
   pub within : (1 ≤ options.within) × (options.within ≤ 1000000)
+  pub remember : (1 ≤ options.remember) × (options.remember ≤ 1048576)
 
 -- ---- the words as they are read, from the front
 

@@ -11,7 +11,7 @@ ghost use Rattle.lxr_run_words.specs.CommandLines.{AreInRange, IsCommandLine, gi
 use lxr_text_script::number_of;
 
 /// How many options have a number.
-const OPTIONS: usize = 7;
+const OPTIONS: usize = 8;
 
 /// What the words of the command line ask for.
 #[derive(Clone, Copy, Debug, PartialEq, Eq)]
@@ -30,6 +30,8 @@ pub struct RunOptions {
     pub trace: u32,
     /// How many pauses after the one that began it a trace ends at the latest, 1 to 1,000,000.
     pub within: u32,
+    /// The entries of the remembered set, 1 to 1,048,576.
+    pub remember: u32,
     /// Whether a pause that isn't plain tells the count of each object.
     pub counts: bool,
 }
@@ -91,6 +93,11 @@ fn option_of(word: &str) -> Option<NumberOption>
             index: 6,
             least: 1,
             greatest: 1_000_000,
+        }),
+        "--remember" => Some(NumberOption {
+            index: 7,
+            least: 1,
+            greatest: 1_048_576,
         }),
         _ => None,
     }
@@ -180,6 +187,7 @@ pub fn read_options(words: &[&str]) -> Option<RunOptions>
     let replay = numbers[4].unwrap_or(0);
     let trace = numbers[5].unwrap_or(8);
     let within = numbers[6].unwrap_or(4);
+    let remember = numbers[7].unwrap_or(4096);
     Some(RunOptions {
         blocks: blocks as u32,
         workers: workers as u8,
@@ -188,6 +196,7 @@ pub fn read_options(words: &[&str]) -> Option<RunOptions>
         replay,
         trace: trace as u32,
         within: within as u32,
+        remember: remember as u32,
         counts: given.counts,
     })
 }

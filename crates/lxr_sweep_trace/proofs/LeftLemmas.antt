@@ -1,6 +1,7 @@
 -- What is left to mark stands at start bits, and what its references hold is read off the heap.
-use Rattle.std.proofs.Common.{◌≡◌, ℕ, ◌+◌, ◌*◌, ◌^◌, ◌<◌, ◌≤◌, sym, ap, ◌∙◌, inl, inr, arith, Bool, true, false, cond, nat_le, nat_lt}
+use Rattle.std.proofs.Common.{◌≡◌, ℕ, ◌+◌, ◌*◌, ◌^◌, ◌<◌, ◌≤◌, refl, sym, ap, ◌∙◌, inl, inr, arith, Bool, true, false, cond, nat_le, nat_lt}
 use Rattle.std.specs.Prelude.{◌&&◌, Option, Some, None, IsTrue}
+use Rattle.std.proofs.lemmas.Bool.{and_parts}
 use Rattle.std.proofs.lemmas.Bool.Decides.{leb_tells, nat_tests}
 use Rattle.lxr_layout.specs.declared.TheConstants.{WORDS_IN_BLOCK}
 use Rattle.lxr_layout.specs.declared.Name.{Name}
@@ -77,3 +78,17 @@ field_place t blocks p i is placed start within =
     let slots : slots_at t p ≡ w.1.refs = ap slots_in (whole_header t blocks p w.0 w.1 placed start w.2) in
     let fits = w.2.in_heap in
     omega (arith, slots, fits)
+
+-- an object has at most 1,023 references
+pub slots_small : (t : Tables) (blocks : ℕ) → IsTraceable t blocks → (p : ℕ) → slots_at t p ≤ 1023
+slots_small t blocks is p = by (nat_le 1 p && t.starts (granule_of p)) refl
+  where
+    by : (b : Bool) → (nat_le 1 p && t.starts (granule_of p)) ≡ b → slots_at t p ≤ 1023
+    by true is_there =
+        let both = and_parts (nat_le 1 p) (t.starts (granule_of p)) is_there in
+        let w = is.whole (granule_of p) both.1 in
+        let first = both.0 in
+        let slots : slots_at t p ≡ w.1.refs = ap slots_in (whole_header t blocks p w.0 w.1 (grind (arith, nat_tests, first)) both.1 w.2) in
+        let fits = w.2.shape.0 in
+        omega (arith, slots, fits)
+    by false none = let slots : slots_at t p ≡ 0 = ap (λ b. slots_in (cond b (Some (header_of (t.heap (first_word p)))) None)) none in omega (arith, slots)

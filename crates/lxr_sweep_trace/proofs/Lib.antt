@@ -1,8 +1,13 @@
 pub mod LeftLemmas
+pub mod EnteringLemmas
+pub mod SlotLemmas
+pub mod DrawnLemmas
 pub mod MarkingLemmas
 pub mod ScanLemmas
+pub mod PassingLemmas
 pub mod WantedLemmas
 pub mod HoldsLemmas
 pub mod ClearLemmas
 pub mod NamedLemmas
+pub mod NameSlotLemmas
 pub mod TraceLemmas

@@ -1,10 +1,11 @@
 -- An object that is to be found and is found keeps the stage of a trace.
-use Rattle.std.proofs.Common.{◌≡◌, ℕ, ◌+◌, ◌*◌, ◌<◌, ◌≤◌, refl, sym, ap, subst, ◌∙◌, inl, inr, ◌⊎◌, arith, Bool, true, false, cond, [], ◌∷◌, IsTrue, length, length-append}
+use Rattle.std.proofs.Common.{◌≡◌, ℕ, ◌+◌, ◌*◌, ◌<◌, ◌≤◌, refl, sym, ap, subst, ◌∙◌, inl, inr, ◌⊎◌, arith, Bool, true, false, cond, List, [], ◌∷◌, IsTrue, length, length-append}
 use Rattle.std.specs.Prelude.{not, Some}
 use Rattle.std.specs.List.{Contains}
 use Rattle.std.proofs.lemmas.List.Elements.{Contains-append_left, Contains-push, Contains-push_cases}
+use Rattle.lxr_layout.specs.declared.limits.Limits.{Limits}
 use Rattle.lxr_layout.specs.declared.Place.{Place}
-use Rattle.lxr_layout.specs.declared.TheConstants.{GRANULES_IN_BLOCK}
+use Rattle.lxr_layout.specs.declared.TheConstants.{GRANULES_IN_BLOCK, REMEMBERED_CURSOR}
 use Rattle.lxr_layout.specs.Spaces.{AreLimits, region_begin}
 use Rattle.lxr_base.specs.Roomy.{pushed}
 use Rattle.lxr_image.specs.declared.space.Space.{Space}
@@ -14,8 +15,12 @@ use Rattle.lxr_image.specs.Reads.{field_at, granule_of}
 use Rattle.lxr_model_counting.proofs.DistinctLemmas.{tested}
 use Rattle.lxr_invariant.specs.Counting.{passing}
 use Rattle.lxr_invariant.proofs.EntryLemmas.{changed_cases, changed_here, passing_more, passing_one_more}
-use Rattle.lxr_sweep_trace.specs.Marking.{Finds, IsDue, IsFound, IsMarkedSoFar, IsWaiting, MarkingStage, granules, to_do}
+use Rattle.lxr_remset.specs.Remembering.{is_in_chosen}
+use Rattle.lxr_sweep_trace.specs.Marking.{EntersOnly, Finds, HasAllLeft, IsDue, IsFound, IsMarkedSoFar, IsSeen, IsWaiting, KeepsEntries, MarkingStage, WaitOnce, granules, to_do, unmarked_slots, waiting_slots}
+use Rattle.lxr_sweep_trace.proofs.DrawnLemmas.{drawn_alike, once_pushed}
+use Rattle.lxr_sweep_trace.proofs.EnteringLemmas.{found_alike, found_then, kept_alike, kept_then, with_found_of}
 use Rattle.lxr_sweep_trace.proofs.LeftLemmas.{due_left, left_start}
+use Rattle.lxr_sweep_trace.proofs.SlotLemmas.{fewer_unmarked, one_marked, waiting_pushed}
 
 -- ---- one object
 
@@ -49,6 +54,23 @@ module _ (a b : Space) (place : Place) (finds : Finds a b place) where
 
   pub found_grows : (q : ℕ) → IsFound t q → IsFound u q
   found_grows q is = record { gray = grays_grow (granule_of q) is.gray; marked = marks_grow (granule_of q) is.marked }
+
+  -- the remembered set stays
+  pub set_stays : (l : Limits) → KeepsEntries l t u
+  set_stays l = kept_alike l t u (ap (λ z. z.remembered) finds.tables) (ap (λ z. z.cursors REMEMBERED_CURSOR) finds.tables) (ap (λ z. z.reuse) finds.tables)
+
+  -- a reference that was seen is
+  pub seen_grows : (l : Limits) (p i q : ℕ) → IsSeen l t p i q → IsSeen l u p i q
+  seen_grows l p i q is = record {
+    found = found_grows q is.found;
+    remembered = λ chosen. elim (is.remembered (sym (ap (λ z. is_in_chosen z (record { 0 = q })) finds.tables) ∙ chosen)) [
+      | inl there ↦ inl ((set_stays l).entered p i there)
+      | inr full ↦ inr ((set_stays l).full full)
+    ];
+  }
+
+  found_tables : u ≡ with_found_of t u
+  found_tables = found_alike t u (finds.tables ∙ (λ i. record t { grays = λ k. sym (grays_now k) i; marks = λ k. sym (marks_now k) i }))
 
   -- a bit that is set was set, or is that of the granule
   set_cases : (f : ℕ → Bool) (k : ℕ) → IsTrue (changed f g true k) → IsTrue (f k) ⊎ (k ≡ g)
@@ -86,6 +108,13 @@ module _ (a b : Space) (place : Place) (finds : Finds a b place) where
     | inr k ↦ elim (Contains-push_cases a.work.items place p (subst (λ w. Contains w.items p) (work_unmarked k) h)) [ inl old ↦ inl old | inr new ↦ inr (k, new) ]
   ]
 
+  -- a marked object waits only if it did
+  pub still_waits : (p : ℕ) → IsTrue (t.marks (granule_of p)) → Contains b.work.items (record { 0 = p }) → Contains a.work.items (record { 0 = p })
+  still_waits p marked h = elim (work_cases (record { 0 = p }) h) [
+    | inl old ↦ old
+    | inr new ↦ absurd (let unmarked = new.0 in let same : g ≡ granule_of p = ap (λ z. granule_of z.0) new.1 in cc)
+  ]
+
   -- ---- what is left to do
 
   limits_stay : b.limits ≡ a.limits
@@ -115,7 +144,7 @@ module _ (a b : Space) (place : Place) (finds : Finds a b place) where
 
   -- ---- the stage
 
-  module _ (before : Space) (end : ℕ) (pending : ℕ → ℕ → Type 0) (stage : MarkingStage before a end pending) (due : IsDue (tables_of before) place.0) (within : g < granules a) where
+  module _ (before : Space) (end : ℕ) (pending : ℕ → ℕ → Type 0) (ahead : ℕ) (stage : MarkingStage before a end pending ahead) (due : IsDue (tables_of before) place.0) (within : g < granules a) where
     abbrev pub t0 : Tables
     t0 = tables_of before
 
@@ -149,14 +178,14 @@ module _ (a b : Space) (place : Place) (finds : Finds a b place) where
       | inr new ↦ subst (λ z. IsWaiting t0 u z.0) new.1 (record { left = due_left t0 place.0 due (was_unmarked new.0); marked = is_found.marked })
     ]
 
-    scans : (p q i : ℕ) → IsWaiting t0 u p → 1 ≤ q → field_at t0 p i ≡ Some q → Contains b.work.items (record { 0 = p }) ⊎ pending p i ⊎ IsFound u q
+    scans : (p q i : ℕ) → IsWaiting t0 u p → 1 ≤ q → field_at t0 p i ≡ Some q → Contains b.work.items (record { 0 = p }) ⊎ pending p i ⊎ IsSeen before.limits u p i q
     scans p q i w placed e =
         let here : 1 ≤ p = (left_start t0 before.limits.blocks stage.traceable p w.left).0 in
         elim (tested (t.marks (granule_of p))) [
           | inl old ↦ elim (stage.scanned p q i (record { left = w.left; marked = old }) placed e) [
             | inl c ↦ inl (work_grows (record { 0 = p }) c)
             | inr (inl c) ↦ inr (inl c)
-            | inr (inr c) ↦ inr (inr (found_grows q c))
+            | inr (inr c) ↦ inr (inr (seen_grows before.limits p i q c))
           ]
           | inr new ↦ elim (marks_cases (granule_of p) w.marked) [
             | inl c ↦ absurd (cc)
@@ -166,10 +195,33 @@ module _ (a b : Space) (place : Place) (finds : Finds a b place) where
           ]
         ]
 
-    tables_then : u ≡ record t0 { marks = u.marks; grays = u.grays }
-    tables_then =
-        finds.tables ∙ ap {A = Tables} (λ z. record z { grays = changed t.grays g true; marks = changed t.marks g true }) stage.tables
-        ∙ (λ i. record t0 { marks = λ k. sym (marks_now k) i; grays = λ k. sym (grays_now k) i })
+    -- what is found is one of the places where it is left to mark, and waits with its references
+    more_waits : (places : List ℕ) → HasAllLeft t0 places
+        → unmarked_slots t0 u.marks places + waiting_slots t0 b.work.items ≤ unmarked_slots t0 t.marks places + waiting_slots t0 a.work.items
+    more_waits places all = elim (tested (t.marks g)) [
+      | inl h ↦
+          let fewer = fewer_unmarked t0 t.marks u.marks marks_grow places in
+          let same = ap (λ w. waiting_slots t0 w.items) (work_marked h) in
+          omega (arith, fewer, same)
+      | inr h ↦
+          let fewer = one_marked t0 t.marks u.marks marks_grow places place.0 (all place.0 (due_left t0 place.0 due (was_unmarked h))) h is_found.marked in
+          let more = ap (λ w. waiting_slots t0 w.items) (work_unmarked h) ∙ waiting_pushed t0 a.work.items place in
+          omega (arith, fewer, more)
+    ]
+
+    single : WaitOnce b.work.items
+    single = elim (tested (t.marks g)) [
+      | inl h ↦ subst (λ w. WaitOnce w.items) (sym (work_marked h)) stage.single
+      | inr h ↦ subst (λ w. WaitOnce w.items) (sym (work_unmarked h)) (once_pushed a.work.items place stage.single (λ there. let marked = (stage.waiting place there).marked in absurd (cc)))
+    ]
+
+    drawn : EntersOnly before.limits t0 u (λ p i. Contains b.work.items (record { 0 = p }) ⊎ pending p i)
+    drawn = drawn_alike before.limits t0 t _ stage.drawn u _ (ap (λ z. z.remembered) finds.tables) (ap (λ z. z.cursors REMEMBERED_CURSOR) finds.tables) (ap (λ z. z.reuse) finds.tables)
+        (ap (λ z. z.states) finds.tables) marks_grow later
+      where
+        later : (p i : ℕ) → IsTrue (t.marks (granule_of p)) → Contains b.work.items (record { 0 = p }) ⊎ pending p i → Contains a.work.items (record { 0 = p }) ⊎ pending p i
+        later p i marked (inl c) = inl (still_waits p marked c)
+        later p i marked (inr c) = inr c
 
     work_then : b.work ≡ record before.work { items = b.work.items }
     work_then = let room : b.work.room ≡ before.work.room = work_room ∙ ap (λ s. s.work.room) stage.rest in λ i. record { items = b.work.items; room = room i }
@@ -177,18 +229,27 @@ module _ (a b : Space) (place : Place) (finds : Finds a b place) where
     rest_then : b ≡ record before { words = b.words; work = record before.work { items = b.work.items } }
     rest_then = finds.rest ∙ ap {A = Space} (λ z. record z { words = b.words; work = b.work }) stage.rest ∙ (λ i. record before { words = b.words; work = work_then i })
 
-    pub found_stage : MarkingStage before b end pending
+    pub found_stage : MarkingStage before b end pending ahead
     found_stage = record {
       space = record {
         limits = subst AreLimits (sym limits_stay) stage.space.limits;
         size = ap (λ z. z.size) finds.tables ∙ stage.space.size ∙ ap (λ l. region_begin l 15) (sym limits_stay);
       };
       traceable = stage.traceable;
+      far = stage.far;
       so_far = so_far;
       ended = λ k below h. elim (grays_cases k h) [ inl old ↦ marks_grow k (stage.ended k below old) | inr here ↦ ap u.marks here ∙ is_found.marked ];
       waiting = waits;
       scanned = scans;
+      single = single;
+      kept = kept_then before.limits t0 t u (ap (λ z. z.states) stage.tables) stage.kept (set_stays before.limits);
+      drawn = drawn;
+      bound = λ places all.
+          let was = stage.bound places all in
+          let drawn : u.cursors REMEMBERED_CURSOR ≡ t.cursors REMEMBERED_CURSOR = ap (λ z. z.cursors REMEMBERED_CURSOR) finds.tables in
+          let more = more_waits places all in
+          omega (arith, was, drawn, more);
       room = let falls = to_do_falls within in let room = stage.room in let same = work_room in omega (arith, falls, room, same);
-      tables = tables_then;
+      tables = found_then t0 t u stage.tables found_tables;
       rest = rest_then;
     }

@@ -69,7 +69,7 @@ module _ (s : Space) (m : Moment) (at : Name → ℕ) (can : CanTrace s m at) wh
       (x.0, x.1, omega (arith, some, here, there))
 
   -- what is read of an unreclaimed object
-  read_off : (n : Name) → IsTrue (has m.unreclaimed n) → (o : Object) × (object_at m.state.graph n ≡ Some o) × IsReadOff t (at n) at n o
+  pub read_off : (n : Name) → IsTrue (has m.unreclaimed n) → (o : Object) × (object_at m.state.graph n ≡ Some o) × IsReadOff t (at n) at n o
   read_off n h =
       let a = can.holds.image.image.stands n (member n h) in
       (a.0, a.1, image_is_read t s.limits.blocks at m.state.graph m.unreclaimed (members m) n a.0 can.holds.image.image can.holds.bits.starts h (member n h) a.1)
@@ -80,24 +80,29 @@ module _ (s : Space) (m : Moment) (at : Name → ℕ) (can : CanTrace s m at) wh
 
   -- ---- references by names and by places
 
-  pub refers_placed : (u n : Name) → IsTrue (has m.unreclaimed u) → Refers m.state.graph u n → RefersAt t (at u) (at n)
-  refers_placed u n h refers =
+  pub held_placed : (u n : Name) (i : ℕ) → IsTrue (has m.unreclaimed u) → slice_get (refs_of (object_at m.state.graph u)) i ≡ Some (Some n) → field_at t (at u) i ≡ Some (at n)
+  held_placed u n i h held =
       let o = read_off u h in
-      let i = refers.0 in
-      let got : slice_get o.0.refs i ≡ Some (Some n) = sym (ap (λ x. slice_get (refs_of x) i) o.1) ∙ refers.1 in
-      (name_placed n (refers_kept u n h refers), i, o.2.fields i ∙ ap (option_map (place_word at)) got)
+      let got : slice_get o.0.refs i ≡ Some (Some n) = sym (ap (λ x. slice_get (refs_of x) i) o.1) ∙ held in
+      o.2.fields i ∙ ap (option_map (place_word at)) got
+
+  pub refers_placed : (u n : Name) → IsTrue (has m.unreclaimed u) → Refers m.state.graph u n → RefersAt t (at u) (at n)
+  refers_placed u n h refers = (name_placed n (refers_kept u n h refers), refers.0, held_placed u n refers.0 h refers.1)
 
   held_word : (r : Option (Option Name)) (q : ℕ) → 1 ≤ q → option_map (place_word at) r ≡ Some q → (n : Name) × (r ≡ Some (Some n)) × (at n ≡ q)
   held_word None q some e = absurd (cc)
   held_word (Some None) q some e = absurd (let k : 0 ≡ q = cc in omega (arith, k, some))
   held_word (Some (Some n)) q some e = (n, refl, cc)
 
-  pub refers_named : (u : Name) (q : ℕ) → IsTrue (has m.unreclaimed u) → RefersAt t (at u) q → (n : Name) × Refers m.state.graph u n × (at n ≡ q)
-  refers_named u q h refers =
+  pub held_named : (u : Name) (i q : ℕ) → IsTrue (has m.unreclaimed u) → 1 ≤ q → field_at t (at u) i ≡ Some q
+      → (n : Name) × (slice_get (refs_of (object_at m.state.graph u)) i ≡ Some (Some n)) × (at n ≡ q)
+  held_named u i q h some holds =
       let o = read_off u h in
-      let i = refers.1 in
-      let x = held_word (slice_get o.0.refs i) q refers.0 (sym (o.2.fields i) ∙ refers.2) in
-      (x.0, (i, ap (λ z. slice_get (refs_of z) i) o.1 ∙ x.1), x.2)
+      let x = held_word (slice_get o.0.refs i) q some (sym (o.2.fields i) ∙ holds) in
+      (x.0, ap (λ z. slice_get (refs_of z) i) o.1 ∙ x.1, x.2)
+
+  pub refers_named : (u : Name) (q : ℕ) → IsTrue (has m.unreclaimed u) → RefersAt t (at u) q → (n : Name) × Refers m.state.graph u n × (at n ≡ q)
+  refers_named u q h refers = let x = held_named u refers.1 q h refers.0 refers.2 in (x.0, (refers.1, x.1), x.2)
 
   -- ---- a trace can go by places
 

@@ -1,5 +1,5 @@
 -- The worklist is emptied: an object is taken out, and one reference of it after another is found.
-use Rattle.std.proofs.Common.{◌≡◌, ◌≢◌, ℕ, ◌+◌, ◌*◌, ◌^◌, ◌<◌, ◌≤◌, refl, sym, ap, subst, ◌∙◌, inl, inr, arith, Bool, true, false, [], ◌∷◌, ◌++◌, IsTrue, length, length-append}
+use Rattle.std.proofs.Common.{◌≡◌, ◌≢◌, ℕ, ◌+◌, ◌-◌, ◌*◌, ◌^◌, ◌<◌, ◌≤◌, refl, sym, ap, subst, ◌∙◌, inl, inr, ◌⊎◌, arith, Bool, true, false, [], ◌∷◌, ◌++◌, IsTrue, length, length-append}
 use Rattle.std.specs.Prelude.{not, ◌&&◌, Some}
 use Rattle.std.specs.List.{Contains}
 use Rattle.std.proofs.lemmas.Bool.Decides.{eqb_tells, leb_tells}
@@ -12,13 +12,15 @@ use Rattle.lxr_image.specs.declared.space.Space.{Space}
 use Rattle.lxr_image.specs.Spaces.{tables_of}
 use Rattle.lxr_image.specs.Reads.{field_at, granule_of}
 use Rattle.lxr_invariant.proofs.EntryLemmas.{passing_one_more}
-use Rattle.lxr_sweep_trace.specs.Marking.{Finds, IsDue, IsFound, IsMarking, IsNextWanted, IsOver, IsScanning, IsWaiting, MarkingStage, NoneWanted, granules, slots_at}
+use Rattle.lxr_sweep_trace.specs.Marking.{Finds, IsDue, IsMarking, IsNextWanted, IsOver, IsScanning, IsSeen, IsWaiting, MarkingStage, NoneWanted, WaitOnce, granules, slots_at, waiting_slots}
+use Rattle.lxr_sweep_trace.proofs.DrawnLemmas.{drawn_fewer, not_before, once_before}
 use Rattle.lxr_sweep_trace.proofs.LeftLemmas.{due_start, field_place, field_read, field_within, left_start, started_place}
-use Rattle.lxr_sweep_trace.proofs.MarkingLemmas.{found_stage, is_found, marks_grow}
+use Rattle.lxr_sweep_trace.proofs.MarkingLemmas.{found_stage, is_found, marks_grow, still_waits}
+use Rattle.lxr_sweep_trace.proofs.SlotLemmas.{waiting_pushed}
 
 -- ---- what may be found
 
-module _ (before s : Space) (end : ℕ) (pending : ℕ → ℕ → Type 0) (stage : MarkingStage before s end pending) where
+module _ (before s : Space) (end : ℕ) (pending : ℕ → ℕ → Type 0) (ahead : ℕ) (stage : MarkingStage before s end pending ahead) where
   started_now : (k : ℕ) → IsTrue ((tables_of before).starts k) → IsTrue ((tables_of s).starts k)
   started_now k h = ap (λ z. z.starts k) stage.tables ∙ h
 
@@ -48,7 +50,7 @@ scanned_place before s place i is =
 pub scanned_word : (before s : Space) (place : Place) (i : ℕ) → IsScanning before s place.0 i → i < slots_at (tables_of s) place.0 → field_word place.0 i < WORDS_IN_BLOCK * s.limits.blocks
 scanned_word before s place i is within =
     let w = left_start (tables_of before) before.limits.blocks is.stage.traceable place.0 is.waited.left in
-    let same = slots_were before s _ _ is.stage place.0 in
+    let same = slots_were before s _ _ _ is.stage place.0 in
     subst (λ l. field_word place.0 i < WORDS_IN_BLOCK * l.blocks) (sym (ap (λ z. z.limits) is.stage.rest))
     (field_place (tables_of before) before.limits.blocks place.0 i is.stage.traceable w.0 w.1 (subst (λ n. i < n) same within))
 
@@ -56,11 +58,11 @@ scanned_word before s place i is within =
 pub scanned_holds : (before s : Space) (place : Place) (i k w : ℕ) → IsScanning before s place.0 i → i < slots_at (tables_of s) place.0 → k ≡ field_word place.0 i → w ≡ (tables_of s).heap k
     → field_at (tables_of before) place.0 i ≡ Some w
 scanned_holds before s place i k w is within here word =
-    let same = slots_were before s _ _ is.stage place.0 in
+    let same = slots_were before s _ _ _ is.stage place.0 in
     field_read (tables_of before) place.0 i (subst (λ n. i < n) same within) ∙ ap Some (sym (word ∙ ap (tables_of s).heap here ∙ ap (λ z. z.heap (field_word place.0 i)) is.stage.tables))
 
 -- it is to be found
-scanned_due : (before s : Space) (place : Place) (i w : ℕ) → IsScanning before s place.0 i → field_at (tables_of before) place.0 i ≡ Some w → 1 ≤ w → IsDue (tables_of before) w
+pub scanned_due : (before s : Space) (place : Place) (i w : ℕ) → IsScanning before s place.0 i → field_at (tables_of before) place.0 i ≡ Some w → 1 ≤ w → IsDue (tables_of before) w
 scanned_due before s place i w is holds placed = record { placed = placed; by = inr (place.0, is.waited.left, (placed, i, holds)) }
 
 -- so a word of it that isn't nil is the place of an object that is to be found
@@ -68,48 +70,66 @@ pub word_due : (before s : Space) (place : Place) (i k w : ℕ) → IsScanning b
     → IsDue (tables_of before) w
 word_due before s place i k w is within here word some = scanned_due before s place i w is (scanned_holds before s place i k w is within here word) (omega (arith, some))
 
--- the next reference is pending, once what this one holds is found
-pub advanced : (before s : Space) (place i end : ℕ) → MarkingStage before s end (λ p j. (p ≡ place) × (i ≤ j))
-    → ((q : ℕ) → field_at (tables_of before) place i ≡ Some q → 1 ≤ q → IsFound (tables_of s) q) → MarkingStage before s end (λ p j. (p ≡ place) × (i + 1 ≤ j))
-advanced before s place i end stage found = record {
-  space = stage.space;
-  traceable = stage.traceable;
-  so_far = stage.so_far;
-  ended = stage.ended;
-  waiting = stage.waiting;
-  scanned = λ p q j w placed e. elim (stage.scanned p q j w placed e) [
-    | inl c ↦ inl c
-    | inr (inl c) ↦ elim (eqb_tells j i) [
-      | inl here ↦ inr (inr (found q ((λ k. field_at (tables_of before) (sym c.0 k) (sym here.1 k)) ∙ e) placed))
-      | inr other ↦ inr (inl (c.0, let ne = other.1 in let past = c.1 in omega (arith, ne, past)))
-    ]
-    | inr (inr c) ↦ inr (inr c)
-  ];
-  room = stage.room;
-  tables = stage.tables;
-  rest = stage.rest;
-}
+-- each marked object that was left waits in the worklist, or its references are seen, but for those that are pending
+abbrev pub SeenBut : Space → Space → (ℕ → ℕ → Type 0) → Type 0
+SeenBut before s pending = (p q i : ℕ) → IsWaiting (tables_of before) (tables_of s) p → 1 ≤ q → field_at (tables_of before) p i ≡ Some q
+    → Contains s.work.items (record { 0 = p }) ⊎ pending p i ⊎ IsSeen before.limits (tables_of s) p i q
+
+-- the next reference is pending, once this one is seen
+pub seen_next : (before s : Space) (place i : ℕ) → SeenBut before s (λ p j. (p ≡ place) × (i ≤ j))
+    → ((q : ℕ) → field_at (tables_of before) place i ≡ Some q → 1 ≤ q → IsSeen before.limits (tables_of s) place i q) → SeenBut before s (λ p j. (p ≡ place) × (i + 1 ≤ j))
+seen_next before s place i scanned seen p q j w placed e = elim (scanned p q j w placed e) [
+  | inl c ↦ inl c
+  | inr (inl c) ↦ elim (eqb_tells j i) [
+    | inl here ↦
+        let held : field_at (tables_of before) place i ≡ Some q = (λ k. field_at (tables_of before) (sym c.0 k) (sym here.1 k)) ∙ e in
+        inr (inr (subst (λ x. IsSeen before.limits (tables_of s) x j q) (sym c.0) (subst (λ x. IsSeen before.limits (tables_of s) place x q) (sym here.1) (seen q held placed))))
+    | inr other ↦ inr (inl (c.0, let ne = other.1 in let past = c.1 in omega (arith, ne, past)))
+  ]
+  | inr (inr c) ↦ inr (inr c)
+]
+
+-- what is pending then was
+pub later_next : (s : Space) (place i p j : ℕ) → Contains s.work.items (record { 0 = p }) ⊎ ((p ≡ place) × (i + 1 ≤ j)) → Contains s.work.items (record { 0 = p }) ⊎ ((p ≡ place) × (i ≤ j))
+later_next s place i p j (inl c) = inl c
+later_next s place i p j (inr c) = inr (c.0, let past = c.1 in omega (arith, past))
 
 -- a nil reference is passed
 pub passed_nil : (before s : Space) (place : Place) (i w : ℕ) → IsScanning before s place.0 i → field_at (tables_of before) place.0 i ≡ Some w → w ≡ 0 → IsScanning before s place.0 (i + 1)
 passed_nil before s place i w is holds nil = record {
-  stage = advanced before s place.0 i (granules s) is.stage (λ q e placed. absurd (let same : Some w ≡ Some q = sym holds ∙ e in let k : w ≡ q = cc in omega (arith, k, nil, placed)));
+  stage = record {
+    space = is.stage.space;
+    traceable = is.stage.traceable;
+    far = is.stage.far;
+    so_far = is.stage.so_far;
+    ended = is.stage.ended;
+    waiting = is.stage.waiting;
+    scanned = seen_next before s place.0 i is.stage.scanned (λ q e placed. absurd (let same : Some w ≡ Some q = sym holds ∙ e in let k : w ≡ q = cc in omega (arith, k, nil, placed)));
+    single = is.stage.single;
+    kept = is.stage.kept;
+    drawn = drawn_fewer before.limits (tables_of before) (tables_of s) _ is.stage.drawn _ (λ p j marked c. later_next s place.0 i p j c);
+    bound = λ places all. let was = is.stage.bound places all in omega (arith, was);
+    room = is.stage.room;
+    tables = is.stage.tables;
+    rest = is.stage.rest;
+  };
   waited = is.waited;
+  out = is.out;
 }
 
 -- what a reference holds is found
-pub passed_found : (before a b : Space) (place : Place) (i w : ℕ) → IsScanning before a place.0 i → field_at (tables_of before) place.0 i ≡ Some w → 1 ≤ w
-    → Finds a b (record { 0 = w }) → IsScanning before b place.0 (i + 1)
-passed_found before a b place i w is holds placed finds =
+pub found_scanning : (before a b : Space) (place : Place) (i w : ℕ) → IsScanning before a place.0 i → field_at (tables_of before) place.0 i ≡ Some w → 1 ≤ w
+    → Finds a b (record { 0 = w }) → IsScanning before b place.0 i
+found_scanning before a b place i w is holds placed finds =
     let due = scanned_due before a place i w is holds placed in
-    let here = (due_place before a _ _ is.stage w due).0 in
-    let stage = found_stage a b (record { 0 = w }) finds before (granules a) (λ p j. (p ≡ place.0) × (i ≤ j)) is.stage due (omega (arith, here, placed)) in
+    let here = (due_place before a _ _ _ is.stage w due).0 in
+    let ahead : ℕ = slots_at (tables_of before) place.0 - i in
+    let stage = found_stage a b (record { 0 = w }) finds before (granules a) (λ p j. (p ≡ place.0) × (i ≤ j)) ahead is.stage due (omega (arith, here, placed)) in
     let limits : b.limits ≡ a.limits = ap (λ s. s.limits) finds.rest in
     record {
-      stage = subst (λ l. MarkingStage before b (GRANULES_IN_BLOCK * l.blocks) (λ p j. (p ≡ place.0) × (i + 1 ≤ j))) (sym limits)
-          (advanced before b place.0 i (granules a) stage
-          (λ q e _. let same : Some w ≡ Some q = sym holds ∙ e in let k : w ≡ q = cc in subst (IsFound (tables_of b)) k (is_found a b (record { 0 = w }) finds)));
+      stage = subst (λ l. MarkingStage before b (GRANULES_IN_BLOCK * l.blocks) (λ p j. (p ≡ place.0) × (i ≤ j)) ahead) (sym limits) stage;
       waited = record { left = is.waited.left; marked = marks_grow a b (record { 0 = w }) finds (granule_of place.0) is.waited.marked };
+      out = λ h. is.out (still_waits a b (record { 0 = w }) finds place.0 is.waited.marked h);
     }
 
 -- past the last reference nothing is pending
@@ -117,6 +137,7 @@ pub passed_all : (before s : Space) (place i : ℕ) → IsScanning before s plac
 passed_all before s place i is past = record {
   space = is.stage.space;
   traceable = is.stage.traceable;
+  far = is.stage.far;
   so_far = is.stage.so_far;
   ended = is.stage.ended;
   waiting = is.stage.waiting;
@@ -124,17 +145,25 @@ passed_all before s place i is past = record {
     | inl c ↦ inl c
     | inr (inl c) ↦ absurd (
         let within = field_within (tables_of before) p j q e in
-        let same = slots_were before s _ _ is.stage place in
+        let same = slots_were before s _ _ _ is.stage place in
         let here : slots_at (tables_of before) p ≡ slots_at (tables_of before) place = ap (slots_at (tables_of before)) c.0 in
         let from = c.1 in
         omega (arith, within, same, here, from, past)
         )
     | inr (inr c) ↦ inr (inr c)
   ];
+  single = is.stage.single;
+  kept = is.stage.kept;
+  drawn = drawn_fewer before.limits (tables_of before) (tables_of s) _ is.stage.drawn _ (λ p j marked c. still_later p j c);
+  bound = λ places all. let was = is.stage.bound places all in omega (arith, was);
   room = is.stage.room;
   tables = is.stage.tables;
   rest = is.stage.rest;
 }
+  where
+    still_later : (p j : ℕ) → Contains s.work.items (record { 0 = p }) ⊎ ⊥ → Contains s.work.items (record { 0 = p }) ⊎ ((p ≡ place) × (i ≤ j))
+    still_later p j (inl c) = inl c
+    still_later p j (inr c) = absurd c
 
 -- ---- the worklist
 
@@ -144,15 +173,24 @@ module _ (s now : Space) (p : Place) (work : s.work ≡ pushed now.work p) (rest
 
   -- the last of the worklist is taken out: its references are pending
   pub popped : (before : Space) → IsMarking before s (granules s) → IsScanning before now p.0 0
-  popped before is = record { stage = subst (λ z. MarkingStage before z (granules z) (λ q j. (q ≡ p.0) × (0 ≤ j))) (sym rest) taken; waited = subst (λ z. IsWaiting (tables_of before) (tables_of z) p.0) (sym rest) (is.waiting p (in_work p (Contains-push now.work.items p))) }
+  popped before is = record {
+    stage = subst (λ z. MarkingStage before z (granules z) (λ q j. (q ≡ p.0) × (0 ≤ j)) (slots_at (tables_of before) p.0 - 0)) (sym rest) taken;
+    waited = subst (λ z. IsWaiting (tables_of before) (tables_of z) p.0) (sym rest) (is.waiting p (in_work p (Contains-push now.work.items p)));
+    out = not_before now.work.items p (subst (λ w. WaitOnce w.items) work is.single);
+  }
     where
       in_work : (q : Place) → Contains (now.work.items ++ p ∷ []) q → Contains s.work.items q
       in_work q h = subst (λ w. Contains w.items q) (sym work) h
 
-      taken : MarkingStage before (record s { work = now.work }) (granules s) (λ q j. (q ≡ p.0) × (0 ≤ j))
+      waited_or : (q j : ℕ) → Contains now.work.items (record { 0 = q }) ⊎ ((q ≡ p.0) × (0 ≤ j)) → Contains s.work.items (record { 0 = q }) ⊎ ⊥
+      waited_or q j (inl c) = inl (in_work (record { 0 = q }) (Contains-append_left now.work.items (p ∷ []) (record { 0 = q }) c))
+      waited_or q j (inr c) = inl (subst (λ z. Contains s.work.items (record { 0 = z })) (sym c.0) (in_work p (Contains-push now.work.items p)))
+
+      taken : MarkingStage before (record s { work = now.work }) (granules s) (λ q j. (q ≡ p.0) × (0 ≤ j)) (slots_at (tables_of before) p.0 - 0)
       taken = record {
         space = record { limits = is.space.limits; size = is.space.size };
         traceable = is.traceable;
+        far = is.far;
         so_far = is.so_far;
         ended = is.ended;
         waiting = λ q h. is.waiting q (in_work q (Contains-append_left now.work.items (p ∷ []) q h));
@@ -164,6 +202,14 @@ module _ (s now : Space) (p : Place) (work : s.work ≡ pushed now.work p) (rest
           | inr (inl c) ↦ absurd c
           | inr (inr c) ↦ inr (inr c)
         ];
+        single = once_before now.work.items p (subst (λ w. WaitOnce w.items) work is.single);
+        kept = is.kept;
+        drawn = drawn_fewer before.limits (tables_of before) (tables_of s) _ is.drawn _ (λ q j marked c. waited_or q j c);
+        bound = λ places all.
+            let was = is.bound places all in
+            let out : waiting_slots (tables_of before) s.work.items ≡ waiting_slots (tables_of before) now.work.items + slots_at (tables_of before) p.0 =
+            ap (λ w. waiting_slots (tables_of before) w.items) work ∙ waiting_pushed (tables_of before) now.work.items p in
+            omega (arith, was, out);
         room = let one = longer in let same : now.work.room ≡ s.work.room = sym (ap (λ w. w.room) work) in let room = is.room in omega (arith, one, same, room);
         tables = is.tables;
         rest = ap {A = Space} (λ z. record z { work = now.work }) is.rest ∙ (λ i. record before { words = s.words; work = kept i });
@@ -199,6 +245,7 @@ pub ended_later : (before s : Space) (from to : ℕ) → IsMarking before s from
 ended_later before s from to is none = record {
   space = is.space;
   traceable = is.traceable;
+  far = is.far;
   so_far = is.so_far;
   ended = λ k below h. elim (leb_tells from k) [
     | inl past ↦ unwanted_marked ((tables_of s).grays k) ((tables_of s).marks k) (none k past.1 below) h
@@ -206,6 +253,10 @@ ended_later before s from to is none = record {
   ];
   waiting = is.waiting;
   scanned = is.scanned;
+  single = is.single;
+  kept = is.kept;
+  drawn = is.drawn;
+  bound = is.bound;
   room = is.room;
   tables = is.tables;
   rest = is.rest;
@@ -216,11 +267,12 @@ pub ended_behind : (before a b : Space) (from end granule : ℕ) → IsMarking b
 ended_behind before a b from end granule is next inside finds =
     let due = next_due before a from end granule is next in
     let below = next.within in
-    let stage = found_stage a b (record { 0 = granule + 1 }) finds before granule (λ p i. ⊥) (ended_later before a from granule is next.passed) due (omega (arith, below, inside)) in
+    let stage = found_stage a b (record { 0 = granule + 1 }) finds before granule (λ p i. ⊥) 0 (ended_later before a from granule is next.passed) due (omega (arith, below, inside)) in
     let here : granule_of (granule + 1) ≡ granule = omega arith in
     record {
       space = stage.space;
       traceable = stage.traceable;
+      far = stage.far;
       so_far = stage.so_far;
       ended = λ k under h. elim (eqb_tells k granule) [
         | inl q ↦ ap (tables_of b).marks (q.1 ∙ sym here) ∙ (is_found a b (record { 0 = granule + 1 }) finds).marked
@@ -228,6 +280,10 @@ ended_behind before a b from end granule is next inside finds =
       ];
       waiting = stage.waiting;
       scanned = stage.scanned;
+      single = stage.single;
+      kept = stage.kept;
+      drawn = stage.drawn;
+      bound = stage.bound;
       room = stage.room;
       tables = stage.tables;
       rest = stage.rest;

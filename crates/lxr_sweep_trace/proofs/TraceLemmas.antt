@@ -1,9 +1,9 @@
 -- A trace begins with exactly its roots gray, and is finished with exactly what was left marked.
-use Rattle.std.proofs.Common.{◌≡◌, ℕ, zero, suc, ◌+◌, ◌*◌, ◌≤◌, ◌<◌, refl, sym, ap, subst, ◌∙◌, inl, inr, ◌⊎◌, arith, true, false, List, [], ◌∷◌, length}
+use Rattle.std.proofs.Common.{◌≡◌, ℕ, zero, suc, ◌+◌, ◌*◌, ◌/◌, ◌≤◌, ◌<◌, refl, sym, ap, subst, ◌∙◌, inl, inr, ◌⊎◌, arith, true, false, List, [], ◌∷◌, length}
 use Rattle.std.specs.Prelude.{not, Option, Some, None, IsTrue, map, slice_get}
 use Rattle.std.specs.List.{Contains}
 use Rattle.std.proofs.lemmas.Bool.Decides.{leb_tells}
-use Rattle.lxr_layout.specs.declared.TheConstants.{GRANULES_IN_BLOCK}
+use Rattle.lxr_layout.specs.declared.TheConstants.{GRANULES_IN_BLOCK, REMEMBERED_CURSOR}
 use Rattle.lxr_layout.specs.declared.Name.{Name}
 use Rattle.lxr_layout.specs.declared.Place.{Place}
 use Rattle.lxr_graph.specs.Names.{has}
@@ -12,25 +12,39 @@ use Rattle.lxr_image.specs.declared.space.Space.{Space}
 use Rattle.lxr_image.specs.Spaces.{Turns, tables_of}
 use Rattle.lxr_image.specs.Tables.{Tables, changed}
 use Rattle.lxr_image.specs.Image.{place_word}
-use Rattle.lxr_image.specs.Reads.{granule_of}
+use Rattle.lxr_image.specs.Reads.{field_at, granule_of}
 use Rattle.lxr_image.proofs.TableLaws.{no_start_past}
-use Rattle.lxr_model.specs.Moments.{Moment}
+use Rattle.lxr_blocks.specs.declared.states.BlockState.TheVariants.{Chosen}
+use Rattle.lxr_blocks.specs.States.{state_in}
+use Rattle.lxr_model.specs.Moments.{Moment, Trace}
 use Rattle.lxr_model.specs.Reachable.{Holds, Refers}
-use Rattle.lxr_invariant.specs.Tracing.{IsGray, IsMarked, IsRoot, IsToBeMarked}
+use Rattle.lxr_invariant.specs.Lines.{ChosenNeedTrace, is_chosen}
+use Rattle.lxr_invariant.specs.Tracing.{IsGray, IsMarked, IsRoot, IsToBeMarked, unscanned_slots}
 use Rattle.lxr_invariant.proofs.EntryLemmas.{changed_cases, changed_here, passing_few}
-use Rattle.lxr_sweep_trace.specs.Marking.{HoldPlaces, IsFound, IsLeft, IsMarking, IsOver, IsWaiting, RefersAt, ShadesRegisters, granules, gray, referred}
-use Rattle.lxr_sweep_trace.specs.Tracing.{BeginsTrace, CanTrace, FinishesTrace}
+use Rattle.lxr_remset.specs.Remembering.{CanRemember, HasEntryOf, Remembers, entry_now}
+use Rattle.lxr_remset.proofs.ChosenLemmas.{chosen_told}
+use Rattle.lxr_sweep_trace.specs.Marking.{CountsFar, HasEntryAt, HoldPlaces, IsLeft, IsMarking, IsOver, IsSeen, IsWaiting, RefersAt, ShadesRegisters, WaitOnce, granules, gray, referred, waiting_slots}
+use Rattle.lxr_sweep_trace.specs.Tracing.{BeginsTrace, CanFinishTrace, CanTrace, FinishesTrace, HasAllToBeMarked}
+use Rattle.lxr_sweep_trace.proofs.DrawnLemmas.{none_drawn}
+use Rattle.lxr_sweep_trace.proofs.EnteringLemmas.{found_alike, found_none, kept_still}
 use Rattle.lxr_sweep_trace.proofs.HoldsLemmas.{holds_remarked}
 use Rattle.lxr_sweep_trace.proofs.LeftLemmas.{due_start, left_start, started_place}
-use Rattle.lxr_sweep_trace.proofs.NamedLemmas.{left_named, name_placed, refers_kept, refers_named, refers_placed, root_kept, same_place, to_be_kept, to_be_left, traceable}
+use Rattle.lxr_sweep_trace.proofs.NamedLemmas.{held_named, held_placed, left_named, name_placed, refers_kept, refers_named, refers_placed, root_kept, same_place, to_be_kept, to_be_left, traceable}
+use Rattle.lxr_sweep_trace.proofs.NameSlotLemmas.{all_placed, places_of, slots_by_names}
 
 -- ---- a trace is finished
 
+-- no block is Chosen where no trace runs, and where one does the cursor is far from its end
+counts_far : (t : Tables) (blocks : ℕ) (trace : Option Trace) → ChosenNeedTrace t blocks trace → CanRemember trace t → CountsFar t blocks
+counts_far t blocks None none can = inl none
+counts_far t blocks (Some trace) none can = inr can
+
 -- nothing is found yet
-pub opening_stage : (s : Space) (m : Moment) (at : Name → ℕ) → CanTrace s m at → IsMarking s s 0
-opening_stage s m at can = record {
+pub opening_stage : (s : Space) (m : Moment) (at : Name → ℕ) → CanFinishTrace s m at → IsMarking s s 0
+opening_stage s m at may = record {
   space = can.holds.space;
   traceable = traceable s m at can;
+  far = counts_far (tables_of s) s.limits.blocks m.trace can.holds.blocks.chosen may.remembers;
   so_far = record {
     marks_kept = λ k h. h;
     marks_left = λ p some h. inl h;
@@ -40,14 +54,24 @@ opening_stage s m at can = record {
   ended = λ k below. absurd (omega (arith, below));
   waiting = λ p h. absurd (no_item p (subst (λ z. Contains z p) can.holds.no_work h));
   scanned = λ p q i w some e. absurd (not_left p w);
+  single = subst WaitOnce (sym can.holds.no_work) no_waiting;
+  kept = kept_still s.limits (tables_of s);
+  drawn = none_drawn s.limits (tables_of s) _;
+  bound = λ places all. let none = ap (waiting_slots (tables_of s)) can.holds.no_work in omega (arith, none);
   room = let none : length s.work.items ≡ 0 = ap length can.holds.no_work in
       let room = can.holds.room.work in
       let few = passing_few (λ k. not ((tables_of s).marks k)) (granules s) in
       omega (arith, none, room, few);
-  tables = refl;
+  tables = found_none (tables_of s);
   rest = refl;
 }
   where
+    can : CanTrace s m at
+    can = may.trace
+
+    no_waiting : WaitOnce []
+    no_waiting = tt
+
     no_item : (p : Place) → Contains [] p → ⊥
     no_item p h = let within = h.1 in omega (arith, within)
 
@@ -58,7 +82,10 @@ opening_stage s m at can = record {
     not_left : (p : ℕ) → IsWaiting (tables_of s) (tables_of s) p → ⊥
     not_left p w = let none = left_unmarked p w.left in let marked = w.marked in absurd (cc)
 
-module _ (s after : Space) (m : Moment) (at : Name → ℕ) (can : CanTrace s m at) (over : IsOver s after) where
+module _ (s after : Space) (m : Moment) (at : Name → ℕ) (may : CanFinishTrace s m at) (over : IsOver s after) where
+  abbrev can : CanTrace s m at
+  can = may.trace
+
   abbrev t : Tables
   t = tables_of s
 
@@ -78,18 +105,18 @@ module _ (s after : Space) (m : Moment) (at : Name → ℕ) (can : CanTrace s m 
   no_item : (p : Place) → Contains after.work.items p → ⊥
   no_item p h = let within = h.1 in let none : length after.work.items ≡ 0 = ap length over.no_work in omega (arith, within, none)
 
-  -- what a marked object refers to that was left to mark is found
-  scanned_found : (p q : ℕ) → IsLeft t p → IsTrue (u.marks (granule_of p)) → RefersAt t p q → IsFound u q
-  scanned_found p q left marked refers = elim (over.stage.scanned p q refers.1 (record { left = left; marked = marked }) refers.0 refers.2) [
+  -- each reference of a marked object that was left to mark is seen
+  scanned_seen : (p q : ℕ) → IsLeft t p → IsTrue (u.marks (granule_of p)) → (refers : RefersAt t p q) → IsSeen s.limits u p refers.1 q
+  scanned_seen p q left marked refers = elim (over.stage.scanned p q refers.1 (record { left = left; marked = marked }) refers.0 refers.2) [
     | inl waits ↦ absurd (no_item (record { 0 = p }) waits)
     | inr (inl pending) ↦ absurd pending
-    | inr (inr found) ↦ found
+    | inr (inr seen) ↦ seen
   ]
 
   -- all that was left is marked
   left_marked : (p : ℕ) → IsLeft t p → IsTrue (u.marks (granule_of p))
   left_marked p (gray _ some g unmarked) = start_marked (granule_of p) (can.holds.bits.grays (granule_of p) g) (over.stage.so_far.grays_kept (granule_of p) g)
-  left_marked q (referred p _ left refers unmarked) = (scanned_found p q left (left_marked p left) refers).marked
+  left_marked q (referred p _ left refers unmarked) = (scanned_seen p q left (left_marked p left) refers).found.marked
 
   -- marks and grays stand at objects
   next_granule : (k : ℕ) → granule_of (k + 1) ≡ k
@@ -136,11 +163,49 @@ module _ (s after : Space) (m : Moment) (at : Name → ℕ) (can : CanTrace s m 
   gray_since n (inl was) = over.stage.so_far.grays_kept (granule_of (at n)) was
   gray_since n (inr r) =
       let left = to_be_left s m at can r.0 r.1 in
-      (scanned_found (at r.0) (at n) left (left_marked (at r.0) left) (refers_placed s m at can r.0 n (to_be_kept s m at can r.0 r.1) r.2)).gray
+      (scanned_seen (at r.0) (at n) left (left_marked (at r.0) left) (refers_placed s m at can r.0 n (to_be_kept s m at can r.0 r.1) r.2)).found.gray
 
   marked_since : (n : Name) → IsMarked t at n ⊎ IsToBeMarked t m at n → IsMarked u at n
   marked_since n (inl was) = over.stage.so_far.marks_kept (granule_of (at n)) was
   marked_since n (inr is) = left_marked (at n) (to_be_left s m at can n is)
+
+  -- ---- what is remembered
+
+  -- each number that was drawn has the entry of a reference of what was to be marked
+  entry_by : (k : ℕ) → HasEntryAt t u (λ p i. Contains after.work.items (record { 0 = p }) ⊎ ⊥) k → HasEntryOf u m at (λ n i. IsToBeMarked t m at n) k
+  entry_by k e =
+      let n = left_named s m at can e.place e.scanned.left in
+      let v = held_named s m at can n.0 e.index e.held (to_be_kept s m at can n.0 n.1) e.placed (ap (λ z. field_at t z e.index) n.2 ∙ e.holds) in
+      record {
+        holder = n.0;
+        held = v.0;
+        index = e.index;
+        one = n.1;
+        holds = v.1;
+        chosen = subst (λ z. state_in u (granule_of z / GRANULES_IN_BLOCK) ≡ Chosen) (sym v.2) (chosen_told (state_in u (granule_of e.held / GRANULES_IN_BLOCK)) e.chosen);
+        entry = e.entry ∙ ap (λ z. entry_now u (record { 0 = z }) e.index) (sym n.2);
+      }
+
+  remembers : Remembers s.limits t u m at at (λ n i. IsToBeMarked t m at n)
+  remembers = record {
+    fields = λ n v i is held chosen.
+        let left = to_be_left s m at can n is in
+        let member = to_be_kept s m at can n is in
+        let placed = name_placed s m at can v (refers_kept s m at can n v member (i, held)) in
+        (scanned_seen (at n) (at v) left (left_marked (at n) left) (placed, i, held_placed s m at can n v i member held)).remembered (ap is_chosen chosen);
+    only = λ k from below room. entry_by k (over.stage.drawn.only k from below room);
+    kept = λ n i held member holds there. over.stage.kept.entered (at n) i there;
+    full = over.stage.kept.full;
+    entries = over.stage.kept.entries;
+    idle = over.stage.kept.idle;
+  }
+
+  bound : (names : List Name) → HasAllToBeMarked t m at names → u.cursors REMEMBERED_CURSOR + unscanned_slots u m at names ≤ t.cursors REMEMBERED_CURSOR + unscanned_slots t m at names
+  bound names all =
+      let is = over.stage.bound (places_of m at names) (all_placed s m at can names all) in
+      let now = slots_by_names s m at can u.marks names in
+      let was = slots_by_names s m at can t.marks names in
+      omega (arith, is, now, was)
 
   pub trace_finished : FinishesTrace s after m at
   trace_finished = record {
@@ -148,6 +213,9 @@ module _ (s after : Space) (m : Moment) (at : Name → ℕ) (can : CanTrace s m 
     marks = λ n h. (marked_by n h, marked_since n);
     grays = λ n h. (gray_by n h, gray_since n);
     none_left = λ k g. start_marked k (grays_start k g) g;
+    remembers = remembers;
+    once = over.stage.drawn.once;
+    bound = bound;
     tables = over.stage.tables;
     space = rest_same;
   }
@@ -239,7 +307,7 @@ module _ (s : Space) (m : Moment) (at : Name → ℕ) (can : CanTrace s m at) wh
 
     pub trace_begun : BeginsTrace s after m at
     trace_begun = record {
-      holds = holds_remarked s after m at space_is tables_then (λ k h. absurd (let none = none_marked k in cc))
+      holds = holds_remarked s after m at space_is (found_alike (tables_of s) (tables_of after) tables_then) (λ k h. absurd (let none = none_marked k in cc))
           (λ k h. let x = gray_root k h in ap (tables_of s).starts x.2 ∙ can.holds.bits.starts.each x.0 (root_kept s m at can x.0 x.1)) can.holds;
       none_marked = none_marked;
       grays = λ k. (gray_root k, λ x. root_gray k x.0 x.1 x.2);

@@ -1,7 +1,8 @@
 -- A trace by places: what is left to mark, and what holds while it is marked.
-use Rattle.std.specs.Prelude.{◌≡◌, ℕ, ◌+◌, ◌*◌, ◌<◌, ◌≤◌, ◌⊎◌, ◌&&◌, not, Bool, true, false, Option, Some, None, List, [], IsTrue, length, slice_get, if◌then◌else◌}
+use Rattle.std.specs.Prelude.{◌≡◌, ◌≢◌, ℕ, ◌+◌, ◌-◌, ◌*◌, ◌^◌, ◌<◌, ◌≤◌, ◌⊎◌, ⊤, ◌&&◌, not, Bool, true, false, Option, Some, None, List, [], ◌∷◌, IsTrue, length, slice_get, if◌then◌else◌}
 use Rattle.std.specs.List.{Contains}
-use Rattle.lxr_layout.specs.declared.TheConstants.{GRANULES_IN_BLOCK}
+use Rattle.lxr_layout.specs.declared.TheConstants.{GRANULES_IN_BLOCK, REMEMBERED_CURSOR}
+use Rattle.lxr_layout.specs.declared.limits.Limits.{Limits}
 use Rattle.lxr_layout.specs.declared.Place.{Place}
 use Rattle.lxr_layout.specs.declared.Header.{Header}
 use Rattle.lxr_layout.specs.declared.Header.TheVariants.{Object, Moved}
@@ -11,6 +12,9 @@ use Rattle.lxr_image.specs.Spaces.{IsSpace, tables_of}
 use Rattle.lxr_image.specs.Tables.{Tables, changed}
 use Rattle.lxr_image.specs.Reads.{StartsStandWhole, field_at, granule_of, header_at}
 use Rattle.lxr_invariant.specs.Counting.{passing}
+use Rattle.lxr_invariant.specs.Lines.{NoneChosen}
+use Rattle.lxr_invariant.specs.Tracing.{HasOverflowed}
+use Rattle.lxr_remset.specs.Remembering.{AreEntries, entry_now, is_in_chosen, with_remembered_of}
 
 -- the granules of a space's heap
 abbrev pub granules : Space → ℕ
@@ -56,6 +60,24 @@ pub record IsFound (t : Tables) (q : ℕ) : Type 0 where
   pub gray : IsTrue (t.grays (granule_of q))
   pub marked : IsTrue (t.marks (granule_of q))
 
+-- reference i of the object at a place has an entry with the reuse counter that its line has now
+abbrev pub IsEntered : Limits → Tables → ℕ → ℕ → Type 0
+IsEntered l t p i = (k : ℕ) × (k < t.cursors REMEMBERED_CURSOR) × (k < l.remember) × (t.remembered k ≡ entry_now t (record { 0 = p }) i)
+
+-- Reference i of the object at a place, which holds another place, is scanned: what it holds is found, and where that stands in a Chosen
+-- block, the reference is remembered, unless the set has overflowed.
+pub record IsSeen (l : Limits) (t : Tables) (p i q : ℕ) : Type 0 where
+  pub found : IsFound t q
+  pub remembered : IsTrue (is_in_chosen t (record { 0 = q })) → IsEntered l t p i ⊎ HasOverflowed l t
+
+-- What was remembered is, a set that had overflowed has, and each entry is one of a reference where each was. Where no block is Chosen,
+-- nothing is remembered.
+pub record KeepsEntries (l : Limits) (t u : Tables) : Type 0 where
+  pub entered : (p i : ℕ) → IsEntered l t p i → IsEntered l u p i
+  pub full : HasOverflowed l t → HasOverflowed l u
+  pub entries : AreEntries l t → AreEntries l u
+  pub idle : NoneChosen t l.blocks → (u.remembered ≡ t.remembered) × (u.cursors REMEMBERED_CURSOR ≡ t.cursors REMEMBERED_CURSOR)
+
 -- the object at a place is found, and where it was unmarked it waits in the worklist
 pub record Finds (before after : Space) (place : Place) : Type 0 where
   pub tables : let t : Tables = tables_of before in
@@ -87,6 +109,29 @@ pub record IsWaiting (before now : Tables) (p : ℕ) : Type 0 where
   pub left : IsLeft before p
   pub marked : IsTrue (now.marks (granule_of p))
 
+-- A number of the remembered set has the entry of a reference of an object that was left to mark and is marked. The reference leads into
+-- a Chosen block, and is none of those that are scanned later.
+pub record HasEntryAt (before now : Tables) (IsLater : ℕ → ℕ → Type 0) (k : ℕ) : Type 0 where
+  pub place : ℕ
+  pub index : ℕ
+  pub held : ℕ
+  pub scanned : IsWaiting before now place
+  pub passed : ¬ IsLater place index
+  pub placed : 1 ≤ held
+  pub holds : field_at before place index ≡ Some held
+  pub chosen : IsTrue (is_in_chosen now (record { 0 = held }))
+  pub entry : now.remembered k ≡ entry_now now (record { 0 = place }) index
+
+-- only such references were remembered since, and none of them twice
+pub record EntersOnly (l : Limits) (before now : Tables) (IsLater : ℕ → ℕ → Type 0) : Type 0 where
+  pub only : (k : ℕ) → before.cursors REMEMBERED_CURSOR ≤ k → k < now.cursors REMEMBERED_CURSOR → k < l.remember → HasEntryAt before now IsLater k
+  pub once : (j k : ℕ) → before.cursors REMEMBERED_CURSOR ≤ j → j < k → k < now.cursors REMEMBERED_CURSOR → k < l.remember → now.remembered j ≢ now.remembered k
+
+-- no place stands twice in a worklist
+abbrev pub WaitOnce : List Place → Type 0
+WaitOnce [] = ⊤
+WaitOnce (p ∷ ps) = ¬ Contains ps p × WaitOnce ps
+
 -- Marking has come to these tables. Marked is what was marked and some of what is left, and gray is what was gray and some of
 -- what the latter refers to.
 pub record IsMarkedSoFar (before now : Tables) : Type 0 where
@@ -95,28 +140,55 @@ pub record IsMarkedSoFar (before now : Tables) : Type 0 where
   pub grays_kept : (k : ℕ) → IsTrue (before.grays k) → IsTrue (now.grays k)
   pub grays_due : (p : ℕ) → 1 ≤ p → IsTrue (now.grays (granule_of p)) → IsDue before p
 
+-- where a block is Chosen, far fewer references were remembered before than the cursor can count
+abbrev pub CountsFar : Tables → ℕ → Type 0
+CountsFar t blocks = NoneChosen t blocks ⊎ (t.cursors REMEMBERED_CURSOR < 2 ^ 62)
+
+-- how many references the objects at these places have that aren't marked, in a list of them
+abbrev pub unmarked_slots : Tables → (ℕ → Bool) → List ℕ → ℕ
+unmarked_slots t marks [] = 0
+unmarked_slots t marks (p ∷ ps) = (if marks (granule_of p) then 0 else slots_at t p) + unmarked_slots t marks ps
+
+-- how many references the objects in a worklist have
+abbrev pub waiting_slots : Tables → List Place → ℕ
+waiting_slots t [] = 0
+waiting_slots t (p ∷ ps) = slots_at t p.0 + waiting_slots t ps
+
+-- all that is left to mark stands at one of these places
+abbrev pub HasAllLeft : Tables → List ℕ → Type 0
+HasAllLeft t places = (p : ℕ) → IsLeft t p → Contains places p
+
 -- A space while a trace is finished that began with another space: the grays below a granule are marked. Each marked object that
--- was left waits in the worklist, or what it refers to is found, but for the references that are pending.
-pub record MarkingStage (before s : Space) (end : ℕ) (pending : ℕ → ℕ → Type 0) : Type 0 where
+-- was left waits in the worklist, once, or its references are seen, but for those that are pending, of which there are so many. Only
+-- references that are seen were remembered, and no more than those of what has been marked, without those that wait or are pending.
+pub record MarkingStage (before s : Space) (end : ℕ) (pending : ℕ → ℕ → Type 0) (ahead : ℕ) : Type 0 where
   pub space : IsSpace s
   pub traceable : IsTraceable (tables_of before) before.limits.blocks
+  pub far : CountsFar (tables_of before) before.limits.blocks
   pub so_far : IsMarkedSoFar (tables_of before) (tables_of s)
   pub ended : (k : ℕ) → k < end → IsTrue ((tables_of s).grays k) → IsTrue ((tables_of s).marks k)
   pub waiting : (p : Place) → Contains s.work.items p → IsWaiting (tables_of before) (tables_of s) p.0
   pub scanned : (p q i : ℕ) → IsWaiting (tables_of before) (tables_of s) p → 1 ≤ q → field_at (tables_of before) p i ≡ Some q
-      → Contains s.work.items (record { 0 = p }) ⊎ pending p i ⊎ IsFound (tables_of s) q
+      → Contains s.work.items (record { 0 = p }) ⊎ pending p i ⊎ IsSeen before.limits (tables_of s) p i q
+  pub single : WaitOnce s.work.items
+  pub kept : KeepsEntries before.limits (tables_of before) (tables_of s)
+  pub drawn : EntersOnly before.limits (tables_of before) (tables_of s) (λ p i. Contains s.work.items (record { 0 = p }) ⊎ pending p i)
+  pub bound : (places : List ℕ) → HasAllLeft (tables_of before) places
+      → (tables_of s).cursors REMEMBERED_CURSOR + unmarked_slots (tables_of before) (tables_of s).marks places + waiting_slots (tables_of before) s.work.items + ahead
+      ≤ (tables_of before).cursors REMEMBERED_CURSOR + unmarked_slots (tables_of before) (tables_of before).marks places
   pub room : passing (λ k. not ((tables_of s).marks k)) (granules s) + length s.work.items ≤ s.work.room
-  pub tables : tables_of s ≡ record (tables_of before) { marks = (tables_of s).marks; grays = (tables_of s).grays }
+  pub tables : tables_of s ≡ record (with_remembered_of (tables_of before) (tables_of s)) { marks = (tables_of s).marks; grays = (tables_of s).grays }
   pub rest : s ≡ record before { words = s.words; work = record before.work { items = s.work.items } }
 
 -- no reference is pending
 abbrev pub IsMarking : Space → Space → ℕ → Type 0
-IsMarking before s end = MarkingStage before s end (λ p i. ⊥)
+IsMarking before s end = MarkingStage before s end (λ p i. ⊥) 0
 
 -- the object at a place is out of the worklist, and its references from number i on are pending; all grays are marked
 pub record IsScanning (before s : Space) (place i : ℕ) : Type 0 where
-  pub stage : MarkingStage before s (granules s) (λ p j. (p ≡ place) × (i ≤ j))
+  pub stage : MarkingStage before s (granules s) (λ p j. (p ≡ place) × (i ≤ j)) (slots_at (tables_of before) place - i)
   pub waited : IsWaiting (tables_of before) (tables_of s) place
+  pub out : ¬ Contains s.work.items (record { 0 = place })
 
 -- nothing waits any more
 pub record IsOver (before s : Space) : Type 0 where

@@ -5,11 +5,12 @@ ghost use Rattle.lxr_image.specs.Reads.{granule_of};
 ghost use Rattle.lxr_image.specs.Spaces.{IsSpace, tables_of};
 ghost use Rattle.lxr_model.specs.Moments.{Moment};
 ghost use Rattle.lxr_sweep_trace.specs.Marking.{Empties, Finds, FindsGrays, MayEmpty, MayFindGrays, MayScan, MayScanField, Scans, ScansField, granules, slots_at, to_do};
-ghost use Rattle.lxr_sweep_trace.specs.Tracing.{CanTrace, FinishesTrace};
+ghost use Rattle.lxr_sweep_trace.specs.Tracing.{CanFinishTrace, FinishesTrace};
 
 use crate::wanted::next_wanted;
 use lxr_image::Space;
 use lxr_layout::{Header, Place, field_word};
+use lxr_remset::remember_chosen;
 
 /// Makes the object at a place gray and marks it. Where it was unmarked, it waits in the worklist.
 fn find(space: &mut Space, place: Place)
@@ -38,7 +39,8 @@ fn reference_slots(space: &Space, place: Place) -> u16
     }
 }
 
-/// Finds what one reference of an object holds, unless it is nil.
+/// Finds what one reference of an object holds, unless it is nil. Where that stands in a Chosen block, the reference is
+/// remembered.
 fn scan_field(space: &mut Space, place: Place, index: u16)
     requires { MayScanField space.old place.0 index }
     ensures scans { ScansField space.old space.new place.0 index }
@@ -46,7 +48,9 @@ fn scan_field(space: &mut Space, place: Place, index: u16)
 {
     let word = space.heap_word(field_word(place, index));
     if word != 0 {
-        find(space, Place(word as u32));
+        let held = Place(word as u32);
+        find(space, held);
+        remember_chosen(space, place, index, held);
     }
 }
 
@@ -85,11 +89,12 @@ fn find_grays(space: &mut Space)
 }
 
 /// Finishes a trace, whatever tracers have done of it: each gray object that is unmarked is marked, what it refers to is made
-/// gray, and so on with that. It takes one look for 64 granules and one for each gray object that it finds so, scans each object
-/// that it marks once, and takes no memory and no more of the machine's stack for a longer chain of objects.
+/// gray, and so on with that. Meanwhile references that lead into Chosen blocks are remembered. It takes one look for 64 granules
+/// and one for each gray object that it finds so, scans each object that it marks once, and takes no memory and no more of the
+/// machine's stack for a longer chain of objects.
 pub fn finish_trace(space: &mut Space)
-    requires { (m : Moment) × (at : NameOf → ℕ) × CanTrace space.old m at }
-    ensures { (m : Moment) (at : NameOf → ℕ) → CanTrace space.old m at → FinishesTrace space.old space.new m at }
+    requires { (m : Moment) × (at : NameOf → ℕ) × CanFinishTrace space.old m at }
+    ensures { (m : Moment) (at : NameOf → ℕ) → CanFinishTrace space.old m at → FinishesTrace space.old space.new m at }
 {
     find_grays(space);
     empty_worklist(space);

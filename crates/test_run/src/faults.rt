@@ -1,9 +1,9 @@
 //! Runs whose streams fail.
-use crate::runs::{FIRST, NO_OTHERS, THREE_PAUSES, run, run_script};
 use lxr_image::Space;
 use lxr_run::{Open, Status, Unseen};
 use lxr_text_stream::{Bytes, Kept, Plenty};
 use std::test::Fail;
+use test_scripts::{FIRST, NO_OTHERS, THREE_PAUSES, run, run_script};
 
 #[test]
 fn second_read_fails(rt: HostRuntime) -> Result<(), Fail> {

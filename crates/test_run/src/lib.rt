@@ -3,8 +3,6 @@
 #![tactic(auto)]
 
 #[cfg(test)]
-mod copies;
-#[cfg(test)]
 mod faults;
 #[cfg(test)]
 mod long;
@@ -12,7 +10,5 @@ mod long;
 mod races;
 #[cfg(test)]
 mod refusals;
-#[cfg(test)]
-mod runs;
 #[cfg(test)]
 mod sights;

@@ -1,10 +1,10 @@
 //! A run in a heap that fills up.
-use crate::runs::{NO_OTHERS, run_script};
 use lxr_image::Space;
 use lxr_run::{Status, Unseen};
 use lxr_text_stream::Plenty;
 use std::alloc::{AllocError, Global};
 use std::test::Fail;
+use test_scripts::{NO_OTHERS, run_script};
 
 /// A script that makes 300 objects that take a line each. One block has 125 lines behind the world.
 fn script(alloc: Global) -> Result<String, AllocError> {

@@ -1,12 +1,12 @@
 //! Two threads under many schedules, with decrementers that find nothing to do. A schedule's number and the number of workers
 //! determine the draws, and these who makes which step.
-use crate::runs::{NO_OTHERS, run_script};
 use lxr_image::Space;
 use lxr_run::{Status, Unseen};
 use lxr_text_stream::Plenty;
 use std::process::Abort;
 use std::test::Fail;
 use std::thread::Threads;
+use test_scripts::{NO_OTHERS, run_script};
 
 /// The run of a script under a schedule, with so many workers, writes a text that ends with this.
 fn ends_with<R: Threads + Sync + AllocGlobal + Abort>(

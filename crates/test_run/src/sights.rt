@@ -1,26 +1,16 @@
 //! What a run leaves in the words of the space, what a watch sees of it, and how often the gate is passed.
 ghost use Rattle.lxr_layout.specs.Spaces.{AreLimits};
 
-use crate::runs::{FIRST, THREE_PAUSES, run, run_script};
 use lxr_image::Space;
 use lxr_layout::Limits;
 use lxr_run::{Gate, Seen, Status, Unseen};
-use lxr_tables::Words;
 use lxr_text_stream::{Plenty, Whole};
 use std::sync::atomic::{AtomicU32, Ordering};
 use std::test::Fail;
+use test_scripts::{FIRST, THREE_PAUSES, run, run_script, word};
 
 /// The header of object 1.1 with one reference and one data word.
 const HEADER: u64 = 0x0010_0000_0010_0401;
-
-/// A word of a space, or 0 behind its end.
-fn word(space: &Space, at: usize) -> u64 {
-    if at < space.words.count() {
-        space.words.get(at)
-    } else {
-        0
-    }
-}
 
 #[test]
 fn words_and_tally(rt: HostRuntime) {

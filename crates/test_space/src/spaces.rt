@@ -3,6 +3,7 @@
 //! Tests end with `drop`: a space that a test lets go by itself is let go field by field, which costs more to prove than the
 //! test.
 ghost use Rattle.std.specs.Prelude.{◌≡◌, ◌≤◌};
+ghost use Rattle.lxr_layout.specs.Spaces.{AreLimits};
 ghost use Rattle.lxr_image.specs.Reads.{StartsStandWhole};
 ghost use Rattle.lxr_image.specs.Spaces.{IsSpace, tables_of};
 ghost use Rattle.lxr_blocks.specs.Placing.{IsRest};
@@ -10,8 +11,22 @@ ghost use Rattle.lxr_blocks.specs.Placing.{IsRest};
 use lxr_blocks::{BlockState, longest, state};
 use lxr_image::Space;
 use lxr_layout::{FREE_BLOCK_COUNT, Header, Limits, Name, Place, RUN_COUNT, Shape};
+use lxr_tables::Words;
 use std::alloc::Global;
 use std::process::Abort;
+
+/// A space within limits, just opened.
+pub fn opened_within(rt: &impl Abort, alloc: Global, limits: Limits) -> Space
+    requires { AreLimits limits }
+    ensures space { IsSpace result }
+    ensures starts { StartsStandWhole (tables_of result) result.limits.blocks }
+    ensures rest { IsRest result }
+    ensures limits { result.limits ≡ limits }
+{
+    let mut space = Space::empty(alloc);
+    space.open(alloc, limits).expect(rt, "memory");
+    space
+}
 
 /// A space of so many blocks, just opened.
 pub fn opened(rt: &impl Abort, alloc: Global, blocks: u32) -> Space
@@ -21,15 +36,26 @@ pub fn opened(rt: &impl Abort, alloc: Global, blocks: u32) -> Space
     ensures rest { IsRest result }
     ensures blocks { result.limits.blocks ≡ blocks }
 {
-    let mut space = Space::empty(alloc);
     let limits = Limits {
         blocks,
         threads: 1,
         log: 1,
         remember: 1,
     };
-    space.open(alloc, limits).expect(rt, "memory");
-    space
+    opened_within(rt, alloc, limits)
+}
+
+/// Whether two spaces have the same words.
+pub fn same_words(one: &Space, other: &Space) -> bool {
+    if one.words.count() != other.words.count() {
+        return false;
+    }
+    for at in 0..one.words.count() {
+        if one.words.get(at) != other.words.get(at) {
+            return false;
+        }
+    }
+    true
 }
 
 /// The objects at places 1 and 2, and what reads of the references 63 and 64, and of a value, of the first answer.

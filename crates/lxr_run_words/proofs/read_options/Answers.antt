@@ -13,14 +13,14 @@ returns-in_err-given-clause-accepted c = λ o.
 pub returns-clause-accepted : goal.returns-clause-accepted
 returns-clause-accepted c = λ o.
     subst (λ (z : RunOptions). (Some z ≡ Some o) ↔ IsCommandLine (map (λ (w : Bor (List ℕ)). w.now) c.args.words.now) o)
-    (same_options c.in_ok-given.given (sym c.unwrap_or-blocks.ensures) (sym c.unwrap_or-workers.ensures) (sym c.unwrap_or-every.ensures) (sym c.unwrap_or-log.ensures) (sym c.unwrap_or-replay.ensures) (sym c.unwrap_or-trace.ensures) (sym c.unwrap_or-within.ensures))
+    (same_options c.in_ok-given.given (sym c.unwrap_or-blocks.ensures) (sym c.unwrap_or-workers.ensures) (sym c.unwrap_or-every.ensures) (sym c.unwrap_or-log.ensures) (sym c.unwrap_or-replay.ensures) (sym c.unwrap_or-trace.ensures) (sym c.unwrap_or-within.ensures) (sym c.unwrap_or-remember.ensures))
     (line_accepted c.args.words.now (record { ref_ptr = (0, 0); now = [] }) c.in_ok-given.given c.in-len1-up.len_at_least (sym c.ne.ensures ∙ c.if-ne.false)
     (sym c.read_given.ensures ∙ c.in_ok-given.was) o)
 
 pub returns-clause-ranges : goal.returns-clause-ranges
 returns-clause-ranges c =
     subst AreInRange
-    (same_options c.in_ok-given.given (sym c.unwrap_or-blocks.ensures) (sym c.unwrap_or-workers.ensures) (sym c.unwrap_or-every.ensures) (sym c.unwrap_or-log.ensures) (sym c.unwrap_or-replay.ensures) (sym c.unwrap_or-trace.ensures) (sym c.unwrap_or-within.ensures))
+    (same_options c.in_ok-given.given (sym c.unwrap_or-blocks.ensures) (sym c.unwrap_or-workers.ensures) (sym c.unwrap_or-every.ensures) (sym c.unwrap_or-log.ensures) (sym c.unwrap_or-replay.ensures) (sym c.unwrap_or-trace.ensures) (sym c.unwrap_or-within.ensures) (sym c.unwrap_or-remember.ensures))
     (read_in_range (words_behind c.args.words.now) c.in_ok-given.given (sym c.read_given.ensures ∙ c.in_ok-given.was))
 
 pub overflow_cast-result : goal.overflow_cast-result
@@ -63,4 +63,11 @@ overflow_cast-result-6 c =
     let ranges = read_in_range (words_behind c.args.words.now) c.in_ok-given.given (sym c.read_given.ensures ∙ c.in_ok-given.was) in
     let below = ranges.within.1 in
     let is = c.unwrap_or-within.ensures in
+    omega arith
+
+pub overflow_cast-result-7 : goal.overflow_cast-result-7
+overflow_cast-result-7 c =
+    let ranges = read_in_range (words_behind c.args.words.now) c.in_ok-given.given (sym c.read_given.ensures ∙ c.in_ok-given.was) in
+    let below = ranges.remember.1 in
+    let is = c.unwrap_or-remember.ensures in
     omega arith

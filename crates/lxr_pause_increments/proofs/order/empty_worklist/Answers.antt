@@ -4,12 +4,12 @@ use Rattle.lxr_pause_increments.proofs.ScanLemmas.{emptied, popped, popped_leave
 use Rattle.lxr_pause_increments.proofs.order.empty_worklist.Goals as goal
 
 pub loop-place-init : goal.loop-place-init
-loop-place-init c = record { reaches = λ m at st base is. (st, is, goes_none c.args.space.now m st); leaves = leaves_none c.args.space.now }
+loop-place-init c = record { reaches = λ m at st base is. (st, is, goes_none c.args.space.now m st); leaves = leaves_none c.args.space.now; short = c.requires.short }
 
-pub scan-requires : goal.scan-requires
-scan-requires c =
-    let x = c.loop-place.invariant.reaches c.requires.0 c.requires.1 c.requires.2 c.requires.3 c.requires.4 in
-    let y = popped c.loop-place.space c.pop.new.self c.in-Some.place c.requires.0 c.requires.1 x.0 c.requires.3 x.1 c.in-Some.ensures in
+pub scan-requires-clause-may : goal.scan-requires-clause-may
+scan-requires-clause-may c =
+    let x = c.loop-place.invariant.reaches c.requires.may.0 c.requires.may.1 c.requires.may.2 c.requires.may.3 c.requires.may.4 in
+    let y = popped c.loop-place.space c.pop.new.self c.in-Some.place c.requires.may.0 c.requires.may.1 x.0 c.requires.may.3 x.1 c.in-Some.ensures in
     (_, _, _, _, _, y.scanning)
 
 pub loop-place-preserved : goal.loop-place-preserved
@@ -23,6 +23,7 @@ loop-place-preserved c = record {
   leaves = leaves_both c.args.space.now c.loop-place.space c.scan.new.space c.loop-place.invariant.leaves
       (leaves_both c.loop-place.space (record c.loop-place.space { work = c.pop.new.self }) c.scan.new.space
       (popped_leaves c.loop-place.space c.pop.new.self c.in-Some.place c.in-Some.ensures) c.scan.ensures.leaves);
+  short = c.scan.ensures.short;
 }
 
 pub returns-clause-settles : goal.returns-clause-settles

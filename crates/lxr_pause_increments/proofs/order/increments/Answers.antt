@@ -1,16 +1,17 @@
 use Rattle.std.proofs.Common.{◌∙◌, subst, sym}
 use Rattle.lxr_pause_increments.specs.Accounted.{HasRaisedRoots}
+use Rattle.lxr_pause_increments.specs.Increments.{first_stage}
 use Rattle.lxr_pause_increments.proofs.FrameLemmas.{leaves_both}
-use Rattle.lxr_pause_increments.proofs.RaisedLemmas.{begun, ending, first_stage, raises}
+use Rattle.lxr_pause_increments.proofs.RaisedLemmas.{begun, ending, raises}
 use Rattle.lxr_pause_increments.proofs.RootLemmas.{same_registers}
 use Rattle.lxr_pause_increments.proofs.SnapshotLemmas.{grayed_space, old_values_fit}
 use Rattle.lxr_pause_increments.proofs.order.increments.Goals as goal
 
-pub raise_entries-requires : goal.raise_entries-requires
-raise_entries-requires c = let r = c.requires in (r.0, r.1, first_stage r.1 c.args.space.now, begun c.args.space.now r.0 r.1 r.2)
+pub raise_entries-requires-clause-may : goal.raise_entries-requires-clause-may
+raise_entries-requires-clause-may c = let r = c.requires in (r.0, r.1, first_stage r.1 c.args.space.now, begun c.args.space.now r.0 r.1 r.2)
 
-pub raise_registers-requires : goal.raise_registers-requires
-raise_registers-requires c =
+pub raise_registers-requires-clause-may : goal.raise_registers-requires-clause-may
+raise_registers-requires-clause-may c =
     let r = c.requires in
     let x = c.raise_entries.ensures.settles r.0 r.1 (first_stage r.1 c.args.space.now) (begun c.args.space.now r.0 r.1 r.2) in
     (r.0, r.1, x.0, x.2)

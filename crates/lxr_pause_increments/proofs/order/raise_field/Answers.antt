@@ -1,57 +1,42 @@
-use Rattle.std.proofs.Common.{◌∙◌, ap, arith, sym}
-use Rattle.lxr_image.specs.Spaces.{tables_of}
-use Rattle.lxr_layout.specs.Places.{field_word}
-use Rattle.lxr_pause_increments.proofs.ChangedLemmas.{changed_leaves, field_unwritten, field_written, written_changes}
-use Rattle.lxr_pause_increments.proofs.FrameLemmas.{leaves_both, same_blocks}
-use Rattle.lxr_pause_increments.proofs.HeldLemmas.{field_is_raised, field_place, holder_place}
+use Rattle.std.proofs.Common.{◌∙◌}
+use Rattle.lxr_pause_increments.proofs.ChangedLemmas.{changed_leaves, changed_left}
+use Rattle.lxr_pause_increments.proofs.EnteredLemmas.{field_changes, field_enters, field_may_enter}
+use Rattle.lxr_pause_increments.proofs.FrameLemmas.{leaves_both}
+use Rattle.lxr_pause_increments.proofs.ShortLemmas.{changed_short}
 use Rattle.lxr_pause_increments.proofs.order.raise_field.Goals as goal
 
-pub field_word-at-requires : goal.field_word-at-requires
-field_word-at-requires c = let r = c.requires in (holder_place c.args.space.now r.0 r.1 r.2 r.3 c.args.place r.4 r.5).0
+pub fix_field-held-requires-clause-may : goal.fix_field-held-requires-clause-may
+fix_field-held-requires-clause-may c = let r = c.requires.may in (r.0, r.1, r.2, r.3, r.4, r.5, r.6)
 
-pub heap_word-word-requires-clause-at : goal.heap_word-word-requires-clause-at
-heap_word-word-requires-clause-at c =
-    let r = c.requires in
-    let within = field_place c.args.space.now r.0 r.1 r.2 r.3 c.args.place c.args.index r.4 r.5 r.6.within in
-    let e = c.field_word-at.ensures in
-    omega (arith, within, e)
+pub remember_held-requires : goal.remember_held-requires
+remember_held-requires c =
+    let r = c.requires.may in
+    field_may_enter c.args.space.now c.fix_field-held.new.space r.0 r.1 r.2 r.3 c.args.place c.args.index c.fix_field-held.result r.4 r.5 r.6 (c.fix_field-held.ensures.fixes r.0 r.1 r.2 r.3 r.4 r.5 r.6) r.7
 
-pub raise_word-now-requires : goal.raise_word-now-requires
-raise_word-now-requires c =
-    let r = c.requires in
-    let may = field_is_raised c.args.space.now r.0 r.1 r.2 r.3 c.args.place c.args.index c.field_word-at.result c.heap_word-word.result r.4 r.5 r.6.within c.field_word-at.ensures c.heap_word-word.ensures in
-    (r.0, r.1, r.2, _, r.4, may)
+pub returns-clause-raises : goal.returns-clause-raises
+returns-clause-raises c = λ m at st u is holder raisable. (
+  c.fix_field-held.result.0,
+  field_enters c.args.space.now c.fix_field-held.new.space m at st u c.args.place c.args.index c.fix_field-held.result is holder raisable (c.fix_field-held.ensures.fixes m at st u is holder raisable) c.remember_held.new.space c.remember_held.ensures,
+)
 
-pub put_heap-requires-clause-space : goal.put_heap-requires-clause-space
-put_heap-requires-clause-space c =
-    let r = c.requires in
-    let may = field_is_raised c.args.space.now r.0 r.1 r.2 r.3 c.args.place c.args.index c.field_word-at.result c.heap_word-word.result r.4 r.5 r.6.within c.field_word-at.ensures c.heap_word-word.ensures in
-    (c.raise_word-now.ensures.raises r.0 r.1 r.2 _ r.4 may).incrementing.space
+pub returns-clause-left : goal.returns-clause-left
+returns-clause-left c =
+    let r = c.requires.may in
+    let fixes = c.fix_field-held.ensures.fixes r.0 r.1 r.2 r.3 r.4 r.5 r.6 in
+    changed_left c.fix_field-held.new.space c.remember_held.new.space
+    (field_changes c.args.space.now c.fix_field-held.new.space r.0 r.1 r.2 r.3 c.args.place c.args.index c.fix_field-held.result r.4 r.5 r.6 fixes c.remember_held.new.space c.remember_held.ensures) ∙ c.fix_field-held.ensures.left
 
-pub put_heap-requires-clause-at : goal.put_heap-requires-clause-at
-put_heap-requires-clause-at c =
-    let r = c.requires in
-    let within = field_place c.args.space.now r.0 r.1 r.2 r.3 c.args.place c.args.index r.4 r.5 r.6.within in
-    let e = c.field_word-at.ensures in
-    let same = same_blocks c.args.space.now c.raise_word-now.new.space c.raise_word-now.ensures.leaves in
-    omega (arith, within, e, same)
+pub returns-clause-leaves : goal.returns-clause-leaves
+returns-clause-leaves c =
+    let r = c.requires.may in
+    let fixes = c.fix_field-held.ensures.fixes r.0 r.1 r.2 r.3 r.4 r.5 r.6 in
+    leaves_both c.args.space.now c.fix_field-held.new.space c.remember_held.new.space c.fix_field-held.ensures.leaves
+    (changed_leaves c.fix_field-held.new.space c.remember_held.new.space
+    (field_changes c.args.space.now c.fix_field-held.new.space r.0 r.1 r.2 r.3 c.args.place c.args.index c.fix_field-held.result r.4 r.5 r.6 fixes c.remember_held.new.space c.remember_held.ensures))
 
-pub returns-then-now-word-clause-raises : goal.returns-then-now-word-clause-raises
-returns-then-now-word-clause-raises c = λ m at st u is holder raisable.
-    let may = field_is_raised c.args.space.now m at st u c.args.place c.args.index c.field_word-at.result c.heap_word-word.result is holder raisable.within c.field_word-at.ensures c.heap_word-word.ensures in
-    let raises = c.raise_word-now.ensures.raises m at st _ is may in (
-      c.raise_word-now.result,
-      field_written c.args.space.now c.raise_word-now.new.space m at st u c.args.place.0 c.args.index c.raise_word-now.result is holder raisable raises c.put_heap.new.self c.field_word-at.result c.field_word-at.ensures c.put_heap.ensures,
-    )
-
-pub returns-then-now-word-clause-leaves : goal.returns-then-now-word-clause-leaves
-returns-then-now-word-clause-leaves c =
-    leaves_both c.args.space.now c.raise_word-now.new.space c.put_heap.new.self c.raise_word-now.ensures.leaves
-    (changed_leaves c.raise_word-now.new.space c.put_heap.new.self (written_changes c.raise_word-now.new.space c.put_heap.new.self c.field_word-at.result c.raise_word-now.result c.put_heap.ensures))
-
-pub returns-else-now-word-clause-raises : goal.returns-else-now-word-clause-raises
-returns-else-now-word-clause-raises c = λ m at st u is holder raisable.
-    let may = field_is_raised c.args.space.now m at st u c.args.place c.args.index c.field_word-at.result c.heap_word-word.result is holder raisable.within c.field_word-at.ensures c.heap_word-word.ensures in
-    let raises = c.raise_word-now.ensures.raises m at st _ is may in
-    let told = ap (λ x. (tables_of c.args.space.now).heap (field_word x c.args.index)) (sym holder.stands) ∙ sym (ap (tables_of c.args.space.now).heap c.field_word-at.ensures) ∙ sym c.heap_word-word.ensures ∙ sym c.if-now-word.false in
-    (c.raise_word-now.result, field_unwritten c.args.space.now c.raise_word-now.new.space m at st u c.args.place.0 c.args.index c.raise_word-now.result is holder raisable raises told)
+pub returns-clause-short : goal.returns-clause-short
+returns-clause-short c =
+    let r = c.requires.may in
+    let fixes = c.fix_field-held.ensures.fixes r.0 r.1 r.2 r.3 r.4 r.5 r.6 in
+    changed_short c.fix_field-held.new.space c.remember_held.new.space c.fix_field-held.new.shortage
+    (field_changes c.args.space.now c.fix_field-held.new.space r.0 r.1 r.2 r.3 c.args.place c.args.index c.fix_field-held.result r.4 r.5 r.6 fixes c.remember_held.new.space c.remember_held.ensures) c.fix_field-held.ensures.short

@@ -6,14 +6,14 @@ use Rattle.lxr_pause_increments.proofs.order.raise_held.Goals as goal
 
 pub overflow_cast-now : goal.overflow_cast-now
 overflow_cast-now c =
-    let r = c.requires in
+    let r = c.requires.may in
     let may = subst (λ w. HeldMayBeRaised r.0 r.1 r.2 r.3 w) (sym c.from.ensures) r.4.may in
     let small = raised_small c.args.space.now c.raise_word-now.new.space r.0 r.1 r.2 r.3 c.args.held.0 c.raise_word-now.result r.4.may (c.raise_word-now.ensures.raises r.0 r.1 r.2 r.3 r.4.incrementing may) in
     omega (arith, small)
 
 pub set-requires : goal.set-requires
 set-requires c =
-    let r = c.requires in
+    let r = c.requires.may in
     let may = subst (λ w. HeldMayBeRaised r.0 r.1 r.2 r.3 w) (sym c.from.ensures) r.4.may in
     let raises = c.raise_word-now.ensures.raises r.0 r.1 r.2 r.3 r.4.incrementing may in
     registers_as_many c.raise_word-now.new.space r.0 r.1 _ c.args.register r.3 raises.incrementing r.4.held_is

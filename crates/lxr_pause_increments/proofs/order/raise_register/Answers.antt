@@ -1,16 +1,17 @@
 use Rattle.std.proofs.Common.{refl}
+use Rattle.lxr_pause_increments.proofs.FrameLemmas.{leaves_both}
 use Rattle.lxr_pause_increments.proofs.RootLemmas.{register_at, register_raised, register_same, register_settled}
 use Rattle.lxr_pause_increments.proofs.order.raise_register.Goals as goal
 
-pub raise_held-requires : goal.raise_held-requires
-raise_held-requires c =
-    let r = c.requires in
+pub raise_held-requires-clause-may : goal.raise_held-requires-clause-may
+raise_held-requires-clause-may c =
+    let r = c.requires.may in
     let x = register_at c.args.space.now r.0 r.1 r.2 r.4.settled.accounted.incrementing c.args.register c.item_at-held.result c.item_at.result c.item_at-held.ensures c.item_at.ensures in
     (r.0, r.1, r.2, x.0, x.2.raises)
 
-pub empty_worklist-requires : goal.empty_worklist-requires
-empty_worklist-requires c =
-    let r = c.requires in
+pub empty_worklist-requires-clause-may : goal.empty_worklist-requires-clause-may
+empty_worklist-requires-clause-may c =
+    let r = c.requires.may in
     let x = register_at c.args.space.now r.0 r.1 r.2 r.4.settled.accounted.incrementing c.args.register c.item_at-held.result c.item_at.result c.item_at-held.ensures c.item_at.ensures in
     let y = c.raise_held.ensures.raises r.0 r.1 r.2 x.0 x.2.raises in
     (r.0, r.1, _, _, register_raised c.args.space.now c.raise_held.new.space r.0 r.1 r.2 c.args.register c.item_at-held.result c.item_at.result x.0 x.1 y.0 x.2 c.if-held-item_at.true r.4 y.1)
@@ -26,3 +27,6 @@ pub returns-else-held-item_at-clause-settles : goal.returns-else-held-item_at-cl
 returns-else-held-item_at-clause-settles c = λ m at st within roots.
     let x = register_at c.args.space.now m at st roots.settled.accounted.incrementing c.args.register c.item_at-held.result c.item_at.result c.item_at-held.ensures c.item_at.ensures in
     (st, refl, register_same c.args.space.now m at st c.args.register c.item_at-held.result c.item_at.result x.0 x.1 x.2 c.if-held-item_at.false roots)
+
+pub returns-then-held-item_at-clause-leaves : goal.returns-then-held-item_at-clause-leaves
+returns-then-held-item_at-clause-leaves c = leaves_both c.args.space.now c.raise_held.new.space c.empty_worklist.new.space c.raise_held.ensures.leaves c.empty_worklist.ensures.leaves

@@ -5,11 +5,11 @@ use Rattle.lxr_pause_increments.proofs.RootLemmas.{same_registers}
 use Rattle.lxr_pause_increments.proofs.order.raise_registers.Goals as goal
 
 pub loop-register-init : goal.loop-register-init
-loop-register-init c = record { settles = λ m at st roots. (st, refl, roots); leaves = leaves_none c.args.space.now }
+loop-register-init c = record { settles = λ m at st roots. (st, refl, roots); leaves = leaves_none c.args.space.now; short = c.requires.short }
 
-pub raise_register-requires : goal.raise_register-requires
-raise_register-requires c =
-    let r = c.requires in
+pub raise_register-requires-clause-may : goal.raise_register-requires-clause-may
+raise_register-requires-clause-may c =
+    let r = c.requires.may in
     let x = c.loop-register.invariant.settles r.0 r.1 r.2 r.3 in
     let same = same_registers c.args.space.now c.loop-register.space r.0 r.1 r.2 x.0 r.3.settled.accounted.incrementing x.2.settled.accounted.incrementing in
     let t = c.loop-register-test.true in
@@ -26,6 +26,7 @@ loop-register-preserved c = record {
       let y = c.raise_register.ensures.settles m at x.0 (omega (arith, t, e, same)) x.2 in
       (y.0, y.1 ∙ x.1, y.2);
   leaves = leaves_both c.args.space.now c.loop-register.space c.raise_register.new.space c.loop-register.invariant.leaves c.raise_register.ensures.leaves;
+  short = c.raise_register.ensures.short;
 }
 
 pub returns-clause-settles : goal.returns-clause-settles

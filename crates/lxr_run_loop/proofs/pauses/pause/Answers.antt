@@ -1,7 +1,8 @@
-use Rattle.std.proofs.Common.{◌≡◌, ℕ, ap, subst, sym, length}
+use Rattle.std.proofs.Common.{◌≡◌, ℕ, ◌+◌, ◌∙◌, ap, subst, sym, length}
 use Rattle.std.proofs.lemmas.Result.{on_err_weaker, on_ok_weaker}
 use Rattle.lxr_layout.specs.declared.Name.{Name}
 use Rattle.lxr_image.specs.declared.space.Space.{Space}
+use Rattle.lxr_image.specs.declared.space.Tally.{Tally}
 use Rattle.lxr_invariant.specs.AbstractState.{AbstractState}
 use Rattle.lxr_run_watch.specs.Sights.{Looks, sight_of}
 use Rattle.lxr_graph.specs.History.{report_of}
@@ -20,6 +21,11 @@ use Rattle.lxr_run_loop.proofs.pauses.pause.Goals as goal
 -- the pause is that of the space with what is logged counted
 made : (asked : Ask) (pace : Pace) (before after : Space) (n : ℕ) → n ≡ length before.logged.items → ((g : AbstractState) → CanPause (safepoint_by before n) g → (at' : Name → ℕ) × Pauses (safepoint_by before n) after g at' asked pace) → MakesPause asked pace before after
 made asked pace before after n is pauses = subst (λ k. (g : AbstractState) → CanPause (safepoint_by before k) g → (at' : Name → ℕ) × Pauses (safepoint_by before k) after g at' asked pace) is pauses
+
+-- a pause is counted, whatever it moves and keeps
+counted : (before after : Tally) (moved kept : ℕ) → after ≡ record before { pauses = before.pauses + 1; moved = before.moved + moved; kept = before.kept + kept }
+    → after ≡ record before { pauses = before.pauses + 1; moved = after.moved; kept = after.kept }
+counted before after moved kept is = is ∙ ap (λ (t : Tally). record before { pauses = before.pauses + 1; moved = t.moved; kept = t.kept }) (sym is)
 
 -- it keeps the pace of a run's options
 paced : (asked : Ask) (pace : Pace) (options : RunOptions) (before after : Space) (n : ℕ) → pace ≡ pace_of options → n ≡ length before.logged.items
@@ -66,7 +72,8 @@ pub returns-clause-tally : goal.returns-clause-tally
 returns-clause-tally g c =
     let (task, h, abstract_state, to) = c.requires.due in
     let can = can_pause task c.args.space.now (g.O.Sink.written c.args.output.now) (g.W.Watch.seen c.args.watch.now) h abstract_state to.come c.requires.counts in
-    (made c.args.ask c.pace_of.result c.args.space.now c.one_pause.new.space c.len.result c.len.ensures c.one_pause.ensures abstract_state can).1.tally
+    let pauses = (made c.args.ask c.pace_of.result c.args.space.now c.one_pause.new.space c.len.result c.len.ensures c.one_pause.ensures abstract_state can).1 in
+    counted (with_logs_counted c.args.space.now).tally c.one_pause.new.space.tally (length pauses.moved) (length pauses.kept) pauses.tally
 
 pub returns-clause-pauses : goal.returns-clause-pauses
 returns-clause-pauses g c =

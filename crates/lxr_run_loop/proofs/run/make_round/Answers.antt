@@ -7,7 +7,6 @@ use Rattle.lxr_run_invariant.proofs.ActorLemmas.{left_less}
 use Rattle.lxr_run_invariant.proofs.EndLemmas.{run_to}
 use Rattle.lxr_run_invariant.proofs.PauseLemmas.{counts_fit}
 use Rattle.lxr_run_invariant.proofs.TurnLemmas.{runs_go_on}
-use Rattle.lxr_run_resume.proofs.QuiescentLemmas.{remembered_later, unchosen_later}
 use Rattle.lxr_run_invariant.specs.LoopInvariant.{pace_of}
 use Rattle.lxr_run_loop.specs.Answering.{AnswersWaiting}
 use Rattle.lxr_run_loop.specs.Drawing.{by_answers, by_epoch}
@@ -118,8 +117,6 @@ returns-clause-ok g c = λ task with_options (h, m, amid, drawn).
       limits = ap (λ (s : Space). s.limits) c.list_for_epoch.ensures.lists.rest;
       tally = ap (λ (s : Space). s.tally) c.list_for_epoch.ensures.lists.rest;
       pauses = ap (λ (s : Space). s.pauses) c.list_for_epoch.ensures.lists.rest;
-      none_chosen = unchosen_later c.answer_waiting.new.space c.list_for_epoch.new.space _ _ c.list_for_epoch.ensures.lists;
-      remembered = remembered_later c.answer_waiting.new.space c.list_for_epoch.new.space _ _ c.list_for_epoch.ensures.lists;
     }) in
     record {
       under_way = (

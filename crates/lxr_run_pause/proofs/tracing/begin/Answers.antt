@@ -6,29 +6,40 @@ use Rattle.lxr_run_pause.proofs.TracingLemmas.{can_finish, can_trace}
 use Rattle.lxr_run_pause.proofs.tracing.begin.Goals as goal
 
 pub finish_decrements-requires : goal.finish_decrements-requires
-finish_decrements-requires c = (c.requires.0.moment, c.requires.0.at, can_finish c.args.space.now c.requires.0 c.requires.1)
+finish_decrements-requires c = (c.requires.0.moment, c.requires.0.at, can_finish c.args.space.now c.requires.0 c.requires.1.drains)
 
 pub begin_trace-requires : goal.begin_trace-requires
 begin_trace-requires c =
     let g = c.requires.0 in
-    let f = c.finish_decrements.ensures g.moment g.at (can_finish c.args.space.now g c.requires.1) in
-    (drained g f.0, g.at, can_trace c.args.space.now g c.requires.1 c.finish_decrements.new.space f.0 f.1)
+    let can = c.requires.1.drains in
+    let f = c.finish_decrements.ensures g.moment g.at (can_finish c.args.space.now g can) in
+    (drained g f.0, g.at, can_trace c.args.space.now g can c.finish_decrements.new.space f.0 f.1)
 
-pub set_trace-requires : goal.set_trace-requires
-set_trace-requires c =
+pub sweep_lines-requires : goal.sweep_lines-requires
+sweep_lines-requires c =
     let g = c.requires.0 in
-    let f = c.finish_decrements.ensures g.moment g.at (can_finish c.args.space.now g c.requires.1) in
-    (c.begin_trace.ensures (drained g f.0) g.at (can_trace c.args.space.now g c.requires.1 c.finish_decrements.new.space f.0 f.1)).holds.space
+    let can = c.requires.1.drains in
+    let f = c.finish_decrements.ensures g.moment g.at (can_finish c.args.space.now g can) in
+    (c.begin_trace.ensures (drained g f.0) g.at (can_trace c.args.space.now g can c.finish_decrements.new.space f.0 f.1)).holds.space
 
 pub returns : goal.returns
 returns c g can =
-    let f = c.finish_decrements.ensures g.moment g.at (can_finish c.args.space.now g can) in
-    let b = c.begin_trace.ensures (drained g f.0) g.at (can_trace c.args.space.now g can c.finish_decrements.new.space f.0 f.1) in
+    let f = c.finish_decrements.ensures g.moment g.at (can_finish c.args.space.now g can.drains) in
+    let b = c.begin_trace.ensures (drained g f.0) g.at (can_trace c.args.space.now g can.drains c.finish_decrements.new.space f.0 f.1) in
     record {
       gone = f.0;
       found = c.finish_decrements.new.space;
       begun = c.begin_trace.new.space;
+      swept = c.sweep_lines.new.space;
+      chosen = c.choose_blocks.new.space;
       finishes = f.1;
       begins = b;
-      sets = subst (λ n. SetsTrace c.begin_trace.new.space c.set_trace.new.space (Some n)) (ap (λ (x : Space). x.report.number) b.space ∙ ap (λ (x : Space). x.report.number) f.1.space) c.set_trace.ensures;
+      sweeps = c.sweep_lines.ensures.states;
+      chooses = c.choose_blocks.ensures.tables;
+      sets = subst (λ n. SetsTrace c.choose_blocks.new.space c.set_trace.new.space (Some n))
+          (ap (λ (x : Space). x.report.number) c.choose_blocks.ensures.tables.rest
+          ∙ ap (λ (x : Space). x.report.number) c.sweep_lines.ensures.states.rest
+          ∙ ap (λ (x : Space). x.report.number) b.space
+          ∙ ap (λ (x : Space). x.report.number) f.1.space)
+          c.set_trace.ensures;
     }

@@ -1,59 +1,48 @@
-use Rattle.lxr_run_pause.specs.Tracing.{drained}
-use Rattle.lxr_model_counting.specs.Garbage.{IsGarbageOf}
-use Rattle.lxr_run_pause.proofs.TracingLemmas.{can_finish, can_sweep, can_trace, end_traced}
+use Rattle.lxr_run_pause.proofs.EndingLemmas.{ends, few_kept, few_moved, last, left, may_evacuate, may_finish_trace, may_sweep, space_tallied}
+use Rattle.lxr_run_pause.proofs.TracingLemmas.{can_finish}
 use Rattle.lxr_run_pause.proofs.tracing.end.Goals as goal
 
 pub finish_decrements-requires : goal.finish_decrements-requires
 finish_decrements-requires c = (c.requires.0.moment, c.requires.0.at, can_finish c.args.space.now c.requires.0 c.requires.1.drains)
 
 pub finish_trace-requires : goal.finish_trace-requires
-finish_trace-requires c =
-    let g = c.requires.0 in
-    let f = c.finish_decrements.ensures g.moment g.at (can_finish c.args.space.now g c.requires.1.drains) in
-    (drained g f.0, g.at, can_trace c.args.space.now g c.requires.1.drains c.finish_decrements.new.space f.0 f.1)
+finish_trace-requires c = (
+  left c.args.space.now c.requires.0 c.requires.1 c.finish_decrements.new.space c.finish_decrements.ensures,
+  c.requires.0.at,
+  may_finish_trace c.args.space.now c.requires.0 c.requires.1 c.finish_decrements.new.space c.finish_decrements.ensures,
+)
 
 pub sweep_unmarked-requires : goal.sweep_unmarked-requires
-sweep_unmarked-requires c =
-    let s = c.args.space.now in
-    let g = c.requires.0 in
-    let can = c.requires.1 in
-    let f = c.finish_decrements.ensures g.moment g.at (can_finish s g can.drains) in
-    let t = c.finish_trace.ensures (drained g f.0) g.at (can_trace s g can.drains c.finish_decrements.new.space f.0 f.1) in (
-      drained g f.0,
-      g.at,
-      can_sweep s g can.drains c.finish_decrements.new.space f.0 f.1 c.finish_trace.new.space (record { tables = t.tables; space = t.space }) t.holds (IsGarbageOf can.trace)
-          (end_traced s g can c.finish_decrements.new.space c.finish_trace.new.space f.0 f.1 t).0,
-    )
+sweep_unmarked-requires c = (
+  left c.args.space.now c.requires.0 c.requires.1 c.finish_decrements.new.space c.finish_decrements.ensures,
+  c.requires.0.at,
+  may_sweep c.args.space.now c.requires.0 c.requires.1 c.finish_decrements.new.space c.finish_decrements.ensures c.finish_trace.new.space c.finish_trace.ensures,
+)
 
-pub set_trace-requires : goal.set_trace-requires
-set_trace-requires c =
-    let s = c.args.space.now in
-    let g = c.requires.0 in
-    let can = c.requires.1 in
-    let f = c.finish_decrements.ensures g.moment g.at (can_finish s g can.drains) in
-    let t = c.finish_trace.ensures (drained g f.0) g.at (can_trace s g can.drains c.finish_decrements.new.space f.0 f.1) in
-    let w = c.sweep_unmarked.ensures (drained g f.0) g.at
-    (can_sweep s g can.drains c.finish_decrements.new.space f.0 f.1 c.finish_trace.new.space (record { tables = t.tables; space = t.space }) t.holds (IsGarbageOf can.trace)
-    (end_traced s g can c.finish_decrements.new.space c.finish_trace.new.space f.0 f.1 t).0) in
-    w.2.holds.space
+pub evacuate-evacuated-requires : goal.evacuate-evacuated-requires
+evacuate-evacuated-requires c = (
+  last c.args.space.now c.requires.0 c.requires.1 c.finish_decrements.new.space c.finish_decrements.ensures c.finish_trace.new.space c.finish_trace.ensures c.sweep_unmarked.new.space c.sweep_unmarked.ensures,
+  c.requires.0.at,
+  may_evacuate c.args.space.now c.requires.0 c.requires.1 c.finish_decrements.new.space c.finish_decrements.ensures c.finish_trace.new.space c.finish_trace.ensures c.sweep_unmarked.new.space c.sweep_unmarked.ensures,
+)
+
+pub count_evacuated-requires-clause-moved : goal.count_evacuated-requires-clause-moved
+count_evacuated-requires-clause-moved c =
+    few_moved c.args.space.now c.requires.0 c.requires.1 c.finish_decrements.new.space c.finish_decrements.ensures c.finish_trace.new.space c.finish_trace.ensures c.sweep_unmarked.new.space c.sweep_unmarked.ensures
+    c.evacuate-evacuated.new.space c.evacuate-evacuated.result c.evacuate-evacuated.ensures
+
+pub count_evacuated-requires-clause-kept : goal.count_evacuated-requires-clause-kept
+count_evacuated-requires-clause-kept c =
+    few_kept c.args.space.now c.requires.0 c.requires.1 c.finish_decrements.new.space c.finish_decrements.ensures c.finish_trace.new.space c.finish_trace.ensures c.sweep_unmarked.new.space c.sweep_unmarked.ensures
+    c.evacuate-evacuated.new.space c.evacuate-evacuated.result c.evacuate-evacuated.ensures
+
+pub release_blocks-requires : goal.release_blocks-requires
+release_blocks-requires c =
+    space_tallied c.args.space.now c.requires.0 c.requires.1 c.finish_decrements.new.space c.finish_decrements.ensures c.finish_trace.new.space c.finish_trace.ensures c.sweep_unmarked.new.space c.sweep_unmarked.ensures
+    c.evacuate-evacuated.new.space c.evacuate-evacuated.result c.evacuate-evacuated.ensures c.count_evacuated.new.space c.count_evacuated.ensures
 
 pub returns : goal.returns
 returns c g can =
-    let s = c.args.space.now in
-    let f = c.finish_decrements.ensures g.moment g.at (can_finish s g can.drains) in
-    let t = c.finish_trace.ensures (drained g f.0) g.at (can_trace s g can.drains c.finish_decrements.new.space f.0 f.1) in
-    let w = c.sweep_unmarked.ensures (drained g f.0) g.at
-    (can_sweep s g can.drains c.finish_decrements.new.space f.0 f.1 c.finish_trace.new.space (record { tables = t.tables; space = t.space }) t.holds (IsGarbageOf can.trace)
-    (end_traced s g can c.finish_decrements.new.space c.finish_trace.new.space f.0 f.1 t).0) in
-    record {
-      gone = f.0;
-      swept = w.0;
-      third = w.1;
-      found = c.finish_decrements.new.space;
-      traced = c.finish_trace.new.space;
-      cleared = c.sweep_unmarked.new.space;
-      finishes = f.1;
-      traces = t;
-      sweeps = w.2;
-      sets = c.set_trace.ensures;
-    }
+    ends c.args.space.now g can c.finish_decrements.new.space c.finish_decrements.ensures c.finish_trace.new.space c.finish_trace.ensures c.sweep_unmarked.new.space c.sweep_unmarked.ensures
+    c.evacuate-evacuated.new.space c.evacuate-evacuated.result c.evacuate-evacuated.ensures c.count_evacuated.new.space c.count_evacuated.ensures
+    c.release_blocks.new.space c.set_trace.new.space c.release_blocks.ensures.tables c.set_trace.ensures

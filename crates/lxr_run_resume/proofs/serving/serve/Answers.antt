@@ -14,5 +14,5 @@ returns c =
           (subst (λ z. IsServed before (with_places after (slice_set after.registers.items (16 * (z - 1) + c.from-2.result) place)) c.args.name c.args.dest c.args.shape place) (sym c.from.ensures)
           (subst (λ z. IsServed before (with_places after (slice_set after.registers.items (16 * (c.args.name.thread - 1) + z) place)) c.args.name c.args.dest c.args.shape place) (sym c.from-2.ensures)
           (placed_is_served before after c.args.name c.args.dest c.args.shape place c.requires.thread c.requires.dest c.requires.shape c.requires.serial
-          (λ full. let none = c.in_ok-place.ensures.none.1 full in absurd (cc)) c.in_ok-place.ensures.placed c.in_ok-place.ensures.rest)));
+          (λ full. let none = c.in_ok-place.ensures.none.1 full in absurd (cc)) c.in_ok-place.ensures.placed)));
     }

@@ -8,7 +8,7 @@ pub find-requires-clause-room : goal.find-requires-clause-room
 find-requires-clause-room c =
     let before = c.requires.0 in
     let stage = c.loop-granule.invariant.marking before c.requires.1 in
-    due_room before c.loop-granule.space _ _ stage (c.in-Some.granule + 1) (next_due before c.loop-granule.space c.loop-granule.from _ c.in-Some.granule stage c.in-Some.ensures.next)
+    due_room before c.loop-granule.space _ _ _ stage (c.in-Some.granule + 1) (next_due before c.loop-granule.space c.loop-granule.from _ c.in-Some.granule stage c.in-Some.ensures.next)
 
 pub loop-granule-preserved : goal.loop-granule-preserved
 loop-granule-preserved c =

@@ -1,0 +1,3 @@
+pub mod Evacuation
+pub mod Stages
+pub mod Steps

@@ -1,0 +1,77 @@
+//! Finding the objects of Chosen blocks, by the start bits of 64 granules at once.
+ghost use Rattle.std.specs.Prelude.{◌≡◌, ℕ, ◌*◌, ◌/◌, ◌<◌, ◌≤◌, IfNone, IfSome, length};
+ghost use Rattle.lxr_layout.specs.declared.Name.{Name as NameOf};
+ghost use Rattle.lxr_layout.specs.declared.TheConstants.{GRANULES_IN_BLOCK};
+ghost use Rattle.lxr_image.specs.Spaces.{IsSpace, tables_of};
+ghost use Rattle.lxr_blocks.specs.States.{state_in};
+ghost use Rattle.lxr_model.specs.Moments.{Moment};
+ghost use Rattle.lxr_invariant.specs.Lines.{is_chosen};
+ghost use Rattle.lxr_evac_moving.specs.Evacuation.{CanEvacuate};
+ghost use Rattle.lxr_evac_moving.specs.Stages.{granules, kept_names};
+ghost use Rattle.lxr_evac_moving.specs.Steps.{IsFirstInWord, IsNextChosen, NoneBegins, NoneInWord, last_stage};
+
+use lxr_blocks::{BlockState, state};
+use lxr_image::Space;
+use lxr_layout::GRANULES_IN_BLOCK;
+
+/// Whether a granule lies in a Chosen block.
+fn is_in_chosen(space: &Space, granule: u32) -> bool
+    requires space { IsSpace space.now }
+    requires granule { granule < GRANULES_IN_BLOCK * space.now.limits.blocks }
+    ensures { result ≡ is_chosen (state_in (tables_of space.now) (granule / GRANULES_IN_BLOCK)) }
+{
+    match state(space, granule / GRANULES_IN_BLOCK) {
+        BlockState::Chosen => true,
+        _ => false,
+    }
+}
+
+/// The first granule from one on at which an object begins, of those whose start bits are one word with its own.
+fn next_in_word(space: &Space, from: u32) -> Option<u32>
+    requires space { IsSpace space.now }
+    requires from { from < GRANULES_IN_BLOCK * space.now.limits.blocks }
+    ensures none { IfNone result (NoneInWord (tables_of space.now) from) }
+    ensures next { IfSome result (λ granule. IsFirstInWord (tables_of space.now) from granule) }
+{
+    let rest = space.start_word(from / 64) >> (from % 64);
+    if rest == 0 {
+        return None;
+    }
+    Some(from + rest.trailing_zeros())
+}
+
+/// The first granule from one on at which an object of a Chosen block begins. It takes one look for each block, and one for 64 granules of
+/// a Chosen block.
+pub(crate) fn next_chosen(space: &Space, from: u32) -> Option<u32>
+    requires { IsSpace space.now }
+    ensures none { IfNone result (NoneBegins (tables_of space.now) from (granules space.now)) }
+    ensures next { IfSome result (λ granule. IsNextChosen (tables_of space.now) from (granules space.now) granule) }
+{
+    let mut at = from;
+    while at < GRANULES_IN_BLOCK * space.limits.blocks {
+        if !is_in_chosen(space, at) {
+            at = (at / GRANULES_IN_BLOCK + 1) * GRANULES_IN_BLOCK;
+            continue;
+        }
+        if let Some(granule) = next_in_word(space, at) {
+            return Some(granule);
+        }
+        at = (at / 64 + 1) * 64;
+    }
+    None
+}
+
+/// How many objects Chosen blocks have.
+pub(crate) fn count_chosen(space: &Space) -> u32
+    requires { (m : Moment) × (at : NameOf → ℕ) × CanEvacuate space.now m at }
+    ensures count { (m : Moment) (at : NameOf → ℕ) → CanEvacuate space.now m at → result ≡ length (kept_names m (last_stage space.now at at)) }
+    ensures few { result ≤ granules space.now }
+{
+    let mut count = 0;
+    let mut from = 0;
+    while let Some(granule) = next_chosen(space, from) {
+        count += 1;
+        from = granule + 1;
+    }
+    count
+}
