@@ -96,9 +96,11 @@ fn time_all<R: AllocGlobal + Clock + Print + Threads + Sync>(rt: &R) -> Result<(
 }
 
 /// The words of a run whose second pause begins a trace.
-fn words_of(run: Run, room: &'static str) -> [&'static str; 15] {
+fn words_of(run: Run, room: &'static str) -> [&'static str; 17] {
     [
         "run",
+        "--replay",
+        "0",
         "--blocks",
         "64",
         "--workers",
@@ -181,6 +183,8 @@ fn tell_long<R: AllocGlobal + Clock + Print + Threads + Sync>(
     for room in [MUCH, LITTLE] {
         let words = [
             "run",
+            "--replay",
+            "0",
             "--log",
             "65536",
             "--every",

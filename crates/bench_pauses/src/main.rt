@@ -236,9 +236,9 @@ fn tell<R: AllocGlobal + Clock + Print + Threads + Sync>(rt: &R, run: Run) -> Re
 }
 
 /// The words of a run, with room for all its work between two pauses. A trace ends at the pause behind the one that began it.
-fn words_of(run: Run) -> [&'static str; 11] {
+fn words_of(run: Run) -> [&'static str; 13] {
     [
         "run", "--blocks", run.blocks, "--log", "65536", "--every", "1048576", "--trace",
-        run.trace, "--within", "1",
+        run.trace, "--within", "1", "--replay", "0",
     ]
 }

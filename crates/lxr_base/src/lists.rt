@@ -135,6 +135,14 @@ impl<T> Listed<T> {
         self.items.sort_unstable_by(compare);
     }
 
+    /// Turns the order of the items around, in place.
+    pub fn reverse(&mut self)
+        ensures permutation { IsPermutation self.old.items self.new.items }
+        ensures room { self.new.room ≡ self.old.room }
+    {
+        self.items.reverse();
+    }
+
     /// Takes all items out; the room stays.
     pub fn clear(&mut self)
     where

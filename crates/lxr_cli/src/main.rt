@@ -1,9 +1,9 @@
-//! The program: it hands the real streams, an open gate, a watch that sees nothing and an empty space to the top call,
-//! and ends with its status.
+//! The program: it hands the threads of the machine, the real streams, an open gate, a watch that sees nothing and an empty space
+//! to the top call, and ends with its status.
 #![tactic(auto)]
 
 use lxr_image::Space;
-use lxr_run::{Open, Status, Unseen, lxr};
+use lxr_run::{Open, Refusal, Unseen, lxr, tell};
 use lxr_text_stream::{Faults, Out, Standard};
 use std::alloc::AllocError;
 use std::env;
@@ -32,12 +32,18 @@ fn texts_of<'a, R: AllocGlobal>(rt: &R, words: &'a [String]) -> Result<Vec<&'a s
     words.iter().map(|word| word.as_str()).collect(rt.alloc())
 }
 
+/// Tells that memory ran out before the run began.
+fn out_of_memory(rt: &HostRuntime) -> ExitCode {
+    let status = tell(Refusal::Memory, &mut Faults::new(rt.stderr()));
+    ExitCode::from(status.code())
+}
+
 fn main(rt: HostRuntime) -> ExitCode {
     let Ok(words) = words_of(&rt) else {
-        return ExitCode::from(Status::Memory.code());
+        return out_of_memory(&rt);
     };
     let Ok(texts) = texts_of(&rt, &words) else {
-        return ExitCode::from(Status::Memory.code());
+        return out_of_memory(&rt);
     };
     let status = lxr(
         &rt,

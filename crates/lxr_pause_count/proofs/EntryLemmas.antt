@@ -10,7 +10,7 @@ use Rattle.lxr_image.specs.declared.space.Space.{Space}
 use Rattle.lxr_image.specs.Spaces.{tables_of}
 use Rattle.lxr_image.specs.Tables.{Tables}
 use Rattle.lxr_pause_count.specs.Entries.{entries_below, entry_at, entry_in, with_counts}
-use Rattle.lxr_pause_count.specs.Starts.{IsNextStart, NoneStarts}
+use Rattle.lxr_image_starts.specs.Starts.{IsNextStart, NoneStarts}
 
 pub none_below : (t : Tables) → entries_below t 0 ≡ []
 unfolding entries_below

@@ -1,4 +1,3 @@
-pub mod StartLemmas
 pub mod EntryLemmas
 pub mod CountLemmas
 pub mod ToldLemmas

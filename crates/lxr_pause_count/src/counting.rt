@@ -14,9 +14,9 @@ ghost use Rattle.lxr_image.specs.Spaces.{IsSpace, tables_of};
 ghost use Rattle.lxr_pause_count.specs.Counting.{CanCount, CountsUnreclaimed};
 ghost use Rattle.lxr_pause_count.specs.Entries.{count_told, entries_below, entry_at, with_counts};
 
-use crate::starts::next_start;
 use lxr_graph::{Count, Counts};
 use lxr_image::Space;
+use lxr_image_starts::next_start;
 use lxr_layout::{Header, STUCK, unpack};
 use std::cmp::Ordering;
 

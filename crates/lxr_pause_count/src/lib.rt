@@ -2,6 +2,5 @@
 #![tactic(auto)]
 
 mod counting;
-mod starts;
 
 pub use counting::count_unreclaimed;

@@ -1,142 +1,148 @@
--- What the ways in which a run ends have in common: the part of the input that was judged, and what was written.
-use Rattle.std.proofs.Common.{⊎_elim, inl, inr, ◌≡◌, ◌≢◌, ℕ, ◌+◌, ◌<◌, ◌≤◌, ◌↔◌, refl, sym, ap, subst, ◌∙◌, List, [], ◌++◌, length, take, arith, Bool, true, false}
-use Rattle.std.specs.Prelude.{Option, Some, None, IfSome, Ok, Err, Result, nat_le, if◌then◌else◌}
-use Rattle.std.proofs.lemmas.List.{append-nil, take_at, take_all}
-use Rattle.std.proofs.lemmas.Bool.{cases_lt, leb-true}
-use Rattle.lxr_text_script.specs.declared.TheConstants.{MOST_BYTES}
+-- What the ways in which a run ends come to: its loop's outcome is the run's, and the status follows from what is told.
+use Rattle.std.proofs.Common.{inl, inr, ◌≡◌, ℕ, refl, sym, ap, subst, ◌∙◌, List}
+use Rattle.std.specs.Prelude.{◌⊎◌, Some, IfErr, IfSome, IsErr, IsErrAnd, IsTrue, Ok, Err, Result}
 use Rattle.lxr_text_script.specs.Reading.{reading_of}
-use Rattle.lxr_text_stream.specs.Streams.{IsAtEnd, Takes}
-use Rattle.lxr_run_watch.specs.Sights.{Sight}
+use Rattle.lxr_text_script.specs.declared.fault.ScriptFault.{ScriptFault}
+use Rattle.lxr_text_stream.specs.declared.transfer.WriteError.{WriteError}
+use Rattle.lxr_text_stream.specs.declared.transfer.WriteError.TheVariants as write_error
 use Rattle.lxr_model.specs.Belongs.{Script}
 use Rattle.lxr_model.proofs.CollectLemmas.{last_reachable}
-use Rattle.lxr_image.specs.declared.space.Space.{Space}
-use Rattle.lxr_run_words.specs.declared.RunOptions.{RunOptions}
-use Rattle.lxr_run_words.specs.CommandLines.{IsCommandLine}
+use Rattle.lxr_words.specs.declared.Command.{Command}
+use Rattle.lxr_words.specs.declared.Command.TheVariants.{Load, Map, Run as CommandRun}
+use Rattle.lxr_words.specs.declared.Options.{Options}
+use Rattle.lxr_words.specs.declared.WordFault.{WordFault}
+use Rattle.lxr_words.specs.Options.{reading_of as words_read, script_commands}
 use Rattle.lxr_run_history.specs.Run.{script_terms}
-use Rattle.lxr_run_invariant.specs.LoopInvariant.{Task}
 use Rattle.lxr_run_loop.specs.Printed.{IsCutShort, IsPrinted}
-use Rattle.lxr_run.specs.Outcome.{IsCutOff, IsDone, IsRunCommand, WasAsked, WasJudged, judged_part}
-use Rattle.lxr_run.specs.Script.{IsNoScript, IsScriptOf}
+use Rattle.lxr_run.specs.Causes.{stop_of_write}
+use Rattle.lxr_run.specs.Runs.{HasFailed, Run, Stream}
+use Rattle.lxr_run.specs.Script.{AsksToRead, IsGivenBy, IsNoScript, WasAsked, judged_part}
+use Rattle.lxr_run.specs.Replayed.{IsReplayed, task_of}
+use Rattle.lxr_run.specs.Outcome.{ComesOrFails, HasEnded, HasStopped, IsCutOff, IsDone, IsRefused, IsToldBy}
 use Rattle.lxr_run.specs.declared.Status.{Status}
 use Rattle.lxr_run.specs.declared.Status.TheVariants as status
+use Rattle.lxr_run.specs.declared.refusal.Refusal.{Refusal}
+use Rattle.lxr_run.specs.declared.refusal.Refusal.TheVariants as refusal
+use Rattle.lxr_run.specs.declared.attempt.Stop.{Stop}
+use Rattle.lxr_run.proofs.InputLemmas.{accepted_judged, if_err}
 
--- ---- the part of the input that is judged
+-- ---- the outcome of the loop
 
--- so many bytes and one more, cut from what was read and what comes after it, are what was read
-front_is : (n : ℕ) (read rest : List ℕ) → (length read ≤ n → rest ≡ []) → length read ≤ n + 1 → take (n + 1) (read ++ rest) ≡ read
-front_is n read rest end limited =
-    ⊎_elim
-    (λ (more : n < length read). take_at read rest (n + 1) (omega arith))
-    (λ (short : length read ≤ n). ap (λ z. take (n + 1) (read ++ z)) (end short) ∙ ap (take (n + 1)) (append-nil read) ∙ take_all (n + 1) read (omega arith))
-    (cases_lt n (length read))
-
--- the same of what was left of an input, where it is told
-judged_front : (n : ℕ) (left left' : Option (List ℕ)) (read : List ℕ) → Takes left left' read → (length read ≤ n → IsAtEnd left') → length read ≤ n + 1
-    → IfSome left (λ bytes. take (n + 1) bytes ≡ read)
-judged_front n left None read takes end limited = subst (λ z. IfSome z (λ bytes. take (n + 1) bytes ≡ read)) (sym takes) tt
-judged_front n left (Some rest) read takes end limited = subst (λ z. IfSome z (λ bytes. take (n + 1) bytes ≡ read)) (sym takes) (front_is n read rest end limited)
-
--- what is judged of an input is what was read of it
-judged_is : (left left' : Option (List ℕ)) (read : List ℕ) → Takes left left' read → (length read ≤ MOST_BYTES → IsAtEnd left') → length read ≤ MOST_BYTES + 1
-    → IfSome left (λ bytes. judged_part bytes ≡ read)
-unfolding judged_part
-judged_is left left' read takes end limited = judged_front MOST_BYTES left left' read takes end limited
-
--- what follows from a fact of a value holds where there is one
-if_some-weaker : {X : Type 0} (o : Option X) (P Q : X → Type 0) → IfSome o P → ((x : X) → P x → Q x) → IfSome o Q
-if_some-weaker None P Q h f = tt
-if_some-weaker (Some x) P Q h f = f x h
-
--- ---- a script that is accepted is read whole
-
--- a result behind a test is Ok only where the test holds
-test_passed : {X Y : Type 0} (b : Bool) (x : Result X Y) (f : Y) (y : X) → (if b then x else Err f) ≡ Ok y → b ≡ true
-test_passed true x f y e = refl
-test_passed false x f y e = absurd (cc)
-
--- an accepted script has at most 67,108,864 bytes
-accepted_short : (bytes : List ℕ) (script : Script) → IsScriptOf bytes script → length bytes ≤ MOST_BYTES
-unfolding reading_of
-accepted_short bytes script accepted =
-    leb-true (length bytes) MOST_BYTES (test_passed (nat_le (length bytes) MOST_BYTES) _ _ _ accepted)
-
--- it was read to its end, and is all that was left of the input
-read_whole : (left left' : Option (List ℕ)) (read : List ℕ) (script : Script) → Takes left left' read → (length read ≤ MOST_BYTES → IsAtEnd left')
-    → IsScriptOf read script → IsAtEnd left' × IfSome left (λ bytes. IsScriptOf bytes script)
-read_whole left None read script takes end accepted = (tt, subst (λ z. IfSome z (λ bytes. IsScriptOf bytes script)) (sym takes) tt)
-read_whole left (Some rest) read script takes end accepted =
-    let none : rest ≡ [] = end (accepted_short read script accepted) in
-    let whole : read ++ rest ≡ read = ap (λ z. read ++ z) none ∙ append-nil read in
-    (none, subst (λ z. IfSome z (λ bytes. IsScriptOf bytes script)) (sym takes) (subst (λ z. IsScriptOf z script) (sym whole) accepted))
-
--- ---- what was written
-
--- a run that was done
-pub done_by : (task : Task) (space : Space) (written : Option (List ℕ)) (seen : Option (List Sight)) → IsPrinted task space written seen → (words : List (List ℕ)) (left left' : Option (List ℕ))
-    → WasAsked words left left' task.options task.script → IsDone words left left' task.written written task.seen seen space
-done_by task space written seen printed words left left' asked = record {
-  options = task.options;
-  script = task.script;
+pub done_by : {I O W : Type 0} (run : Run I O W) (options : Options) (script : Script) → WasAsked run.words run.input options script
+    → IsPrinted (task_of run options script) run.space (run.output.bytes run.output.after) (run.watch.seen run.watch.after) → IsDone run
+done_by run options script asked printed = record {
+  options = options;
+  script = script;
   history = printed.history;
   asked = asked;
-  run = printed.run;
+  is_of = printed.run;
   text = printed.text;
   space_left = printed.space_left;
   sights = printed.sights;
-  reachable = last_reachable (script_terms task.options task.script) task.script printed.history (λ e. cc) printed.run.legal printed.run.belongs;
+  reachable = last_reachable (script_terms options script) script printed.history (λ e. cc) printed.run.legal printed.run.belongs;
 }
 
--- one that was cut off
-pub cut_off_by : (task : Task) (space : Space) (written : Option (List ℕ)) → IsCutShort task space written → (words : List (List ℕ)) (left left' : Option (List ℕ)) → WasAsked words left left' task.options task.script
-    → IsCutOff words left left' task.written written space
-cut_off_by task space written (inl (h, cut)) words left left' asked = inl (record {
-  options = task.options;
-  script = task.script;
-  history = h;
+pub replayed_by : {I O W : Type 0} (run : Run I O W) (options : Options) (script : Script) → WasAsked run.words run.input options script
+    → IsPrinted (task_of run options script) run.space (run.output.bytes run.output.after) (run.watch.seen run.watch.after) → IsReplayed run
+replayed_by run options script asked printed = record {
+  options = options;
+  script = script;
+  history = printed.history;
+  last = printed.last;
   asked = asked;
-  run = cut.history;
-  text_front = cut.text_front;
-  space_left = cut.left;
-})
-cut_off_by task space written (inr cut) words left left' asked = inr (record {
-  options = task.options;
-  script = task.script;
-  history = cut.history;
-  asked = asked;
-  run = cut.run;
-  text_front = cut.text_front;
-  space_left = cut.space_left;
-})
+  is_of = printed.run;
+  text = printed.text;
+  drawn = printed.drawn;
+}
 
--- ---- the words of the command line
+pub stopped_by : {I O W : Type 0} (run : Run I O W) (options : Options) (script : Script) (why : WriteError) → WasAsked run.words run.input options script
+    → (why ≡ write_error.Fault → HasFailed run.output) → IsCutShort why (task_of run options script) run.space (run.output.bytes run.output.after) → HasStopped (stop_of_write why) run
+stopped_by run options script write_error.Fault asked failed (inl (h, cut)) =
+    (failed refl, inl (record { options = options; script = script; history = h; asked = asked; so_far = cut.history; text_front = cut.text_front; space_left = cut.left }))
+stopped_by run options script write_error.Fault asked failed (inr cut) =
+    (failed refl, inr (record { options = options; script = script; history = cut.history; asked = asked; is_of = cut.run; text_front = cut.text_front; space_left = cut.space_left }))
+stopped_by run options script write_error.Memory asked failed (inl (inl (h, cut))) =
+    inr (refl, inl (inl (record { options = options; script = script; history = h; asked = asked; so_far = cut.history; text_front = cut.text_front; space_left = cut.left })))
+stopped_by run options script write_error.Memory asked failed (inl (inr (h, lost))) =
+    inr (refl, inr (record { options = options; script = script; history = h; asked = asked; so_far = lost.history; text = lost.text; gone = lost.gone }))
+stopped_by run options script write_error.Memory asked failed (inr cut) =
+    inr (refl, inl (inr (record { options = options; script = script; history = cut.history; asked = asked; is_of = cut.run; text_front = cut.text_front; space_left = cut.space_left })))
 
--- they are refused where no options are theirs
-pub words_refused : (words : List (List ℕ)) → ((options : RunOptions) → IsCommandLine words options → ⊥) → (status.Words ≡ status.Words) ↔ ¬ IsRunCommand words
-words_refused words none = (λ e. λ (options, line). none options line, λ no. refl)
+-- the same of the answer that it leads to
+pub stopped_at : {I O W : Type 0} (run : Run I O W) (options : Options) (script : Script) (why : WriteError) (answer : Result (Unit {0}) Stop) → (IsErr answer × IsErrAnd answer (λ stop. stop ≡ stop_of_write why))
+    → WasAsked run.words run.input options script → (why ≡ write_error.Fault → HasFailed run.output) → IsCutShort why (task_of run options script) run.space (run.output.bytes run.output.after)
+    → IfErr answer (λ stop. HasStopped stop run)
+stopped_at run options script why answer known asked failed cut =
+    if_err answer (λ stop. stop ≡ stop_of_write why) (λ stop. HasStopped stop run) known.1 (λ stop is. subst (λ z. HasStopped z run) (sym is) (stopped_by run options script why asked failed cut))
 
--- ---- what is judged, at each status
+-- ---- the status of a refusal
 
--- at the status of no script
-pub refused_input : (left left' : Option (List ℕ)) (read : List ℕ) → Takes left left' read → (length read ≤ MOST_BYTES → IsAtEnd left') → length read ≤ MOST_BYTES + 1 → IsNoScript read
-    → IfSome left (λ bytes. WasJudged status.Script → ((status.Script ≡ status.Script) ↔ IsNoScript (judged_part bytes)))
-refused_input left left' read takes end limited refused =
-    if_some-weaker left (λ bytes. judged_part bytes ≡ read) (λ bytes. WasJudged status.Script → ((status.Script ≡ status.Script) ↔ IsNoScript (judged_part bytes)))
-    (judged_is left left' read takes end limited) (λ bytes is judged. (λ e. subst IsNoScript (sym is) refused, λ no. refl))
+pub ended_by : {I O W E : Type 0} (run : Run I O W) (errors : Stream E) (why : Refusal) (ended : Status) → IsRefused why run → IsToldBy why errors ended → HasEnded run errors ended
+ended_by run errors (refusal.Words wrong) ended refused (inl (is, line)) = subst (HasEnded run errors) (sym is) (wrong, record { refused = refused; line = line })
+ended_by run errors (refusal.Script wrong) ended refused (inl (is, line)) = subst (HasEnded run errors) (sym is) (wrong, record { refused = refused; line = line })
+ended_by run errors refusal.ReadFault ended refused (inl (is, line)) = subst (HasEnded run errors) (sym is) (record { refused = refused; line = line })
+ended_by run errors refusal.Memory ended refused (inl (is, line)) = subst (HasEnded run errors) (sym is) (inl (record { refused = refused; line = line }))
+ended_by run errors why ended refused (inr (inl (is, failed, front))) = subst (HasEnded run errors) (sym is) (inr (failed, record { why = why; refused = refused; line_front = front }))
+ended_by run errors why ended refused (inr (inr (is, front))) = subst (HasEnded run errors) (sym is) (inr (record { why = why; refused = refused; line_front = front }))
 
--- at any other
-pub accepted_input : (ended : Status) (left left' : Option (List ℕ)) (read : List ℕ) (script : Script) → ended ≢ status.Script → Takes left left' read
-    → (length read ≤ MOST_BYTES → IsAtEnd left') → length read ≤ MOST_BYTES + 1 → IsScriptOf read script
-    → IfSome left (λ bytes. WasJudged ended → ((ended ≡ status.Script) ↔ IsNoScript (judged_part bytes)))
-accepted_input ended left left' read script other takes end limited accepted =
-    if_some-weaker left (λ bytes. judged_part bytes ≡ read) (λ bytes. WasJudged ended → ((ended ≡ status.Script) ↔ IsNoScript (judged_part bytes)))
-    (judged_is left left' read takes end limited)
-    (λ bytes is judged. (λ e. absurd (other e), λ no. absurd (no script (subst (λ z. IsScriptOf z script) (sym is) accepted))))
+-- ---- what is wrong is refused
 
--- ---- what a run was asked
+-- a run that was cut off was asked for
+asked_of : {I O W : Type 0} (run : Run I O W) → IsCutOff run → (options : Options) × (script : Script) × WasAsked run.words run.input options script
+asked_of run (inl cut) = (cut.options, cut.script, cut.asked)
+asked_of run (inr cut) = (cut.options, cut.script, cut.asked)
 
--- the words and the input of a run whose script was read
-pub was_asked : (words : List (List ℕ)) (options : RunOptions) → IsCommandLine words options → (left left' : Option (List ℕ)) (read : List ℕ) (script : Script) → Takes left left' read
-    → (length read ≤ MOST_BYTES → IsAtEnd left') → IsScriptOf read script → WasAsked words left left' options script
-was_asked words options line left left' read script takes end accepted =
-    let whole = read_whole left left' read script takes end accepted in
-    record { accepted = line; input = whole.1; read = whole.0 }
+not_wrong : {I : Type 0} (words : List (List ℕ)) (input : Stream I) (wrong : WordFault) → words_read words ≡ Err wrong → (options : Options) (script : Script) → WasAsked words input options script → ⊥
+not_wrong words input wrong is options script asked = let accepted = asked.accepted in cc
+
+asks_right : (words : List (List ℕ)) (wrong : WordFault) → words_read words ≡ Err wrong → AsksToRead words → ⊥
+asks_right words wrong is (options, accepted, reads) = cc
+
+pub words_told : {I O W E : Type 0} (run : Run I O W) (errors : Stream E) (ended : Status) → HasEnded run errors ended → (wrong : WordFault) → words_read run.words ≡ Err wrong → ComesOrFails status.Words errors ended
+words_told run errors status.Done (done, untold) wrong is = absurd (not_wrong run.words run.input wrong is done.options done.script done.asked)
+words_told run errors status.Words told wrong is = inl refl
+words_told run errors status.Script (w, told) wrong is = go told.refused
+  where
+    go : IsRefused (refusal.Script w) run → ComesOrFails status.Words errors status.Script
+    go (inl (cause, nothing)) = absurd (asks_right run.words wrong is cause.0)
+    go (inr (e, rest)) = absurd (cc)
+words_told run errors status.ReadFault told wrong is = go told.refused
+  where
+    go : IsRefused refusal.ReadFault run → ComesOrFails status.Words errors status.ReadFault
+    go (inl (cause, nothing)) = absurd (asks_right run.words wrong is cause.0)
+    go (inr (e, rest)) = absurd (cc)
+words_told run errors status.WriteFault (inl (failed, cut, untold)) wrong is = let asked = asked_of run cut in absurd (not_wrong run.words run.input wrong is asked.0 asked.1 asked.2)
+words_told run errors status.WriteFault (inr (failed, told)) wrong is = inr (inr (refl, failed))
+words_told run errors status.Memory told wrong is = inr (inl refl)
+
+-- a script that was read is right
+given_right : {I : Type 0} (command : Command) (options : Options) (input : Stream I) (script : Script) (bytes : List ℕ) (wrong : ScriptFault) → IsGivenBy command options input script → IsTrue (script_commands command)
+    → input.bytes input.before ≡ Some bytes → IsNoScript bytes wrong → ⊥
+given_right CommandRun options input script bytes wrong given reads told noscript =
+    let is : reading_of bytes ≡ Ok script = subst (λ o. IfSome o (λ bytes. reading_of bytes ≡ Ok script)) told given.bytes in
+    let judged : reading_of (judged_part bytes) ≡ Ok script = ap reading_of (accepted_judged bytes script is) ∙ is in cc
+given_right Map options input script bytes wrong given reads told noscript =
+    let is : reading_of bytes ≡ Ok script = subst (λ o. IfSome o (λ bytes. reading_of bytes ≡ Ok script)) told given.bytes in
+    let judged : reading_of (judged_part bytes) ≡ Ok script = ap reading_of (accepted_judged bytes script is) ∙ is in cc
+given_right (Load seed) options input script bytes wrong given reads told noscript = cc
+
+not_refused : {I : Type 0} (words : List (List ℕ)) (input : Stream I) (bytes : List ℕ) (wrong : ScriptFault) → AsksToRead words → input.bytes input.before ≡ Some bytes → IsNoScript bytes wrong
+    → (options : Options) (script : Script) → WasAsked words input options script → ⊥
+not_refused words input bytes wrong (options', accepted', reads) told noscript options script asked =
+    let accepted = asked.accepted in
+    let same : options' ≡ options = cc in
+    given_right options.command options input script bytes wrong asked.given (subst (λ z. IsTrue (script_commands z.command)) same reads) told noscript
+
+pub script_told : {I O W E : Type 0} (run : Run I O W) (errors : Stream E) (ended : Status) → HasEnded run errors ended → (bytes : List ℕ) (wrong : ScriptFault) → AsksToRead run.words
+    → run.input.bytes run.input.before ≡ Some bytes → IsNoScript bytes wrong → (ended ≡ status.ReadFault) ⊎ ComesOrFails status.Script errors ended
+script_told run errors status.Done (done, untold) bytes wrong asks is noscript = absurd (not_refused run.words run.input bytes wrong asks is noscript done.options done.script done.asked)
+script_told run errors status.Words (w, told) bytes wrong asks is noscript = go told.refused
+  where
+    go : IsRefused (refusal.Words w) run → (status.Words ≡ status.ReadFault) ⊎ ComesOrFails status.Script errors status.Words
+    go (inl (cause, nothing)) = absurd (asks_right run.words w cause asks)
+    go (inr (e, rest)) = absurd (cc)
+script_told run errors status.Script told bytes wrong asks is noscript = inr (inl refl)
+script_told run errors status.ReadFault told bytes wrong asks is noscript = inl refl
+script_told run errors status.WriteFault (inl (failed, cut, untold)) bytes wrong asks is noscript = let asked = asked_of run cut in absurd (not_refused run.words run.input bytes wrong asks is noscript asked.0 asked.1 asked.2)
+script_told run errors status.WriteFault (inr (failed, told)) bytes wrong asks is noscript = inr (inr (inr (refl, failed)))
+script_told run errors status.Memory told bytes wrong asks is noscript = inr (inr (inl refl))

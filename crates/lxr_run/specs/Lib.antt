@@ -1,4 +1,7 @@
 pub mod Codes
 pub mod Lines
+pub mod Causes
+pub mod Runs
 pub mod Script
 pub mod Outcome
+pub mod Replayed

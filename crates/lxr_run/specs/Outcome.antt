@@ -1,91 +1,130 @@
 -- What a caller is promised of each way in which a run ends.
-use Rattle.std.specs.Prelude.{ℕ, ◌+◌, ◌⊎◌, ◌↔◌, Option, List, IfSome, IsTrue, length, take}
+use Rattle.std.specs.Prelude.{◌≡◌, ◌⊎◌, ◌↔◌, List, [], IsTrue, length}
 use Rattle.lxr_layout.specs.declared.Name.{Name}
-use Rattle.lxr_text_script.specs.Limits.{most_bytes}
 use Rattle.lxr_graph.specs.History.{Item}
 use Rattle.lxr_graph.specs.Names.{has}
-use Rattle.lxr_text_stream.specs.Streams.{Appends, AppendsFront, IsAtEnd}
 use Rattle.lxr_model.specs.Belongs.{IsHistorySoFar, Script}
 use Rattle.lxr_model.specs.Moments.{moment}
 use Rattle.lxr_model.specs.Reachable.{Reachable}
-use Rattle.lxr_run_watch.specs.Sights.{Sight}
+use Rattle.lxr_text_script.specs.declared.fault.ScriptFault.{ScriptFault}
+use Rattle.lxr_words.specs.declared.Options.{Options}
+use Rattle.lxr_words.specs.declared.WordFault.{WordFault}
 use Rattle.lxr_run_history.specs.Left.{IsLeftBy}
-use Rattle.lxr_run_history.specs.Run.{IsHistoryOf, history_text, reports_text, script_terms}
+use Rattle.lxr_run_history.specs.Run.{IsHistoryOf, script_terms}
 use Rattle.lxr_run_history.specs.Sights.{Sees}
-use Rattle.lxr_run.specs.Script.{IsScriptOf}
+use Rattle.lxr_run_history.specs.Texts.{run_text, told_text}
+use Rattle.lxr_run.specs.Lines.{refusal_text}
+use Rattle.lxr_run.specs.Runs.{IsUntouched, HasFailed, IsPartlyWritten, IsWritten, Run, Stream}
+use Rattle.lxr_run.specs.Script.{HasCause, WasAsked}
 use Rattle.lxr_run.specs.declared.Status.{Status}
 use Rattle.lxr_run.specs.declared.Status.TheVariants as status
-use Rattle.lxr_image.specs.declared.space.Space.{Space}
-use Rattle.lxr_run_words.specs.declared.RunOptions.{RunOptions}
-use Rattle.lxr_run_words.specs.CommandLines.{IsCommandLine}
+use Rattle.lxr_run.specs.declared.refusal.Refusal.{Refusal}
+use Rattle.lxr_run.specs.declared.refusal.Refusal.TheVariants as refusal
+use Rattle.lxr_run.specs.declared.attempt.Stop.{Stop}
+use Rattle.lxr_run.specs.declared.attempt.Stop.TheVariants as stop
 
--- the words of the command line are accepted: `run` with some options
-abbrev pub IsRunCommand : List (List ℕ) → Type 0
-IsRunCommand words = (options : RunOptions) × IsCommandLine words options
+-- ---- what a run leaves
 
--- a longer input than a script may be is judged by its front of one byte more, and is refused
-unfoldable pub judged_part : List ℕ → List ℕ
-judged_part bytes = take (most_bytes + 1) bytes
-
--- the statuses of a run whose input was judged: nothing else kept it from that
-abbrev pub WasJudged : Status → Type 0
-WasJudged status.Done = Unit {0}
-WasJudged status.Words = ⊥
-WasJudged status.Script = Unit {0}
-WasJudged status.ReadFault = ⊥
-WasJudged status.WriteFault = Unit {0}
-WasJudged status.Memory = ⊥
-
--- the statuses of a run that ended before its first operation for another cause than memory
-abbrev pub IsRefusal : Status → Type 0
-IsRefusal status.Done = ⊥
-IsRefusal status.Words = Unit {0}
-IsRefusal status.Script = Unit {0}
-IsRefusal status.ReadFault = Unit {0}
-IsRefusal status.WriteFault = ⊥
-IsRefusal status.Memory = ⊥
-
--- In the following, words are those of the command line, left is what is left of an input, written what an output has and
--- seen what a watch has seen, each before and after a run, and each where it is told; the space is the one after the run.
-
--- a run's words and input: what was asked for, and that the input was read to its end
-pub record WasAsked (words : List (List ℕ)) (left left' : Option (List ℕ)) (options : RunOptions) (script : Script) : Type 0 where
-  pub accepted : IsCommandLine words options
-  pub input : IfSome left (λ bytes. IsScriptOf bytes script)
-  pub read : IsAtEnd left'
-
--- A run that is done: the text of one history of the script was written, the space is left by it, and the watch has
--- seen its pauses. What is left unreclaimed is exactly what can be reached.
-pub record IsDone (words : List (List ℕ)) (left left' written written' : Option (List ℕ)) (seen seen' : Option (List Sight)) (space : Space) : Type 0 where
-  pub options : RunOptions
+-- A run that is done: the text of one history of the script was written, the space is left by it, and the watch has seen its pauses.
+-- What is left unreclaimed is exactly what can be reached.
+pub record IsDone {I O W : Type 0} (run : Run I O W) : Type 0 where
+  pub options : Options
   pub script : Script
   pub history : List Item
-  pub asked : WasAsked words left left' options script
-  pub run : IsHistoryOf options script history
-  pub text : Appends written written' (history_text options.counts (length script) history)
-  pub space_left : IsLeftBy options (length script) history space
-  pub sights : Sees (length script) history seen seen'
+  pub asked : WasAsked run.words run.input options script
+  pub is_of : IsHistoryOf options script history
+  pub text : IsWritten run.output (run_text options (length script) history run.space)
+  pub space_left : IsLeftBy options (length script) history run.space
+  pub sights : Sees (length script) history (run.watch.seen run.watch.before) (run.watch.seen run.watch.after)
   pub reachable : (n : Name) → IsTrue (has (moment (length script) history).unreclaimed n) ↔ Reachable (moment (length script) history).state n
 
--- A run that was cut off at a report: a front of the reports of a history so far was written, and the space is left by it.
-pub record IsCutOffEarly (words : List (List ℕ)) (left left' written written' : Option (List ℕ)) (space : Space) : Type 0 where
-  pub options : RunOptions
+-- A run that was cut off at a report: a front of what is told pause by pause of a history so far was written, and the space is left by it.
+pub record IsCutOffEarly {I O W : Type 0} (run : Run I O W) : Type 0 where
+  pub options : Options
   pub script : Script
   pub history : List Item
-  pub asked : WasAsked words left left' options script
-  pub run : IsHistorySoFar (script_terms options script) script history
-  pub text_front : AppendsFront written written' (reports_text options.counts history)
-  pub space_left : IsLeftBy options (length script) history space
+  pub asked : WasAsked run.words run.input options script
+  pub so_far : IsHistorySoFar (script_terms options script) script history
+  pub text_front : IsPartlyWritten run.output (told_text options history)
+  pub space_left : IsLeftBy options (length script) history run.space
 
--- A run that was cut off at its replies: a front of the text of a whole history was written, and the space is left by it.
-pub record IsCutOffLate (words : List (List ℕ)) (left left' written written' : Option (List ℕ)) (space : Space) : Type 0 where
-  pub options : RunOptions
+-- A run that was cut off at what it prints last: a front of the text of a whole history was written, and the space is left by it.
+pub record IsCutOffLate {I O W : Type 0} (run : Run I O W) : Type 0 where
+  pub options : Options
   pub script : Script
   pub history : List Item
-  pub asked : WasAsked words left left' options script
-  pub run : IsHistoryOf options script history
-  pub text_front : AppendsFront written written' (history_text options.counts (length script) history)
-  pub space_left : IsLeftBy options (length script) history space
+  pub asked : WasAsked run.words run.input options script
+  pub is_of : IsHistoryOf options script history
+  pub text_front : IsPartlyWritten run.output (run_text options (length script) history run.space)
+  pub space_left : IsLeftBy options (length script) history run.space
 
-abbrev pub IsCutOff : List (List ℕ) → Option (List ℕ) → Option (List ℕ) → Option (List ℕ) → Option (List ℕ) → Space → Type 0
-IsCutOff words left left' written written' space = IsCutOffEarly words left left' written written' space ⊎ IsCutOffLate words left left' written written' space
+abbrev pub IsCutOff : {I O W : Type 0} → Run I O W → Type 0
+IsCutOff run = IsCutOffEarly run ⊎ IsCutOffLate run
+
+-- A run that lost its space, since no memory was left as an epoch was to begin: what is told of a history so far was written.
+pub record IsLost {I O W : Type 0} (run : Run I O W) : Type 0 where
+  pub options : Options
+  pub script : Script
+  pub history : List Item
+  pub asked : WasAsked run.words run.input options script
+  pub so_far : IsHistorySoFar (script_terms options script) script history
+  pub text : IsWritten run.output (told_text options history)
+  pub gone : run.space.words ≡ []
+
+-- a run that ended before its first operation: nothing was written and seen, and there is no space
+pub record LeavesNothing {I O W : Type 0} (run : Run I O W) : Type 0 where
+  pub output : IsUntouched run.output
+  pub watch : run.watch.after ≡ run.watch.before
+  pub space : run.space.words ≡ []
+
+-- ---- why it wasn't done
+
+-- a run was refused for a cause: before its first operation, or, for want of memory, also behind it
+abbrev pub IsRefused : {I O W : Type 0} → Refusal → Run I O W → Type 0
+IsRefused why run = (HasCause why run.words run.input × LeavesNothing run) ⊎ ((why ≡ refusal.Memory) × (IsCutOff run ⊎ IsLost run))
+
+-- why a run stopped: it was refused, or its output failed
+abbrev pub HasStopped : {I O W : Type 0} → Stop → Run I O W → Type 0
+HasStopped (stop.Refused why) run = IsRefused why run
+HasStopped stop.Output run = HasFailed run.output × IsCutOff run
+
+-- ---- what is told of it, and by which status
+
+-- the status of a refusal
+abbrev pub status_of : Refusal → Status
+status_of (refusal.Words wrong) = status.Words
+status_of (refusal.Script wrong) = status.Script
+status_of refusal.ReadFault = status.ReadFault
+status_of refusal.Memory = status.Memory
+
+-- What the line of a refusal comes to: it is written, and the status is that of the refusal; or the stream failed or wanted memory behind
+-- a front of it, and the status says that.
+abbrev pub IsToldBy : {E : Type 0} → Refusal → Stream E → Status → Type 0
+IsToldBy why errors ended = ((ended ≡ status_of why) × IsWritten errors (refusal_text why))
+    ⊎ ((ended ≡ status.WriteFault) × HasFailed errors × IsPartlyWritten errors (refusal_text why))
+    ⊎ ((ended ≡ status.Memory) × IsPartlyWritten errors (refusal_text why))
+
+-- a run was refused, and its line is written
+pub record IsTold {I O W E : Type 0} (why : Refusal) (run : Run I O W) (errors : Stream E) : Type 0 where
+  pub refused : IsRefused why run
+  pub line : IsWritten errors (refusal_text why)
+
+-- a run was refused, and a front of its line is written
+pub record IsPartlyTold {I O W E : Type 0} (run : Run I O W) (errors : Stream E) : Type 0 where
+  pub why : Refusal
+  pub refused : IsRefused why run
+  pub line_front : IsPartlyWritten errors (refusal_text why)
+
+-- What each status says of a run. A fault of writing is one of the output, and then no line is written; or one of the errors, as the line
+-- of a refusal was written. Memory may run out at any time, also as that line is written.
+abbrev pub HasEnded : {I O W E : Type 0} → Run I O W → Stream E → Status → Type 0
+HasEnded run errors status.Done = IsDone run × IsUntouched errors
+HasEnded run errors status.Words = (wrong : WordFault) × IsTold (refusal.Words wrong) run errors
+HasEnded run errors status.Script = (wrong : ScriptFault) × IsTold (refusal.Script wrong) run errors
+HasEnded run errors status.ReadFault = IsTold refusal.ReadFault run errors
+HasEnded run errors status.WriteFault = (HasFailed run.output × IsCutOff run × IsUntouched errors) ⊎ (HasFailed errors × IsPartlyTold run errors)
+HasEnded run errors status.Memory = IsTold refusal.Memory run errors ⊎ IsPartlyTold run errors
+
+-- the status is this one, unless memory ran out or the errors failed as they were told
+abbrev pub ComesOrFails : {E : Type 0} → Status → Stream E → Status → Type 0
+ComesOrFails expected errors ended = (ended ≡ expected) ⊎ (ended ≡ status.Memory) ⊎ ((ended ≡ status.WriteFault) × HasFailed errors)

@@ -1,36 +1,39 @@
 //! The top call: from the words of a command line and the bytes of a script to the replies of its threads; and the public calls
 //! and types of a run.
 //!
-//! The threads of a script go on in epochs, in which a generator draws which of them makes the next step. Between two epochs
-//! stands a pause, which reclaims by reference counts. The contract of [`lxr`] speaks of the model alone: the text that was
-//! written is that of one legal history of the script, and the space is what that history leaves. That this history is the
-//! one which the generator draws from the option `replay` on stands in the contract of the loop below.
+//! The threads of a script go on in epochs, on threads of the machine or, replayed, as a generator draws which of them makes the next
+//! step. Between two epochs stands a pause, which reclaims by reference counts. The contract of [`lxr`] speaks of the model alone: the
+//! text that was written is that of one legal history of the script, and the space is what that history leaves. One clause alone,
+//! `replayed`, speaks of steps: with the option `replay` the history is the one that its generator draws.
 //!
 //! While a trace runs, tracers work beside mutators and decrementers. [`one_pause`] makes a pause of the kind that its [`Ask`] and
 //! its [`Pace`] lead to: a plain one, one that begins or ends a trace, or one that collects.
 #![tactic(auto)]
 
-ghost use Rattle.std.specs.Prelude.{◌≡◌, ◌⊎◌, ◌↔◌, [], IfSome, map};
-ghost use Rattle.lxr_text_stream.specs.Streams.{Rose, TakesSome};
+ghost use Rattle.std.specs.Prelude.{◌≡◌, ◌⊎◌, ℕ, [], List, map};
+ghost use Rattle.lxr_text_script.specs.declared.fault.ScriptFault.{ScriptFault};
+ghost use Rattle.lxr_text_stream.specs.Streams.{TakesSome};
+ghost use Rattle.lxr_words.specs.Options.{reading_of as words_read};
 ghost use Rattle.lxr_run.specs.Codes.{code_of};
-ghost use Rattle.lxr_run.specs.Outcome.{IsCutOff, IsDone, IsRefusal, IsRunCommand, WasJudged, judged_part};
-ghost use Rattle.lxr_run.specs.Script.{IsNoScript};
+ghost use Rattle.lxr_run.specs.Outcome.{ComesOrFails, HasEnded};
+ghost use Rattle.lxr_run.specs.Replayed.{IsReplayed};
+ghost use Rattle.lxr_run.specs.Runs.{run_of, stream, watcher};
+ghost use Rattle.lxr_run.specs.Script.{AsksToRead, IsNoScript};
 
+mod attempt;
 mod refusal;
 mod script;
 
+use attempt::{Stop, attempt};
 use lxr_image::Space;
-use lxr_run_loop::{open, run_and_print};
 pub use lxr_run_pause::{Ask, Pace, one_pause};
 pub use lxr_run_replay::{Gate, Open, replay_epoch};
 pub use lxr_run_serve::{Served, serve_waiting};
+pub use lxr_run_threads::run_epoch;
 pub use lxr_run_watch::{Seen, Unseen, Watch};
-use lxr_run_words::read_options;
-use lxr_text_script::MOST_BYTES;
-use lxr_text_stream::{ReadError, Sink, Source, WriteError, read_all};
+use lxr_text_stream::{Sink, Source};
 pub use lxr_words::{Command, Options, WordError, WordFault, read_words};
-pub use refusal::{Refusal, refusal_line};
-use script::{NoScript, read_threads};
+pub use refusal::{Refusal, tell};
 use std::alloc::Global;
 use std::thread::Threads;
 
@@ -39,7 +42,7 @@ use std::thread::Threads;
 pub enum Status {
     /// The text was written whole.
     Done,
-    /// The words of the command line aren't `run` with options that there are.
+    /// The words of the command line aren't a command with its options.
     Words,
     /// The input is no script.
     Script,
@@ -67,13 +70,19 @@ impl Status {
     }
 }
 
-/// Runs a script: reads it from `input`, does the operations of its threads in `space`, and prints their replies to `output`.
+/// Does what the words of a command line ask for: runs a script in `space`, prints to `output` what its command tells of it, and tells a
+/// refusal in one line on `errors`.
 ///
-/// The work is done in this order: the words, the input, the script, the opening of the space and of its threads with all the
-/// memory that the run takes, the epochs with their pauses, whose reports are printed as they come, and the replies, thread by
-/// thread. The same words and input lead to the same output: the option `replay` says where the generator begins. The gate is
-/// called before each operation, and the watch looks at the space right before and right after each pause. `rt` isn't used yet, and
-/// nothing is written to `errors`. Want of memory is the one outcome that no clause ties to a cause.
+/// The work is done in this order: the words; the input and its script, or for `load` the script that its seed makes; the opening of
+/// the space and of its threads with all the memory that they take; the epochs with their pauses; and what is printed last. `run`
+/// prints the reports of the pauses as they come and then the replies, thread by thread; `map` these and the heap; `load` nine sums.
+/// Without the option `replay` epochs run on threads of the machine, which `rt` starts; with one a generator draws who makes each
+/// step, and the same words and input lead to the same output. The gate is called before each operation, and the watch looks at the
+/// space right before and right after each pause.
+///
+/// At each status but those of success and of a fault of the output, one line on `errors` says why, and nothing else is written there.
+/// Where `errors` fails or wants memory at that line, the status is that of a fault of writing or of memory. Want of memory is the one
+/// outcome that no clause ties to a cause.
 pub fn lxr<R: Threads + Sync, I: Source, O: Sink, E: Sink, G: Gate, W: Watch>(
     rt: &R,
     alloc: Global,
@@ -86,43 +95,24 @@ pub fn lxr<R: Threads + Sync, I: Source, O: Sink, E: Sink, G: Gate, W: Watch>(
     space: &mut Space,
 ) -> Status
     requires { space.old.words ≡ [] }
-    ensures words { (result ≡ Status.Words) ↔ ¬ IsRunCommand (map (λ word. word.now) words.now) }
-    ensures script { IfSome (I.left input.old) (λ bytes. WasJudged result → ((result ≡ Status.Script) ↔ IsNoScript (judged_part bytes))) }
-    ensures read_fault { result ≡ Status.ReadFault → Rose (I.faults input.old) (I.faults input.new) }
-    ensures write_fault { result ≡ Status.WriteFault → Rose (O.faults output.old) (O.faults output.new) }
+    // What each status says.
+    ensures ended { HasEnded (run_of (map (λ word. word.now) words.now) (stream I.left I.faults input.old input.new) (stream O.written O.faults output.old output.new) (watcher W.seen watch.old watch.new) space.new) (stream E.written E.faults errors.old errors.new) result }
 
-    // What each outcome leaves.
-    ensures done { result ≡ Status.Done → IsDone (map (λ word. word.now) words.now) (I.left input.old) (I.left input.new) (O.written output.old) (O.written output.new) (W.seen watch.old) (W.seen watch.new) space.new }
-    ensures cut_off { result ≡ Status.WriteFault → IsCutOff (map (λ word. word.now) words.now) (I.left input.old) (I.left input.new) (O.written output.old) (O.written output.new) space.new }
-    ensures memory { result ≡ Status.Memory → IsCutOff (map (λ word. word.now) words.now) (I.left input.old) (I.left input.new) (O.written output.old) (O.written output.new) space.new ⊎ ((output.new ≡ output.old) × (space.new.words ≡ [])) }
-    ensures refusal { IsRefusal result → (output.new ≡ output.old) × (space.new.words ≡ []) }
+    // The history whose text was written is one that epochs and pauses made; with `--replay`, the one that its generator draws.
+    ensures replayed { result ≡ Status.Done → IsReplayed (run_of (map (λ word. word.now) words.now) (stream I.left I.faults input.old input.new) (stream O.written O.faults output.old output.new) (watcher W.seen watch.old watch.new) space.new) }
 
-    // What is read is read from the front, and nothing where the words are refused.
+    // Wrong words and wrong scripts are refused, each of them.
+    ensures words { (wrong : WordFault) → words_read (map (λ word. word.now) words.now) ≡ Err wrong → ComesOrFails Status.Words (stream E.written E.faults errors.old errors.new) result }
+    ensures script { (bytes : List ℕ) (wrong : ScriptFault) → AsksToRead (map (λ word. word.now) words.now) → I.left input.old ≡ Some bytes → IsNoScript bytes wrong
+        → (result ≡ Status.ReadFault) ⊎ ComesOrFails Status.Script (stream E.written E.faults errors.old errors.new) result }
+
+    // What is read is read from the front, and nothing where the words are refused or ask for a script that is made.
     ensures taken { TakesSome (I.left input.old) (I.left input.new) }
-    ensures unread { result ≡ Status.Words → input.new ≡ input.old }
-    ensures unused { errors.new ≡ errors.old }
-    ensures unwatched { IsRefusal result → watch.new ≡ watch.old }
+    ensures unread { ¬ AsksToRead (map (λ word. word.now) words.now) → input.new ≡ input.old }
 {
-    let Some(options) = read_options(words) else {
-        return Status::Words;
-    };
-    let bytes = match read_all(alloc, input, MOST_BYTES) {
-        Ok(bytes) => bytes,
-        Err(ReadError::Fault) => return Status::ReadFault,
-        Err(ReadError::Memory) => return Status::Memory,
-    };
-    let threads = match read_threads(alloc, &bytes) {
-        Ok(threads) => threads,
-        Err(NoScript::Refused) => return Status::Script,
-        Err(NoScript::Memory) => return Status::Memory,
-    };
-    let mut actors = match open(alloc, space, options, threads) {
-        Ok(actors) => actors,
-        Err(_) => return Status::Memory,
-    };
-    match run_and_print(space, &mut actors, options, gate, watch, output) {
+    match attempt(rt, alloc, words, input, output, gate, watch, space) {
         Ok(()) => Status::Done,
-        Err(WriteError::Fault) => Status::WriteFault,
-        Err(WriteError::Memory) => Status::Memory,
+        Err(Stop::Output) => Status::WriteFault,
+        Err(Stop::Refused(refusal)) => tell(refusal, errors),
     }
 }

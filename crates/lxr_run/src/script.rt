@@ -1,30 +1,62 @@
-//! The script of a run.
-ghost use Rattle.std.specs.Prelude.{◌≡◌, IfOk};
+//! The script of a run: read from the input, or made from a seed.
+ghost use Rattle.std.specs.Prelude.{◌≡◌, false, IfErr, IfOk};
+ghost use Rattle.lxr_text_load.specs.Load.{load};
 ghost use Rattle.lxr_text_script.specs.Limits.{IsScript};
 ghost use Rattle.lxr_text_script.specs.Reading.{lists_in};
-ghost use Rattle.lxr_run.specs.Script.{IsNoScript, IsScriptOf};
+ghost use Rattle.lxr_text_stream.specs.Streams.{TakesSome};
+ghost use Rattle.lxr_words.specs.Options.{script_commands};
+ghost use Rattle.lxr_words.specs.Ranges.{AreInRange};
+ghost use Rattle.lxr_run.specs.Runs.{stream};
+ghost use Rattle.lxr_run.specs.Script.{GivesNoScript, IsGivenBy, IsReadFrom};
 
-use lxr_text_script::{Lists, ScriptError, read_script};
+use crate::refusal::Refusal;
+use lxr_text_load::make_load;
+use lxr_text_script::{Lists, MOST_BYTES, read_script};
+use lxr_text_stream::{Source, read_all};
+use lxr_words::{Command, Options};
 use std::alloc::Global;
 
-/// Why there is no script.
-#[derive(Clone, Copy, Debug)]
-pub(crate) enum NoScript {
-    /// The bytes are none.
-    Refused,
-    /// Memory ran out.
-    Memory,
+/// The operations of each thread: for `run` and `map` those of the script on the input, for `load` those that its seed makes.
+pub(crate) fn script_for<I: Source>(
+    alloc: Global,
+    options: Options,
+    input: &mut I,
+) -> Result<Lists, Refusal>
+    requires { AreInRange options }
+    ensures given { IfOk result (λ script. IsGivenBy options.command options (stream I.left I.faults input.old input.new) (lists_in script)) }
+    ensures limits { IfOk result (λ script. IsScript (lists_in script)) }
+    ensures refused { IfErr result (λ why. GivesNoScript why (stream I.left I.faults input.old input.new)) }
+    ensures taken { TakesSome (I.left input.old) (I.left input.new) }
+    ensures unread { script_commands options.command ≡ false → input.new ≡ input.old }
+    ensures made { script_commands options.command ≡ false → IfErr result (λ why. why ≡ Refusal.Memory) }
+{
+    match options.command {
+        Command::Run | Command::Map => read_threads(alloc, input),
+        Command::Load(seed) => make_threads(alloc, seed, options),
+    }
 }
 
 /// Reads the operations of each thread of a script.
-pub(crate) fn read_threads(alloc: Global, bytes: &[u8]) -> Result<Lists, NoScript>
-    ensures script { IfOk result (λ script. IsScriptOf bytes.now (lists_in script)) }
+fn read_threads<I: Source>(alloc: Global, input: &mut I) -> Result<Lists, Refusal>
+    ensures read { IfOk result (λ script. IsReadFrom (stream I.left I.faults input.old input.new) (lists_in script)) }
     ensures limits { IfOk result (λ script. IsScript (lists_in script)) }
-    ensures refused { result ≡ Err NoScript.Refused → IsNoScript bytes.now }
+    ensures refused { IfErr result (λ why. GivesNoScript why (stream I.left I.faults input.old input.new)) }
+    ensures taken { TakesSome (I.left input.old) (I.left input.new) }
 {
-    match read_script(alloc, bytes) {
+    let bytes = read_all(alloc, input, MOST_BYTES)?;
+    let script = read_script(alloc, &bytes)?;
+    Ok(script.operations)
+}
+
+/// Makes the operations of each thread of a `load`.
+fn make_threads(alloc: Global, seed: u64, options: Options) -> Result<Lists, Refusal>
+    requires { AreInRange options }
+    ensures made { IfOk result (λ script. lists_in script ≡ load seed options.threads options.rounds) }
+    ensures limits { IfOk result (λ script. IsScript (lists_in script)) }
+    ensures refused { IfErr result (λ why. why ≡ Refusal.Memory) }
+{
+    match make_load(alloc, seed, options.threads, options.rounds) {
         Ok(script) => Ok(script.operations),
-        Err(ScriptError::Fault(_)) => Err(NoScript::Refused),
-        Err(ScriptError::Memory) => Err(NoScript::Memory),
+        Err(_) => Err(Refusal::Memory),
     }
 }

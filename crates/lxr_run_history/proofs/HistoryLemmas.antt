@@ -17,7 +17,7 @@ use Rattle.lxr_model.specs.Legal.{IsLegalSoFar, IsPause, KeepsPromise, OwesNoCal
 use Rattle.lxr_model.specs.Terms.{Terms}
 use Rattle.lxr_model.specs.Belongs.{AskedPausesComeFirst, CallsBeginOperations, EarlierPausesWereEarly, HasCause, IsHistorySoFar, LastPauseWasEarly, PausesHaveCauses, Script, TurnsAreShort, calls_since_pause, has_asked, next_operation, operations_of}
 use Rattle.lxr_core_events.specs.EpochStates.{Extends, same, called}
-use Rattle.lxr_run_words.specs.declared.RunOptions.{RunOptions}
+use Rattle.lxr_words.specs.declared.Options.{Options}
 use Rattle.lxr_run_history.specs.Growing.{CallsBeginScript, HasEnded}
 use Rattle.lxr_run_history.specs.Run.{IsHistoryOf, run_terms, script_terms}
 
@@ -37,7 +37,7 @@ owes_extends terms threads every h k (called l t o r before is) none = tt
 -- ---- the calls of an epoch
 
 -- the reply of a step may stand
-pub replies_in : (options : RunOptions) (threads : ℕ) (h : List Item) (t : ℕ) (o : Op) (r : Reply) → IsReply (moment threads h).state t o r → Replies (run_terms options threads) h t o r
+pub replies_in : (options : Options) (threads : ℕ) (h : List Item) (t : ℕ) (o : Op) (r : Reply) → IsReply (moment threads h).state t o r → Replies (run_terms options threads) h t o r
 replies_in options threads h t (op.New dest shape) reply.Full is = absurd (cc)
 replies_in options threads h t (op.New dest shape) r is = (is, tt)
 replies_in options threads h t o r is = is
@@ -47,7 +47,7 @@ pub since_call : (t : ℕ) (o : Op) (r : Reply) (h : List Item) → calls_since_
 since_call t o r h = ap (λ b. if b then suc (calls_since_pause t h) else calls_since_pause t h) (eq-eqb t t refl)
 
 -- the calls of an epoch are legal
-pub legal_extends : (options : RunOptions) (threads every : ℕ) (h k : List Item) → Extends threads every h k → IsLegalSoFar (run_terms options threads) h → OwesNoCall (run_terms options threads) h
+pub legal_extends : (options : Options) (threads every : ℕ) (h k : List Item) → Extends threads every h k → IsLegalSoFar (run_terms options threads) h → OwesNoCall (run_terms options threads) h
     → IsLegalSoFar (run_terms options threads) k
 legal_extends options threads every h k (same) legal none = legal
 legal_extends options threads every h k (called l t o r before is) legal none =
@@ -61,37 +61,37 @@ asked_extends threads every h k (same) first = first
 asked_extends threads every h k (called l t o r before is) first = (asked_extends threads every h l before first, is.unasked)
 
 -- turns stay short
-pub turns_extend : (options : RunOptions) (threads : ℕ) (h k : List Item) → Extends threads options.every h k → TurnsAreShort (run_terms options threads) h → TurnsAreShort (run_terms options threads) k
+pub turns_extend : (options : Options) (threads : ℕ) (h k : List Item) → Extends threads options.every h k → TurnsAreShort (run_terms options threads) h → TurnsAreShort (run_terms options threads) k
 turns_extend options threads h k (same) short = short
 turns_extend options threads h k (called l t o r before is) short =
     (turns_extend options threads h l before short, let turn = is.turn in let one = since_call t o r l in omega arith)
 
 -- no pause is among them
-pub causes_extend : (options : RunOptions) (script : Script) (every : ℕ) (h k : List Item) → Extends (length script) every h k
+pub causes_extend : (options : Options) (script : Script) (every : ℕ) (h k : List Item) → Extends (length script) every h k
     → PausesHaveCauses (script_terms options script) script h → PausesHaveCauses (script_terms options script) script k
 causes_extend options script every h k (same) causes = causes
 causes_extend options script every h k (called l t o r before is) causes = causes_extend options script every h l before causes
 
 -- so the last pause stays
-pub early_extends : (options : RunOptions) (script : Script) (every : ℕ) (h k : List Item) → Extends (length script) every h k
+pub early_extends : (options : Options) (script : Script) (every : ℕ) (h k : List Item) → Extends (length script) every h k
     → LastPauseWasEarly (script_terms options script) h → LastPauseWasEarly (script_terms options script) k
 early_extends options script every h k (same) early = early
 early_extends options script every h k (called l t o r before is) early = early_extends options script every h l before early
 
 -- and those before it
-pub earlier_extends : (options : RunOptions) (script : Script) (every : ℕ) (h k : List Item) → Extends (length script) every h k
+pub earlier_extends : (options : Options) (script : Script) (every : ℕ) (h k : List Item) → Extends (length script) every h k
     → EarlierPausesWereEarly (script_terms options script) h → EarlierPausesWereEarly (script_terms options script) k
 earlier_extends options script every h k (same) early = early
 earlier_extends options script every h k (called l t o r before is) early = earlier_extends options script every h l before early
 
 -- as many of a thread's operations and its end are a beginning of them
-pub calls_begin : (options : RunOptions) (script : Script) (h : List Item) → CallsBeginScript script h → CallsBeginOperations (script_terms options script) script h
+pub calls_begin : (options : Options) (script : Script) (h : List Item) → CallsBeginScript script h → CallsBeginOperations (script_terms options script) script h
 calls_begin options script h begun = λ t low high.
     let (n, calls) = begun t low high in
     (drop n (operations_of script t), ap (λ z. z ++ drop n (operations_of script t)) calls ∙ take-append-drop n (operations_of script t))
 
 -- after an epoch it is a history so far
-pub history_extends : (options : RunOptions) (script : Script) (h k : List Item) → IsHistorySoFar (script_terms options script) script h → OwesNoCall (script_terms options script) h
+pub history_extends : (options : Options) (script : Script) (h k : List Item) → IsHistorySoFar (script_terms options script) script h → OwesNoCall (script_terms options script) h
     → Extends (length script) options.every h k → CallsBeginScript script k → IsHistorySoFar (script_terms options script) script k
 history_extends options script h k (legal, belongs) none extends begun = (
   legal_extends options (length script) options.every h k extends legal none,
@@ -107,7 +107,7 @@ history_extends options script h k (legal, belongs) none extends begun = (
 -- ---- a call between two epochs
 
 -- what is asked of a call that comes next
-pub record MayBeCalled (options : RunOptions) (script : Script) (h : List Item) (t : ℕ) (o : Op) (r : Reply) : Type 0 where
+pub record MayBeCalled (options : Options) (script : Script) (h : List Item) (t : ℕ) (o : Op) (r : Reply) : Type 0 where
   pub thread : (1 ≤ t) × (t ≤ length script)
   pub formed : IsWellFormed o
   pub replies : Replies (script_terms options script) h t o r
@@ -137,7 +137,7 @@ one_called true calls rest all o whole next = behind_front calls rest all o whol
 one_called false calls rest all o whole next = (rest, whole)
 
 -- the next operation of a thread joins its calls
-calls_with : (options : RunOptions) (script : Script) (h : List Item) (t : ℕ) (o : Op) (r : Reply) → CallsBeginOperations (script_terms options script) script h → next_operation script t h ≡ Some o
+calls_with : (options : Options) (script : Script) (h : List Item) (t : ℕ) (o : Op) (r : Reply) → CallsBeginOperations (script_terms options script) script h → next_operation script t h ≡ Some o
     → CallsBeginOperations (script_terms options script) script (Call t o r ∷ h)
 calls_with options script h t o r calls next = λ u low high.
     let (rest, whole) = calls u low high in
@@ -145,7 +145,7 @@ calls_with options script h t o r calls next = λ u low high.
     (λ mine. let is : t ≡ u = grind (arith, nat_tests) in subst (λ v. next_operation script v h ≡ Some o) is next)
 
 -- with it the history is one so far
-pub history_with_call : (options : RunOptions) (script : Script) (h : List Item) (t : ℕ) (o : Op) (r : Reply) → IsHistorySoFar (script_terms options script) script h
+pub history_with_call : (options : Options) (script : Script) (h : List Item) (t : ℕ) (o : Op) (r : Reply) → IsHistorySoFar (script_terms options script) script h
     → MayBeCalled options script h t o r → IsHistorySoFar (script_terms options script) script (Call t o r ∷ h)
 history_with_call options script h t o r (legal, belongs) may = (
   (legal, may.promise, record { thread = may.thread; operation = may.formed; reply = may.replies }),
@@ -161,7 +161,7 @@ history_with_call options script h t o r (legal, belongs) may = (
 -- ---- a pause
 
 -- so it is with a pause that has a cause and may stand there, where at the last one not all threads had ended
-pub history_with_pause : (options : RunOptions) (script : Script) (h : List Item) (report : PauseReport) → IsHistorySoFar (script_terms options script) script h
+pub history_with_pause : (options : Options) (script : Script) (h : List Item) (report : PauseReport) → IsHistorySoFar (script_terms options script) script h
     → OwesNoCall (script_terms options script) h → IsPause (script_terms options script) h report → HasCause (script_terms options script) script h
     → LastPauseWasEarly (script_terms options script) h → IsHistorySoFar (script_terms options script) script (Pause report ∷ h)
 history_with_pause options script h report (legal, belongs) none pause cause early = (
@@ -172,14 +172,14 @@ history_with_pause options script h report (legal, belongs) none pause cause ear
 -- ---- the end
 
 -- where not all threads have ended, they hadn't at the last pause
-pub was_early : (options : RunOptions) (script : Script) (h : List Item) → ends h < length script → LastPauseWasEarly (script_terms options script) h
+pub was_early : (options : Options) (script : Script) (h : List Item) → ends h < length script → LastPauseWasEarly (script_terms options script) h
 was_early options script [] more = tt
 was_early options script (Pause report ∷ h) more = more
 was_early options script (Call t op.End r ∷ h) more = was_early options script h (omega arith)
 was_early options script (Call t o r ∷ h) more = was_early options script h more
 
 -- where all threads have ended, the next pause makes it whole
-pub history_whole : (options : RunOptions) (script : Script) (h : List Item) (report : PauseReport) → IsHistorySoFar (script_terms options script) script (Pause report ∷ h)
+pub history_whole : (options : Options) (script : Script) (h : List Item) (report : PauseReport) → IsHistorySoFar (script_terms options script) script (Pause report ∷ h)
     → HasEnded options script h → IsHistoryOf options script (Pause report ∷ h)
 history_whole options script h report (legal, belongs) whole = record {
   legal = (legal, λ waiting. waiting.1 (inr whole.ended));

@@ -17,7 +17,7 @@ use Rattle.lxr_model.specs.Moments.{moment}
 use Rattle.lxr_core_events.specs.ThreadStates.{all_of}
 use Rattle.lxr_text_print.specs.Replies.{ArePrintable, replies_text, thread_text}
 use Rattle.lxr_text_print.proofs.HistoryLemmas.{is_of_its_operations}
-use Rattle.lxr_run_words.specs.declared.RunOptions.{RunOptions}
+use Rattle.lxr_words.specs.declared.Options.{Options}
 use Rattle.lxr_run_history.specs.Run.{run_terms}
 
 -- ---- no operation but the end replies with the end
@@ -69,7 +69,7 @@ step-goes_on s t op.Collect more e = cc
 step-goes_on s t op.End more e = more refl
 
 -- so it is of each call of a run
-pub goes_on : (options : RunOptions) (threads : ℕ) (h : List Item) (t : ℕ) (o : Op) → o ≢ op.End → Replies (run_terms options threads) h t o reply.Ended → ⊥
+pub goes_on : (options : Options) (threads : ℕ) (h : List Item) (t : ℕ) (o : Op) → o ≢ op.End → Replies (run_terms options threads) h t o reply.Ended → ⊥
 goes_on options threads h t (op.New dest shape) more is = step-goes_on (moment threads h).state t (op.New dest shape) more is.0
 goes_on options threads h t o more is = step-goes_on (moment threads h).state t o more is
 
@@ -95,7 +95,7 @@ EndsReply-more true os rs o r before here = EndsReply-push os rs o r before here
 EndsReply-more false os rs o r before here = before
 
 -- so it is of each thread of a legal history
-pub ends_reply : (options : RunOptions) (threads : ℕ) (t : ℕ) (h : List Item) → IsLegalSoFar (run_terms options threads) h → EndsReply (calls_of t h) (replies_of t h)
+pub ends_reply : (options : Options) (threads : ℕ) (t : ℕ) (h : List Item) → IsLegalSoFar (run_terms options threads) h → EndsReply (calls_of t h) (replies_of t h)
 ends_reply options threads t [] legal = tt
 ends_reply options threads t (Pause report ∷ h) legal = ends_reply options threads t h legal.0
 ends_reply options threads t (Call u o r ∷ h) legal =
@@ -119,7 +119,7 @@ as_many (o ∷ os) (r ∷ rs) is = ap suc (as_many os rs is.1)
 -- ---- the text of a thread
 
 -- where all its operations and its end are done, its replies can be printed
-pub printable : (options : RunOptions) (threads : ℕ) (t : ℕ) (h : List Item) (operations : List Op) (replies : List Reply) → IsLegalSoFar (run_terms options threads) h
+pub printable : (options : Options) (threads : ℕ) (t : ℕ) (h : List Item) (operations : List Op) (replies : List Reply) → IsLegalSoFar (run_terms options threads) h
     → All (λ o. o ≢ op.End) operations → calls_of t h ≡ all_of operations → replies_of t h ≡ replies → ArePrintable operations replies
 printable options threads t h operations replies legal none calls told =
     let is : EndsReply (all_of operations) replies = subst (EndsReply (all_of operations)) told (subst (λ os. EndsReply os (replies_of t h)) calls (ends_reply options threads t h legal)) in

@@ -27,7 +27,7 @@ use Rattle.lxr_full.specs.Room.{HasWorld}
 use Rattle.lxr_model.proofs.CollectLemmas.{refused_keep}
 use Rattle.lxr_full.proofs.RoomLemmas.{collected_full_leaves_no_run, roomless_blocks_are_taken, waiting_may_collect}
 use Rattle.lxr_full.proofs.WorldLemmas.{world_keeps_shape}
-use Rattle.lxr_run_words.specs.declared.RunOptions.{RunOptions}
+use Rattle.lxr_words.specs.declared.Options.{Options}
 use Rattle.lxr_run_history.specs.Run.{script_terms}
 
 -- right after a pause nothing is made yet
@@ -45,12 +45,12 @@ untraced threads (Call t (op.New dest shape) reply.Full ∷ h) after = untraced 
 untraced threads (Call t o r ∷ h) after = absurd after
 
 -- so no block is Chosen then
-none_chosen : (threads : ℕ) (h : List Item) (s : Space) (g : AbstractState) → IsRightAfterPause (λ report. report.kind ≡ kind.Collect) h → IsQuiescent s g → g.moment ≡ moment threads h → NoneChosen (tables_of s) s.limits.blocks
+pub none_chosen : (threads : ℕ) (h : List Item) (s : Space) (g : AbstractState) → IsRightAfterPause (λ report. report.kind ≡ kind.Collect) h → IsQuiescent s g → g.moment ≡ moment threads h → NoneChosen (tables_of s) s.limits.blocks
 none_chosen threads h s g after between is =
     subst (ChosenNeedTrace (tables_of s) s.limits.blocks) (ap (λ (m : Moment). m.trace) is ∙ untraced threads h after) between.safepoint.holds.blocks.chosen
 
 -- a `new` that finds no room right after a collecting pause may be refused
-pub may_be_refused : (options : RunOptions) (script : Script) (h : List Item) (s : Space) (g : AbstractState) (t dest : ℕ) (shape : Shape) → IsLegalSoFar (script_terms options script) h
+pub may_be_refused : (options : Options) (script : Script) (h : List Item) (s : Space) (g : AbstractState) (t dest : ℕ) (shape : Shape) → IsLegalSoFar (script_terms options script) h
     → IsRightAfterPause (λ report. report.kind ≡ kind.Collect) h → IsQuiescent s g → g.moment ≡ moment (length script) h → s.limits.blocks ≡ options.blocks → IsFull s shape
     → Replies (script_terms options script) h t (op.New dest shape) reply.Full
 may_be_refused options script h s g t dest shape legal after between is blocks full =
@@ -68,7 +68,7 @@ may_be_refused options script h s g t dest shape legal after between is blocks f
     )
 
 -- for one that finds none a collecting pause may stand, behind which it comes
-pub is_waited_for : (options : RunOptions) (script : Script) (h : List Item) (s : Space) (g : AbstractState) (t dest : ℕ) (shape : Shape) (r : Reply) → IsLegalSoFar (script_terms options script) h
+pub is_waited_for : (options : Options) (script : Script) (h : List Item) (s : Space) (g : AbstractState) (t dest : ℕ) (shape : Shape) (r : Reply) → IsLegalSoFar (script_terms options script) h
     → IsQuiescent s g → g.moment ≡ moment (length script) h → s.limits.blocks ≡ options.blocks → FitsShape shape → IsFull s shape → IsWaitedFor (script_terms options script) h (Call t (op.New dest shape) r)
 is_waited_for options script h s g t dest shape r legal between is blocks fits full =
     let world : HasWorld (moment (length script) h).state.graph = world_keeps_shape (script_terms options script) h legal in
@@ -78,7 +78,7 @@ is_waited_for options script h s g t dest shape r legal between is blocks fits f
     (subst (λ b. slots_in (line_count shape) (b - 1 - b / 8) ≤ slots_taken g.moment.state.graph (line_count shape) (without (union g.moment.made g.moment.unreclaimed) (world_name ∷ []))) blocks taken)
 
 -- and one that finds none is a cause of a pause
-pub room_cause : (options : RunOptions) (script : Script) (h : List Item) (s : Space) (g : AbstractState) (t dest : ℕ) (shape : Shape) → 1 ≤ t → t ≤ length script
+pub room_cause : (options : Options) (script : Script) (h : List Item) (s : Space) (g : AbstractState) (t dest : ℕ) (shape : Shape) → 1 ≤ t → t ≤ length script
     → next_operation script t h ≡ Some (op.New dest shape) → IsQuiescent s g → g.moment ≡ moment (length script) h → s.limits.blocks ≡ options.blocks → FitsShape shape → IsFull s shape
     → HasCause (script_terms options script) script h
 room_cause options script h s g t dest shape low high next between is blocks fits full =

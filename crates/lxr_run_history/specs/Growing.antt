@@ -5,7 +5,7 @@ use Rattle.lxr_model.specs.Belongs.{HasCause, IsHistorySoFar, LastPauseWasEarly,
 use Rattle.lxr_model.specs.Kinds.{ends}
 use Rattle.lxr_model.specs.Legal.{IsPause, OwesNoCall}
 use Rattle.lxr_core_events.specs.EpochStates.{Extends}
-use Rattle.lxr_run_words.specs.declared.RunOptions.{RunOptions}
+use Rattle.lxr_words.specs.declared.Options.{Options}
 use Rattle.lxr_run_history.specs.Run.{IsHistoryOf, script_terms}
 
 -- each thread's calls are as many of its operations and its end
@@ -14,22 +14,22 @@ CallsBeginScript script h = (t : ℕ) → 1 ≤ t → t ≤ length script → (n
 
 -- The calls of an epoch lead from a history so far to one, where no pause stands at its end for a `new` that is still to come.
 abbrev pub EpochsKeepHistories : Type 0
-EpochsKeepHistories = (options : RunOptions) (script : Script) (h k : List Item) → IsHistorySoFar (script_terms options script) script h → OwesNoCall (script_terms options script) h
+EpochsKeepHistories = (options : Options) (script : Script) (h k : List Item) → IsHistorySoFar (script_terms options script) script h → OwesNoCall (script_terms options script) h
     → Extends (length script) options.every h k → CallsBeginScript script k
     → IsHistorySoFar (script_terms options script) script k
 
 -- so does a pause that has a cause and is of a kind that may stand there, where at the last one not all threads had ended
 abbrev pub PausesKeepHistories : Type 0
-PausesKeepHistories = (options : RunOptions) (script : Script) (h : List Item) (report : PauseReport) → IsHistorySoFar (script_terms options script) script h
+PausesKeepHistories = (options : Options) (script : Script) (h : List Item) (report : PauseReport) → IsHistorySoFar (script_terms options script) script h
     → OwesNoCall (script_terms options script) h → IsPause (script_terms options script) h report → HasCause (script_terms options script) script h
     → LastPauseWasEarly (script_terms options script) h → IsHistorySoFar (script_terms options script) script (Pause report ∷ h)
 
 -- all threads have done all their operations and their ends
-pub record HasEnded (options : RunOptions) (script : Script) (h : List Item) : Type 0 where
+pub record HasEnded (options : Options) (script : Script) (h : List Item) : Type 0 where
   pub calls : (t : ℕ) → 1 ≤ t → t ≤ length script → calls_of t h ≡ operations_of script t
   pub ended : ends h ≡ length script
 
 -- then the next pause makes the history whole
 abbrev pub EndedHistoriesAreWhole : Type 0
-EndedHistoriesAreWhole = (options : RunOptions) (script : Script) (h : List Item) (report : PauseReport) → IsHistorySoFar (script_terms options script) script (Pause report ∷ h)
+EndedHistoriesAreWhole = (options : Options) (script : Script) (h : List Item) (report : PauseReport) → IsHistorySoFar (script_terms options script) script (Pause report ∷ h)
     → HasEnded options script h → IsHistoryOf options script (Pause report ∷ h)

@@ -6,7 +6,7 @@ use Rattle.lxr_model.specs.Moments.{moment}
 use Rattle.lxr_image.specs.declared.space.Space.{Space}
 use Rattle.lxr_invariant.specs.AbstractState.{AbstractState, no_report}
 use Rattle.lxr_invariant.specs.Quiescent.{IsQuiescent}
-use Rattle.lxr_run_words.specs.declared.RunOptions.{RunOptions}
+use Rattle.lxr_words.specs.declared.Options.{Options}
 use Rattle.lxr_run_history.specs.Tally.{HasNumbersOf}
 
 -- the report of the last pause of a history
@@ -21,15 +21,15 @@ pub record StandsAfter (threads : ℕ) (h : List Item) (g : AbstractState) : Typ
   pub reported : g.reported ≡ last_report h
 
 -- the limits of the space of a run
-abbrev pub run_limits : RunOptions → ℕ → Limits
+abbrev pub run_limits : Options → ℕ → Limits
 run_limits options threads = record { blocks = options.blocks; threads = threads; log = options.log; remember = options.remember }
 
 -- the space that a history leaves at its last pause: it is between epochs, and its tally has the history's numbers
-pub record IsLeftWith (options : RunOptions) (threads : ℕ) (h : List Item) (space : Space) (g : AbstractState) : Type 0 where
+pub record IsLeftWith (options : Options) (threads : ℕ) (h : List Item) (space : Space) (g : AbstractState) : Type 0 where
   pub stands : StandsAfter threads h g
   pub between : IsQuiescent space g
   pub limits : space.limits ≡ run_limits options threads
   pub tally : HasNumbersOf threads h space.tally
 
-abbrev pub IsLeftBy : RunOptions → ℕ → List Item → Space → Type 0
+abbrev pub IsLeftBy : Options → ℕ → List Item → Space → Type 0
 IsLeftBy options threads h space = (g : AbstractState) × IsLeftWith options threads h space g

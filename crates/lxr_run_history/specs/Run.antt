@@ -6,12 +6,12 @@ use Rattle.lxr_model.specs.Legal.{IsLegal}
 use Rattle.lxr_model.specs.Belongs.{Belongs, Script}
 use Rattle.lxr_text_print.specs.Replies.{thread_text}
 use Rattle.lxr_text_print.specs.Reports.{report_text}
-use Rattle.lxr_run_words.specs.declared.RunOptions.{RunOptions}
+use Rattle.lxr_words.specs.declared.Options.{Options}
 
 -- So many threads, with the options of the command line. A `new` replies `full` only right after a collecting pause, where the
 -- lines of the reachable objects can leave no run that fits. Traces run, and a pause collects where a thread asked for that since the
 -- last one, where all have ended, or for a `new` that waits for room and comes right after it.
-abbrev pub run_terms : RunOptions → ℕ → Terms
+abbrev pub run_terms : Options → ℕ → Terms
 run_terms options threads = record {
   threads = threads;
   blocks = options.blocks;
@@ -24,11 +24,11 @@ run_terms options threads = record {
 }
 
 -- the terms of a script
-abbrev pub script_terms : RunOptions → Script → Terms
+abbrev pub script_terms : Options → Script → Terms
 script_terms options script = run_terms options (length script)
 
 -- a whole history of a script: it is legal and belongs to the script
-pub record IsHistoryOf (options : RunOptions) (script : Script) (h : List Item) : Type 0 where
+pub record IsHistoryOf (options : Options) (script : Script) (h : List Item) : Type 0 where
   pub legal : IsLegal (script_terms options script) h
   pub belongs : Belongs (script_terms options script) script h
 

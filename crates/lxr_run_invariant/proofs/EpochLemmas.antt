@@ -1,5 +1,5 @@
 -- What an epoch does to a run: it may be opened where the run is between epochs, and once it is closed a pause has a cause.
-use Rattle.std.proofs.Common.{◌≡◌, ℕ, suc, ◌+◌, ◌<◌, ◌≤◌, ◌⊎◌, refl, sym, ap, subst, ◌∙◌, inl, inr, arith, Bool, IsTrue, List, [], ◌∷◌, length, map}
+use Rattle.std.proofs.Common.{◌≡◌, ℕ, suc, ◌+◌, ◌<◌, ◌≤◌, ◌⊎◌, refl, sym, ap, subst, ◌∙◌, inl, inr, arith, IsTrue, List, [], ◌∷◌, length, map}
 use Rattle.std.specs.Prelude.{Option}
 use Rattle.lxr_layout.specs.declared.Name.{Name}
 use Rattle.lxr_layout.specs.declared.limits.Limits.{Limits}
@@ -31,7 +31,7 @@ use Rattle.lxr_core.specs.Resting.{ActorsRestAfter, HelpersRest, RestAfter}
 use Rattle.lxr_core.specs.Executions.{Execution}
 use Rattle.lxr_core.proofs.ClosingLemmas.{given_script}
 use Rattle.lxr_run_history.specs.Left.{last_report}
-use Rattle.lxr_run_history.specs.Run.{reports_text}
+use Rattle.lxr_run_history.specs.Sums.{totals_of}
 use Rattle.lxr_run_history.specs.Tally.{HasNumbersOf, counted, tally_of}
 use Rattle.lxr_run_history.proofs.HistoryLemmas.{early_extends, history_extends, owes_extends, was_early}
 use Rattle.lxr_run_history.proofs.SightLemmas.{sees_epoch}
@@ -42,6 +42,7 @@ use Rattle.lxr_run_invariant.specs.Laws.{EpochsRun, beginning_of}
 use Rattle.lxr_run_invariant.proofs.ActorLemmas.{calls_are_done, ends_are_all, ends_are_fewer, has_begun, kind_is}
 use Rattle.lxr_run_invariant.proofs.EvacuatedLemmas.{evacuated_still}
 use Rattle.lxr_run_invariant.proofs.KindLemmas.{unasked_uncalled}
+use Rattle.lxr_run_invariant.proofs.TellingLemmas.{told_extends, totals_extend}
 
 -- ---- the opening of an epoch
 
@@ -70,11 +71,6 @@ may_open task space written seen actors h g amid =
 report_extends : (threads every : ℕ) (h k : List Item) → Extends threads every h k → last_report k ≡ last_report h
 report_extends threads every h k (same) = refl
 report_extends threads every h k (called l t o r before is) = report_extends threads every h l before
-
--- so does the text of reports
-text_extends : (counts : Bool) (threads every : ℕ) (h k : List Item) → Extends threads every h k → reports_text counts k ≡ reports_text counts h
-text_extends counts threads every h k (same) = refl
-text_extends counts threads every h k (called l t o r before is) = text_extends counts threads every h l before
 
 -- calls leave what is unreclaimed
 unreclaimed_extends : (threads every : ℕ) (h k : List Item) → Extends threads every h k → (moment threads k).unreclaimed ≡ (moment threads h).unreclaimed
@@ -222,7 +218,7 @@ module _ (task : Task) (space mid after : Space) (written : Option (List ℕ)) (
     limits = same_limits ∙ limits;
     tally = tally;
     evacuated = evacuated;
-    text = subst (Appends task.written written) (sym (text_extends task.options.counts (threads_of task) task.options.every h execution.history extends)) amid.come.text;
+    text = subst (Appends task.written written) (sym (told_extends task.options.command task.options.counts (threads_of task) task.options.every h execution.history extends)) amid.come.text;
     places = amid.come.places;
     sights = sees_epoch (threads_of task) task.options.every h execution.history task.seen seen amid.come.places extends amid.come.sights;
     kept = λ n member. closes.unmoved n (in_first g.moment.unreclaimed g.moment.made n (still n member)) ∙ amid.come.kept n (still n member);
@@ -243,6 +239,10 @@ module _ (task : Task) (space mid after : Space) (written : Option (List ℕ)) (
   progress (inr (inr ended)) =
       let longer = all_through_did task h execution.history (mutators_in before) (mutators_in actors) amid.come.history history extends amid.actors_rest.mutators have.mutators amid.more ended in
       inl (let more = grown in omega arith)
+
+  -- and reports nothing
+  pub totals_stay : totals_of execution.history ≡ totals_of h
+  totals_stay = totals_extend (threads_of task) task.options.every h execution.history extends
 
   -- an epoch has run
   pub epoch_run : HasRunEpoch task after written seen before actors execution.history safepoint_state
@@ -269,5 +269,8 @@ module _ (task : Task) (space mid after : Space) (written : Option (List ℕ)) (
 
 -- so it is of each epoch
 pub epochs_run : EpochsRun
-epochs_run task space mid after written seen before actors h g execution amid closed =
-    (safepoint_state task space mid after written seen before actors h g execution amid closed.words closed.script closed.workers closed.tracers closed.finished closed.closes, epoch_run task space mid after written seen before actors h g execution amid closed.words closed.script closed.workers closed.tracers closed.finished closed.closes)
+epochs_run task space mid after written seen before actors h g execution amid closed = (
+  safepoint_state task space mid after written seen before actors h g execution amid closed.words closed.script closed.workers closed.tracers closed.finished closed.closes,
+  epoch_run task space mid after written seen before actors h g execution amid closed.words closed.script closed.workers closed.tracers closed.finished closed.closes,
+  totals_stay task space mid after written seen before actors h g execution amid closed.words closed.script closed.workers closed.tracers closed.finished closed.closes,
+)

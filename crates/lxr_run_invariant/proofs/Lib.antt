@@ -1,6 +1,7 @@
 pub mod ActorLemmas
 pub mod KindLemmas
 pub mod EvacuatedLemmas
+pub mod TellingLemmas
 pub mod PauseLemmas
 pub mod ServingLemmas
 pub mod TurnLemmas

@@ -12,6 +12,7 @@ use Rattle.lxr_model.specs.Moments.{opening_moment}
 use Rattle.lxr_invariant.specs.AbstractState.{AbstractState, no_report}
 use Rattle.lxr_invariant.specs.Quiescent.{IsQuiescent}
 use Rattle.lxr_invariant.specs.Listed.{FreeBlocksAreListed, IsListed}
+use Rattle.lxr_text_stream.specs.Streams.{Appends}
 use Rattle.lxr_text_stream.proofs.StreamLemmas.{Appends-nil}
 use Rattle.lxr_mutator.specs.Mutating.{Mutating}
 use Rattle.lxr_mutator.specs.Mutators.{IsMutator, first}
@@ -23,6 +24,7 @@ use Rattle.lxr_run_history.proofs.SightLemmas.{sees_none}
 use Rattle.lxr_run_history.proofs.TallyLemmas.{has_numbers}
 use Rattle.lxr_run_invariant.proofs.ActorLemmas.{found}
 use Rattle.lxr_run_invariant.proofs.EvacuatedLemmas.{none_evacuated}
+use Rattle.lxr_run_invariant.proofs.TellingLemmas.{told_none}
 use Rattle.lxr_run_invariant.specs.LoopInvariant.{HaveActors, HaveMutators, IsBetweenEpochs, Task, task_limits, threads_of}
 
 -- a space that was just opened, for so many threads: what it stands for, and what is listed
@@ -92,7 +94,7 @@ between_opened task space g actors some opened are = record {
     limits = opened.limits;
     tally = has_numbers (threads_of task) [] space.tally 0 0 opened.tally;
     evacuated = none_evacuated space (ap (λ (t : Tally). t.moved) opened.tally) (ap (λ (t : Tally). t.kept) opened.tally);
-    text = Appends-nil task.written;
+    text = subst (Appends task.written task.written) (sym (told_none task.options.command task.options.counts)) (Appends-nil task.written);
     places = opening_at;
     sights = sees_none (threads_of task) task.seen;
     kept = λ n member. ap (λ f. f n) opened.at;

@@ -25,16 +25,15 @@ use Rattle.lxr_run_pause.specs.Deciding.{kind_of}
 use Rattle.lxr_run_pause.specs.Pausing.{CanPause, KeepsObjects, Pauses}
 use Rattle.lxr_text_stream.specs.Streams.{Appends, AppendsFront}
 use Rattle.lxr_text_stream.proofs.StreamLemmas.{Appends-append, AppendsFront-after}
-use Rattle.lxr_text_print.specs.Reports.{report_text}
 use Rattle.lxr_run_watch.specs.Sights.{Looks, Sight, sight_of}
 use Rattle.lxr_core.specs.declared.actors.AnyActor.{AnyActor}
 use Rattle.lxr_core.specs.Actors.{mutators_in}
 use Rattle.lxr_core.specs.Resting.{RestsAfter}
 use Rattle.lxr_mutator.specs.Mutating.{Mutating}
 use Rattle.lxr_run_history.specs.Left.{StandsAfter}
-use Rattle.lxr_run_history.specs.Run.{reports_text}
 use Rattle.lxr_run_history.specs.Sights.{MayMove, SeesTo}
 use Rattle.lxr_run_history.specs.Tally.{HasNumbersOf}
+use Rattle.lxr_run_history.specs.Texts.{told_report, told_text}
 use Rattle.lxr_run_history.proofs.HistoryLemmas.{history_with_pause}
 use Rattle.lxr_run_history.proofs.SightLemmas.{sees_pause}
 use Rattle.lxr_run_history.proofs.SpaceLemmas.{safepoint_tallied}
@@ -44,6 +43,7 @@ use Rattle.lxr_run_invariant.specs.LoopInvariant.{FitsCounts, HasCome, HasEvacua
 use Rattle.lxr_run_invariant.proofs.ActorLemmas.{as_many, calls_are_done, done_few}
 use Rattle.lxr_run_invariant.proofs.EvacuatedLemmas.{evacuated_more, moved_fits}
 use Rattle.lxr_run_invariant.proofs.KindLemmas.{kind_collects, kind_may_stand}
+use Rattle.lxr_run_invariant.proofs.TellingLemmas.{told_pause}
 
 -- ---- numbers
 
@@ -213,7 +213,7 @@ module _ (task : Task) (before after : Space) (written : Option (List ℕ)) (see
       unmoved = λ n was stays. unmoved n was;
     })
 
-    pub paused_after : (written' : Option (List ℕ)) → Appends written written' (report_text task.options.counts report) → IsPaused task after written' seen' h asked
+    pub paused_after : (written' : Option (List ℕ)) → Appends written written' (told_report task.options.command task.options.counts report) → IsPaused task after written' seen' h asked
     paused_after written' printed = (
       report,
       abstract_state,
@@ -225,7 +225,8 @@ module _ (task : Task) (before after : Space) (written : Option (List ℕ)) (see
           limits = limits ∙ come.limits;
           tally = tally;
           evacuated = evacuated;
-          text = Appends-append task.written written written' (reports_text task.options.counts h) (report_text task.options.counts report) come.text printed;
+          text = subst (Appends task.written written') (sym (told_pause task.options.command task.options.counts h report))
+              (Appends-append task.written written written' (told_text task.options h) (told_report task.options.command task.options.counts report) come.text printed);
           places = at';
           sights = sights;
           kept = λ n member. refl;
@@ -236,12 +237,13 @@ module _ (task : Task) (before after : Space) (written : Option (List ℕ)) (see
     )
 
   -- or it was cut off at the report
-  pub cut_off_after : (written' : Option (List ℕ)) → AppendsFront written written' (report_text task.options.counts report) → WasCutOff task after written'
+  pub cut_off_after : (written' : Option (List ℕ)) → AppendsFront written written' (told_report task.options.command task.options.counts report) → WasCutOff task after written'
   cut_off_after written' printed = (
     Pause report ∷ h,
     record {
       history = history;
-      text_front = AppendsFront-after task.written written written' (reports_text task.options.counts h) (report_text task.options.counts report) come.text printed;
+      text_front = subst (AppendsFront task.written written') (sym (told_pause task.options.command task.options.counts h report))
+          (AppendsFront-after task.written written written' (told_text task.options h) (told_report task.options.command task.options.counts report) come.text printed);
       left = (abstract_state, record { stands = stands; between = pauses.between; limits = limits ∙ come.limits; tally = tally });
     },
   )

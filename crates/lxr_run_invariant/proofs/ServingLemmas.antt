@@ -29,6 +29,7 @@ use Rattle.lxr_model.specs.Moments.{Moment, after_call, moment}
 use Rattle.lxr_invariant.specs.AbstractState.{AbstractState}
 use Rattle.lxr_invariant.specs.Quiescent.{IsQuiescent}
 use Rattle.lxr_invariant.proofs.NameLemmas.{in_first}
+use Rattle.lxr_text_stream.specs.Streams.{Appends}
 use Rattle.lxr_run_watch.specs.Sights.{Sight}
 use Rattle.lxr_run_resume.specs.Serving.{served_abstract_state}
 use Rattle.lxr_run_serve.proofs.MutatorLemmas.{answered_mutator, with_registers}
@@ -48,6 +49,7 @@ use Rattle.lxr_run_history.proofs.RoomLemmas.{is_waited_for, may_be_refused, roo
 use Rattle.lxr_run_history.proofs.SightLemmas.{sees_call}
 use Rattle.lxr_run_history.proofs.TallyLemmas.{has_numbers}
 use Rattle.lxr_run_invariant.specs.LoopInvariant.{HasCome, IsCollectedSince, Task, task_limits, terms_of, threads_of}
+use Rattle.lxr_run_invariant.proofs.TellingLemmas.{told_call}
 use Rattle.lxr_run_invariant.proofs.EvacuatedLemmas.{evacuated_still}
 
 -- ---- a `new` whose turn has come
@@ -148,7 +150,7 @@ come_with_new task before after written seen t h g name dest shape place come ca
       (ap (λ (s : Space). s.tally) serves.others ∙ ap (λ n. record before.tally { news = n }) serves.news ∙ ap (λ t. counted t (reply.New name)) come.tally);
   evacuated = evacuated_still before after (ap (λ (s : Space). s.tally.moved) serves.others) (ap (λ (s : Space). s.tally.kept) serves.others) (ap (λ (s : Space). s.limits) serves.others)
       (ap (λ (s : Space). s.pauses) serves.others) come.evacuated;
-  text = come.text;
+  text = subst (Appends task.written written) (sym (told_call task.options.command task.options.counts t (op.New dest shape) (reply.New name) h)) come.text;
   places = come.places;
   sights = sees_call (threads_of task) h t (op.New dest shape) (reply.New name) task.seen seen come.places come.sights;
   kept = λ n member. placed_other g.at name n place.0 (free n member) ∙ come.kept n member;
@@ -191,7 +193,7 @@ come_refused task space written seen t m h g dest shape may is full =
       limits = come.limits;
       tally = come.tally;
       evacuated = come.evacuated;
-      text = come.text;
+      text = subst (Appends task.written written) (sym (told_call task.options.command task.options.counts t (op.New dest shape) reply.Full h)) come.text;
       places = come.places;
       sights = sees_call (threads_of task) h t (op.New dest shape) reply.Full task.seen seen come.places come.sights;
       kept = come.kept;

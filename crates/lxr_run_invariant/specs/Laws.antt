@@ -14,6 +14,7 @@ use Rattle.lxr_core.specs.Opening.{Begins}
 use Rattle.lxr_core.specs.Executions.{Execution}
 use Rattle.lxr_run_pause.specs.declared.Ask.{Ask}
 use Rattle.lxr_run_serve.specs.Serving.{KeepsHelpers}
+use Rattle.lxr_run_history.specs.Sums.{totals_of}
 use Rattle.lxr_run_invariant.specs.LoopInvariant.{HasRun, HasRunEpoch, HaveEnded, IsBetweenEpochs, IsPaused, IsServing, Task, done_of}
 
 -- ---- epochs
@@ -36,10 +37,10 @@ pub record HasClosed (task : Task) (space mid after : Space) (actors : List AnyA
   pub finished : AreFinished (mutators_in execution.core.actors)
   pub closes : Closes (beginning_of task space h g) execution mid after actors
 
--- then a pause has a cause
+-- then a pause has a cause, and the history goes on by calls alone
 abbrev pub EpochsRun : Type 0
 EpochsRun = (task : Task) (space mid after : Space) (written : Option (List ℕ)) (seen : Option (List Sight)) (before actors : List AnyActor) (h : List Item) (g : AbstractState) (execution : Execution)
-    → IsBetweenEpochs task space written seen before h g → HasClosed task space mid after actors h g execution → (m : AbstractState) × HasRunEpoch task after written seen before actors execution.history m
+    → IsBetweenEpochs task space written seen before h g → HasClosed task space mid after actors h g execution → (m : AbstractState) × HasRunEpoch task after written seen before actors execution.history m × (totals_of execution.history ≡ totals_of h)
 
 -- ---- the way to the next epoch
 

@@ -9,6 +9,8 @@ use Rattle.lxr_graph.specs.declared.report.Kind.TheVariants as kind
 use Rattle.lxr_graph.specs.History.{Item, Call, Pause, PauseReport}
 use Rattle.lxr_image.specs.declared.space.Space.{Space}
 use Rattle.lxr_text_stream.specs.Streams.{Appends, AppendsFront}
+use Rattle.lxr_text_stream.specs.declared.transfer.WriteError.{WriteError}
+use Rattle.lxr_text_stream.specs.declared.transfer.WriteError.TheVariants as error
 use Rattle.lxr_model.specs.Belongs.{HasCause, IsHistorySoFar, LastPauseWasEarly, Script, calls_since_pause, has_asked}
 use Rattle.lxr_model.specs.Full.{IsRightAfterPause}
 use Rattle.lxr_model.specs.Kinds.{MustCollect, OnlyNewsSincePause, collect_called}
@@ -27,15 +29,16 @@ use Rattle.lxr_run_pause.specs.declared.Ask.{Ask}
 use Rattle.lxr_run_pause.specs.declared.Ask.TheVariants as ask
 use Rattle.lxr_run_pause.specs.declared.Pace.{Pace}
 use Rattle.lxr_run_serve.specs.Serving.{NewsWait}
-use Rattle.lxr_run_words.specs.declared.RunOptions.{RunOptions}
+use Rattle.lxr_words.specs.declared.Options.{Options}
 use Rattle.lxr_run_history.specs.Left.{IsLeftBy, StandsAfter, run_limits}
-use Rattle.lxr_run_history.specs.Run.{IsHistoryOf, reports_text, script_terms}
+use Rattle.lxr_run_history.specs.Run.{IsHistoryOf, script_terms}
 use Rattle.lxr_run_history.specs.Sights.{SamePlaces, Sees, SeesTo}
 use Rattle.lxr_run_history.specs.Tally.{HasNumbersOf}
+use Rattle.lxr_run_history.specs.Texts.{told_text}
 
 -- What a run begins with: its options and script, and what was written and seen before it, where it is told.
 pub record Task : Type 0 where
-  pub options : RunOptions
+  pub options : Options
   pub script : Script
   pub written : Option (List ℕ)
   pub seen : Option (List Sight)
@@ -50,7 +53,7 @@ abbrev pub task_limits : Task → Limits
 task_limits task = run_limits task.options (threads_of task)
 
 -- when traces begin and end in a run with these options
-abbrev pub pace_of : RunOptions → Pace
+abbrev pub pace_of : Options → Pace
 pace_of options = record { trace = options.trace; within = options.within }
 
 -- pauses have moved and kept no more objects each than the heap has granules
@@ -67,7 +70,7 @@ pub record HasCome (task : Task) (space : Space) (written : Option (List ℕ)) (
   pub limits : space.limits ≡ task_limits task
   pub tally : HasNumbersOf (threads_of task) h space.tally
   pub evacuated : HasEvacuatedFew space
-  pub text : Appends task.written written (reports_text task.options.counts h)
+  pub text : Appends task.written written (told_text task.options h)
   pub places : Name → ℕ
   pub sights : SeesTo (threads_of task) h task.seen seen places
   pub kept : SamePlaces g.moment.unreclaimed places g.at
@@ -215,17 +218,31 @@ pub record IsServing (task : Task) (space : Space) (written : Option (List ℕ))
 -- a run that was cut off at a report: a front of the reports of a history so far was written, and the space is left by it
 pub record WasCutOffAt (task : Task) (space : Space) (written : Option (List ℕ)) (h : List Item) : Type 0 where
   pub history : IsHistorySoFar (terms_of task) task.script h
-  pub text_front : AppendsFront task.written written (reports_text task.options.counts h)
+  pub text_front : AppendsFront task.written written (told_text task.options h)
   pub left : IsLeftBy task.options (threads_of task) h space
 
 abbrev pub WasCutOff : Task → Space → Option (List ℕ) → Type 0
 WasCutOff task space written = (h : List Item) × WasCutOffAt task space written h
 
+-- a run that lost its space, since no memory was left as an epoch was to begin: the reports so far were written
+pub record WasLostAt (task : Task) (space : Space) (written : Option (List ℕ)) (h : List Item) : Type 0 where
+  pub history : IsHistorySoFar (terms_of task) task.script h
+  pub text : Appends task.written written (told_text task.options h)
+  pub gone : space.words ≡ []
+
+abbrev pub WasLost : Task → Space → Option (List ℕ) → Type 0
+WasLost task space written = (h : List Item) × WasLostAt task space written h
+
+-- a run that a fault of writing stopped was cut off; one that want of memory stopped was cut off, or lost its space
+abbrev pub WasStopped : WriteError → Task → Space → Option (List ℕ) → Type 0
+WasStopped error.Fault task space written = WasCutOff task space written
+WasStopped error.Memory task space written = WasCutOff task space written ⊎ WasLost task space written
+
 -- all operations and ends are done, and the last pause is made
 pub record HasRunTo (task : Task) (space : Space) (written : Option (List ℕ)) (seen : Option (List Sight)) (actors : List AnyActor) (h : List Item) : Type 0 where
   pub history : IsHistoryOf task.options task.script h
   pub left : IsLeftBy task.options (threads_of task) h space
-  pub text : Appends task.written written (reports_text task.options.counts h)
+  pub text : Appends task.written written (told_text task.options h)
   pub sights : Sees (threads_of task) h task.seen seen
   pub actors_rest : HaveActors task h actors
 

@@ -1,7 +1,11 @@
+pub mod EpochLemmas
 pub mod OpeningLemmas
 pub mod ProgressLemmas
+pub mod FewLemmas
 pub mod ServeLemmas
+pub mod RoundLemmas
 pub mod PrintLemmas
+pub mod SummingLemmas
 pub mod PrintedLemmas
 pub mod ThreadLemmas
 pub mod TracerLemmas

@@ -26,7 +26,7 @@ use Rattle.lxr_trace.specs.Tracing.{TracerState}
 use Rattle.lxr_trace.specs.Tracers.{first as first_tracer}
 use Rattle.lxr_trace.proofs.StayLemmas.{stay_so as tracers_stay}
 use Rattle.lxr_model.specs.Belongs.{Script}
-use Rattle.lxr_run_words.specs.CommandLines.{AreInRange}
+use Rattle.lxr_words.specs.Ranges.{AreInRange}
 use Rattle.lxr_image.specs.declared.space.Space.{Space}
 use Rattle.lxr_image.specs.Opened.{IsOpened}
 use Rattle.lxr_model.specs.Moments.{opening_moment}
@@ -34,10 +34,12 @@ use Rattle.lxr_invariant.specs.Quiescent.{IsQuiescent}
 use Rattle.lxr_invariant.specs.Listed.{IsListedWhole}
 use Rattle.lxr_run_resume.specs.Opening.{opening_abstract_state}
 use Rattle.lxr_run_watch.specs.Sights.{Sight}
-use Rattle.lxr_run_words.specs.declared.RunOptions.{RunOptions}
+use Rattle.lxr_words.specs.declared.Options.{Options}
 use Rattle.lxr_run_history.specs.Left.{run_limits}
+use Rattle.lxr_run_history.specs.Sums.{no_totals}
 use Rattle.lxr_run_invariant.specs.LoopInvariant.{Task, task_limits, threads_of}
 use Rattle.lxr_run_invariant.proofs.OpeningLemmas.{between_opened}
+use Rattle.lxr_run_loop.specs.Courses.{AreTotals}
 use Rattle.lxr_run_loop.specs.Drawing.{at_opening}
 use Rattle.lxr_run_loop.specs.Opening.{AreMade, IsOpenedRun, MutatorsAreMade}
 
@@ -258,15 +260,19 @@ tracers_made l every w n script actors made = ap length (made_tracers l every w 
 -- ---- the opened run
 
 -- the limits of a run are such as a space has
-run_fits : (options : RunOptions) (script : List (Roomy Op)) → AreInRange options → IsScript (map (λ (x : Roomy Op). x.items) script) → AreLimits (run_limits options (length script))
+run_fits : (options : Options) (script : List (Roomy Op)) → AreInRange options → IsScript (map (λ (x : Roomy Op). x.items) script) → AreLimits (run_limits options (length script))
 run_fits options script ranges is =
     let many = length-map script (λ (x : Roomy Op). x.items) in
     let least = is.least in
     let greatest = is.greatest in
     record { blocks = ranges.blocks; threads = (omega arith, omega arith); log = ranges.log; remember = ranges.remember }
 
+-- nothing is reported yet
+none_told : (space : Space) → AreTotals no_totals space []
+none_told space = record { are = refl; few = record { promoted = omega arith; dead = omega arith; swept = omega arith; stuck = omega arith } }
+
 -- between two epochs, with the empty history, before the first draw
-pub opened_run : (options : RunOptions) (script : List (Roomy Op)) (limits : Limits) (space : Space) (actors : List AnyActor) → limits ≡ run_limits options (length script)
+pub opened_run : (options : Options) (script : List (Roomy Op)) (limits : Limits) (space : Space) (actors : List AnyActor) → limits ≡ run_limits options (length script)
     → AreInRange options → IsScript (map (λ (x : Roomy Op). x.items) script) → AreMade limits options.every options.workers options.workers (map (λ (x : Roomy Op). x.items) script) actors
     → IsOpened space limits → IsQuiescent space (opening_abstract_state limits.threads) → IsListedWhole space → (written : Option (List ℕ)) (seen : Option (List Sight))
     → IsOpenedRun options (map (λ (x : Roomy Op). x.items) script) space written seen actors
@@ -298,4 +304,4 @@ opened_run options script limits space actors same ranges is made opened between
       tracers = tracers_made limits options.every options.workers options.workers task.script actors made;
       few = ranges.workers.1;
     }) in
-    ([], opening_abstract_state limits.threads, between_epochs, at_opening)
+    ([], opening_abstract_state limits.threads, between_epochs, at_opening, none_told space)

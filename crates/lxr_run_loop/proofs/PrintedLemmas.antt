@@ -1,5 +1,5 @@
 -- What a run has written: the text of its history, once the replies that the mutators keep stand behind the reports.
-use Rattle.std.proofs.Common.{inr, ◌≡◌, ℕ, zero, suc, ◌+◌, ◌≤◌, refl, sym, ap, subst, ◌∙◌, List, [], ◌∷◌, ◌++◌, length, take, arith}
+use Rattle.std.proofs.Common.{◌≡◌, ℕ, zero, suc, ◌+◌, ◌≤◌, refl, sym, ap, subst, ◌∙◌, List, [], ◌∷◌, ◌++◌, append_assoc, length, take, arith}
 use Rattle.std.specs.Prelude.{Option, Some, Ok, Err, Result, OnOk, OnErr, slice_get}
 use Rattle.std.proofs.Math.Seq.{take-suc}
 use Rattle.std.proofs.lemmas.List.{append-nil, take_all}
@@ -16,13 +16,28 @@ use Rattle.lxr_core.proofs.OrderLemmas.{mutator_at}
 use Rattle.lxr_mutator.specs.Mutating.{Mutating}
 use Rattle.lxr_run_loop.proofs.PrintLemmas.{text_of_both}
 use Rattle.lxr_image.specs.declared.space.Space.{Space}
+use Rattle.lxr_image.specs.Spaces.{tables_of}
+use Rattle.lxr_image.proofs.ImageLemmas.{starts_stand_whole}
+use Rattle.lxr_invariant.specs.AbstractState.{members}
+use Rattle.lxr_invariant.proofs.NameLemmas.{in_first}
+use Rattle.lxr_text_map.specs.Map.{CanBeMapped, map_text}
+use Rattle.lxr_text_print.specs.Summary.{summary_text}
+use Rattle.lxr_text_print.specs.declared.summary.Sums.{Sums}
+use Rattle.lxr_words.specs.declared.Command.{Command}
+use Rattle.lxr_words.specs.declared.Command.TheVariants.{Load, Map, Run}
+use Rattle.lxr_run_history.specs.Sums.{sums_of}
+use Rattle.lxr_run_history.specs.Texts.{run_text, text_by, told_by, told_text}
+use Rattle.lxr_run_history.proofs.RoomLemmas.{none_chosen}
 use Rattle.lxr_run_history.specs.Run.{history_text, reports_text, threads_text}
 use Rattle.lxr_run_invariant.specs.LoopInvariant.{HasRunTo, Task, threads_of}
 use Rattle.lxr_run_invariant.proofs.ActorLemmas.{as_many, found}
 use Rattle.lxr_run_invariant.proofs.EndLemmas.{replies_printable, text_of_mutator}
-use Rattle.lxr_run_loop.specs.Printed.{IsCutShort, IsPrinted}
+use Rattle.lxr_run_loop.specs.declared.course.Course.{Course}
+use Rattle.lxr_run_loop.specs.Drawing.{IsDrawn}
+use Rattle.lxr_run_loop.specs.Printed.{IsPartlyPrinted, IsPrinted}
 use Rattle.lxr_run_loop.specs.Printing.{CanBePrinted, IsPrintable, mutator_text, mutators_text}
 use Rattle.lxr_run_loop.specs.Progress.{IsComplete}
+use Rattle.lxr_run_loop.proofs.SummingLemmas.{last_collects}
 
 -- ---- the text of a run
 
@@ -65,33 +80,66 @@ printable_by task space written seen actors h run i (any.Decrementer d) at = tt
 printable_by task space written seen actors h run i (any.Tracer d) at = tt
 
 -- the replies of a run can be printed
-pub printable : (task : Task) (space : Space) (written : Option (List ℕ)) (seen : Option (List Sight)) (actors : List AnyActor) (x : ℕ) → IsComplete task space written seen actors x → CanBePrinted actors
-printable task space written seen actors x (h, run, drawn) = printable_by task space written seen actors h run
+pub printable : (task : Task) (space : Space) (written : Option (List ℕ)) (seen : Option (List Sight)) (actors : List AnyActor) (course : Course) → IsComplete task space written seen actors course → CanBePrinted actors
+printable task space written seen actors course (h, run, drawn, totals) = printable_by task space written seen actors h run
 
--- a run whose replies were printed
-pub printed_whole : (task : Task) (space : Space) (written written' : Option (List ℕ)) (seen : Option (List Sight)) (actors : List AnyActor) (x : ℕ) → IsComplete task space written seen actors x
-    → Appends written written' (mutators_text (mutators_in actors)) → IsPrinted task space written' seen
-printed_whole task space written written' seen actors x (h, run, drawn) text = record {
-  history = h;
-  run = run.history;
-  last = x;
-  drawn = drawn;
-  text = subst (Appends task.written written') (text_of_run task space written seen actors h run)
-      (Appends-append task.written written written' (reports_text task.options.counts h) (mutators_text (mutators_in actors)) run.text text);
-  space_left = run.left;
-  sights = run.sights;
-}
+-- its last pause collected, so no block is Chosen, and its heap can be printed
+pub mappable : (task : Task) (space : Space) (written : Option (List ℕ)) (seen : Option (List Sight)) (actors : List AnyActor) (course : Course) → IsComplete task space written seen actors course → CanBeMapped space
+mappable task space written seen actors course (h, run, drawn, totals) =
+    let (g, left) = run.left in
+    let holds = left.between.safepoint.holds in
+    record {
+      space = holds.space;
+      starts = starts_stand_whole (tables_of space) space.limits.blocks g.at g.moment.state.graph g.moment.unreclaimed (members g.moment) holds.image.image holds.bits.starts (in_first g.moment.unreclaimed g.moment.made);
+      none_chosen = none_chosen (threads_of task) h space g (last_collects task.options task.script h run.history) left.between left.stands.moment;
+    }
 
--- one whose replies were cut off
-pub printed_front : (task : Task) (space : Space) (written written' : Option (List ℕ)) (seen : Option (List Sight)) (actors : List AnyActor) (x : ℕ) → IsComplete task space written seen actors x
-    → AppendsFront written written' (mutators_text (mutators_in actors)) → IsCutShort task space written'
-printed_front task space written written' seen actors x (h, run, drawn) text = inr (record {
-  history = h;
-  run = run.history;
-  text_front = subst (AppendsFront task.written written') (text_of_run task space written seen actors h run)
-      (AppendsFront-after task.written written written' (reports_text task.options.counts h) (mutators_text (mutators_in actors)) run.text text);
-  space_left = run.left;
-})
+-- ---- by its command
+
+-- what is printed last
+abbrev pub last_by : Command → List Mutating → Space → Sums → List ℕ
+last_by Run mutators space sums = mutators_text mutators
+last_by Map mutators space sums = mutators_text mutators ++ map_text space
+last_by (Load seed) mutators space sums = summary_text sums
+
+-- the text of a run is what was told of it, and this
+text_by_command : (task : Task) (space : Space) (written : Option (List ℕ)) (seen : Option (List Sight)) (actors : List AnyActor) (h : List Item) → HasRunTo task space written seen actors h
+    → (command : Command) → told_by command task.options.counts h ++ last_by command (mutators_in actors) space (sums_of (threads_of task) h) ≡ text_by command task.options.counts (threads_of task) h space
+text_by_command task space written seen actors h run Run = text_of_run task space written seen actors h run
+text_by_command task space written seen actors h run Map =
+    sym (append_assoc (reports_text task.options.counts h) (mutators_text (mutators_in actors)) (map_text space)) ∙ ap (λ z. z ++ map_text space) (text_of_run task space written seen actors h run)
+text_by_command task space written seen actors h run (Load seed) = refl
+
+module _ (task : Task) (space : Space) (written written' : Option (List ℕ)) (seen : Option (List Sight)) (actors : List AnyActor) (course : Course) (h : List Item) (run : HasRunTo task space written seen actors h)
+    (command : Command) (is : task.options.command ≡ command) (sums : Sums) (sums_are : sums ≡ sums_of (threads_of task) h) where
+  whole_text : told_text task.options h ++ last_by command (mutators_in actors) space sums ≡ run_text task.options (threads_of task) h space
+  whole_text =
+      ap (λ c. told_text task.options h ++ last_by c (mutators_in actors) space sums) (sym is)
+      ∙ ap (λ (x : Sums). told_text task.options h ++ last_by task.options.command (mutators_in actors) space x) sums_are
+      ∙ text_by_command task space written seen actors h run task.options.command
+
+  -- a run whose end was printed
+  pub printed_whole : IsDrawn task h course.generator → Appends written written' (last_by command (mutators_in actors) space sums) → IsPrinted task space written' seen
+  printed_whole drawn text = record {
+    history = h;
+    run = run.history;
+    last = course.generator;
+    drawn = drawn;
+    text = subst (Appends task.written written') whole_text
+        (Appends-append task.written written written' (told_text task.options h) (last_by command (mutators_in actors) space sums) run.text text);
+    space_left = run.left;
+    sights = run.sights;
+  }
+
+  -- one whose end was cut off
+  pub printed_front : AppendsFront written written' (last_by command (mutators_in actors) space sums) → IsPartlyPrinted task space written'
+  printed_front text = record {
+    history = h;
+    run = run.history;
+    text_front = subst (AppendsFront task.written written') whole_text
+        (AppendsFront-after task.written written written' (told_text task.options h) (last_by command (mutators_in actors) space sums) run.text text);
+    space_left = run.left;
+  }
 
 -- ---- results
 

@@ -1,25 +1,30 @@
 -- How a run goes from one epoch to the next, and that less is left then.
 use Rattle.std.proofs.Common.{◌≡◌, ℕ, zero, suc, ◌+◌, ◌<◌, ◌≤◌, ◌⊎◌, refl, sym, ap, subst, ◌∙◌, inl, inr, ⊎_elim, arith, Bool, true, false, ◌↔◌, ◌||◌, IsTrue, List, [], ◌∷◌, cond}
-use Rattle.std.specs.Prelude.{Option, Some, None, slice_get}
+use Rattle.std.specs.Prelude.{Option, Some, None, Result, Ok, Err, IfErr, IsErrAnd, OnErr, slice_get}
 use Rattle.std.specs.List.{All, list_any}
 use Rattle.std.proofs.lemmas.List.Elements.{All-nil, All-cons, All-head, All-tail}
-use Rattle.lxr_graph.specs.History.{Item}
+use Rattle.lxr_graph.specs.History.{Item, Pause, PauseReport, report_of}
 use Rattle.lxr_image.specs.declared.space.Space.{Space}
 use Rattle.lxr_invariant.specs.AbstractState.{AbstractState}
 use Rattle.lxr_model.specs.Kinds.{MustCollect}
 use Rattle.lxr_run_pause.specs.declared.Ask.{Ask}
 use Rattle.lxr_run_pause.specs.declared.Ask.TheVariants as ask
 use Rattle.lxr_run_watch.specs.Sights.{Sight}
-use Rattle.lxr_run_words.specs.declared.RunOptions.{RunOptions}
+use Rattle.lxr_text_stream.specs.declared.transfer.WriteError.{WriteError}
+use Rattle.lxr_text_stream.specs.declared.transfer.WriteError.TheVariants as error
+use Rattle.lxr_words.specs.declared.Options.{Options}
 use Rattle.lxr_mutator.specs.declared.phases.MutEnd.{MutEnd}
 use Rattle.lxr_mutator.specs.declared.phases.MutEnd.TheVariants as ends
 use Rattle.lxr_mutator.specs.Mutating.{Mutating, has_collected}
 use Rattle.lxr_core.specs.declared.actors.AnyActor.{AnyActor}
 use Rattle.lxr_core.specs.declared.actors.AnyActor.TheVariants as any
 use Rattle.lxr_core.specs.Actors.{mutators_in, script_of}
-use Rattle.lxr_run_invariant.specs.LoopInvariant.{HasMore, HasRunEpoch, HaveActors, HaveEnded, HaveMutators, Task, asked_by, done_of, left_of, terms_of}
+use Rattle.lxr_run_history.specs.declared.totals.Totals.{Totals}
+use Rattle.lxr_run_history.specs.Sums.{totals_of, with_report}
+use Rattle.lxr_run_invariant.specs.LoopInvariant.{HasMore, HasPaused, HasRunEpoch, HaveActors, HaveEnded, HaveMutators, IsBetweenEpochs, Task, WasCutOff, WasStopped, asked_by, done_of, left_of, terms_of}
 use Rattle.lxr_run_invariant.proofs.ActorLemmas.{are_within, done_and_left, ends_are_all, ends_are_fewer, steps_of}
 use Rattle.lxr_run_invariant.proofs.KindLemmas.{asked_right}
+use Rattle.lxr_run_loop.specs.declared.course.Course.{Course}
 use Rattle.lxr_run_loop.specs.Pausing.{HasComeToPause}
 use Rattle.lxr_run_loop.specs.Progress.{HasEnded, HasMadeRound, IsComplete, IsUnderWay, NoneGoesOn, actor_collected}
 
@@ -95,7 +100,7 @@ asks_right task space written seen before actors h g ended collects asked ran me
     ran.collects))
 
 -- and it is due
-pub comes : (task : Task) (space : Space) (written : Option (List ℕ)) (seen : Option (List Sight)) (before actors : List AnyActor) (h : List Item) (g : AbstractState) (options : RunOptions) (asked : Ask)
+pub comes : (task : Task) (space : Space) (written : Option (List ℕ)) (seen : Option (List Sight)) (before actors : List AnyActor) (h : List Item) (g : AbstractState) (options : Options) (asked : Ask)
     → task.options ≡ options → HasRunEpoch task space written seen before actors h g → (asked ≡ ask.Collect) ↔ MustCollect (terms_of task) h
     → HasComeToPause asked options task space written seen h g
 comes task space written seen before actors h g options asked with_options ran right = record { come = ran.come; due = ran.due; right = inl right; with_options = with_options }
@@ -109,21 +114,56 @@ left_no_more task h h' before after have have' grows =
     let same : steps_of (script_of before) ≡ steps_of (script_of after) = ap steps_of (have.script ∙ sym have'.script) in
     omega arith
 
+-- ---- what is reported
+
+-- the totals with the report of a pause are those of the history with it
+pub totals_paused : (task : Task) (space : Space) (written : Option (List ℕ)) (seen : Option (List Sight)) (h : List Item) (asked : Ask) (report : PauseReport) (g : AbstractState) (totals : Totals)
+    → HasPaused task space written seen h asked report g → totals ≡ totals_of h → with_report totals (report_of space.report) ≡ totals_of (Pause report ∷ h)
+totals_paused task space written seen h asked report g totals paused are =
+    ap (λ t. with_report t (report_of space.report)) are ∙ ap (with_report (totals_of h)) (paused.come.safepoint.numbers.report ∙ paused.come.stands.reported)
+
+-- ---- a run that is stopped
+
+-- what holds of every error holds of the one that there is
+pub stopped_always : {T E : Type 0} {P : E → Type 0} (r : Result T E) → ((why : E) → P why) → IfErr r P
+stopped_always (Ok x) each = tt
+stopped_always (Err why) each = each why
+
+-- an error that is passed on is the one that there was
+pub passed_on : {T E : Type 0} (P : E → Type 0) (r : Result T E) (why : E) → IsErrAnd r (λ e. e ≡ why) → P why → IfErr r P
+passed_on P (Ok x) why is holds = tt
+passed_on P (Err e) why is holds = subst P (sym is) holds
+
+-- what holds at an error holds of the one that there is
+pub told_at_err : {T E Q : Type 0} (P : E → Type 0) (r : Result T E) → OnErr r Q → ((why : E) → Q → P why) → IfErr r P
+told_at_err P (Ok x) holds each = tt
+told_at_err P (Err why) holds each = each why holds
+
+-- whatever stopped it where a report was written cut it off
+pub cut_off_by : (why : WriteError) (task : Task) (space : Space) (written : Option (List ℕ)) → WasCutOff task space written → WasStopped why task space written
+cut_off_by error.Fault task space written cut = cut
+cut_off_by error.Memory task space written cut = inl cut
+
+-- a run between two epochs that lost its space had written its reports so far
+pub lost_at : (task : Task) (before after : Space) (written : Option (List ℕ)) (seen : Option (List Sight)) (actors : List AnyActor) (h : List Item) (g : AbstractState) → IsBetweenEpochs task before written seen actors h g
+    → after.words ≡ [] → WasStopped error.Memory task after written
+lost_at task before after written seen actors h g amid gone = inr (h, record { history = amid.come.history; text = amid.come.text; gone = gone })
+
 -- ---- by whether all have ended
 
-pub under_way_from : (task : Task) (space : Space) (written : Option (List ℕ)) (seen : Option (List Sight)) (before after : List AnyActor) (x : ℕ) (ended : Bool) → ended ≡ false
-    → HasMadeRound task space written seen before after x ended → IsUnderWay task space written seen after x
-under_way_from task space written seen before after x false e made = made.under_way
-under_way_from task space written seen before after x true e made = absurd (cc)
+pub under_way_from : (task : Task) (space : Space) (written : Option (List ℕ)) (seen : Option (List Sight)) (before after : List AnyActor) (course : Course) (ended : Bool) → ended ≡ false
+    → HasMadeRound task space written seen before after course ended → IsUnderWay task space written seen after course
+under_way_from task space written seen before after course false e made = made.under_way
+under_way_from task space written seen before after course true e made = absurd (cc)
 
-pub complete_from : (task : Task) (space : Space) (written : Option (List ℕ)) (seen : Option (List Sight)) (before after : List AnyActor) (x : ℕ) (ended : Bool) → ended ≡ true
-    → HasMadeRound task space written seen before after x ended → IsComplete task space written seen after x
-complete_from task space written seen before after x true e made = made.complete
-complete_from task space written seen before after x false e made = absurd (cc)
+pub complete_from : (task : Task) (space : Space) (written : Option (List ℕ)) (seen : Option (List Sight)) (before after : List AnyActor) (course : Course) (ended : Bool) → ended ≡ true
+    → HasMadeRound task space written seen before after course ended → IsComplete task space written seen after course
+complete_from task space written seen before after course true e made = made.complete
+complete_from task space written seen before after course false e made = absurd (cc)
 
 -- in each round less is left, and in the last one the test that ends the loop
-pub nearer : (task : Task) (space : Space) (written : Option (List ℕ)) (seen : Option (List Sight)) (before after : List AnyActor) (x : ℕ) (was ended : Bool) → was ≡ false
-    → HasMadeRound task space written seen before after x ended → left_of (mutators_in after) + cond {A = ℕ} ended 0 1 < left_of (mutators_in before) + cond {A = ℕ} was 0 1
-nearer task space written seen before after x false true e made = let no_more = made.no_more in omega arith
-nearer task space written seen before after x false false e made = let less = made.less in omega arith
-nearer task space written seen before after x true ended e made = absurd (cc)
+pub nearer : (task : Task) (space : Space) (written : Option (List ℕ)) (seen : Option (List Sight)) (before after : List AnyActor) (course : Course) (was ended : Bool) → was ≡ false
+    → HasMadeRound task space written seen before after course ended → left_of (mutators_in after) + cond {A = ℕ} ended 0 1 < left_of (mutators_in before) + cond {A = ℕ} was 0 1
+nearer task space written seen before after course false true e made = let no_more = made.no_more in omega arith
+nearer task space written seen before after course false false e made = let less = made.less in omega arith
+nearer task space written seen before after course true ended e made = absurd (cc)

@@ -9,20 +9,24 @@ use Rattle.lxr_invariant.specs.AbstractState.{AbstractState}
 use Rattle.lxr_mutator.specs.Mutating.{Mutating}
 use Rattle.lxr_core.specs.declared.actors.AnyActor.{AnyActor}
 use Rattle.lxr_model.specs.Kinds.{MustCollect}
+use Rattle.lxr_model.specs.Moments.{Moment, moment}
 use Rattle.lxr_run_pause.specs.declared.Ask.{Ask}
 use Rattle.lxr_run_pause.specs.declared.Ask.TheVariants as ask
 use Rattle.lxr_run_pause.specs.declared.Pace.{Pace}
-use Rattle.lxr_run_serve.specs.Answering.{Answers, AnswersAll, WantsCollection}
+use Rattle.lxr_run_serve.specs.Answering.{Answers, AnswersAll, TakeTurns, TakesTurn, WantsCollection, begins, next, passes, refuses, serves}
 use Rattle.lxr_run_serve.specs.Serving.{KeepsHelpers, NewsWait}
 use Rattle.lxr_run_serve.specs.declared.Served.{Served}
 use Rattle.lxr_run_serve.specs.declared.Served.TheVariants as outcome
 use Rattle.lxr_run_watch.specs.Sights.{Sight}
-use Rattle.lxr_run_words.specs.declared.RunOptions.{RunOptions}
-use Rattle.lxr_run_invariant.specs.LoopInvariant.{HasMore, HasPaused, HaveMutators, IsServing, Task, asked_by, done_of, left_of, terms_of}
+use Rattle.lxr_words.specs.declared.Options.{Options}
+use Rattle.lxr_run_history.specs.declared.totals.Totals.{Totals}
+use Rattle.lxr_run_history.specs.Sums.{totals_of}
+use Rattle.lxr_run_invariant.specs.LoopInvariant.{HasCome, HasMore, HasPaused, HaveMutators, IsServing, Task, asked_by, done_of, left_of, terms_of, threads_of}
 use Rattle.lxr_run_invariant.proofs.ActorLemmas.{left_less}
 use Rattle.lxr_run_invariant.proofs.AnsweringLemmas.{IsFullFor, wants_more}
 use Rattle.lxr_run_invariant.proofs.TurnLemmas.{collection_due, collection_right, owes_none, serving_again, serving_begins}
 use Rattle.lxr_run_loop.specs.Answering.{AnswersWaiting, collects}
+use Rattle.lxr_run_loop.specs.Courses.{AreFew}
 use Rattle.lxr_run_loop.specs.Pausing.{HasComeToPause, MakesPause}
 use Rattle.lxr_run_loop.specs.Serving.{BeginsServing}
 use Rattle.lxr_run_loop.proofs.ProgressLemmas.{left_no_more}
@@ -60,7 +64,7 @@ report_is : (task : Task) (space : Space) (written : Option (List ℕ)) (seen : 
     → report_of space.report ≡ report
 report_is task space written seen h report g paused = paused.come.safepoint.numbers.report ∙ paused.come.stands.reported
 
-module _ (task : Task) (options : RunOptions) (written : Option (List ℕ)) (seen : Option (List Sight)) (before : List Mutating) (paused : ℕ) (collected : Bool) (with_options : task.options ≡ options) where
+module _ (task : Task) (options : Options) (written : Option (List ℕ)) (seen : Option (List Sight)) (before : List Mutating) (paused : ℕ) (collected : Bool) (with_options : task.options ≡ options) where
   module _ (space : Space) (mutators : List Mutating) (h : List Item) (full : IsFullFor task written seen before paused collected space mutators h) where
     -- a collecting pause is due for it
     pub comes_to_collect : HasComeToPause ask.Collect options task space written seen h full.abstract_state
@@ -113,6 +117,35 @@ pub all_of_it : (result : Served) (collected : Bool) (mutators mutators' : List 
     → AnswersAll collected mutators mutators' space space' h h'
 all_of_it outcome.All collected mutators mutators' space space' h h' other answers = answers
 all_of_it outcome.Collect collected mutators mutators' space space' h h' other answers = absurd (other refl)
+
+-- ---- reports
+
+-- what a history has of reports: their totals, and the number of the last
+abbrev pub reported : ℕ → List Item → Totals × ℕ
+reported threads h = (totals_of h, (moment threads h).number)
+
+-- a turn adds none
+turn_reports : (threads : ℕ) (collected : Bool) (t : ℕ) (m m' : Mutating) (space space' : Space) (served served' : Bool) (h h' : List Item) → TakesTurn collected t m m' space space' served served' h h'
+    → reported threads h' ≡ reported threads h
+turn_reports threads collected t m m' space space' served served' h h' (passes same same_space same_served same_h idle) = refl
+turn_reports threads collected t m m' space space' served served' h h' (serves a b w from to was k waits makes) = refl
+turn_reports threads collected t m m' space space' served served' h h' (refuses a b w from to k waits stands refused) = refl
+
+-- so turns do
+pub turns_report : (threads : ℕ) (collected : Bool) (mutators : List Mutating) (space : Space) (h : List Item) (n : ℕ) (now : List Mutating) (amid : Space) (served : Bool) (k : List Item)
+    → TakeTurns collected mutators space h n now amid served k → reported threads k ≡ reported threads h
+turns_report threads collected mutators space h n now amid served k (begins) = refl
+turns_report threads collected mutators space h n now amid served k (next i later from to was is l l' m m' turns at taken) =
+    turn_reports threads collected (i + 1) m m' from to was is l l' taken ∙ turns_report threads collected mutators space h i later from was l turns
+
+-- where no report was added, totals that were few are few
+pub few_still : (task : Task) (space space' : Space) (written written' : Option (List ℕ)) (seen seen' : Option (List Sight)) (h h' : List Item) (g g' : AbstractState) (totals : Totals)
+    → HasCome task space written seen h g → HasCome task space' written' seen' h' g' → reported (threads_of task) h' ≡ reported (threads_of task) h → AreFew totals space.pauses → AreFew totals space'.pauses
+few_still task space space' written written' seen seen' h h' g g' totals come come' same few =
+    subst (AreFew totals)
+    (come.safepoint.numbers.pauses ∙ ap (λ (m : Moment). m.number) come.stands.moment ∙ sym (ap (λ (r : Totals × ℕ). r.1) same)
+    ∙ sym (ap (λ (m : Moment). m.number) come'.stands.moment) ∙ sym come'.safepoint.numbers.pauses)
+    few
 
 -- helpers that stay from call to call stay over all of them
 pub keeps_on : (before middle after : List AnyActor) → KeepsHelpers before middle → KeepsHelpers middle after → KeepsHelpers before after

@@ -10,7 +10,7 @@ use Rattle.lxr_actor.specs.declared.Event.TheVariants.{Step, Give, Out}
 use Rattle.lxr_actor.specs.Run.{acted, change, event, happened, of_event, run}
 use Rattle.lxr_core.specs.declared.actors.AnyActor.{AnyActor}
 use Rattle.lxr_core.specs.declared.actors.AnyActor.TheVariants as any
-use Rattle.lxr_core.specs.Actors.{any_machine, mutators_in, tracers_in}
+use Rattle.lxr_core.specs.Actors.{any_machine, tracers_in}
 use Rattle.lxr_core.specs.Filling.{unfilled}
 use Rattle.lxr_core.specs.Starting.{HaveStarted, registers_in, started_again}
 use Rattle.lxr_core.proofs.OrderLemmas.{AreAlike, SameKind, two_helpers, two_mutators, two_tracers}
@@ -44,13 +44,7 @@ put_tracers (any.Tracer d ∷ actors) (suc n) a x there kind = ap suc (put_trace
 
 -- ---- the opening
 
--- what pockets were filled with leaves the mutators, and how many tracers there are
-pub unfilled_mutators : (actors : List AnyActor) → mutators_in (map unfilled actors) ≡ mutators_in actors
-unfilled_mutators [] = refl
-unfilled_mutators (any.Mutator m ∷ actors) = ap (λ z. m ∷ z) (unfilled_mutators actors)
-unfilled_mutators (any.Decrementer d ∷ actors) = unfilled_mutators actors
-unfilled_mutators (any.Tracer d ∷ actors) = unfilled_mutators actors
-
+-- what pockets were filled with leaves how many tracers there are
 unfilled_tracers : (actors : List AnyActor) → length (tracers_in (map unfilled actors)) ≡ length (tracers_in actors)
 unfilled_tracers [] = refl
 unfilled_tracers (any.Mutator m ∷ actors) = unfilled_tracers actors

@@ -1,3 +1,4 @@
+pub mod Courses
 pub mod Opening
 pub mod Pausing
 pub mod Answering
@@ -5,4 +6,5 @@ pub mod Serving
 pub mod Drawing
 pub mod Progress
 pub mod Printing
+pub mod Summing
 pub mod Printed

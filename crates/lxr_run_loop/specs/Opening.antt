@@ -10,7 +10,8 @@ use Rattle.lxr_trace.specs.Tracers.{first as first_tracer}
 use Rattle.lxr_core.specs.declared.actors.AnyActor.{AnyActor}
 use Rattle.lxr_core.specs.Actors.{in_order, mutators_in, script_of}
 use Rattle.lxr_run_watch.specs.Sights.{Sight}
-use Rattle.lxr_run_words.specs.declared.RunOptions.{RunOptions}
+use Rattle.lxr_words.specs.declared.Options.{Options}
+use Rattle.lxr_run_loop.specs.Courses.{opening_course}
 use Rattle.lxr_run_loop.specs.Progress.{IsUnderWay}
 
 -- there is a mutator for each thread of a script, each as it is made
@@ -25,5 +26,5 @@ pub record AreMade (limits : Limits) (every decrementers tracers : ℕ) (operati
   pub helpers : actors ≡ in_order (mutators_in actors) (replicate decrementers (first_decrementer limits)) (replicate tracers (first_tracer limits))
 
 -- the space and the actors are opened for a run with these options of this script, where this was written and seen before it
-abbrev pub IsOpenedRun : RunOptions → Script → Space → Option (List ℕ) → Option (List Sight) → List AnyActor → Type 0
-IsOpenedRun options script space written seen actors = IsUnderWay (record { options = options; script = script; written = written; seen = seen }) space written seen actors options.replay
+abbrev pub IsOpenedRun : Options → Script → Space → Option (List ℕ) → Option (List Sight) → List AnyActor → Type 0
+IsOpenedRun options script space written seen actors = IsUnderWay (record { options = options; script = script; written = written; seen = seen }) space written seen actors (opening_course options)

@@ -8,7 +8,7 @@ use Rattle.lxr_run_pause.specs.declared.Ask.{Ask}
 use Rattle.lxr_run_pause.specs.declared.Pace.{Pace}
 use Rattle.lxr_run_pause.specs.Pausing.{CanPause, Pauses}
 use Rattle.lxr_run_watch.specs.Sights.{Sight}
-use Rattle.lxr_run_words.specs.declared.RunOptions.{RunOptions}
+use Rattle.lxr_words.specs.declared.Options.{Options}
 use Rattle.lxr_run_invariant.specs.LoopInvariant.{HasCome, IsAskedRight, IsPauseDue, IsPaused, Task, WasCutOff}
 
 -- the space with what is logged in its tally, as a pause begins with it
@@ -20,21 +20,21 @@ abbrev pub MakesPause : Ask → Pace → Space → Space → Type 0
 MakesPause asked pace before after = (g : AbstractState) → CanPause (with_logs_counted before) g → (at' : Name → ℕ) × Pauses (with_logs_counted before) after g at' asked pace
 
 -- a run with these options has come to a history behind which a pause is due, which is asked right whether it shall collect
-pub record HasComeToPause (asked : Ask) (options : RunOptions) (task : Task) (space : Space) (written : Option (List ℕ)) (seen : Option (List Sight)) (h : List Item) (g : AbstractState) : Type 0 where
+pub record HasComeToPause (asked : Ask) (options : Options) (task : Task) (space : Space) (written : Option (List ℕ)) (seen : Option (List Sight)) (h : List Item) (g : AbstractState) : Type 0 where
   pub come : HasCome task space written seen h g
   pub due : IsPauseDue task h
   pub right : IsAskedRight task h asked
   pub with_options : task.options ≡ options
 
-abbrev pub SomePauseIsDue : Ask → RunOptions → Space → Option (List ℕ) → Option (List Sight) → Type 0
+abbrev pub SomePauseIsDue : Ask → Options → Space → Option (List ℕ) → Option (List Sight) → Type 0
 SomePauseIsDue asked options space written seen = (task : Task) × (h : List Item) × (g : AbstractState) × HasComeToPause asked options task space written seen h g
 
 -- whatever the run had come to, it has made a pause
-abbrev pub GoesOnByPause : Ask → RunOptions → Space → Option (List ℕ) → Option (List Sight) → Space → Option (List ℕ) → Option (List Sight) → Type 0
+abbrev pub GoesOnByPause : Ask → Options → Space → Option (List ℕ) → Option (List Sight) → Space → Option (List ℕ) → Option (List Sight) → Type 0
 GoesOnByPause asked options space written seen space' written' seen' =
     (task : Task) (h : List Item) (g : AbstractState) → HasComeToPause asked options task space written seen h g → IsPaused task space' written' seen' h asked
 
 -- it was cut off as the report of one was written
-abbrev pub IsCutOffByPause : Ask → RunOptions → Space → Option (List ℕ) → Option (List Sight) → Space → Option (List ℕ) → Type 0
+abbrev pub IsCutOffByPause : Ask → Options → Space → Option (List ℕ) → Option (List Sight) → Space → Option (List ℕ) → Type 0
 IsCutOffByPause asked options space written seen space' written' =
     (task : Task) (h : List Item) (g : AbstractState) → HasComeToPause asked options task space written seen h g → WasCutOff task space' written'

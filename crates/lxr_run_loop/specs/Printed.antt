@@ -1,22 +1,34 @@
 -- What a run has written once its replies are printed, or as it was cut off.
-use Rattle.std.specs.Prelude.{ℕ, ◌⊎◌, Option, List}
+use Rattle.std.specs.Prelude.{◌≡◌, ℕ, ◌⊎◌, Option, List}
 use Rattle.lxr_graph.specs.History.{Item}
 use Rattle.lxr_image.specs.declared.space.Space.{Space}
 use Rattle.lxr_text_stream.specs.Streams.{Appends, AppendsFront}
 use Rattle.lxr_run_watch.specs.Sights.{Sight}
+use Rattle.lxr_core.specs.declared.actors.AnyActor.{AnyActor}
+use Rattle.lxr_words.specs.declared.Options.{Options}
+use Rattle.lxr_run_history.specs.declared.totals.Totals.{Totals}
 use Rattle.lxr_run_history.specs.Left.{IsLeftBy}
-use Rattle.lxr_run_history.specs.Run.{IsHistoryOf, history_text}
+use Rattle.lxr_run_history.specs.Run.{IsHistoryOf}
+use Rattle.lxr_run_history.specs.Texts.{run_text}
 use Rattle.lxr_run_history.specs.Sights.{Sees}
-use Rattle.lxr_run_invariant.specs.LoopInvariant.{Task, WasCutOff, threads_of}
+use Rattle.lxr_text_stream.specs.declared.transfer.WriteError.{WriteError}
+use Rattle.lxr_run_invariant.specs.LoopInvariant.{Task, WasStopped, threads_of}
+use Rattle.lxr_run_loop.specs.declared.course.Course.{Course}
 use Rattle.lxr_run_loop.specs.Drawing.{IsDrawn}
+use Rattle.lxr_run_loop.specs.Progress.{IsComplete}
 
--- the text of a whole history was written, which the generator of the run has drawn
+-- some run with these options is complete, and its reports have these totals
+abbrev pub SomeIsComplete : Options → Space → Option (List ℕ) → List AnyActor → Totals → Type 0
+SomeIsComplete options space written actors totals =
+    (task : Task) × (task.options ≡ options) × (seen : Option (List Sight)) × (course : Course) × (course.totals ≡ totals) × IsComplete task space written seen actors course
+
+-- the text of a whole history was written, as the command of the run has it, which its generator has drawn where there is one
 pub record IsPrinted (task : Task) (space : Space) (written : Option (List ℕ)) (seen : Option (List Sight)) : Type 0 where
   pub history : List Item
   pub run : IsHistoryOf task.options task.script history
-  pub last : ℕ
+  pub last : Option ℕ
   pub drawn : IsDrawn task history last
-  pub text : Appends task.written written (history_text task.options.counts (threads_of task) history)
+  pub text : Appends task.written written (run_text task.options (threads_of task) history space)
   pub space_left : IsLeftBy task.options (threads_of task) history space
   pub sights : Sees (threads_of task) history task.seen seen
 
@@ -24,9 +36,19 @@ pub record IsPrinted (task : Task) (space : Space) (written : Option (List ℕ))
 pub record IsPartlyPrinted (task : Task) (space : Space) (written : Option (List ℕ)) : Type 0 where
   pub history : List Item
   pub run : IsHistoryOf task.options task.script history
-  pub text_front : AppendsFront task.written written (history_text task.options.counts (threads_of task) history)
+  pub text_front : AppendsFront task.written written (run_text task.options (threads_of task) history space)
   pub space_left : IsLeftBy task.options (threads_of task) history space
 
--- the run was cut off at a report, or at its replies
-abbrev pub IsCutShort : Task → Space → Option (List ℕ) → Type 0
-IsCutShort task space written = WasCutOff task space written ⊎ IsPartlyPrinted task space written
+-- the whole text of each such run was written
+abbrev pub AllArePrinted : Options → Space → Option (List ℕ) → List AnyActor → Totals → Option (List ℕ) → Type 0
+AllArePrinted options space written actors totals written' =
+    (task : Task) → task.options ≡ options → (seen : Option (List Sight)) (course : Course) → course.totals ≡ totals → IsComplete task space written seen actors course → IsPrinted task space written' seen
+
+-- a front of it was
+abbrev pub AllArePartlyPrinted : Options → Space → Option (List ℕ) → List AnyActor → Totals → Option (List ℕ) → Type 0
+AllArePartlyPrinted options space written actors totals written' =
+    (task : Task) → task.options ≡ options → (seen : Option (List Sight)) (course : Course) → course.totals ≡ totals → IsComplete task space written seen actors course → IsPartlyPrinted task space written'
+
+-- the run was stopped for this cause: at a report, at an epoch, or at what it prints last
+abbrev pub IsCutShort : WriteError → Task → Space → Option (List ℕ) → Type 0
+IsCutShort why task space written = WasStopped why task space written ⊎ IsPartlyPrinted task space written

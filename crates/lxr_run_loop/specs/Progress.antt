@@ -9,9 +9,13 @@ use Rattle.lxr_mutator.specs.Mutating.{Mutating, has_collected}
 use Rattle.lxr_core.specs.declared.actors.AnyActor.{AnyActor}
 use Rattle.lxr_core.specs.declared.actors.AnyActor.TheVariants as any
 use Rattle.lxr_core.specs.Actors.{mutators_in}
-use Rattle.lxr_run_words.specs.declared.RunOptions.{RunOptions}
-use Rattle.lxr_run_invariant.specs.LoopInvariant.{HasRunEpoch, HasRunTo, IsBetweenEpochs, Task, WasCutOff, left_of}
-use Rattle.lxr_run_loop.specs.Drawing.{IsDrawn, ReplaysEpoch}
+use Rattle.lxr_words.specs.declared.Options.{Options}
+use Rattle.lxr_text_stream.specs.declared.transfer.WriteError.{WriteError}
+use Rattle.lxr_run_history.specs.Sums.{totals_of}
+use Rattle.lxr_run_invariant.specs.LoopInvariant.{HasRunEpoch, HasRunTo, IsBetweenEpochs, Task, WasStopped, left_of}
+use Rattle.lxr_run_loop.specs.declared.course.Course.{Course}
+use Rattle.lxr_run_loop.specs.Courses.{AreTotals}
+use Rattle.lxr_run_loop.specs.Drawing.{IsDrawn, MakesEpoch}
 
 -- its end is done
 abbrev pub HasEnded : Mutating → Type 0
@@ -31,43 +35,59 @@ actor_collected (any.Tracer d) = false
 
 -- ---- the run
 
--- the run is between two epochs, and its generator has come to x
-abbrev pub IsUnderWay : Task → Space → Option (List ℕ) → Option (List Sight) → List AnyActor → ℕ → Type 0
-IsUnderWay task space written seen actors x = (h : List Item) × (g : AbstractState) × IsBetweenEpochs task space written seen actors h g × IsDrawn task h x
+-- the run is between two epochs, and has come so far in its course
+abbrev pub IsUnderWay : Task → Space → Option (List ℕ) → Option (List Sight) → List AnyActor → Course → Type 0
+IsUnderWay task space written seen actors course =
+    (h : List Item) × (g : AbstractState) × IsBetweenEpochs task space written seen actors h g × IsDrawn task h course.generator × AreTotals course.totals space h
 
--- all threads have ended, the last pause is made, and the generator has come to x
-abbrev pub IsComplete : Task → Space → Option (List ℕ) → Option (List Sight) → List AnyActor → ℕ → Type 0
-IsComplete task space written seen actors x = (h : List Item) × HasRunTo task space written seen actors h × IsDrawn task h x
+-- some run with these options is
+abbrev pub SomeIsUnderWay : Options → Space → Option (List ℕ) → Option (List Sight) → List AnyActor → Course → Type 0
+SomeIsUnderWay options space written seen actors course = (task : Task) × (task.options ≡ options) × IsUnderWay task space written seen actors course
 
--- each run with these options that was under way so was cut off
-abbrev pub IsCutOffUnderWay : RunOptions → Space → Option (List ℕ) → Option (List Sight) → List AnyActor → ℕ → Space → Option (List ℕ) → Type 0
-IsCutOffUnderWay options space written seen actors x space' written' = (task : Task) → task.options ≡ options → IsUnderWay task space written seen actors x → WasCutOff task space' written'
+-- all threads have ended, the last pause is made, and the run has come so far in its course
+abbrev pub IsComplete : Task → Space → Option (List ℕ) → Option (List Sight) → List AnyActor → Course → Type 0
+IsComplete task space written seen actors course =
+    (h : List Item) × HasRunTo task space written seen actors h × IsDrawn task h course.generator × (course.totals ≡ totals_of h)
+
+-- each run with these options that was under way so was stopped for this cause
+abbrev pub IsStoppedUnderWay : WriteError → Options → Space → Option (List ℕ) → Option (List Sight) → List AnyActor → Course → Space → Option (List ℕ) → Type 0
+IsStoppedUnderWay why options space written seen actors course space' written' =
+    (task : Task) → task.options ≡ options → IsUnderWay task space written seen actors course → WasStopped why task space' written'
 
 -- ---- an epoch
 
--- some run is between two epochs
-abbrev pub CanRunEpoch : Space → List AnyActor → Type 0
-CanRunEpoch space actors = (task : Task) × (written : Option (List ℕ)) × (seen : Option (List Sight)) × (h : List Item) × (g : AbstractState) × IsBetweenEpochs task space written seen actors h g
+-- some run with these options is between two epochs
+abbrev pub CanRunEpoch : Options → Space → List AnyActor → Type 0
+CanRunEpoch options space actors = (task : Task) × (task.options ≡ options) × (written : Option (List ℕ)) × (seen : Option (List Sight)) × (h : List Item) × (g : AbstractState) × IsBetweenEpochs task space written seen actors h g
 
--- each such run has made an epoch by the draws of a generator, which has gone from x to x'
-abbrev pub RunsEpoch : Space → List AnyActor → ℕ → Space → List AnyActor → ℕ → Type 0
-RunsEpoch space actors x space' actors' x' = (task : Task) (written : Option (List ℕ)) (seen : Option (List Sight)) (h : List Item) (g : AbstractState)
-    → IsBetweenEpochs task space written seen actors h g
-    → (h' : List Item) × (g' : AbstractState) × HasRunEpoch task space' written seen actors actors' h' g' × ReplaysEpoch task space actors h x h' x'
+-- A run that was between two epochs, behind a history h, has made an epoch: by the draws of a generator, which has gone from x to x', or as
+-- its threads came. No pause was made in it.
+pub record HasMadeEpoch (task : Task) (space after : Space) (written : Option (List ℕ)) (seen : Option (List Sight)) (before actors : List AnyActor) (h : List Item) (x x' : Option ℕ) : Type 0 where
+  pub history : List Item
+  pub abstract_state : AbstractState
+  pub ran : HasRunEpoch task after written seen before actors history abstract_state
+  pub makes : MakesEpoch task space before h x history x'
+  pub totals : totals_of history ≡ totals_of h
+  pub pauses : after.pauses ≡ space.pauses
+
+-- each such run has
+abbrev pub RunsEpoch : Options → Space → List AnyActor → Option ℕ → Space → List AnyActor → Option ℕ → Type 0
+RunsEpoch options space actors x space' actors' x' = (task : Task) → task.options ≡ options → (written : Option (List ℕ)) (seen : Option (List Sight)) (h : List Item) (g : AbstractState)
+    → IsBetweenEpochs task space written seen actors h g → HasMadeEpoch task space space' written seen actors actors' h x x'
 
 -- ---- a round: an epoch and the pause behind it
 
 -- the run is between two epochs again, and less is left to do
-pub record IsNearer (task : Task) (space : Space) (written : Option (List ℕ)) (seen : Option (List Sight)) (before after : List AnyActor) (x : ℕ) : Type 0 where
-  pub under_way : IsUnderWay task space written seen after x
+pub record IsNearer (task : Task) (space : Space) (written : Option (List ℕ)) (seen : Option (List Sight)) (before after : List AnyActor) (course : Course) : Type 0 where
+  pub under_way : IsUnderWay task space written seen after course
   pub less : left_of (mutators_in after) < left_of (mutators_in before)
 
 -- all threads have ended, and the run is done
-pub record IsThere (task : Task) (space : Space) (written : Option (List ℕ)) (seen : Option (List Sight)) (before after : List AnyActor) (x : ℕ) : Type 0 where
-  pub complete : IsComplete task space written seen after x
+pub record IsThere (task : Task) (space : Space) (written : Option (List ℕ)) (seen : Option (List Sight)) (before after : List AnyActor) (course : Course) : Type 0 where
+  pub complete : IsComplete task space written seen after course
   pub no_more : left_of (mutators_in after) ≤ left_of (mutators_in before)
 
 -- what a run is by one round more, and whether all threads have ended
-abbrev pub HasMadeRound : Task → Space → Option (List ℕ) → Option (List Sight) → List AnyActor → List AnyActor → ℕ → Bool → Type 0
-HasMadeRound task space written seen before after x true = IsThere task space written seen before after x
-HasMadeRound task space written seen before after x false = IsNearer task space written seen before after x
+abbrev pub HasMadeRound : Task → Space → Option (List ℕ) → Option (List Sight) → List AnyActor → List AnyActor → Course → Bool → Type 0
+HasMadeRound task space written seen before after course true = IsThere task space written seen before after course
+HasMadeRound task space written seen before after course false = IsNearer task space written seen before after course

@@ -9,8 +9,10 @@ use Rattle.lxr_mutator.specs.Mutating.{Mutating}
 use Rattle.lxr_core.specs.declared.actors.AnyActor.{AnyActor}
 use Rattle.lxr_core.specs.Actors.{mutators_in}
 use Rattle.lxr_core.specs.Resting.{HelpersRest}
-use Rattle.lxr_run_words.specs.declared.RunOptions.{RunOptions}
+use Rattle.lxr_words.specs.declared.Options.{Options}
 use Rattle.lxr_run_history.specs.Left.{last_report}
+use Rattle.lxr_run_history.specs.declared.totals.Totals.{Totals}
+use Rattle.lxr_run_history.specs.Sums.{totals_of}
 use Rattle.lxr_run_invariant.specs.LoopInvariant.{IsServing, Task, WasCutOff, pace_of, task_limits}
 use Rattle.lxr_run_loop.specs.Answering.{AnswersWaiting}
 
@@ -20,16 +22,16 @@ pub record BeginsServing (task : Task) (space : Space) (written : Option (List �
   pub collected_is : IsTrue collected ↔ ((last_report h).kind ≡ kind.Collect)
 
 -- some run with these options does, and its helpers rest
-abbrev pub CanServeAll : RunOptions → Space → Option (List ℕ) → Option (List Sight) → Bool → List AnyActor → Type 0
+abbrev pub CanServeAll : Options → Space → Option (List ℕ) → Option (List Sight) → Bool → List AnyActor → Type 0
 CanServeAll options space written seen collected actors =
     (task : Task) × (task.options ≡ options) × (h : List Item) × (g : AbstractState) × BeginsServing task space written seen collected (mutators_in actors) h g × HelpersRest (task_limits task) actors
 
--- in each such run all were answered
-abbrev pub AllAreAnswered : RunOptions → Space → Option (List ℕ) → Option (List Sight) → Bool → List Mutating → Space → Option (List ℕ) → Option (List Sight) → List Mutating → Type 0
-AllAreAnswered options space written seen collected mutators space' written' seen' mutators' = (task : Task) → task.options ≡ options → (h : List Item) (g : AbstractState) → BeginsServing task space written seen collected mutators h g
+-- In each such run all were answered. Where totals were those of its history, these are those of the history that it has come to.
+abbrev pub AllAreAnswered : Options → Space → Option (List ℕ) → Option (List Sight) → Bool → List Mutating → Totals → Space → Option (List ℕ) → Option (List Sight) → List Mutating → Totals → Type 0
+AllAreAnswered options space written seen collected mutators totals space' written' seen' mutators' totals' = (task : Task) → task.options ≡ options → (h : List Item) (g : AbstractState) → BeginsServing task space written seen collected mutators h g
     → (collected' served : Bool) × (h' : List Item) × (g' : AbstractState) × IsServing task space' written' seen' mutators space.pauses collected' mutators' (length mutators') served h' g'
-    × AnswersWaiting (pace_of options) collected mutators space h mutators' space' h'
+    × AnswersWaiting (pace_of options) collected mutators space h mutators' space' h' × (totals ≡ totals_of h → totals' ≡ totals_of h')
 
 -- each such run was cut off
-abbrev pub AllAreCutOff : RunOptions → Space → Option (List ℕ) → Option (List Sight) → Bool → List Mutating → Space → Option (List ℕ) → Type 0
+abbrev pub AllAreCutOff : Options → Space → Option (List ℕ) → Option (List Sight) → Bool → List Mutating → Space → Option (List ℕ) → Type 0
 AllAreCutOff options space written seen collected mutators space' written' = (task : Task) → task.options ≡ options → (h : List Item) (g : AbstractState) → BeginsServing task space written seen collected mutators h g → WasCutOff task space' written'

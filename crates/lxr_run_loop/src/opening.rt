@@ -3,7 +3,7 @@ ghost use Rattle.std.specs.Prelude.{◌≡◌, ℕ, ◌+◌, ◌≤◌, [], IfOk
 ghost use Rattle.lxr_layout.specs.Spaces.{AreLimits};
 ghost use Rattle.lxr_text_script.specs.Limits.{IsScript};
 ghost use Rattle.lxr_text_script.specs.Reading.{lists_in};
-ghost use Rattle.lxr_run_words.specs.CommandLines.{AreInRange};
+ghost use Rattle.lxr_words.specs.Ranges.{AreInRange};
 ghost use Rattle.lxr_run_watch.specs.Sights.{Sight};
 ghost use Rattle.lxr_run_loop.specs.Opening.{AreMade, IsOpenedRun};
 
@@ -12,9 +12,9 @@ use lxr_decrement::Decrementer;
 use lxr_image::Space;
 use lxr_layout::Limits;
 use lxr_mutator::Mutator;
-use lxr_run_words::RunOptions;
 use lxr_text_script::Lists;
 use lxr_trace::Tracer;
+use lxr_words::Options;
 use std::alloc::{AllocError, Global};
 
 /// A mutator for each thread of a script, in order, in a list with room for some more actors.
@@ -95,7 +95,7 @@ fn make_actors(
 pub fn open(
     alloc: Global,
     space: &mut Space,
-    options: RunOptions,
+    options: Options,
     script: Lists,
 ) -> Result<Vec<AnyActor>, AllocError>
     requires empty { space.old.words ≡ [] }

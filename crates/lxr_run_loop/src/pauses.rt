@@ -1,19 +1,25 @@
 //! The pauses between epochs.
 ghost use Rattle.std.specs.Prelude.{◌≡◌, ◌+◌, ◌≤◌, OnErr, OnOk, length};
-ghost use Rattle.lxr_text_stream.specs.Streams.{Rose};
-ghost use Rattle.lxr_run_words.specs.CommandLines.{AreInRange};
+ghost use Rattle.lxr_text_stream.specs.Streams.{Appends, AppendsFront, Rose};
+ghost use Rattle.lxr_words.specs.Ranges.{AreInRange};
 ghost use Rattle.lxr_run_invariant.specs.LoopInvariant.{FitsCounts, pace_of};
+ghost use Rattle.lxr_graph.specs.History.{report_of};
+ghost use Rattle.lxr_run_history.specs.Sums.{with_report};
+ghost use Rattle.lxr_run_history.specs.Texts.{told_report};
+ghost use Rattle.lxr_run_loop.specs.Courses.{AreFew};
 ghost use Rattle.lxr_run_loop.specs.Pausing.{GoesOnByPause, IsCutOffByPause, MakesPause, SomePauseIsDue};
 
+use lxr_graph::Report;
 use lxr_image::Space;
+use lxr_run_history::Totals;
 use lxr_run_pause::{Ask, Pace, one_pause};
 use lxr_run_watch::Watch;
-use lxr_run_words::RunOptions;
 use lxr_text_print::print_pause;
 use lxr_text_stream::{Sink, WriteError};
+use lxr_words::{Command, Options};
 
 /// When traces begin and end in a run with these options.
-fn pace_of(options: RunOptions) -> Pace
+fn pace_of(options: Options) -> Pace
     ensures { result ≡ pace_of options }
 {
     Pace {
@@ -22,22 +28,41 @@ fn pace_of(options: RunOptions) -> Pace
     }
 }
 
-/// Makes a pause that is asked for so, at which the watch looks right before and right after it. Then it prints the pause's
-/// report, with counts where the options want them.
+/// Prints what is told of a pause by the command: its report, with counts where the options want them; `load` tells nothing. After an
+/// error a front of the text is written.
+fn tell<O: Sink>(report: &Report, options: &Options, output: &mut O) -> Result<(), WriteError>
+    ensures ok { OnOk result (Appends (O.written output.old) (O.written output.new) (told_report options.now.command options.now.counts (report_of report.now))) }
+    ensures err { OnErr result (AppendsFront (O.written output.old) (O.written output.new) (told_report options.now.command options.now.counts (report_of report.now))) }
+    ensures faults { O.faults output.old ≤ O.faults output.new }
+    ensures cause { result ≡ Err WriteError.Fault → Rose (O.faults output.old) (O.faults output.new) }
+{
+    match options.command {
+        Command::Run => print_pause(report, options.counts, output),
+        Command::Map => print_pause(report, options.counts, output),
+        Command::Load(_) => Ok(()),
+    }
+}
+
+/// Makes a pause that is asked for so, at which the watch looks right before and right after it. Then its report is added to the
+/// totals and told by the command.
 pub(crate) fn pause<W: Watch, O: Sink>(
     space: &mut Space,
     ask: Ask,
-    options: RunOptions,
+    options: Options,
+    totals: &mut Totals,
     watch: &mut W,
     output: &mut O,
 ) -> Result<(), WriteError>
     requires range { AreInRange options }
+    requires totals { AreFew totals.old space.old.pauses }
     requires due { SomePauseIsDue ask options space.old (O.written output.old) (W.seen watch.old) }
     requires counts { FitsCounts space.old }
     ensures ok { OnOk result (GoesOnByPause ask options space.old (O.written output.old) (W.seen watch.old) space.new (O.written output.new) (W.seen watch.new)) }
     ensures err { OnErr result (IsCutOffByPause ask options space.old (O.written output.old) (W.seen watch.old) space.new (O.written output.new)) }
     ensures made { MakesPause ask (pace_of options) space.old space.new }
     ensures tally { space.new.tally ≡ record space.old.tally { logs = space.old.tally.logs + length space.old.logged.items; pauses = space.old.tally.pauses + 1; moved = space.new.tally.moved; kept = space.new.tally.kept } }
+    ensures totals { totals.new ≡ with_report totals.old (report_of space.new.report) }
+    ensures few { AreFew totals.new space.new.pauses }
     ensures pauses { space.new.pauses ≡ space.old.pauses + 1 }
     ensures faults { O.faults output.old ≤ O.faults output.new }
     ensures cause { result ≡ Err WriteError.Fault → Rose (O.faults output.old) (O.faults output.new) }
@@ -46,5 +71,6 @@ pub(crate) fn pause<W: Watch, O: Sink>(
     watch.look(space);
     one_pause(space, ask, pace_of(options));
     watch.look(space);
-    print_pause(&space.report, options.counts, output)
+    totals.add(&space.report);
+    tell(&space.report, &options, output)
 }

@@ -1,12 +1,20 @@
-//! The replies of all threads.
-ghost use Rattle.std.specs.Prelude.{◌≡◌, ◌≤◌, [], ◌∷◌, OnErr, OnOk};
+//! What a run prints at its end.
+ghost use Rattle.std.specs.Prelude.{◌≡◌, ◌≤◌, ◌<◌, ◌^◌, [], ◌∷◌, ◌++◌, OnErr, OnOk, count_by, sum_by};
 ghost use Rattle.lxr_text_stream.specs.Streams.{Appends, AppendsFront, Rose};
 ghost use Rattle.lxr_core.specs.Actors.{mutators_in};
+ghost use Rattle.lxr_text_map.specs.Map.{CanBeMapped, map_text};
+ghost use Rattle.lxr_run_loop.specs.Printed.{AllArePartlyPrinted, AllArePrinted, SomeIsComplete};
 ghost use Rattle.lxr_run_loop.specs.Printing.{CanBePrinted, IsPrintable, mutators_text};
+ghost use Rattle.lxr_run_loop.specs.Summing.{AreSums, SomeHasRun, calls_by, refusals_by, is_full};
 
 use lxr_core::AnyActor;
-use lxr_text_print::print_replies;
+use lxr_graph::Reply;
+use lxr_image::Space;
+use lxr_run_history::Totals;
+use lxr_text_map::print_map;
+use lxr_text_print::{Sums, print_replies, print_summary};
 use lxr_text_stream::{Sink, WriteError};
+use lxr_words::{Command, Options};
 
 /// Prints the replies of an actor's thread; a helper has none.
 fn print_actor<O: Sink>(actor: &AnyActor, output: &mut O) -> Result<(), WriteError>
@@ -29,7 +37,7 @@ fn print_actor<O: Sink>(actor: &AnyActor, output: &mut O) -> Result<(), WriteErr
 }
 
 /// Prints the replies of each thread, in order. After an error a front of their text is written.
-pub(crate) fn print_threads<O: Sink>(actors: &[AnyActor], output: &mut O) -> Result<(), WriteError>
+fn print_threads<O: Sink>(actors: &[AnyActor], output: &mut O) -> Result<(), WriteError>
     requires { CanBePrinted actors.now }
     ensures ok { OnOk result (Appends (O.written output.old) (O.written output.new) (mutators_text (mutators_in actors.now))) }
     ensures err { OnErr result (AppendsFront (O.written output.old) (O.written output.new) (mutators_text (mutators_in actors.now))) }
@@ -40,4 +48,117 @@ pub(crate) fn print_threads<O: Sink>(actors: &[AnyActor], output: &mut O) -> Res
         print_actor(&actors[number], output)?;
     }
     Ok(())
+}
+
+/// How many operations the thread of an actor has done, its end among them; a helper has none.
+fn calls_by(actor: &AnyActor) -> u64
+    ensures { result ≡ calls_by actor.now }
+{
+    match actor {
+        AnyActor::Mutator(mutator) => mutator.replies().len() as u64,
+        AnyActor::Decrementer(_) => 0,
+        AnyActor::Tracer(_) => 0,
+    }
+}
+
+/// How many operations all threads have done, and their ends.
+fn calls(actors: &[AnyActor]) -> u64
+    requires { sum_by calls_by actors.now < 2 ^ 64 }
+    ensures { result ≡ sum_by calls_by actors.now }
+{
+    let mut count = 0;
+    for number in 0..actors.len() {
+        count += calls_by(&actors[number]);
+    }
+    count
+}
+
+/// How many of some replies say that a `new` found no room.
+fn count_full(replies: &[Reply]) -> usize
+    ensures { result ≡ count_by is_full replies.now }
+{
+    replies
+        .iter()
+        .filter(|reply| matches!(reply, Reply::Full))
+        .count()
+}
+
+/// How many `new`s of the thread of an actor found no room; a helper has none.
+fn refusals_by(actor: &AnyActor) -> u64
+    ensures { result ≡ refusals_by actor.now }
+{
+    match actor {
+        AnyActor::Mutator(mutator) => count_full(mutator.replies().as_slice()) as u64,
+        AnyActor::Decrementer(_) => 0,
+        AnyActor::Tracer(_) => 0,
+    }
+}
+
+/// How many `new`s of all threads found no room.
+fn refusals(actors: &[AnyActor]) -> u64
+    requires { sum_by refusals_by actors.now < 2 ^ 64 }
+    ensures { result ≡ sum_by refusals_by actors.now }
+{
+    let mut count = 0;
+    for number in 0..actors.len() {
+        count += refusals_by(&actors[number]);
+    }
+    count
+}
+
+/// What a run did, in numbers. The last pause collected, so it counted each unreclaimed object.
+fn sums(space: &Space, actors: &[AnyActor], totals: &Totals) -> Sums
+    requires { SomeHasRun space.now actors.now }
+    ensures { AreSums result space.now actors.now totals.now }
+{
+    let threads = space.limits.threads;
+    Sums {
+        threads,
+        operations: calls(actors) - u64::from(threads),
+        pauses: space.tally.pauses,
+        promoted: totals.promoted,
+        dead: totals.dead,
+        swept: totals.swept,
+        stuck: totals.stuck,
+        full: refusals(actors),
+        live: space.report.counts.len() as u64,
+    }
+}
+
+/// Prints the replies of all threads, and then the heap. After an error a front of these is written.
+fn print_heap_too<O: Sink>(
+    space: &Space,
+    actors: &[AnyActor],
+    output: &mut O,
+) -> Result<(), WriteError>
+    requires threads { CanBePrinted actors.now }
+    requires heap { CanBeMapped space.now }
+    ensures ok { OnOk result (Appends (O.written output.old) (O.written output.new) (mutators_text (mutators_in actors.now) ++ map_text space.now)) }
+    ensures err { OnErr result (AppendsFront (O.written output.old) (O.written output.new) (mutators_text (mutators_in actors.now) ++ map_text space.now)) }
+    ensures faults { O.faults output.old ≤ O.faults output.new }
+    ensures cause { result ≡ Err WriteError.Fault → Rose (O.faults output.old) (O.faults output.new) }
+{
+    print_threads(actors, output)?;
+    print_map(space, output)
+}
+
+/// Prints what a run tells at its end, by its command: the replies of all threads; these and the heap; or the sums of the run.
+pub(crate) fn print_end<O: Sink>(
+    space: &Space,
+    actors: &[AnyActor],
+    options: Options,
+    totals: &Totals,
+    output: &mut O,
+) -> Result<(), WriteError>
+    requires { SomeIsComplete options space.now (O.written output.old) actors.now totals.now }
+    ensures ok { OnOk result (AllArePrinted options space.now (O.written output.old) actors.now totals.now (O.written output.new)) }
+    ensures err { OnErr result (AllArePartlyPrinted options space.now (O.written output.old) actors.now totals.now (O.written output.new)) }
+    ensures faults { O.faults output.old ≤ O.faults output.new }
+    ensures cause { result ≡ Err WriteError.Fault → Rose (O.faults output.old) (O.faults output.new) }
+{
+    match options.command {
+        Command::Run => print_threads(actors, output),
+        Command::Map => print_heap_too(space, actors, output),
+        Command::Load(_) => print_summary(&sums(space, actors, totals), output),
+    }
 }

@@ -1,11 +1,14 @@
 //! The loop over epochs.
-ghost use Rattle.std.specs.Prelude.{◌≡◌, ℕ, ◌≤◌, ◌↔◌, ◌||◌, IfOk, IsTrue, OnErr, OnOk};
+ghost use Rattle.std.specs.Prelude.{◌≡◌, ℕ, ◌≤◌, ◌↔◌, ◌||◌, [], IfErr, IfOk, IsTrue, OnErr, OnOk};
 ghost use Rattle.std.specs.List.{All, list_any};
 ghost use Rattle.lxr_text_stream.specs.Streams.{Rose};
-ghost use Rattle.lxr_run_words.specs.CommandLines.{AreInRange};
+ghost use Rattle.lxr_words.specs.Ranges.{AreInRange};
+ghost use Rattle.lxr_run_threads.specs.Running.{CanRun, HasRun};
 ghost use Rattle.lxr_run_invariant.specs.LoopInvariant.{Task, asked_by};
-ghost use Rattle.lxr_run_loop.specs.Progress.{CanRunEpoch, HasMadeRound, IsComplete, IsCutOffUnderWay, IsUnderWay, NoneGoesOn, RunsEpoch, actor_collected};
+ghost use Rattle.lxr_run_loop.specs.Drawing.{GoesOn};
+ghost use Rattle.lxr_run_loop.specs.Progress.{CanRunEpoch, HasMadeRound, IsComplete, IsStoppedUnderWay, IsUnderWay, NoneGoesOn, RunsEpoch, SomeIsUnderWay, actor_collected};
 
+use crate::course::Course;
 use crate::pauses::pause;
 use crate::serving::answer_waiting;
 use lxr_core::{AnyActor, close_epoch, open_epoch};
@@ -14,19 +17,80 @@ use lxr_mutator::MutEnd;
 use lxr_run_pause::Ask;
 use lxr_run_replay::{Gate, replay_epoch};
 use lxr_run_resume::list_for_epoch;
+use lxr_run_threads::run_epoch;
 use lxr_run_watch::Watch;
-use lxr_run_words::RunOptions;
 use lxr_text_stream::{Sink, WriteError};
+use lxr_words::Options;
+use std::alloc::{AllocError, Global};
+use std::mem;
+use std::thread::Threads;
 
-/// Lets all threads go on until each is through with the epoch. The draws from `x` on pick who makes each step, and `x` goes on
-/// with them. Afterwards the space is at a safepoint before a pause.
-fn run_epoch<G: Gate>(space: &mut Space, actors: &mut [AnyActor], x: &mut u64, gate: &G)
-    requires may { CanRunEpoch space.old actors.old }
-    ensures { RunsEpoch space.old actors.old x.old space.new actors.new x.new }
+/// Lets all threads go on until each is through with the epoch: by the draws of the generator where there is one, which goes on with
+/// them, and else on threads of the machine. Afterwards the space is at a safepoint before a pause. Where memory runs out, the space
+/// and the actors are gone.
+fn make_epoch<R: Threads + Sync, G: Gate>(
+    rt: &R,
+    alloc: Global,
+    space: &mut Space,
+    actors: &mut Vec<AnyActor>,
+    generator: &mut Option<u64>,
+    options: &Options,
+    gate: &G,
+) -> Result<(), AllocError>
+    requires range { AreInRange options.now }
+    requires may { CanRunEpoch options.now space.old actors.old.items }
+    ensures ok { OnOk result (RunsEpoch options.now space.old actors.old.items generator.old space.new actors.new.items generator.new) }
+    ensures err { OnErr result (space.new.words ≡ []) }
 {
     open_epoch(space, actors);
-    replay_epoch(space, actors, x, gate);
+    go_on(rt, alloc, space, actors, generator, options, gate)?;
     close_epoch(space, actors);
+    Ok(())
+}
+
+/// Lets the actors of an opened epoch make their steps, until all mutators are through with it and all actors rest. Where memory
+/// runs out, the space and the actors are gone.
+fn go_on<R: Threads + Sync, G: Gate>(
+    rt: &R,
+    alloc: Global,
+    space: &mut Space,
+    actors: &mut Vec<AnyActor>,
+    generator: &mut Option<u64>,
+    options: &Options,
+    gate: &G,
+) -> Result<(), AllocError>
+    requires may { CanRun options.now space.old actors.old.items }
+    ensures ok { OnOk result (GoesOn space.old space.new actors.old.items actors.new.items generator.old generator.new) }
+    ensures err { OnErr result (space.new.words ≡ []) }
+{
+    match generator {
+        Some(x) => {
+            replay_epoch(space, actors, x, gate);
+            Ok(())
+        }
+        None => go_on_in_threads(rt, alloc, space, actors, options, gate),
+    }
+}
+
+/// Moves the space and the actors to the threads of an epoch, and back. Where memory runs out, they are gone.
+fn go_on_in_threads<R: Threads + Sync, G: Gate>(
+    rt: &R,
+    alloc: Global,
+    space: &mut Space,
+    actors: &mut Vec<AnyActor>,
+    options: &Options,
+    gate: &G,
+) -> Result<(), AllocError>
+    requires may { CanRun options.now space.old actors.old.items }
+    ensures ok { OnOk result (HasRun space.old space.new actors.old.items actors.new.items) }
+    ensures err { OnErr result (space.new.words ≡ []) }
+{
+    let whole = mem::replace(space, Space::empty(alloc));
+    let all = mem::replace(actors, Vec::new(alloc));
+    let (whole, all) = run_epoch(rt, alloc, whole, all, options, gate)?;
+    *space = whole;
+    *actors = all;
+    Ok(())
 }
 
 /// Whether the thread of an actor has done its end; a helper has none that goes on.
@@ -86,57 +150,73 @@ fn ask_of(collects: bool) -> Ask
 
 /// One round: an epoch and the pause behind it. Where not all threads have ended then, waiting `new`s are served or refused,
 /// with more pauses where they need room, and the next epoch is prepared. Whether all have.
-fn make_round<G: Gate, W: Watch, O: Sink>(
+fn make_round<R: Threads + Sync, G: Gate, W: Watch, O: Sink>(
+    rt: &R,
+    alloc: Global,
     space: &mut Space,
-    actors: &mut [AnyActor],
-    x: &mut u64,
-    options: RunOptions,
+    actors: &mut Vec<AnyActor>,
+    course: &mut Course,
+    options: Options,
     gate: &G,
     watch: &mut W,
     output: &mut O,
 ) -> Result<bool, WriteError>
     requires range { AreInRange options }
-    requires under_way { (task : Task) × (task.options ≡ options) × IsUnderWay task space.old (O.written output.old) (W.seen watch.old) actors.old x.old }
-    ensures ok { IfOk result (λ ended. (task : Task) → task.options ≡ options → IsUnderWay task space.old (O.written output.old) (W.seen watch.old) actors.old x.old
-        → HasMadeRound task space.new (O.written output.new) (W.seen watch.new) actors.old actors.new x.new ended) }
-    ensures err { OnErr result (IsCutOffUnderWay options space.old (O.written output.old) (W.seen watch.old) actors.old x.old space.new (O.written output.new)) }
+    requires under_way { SomeIsUnderWay options space.old (O.written output.old) (W.seen watch.old) actors.old.items course.old }
+    ensures ok { IfOk result (λ ended. (task : Task) → task.options ≡ options → IsUnderWay task space.old (O.written output.old) (W.seen watch.old) actors.old.items course.old
+        → HasMadeRound task space.new (O.written output.new) (W.seen watch.new) actors.old.items actors.new.items course.new ended) }
+    ensures err { IfErr result (λ why. IsStoppedUnderWay why options space.old (O.written output.old) (W.seen watch.old) actors.old.items course.old space.new (O.written output.new)) }
     ensures faults { O.faults output.old ≤ O.faults output.new }
     ensures cause { result ≡ Err WriteError.Fault → Rose (O.faults output.old) (O.faults output.new) }
 {
-    run_epoch(space, actors, x, gate);
+    let Ok(()) = make_epoch(
+        rt,
+        alloc,
+        space,
+        actors,
+        &mut course.generator,
+        &options,
+        gate,
+    ) else {
+        return Err(WriteError::Memory);
+    };
     let ended = have_ended(actors);
     let collects = shall_collect(actors, ended);
-    pause(space, ask_of(collects), options, watch, output)?;
+    let totals = &mut course.totals;
+    pause(space, ask_of(collects), options, totals, watch, output)?;
     if ended {
         return Ok(true);
     }
-    answer_waiting(space, actors, collects, options, watch, output)?;
+    answer_waiting(space, actors, collects, options, totals, watch, output)?;
     list_for_epoch(space);
     Ok(false)
 }
 
-/// Runs the threads in a space that was just opened, epoch after epoch with a pause behind each, until all have ended. A
-/// generator draws who makes the next step, and begins where the options say.
-pub(crate) fn run_threads<G: Gate, W: Watch, O: Sink>(
+/// Runs the threads in a space that was just opened, epoch after epoch with a pause behind each, until all have ended.
+pub(crate) fn run_threads<R: Threads + Sync, G: Gate, W: Watch, O: Sink>(
+    rt: &R,
+    alloc: Global,
     space: &mut Space,
-    actors: &mut [AnyActor],
-    options: RunOptions,
+    actors: &mut Vec<AnyActor>,
+    course: &mut Course,
+    options: Options,
     gate: &G,
     watch: &mut W,
     output: &mut O,
 ) -> Result<(), WriteError>
     requires range { AreInRange options }
-    requires under_way { (task : Task) × (task.options ≡ options) × IsUnderWay task space.old (O.written output.old) (W.seen watch.old) actors.old options.replay }
-    ensures ok { OnOk result ((task : Task) → task.options ≡ options → IsUnderWay task space.old (O.written output.old) (W.seen watch.old) actors.old options.replay
-        → (x : ℕ) × IsComplete task space.new (O.written output.new) (W.seen watch.new) actors.new x) }
-    ensures err { OnErr result (IsCutOffUnderWay options space.old (O.written output.old) (W.seen watch.old) actors.old options.replay space.new (O.written output.new)) }
+    requires under_way { SomeIsUnderWay options space.old (O.written output.old) (W.seen watch.old) actors.old.items course.old }
+    ensures ok { OnOk result ((task : Task) → task.options ≡ options → IsUnderWay task space.old (O.written output.old) (W.seen watch.old) actors.old.items course.old
+        → IsComplete task space.new (O.written output.new) (W.seen watch.new) actors.new.items course.new) }
+    ensures err { IfErr result (λ why. IsStoppedUnderWay why options space.old (O.written output.old) (W.seen watch.old) actors.old.items course.old space.new (O.written output.new)) }
     ensures faults { O.faults output.old ≤ O.faults output.new }
     ensures cause { result ≡ Err WriteError.Fault → Rose (O.faults output.old) (O.faults output.new) }
 {
-    let mut x = options.replay;
     let mut ended = false;
     while !ended {
-        ended = make_round(space, actors, &mut x, options, gate, watch, output)?;
+        ended = make_round(
+            rt, alloc, space, actors, course, options, gate, watch, output,
+        )?;
     }
     Ok(())
 }

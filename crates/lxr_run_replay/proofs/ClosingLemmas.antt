@@ -1,8 +1,7 @@
--- What the invariant of an epoch says of its replay: it can be made, and the epoch may be closed behind it.
-use Rattle.std.proofs.Common.{◌≡◌, Some, [], map, sym, ap, subst, ◌∙◌}
+-- What the invariant of an epoch says of its schedules: each can be run, and behind one that ends at rest the epoch may be closed.
+use Rattle.std.proofs.Common.{◌≡◌, Some, [], sym, ap, subst, ◌∙◌}
 use Rattle.std.specs.Prelude.{slice_get}
 use Rattle.lxr_actor.specs.declared.Core.{Core}
-use Rattle.lxr_actor.specs.declared.Event.TheVariants.{Step}
 use Rattle.lxr_actor.specs.Run.{run}
 use Rattle.lxr_image.specs.declared.space.Space.{Space}
 use Rattle.lxr_core_events.specs.EpochStates.{Beginning}
@@ -10,7 +9,7 @@ use Rattle.lxr_core.specs.declared.actors.AnyActor.{AnyActor}
 use Rattle.lxr_core.specs.Actors.{AreInOrder, any_machine, mutators_in}
 use Rattle.lxr_core.specs.Executions.{Execution, HoldsExecution}
 use Rattle.lxr_core.proofs.ExecutionLemmas.{epoch_invariant_holds}
-use Rattle.lxr_run_replay.specs.Replaying.{CanBeReplayed, ReplaysMayClose}
+use Rattle.lxr_run_replay.specs.Replaying.{CanBeReplayed, SchedulesMayClose}
 
 -- the core of an execution of which the invariant holds can be replayed
 pub can_be_replayed : (b : Beginning) (execution : Execution) → HoldsExecution b execution → CanBeReplayed execution.core
@@ -24,13 +23,13 @@ can_be_replayed b execution holds = record {
       (on.holds.1.mutators i m (subst (λ (core : Core AnyActor). slice_get (mutators_in core.actors) i ≡ Some m) (sym on.core) at)).sound;
 }
 
--- behind its replay the epoch may be closed
-pub may_close : ReplaysMayClose
+-- behind a schedule the epoch may be closed
+pub may_close : SchedulesMayClose
 may_close b execution schedule before after actors actors' has =
-    let on = epoch_invariant_holds b execution (map Step schedule) has.holds in
+    let on = epoch_invariant_holds b execution schedule has.holds in
     record {
       holds = on.holds;
-      core = on.core ∙ (ap (λ (core : Core AnyActor). run any_machine core (map Step schedule)) has.core ∙ sym has.replayed);
+      core = on.core ∙ (ap (λ (core : Core AnyActor). run any_machine core schedule) has.core ∙ sym has.gone_on);
       space_is = has.rest ∙ ap (λ (s : Space). record s { words = after.words }) has.space_is;
       resting = has.resting;
     }

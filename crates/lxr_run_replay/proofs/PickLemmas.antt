@@ -23,7 +23,8 @@ use Rattle.lxr_core.specs.Actors.{AreInOrder, any_machine, decrementers_in, in_o
 use Rattle.lxr_core.specs.Closing.{AreFinished}
 use Rattle.lxr_core.proofs.OrderLemmas.{mutator_at, mutator_from, mutators_before, mutators_put, mutators_stay}
 use Rattle.lxr_run_replay.specs.Replaying.{IsPicked, acts, may_be_drawn, some_act, unfinished, unfinished_from}
-use Rattle.lxr_run_replay.proofs.WorkLemmas.{finished_phase, step_works, work}
+use Rattle.lxr_run_replay.specs.Working.{work}
+use Rattle.lxr_run_replay.proofs.WorkLemmas.{finished_phase, step_works}
 use Rattle.lxr_run_replay.proofs.NumberLemmas.{stands, with_first}
 
 -- ---- work
@@ -48,26 +49,26 @@ none_of None h e = cc
 none_of (Some x) h e = cc
 
 -- what is not some is none
-nothing_of : {A : Type 0} (o : Option A) → is_some o ≡ false → o ≡ None
+pub nothing_of : {A : Type 0} (o : Option A) → is_some o ≡ false → o ≡ None
 nothing_of None h = refl
 nothing_of (Some x) h = absurd (cc)
 
 -- what an action makes of a mutator
-record HasWorked (a : AnyActor) (m : Mutating) : Type 0 where
-  after : Mutating
-  is : a ≡ any.Mutator after
-  less : work after < work m
+pub record HasWorked (a : AnyActor) (m : Mutating) : Type 0 where
+  pub after : Mutating
+  pub is : a ≡ any.Mutator after
+  pub less : work after < work m
 
-acted_mutator : (words : List ℕ) (m : Mutating) (o : Option Action) → IsMutator m → (action m ≡ None → ⊥) → is_some o ≡ true → HasWorked (acted any_machine words (any.Mutator m) o).1 m
+pub acted_mutator : (words : List ℕ) (m : Mutating) (o : Option Action) → IsMutator m → (action m ≡ None → ⊥) → is_some o ≡ true → HasWorked (acted any_machine words (any.Mutator m) o).1 m
 acted_mutator words m None is some h = absurd (cc)
 acted_mutator words m (Some act) is some h = record { after = _; is = refl; less = step_works m (slice_index words act.word) is some }
 
 -- what it makes of a decrementer is one, and of a tracer
-acted_helper : (words : List ℕ) (d : DecrementerState) (o : Option Action) → (e : DecrementerState) × ((acted any_machine words (any.Decrementer d) o).1 ≡ any.Decrementer e)
+pub acted_helper : (words : List ℕ) (d : DecrementerState) (o : Option Action) → (e : DecrementerState) × ((acted any_machine words (any.Decrementer d) o).1 ≡ any.Decrementer e)
 acted_helper words d None = (d, refl)
 acted_helper words d (Some act) = (_, refl)
 
-acted_tracer : (words : List ℕ) (d : TracerState) (o : Option Action) → (e : TracerState) × ((acted any_machine words (any.Tracer d) o).1 ≡ any.Tracer e)
+pub acted_tracer : (words : List ℕ) (d : TracerState) (o : Option Action) → (e : TracerState) × ((acted any_machine words (any.Tracer d) o).1 ≡ any.Tracer e)
 acted_tracer words d None = (d, refl)
 acted_tracer words d (Some act) = (_, refl)
 

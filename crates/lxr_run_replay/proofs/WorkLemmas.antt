@@ -28,19 +28,7 @@ use Rattle.lxr_mutator.specs.Mutators.{IsMutator, MayBeIn}
 use Rattle.lxr_mutator.specs.Steps.{accepts_in, action, action_in, after, after_in, based, done_with, draws_for, finished, has_room, in_current, in_overflow, is_medium, left_in, name_told, reaching, shape_now, shape_told, started, stored, with_register}
 use Rattle.lxr_alloc.specs.Spans.{block_span}
 use Rattle.lxr_mutator.proofs.NowLemmas.{few_words}
-
--- how many units it has before it, that in progress or the next among them: one for each reply that is left
-abbrev pub units : Mutating → ℕ
-units m = length m.operations + 1 - length m.replies.items
-
--- a bound on the steps that it has before it in this epoch, by its phase
-abbrev pub work_in : Mutating → MutatorPhase → ℕ
-work_in m phase.Finished = 0
-work_in m p = 2055 * units m + left_in m p
-
--- the same bound for the phase that it is in
-abbrev pub work : Mutating → ℕ
-work m = work_in m m.phase
+use Rattle.lxr_run_replay.specs.Working.{units, work, work_in}
 
 -- a further reply makes up for all of the next unit
 unit_less : (k n n' : ℕ) → n ≤ k → n' ≡ n + 1 → 2055 * (k + 1 - n') + 2054 < 2055 * (k + 1 - n)

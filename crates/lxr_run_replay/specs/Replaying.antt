@@ -85,16 +85,16 @@ pub record CanBeReplayed (core : Core AnyActor) : Type 0 where
 
 -- The execution has led to words and actors of a space of this beginning, and a schedule has gone on from there until all mutators
 -- are through and all actors rest; of the space only the words have changed.
-pub record HasReplayed (b : Beginning) (execution : Execution) (schedule : List ℕ) (before after : Space) (actors actors' : List AnyActor) : Type 0 where
+pub record HasGoneOn (b : Beginning) (execution : Execution) (schedule : List Event) (before after : Space) (actors actors' : List AnyActor) : Type 0 where
   pub holds : HoldsExecution b execution
   pub core : execution.core ≡ core_of before.words actors
   pub space_is : before ≡ record b.space { words = before.words }
-  pub replayed : core_of after.words actors' ≡ run any_machine (core_of before.words actors) (map Step schedule)
+  pub gone_on : core_of after.words actors' ≡ run any_machine (core_of before.words actors) schedule
   pub finished : AreFinished (mutators_in actors')
   pub resting : AreResting actors'
   pub rest : after ≡ record before { words = after.words }
 
 -- then the epoch may be closed, with the execution that the schedule has told
-abbrev pub ReplaysMayClose : Type 0
-ReplaysMayClose = (b : Beginning) (execution : Execution) (schedule : List ℕ) (before after : Space) (actors actors' : List AnyActor)
-    → HasReplayed b execution schedule before after actors actors' → MayClose b (tell_all b execution (map Step schedule)) after actors'
+abbrev pub SchedulesMayClose : Type 0
+SchedulesMayClose = (b : Beginning) (execution : Execution) (schedule : List Event) (before after : Space) (actors actors' : List AnyActor)
+    → HasGoneOn b execution schedule before after actors actors' → MayClose b (tell_all b execution schedule) after actors'

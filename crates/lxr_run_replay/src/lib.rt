@@ -12,9 +12,9 @@ mod replaying;
 
 ghost use Rattle.lxr_core_events.specs.EpochStates.{Beginning};
 ghost use Rattle.lxr_core.specs.Executions.{HoldsExecution, Execution};
-ghost use Rattle.lxr_run_replay.specs.Replaying.{CanBeReplayed, ReplaysMayClose};
+ghost use Rattle.lxr_run_replay.specs.Replaying.{CanBeReplayed, SchedulesMayClose};
 
-pub use gates::{Gate, Open};
+pub use gates::{Gate, Open, pass_gate};
 pub use replaying::replay_epoch;
 
 /// The core of each execution of which the invariant of its epoch holds can be replayed.
@@ -22,7 +22,7 @@ pub fn executions_can_be_replayed()
     ensures { (b : Beginning) (execution : Execution) → HoldsExecution b execution → CanBeReplayed execution.core }
 {}
 
-/// Where an epoch was replayed, it may be closed: its execution has gone on by the schedule.
-pub fn replays_may_close()
-    ensures { ReplaysMayClose }
+/// Where a schedule was run to its end, by a replay or by threads, the epoch may be closed: its execution has gone on by the schedule.
+pub fn schedules_may_close()
+    ensures { SchedulesMayClose }
 {}

@@ -9,7 +9,7 @@ ghost use Rattle.lxr_core.specs.Closing.{AreFinished, AreResting};
 ghost use Rattle.lxr_run_replay.specs.Replaying.{CanBeReplayed, Draws, IsPicked, Replays, may_be_drawn, unfinished};
 ghost use Rattle.lxr_run_replay.specs.Finishing.{IsFinishing, RestBefore};
 
-use crate::gates::Gate;
+use crate::gates::{Gate, pass_gate};
 use crate::numbers::{Unfinished, may_be_drawn};
 use lxr_actor::{Actor, step};
 use lxr_base::draw;
@@ -127,20 +127,6 @@ fn advance<G: Gate>(words: &mut PlainWords, actor: &mut AnyActor, tracing: bool,
     pass_gate(actor, gate);
     step(words, actor);
     may_be_drawn(actor, tracing)
-}
-
-/// Calls the gate where the next step is the first of an operation.
-#[inline(always)]
-fn pass_gate<G: Gate>(actor: &AnyActor, gate: &G) {
-    match actor {
-        AnyActor::Mutator(mutator) => {
-            if mutator.resting() {
-                gate.at(mutator.next_name().thread, mutator.operation());
-            }
-        }
-        AnyActor::Decrementer(_) => {}
-        AnyActor::Tracer(_) => {}
-    }
 }
 
 /// Finishes the units that are in progress, in order of the actors.

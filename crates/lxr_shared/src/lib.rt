@@ -1,9 +1,18 @@
-//! Actors on one table of atomic words, stepped from as many threads as there are.
+//! The actors of a collector on one table of atomic words, stepped from as many threads as there are.
 //!
-//! The words of an epoch become an atomic table, and each actor a pass that one thread holds and steps. Whatever the
-//! threads' order, the words and actors at closing are those of one schedule of single steps, of which each pass has
-//! seen a beginning with all of its own steps. The work is done in the room `lxr_shared_passes`; crates of this
-//! repository stand on that.
+//! Opening makes an atomic table of the words of a space, where they lie, and gives each actor a pass, which one thread
+//! holds and turns. A turn is one unit of the actor. Closing gives the space and the actors back, and takes no memory:
+//! whatever the threads did, words and actors are those of one schedule of events, of which each pass has seen a beginning
+//! with all events of its own.
 #![tactic(auto)]
 
-pub use lxr_shared_passes::{Epoch, Pass, close_passes, open_passes};
+mod close;
+mod epoch;
+mod open;
+mod rest;
+mod turns;
+
+pub use close::close_shared;
+pub use epoch::{Epoch, Pass};
+pub use open::open_shared;
+pub use turns::Turn;

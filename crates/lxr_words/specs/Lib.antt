@@ -4,3 +4,4 @@ pub mod Number
 pub mod Options
 pub mod Settings
 pub mod WordFault
+pub mod Ranges

@@ -1,12 +1,13 @@
 //! Reads the words from the left: the command, the seed where there is one, and then the options.
 
-ghost use Rattle.std.specs.Prelude.{◌≡◌, map};
+ghost use Rattle.std.specs.Prelude.{◌≡◌, IfOk, map};
 ghost use Rattle.std.specs.List.{list_any};
 ghost use Rattle.std.specs.Str.{bytes_eq};
 ghost use Rattle.clap.specs.Matches.{first_value, found_of};
 ghost use Rattle.lxr_words.specs.Settings.{dashes};
 ghost use Rattle.lxr_words.specs.Arguments.{ReadsIfFine, all_fine};
 ghost use Rattle.lxr_words.specs.Options.{Answers, load_in, options_by, options_in, reading_of};
+ghost use Rattle.lxr_words.specs.Ranges.{AreInRange};
 
 use crate::arguments::matches_among;
 use crate::digits::number_in;
@@ -21,7 +22,8 @@ use std::alloc::Global;
 /// its options, or what is wrong with the words. The error `Memory` says that memory ran out, and
 /// nothing of the words.
 pub fn read_words(alloc: Global, words: &[&str]) -> Result<Options, WordError>
-    ensures { Answers (reading_of (map (λ word. word.now) words.now)) result }
+    ensures answers { Answers (reading_of (map (λ word. word.now) words.now)) result }
+    ensures range { IfOk result AreInRange }
 {
     let [word, rest @ ..] = words else {
         return Err(WordError::Fault(WordFault::Command));
@@ -36,7 +38,8 @@ pub fn read_words(alloc: Global, words: &[&str]) -> Result<Options, WordError>
 
 // Reads the words after `load`: the seed, and then the options.
 fn read_load(alloc: Global, words: &[&str]) -> Result<Options, WordError>
-    ensures { Answers (load_in (map (λ word. word.now) words.now)) result }
+    ensures answers { Answers (load_in (map (λ word. word.now) words.now)) result }
+    ensures range { IfOk result AreInRange }
 {
     let [seed, rest @ ..] = words else {
         return Err(WordError::Fault(WordFault::Seed));
@@ -53,7 +56,8 @@ fn read_options<'a>(
     command: Command,
     words: &'a [&'a str],
 ) -> Result<Options, WordError>
-    ensures { Answers (options_in command (map (λ word. word.now) words.now)) result }
+    ensures answers { Answers (options_in command (map (λ word. word.now) words.now)) result }
+    ensures range { IfOk result AreInRange }
 {
     // `clap` would take this word as the end of the options.
     if has_dashes(words) {
@@ -76,8 +80,9 @@ fn options_among(
     counts: bool,
     matches: &ArgMatches<'_>,
 ) -> Result<Options, WordError>
-    ensures { let text = first_value (found_of matches.now) in
+    ensures value { let text = first_value (found_of matches.now) in
         ReadsIfFine (all_fine text) (options_by text counts command) result }
+    ensures range { IfOk result AreInRange }
 {
     Ok(Options {
         command,

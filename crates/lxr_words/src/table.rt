@@ -101,7 +101,7 @@ impl NumberOption {
         ensures value { let text = first_value (found_of matches.now) self.name.now in
             ReadsIfFine (is_fine (self.least, self.greatest) text)
             (option_map value_of text) result }
-        ensures within { IfOk result (λ o. IfSome o (λ n. n ≤ self.greatest)) }
+        ensures within { IfOk result (λ o. IfSome o (λ n. (self.least ≤ n) × (n ≤ self.greatest))) }
     {
         let Some(text) = matches.get_str(self.name) else {
             return Ok(None);
@@ -114,11 +114,11 @@ impl NumberOption {
 
     // The option's number, or the default where it is not given.
     pub(crate) fn number_or(self, matches: &ArgMatches<'_>, default: u64) -> Result<u64, WordError>
-        requires { default ≤ self.greatest }
+        requires { (self.least ≤ default) × (default ≤ self.greatest) }
         ensures value { let text = first_value (found_of matches.now) self.name.now in
             ReadsIfFine (is_fine (self.least, self.greatest) text)
             (number_or default text) result }
-        ensures within { IfOk result (λ n. n ≤ self.greatest) }
+        ensures within { IfOk result (λ n. (self.least ≤ n) × (n ≤ self.greatest)) }
     {
         Ok(self.number(matches)?.unwrap_or(default))
     }

@@ -6,16 +6,20 @@ use Rattle.lxr_image.specs.declared.space.Tally.{Tally}
 use Rattle.lxr_invariant.specs.AbstractState.{AbstractState}
 use Rattle.lxr_run_watch.specs.Sights.{Looks, sight_of}
 use Rattle.lxr_graph.specs.History.{report_of}
-use Rattle.lxr_text_print.specs.Reports.{report_text}
 use Rattle.lxr_text_stream.specs.Streams.{Appends, AppendsFront}
 use Rattle.lxr_run_pause.specs.declared.Ask.{Ask}
 use Rattle.lxr_run_pause.specs.declared.Pace.{Pace}
 use Rattle.lxr_run_pause.specs.Deciding.{IsPace}
 use Rattle.lxr_run_pause.specs.Pausing.{CanPause, Pauses}
-use Rattle.lxr_run_words.specs.declared.RunOptions.{RunOptions}
+use Rattle.lxr_words.specs.declared.Options.{Options}
 use Rattle.lxr_run_invariant.specs.LoopInvariant.{pace_of}
 use Rattle.lxr_run_invariant.proofs.PauseLemmas.{can_pause, cut_off_after, safepoint_by, paused_after}
+use Rattle.lxr_run_history.specs.declared.totals.Totals.{Totals}
+use Rattle.lxr_run_history.specs.Sums.{with_report}
+use Rattle.lxr_run_history.specs.Texts.{told_report}
+use Rattle.lxr_run_loop.specs.Courses.{AreFew}
 use Rattle.lxr_run_loop.specs.Pausing.{MakesPause, with_logs_counted}
+use Rattle.lxr_run_loop.proofs.FewLemmas.{few_behind, totals_fit}
 use Rattle.lxr_run_loop.proofs.pauses.pause.Goals as goal
 
 -- the pause is that of the space with what is logged counted
@@ -28,7 +32,7 @@ counted : (before after : Tally) (moved kept : ℕ) → after ≡ record before 
 counted before after moved kept is = is ∙ ap (λ (t : Tally). record before { pauses = before.pauses + 1; moved = t.moved; kept = t.kept }) (sym is)
 
 -- it keeps the pace of a run's options
-paced : (asked : Ask) (pace : Pace) (options : RunOptions) (before after : Space) (n : ℕ) → pace ≡ pace_of options → n ≡ length before.logged.items
+paced : (asked : Ask) (pace : Pace) (options : Options) (before after : Space) (n : ℕ) → pace ≡ pace_of options → n ≡ length before.logged.items
     → ((g : AbstractState) → CanPause (safepoint_by before n) g → (at' : Name → ℕ) × Pauses (safepoint_by before n) after g at' asked pace) → MakesPause asked (pace_of options) before after
 paced asked pace options before after n same is pauses = subst (λ p. MakesPause asked p before after) same (made asked pace before after n is pauses)
 
@@ -44,7 +48,7 @@ one_pause-requires-clause-space g c =
     )
 
 pub returns-clause-ok : goal.returns-clause-ok
-returns-clause-ok g c = on_ok_weaker c.print_pause.result
+returns-clause-ok g c = on_ok_weaker c.tell.result
     (λ printed. λ task h abstract_state to.
     let can = can_pause task c.args.space.now (g.O.Sink.written c.args.output.now) (g.W.Watch.seen c.args.watch.now) h abstract_state to.come c.requires.counts in
     let (at', pauses) = paced c.args.ask c.pace_of.result c.args.options c.args.space.now c.one_pause.new.space c.len.result c.pace_of.ensures c.len.ensures c.one_pause.ensures abstract_state can in
@@ -52,18 +56,18 @@ returns-clause-ok g c = on_ok_weaker c.print_pause.result
     subst (λ n. Looks (g.W.Watch.seen c.args.watch.now) (g.W.Watch.seen c.look.new.self) (sight_of (safepoint_by c.args.space.now n))) c.len.ensures c.look.ensures in
     paused_after task c.args.space.now c.one_pause.new.space (g.O.Sink.written c.args.output.now) (g.W.Watch.seen c.args.watch.now) (g.W.Watch.seen c.look.new.self)
     (g.W.Watch.seen c.look-2.new.self) h abstract_state to.come to.due c.args.ask to.right at' (subst (λ o. Pauses (with_logs_counted c.args.space.now) c.one_pause.new.space abstract_state at' c.args.ask (pace_of o)) (sym to.with_options) pauses) first c.look-2.ensures
-    (g.O.Sink.written c.print_pause.new.output) (subst (λ (o : RunOptions). Appends (g.O.Sink.written c.args.output.now) (g.O.Sink.written c.print_pause.new.output) (report_text o.counts (report_of c.one_pause.new.space.report))) (sym to.with_options) printed))
-    c.print_pause.ensures.ok
+    (g.O.Sink.written c.tell.new.output) (subst (λ (o : Options). Appends (g.O.Sink.written c.args.output.now) (g.O.Sink.written c.tell.new.output) (told_report o.command o.counts (report_of c.one_pause.new.space.report))) (sym to.with_options) printed))
+    c.tell.ensures.ok
 
 pub returns-clause-err : goal.returns-clause-err
-returns-clause-err g c = on_err_weaker c.print_pause.result
+returns-clause-err g c = on_err_weaker c.tell.result
     (λ printed. λ task h abstract_state to.
     let can = can_pause task c.args.space.now (g.O.Sink.written c.args.output.now) (g.W.Watch.seen c.args.watch.now) h abstract_state to.come c.requires.counts in
     let (at', pauses) = paced c.args.ask c.pace_of.result c.args.options c.args.space.now c.one_pause.new.space c.len.result c.pace_of.ensures c.len.ensures c.one_pause.ensures abstract_state can in
     cut_off_after task c.args.space.now c.one_pause.new.space (g.O.Sink.written c.args.output.now) (g.W.Watch.seen c.args.watch.now) (g.W.Watch.seen c.look.new.self)
     (g.W.Watch.seen c.look-2.new.self) h abstract_state to.come to.due c.args.ask to.right at' (subst (λ o. Pauses (with_logs_counted c.args.space.now) c.one_pause.new.space abstract_state at' c.args.ask (pace_of o)) (sym to.with_options) pauses)
-    (g.O.Sink.written c.print_pause.new.output) (subst (λ (o : RunOptions). AppendsFront (g.O.Sink.written c.args.output.now) (g.O.Sink.written c.print_pause.new.output) (report_text o.counts (report_of c.one_pause.new.space.report))) (sym to.with_options) printed))
-    c.print_pause.ensures.err
+    (g.O.Sink.written c.tell.new.output) (subst (λ (o : Options). AppendsFront (g.O.Sink.written c.args.output.now) (g.O.Sink.written c.tell.new.output) (told_report o.command o.counts (report_of c.one_pause.new.space.report))) (sym to.with_options) printed))
+    c.tell.ensures.err
 
 pub returns-clause-made : goal.returns-clause-made
 returns-clause-made g c = paced c.args.ask c.pace_of.result c.args.options c.args.space.now c.one_pause.new.space c.len.result c.pace_of.ensures c.len.ensures c.one_pause.ensures
@@ -81,3 +85,34 @@ returns-clause-pauses g c =
     let can = can_pause task c.args.space.now (g.O.Sink.written c.args.output.now) (g.W.Watch.seen c.args.watch.now) h abstract_state to.come c.requires.counts in
     let (at', pauses) = made c.args.ask c.pace_of.result c.args.space.now c.one_pause.new.space c.len.result c.len.ensures c.one_pause.ensures abstract_state can in
     ap (λ (s : Space). s.pauses) pauses.space
+
+pub add-requires-clause-room : goal.add-requires-clause-room
+add-requires-clause-room g c =
+    let few = few_behind c.args.ask c.args.options (pace_of c.args.options) c.args.space.now c.one_pause.new.space (g.O.Sink.written c.args.output.now) (g.W.Watch.seen c.args.watch.now) c.args.totals.now c.requires.totals c.requires.due c.requires.counts
+    (paced c.args.ask c.pace_of.result c.args.options c.args.space.now c.one_pause.new.space c.len.result c.pace_of.ensures c.len.ensures c.one_pause.ensures) in
+    totals_fit (with_report c.args.totals.now (report_of c.one_pause.new.space.report)).promoted (c.args.space.now.pauses + 1) few.promoted c.requires.counts.pauses.0
+
+pub add-requires-clause-dead_room : goal.add-requires-clause-dead_room
+add-requires-clause-dead_room g c =
+    let few = few_behind c.args.ask c.args.options (pace_of c.args.options) c.args.space.now c.one_pause.new.space (g.O.Sink.written c.args.output.now) (g.W.Watch.seen c.args.watch.now) c.args.totals.now c.requires.totals c.requires.due c.requires.counts
+    (paced c.args.ask c.pace_of.result c.args.options c.args.space.now c.one_pause.new.space c.len.result c.pace_of.ensures c.len.ensures c.one_pause.ensures) in
+    totals_fit (with_report c.args.totals.now (report_of c.one_pause.new.space.report)).dead (c.args.space.now.pauses + 1) few.dead c.requires.counts.pauses.0
+
+pub add-requires-clause-swept_room : goal.add-requires-clause-swept_room
+add-requires-clause-swept_room g c =
+    let few = few_behind c.args.ask c.args.options (pace_of c.args.options) c.args.space.now c.one_pause.new.space (g.O.Sink.written c.args.output.now) (g.W.Watch.seen c.args.watch.now) c.args.totals.now c.requires.totals c.requires.due c.requires.counts
+    (paced c.args.ask c.pace_of.result c.args.options c.args.space.now c.one_pause.new.space c.len.result c.pace_of.ensures c.len.ensures c.one_pause.ensures) in
+    totals_fit (with_report c.args.totals.now (report_of c.one_pause.new.space.report)).swept (c.args.space.now.pauses + 1) few.swept c.requires.counts.pauses.0
+
+pub add-requires-clause-stuck_room : goal.add-requires-clause-stuck_room
+add-requires-clause-stuck_room g c =
+    let few = few_behind c.args.ask c.args.options (pace_of c.args.options) c.args.space.now c.one_pause.new.space (g.O.Sink.written c.args.output.now) (g.W.Watch.seen c.args.watch.now) c.args.totals.now c.requires.totals c.requires.due c.requires.counts
+    (paced c.args.ask c.pace_of.result c.args.options c.args.space.now c.one_pause.new.space c.len.result c.pace_of.ensures c.len.ensures c.one_pause.ensures) in
+    totals_fit (with_report c.args.totals.now (report_of c.one_pause.new.space.report)).stuck (c.args.space.now.pauses + 1) few.stuck c.requires.counts.pauses.0
+
+pub returns-clause-few : goal.returns-clause-few
+returns-clause-few g c =
+    let few = few_behind c.args.ask c.args.options (pace_of c.args.options) c.args.space.now c.one_pause.new.space (g.O.Sink.written c.args.output.now) (g.W.Watch.seen c.args.watch.now) c.args.totals.now c.requires.totals c.requires.due c.requires.counts
+    (paced c.args.ask c.pace_of.result c.args.options c.args.space.now c.one_pause.new.space c.len.result c.pace_of.ensures c.len.ensures c.one_pause.ensures) in
+    subst (λ n. AreFew c.add.new.self n) (sym (returns-clause-pauses g c))
+    (subst (λ (t : Totals). AreFew t (c.args.space.now.pauses + 1)) (sym c.add.ensures) few)

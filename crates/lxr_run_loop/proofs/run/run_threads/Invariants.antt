@@ -7,12 +7,12 @@ use Rattle.lxr_run_loop.proofs.run.run_threads.Given as goal
 abbrev pub invariant-loop-ended : goal.invariant-loop-ended
 invariant-loop-ended g l =
     record {
-      under_way : (task : Task) → task.options ≡ l.fn.options → IsUnderWay task l.fn.space (g.O.Sink.written l.fn.output) (g.W.Watch.seen l.fn.watch) l.fn.actors l.fn.options.replay → l.ended ≡ false
-          → IsUnderWay task l.space (g.O.Sink.written l.output) (g.W.Watch.seen l.watch) l.actors l.x;
-      complete : (task : Task) → task.options ≡ l.fn.options → IsUnderWay task l.fn.space (g.O.Sink.written l.fn.output) (g.W.Watch.seen l.fn.watch) l.fn.actors l.fn.options.replay → l.ended ≡ true
-          → IsComplete task l.space (g.O.Sink.written l.output) (g.W.Watch.seen l.watch) l.actors l.x;
+      under_way : (task : Task) → task.options ≡ l.fn.options → IsUnderWay task l.fn.space (g.O.Sink.written l.fn.output) (g.W.Watch.seen l.fn.watch) l.fn.actors.items l.fn.course → l.ended ≡ false
+          → IsUnderWay task l.space (g.O.Sink.written l.output) (g.W.Watch.seen l.watch) l.actors.items l.course;
+      complete : (task : Task) → task.options ≡ l.fn.options → IsUnderWay task l.fn.space (g.O.Sink.written l.fn.output) (g.W.Watch.seen l.fn.watch) l.fn.actors.items l.fn.course → l.ended ≡ true
+          → IsComplete task l.space (g.O.Sink.written l.output) (g.W.Watch.seen l.watch) l.actors.items l.course;
       faults : g.O.Sink.faults l.fn.output ≤ g.O.Sink.faults l.output;
     }
 
 abbrev pub decreases-loop-ended : goal.decreases-loop-ended
-decreases-loop-ended g l = left_of (mutators_in l.actors) + cond {A = ℕ} l.ended 0 1
+decreases-loop-ended g l = left_of (mutators_in l.actors.items) + cond {A = ℕ} l.ended 0 1

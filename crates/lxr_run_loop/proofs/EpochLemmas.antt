@@ -1,0 +1,188 @@
+-- An epoch of a run: once it is opened its actors can go on, and once they have it is closed behind a history that has more calls alone.
+use Rattle.std.proofs.Common.{◌≡◌, ℕ, ◌<◌, refl, sym, ap, subst, ◌∙◌, arith, true, List, length, map}
+use Rattle.std.specs.Prelude.{Option, Some, slice_index_or}
+use Rattle.std.proofs.lemmas.List.{length-map}
+use Rattle.std.proofs.lemmas.Option.{slice_get-get_or, slice_get_within}
+use Rattle.lxr_layout.specs.declared.Place.{Place}
+use Rattle.lxr_layout.specs.declared.limits.Limits.{Limits}
+use Rattle.lxr_layout.specs.Spaces.{region_begin}
+use Rattle.lxr_graph.specs.History.{Item}
+use Rattle.lxr_image.specs.declared.space.Space.{Space}
+use Rattle.lxr_invariant.specs.AbstractState.{AbstractState}
+use Rattle.lxr_actor.specs.declared.Core.{Core}
+use Rattle.lxr_actor.specs.Run.{core_of}
+use Rattle.lxr_actor.proofs.Runs.{run-lengths}
+use Rattle.lxr_mutator.specs.declared.phases.MutEnd.{MutEnd}
+use Rattle.lxr_mutator.specs.declared.phases.MutEnd.TheVariants as ends
+use Rattle.lxr_mutator.specs.Mutating.{rests_in}
+use Rattle.lxr_mutator.specs.Mutators.{phase_again}
+use Rattle.lxr_core.specs.declared.actors.AnyActor.{AnyActor}
+use Rattle.lxr_core.specs.declared.actors.AnyActor.TheVariants as any
+use Rattle.lxr_core.specs.Actors.{any_machine, decrementers_in, mutators_in, script_of, tracers_in}
+use Rattle.lxr_core.specs.Closing.{AreFinished, AreResting, Closes, MayClose}
+use Rattle.lxr_core.specs.Collecting.{actor_given_up}
+use Rattle.lxr_core.specs.Executions.{Execution, HoldsExecution, tell_all}
+use Rattle.lxr_core.specs.Filling.{unfilled}
+use Rattle.lxr_core.specs.Opening.{Opens, execution_at}
+use Rattle.lxr_core.specs.Starting.{HaveStarted, registers_in, started_again}
+use Rattle.lxr_core.proofs.MappedLemmas.{mapped}
+use Rattle.lxr_core.proofs.OrderLemmas.{lengths_add}
+use Rattle.lxr_core.proofs.ScriptLemmas.{opened_script, script_runs}
+use Rattle.lxr_run_replay.proofs.ClosingLemmas.{can_be_replayed, may_close}
+use Rattle.lxr_shared.proofs.Openings.{opened_have_ends}
+use Rattle.lxr_run_threads.specs.Running.{CanRun}
+use Rattle.lxr_run_watch.specs.Sights.{Sight}
+use Rattle.lxr_words.specs.declared.Options.{Options}
+use Rattle.lxr_words.specs.Ranges.{AreInRange}
+use Rattle.lxr_run_invariant.specs.LoopInvariant.{IsBetweenEpochs, Task}
+use Rattle.lxr_run_invariant.specs.Laws.{beginning_of}
+use Rattle.lxr_run_invariant.proofs.ActorLemmas.{as_many}
+use Rattle.lxr_run_invariant.proofs.EpochLemmas.{epochs_run, may_open as epoch_begins}
+use Rattle.lxr_run_invariant.proofs.PauseLemmas.{few_threads}
+use Rattle.lxr_run_loop.specs.Drawing.{GoesOn}
+use Rattle.lxr_run_loop.specs.Progress.{HasMadeEpoch}
+use Rattle.lxr_run_loop.proofs.ThreadLemmas.{as_many_helpers}
+use Rattle.lxr_run_loop.proofs.TracerLemmas.{started_tracers, tracers_run}
+
+-- ---- the actors rest as an epoch opens
+
+-- a mutator is ready for its next unit, or is through
+mutator_rests : (e : Option MutEnd) → rests_in (phase_again e) ≡ true
+mutator_rests (Some ends.Ended) = refl
+mutator_rests e = refl
+
+-- an actor that begins again rests
+again_rests : (a : AnyActor) (registers : List Place) → any_machine.rests (started_again a registers) ≡ true
+again_rests (any.Mutator m) registers = mutator_rests m.end
+again_rests (any.Decrementer d) registers = refl
+again_rests (any.Tracer d) registers = refl
+
+-- whatever its pocket was filled with
+filled_rests : (a : AnyActor) → any_machine.rests a ≡ any_machine.rests (unfilled a)
+filled_rests (any.Mutator m) = refl
+filled_rests (any.Decrementer d) = refl
+filled_rests (any.Tracer d) = refl
+
+started_rest : (places : List Place) (before after : List AnyActor) → HaveStarted places before (map unfilled after) (length before) → AreResting after
+started_rest places before after have i x at =
+    let many = have.as_many in
+    let as_many = length-map after unfilled in
+    let inside = slice_get_within after i x at in
+    let below : i < length before = omega arith in
+    let now = have.started i (slice_index_or before i x) (slice_get-get_or before i x below) below in
+    let same = some_same (unfilled x) (started_again (slice_index_or before i x) (registers_in places i)) (sym (mapped unfilled after i x at) ∙ now) in
+    filled_rests x ∙ ap any_machine.rests same ∙ again_rests (slice_index_or before i x) (registers_in places i)
+  where
+    some_same : (a b : AnyActor) → Some a ≡ Some b → a ≡ b
+    some_same a b e = cc
+
+-- a space has words
+words_stand : (l : Limits) (n : ℕ) → n ≡ region_begin l 15 → 0 < n
+words_stand l n is = omega arith
+
+-- ---- an epoch of a run
+
+module _ (task : Task) (space : Space) (written : Option (List ℕ)) (seen : Option (List Sight)) (actors : List AnyActor) (h : List Item) (g : AbstractState) (amid : IsBetweenEpochs task space written seen actors h g)
+    (opened : Space) (started : List AnyActor) (opens : Opens space opened actors started) (holds : HoldsExecution (beginning_of task space h g) (execution_at (beginning_of task space h g) opened started)) where
+  -- there are as many actors as before
+  pub started_many : length started ≡ length actors
+  started_many = sym (length-map started unfilled) ∙ opens.actors.as_many
+
+  -- with the operations of the script
+  started_script : script_of (mutators_in started) ≡ task.script
+  started_script = opened_script space opened actors started opens ∙ amid.actors_rest.mutators.script
+
+  same_tracers : length (tracers_in started) ≡ length (tracers_in actors)
+  same_tracers = started_tracers space.registers.items actors started opens.actors
+
+  same_helpers : length (decrementers_in started) ≡ length (decrementers_in actors)
+  same_helpers = as_many_helpers actors started task.script started_many same_tracers amid.actors_rest.mutators.script started_script
+
+  -- so the epoch can run
+  pub can_run : (options : Options) → task.options ≡ options → AreInRange options → CanRun options opened started
+  can_run options with_options range = record {
+    words = words_stand space.limits (length opened.words) holds.1.size;
+    fits = can_be_replayed (beginning_of task space h g) (execution_at (beginning_of task space h g) opened started) holds;
+    resting = started_rest space.registers.items actors started opens.actors;
+    ends = opened_have_ends space opened actors started opens;
+    few =
+        let all = lengths_add actors in
+        let mutators = as_many task h (mutators_in actors) amid.actors_rest.mutators in
+        let threads = few_threads task space written seen h g amid.come in
+        let workers = amid.actors_rest.workers in
+        let few = amid.actors_rest.few in
+        let tracers = amid.actors_rest.tracers in
+        let same = started_many in
+        omega arith;
+    workers = range.workers;
+    decrementers = same_helpers ∙ amid.actors_rest.workers ∙ ap (λ (o : Options). o.workers) with_options;
+    tracers = same_tracers ∙ amid.actors_rest.tracers ∙ ap (λ (o : Options). o.workers) with_options;
+  }
+
+  module _ (gone : Space) (moved : List AnyActor) (x x' : Option ℕ) (on : GoesOn opened gone started moved x x') where
+    -- what it has come to
+    abbrev pub execution_on : Execution
+    execution_on = tell_all (beginning_of task space h g) (execution_at (beginning_of task space h g) opened started) on.events
+
+    -- and may be closed
+    pub may_be_closed : MayClose (beginning_of task space h g) execution_on gone moved
+    may_be_closed = may_close (beginning_of task space h g) (execution_at (beginning_of task space h g) opened started) on.events opened gone started moved (record {
+      holds = holds;
+      core = refl;
+      space_is = opens.space.rest;
+      gone_on = on.run;
+      finished = on.finished;
+      resting = on.resting;
+      rest = on.rest;
+    })
+
+    -- its actors are those that it began with
+    core_is : execution_on.core ≡ core_of gone.words moved
+    core_is = may_be_closed.core
+
+    script_on : script_of (mutators_in execution_on.core.actors) ≡ task.script
+    script_on = ap (λ (k : Core AnyActor). script_of (mutators_in k.actors)) (core_is ∙ on.run) ∙ script_runs (core_of opened.words started) on.events ∙ started_script
+
+    many_on : length execution_on.core.actors ≡ length actors
+    many_on = ap (λ (k : Core AnyActor). length k.actors) (core_is ∙ on.run) ∙ (run-lengths any_machine (core_of opened.words started) on.events).1 ∙ started_many
+
+    tracers_on : length (tracers_in execution_on.core.actors) ≡ length (tracers_in actors)
+    tracers_on = ap (λ (k : Core AnyActor). length (tracers_in k.actors)) (core_is ∙ on.run) ∙ tracers_run (core_of opened.words started) on.events ∙ same_tracers
+
+    -- closing leaves as many actors
+    pub closed_many : (after : Space) (actors' : List AnyActor) → Closes (beginning_of task space h g) execution_on gone after actors' → length actors' ≡ length moved
+    closed_many after actors' closes = ap length closes.gave ∙ length-map execution_on.core.actors actor_given_up ∙ ap (λ (k : Core AnyActor). length k.actors) core_is
+
+    -- once it is closed the run has made an epoch
+    pub has_made_epoch : (after : Space) (actors' : List AnyActor) → Closes (beginning_of task space h g) execution_on gone after actors' → HasMadeEpoch task space after written seen actors actors' h x x'
+    has_made_epoch after actors' closes =
+        let words : gone ≡ record space { words = gone.words } = on.rest ∙ ap (λ (s : Space). record s { words = gone.words }) opens.space.rest in
+        let workers = as_many_helpers actors execution_on.core.actors task.script many_on tracers_on amid.actors_rest.mutators.script script_on ∙ amid.actors_rest.workers in
+        let (m, ran, totals) = epochs_run task space gone after written seen actors actors' h g execution_on amid (record {
+          words = words;
+          script = script_on;
+          workers = workers;
+          tracers = tracers_on ∙ amid.actors_rest.tracers;
+          finished = subst AreFinished (sym (ap (λ (k : Core AnyActor). mutators_in k.actors) core_is)) on.finished;
+          closes = closes;
+        }) in
+        record {
+          history = execution_on.history;
+          abstract_state = m;
+          ran = ran;
+          makes = record {
+            script = amid.actors_rest.mutators.script;
+            workers = amid.actors_rest.workers;
+            tracers = amid.actors_rest.tracers;
+            abstract_state = g;
+            begins = epoch_begins task space written seen actors h g amid;
+            opened = opened;
+            started = started;
+            opens = opens;
+            events = on.events;
+            scheduled = on.scheduled;
+            history = refl;
+          };
+          totals = totals;
+          pauses = ap (λ (s : Space). s.pauses) closes.rest ∙ ap (λ (s : Space). s.pauses) words;
+        }

@@ -1,0 +1,33 @@
+use Rattle.std.proofs.Common.{◌≡◌, ◌+◌, ◌<◌, ◌∙◌, ap, arith, get_or, length, take}
+use Rattle.std.specs.Prelude.{sum_by}
+use Rattle.std.proofs.lemmas.List.{take_all}
+use Rattle.std.proofs.lemmas.List.Sums.{sum_by-take-le, sum_by_more}
+use Rattle.lxr_run_loop.specs.Summing.{calls_by}
+use Rattle.lxr_run_loop.proofs.SummingLemmas.{none_counted}
+use Rattle.lxr_run_loop.proofs.printing.calls.Goals as goal
+
+pub loop-number-init : goal.loop-number-init
+loop-number-init c = none_counted calls_by c.args.actors.now
+
+pub overflow_add-count : goal.overflow_add-count
+overflow_add-count c =
+    let below : c.loop-number.number < length c.args.actors.now = omega arith in
+    let so_far = c.loop-number.invariant in
+    let more = sum_by_more calls_by c.args.actors.now c.loop-number.number c.index-actors-number.result below in
+    let within = sum_by-take-le calls_by c.args.actors.now (c.loop-number.number + 1) in
+    let here : c.calls_by-count.result ≡ calls_by (get_or c.args.actors.now c.loop-number.number c.index-actors-number.result) = c.calls_by-count.ensures ∙ ap calls_by c.index-actors-number.is in
+    let fits = c.requires in
+    omega arith
+
+pub loop-number-preserved : goal.loop-number-preserved
+loop-number-preserved c =
+    let below : c.loop-number.number < length c.args.actors.now = omega arith in
+    let so_far = c.loop-number.invariant in
+    let more = sum_by_more calls_by c.args.actors.now c.loop-number.number c.index-actors-number.result below in
+    let here : c.calls_by-count.result ≡ calls_by (get_or c.args.actors.now c.loop-number.number c.index-actors-number.result) = c.calls_by-count.ensures ∙ ap calls_by c.index-actors-number.is in
+    omega arith
+
+pub returns : goal.returns
+returns c =
+    let all : c.loop-number.number ≡ length c.args.actors.now = omega arith in
+    c.loop-number.invariant ∙ ap (λ n. sum_by calls_by (take n c.args.actors.now)) all ∙ ap (sum_by calls_by) (take_all (length c.args.actors.now) c.args.actors.now (omega arith))

@@ -1,0 +1,7 @@
+use Rattle.std.proofs.Common.{◌≡◌, take}
+use Rattle.std.specs.Prelude.{sum_by}
+use Rattle.lxr_run_loop.specs.Summing.{refusals_by}
+use Rattle.lxr_run_loop.proofs.printing.refusals.Given as goal
+
+abbrev pub invariant-loop-number : goal.invariant-loop-number
+invariant-loop-number l = l.count ≡ sum_by refusals_by (take l.number l.actors)

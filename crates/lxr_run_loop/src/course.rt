@@ -1,0 +1,27 @@
+//! What a run carries from round to round, beside its space and its actors.
+ghost use Rattle.std.specs.Prelude.{◌≡◌};
+ghost use Rattle.lxr_run_loop.specs.Courses.{opening_course};
+
+use lxr_run_history::Totals;
+use lxr_words::Options;
+
+/// How far a run has come.
+#[derive(Clone, Copy, Debug, PartialEq, Eq)]
+pub struct Course {
+    /// Where the generator of a replay has come to; none where threads run as they come.
+    pub generator: Option<u64>,
+    /// How many names the lists of all reports have had so far.
+    pub totals: Totals,
+}
+
+impl Course {
+    /// The course of a run that begins.
+    pub fn begin(options: Options) -> Course
+        ensures { result ≡ opening_course options }
+    {
+        Course {
+            generator: options.replay,
+            totals: Totals::none(),
+        }
+    }
+}

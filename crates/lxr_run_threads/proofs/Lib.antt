@@ -1,0 +1,4 @@
+pub mod DealingLemmas
+pub mod WorkingLemmas
+pub mod RoundLemmas
+pub mod EpochLemmas

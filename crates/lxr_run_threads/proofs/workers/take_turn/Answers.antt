@@ -1,0 +1,14 @@
+use Rattle.std.proofs.Common.{◌+◌, ◌≤◌, ◌∙◌, false, sym, subst, ap, ◌≡◌}
+use Rattle.lxr_actor.specs.Run.{one_if}
+use Rattle.lxr_run_replay.specs.Replaying.{CanBeReplayed}
+use Rattle.lxr_run_threads.specs.Working.{goes_on, is_finished, work_of}
+use Rattle.lxr_run_threads.proofs.WorkingLemmas.{turn_leaves}
+use Rattle.lxr_run_threads.proofs.workers.take_turn.Goals as goal
+
+pub returns-clause-nearer : goal.returns-clause-nearer
+returns-clause-nearer g c =
+    let can = subst CanBeReplayed (sym c.requires.pass.opening_is) c.requires.can in
+    let going : is_finished c.args.pass.now.actor ≡ false = ap is_finished (sym c.actor.ensures) ∙ (sym c.is_finished.ensures ∙ c.if-is_finished.false) in
+    let told = c.goes_on.ensures ∙ ap goes_on c.actor-3.ensures in
+    let unit = c.turn_at.ensures.unit in
+    subst (λ b. work_of c.turn_at.new.self.actor + one_if b ≤ work_of c.args.pass.now.actor) (sym told) (turn_leaves unit.0 c.args.pass.now c.turn_at.new.self can unit.2 going)

@@ -1,0 +1,50 @@
+-- What workers do with their passes.
+use Rattle.std.specs.Prelude.{◌≡◌, ℕ, Bool, true, false, None, List, IsSome, is_none, is_some}
+use Rattle.std.specs.List.{sum_by}
+use Rattle.lxr_core.specs.declared.actors.AnyActor.{AnyActor}
+use Rattle.lxr_core.specs.declared.actors.AnyActor.TheVariants as any
+use Rattle.lxr_core.specs.Actors.{any_machine}
+use Rattle.lxr_shared_passes.specs.Passing.{Opened, Passing}
+use Rattle.lxr_shared.specs.Sharing.{Sharing}
+use Rattle.lxr_run_replay.specs.Working.{work}
+
+-- the table of an epoch
+abbrev pub table_of : Sharing → Opened AnyActor
+table_of epoch = record { id = epoch.id; opening = epoch.opening }
+
+-- the pass is one of the epoch of this table, and its actor rests
+pub record IsPassOf (table : Opened AnyActor) (pass : Passing AnyActor) : Type 0 where
+  pub epoch_is : pass.epoch ≡ table.id
+  pub opening_is : pass.opening ≡ table.opening
+  pub rests : any_machine.rests pass.actor ≡ true
+
+-- its mutator has a further unit before it in this epoch; helpers don't count
+abbrev pub goes_on : AnyActor → Bool
+goes_on (any.Mutator m) = is_some (any_machine.action (any.Mutator m))
+goes_on (any.Decrementer d) = false
+goes_on (any.Tracer d) = false
+
+-- it is a mutator that has none
+abbrev pub is_finished : AnyActor → Bool
+is_finished (any.Mutator m) = is_none (any_machine.action (any.Mutator m))
+is_finished (any.Decrementer d) = false
+is_finished (any.Tracer d) = false
+
+-- a mutator has come to its end for this epoch, and a helper has made a unit
+abbrev pub HasServed : AnyActor → Type 0
+HasServed (any.Mutator m) = any_machine.action (any.Mutator m) ≡ None
+HasServed (any.Decrementer d) = IsSome d.end
+HasServed (any.Tracer d) = IsSome d.end
+
+-- the work that an actor has before it in this epoch, and that of all; helpers don't count
+abbrev pub work_of : AnyActor → ℕ
+work_of (any.Mutator m) = work m
+work_of (any.Decrementer d) = 0
+work_of (any.Tracer d) = 0
+
+abbrev pub work_in : List (Passing AnyActor) → ℕ
+work_in passes = sum_by (λ p. work_of p.actor) passes
+
+-- and its actor has served
+abbrev pub IsDoneOf : Opened AnyActor → Passing AnyActor → Type 0
+IsDoneOf table pass = IsPassOf table pass × HasServed pass.actor

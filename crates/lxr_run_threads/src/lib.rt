@@ -1,0 +1,49 @@
+//! An epoch on running threads.
+//!
+//! The words of the space become one atomic table, on which each actor steps by a pass. Threads' passes are dealt to workers,
+//! thread t's to worker (t - 1) modulo how many there are, and each worker gets one decrementer and one tracer. In one round
+//! a worker calls the gate and makes one turn for each of its mutators that isn't finished, and then one turn for each of its
+//! helpers. Every worker makes one round, and further ones until its mutators are finished.
+#![tactic(auto)]
+
+ghost use Rattle.std.specs.Prelude.{IfOk};
+ghost use Rattle.lxr_run_threads.specs.Running.{CanRun, HasRun};
+
+mod dealing;
+mod workers;
+
+use crate::dealing::Dealing;
+use crate::workers::let_work;
+use lxr_core::AnyActor;
+use lxr_image::Space;
+use lxr_run_replay::Gate;
+use lxr_shared::{close_shared, open_shared};
+use lxr_words::Options;
+use std::alloc::{AllocError, Global};
+use std::thread::Threads;
+
+/// Runs an epoch, between its opening and its closing, on as many threads of the machine as there are workers. Where a thread
+/// can't be started its work is done by the caller. At a refusal the space and the actors are gone.
+pub fn run_epoch<R: Threads + Sync, G: Gate>(
+    rt: &R,
+    alloc: Global,
+    space: Space,
+    actors: Vec<AnyActor>,
+    options: &Options,
+    gate: &G,
+) -> Result<(Space, Vec<AnyActor>), AllocError>
+    requires { CanRun options.now space actors.items }
+    ensures { IfOk result (λ r. HasRun space r.0 actors.items r.1.items) }
+{
+    let workers = usize::from(options.workers);
+    let (epoch, mut passes) = open_shared(alloc, space, actors)?;
+    let count = passes.len();
+    let dealing = Dealing {
+        mutators: count - 2 * workers,
+        workers,
+    };
+    let mut hands = dealing.deal(alloc, &mut passes)?;
+    let_work(rt, epoch.table(), hands.as_mut_slice(), gate);
+    dealing.gather(hands.as_mut_slice(), count, &mut passes);
+    Ok(close_shared(epoch, passes))
+}

@@ -1,0 +1,2 @@
+pub mod UnitEnds
+pub mod Openings

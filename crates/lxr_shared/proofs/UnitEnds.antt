@@ -1,0 +1,364 @@
+-- A unit that has come to rest has told how it ended, since each step that leads to rest tells it.
+use Rattle.std.proofs.Common.{◌≡◌, ◌∙◌, ℕ, List, [], ◌∷◌, ◌++◌, ◌+◌, Bool, true, false, Option, Some, None, refl, sym, ap, subst}
+use Rattle.std.specs.Prelude.{◌&&◌, ◌||◌, IsSome, if◌then◌else◌, is_some, nat_eq, nat_lt, option_map, slice_index}
+use Rattle.lxr_layout.specs.declared.TheConstants.{STUCK}
+use Rattle.lxr_layout.specs.declared.Place.{Place}
+use Rattle.lxr_layout.specs.declared.Shape.{Shape}
+use Rattle.lxr_layout.specs.Objects.{header_of, word_count}
+use Rattle.lxr_layout.specs.Places.{place_in}
+use Rattle.lxr_base.specs.Roomy.{Roomy, pushed}
+use Rattle.lxr_layout.specs.declared.LogEntry.{LogEntry}
+use Rattle.lxr_graph.specs.declared.Op.{Op}
+use Rattle.lxr_graph.specs.declared.Op.TheVariants as op
+use Rattle.lxr_graph.specs.declared.Reply.{Reply}
+use Rattle.lxr_graph.specs.declared.Reply.TheVariants as reply
+use Rattle.lxr_actor.specs.declared.Action.{Action}
+use Rattle.lxr_actor.specs.Run.{acted, run, stepped}
+use Rattle.lxr_barrier.specs.declared.StoreEnd.{StoreEnd}
+use Rattle.lxr_barrier.specs.declared.StoreEnd.TheVariants as store_end
+use Rattle.lxr_alloc.specs.declared.Span.{Span}
+use Rattle.lxr_alloc.specs.Spans.{block_span, run_span}
+use Rattle.lxr_barrier.specs.Storing.{Storing, end_of as store_end_of, log_after, store_after}
+use Rattle.lxr_mutator.specs.declared.phases.MutEnd.TheVariants as ends
+use Rattle.lxr_mutator.specs.declared.phases.MutEnd.{MutEnd}
+use Rattle.lxr_mutator.specs.declared.phases.Stop.TheVariants as stop
+use Rattle.lxr_mutator.specs.declared.phases.MutatorPhase.{MutatorPhase}
+use Rattle.lxr_mutator.specs.declared.phases.MutatorPhase.TheVariants as phase
+use Rattle.lxr_mutator.specs.Operating.{dest_of, index_of, indexed_fields}
+use Rattle.lxr_mutator.specs.Mutating.{Mutating, nil, op_now, register, rests_in as mut_rests_in}
+use Rattle.lxr_mutator.specs.Steps as mutator
+use Rattle.lxr_decrement.specs.declared.phases.DecEnd.{DecEnd}
+use Rattle.lxr_decrement.specs.declared.phases.DecEnd.TheVariants as dec_ends
+use Rattle.lxr_decrement.specs.declared.phases.Handling.{Handling}
+use Rattle.lxr_decrement.specs.declared.phases.Handling.TheVariants.{Entry, References}
+use Rattle.lxr_decrement.specs.declared.phases.DecrementerPhase.{DecrementerPhase}
+use Rattle.lxr_decrement.specs.declared.phases.DecrementerPhase.TheVariants as dec
+use Rattle.lxr_decrement.specs.Decrementing.{DecrementerState, rests_in as dec_rests_in}
+use Rattle.lxr_pocket.specs.Pockets.{has_room, last_of, taken_from}
+use Rattle.lxr_pocket.specs.Words.{has_bit, is_in_heap, references_in, referent_in}
+use Rattle.lxr_decrement.specs.Words.{count_in, listed_in}
+use Rattle.lxr_decrement.specs.Steps as decrementer
+use Rattle.lxr_decrement.proofs.NearerLemmas as dec_nearer
+use Rattle.lxr_decrement.proofs.FinishLemmas as dec_finish
+use Rattle.lxr_trace.specs.declared.phases.Scan.{Scan}
+use Rattle.lxr_trace.specs.declared.phases.TraceEnd.{TraceEnd}
+use Rattle.lxr_trace.specs.declared.phases.TraceEnd.TheVariants as trace_ends
+use Rattle.lxr_trace.specs.declared.phases.TracerPhase.{TracerPhase}
+use Rattle.lxr_trace.specs.declared.phases.TracerPhase.TheVariants as tra
+use Rattle.lxr_trace.specs.Tracing.{TracerState, rests_in as trace_rests_in}
+use Rattle.lxr_trace.specs.Words.{counter_in, is_chosen, line_of_field, remember_room}
+use Rattle.lxr_trace.specs.Steps as tracer
+use Rattle.lxr_trace.proofs.NearerLemmas as tra_nearer
+use Rattle.lxr_trace.proofs.FinishLemmas as tra_finish
+use Rattle.lxr_shared_passes.specs.Passing.{Passing, DoesStep, GoesOn, Turned}
+use Rattle.lxr_core.specs.declared.actors.AnyActor.{AnyActor}
+use Rattle.lxr_core.specs.declared.actors.AnyActor.TheVariants as any
+use Rattle.lxr_core.specs.Actors.{any_machine}
+use Rattle.lxr_shared.specs.declared.turns.Turn.TheVariants as turn
+use Rattle.lxr_shared.specs.Ends.{IsBetweenUnits, KnowsEnd, end_of}
+
+module _ {D E : Type 0} (rests : D → Bool) (end : D → Option E) where
+  -- it has an end, if it rests
+  pub record Tells (d : D) : Type 0 where
+    pub told : rests d ≡ true → IsSome (end d)
+
+  through : (d : D) → IsSome (end d) → Tells d
+  through d some = record { told = λ e. some }
+
+  busy : (d : D) → rests d ≡ false → Tells d
+  busy d e = record { told = λ r. absurd (cc) }
+
+  either : (b : Bool) (x y : D) → Tells x → Tells y → Tells (if b then x else y)
+  either true x y first second = first
+  either false x y first second = second
+
+-- ---- mutators
+
+abbrev mut_rests : Mutating → Bool
+mut_rests m = mut_rests_in m.phase
+
+abbrev mut_end : Mutating → Option MutEnd
+mut_end m = m.end
+
+abbrev MutTells : Mutating → Type 0
+MutTells m = Tells mut_rests mut_end m
+
+-- in a phase of a unit
+mut_in : (m : Mutating) (p : MutatorPhase) → mut_rests_in p ≡ false → MutTells (record m { phase = p })
+mut_in m p e = busy mut_rests mut_end (record m { phase = p }) e
+
+-- in either of two
+mut_in_either : (m : Mutating) (b : Bool) (p q : MutatorPhase) → mut_rests_in p ≡ false → mut_rests_in q ≡ false → MutTells (record m { phase = if b then p else q })
+mut_in_either m true p q e f = mut_in m p e
+mut_in_either m false p q e f = mut_in m q f
+
+done : (m : Mutating) (r : Reply) → MutTells (mutator.done_with m r)
+done m r = through mut_rests mut_end (mutator.done_with m r) refl
+
+-- in the front of a span
+current : (m : Mutating) (shape : Shape) (span : Span) → MutTells (mutator.in_current m shape span)
+current m shape span = busy mut_rests mut_end (mutator.in_current m shape span) refl
+
+overflow : (m : Mutating) (shape : Shape) (span : Span) → MutTells (mutator.in_overflow m shape span)
+overflow m shape span = busy mut_rests mut_end (mutator.in_overflow m shape span) refl
+
+placed : (m : Mutating) (shape : Shape) → MutTells (mutator.placed m shape)
+placed m shape =
+    either mut_rests mut_end (mutator.has_room m.spans.current shape) _ _ (current m shape m.spans.current)
+    (either mut_rests mut_end (mutator.is_medium shape && mutator.has_room m.spans.overflow shape) _ _ (overflow m shape m.spans.overflow)
+    (mut_in_either m (mutator.is_medium shape) phase.DrawsBlock phase.DrawsRun refl refl))
+
+based : (m : Mutating) (base : Place) → MutTells (mutator.based m base)
+based m base = either mut_rests mut_end (nat_eq base.0 0) _ _ (done m reply.Bad) (mut_in m (phase.Base base) refl)
+
+started : (m : Mutating) (o : Op) → MutTells (mutator.started m o)
+started m (op.New dest shape) = placed m shape
+started m (op.Load dest base index) = based m (register m base)
+started m (op.Store base index source) = based m (register m base)
+started m (op.Put base index value) = based m (register m base)
+started m (op.Get base index) = based m (register m base)
+started m (op.Move dest source) = done (mutator.with_register m dest (register m source)) reply.Moved
+started m (op.Nil dest) = done (mutator.with_register m dest nil) reply.Cleared
+started m (op.Same left right) = done m (reply.Same (nat_eq (register m left).0 (register m right).0))
+started m op.Pause = mut_in m phase.Asking refl
+started m op.Collect = mut_in m phase.Asking refl
+started m op.End = through mut_rests mut_end (mutator.ended m) refl
+
+ended : (m : Mutating) (how : MutEnd) → MutTells (mutator.finished m how)
+ended m how = through mut_rests mut_end (mutator.finished m how) refl
+
+-- an operation without a field of this index goes to none
+reaching : (m : Mutating) (base : Place) (shape : Shape) (o : Op) → nat_lt (index_of o) (indexed_fields o shape) ≡ true → mut_rests_in (mutator.reaching m base shape o) ≡ false
+reaching m base shape (op.New dest s) e = absurd (cc)
+reaching m base shape (op.Load dest b index) e = refl
+reaching m base shape (op.Store b index source) e = refl
+reaching m base shape (op.Put b index value) e = refl
+reaching m base shape (op.Get b index) e = refl
+reaching m base shape (op.Move dest source) e = absurd (cc)
+reaching m base shape (op.Nil dest) e = absurd (cc)
+reaching m base shape (op.Same left right) e = absurd (cc)
+reaching m base shape op.Pause e = absurd (cc)
+reaching m base shape op.Collect e = absurd (cc)
+reaching m base shape op.End e = absurd (cc)
+
+reached : (m : Mutating) (base : Place) (shape : Shape) (b : Bool) → nat_lt (index_of (op_now m)) (indexed_fields (op_now m) shape) ≡ b
+    → MutTells (if b then record m { phase = mutator.reaching m base shape (op_now m) } else mutator.done_with m reply.Range)
+reached m base shape true e = mut_in m (mutator.reaching m base shape (op_now m)) (reaching m base shape (op_now m) e)
+reached m base shape false e = done m reply.Range
+
+loaded : (m : Mutating) (place : Place) → MutTells (mutator.loaded m place)
+loaded m place =
+    let m' = mutator.with_register m (dest_of (op_now m)) place in
+    either mut_rests mut_end (nat_eq place.0 0) _ _ (done m' (reply.Loaded None)) (mut_in m' (phase.Referent place) refl)
+
+stored : (m : Mutating) (store : Storing) (log : Roomy LogEntry) (e : Option StoreEnd) → MutTells (mutator.stored m store log e)
+stored m store log None = mut_in (record m { log = log }) (phase.Storing store) refl
+stored m store log (Some store_end.Stored) = done (record m { log = log }) reply.Stored
+stored m store log (Some store_end.LogFull) = mut_in (record m { log = log }) (phase.GivingUp stop.LogFull) refl
+
+mut_after_in : (m : Mutating) (p : MutatorPhase) (old : ℕ) → IsSome (mutator.action_in m p) → MutTells (mutator.after_in m p old)
+mut_after_in m phase.Ready old acts = either mut_rests mut_end (nat_eq old 1) _ _ (ended m ends.Asked) (started m (op_now m))
+mut_after_in m phase.Finished old acts = absurd (cc)
+mut_after_in m (phase.Base base) old acts =
+    let shape = mutator.shape_told (header_of old) in
+    reached m base shape (nat_lt (index_of (op_now m)) (indexed_fields (op_now m) shape)) refl
+mut_after_in m (phase.Reference base) old acts = loaded m (place_in old)
+mut_after_in m (phase.Referent place) old acts = done m _
+mut_after_in m (phase.Datum base refs) old acts = done m _
+mut_after_in m (phase.Putting base refs) old acts = done m _
+mut_after_in m (phase.Storing store) old acts = stored m (store_after store m.log old) (log_after store m.log old) (store_end_of (store_after store m.log old))
+mut_after_in m phase.DrawsRun old acts = mut_in m (phase.RunNumber old) refl
+mut_after_in m (phase.RunNumber number) old acts = mut_in_either m (nat_lt number old) (phase.Run number) phase.DrawsBlock refl refl
+mut_after_in m (phase.Run number) old acts = current m (mutator.shape_now m) (run_span (mutator.run_in old))
+mut_after_in m phase.DrawsBlock old acts = mut_in m (phase.BlockNumber old) refl
+mut_after_in m (phase.BlockNumber number) old acts = mut_in_either m (nat_lt number old) (phase.Block number) (phase.GivingUp stop.NoRun) refl refl
+mut_after_in m (phase.Block number) old acts =
+    let shape = mutator.shape_now m in
+    either mut_rests mut_end (mutator.is_medium shape) _ _ (overflow m shape (block_span old)) (current m shape (block_span old))
+mut_after_in m (phase.Wiping place next) old acts = mut_in_either m (nat_lt (next + 1) (word_count (mutator.shape_now m))) (phase.Wiping place (next + 1)) (phase.Heading place) refl refl
+mut_after_in m (phase.Heading place) old acts = done (mutator.with_register m (dest_of (op_now m)) place) _
+mut_after_in m phase.Asking old acts = done m _
+mut_after_in m (phase.GivingUp why) old acts = ended m (mutator.end_by why)
+
+mut_after : (m : Mutating) (old : ℕ) → IsSome (mutator.action m) → MutTells (mutator.after m old)
+mut_after m old acts = either mut_rests mut_end (mutator.accepts_in m m.phase old) _ _ (mut_after_in m m.phase old acts) (done m reply.Bad)
+
+-- ---- decrementers
+
+abbrev dec_rests : DecrementerState → Bool
+dec_rests d = dec_rests_in d.phase
+
+abbrev dec_end : DecrementerState → Option DecEnd
+dec_end d = d.end
+
+abbrev DecTells : DecrementerState → Type 0
+DecTells d = Tells dec_rests dec_end d
+
+dec_in : (d : DecrementerState) (p : DecrementerPhase) → dec_rests_in p ≡ false → DecTells (decrementer.in_phase d p)
+dec_in d p e = busy dec_rests dec_end (decrementer.in_phase d p) e
+
+dec_through : (d : DecrementerState) (how : DecEnd) → DecTells (decrementer.through d how)
+dec_through d how = through dec_rests dec_end (decrementer.through d how) refl
+
+handled : (d : DecrementerState) (handling : Handling) → DecTells (decrementer.handled d handling)
+handled d Entry = dec_through d dec_ends.Worked
+handled d (References place refs next traced) =
+    either dec_rests dec_end (nat_lt next refs) _ _ (dec_in d (dec.ReadsReference place refs next traced) refl) (dec_through d dec_ends.Worked)
+
+dec_question : (d : DecrementerState) (place : Option Place) → DecTells (decrementer.in_phase d (decrementer.question place))
+dec_question d None = dec_in d dec.AsksCursor refl
+dec_question d (Some place) = dec_in d (dec.AsksCount place) refl
+
+dec_looks_on : (d : DecrementerState) → DecTells (decrementer.looks_on d)
+dec_looks_on d = dec_question (record d { pocket = taken_from d.pocket }) (last_of d.pocket.items)
+
+entered : (d : DecrementerState) (place : Option Place) → DecTells (decrementer.entered d place)
+entered d None = handled d Entry
+entered d (Some referent) = dec_in d (dec.AsksLowered referent Entry) refl
+
+dec_referred : (d : DecrementerState) (place : Place) (refs index : ℕ) (traced : Bool) (referent : Option Place) → DecTells (decrementer.referred d place refs index traced referent)
+dec_referred d place refs index traced None = handled d (References place refs (index + 1) traced)
+dec_referred d place refs index false (Some referent) = dec_in d (dec.AsksLowered referent (References place refs (index + 1) false)) refl
+dec_referred d place refs index true (Some referent) = dec_in d (dec.MakesGray place refs index referent) refl
+
+dec_after_in : (d : DecrementerState) (p : DecrementerPhase) (word : ℕ) → dec_rests_in p ≡ false → DecTells (decrementer.after_in d p word)
+dec_after_in d dec.Resting word e = absurd (cc)
+dec_after_in d (dec.AsksCount place) word e = dec_in d (dec.AsksStart place (nat_eq (count_in place word) 0)) refl
+dec_after_in d (dec.AsksStart place uncounted) word e = either dec_rests dec_end (uncounted && has_bit place word) _ _ (dec_in d (dec.Claims place) refl) (dec_looks_on d)
+dec_after_in d (dec.Claims place) word e = either dec_rests dec_end (has_bit place word) _ _ (dec_looks_on d) (dec_in d (dec.ReadsHeader place) refl)
+dec_after_in d (dec.ReadsHeader place) word e = dec_in d (dec.AsksTracing place (references_in d.regions place word)) refl
+dec_after_in d (dec.AsksTracing place refs) word e = handled d (References place refs 0 (nat_eq word 1))
+dec_after_in d (dec.ReadsReference place refs index traced) word e = dec_referred d place refs index traced (referent_in d.regions word)
+dec_after_in d (dec.MakesGray place refs index referent) word e = dec_in d (dec.AsksLowered referent (References place refs (index + 1) true)) refl
+dec_after_in d (dec.AsksLowered referent handling) word e =
+    let count = count_in referent word in
+    either dec_rests dec_end (nat_eq count 0 || nat_eq count STUCK) _ _ (handled d handling) (dec_in d (dec.Lowers referent handling) refl)
+dec_after_in d (dec.Lowers referent handling) word e = handled (decrementer.lowered d referent (count_in referent word)) handling
+dec_after_in d dec.AsksCursor word e = dec_in d (dec.AsksNumber word) refl
+dec_after_in d (dec.AsksNumber cursor) word e =
+    let count = listed_in d.regions word in
+    either dec_rests dec_end (nat_lt cursor count) _ _ (dec_in d (dec.Draws count) refl) (dec_through d dec_ends.Nothing)
+dec_after_in d (dec.Draws count) word e = either dec_rests dec_end (nat_lt word count) _ _ (dec_in d (dec.ReadsEntry word) refl) (dec_through d dec_ends.Nothing)
+dec_after_in d (dec.ReadsEntry number) word e = entered d (referent_in d.regions word)
+
+dec_after : (d : DecrementerState) (word : ℕ) → DecTells (decrementer.after d word)
+dec_after d word = let b = decrementer.begun d in dec_after_in b b.phase word (dec_nearer.begun_busy d)
+
+-- ---- tracers
+
+abbrev trace_rests : TracerState → Bool
+trace_rests t = trace_rests_in t.phase
+
+abbrev trace_end : TracerState → Option TraceEnd
+trace_end t = t.end
+
+abbrev TraceTells : TracerState → Type 0
+TraceTells t = Tells trace_rests trace_end t
+
+trace_in : (t : TracerState) (p : TracerPhase) → trace_rests_in p ≡ false → TraceTells (tracer.in_phase t p)
+trace_in t p e = busy trace_rests trace_end (tracer.in_phase t p) e
+
+trace_through : (t : TracerState) (how : TraceEnd) → TraceTells (tracer.through t how)
+trace_through t how = through trace_rests trace_end (tracer.through t how) refl
+
+trace_question : (t : TracerState) (place : Option Place) → TraceTells (tracer.in_phase t (tracer.question place))
+trace_question t None = trace_in t tra.FindsNothing refl
+trace_question t (Some place) = trace_in t (tra.AsksGray place) refl
+
+trace_looks_on : (t : TracerState) → TraceTells (tracer.looks_on t)
+trace_looks_on t = trace_question (record t { pocket = taken_from t.pocket }) (last_of t.pocket.items)
+
+at_reference : (t : TracerState) (scan : Scan) → TraceTells (tracer.at_reference t scan)
+at_reference t scan = either trace_rests trace_end (nat_lt scan.index scan.refs) _ _ (trace_in t (tra.Scans scan) refl) (trace_through t (tracer.end_of scan.overflowed))
+
+scanned : (t : TracerState) (scan : Scan) → TraceTells (tracer.scanned t scan)
+scanned t scan = at_reference t (record scan { index = scan.index + 1 })
+
+trace_referred : (t : TracerState) (scan : Scan) (referent : Option Place) → TraceTells (tracer.referred t scan referent)
+trace_referred t scan None = scanned t scan
+trace_referred t scan (Some referent) = trace_in t (tra.AsksReferent scan referent) refl
+
+trace_after_in : (t : TracerState) (p : TracerPhase) (word : ℕ) → trace_rests_in p ≡ false → TraceTells (tracer.after_in t p word)
+trace_after_in t tra.Resting word e = absurd (cc)
+trace_after_in t (tra.AsksGray place) word e = trace_in t (tra.AsksObject place (has_bit place word)) refl
+trace_after_in t (tra.AsksObject place gray) word e = either trace_rests trace_end (gray && has_bit place word) _ _ (trace_in t (tra.Marks place) refl) (trace_looks_on t)
+trace_after_in t (tra.Marks place) word e = either trace_rests trace_end (has_bit place word) _ _ (trace_looks_on t) (trace_in t (tra.ReadsShape place) refl)
+trace_after_in t (tra.ReadsShape place) word e = at_reference t (tracer.scan_from_first place (references_in t.regions place word))
+trace_after_in t (tra.Scans scan) word e = trace_referred t scan (referent_in t.regions word)
+trace_after_in t (tra.AsksReferent scan referent) word e = either trace_rests trace_end (has_bit referent word) _ _ (trace_in t (tra.GraysReferent scan referent) refl) (scanned t scan)
+trace_after_in t (tra.GraysReferent scan referent) word e = trace_in (tracer.grayed t referent (has_bit referent word)) (tra.AsksBlock scan referent) refl
+trace_after_in t (tra.AsksBlock scan referent) word e = either trace_rests trace_end (is_chosen word) _ _ (trace_in t (tra.ReadsReuse scan) refl) (scanned t scan)
+trace_after_in t (tra.ReadsReuse scan) word e = trace_in t (tra.DrawsNumber scan (counter_in word (line_of_field scan.place scan.index))) refl
+trace_after_in t (tra.DrawsNumber scan counter) word e =
+    either trace_rests trace_end (nat_lt word (remember_room t.regions)) _ _ (trace_in t (tra.Enters scan counter word) refl) (scanned t (record scan { overflowed = true }))
+trace_after_in t (tra.Enters scan counter number) word e = scanned t scan
+trace_after_in t tra.FindsNothing word e = trace_through t trace_ends.Nothing
+
+trace_after : (t : TracerState) (word : ℕ) → TraceTells (tracer.after t word)
+trace_after t word = let b = tracer.begun t in trace_after_in b b.phase word (tra_nearer.begun_busy t)
+
+-- ---- actors
+
+some_mapped : {X Y : Type 0} (f : X → Y) (o : Option X) → IsSome o → IsSome (option_map f o)
+some_mapped f None some = absurd (cc)
+some_mapped f (Some x) some = refl
+
+-- a step that leads to rest tells how the unit ended
+after_tells : (a : AnyActor) (old : ℕ) → IsSome (any_machine.action a) → any_machine.rests (any_machine.after a old) ≡ true → IsSome (end_of (any_machine.after a old))
+after_tells (any.Mutator m) old acts rests = some_mapped turn.Mutator (mutator.after m old).end ((mut_after m old acts).told rests)
+after_tells (any.Decrementer d) old acts rests = some_mapped turn.Decrementer (decrementer.after d old).end ((dec_after d old).told rests)
+after_tells (any.Tracer t) old acts rests = some_mapped turn.Tracer (tracer.after t old).end ((trace_after t old).told rests)
+
+pub dec_knows : (d : DecrementerState) → KnowsEnd (any.Decrementer d)
+dec_knows d none = ap (λ (e : Option DecEnd). is_some (option_map turn.Decrementer e)) (((dec_finish.finished_by_rule).finished d).0 none).found_nothing
+
+pub trace_knows : (t : TracerState) → KnowsEnd (any.Tracer t)
+trace_knows t none = ap (λ (e : Option TraceEnd). is_some (option_map turn.Tracer e)) (((tra_finish.finished_by_rule).finished t).0 none).found_nothing
+
+-- a place that is offered leaves the phase
+dec_offered : (d : DecrementerState) (taken : Bool) (place : Place) → dec_rests_in (if◌then◌else◌ {A = DecrementerState × Bool} taken (record d { pocket = pushed d.pocket place }, true) (d, false)).0.phase ≡ dec_rests_in d.phase
+dec_offered d true place = refl
+dec_offered d false place = refl
+
+trace_offered : (t : TracerState) (taken : Bool) (place : Place) → trace_rests_in (if◌then◌else◌ {A = TracerState × Bool} taken (record t { pocket = pushed t.pocket place }, true) (t, false)).0.phase ≡ trace_rests_in t.phase
+trace_offered t true place = refl
+trace_offered t false place = refl
+
+-- a place is offered
+pub offered_between : (a : AnyActor) (place : Place) → IsBetweenUnits a → IsBetweenUnits (any_machine.offered a place).0
+offered_between (any.Mutator m) place is = is
+offered_between (any.Decrementer d) place is = record { rests = dec_offered d (is_in_heap d.regions place.0 && has_room d.pocket) place ∙ is.rests; ended = dec_knows (decrementer.offered d place).0 }
+offered_between (any.Tracer t) place is = record { rests = trace_offered t (is_in_heap t.regions place.0 && has_room t.pocket) place ∙ is.rests; ended = trace_knows (tracer.offered t place).0 }
+
+-- one is given up
+pub spared_between : (a : AnyActor) → IsBetweenUnits a → IsBetweenUnits (any_machine.spared a).0
+spared_between (any.Mutator m) is = is
+spared_between (any.Decrementer d) is = record { rests = is.rests; ended = dec_knows (decrementer.spared d).0 }
+spared_between (any.Tracer t) is = record { rests = is.rests; ended = trace_knows (tracer.spared t).0 }
+
+-- ---- units
+
+-- after its next action an actor is as the action leaves it
+acted_actor : (words : List ℕ) (a : AnyActor) (act : Action) → any_machine.action a ≡ Some act → (stepped any_machine words a).1 ≡ any_machine.after a (slice_index words act.word)
+acted_actor words a act is = ap (λ (o : Option Action). (acted any_machine words a o).1) is
+
+-- a step of a pass that leads to rest tells how the unit ended
+step_tells : (p q : Passing AnyActor) (old : ℕ) → DoesStep any_machine p old q → any_machine.rests q.actor ≡ true → IsSome (end_of q.actor)
+step_tells p q old d rests =
+    let words = (run any_machine p.opening (p.seen ++ d.1)).words in
+    let after : q.actor ≡ any_machine.after p.actor (slice_index words d.0.word) = ap (λ (r : Passing AnyActor). r.actor) d.4.2 ∙ acted_actor words p.actor d.0 d.2 in
+    let acts : IsSome (any_machine.action p.actor) = ap (λ (o : Option Action). is_some o) d.2 in
+    subst (λ (a : AnyActor). any_machine.rests a ≡ true → IsSome (end_of a)) (sym after) (after_tells p.actor (slice_index words d.0.word) acts) rests
+
+goes_tells : (olds : List ℕ) (p q : Passing AnyActor) → GoesOn any_machine p olds q → (any_machine.rests p.actor ≡ true → IsSome (end_of p.actor)) → any_machine.rests q.actor ≡ true → IsSome (end_of q.actor)
+goes_tells [] p q t tells rests = subst (λ (r : Passing AnyActor). any_machine.rests r.actor ≡ true → IsSome (end_of r.actor)) (sym t) tells rests
+goes_tells (old ∷ olds) p q t tells rests = goes_tells olds t.1.0 q t.1.2 (step_tells p t.1.0 old t.1.1) rests
+
+-- After a turn an actor is between two units, and knows how the last one ended.
+pub turn_ends : (olds : List ℕ) (p q : Passing AnyActor) → IsBetweenUnits p.actor → Turned any_machine p olds q → (any_machine.rests q.actor ≡ true) × IsSome (end_of q.actor)
+turn_ends [] p q is t = subst (λ (r : Passing AnyActor). (any_machine.rests r.actor ≡ true) × IsSome (end_of r.actor)) (sym t.1) (is.rests, is.ended t.0)
+turn_ends (old ∷ olds) p q is t = (t.3, goes_tells olds t.0 q t.2 (step_tells p t.0 old t.1) t.3)
+
+-- so it is between two units
+pub turn_between : (a : AnyActor) → any_machine.rests a ≡ true → IsSome (end_of a) → IsBetweenUnits a
+turn_between a rests some = record { rests = rests; ended = λ none. some }

@@ -1,0 +1,26 @@
+-- How units of actors end, and what holds of an actor between two of them.
+use Rattle.std.specs.Prelude.{◌≡◌, ℕ, true, Option, Some, None, List, IsSome, option_map, slice_get}
+use Rattle.lxr_core.specs.declared.actors.AnyActor.{AnyActor}
+use Rattle.lxr_core.specs.declared.actors.AnyActor.TheVariants as any
+use Rattle.lxr_core.specs.Actors.{any_machine}
+use Rattle.lxr_shared.specs.declared.turns.Turn.{Turn}
+use Rattle.lxr_shared.specs.declared.turns.Turn.TheVariants as turn
+
+-- the end of an actor's last unit: none before its first unit of the epoch
+abbrev pub end_of : AnyActor → Option Turn
+end_of (any.Mutator m) = option_map turn.Mutator m.end
+end_of (any.Decrementer d) = option_map turn.Decrementer d.end
+end_of (any.Tracer d) = option_map turn.Tracer d.end
+
+-- if the actor is finished for the epoch, it knows how its last unit ended
+abbrev pub KnowsEnd : AnyActor → Type 0
+KnowsEnd a = any_machine.action a ≡ None → IsSome (end_of a)
+
+-- so it is with each of these actors
+abbrev pub HaveEnds : List AnyActor → Type 0
+HaveEnds actors = (i : ℕ) (a : AnyActor) → slice_get actors i ≡ Some a → KnowsEnd a
+
+-- no unit of the actor is in progress
+pub record IsBetweenUnits (a : AnyActor) : Type 0 where
+  pub rests : any_machine.rests a ≡ true
+  pub ended : KnowsEnd a

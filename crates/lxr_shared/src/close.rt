@@ -1,0 +1,42 @@
+//! Closing: the space and the actors come back, and take no memory.
+ghost use Rattle.std.specs.Prelude.{◌≡◌, ◌≤◌, [], All, map, vec_len, vec_capacity};
+ghost use Rattle.lxr_shared_passes.specs.Passing.{dealt, IsEnd};
+ghost use Rattle.lxr_core.specs.Actors.{any_machine};
+
+use crate::epoch::{Epoch, Pass};
+use lxr_core::AnyActor;
+use lxr_image::Space;
+use lxr_shared_passes::close_passes;
+
+/// Ends the epoch, on the condition that all of its passes are there, in order. Words and actors are those of one
+/// schedule from the opening, of which each pass has seen a beginning with all events of its own. What else the space has
+/// is as it was.
+pub fn close_shared(epoch: Epoch, passes: Vec<Pass>) -> (Space, Vec<AnyActor>)
+    requires epoch { All (λ p. p.epoch ≡ epoch.id) passes.items }
+    requires order { map (λ p. p.number) passes.items ≡ map (λ p. p.number) (dealt epoch.id epoch.opening 0 epoch.opening.actors) }
+    ensures actors { result.1.items ≡ map (λ p. p.actor) passes.items }
+    ensures run { IsEnd any_machine epoch.opening result.0.words result.1.items passes.items }
+    ensures rest { result.0 ≡ record epoch.space { words = result.0.words } }
+{
+    let Epoch {
+        passes: table,
+        rest,
+        spare: mut opened,
+    } = epoch;
+    unseal(passes, &mut opened);
+    let (words, actors) = close_passes(table, opened);
+    (rest.with_words(words), actors)
+}
+
+/// Makes passes of any actors of passes of a space's actors.
+fn unseal(passes: Vec<Pass>, opened: &mut Vec<lxr_shared_passes::Pass<AnyActor>>)
+    requires room { (opened.old.items ≡ []) × (vec_len passes ≤ vec_capacity opened.old) }
+    ensures { opened.new.items ≡ passes.items }
+{
+    let mut rest = passes.into_iter();
+    while let Some(pass) = rest.next() {
+        let Pass { pass } = pass;
+        opened.push_reserved(pass);
+    }
+    rest.destroy_empty();
+}
