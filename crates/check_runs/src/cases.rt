@@ -1,20 +1,33 @@
 //! The sections of a case.
-use anyhow::{Context, Result};
 use std::alloc::{AllocError, Global};
 
 /// A section: its name, the words behind it, and its lines.
-#[derive(Clone, Copy, Debug)]
+#[derive(Clone, Copy)]
 pub struct Section<'a> {
-    name: &'a str,
+    pub name: &'a str,
     pub words: &'a str,
     pub lines: &'a str,
 }
+
+/// Of a case without such a section.
+const NONE: Section<'static> = Section {
+    name: "",
+    words: "",
+    lines: "",
+};
+
+/// Of a case that is to end well.
+const DONE: Section<'static> = Section {
+    name: "status",
+    words: "0",
+    lines: "",
+};
 
 /// A case: its title, and its sections, those of all cases of its file first.
 #[derive(Drop)]
 pub struct Case<'a> {
     pub title: &'a str,
-    sections: Vec<Section<'a>>,
+    pub sections: Vec<Section<'a>>,
 }
 
 /// The section that a text behind `-- ` is.
@@ -28,104 +41,57 @@ fn section_of<'a>(text: &'a str) -> Section<'a> {
     }
 }
 
-/// Whether a section of this name says something.
-fn is_known(name: &str) -> bool {
-    matches!(
-        name,
-        "words"
-            | "under"
-            | "body"
-            | "script"
-            | "spaces"
-            | "cuts"
-            | "status"
-            | "errors"
-            | "output"
-            | "ends"
-            | "alike"
-            | "heap"
-            | "entries"
-            | "remembered"
-            | "moved"
-            | "tally"
-            | "word"
-            | "sights"
-            | "granules"
-            | "gate"
-            | "meet"
-            | "faults"
-    )
+/// Adds the sections of a text, and answers what stands before the first.
+fn add_sections<'a>(sections: &mut Vec<Section<'a>>, text: &'a str) -> Result<&'a str, AllocError> {
+    let mut parts = text.split("\n-- ");
+    let head = parts.next().unwrap_or("");
+    for part in parts {
+        sections.push(section_of(part))?;
+    }
+    Ok(head)
+}
+
+/// The last section with a name.
+fn last<'a>(sections: &[Section<'a>], name: &str) -> Option<Section<'a>> {
+    let mut found = None;
+    for section in sections {
+        if section.name == name {
+            found = Some(*section);
+        }
+    }
+    found
 }
 
 impl<'a> Case<'a> {
     /// The case of a text behind `== `, with what holds for all cases.
     pub fn new(alloc: Global, common: &'a str, text: &'a str) -> Result<Case<'a>, AllocError> {
         let mut sections = Vec::new(alloc);
-        for section in common.split("\n-- ").skip(1) {
-            sections.push(section_of(section))?;
-        }
-        let mut parts = text.split("\n-- ");
-        let title = parts.next().unwrap_or("");
-        for section in parts {
-            sections.push(section_of(section))?;
+        add_sections(&mut sections, common)?;
+        let title = add_sections(&mut sections, text)?;
+        if last(&sections, "status").is_none() {
+            sections.push(DONE)?;
         }
         Ok(Case { title, sections })
     }
 
-    /// Whether each section has a name that says something.
-    pub fn is_known(&self) -> bool {
-        self.sections.iter().all(|section| is_known(section.name))
-    }
-
-    /// The sections with a name.
-    pub fn all(&self, alloc: Global, name: &str) -> Result<Vec<Section<'a>>, AllocError> {
-        let mut found = Vec::new(alloc);
-        for section in &self.sections {
-            if section.name == name {
-                found.push(*section)?;
-            }
-        }
-        Ok(found)
-    }
-
     /// The last section with a name.
     pub fn find(&self, name: &str) -> Option<Section<'a>> {
-        let mut found = None;
-        for section in &self.sections {
-            if section.name == name {
-                found = Some(*section);
-            }
-        }
-        found
+        last(&self.sections, name)
     }
 
-    /// The lines of a section, or none.
-    pub fn lines(&self, name: &str) -> &'a str {
-        match self.find(name) {
-            Some(section) => section.lines,
-            None => "",
-        }
+    /// The last section with a name, or an empty one.
+    pub fn section(&self, name: &str) -> Section<'a> {
+        self.find(name).unwrap_or(NONE)
     }
 
     /// The number behind a name, or 0.
-    pub fn number(&self, name: &str) -> Result<u64> {
-        match self.find(name) {
-            Some(section) => Ok(section.words.parse()?),
-            None => Ok(0),
-        }
-    }
-
-    /// The words behind a name, or none.
-    pub fn words(&self, name: &str) -> &'a str {
-        match self.find(name) {
-            Some(section) => section.words,
-            None => "",
-        }
+    pub fn number(&self, name: &str) -> u32 {
+        first_number(self.section(name).words)
     }
 }
 
-/// The two numbers of `A..B`.
-pub fn range_of(text: &str) -> Result<(u32, u32)> {
-    let (from, to) = text.split_once("..").context("a range has two dots")?;
-    Ok((from.parse()?, to.parse()?))
+/// The number that a text begins with, or 0.
+pub fn first_number(text: &str) -> u32 {
+    let (first, _) = text.split_once(' ').unwrap_or((text, ""));
+    first.parse().unwrap_or(0)
 }

@@ -1,7 +1,7 @@
 //! What stands in the heap and in the remembered set after a run, read off the words of the space.
-use anyhow::Result;
 use lxr_image::Space;
-use lxr_layout::{Header, unpack};
+use lxr_layout::{Header, Shape, unpack};
+use lxr_run::Seen;
 use lxr_tables::Words;
 use std::alloc::{AllocError, Global};
 
@@ -21,37 +21,60 @@ fn begins(space: &Space, granule: u32) -> bool {
     granule / 2048 < space.limits.blocks && bits >> (granule % 64) & 1 == 1
 }
 
-/// Adds a line for the object at a granule: its place, its name, each reference that isn't nil, and each datum that isn't 0.
+/// Adds a line for the object at a granule: its place, its name, and its fields.
 fn write_object(text: &mut String, space: &Space, granule: u32) -> Result<(), AllocError> {
     let place = granule as usize + 1;
     let first = 2 * granule as usize;
-    let Header::Object(name, shape) = unpack(word(space, first)) else {
-        return text.push_str("moved\n");
-    };
-    write!(text, "{place} {}.{}", name.thread, name.serial)?;
-    for index in 0..usize::from(shape.refs) {
-        let held = word(space, first + 1 + index);
-        if held != 0 {
-            write!(text, " {index}:{held}")?;
+    match unpack(word(space, first)) {
+        Header::Object(name, shape) => {
+            write!(text, "{place} {}.{}", name.thread, name.serial)?;
+            write_fields(text, space, first + 1, shape)?;
         }
-    }
-    for index in 0..usize::from(shape.values) {
-        let value = word(space, first + 1 + usize::from(shape.refs) + index);
-        if value != 0 {
-            write!(text, " {index}={value}")?;
-        }
+        Header::Moved(_) => text.push_str("moved")?,
     }
     text.push_str("\n")
 }
 
-/// A line for each object of the first sixteen blocks of a heap, in order of places.
-pub fn heap_of(alloc: Global, space: &Space) -> Result<String, AllocError> {
-    let mut text = String::from_str(alloc, "")?;
+/// Adds each reference that isn't nil, and each datum that isn't 0, of the fields that begin at a word.
+fn write_fields(
+    text: &mut String,
+    space: &Space,
+    first: usize,
+    shape: Shape,
+) -> Result<(), AllocError> {
+    let refs = usize::from(shape.refs);
+    for index in 0..refs {
+        write_field(text, index, ':', word(space, first.saturating_add(index)))?;
+    }
+    let behind = first.saturating_add(refs);
+    for index in 0..usize::from(shape.values) {
+        write_field(text, index, '=', word(space, behind.saturating_add(index)))?;
+    }
+    Ok(())
+}
+
+/// Adds what a field holds, unless that is 0.
+fn write_field(text: &mut String, index: usize, sign: char, held: u64) -> Result<(), AllocError> {
+    if held == 0 {
+        return Ok(());
+    }
+    write!(text, " {index}{sign}{held}")
+}
+
+/// Adds a line for each object of the first sixteen blocks of a heap, in order of places.
+fn write_heap(text: &mut String, space: &Space) -> Result<(), AllocError> {
     for granule in 0..16 * 2048 {
         if begins(space, granule) {
-            write_object(&mut text, space, granule)?;
+            write_object(text, space, granule)?;
         }
     }
+    Ok(())
+}
+
+/// The objects of the first sixteen blocks of a heap.
+pub fn heap_of(alloc: Global, space: &Space) -> Result<String, AllocError> {
+    let mut text = String::from_str(alloc, "\n")?;
+    write_heap(&mut text, space)?;
     Ok(text)
 }
 
@@ -72,21 +95,25 @@ fn reuse_of(space: &Space, at: usize) -> u64 {
     counters >> (32 * (line % 2)) & 0xffff_ffff
 }
 
-/// A line for each entry of the remembered set of a run with so many: the place and the index of the reference, and whether its line has
+/// Whether the line in which a word of the heap stands has the counter of an entry.
+fn age_of(space: &Space, entry: u64, at: usize) -> &'static str {
+    if reuse_of(space, at) == entry >> 32 {
+        "current"
+    } else {
+        "stale"
+    }
+}
+
+/// A line for each of the first eight entries of the remembered set: the place and the index of the reference, and whether its line has
 /// the entry's counter.
-pub fn entries_of(alloc: Global, space: &Space, count: usize) -> Result<String, AllocError> {
-    let mut text = String::from_str(alloc, "")?;
-    for number in 0..count {
+pub fn entries_of(alloc: Global, space: &Space) -> Result<String, AllocError> {
+    let mut text = String::from_str(alloc, "\n")?;
+    for number in 0..remembered(space).min(8) as usize {
         let entry = entry(space, number);
         let place = (entry >> 10 & 0x3f_ffff) as usize;
         let index = (entry & 0x3ff) as usize;
-        let counter = reuse_of(space, 2 * place.saturating_sub(1) + 1 + index);
-        let current = if counter == entry >> 32 {
-            "current"
-        } else {
-            "stale"
-        };
-        write!(text, "{place}:{index} {current}\n")?;
+        let age = age_of(space, entry, 2 * place.saturating_sub(1) + 1 + index);
+        write!(text, "{place}:{index} {age}\n")?;
     }
     Ok(text)
 }
@@ -96,20 +123,56 @@ pub fn remembered(space: &Space) -> u64 {
     word(space, space.words.count().saturating_sub(16 - 7))
 }
 
-/// How many granules of the first block begin with the words that a text has.
-pub fn count_of(alloc: Global, space: &Space, text: &str) -> Result<u32> {
-    let mut words: Vec<u64> = Vec::new(alloc);
-    for word in text.split(' ') {
-        words.push(word.parse()?)?;
+/// What a watch tells: whether it tells, and of each sight the pauses, the registers that hold something, the objects, and how many
+/// granules of the first block begin with the words that a text has behind its first.
+pub fn sights_of(alloc: Global, words: &str, watch: &Seen) -> Result<String, AllocError> {
+    let mut text = String::new(alloc);
+    write!(text, "{words}\ntold {}\n", watch.told())?;
+    let (_, wanted) = words.split_once(' ').unwrap_or(("", ""));
+    for sight in watch.sights() {
+        write_sight(&mut text, sight, wanted)?;
     }
-    let mut found = 0_u32;
-    for granule in 0..2048_usize {
-        found = found.saturating_add(u32::from(stand_at(space, 2 * granule, &words)));
-    }
-    Ok(found)
+    Ok(text)
 }
 
-/// Whether words stand in a space, one behind the other, from a word on.
-fn stand_at(space: &Space, first: usize, words: &[u64]) -> bool {
-    (0..words.len()).all(|at| word(space, first.saturating_add(at)) == words[at])
+fn write_sight(text: &mut String, sight: &Space, wanted: &str) -> Result<(), AllocError> {
+    write!(
+        text,
+        "pauses {}\nregisters {}\n",
+        sight.pauses,
+        held_in(sight)
+    )?;
+    write!(text, "granules {}\n", count_of(sight, wanted))?;
+    write_heap(text, sight)
+}
+
+/// How many registers of a space hold something.
+fn held_in(space: &Space) -> usize {
+    space
+        .registers
+        .as_slice()
+        .iter()
+        .filter(|place| place.0 != 0)
+        .count()
+}
+
+/// How many granules of the first block begin with the words that a text has.
+fn count_of(space: &Space, wanted: &str) -> u32 {
+    let mut found = 0_u32;
+    for granule in 0..2048_usize {
+        found = found.saturating_add(u32::from(stand_at(space, 2 * granule, wanted)));
+    }
+    found
+}
+
+/// Whether the words that a text has stand in a space, one behind the other, from a word on.
+fn stand_at(space: &Space, first: usize, wanted: &str) -> bool {
+    let mut at = first;
+    for word_wanted in wanted.split(' ') {
+        if word_wanted.parse() != Ok(word(space, at)) {
+            return false;
+        }
+        at = at.saturating_add(1);
+    }
+    true
 }

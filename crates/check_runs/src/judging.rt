@@ -1,183 +1,118 @@
-//! What each run of a case left, against what the case says.
-use crate::cases::{Case, range_of};
-use crate::faults::judge_faults;
-use crate::running::{NO_FAULTS, Ran, Setting, run, words_of};
-use crate::spaces::judge_space;
-use crate::texts::{input_of, text_of};
-use anyhow::{Context, Result, bail, ensure};
+//! What each run of a case says, against what the case says.
+use crate::cases::{Case, Section};
+use crate::running::{NO_FAULTS, Ran, Setting, run};
+use crate::saying::{is_input, said};
+use crate::texts::{input_of, range_of, saying_of, text_of, words_of};
+use std::alloc::{AllocError, Global};
 use std::thread::Threads;
 
-/// Does all runs of a case, and answers how many there are.
-pub fn judge<R: AllocGlobal + Print + Threads + Sync>(rt: &R, case: &Case<'_>) -> Result<u32> {
-    let input = input_of(rt.alloc(), case)?;
-    let Some(under) = case.find("under") else {
-        return judge_under(rt, case, "", input.as_bytes());
+/// What comes of the runs of a case: how many there are, and where they say something else.
+#[derive(Drop)]
+pub struct Verdict {
+    pub runs: u32,
+    pub differences: String,
+}
+
+/// Does all runs of a case.
+pub fn judge<R: Threads + Sync>(
+    rt: &R,
+    alloc: Global,
+    case: &Case<'_>,
+) -> Result<Verdict, AllocError> {
+    let mut verdict = Verdict {
+        runs: 0,
+        differences: String::new(alloc),
     };
-    let words = text_of(rt.alloc(), under.lines)?;
-    let mut runs = 0_u32;
-    for line in words.as_str().trim_end().split('\n') {
-        runs = runs.saturating_add(judge_under(rt, case, line, input.as_bytes())?);
+    let input = input_of(alloc, case)?;
+    let under = text_of(alloc, case.section("under").lines)?;
+    for line in under.as_str().trim_end().split('\n') {
+        judge_under(rt, alloc, case, line, input.as_bytes(), &mut verdict)?;
     }
-    Ok(runs)
+    Ok(verdict)
 }
 
 /// Does the runs of a case under some more words: one, or one for each cut of the input.
-fn judge_under<R: AllocGlobal + Print + Threads + Sync>(
+fn judge_under<R: Threads + Sync>(
     rt: &R,
+    alloc: Global,
     case: &Case<'_>,
     under: &str,
     input: &[u8],
-) -> Result<u32> {
-    let words = words_of(rt.alloc(), case.words("words"), under)?;
-    let whole = Setting {
-        words: &words,
+    verdict: &mut Verdict,
+) -> Result<(), AllocError> {
+    let words = words_of(alloc, case.section("words").words, under)?;
+    let (from, to) = cuts_of(case, input);
+    for count in from..to {
+        let cut = input.get(..count as usize).unwrap_or(&[]);
+        let setting = setting_of(case, &words, cut);
+        judge_run(rt, alloc, case, setting, &mut verdict.differences)?;
+        verdict.runs = verdict.runs.saturating_add(1);
+    }
+    Ok(())
+}
+
+/// After how many bytes the input is cut off: the first number, and the one behind the last.
+fn cuts_of(case: &Case<'_>, input: &[u8]) -> (u32, u32) {
+    match case.find("cuts") {
+        Some(cuts) => range_of(cuts.words),
+        None => {
+            let whole = u32::try_from(input.len()).unwrap_or(0);
+            (whole, whole.saturating_add(1))
+        }
+    }
+}
+
+/// The run of a case with these words and this input.
+fn setting_of<'a>(case: &Case<'_>, words: &'a [&'a str], input: &'a [u8]) -> Setting<'a> {
+    Setting {
+        words,
         input,
         faults: NO_FAULTS,
-        turns: turns_of(case)?,
-        sights: u16::try_from(case.number("sights")?)?,
-    };
-    let Some(cuts) = case.find("cuts") else {
-        judge_run(rt, case, whole)?;
-        return Ok(1);
-    };
-    let (from, to) = range_of(cuts.words)?;
-    for count in from..to {
-        let input = input.get(..count as usize).context("a cut behind the end")?;
-        judge_run(rt, case, Setting { input, ..whole })?;
-    }
-    Ok(to.saturating_sub(from))
-}
-
-/// For how many turns the gate may hold thread 1.
-fn turns_of(case: &Case<'_>) -> Result<u32> {
-    match case.words("meet").split_once(' ') {
-        Some((turns, _)) => Ok(turns.parse()?),
-        None => Ok(0),
+        turns: case.number("meet"),
+        sights: u16::try_from(case.number("sights")).unwrap_or(0),
     }
 }
 
-/// Does a run of a case, and those that go with it.
-fn judge_run<R: AllocGlobal + Print + Threads + Sync>(
+/// Does a run, and compares what it says to each section of the case.
+fn judge_run<R: Threads + Sync>(
     rt: &R,
+    alloc: Global,
     case: &Case<'_>,
     setting: Setting<'_>,
-) -> Result<()> {
-    let ran = run(rt, setting)?;
-    judge_status(rt, case, &ran)?;
-    judge_output(rt, case, &ran)?;
-    judge_gate(case, &ran)?;
-    judge_left(rt, case, &ran)?;
-    judge_alike(rt, case, setting, &ran)?;
-    judge_failing(rt, case, setting, &ran)
-}
-
-/// What the run left: a space, or neither space nor output.
-fn judge_left<R: AllocGlobal + Print>(rt: &R, case: &Case<'_>, ran: &Ran) -> Result<()> {
-    if !ran.space.is_empty() {
-        return judge_space(rt, case, ran);
-    }
-    ensure!(ran.output.written().is_empty(), "an output and no space");
-    Ok(())
-}
-
-/// The runs over streams that fail, where the case has some.
-fn judge_failing<R: AllocGlobal + Print + Threads + Sync>(
-    rt: &R,
-    case: &Case<'_>,
-    setting: Setting<'_>,
-    ran: &Ran,
-) -> Result<()> {
-    let Some(faults) = case.find("faults") else {
-        return Ok(());
-    };
-    let [reads, writes, tells] = judge_faults(rt, setting, ran)?;
-    let found = format!(in rt.alloc(); "{reads} {writes} {tells}")?;
-    same(rt, "faults", found.as_bytes(), faults.words)
-}
-
-/// Compares a text with the one that is wanted, and prints it where it is another.
-pub fn same(rt: &impl Print, what: &'static str, found: &[u8], wanted: &str) -> Result<()> {
-    if found == wanted.as_bytes() {
-        return Ok(());
-    }
-    println!(rt; "{what}:\n{}", str::from_utf8(found).unwrap_or("no text"))?;
-    bail!("{what} is another")
-}
-
-/// The status, and what was written to the errors.
-fn judge_status<R: AllocGlobal + Print>(rt: &R, case: &Case<'_>, ran: &Ran) -> Result<()> {
-    let code = u64::from(ran.status.code());
-    ensure!(
-        code == case.number("status")?,
-        "it ended with {:?}",
-        ran.status
-    );
-    let errors = text_of(rt.alloc(), case.lines("errors"))?;
-    same(rt, "errors", ran.errors.written(), errors.as_str())
-}
-
-/// What was printed: one of the texts that the case has, where it has some.
-fn judge_output<R: AllocGlobal + Print>(rt: &R, case: &Case<'_>, ran: &Ran) -> Result<()> {
-    let printed = ran.output.written();
-    let wholes = case.all(rt.alloc(), "output")?;
-    for whole in &wholes {
-        if printed == text_of(rt.alloc(), whole.lines)?.as_bytes() {
-            return Ok(());
+    differences: &mut String,
+) -> Result<(), AllocError> {
+    let ran = run(rt, alloc, setting)?;
+    for section in &case.sections {
+        if !is_input(section.name) {
+            judge_section(rt, alloc, case, *section, setting, &ran, differences)?;
         }
     }
-    let ends = case.all(rt.alloc(), "ends")?;
-    for end in &ends {
-        if printed.ends_with(text_of(rt.alloc(), end.lines)?.as_bytes()) {
-            return Ok(());
-        }
-    }
-    if wholes.is_empty() && ends.is_empty() {
-        return Ok(());
-    }
-    same(rt, "output", printed, "")
-}
-
-/// How often the gate was passed, and whether it gave up.
-fn judge_gate(case: &Case<'_>, ran: &Ran) -> Result<()> {
-    let passes = ran.gate.passes();
-    if case.find("gate").is_some() {
-        ensure!(
-            u64::from(passes) == case.number("gate")?,
-            "{passes} passed the gate"
-        );
-    }
-    judge_meeting(case, ran)
-}
-
-/// Whether the gate gave up, where it was to hold thread 1.
-fn judge_meeting(case: &Case<'_>, ran: &Ran) -> Result<()> {
-    let Some((_, how)) = case.words("meet").split_once(' ') else {
-        return Ok(());
-    };
-    ensure!(ran.gate.gave_up() == (how == "alone"), "it wasn't {how}");
     Ok(())
 }
 
-/// Other words print the same, and move nothing, where the case has some.
-fn judge_alike<R: AllocGlobal + Threads + Sync>(
+/// Compares what a run says to a section, and notes it where it is something else.
+fn judge_section<R: Threads + Sync>(
     rt: &R,
+    alloc: Global,
     case: &Case<'_>,
+    section: Section<'_>,
     setting: Setting<'_>,
     ran: &Ran,
-) -> Result<()> {
-    let Some(alike) = case.find("alike") else {
+    differences: &mut String,
+) -> Result<(), AllocError> {
+    let said = said(rt, alloc, section, setting, ran)?;
+    if is_wanted(alloc, case, section.name, said.as_str())? {
         return Ok(());
-    };
-    let words = words_of(rt.alloc(), alike.words, "")?;
-    let again = run(
-        rt,
-        Setting {
-            words: &words,
-            ..setting
-        },
-    )?;
-    let tally = again.space.tally();
-    ensure!(tally.moved == 0 && tally.kept == 0, "something was moved");
-    ensure!(again.output.written() == ran.output.written(), "not alike");
-    Ok(())
+    }
+    write!(differences, "{}: {} {said}", case.title, section.name)
+}
+
+/// Whether one of the sections with a name says this.
+fn is_wanted(alloc: Global, case: &Case<'_>, name: &str, said: &str) -> Result<bool, AllocError> {
+    for section in &case.sections {
+        if section.name == name && saying_of(alloc, *section)?.as_str() == said {
+            return Ok(true);
+        }
+    }
+    Ok(false)
 }

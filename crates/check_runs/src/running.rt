@@ -1,21 +1,29 @@
 //! One run, in memory.
+ghost use Rattle.std.specs.Prelude.{◌≡◌, [], IfOk};
 ghost use Rattle.lxr_layout.specs.Spaces.{AreLimits};
 
 use crate::gates::Meet;
-use anyhow::Result;
 use lxr_image::Space;
 use lxr_layout::Limits;
-use lxr_run::{Seen, Status, lxr};
+use lxr_run::{Seen, lxr};
 use lxr_text_stream::{Bytes, Kept};
 use std::alloc::{AllocError, Global};
 use std::thread::Threads;
 
+/// A stream of a run.
+#[derive(Clone, Copy)]
+pub enum Stream {
+    Input,
+    Output,
+    Errors,
+}
+
 /// Which call of each stream fails; 0 is none.
-#[derive(Clone, Copy, Debug)]
+#[derive(Clone, Copy)]
 pub struct Faults {
-    pub read: u32,
-    pub write: u32,
-    pub tell: u32,
+    read: u32,
+    write: u32,
+    tell: u32,
 }
 
 /// No stream fails.
@@ -24,6 +32,20 @@ pub const NO_FAULTS: Faults = Faults {
     write: 0,
     tell: 0,
 };
+
+impl Faults {
+    /// The same, and this call of a stream fails too.
+    pub fn with(self, stream: Stream, call: u32) -> Faults {
+        match stream {
+            Stream::Input => Faults { read: call, ..self },
+            Stream::Output => Faults {
+                write: call,
+                ..self
+            },
+            Stream::Errors => Faults { tell: call, ..self },
+        }
+    }
+}
 
 /// A run that is to be done: with its words and its input, over streams some of which may fail, past a gate that holds thread 1 for at most so
 /// many turns, and under a watch that keeps so many sights.
@@ -51,7 +73,7 @@ fn limits() -> Limits
 /// What a run left.
 #[derive(Drop)]
 pub struct Ran {
-    pub status: Status,
+    pub code: u8,
     pub output: Kept,
     pub errors: Kept,
     pub gate: Meet,
@@ -59,37 +81,29 @@ pub struct Ran {
     pub space: Space,
 }
 
-/// The words of a text, and those of another.
-pub fn words_of<'a>(
-    alloc: Global,
-    first: &'a str,
-    then: &'a str,
-) -> Result<Vec<&'a str>, AllocError> {
-    let mut words = Vec::new(alloc);
-    for text in [first, then] {
-        for word in text.split(' ') {
-            if !word.is_empty() {
-                words.push(word)?;
-            }
-        }
-    }
-    Ok(words)
+/// What stands before a run.
+fn before(alloc: Global, setting: Setting<'_>) -> Result<Ran, AllocError>
+    ensures { IfOk result (λ ran. ran.space.words ≡ []) }
+{
+    Ok(Ran {
+        code: 0,
+        output: Kept::new(alloc, &[setting.faults.write])?,
+        errors: Kept::new(alloc, &[setting.faults.tell])?,
+        watch: Seen::new(alloc, limits(), u32::from(setting.sights))?,
+        gate: Meet::new(setting.turns),
+        space: Space::empty(alloc),
+    })
 }
 
 /// Does a run.
-pub fn run<R: Threads + Sync + AllocGlobal>(rt: &R, setting: Setting<'_>) -> Result<Ran> {
-    let alloc = rt.alloc();
-    let faults = setting.faults;
-    let mut input = Bytes::new(alloc, setting.input, &[faults.read])?;
-    let mut ran = Ran {
-        status: Status::Done,
-        output: Kept::new(alloc, &[faults.write])?,
-        errors: Kept::new(alloc, &[faults.tell])?,
-        gate: Meet::new(setting.turns),
-        watch: Seen::new(alloc, limits(), u32::from(setting.sights))?,
-        space: Space::empty(alloc),
-    };
-    ran.status = lxr(
+pub fn run<R: Threads + Sync>(
+    rt: &R,
+    alloc: Global,
+    setting: Setting<'_>,
+) -> Result<Ran, AllocError> {
+    let mut input = Bytes::new(alloc, setting.input, &[setting.faults.read])?;
+    let mut ran = before(alloc, setting)?;
+    let status = lxr(
         rt,
         alloc,
         setting.words,
@@ -100,5 +114,13 @@ pub fn run<R: Threads + Sync + AllocGlobal>(rt: &R, setting: Setting<'_>) -> Res
         &mut ran.watch,
         &mut ran.space,
     );
+    ran.code = status.code();
     Ok(ran)
+}
+
+impl Ran {
+    /// Whether nothing was printed and no space is left.
+    pub fn is_refusal(&self) -> bool {
+        self.output.written().is_empty() && self.space.is_empty()
+    }
 }

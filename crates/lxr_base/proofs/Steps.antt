@@ -1,5 +1,5 @@
 -- Arithmetic that wraps twice is the generator's step.
-use Rattle.std.proofs.Common.{◌≡◌, ℕ, ◌+◌, ◌*◌, ◌%◌, ◌^◌, ◌<◌, sym, ap, ◌∙◌, lit<}
+use Rattle.std.proofs.Common.{◌≡◌, ℕ, ◌+◌, ◌*◌, ◌%◌, ◌<◌, sym, ap, ◌∙◌, lit<}
 use Rattle.std.proofs.Math.Nat.{add-mod, mod-eq_of_lt, mod-lt}
 use Rattle.lxr_base.specs.Draws.{step}
 

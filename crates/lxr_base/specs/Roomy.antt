@@ -1,5 +1,6 @@
 -- Lists with the room that was taken for them.
-use Rattle.std.specs.Prelude.{ℕ, List, [], ◌∷◌, ◌++◌}
+use Rattle.std.specs.Prelude.{ℕ, List, [], ◌∷◌, ◌++◌, drop, reverse, take}
+use Rattle.std.specs.List.{between}
 
 -- what contracts see of a list: its items, and how many it can hold without taking memory
 pub record Roomy (T : Type 0) : Type 0 where
@@ -13,3 +14,7 @@ pushed l x = record l { items = l.items ++ x ∷ [] }
 -- no items, in the same room
 abbrev pub emptied : {T : Type 0} → Roomy T → Roomy T
 emptied l = record l { items = [] }
+
+-- the items from one index to below another in the reverse of their order, in the same room
+abbrev pub turned : {T : Type 0} → Roomy T → ℕ → ℕ → Roomy T
+turned l from end = record l { items = take from l.items ++ (reverse (between from end l.items) ++ drop end l.items) }

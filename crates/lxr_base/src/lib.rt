@@ -1,11 +1,14 @@
-//! What a collector needs beside its heap: lists that say how much room they have, and numbers that only a seed determines.
+//! What a collector needs beside its heap: lists that say how much room they have, the bits of a
+//! word, and numbers that only a seed determines.
 //!
 //! Nothing here knows of objects. A list is made with its room, so that a pause takes no memory; a generator's numbers make
 //! scripts and schedules that can be had again.
 #![tactic(auto)]
 
+mod bits;
 mod draws;
 mod lists;
 
+pub use bits::take_bit;
 pub use draws::draw;
 pub use lists::Listed;

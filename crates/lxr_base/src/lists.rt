@@ -2,9 +2,9 @@
 //!
 //! A collector takes its memory before the first operation and none in a pause. So its lists are made with their
 //! room, and contracts see, beside the items, how many items a list can hold without taking memory.
-ghost use Rattle.std.specs.Prelude.{◌≡◌, ◌<◌, ◌↔◌, [], IfOk, IsTrue, MatchOption, OnErr, OnOk, length, slice_get, slice_set};
+ghost use Rattle.std.specs.Prelude.{◌≡◌, ◌<◌, ◌≤◌, ◌↔◌, [], IfOk, IsTrue, MatchOption, OnErr, OnOk, length, slice_get, slice_set};
 ghost use Rattle.std.specs.List.Sorted.{IsPermutation, IsSortedByClosure};
-ghost use Rattle.lxr_base.specs.Roomy.{emptied, pushed};
+ghost use Rattle.lxr_base.specs.Roomy.{emptied, pushed, turned};
 
 use std::alloc::{AllocError, Global};
 use std::cmp::Ordering;
@@ -135,12 +135,12 @@ impl<T> Listed<T> {
         self.items.sort_unstable_by(compare);
     }
 
-    /// Turns the order of the items around, in place.
-    pub fn reverse(&mut self)
-        ensures permutation { IsPermutation self.old.items self.new.items }
-        ensures room { self.new.room ≡ self.old.room }
+    /// Turns the order of the items from one index to below another around, in place.
+    pub fn reverse_within(&mut self, from: usize, end: usize)
+        requires { (from ≤ end) × (end ≤ length self.old.items) }
+        ensures { self.new ≡ turned self.old from end }
     {
-        self.items.reverse();
+        self.items[from..end].reverse();
     }
 
     /// Takes all items out; the room stays.

@@ -1,6 +1,5 @@
 pub mod OrderLemmas
 pub mod MappedLemmas
-pub mod ScanWordLemmas
 pub mod FillingLemmas
 pub mod PocketLemmas
 pub mod StartingLemmas

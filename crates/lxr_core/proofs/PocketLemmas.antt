@@ -13,6 +13,8 @@ use Rattle.lxr_layout.specs.declared.limits.Limits.{Limits}
 use Rattle.lxr_layout.specs.Spaces.{region_begin, regions_of}
 use Rattle.lxr_image.specs.Tables.{Tables}
 use Rattle.lxr_image.specs.Reads.{granule_of}
+use Rattle.lxr_image_search.specs.declared.Wanted.TheVariants.{ToScan}
+use Rattle.lxr_image_search.specs.Search.{IsNextWanted, NoneWanted, is_wanted}
 use Rattle.lxr_actor.proofs.Runs.{slice_get-set_other}
 use Rattle.lxr_pocket.specs.Words.{is_in_heap}
 use Rattle.lxr_trace.specs.Tracing.{TracerState}
@@ -21,7 +23,7 @@ use Rattle.lxr_core_sim_tracer.specs.Showing.{IsTracerOf}
 use Rattle.lxr_core.specs.declared.actors.AnyActor.{AnyActor}
 use Rattle.lxr_core.specs.declared.actors.AnyActor.TheVariants as any
 use Rattle.lxr_core.specs.Actors.{tracers_in}
-use Rattle.lxr_core.specs.Filling.{FillsActor, FillsPocket, FillsPockets, HaveFilled, IsNextToScan, IsToScan, MayAllFill, MayFill, NoneToScan, holding_places, in_pockets, is_to_scan, places_between, places_of, unfilled}
+use Rattle.lxr_core.specs.Filling.{FillsActor, FillsPocket, FillsPockets, HaveFilled, IsToScan, MayAllFill, MayFill, holding_places, in_pockets, places_between, places_of, unfilled}
 use Rattle.lxr_core.proofs.FillingLemmas.{between_next, between_up_to, between_more, each_place, place_at, place_once, place_stands}
 use Rattle.lxr_core.proofs.MappedLemmas.{mapped, set_itself}
 use Rattle.lxr_core.proofs.OrderLemmas.{tracers_of_both}
@@ -71,7 +73,7 @@ refused_offer d after place false has e = record { full = not_less (length d.poc
 
 -- of a space, and a tracer of it
 module _ (t : Tables) (l : Limits) (from next granule : ℕ) (d now after : TracerState) (of : IsTracerOf l d) (reached : from ≤ next) (places : now ≡ holding_places d (places_between t from next))
-    (few : length (places_between t from next) ≤ 64) (is_next : IsNextToScan t next (GRANULES_IN_BLOCK * l.blocks) granule) where
+    (few : length (places_between t from next) ≤ 64) (is_next : IsNextWanted t ToScan next (GRANULES_IN_BLOCK * l.blocks) granule) where
   items : now.pocket.items ≡ places_between t from next
   items = ap (λ (x : TracerState). x.pocket.items) places
 
@@ -109,7 +111,7 @@ module _ (t : Tables) (l : Limits) (from next granule : ℕ) (d now after : Trac
 
 -- where nothing is left the heap's end is reached
 pub fills_to_end : (t : Tables) (blocks from next : ℕ) (d now : TracerState) → from ≤ next → next ≤ GRANULES_IN_BLOCK * blocks → now ≡ holding_places d (places_between t from next) → length (places_between t from next) ≤ 64
-    → NoneToScan t next (GRANULES_IN_BLOCK * blocks) → FillsPocket t blocks from (GRANULES_IN_BLOCK * blocks) d now
+    → NoneWanted t ToScan next (GRANULES_IN_BLOCK * blocks) → FillsPocket t blocks from (GRANULES_IN_BLOCK * blocks) d now
 fills_to_end t blocks from next d now reached within places few none =
     let same = between_up_to t from next (GRANULES_IN_BLOCK * blocks) reached within none in
     record {
@@ -266,7 +268,7 @@ pockets_filled t blocks to before after is =
           let some = scan.in_heap.0 in
           let low = scan.in_heap.1 in
           let below : granule_of place.0 < 0 + (to - 0) = omega (arith, end, some, low) in
-          let told : IsTrue (is_to_scan t (granule_of place.0)) = both_told (t.grays (granule_of place.0)) (t.marks (granule_of place.0)) scan.gray scan.unmarked in
+          let told : IsTrue (is_wanted t ToScan (granule_of place.0)) = both_told (t.grays (granule_of place.0)) (t.marks (granule_of place.0)) scan.gray scan.unmarked in
           let (k, is_there) = place_stands t 0 (to - 0) (granule_of place.0) (omega arith) below told in
           let same : granule_of place.0 + 1 ≡ place.0 = omega (arith, some) in
           (k, ap (λ z. slice_get z k) places ∙ is_there ∙ ap (λ (n : ℕ). Some (record { 0 = n })) same);
@@ -283,7 +285,7 @@ pockets_filled t blocks to before after is =
     parts_told false true is = absurd (cc)
     parts_told false false is = absurd (cc)
 
-    found_at : (granule : ℕ) (place : Place) → place ≡ place_at granule → IsTrue (is_to_scan t granule) → granule < GRANULES_IN_BLOCK * blocks → IsToScan t blocks place
+    found_at : (granule : ℕ) (place : Place) → place ≡ place_at granule → IsTrue (is_wanted t ToScan granule) → granule < GRANULES_IN_BLOCK * blocks → IsToScan t blocks place
     found_at granule place same scan low =
         let number : place.0 ≡ granule + 1 = ap (λ (p : Place). p.0) same in
         let here : granule_of place.0 ≡ granule = omega (arith, number) in

@@ -1,11 +1,13 @@
 -- What tracers' pockets are filled with as an epoch opens: places of gray objects that are not marked yet.
-use Rattle.std.specs.Prelude.{◌≡◌, ℕ, zero, suc, ◌+◌, ◌-◌, ◌*◌, ◌<◌, ◌≤◌, ◌&&◌, not, Bool, false, Some, List, [], ◌∷◌, IsTrue, if◌then◌else◌, length, map, slice_get, take}
+use Rattle.std.specs.Prelude.{◌≡◌, ℕ, zero, suc, ◌+◌, ◌-◌, ◌*◌, ◌<◌, ◌≤◌, false, Some, List, [], ◌∷◌, IsTrue, if◌then◌else◌, length, map, slice_get, take}
 use Rattle.std.specs.List.{flat_map}
 use Rattle.lxr_layout.specs.declared.TheConstants.{GRANULES_IN_BLOCK}
 use Rattle.lxr_layout.specs.declared.Place.{Place}
 use Rattle.lxr_layout.specs.declared.limits.Limits.{Limits}
 use Rattle.lxr_image.specs.Tables.{Tables}
 use Rattle.lxr_image.specs.Reads.{granule_of}
+use Rattle.lxr_image_search.specs.declared.Wanted.TheVariants.{ToScan}
+use Rattle.lxr_image_search.specs.Search.{is_wanted}
 use Rattle.lxr_trace.specs.Tracing.{TracerState}
 use Rattle.lxr_core_events.specs.Counted.{IsInHeap}
 use Rattle.lxr_core_sim_tracer.specs.Showing.{IsTracerOf}
@@ -46,25 +48,10 @@ unfilled (any.Tracer d) = any.Tracer (holding_places d [])
 
 -- ---- how they are filled: granules in order, the first tracer's pocket first
 
--- a granule has a gray object that isn't marked
-abbrev pub is_to_scan : Tables → ℕ → Bool
-is_to_scan t k = t.grays k && not (t.marks k)
-
--- none from one granule up to another has
-abbrev pub NoneToScan : Tables → ℕ → ℕ → Type 0
-NoneToScan t from to = (k : ℕ) → from ≤ k → k < to → is_to_scan t k ≡ false
-
--- the first from a granule on that has
-pub record IsNextToScan (t : Tables) (from end granule : ℕ) : Type 0 where
-  pub reached : from ≤ granule
-  pub within : granule < end
-  pub is : IsTrue (is_to_scan t granule)
-  pub passed : NoneToScan t from granule
-
--- the places of the next so many granules that have, in order
+-- the places of the next so many granules that have a gray object without a mark, in order
 abbrev pub places_of : Tables → ℕ → ℕ → List Place
 places_of t from zero = []
-places_of t from (suc count) = if is_to_scan t from then record { 0 = from + 1 } ∷ places_of t (from + 1) count else places_of t (from + 1) count
+places_of t from (suc count) = if is_wanted t ToScan from then record { 0 = from + 1 } ∷ places_of t (from + 1) count else places_of t (from + 1) count
 
 abbrev pub places_between : Tables → ℕ → ℕ → List Place
 places_between t from to = places_of t from (to - from)

@@ -71,6 +71,7 @@ impl AnyActor {
     }
 }
 
+// What LLVM makes of a match of three arms asks for the last one first; most steps are mutators'.
 impl Actor for AnyActor {
     ghost use Rattle.lxr_core.specs.Actors.{any_machine};
 
@@ -79,27 +80,27 @@ impl Actor for AnyActor {
     #[inline(always)]
     fn next(&self) -> Option<Action> {
         match self {
-            AnyActor::Mutator(mutator) => mutator.next(),
-            AnyActor::Decrementer(decrementer) => decrementer.next(),
             AnyActor::Tracer(tracer) => tracer.next(),
+            AnyActor::Decrementer(decrementer) => decrementer.next(),
+            AnyActor::Mutator(mutator) => mutator.next(),
         }
     }
 
     #[inline(always)]
     fn take(&mut self, old: u64) {
         match self {
-            AnyActor::Mutator(mutator) => mutator.take(old),
-            AnyActor::Decrementer(decrementer) => decrementer.take(old),
             AnyActor::Tracer(tracer) => tracer.take(old),
+            AnyActor::Decrementer(decrementer) => decrementer.take(old),
+            AnyActor::Mutator(mutator) => mutator.take(old),
         }
     }
 
     #[inline(always)]
     fn resting(&self) -> bool {
         match self {
-            AnyActor::Mutator(mutator) => mutator.resting(),
-            AnyActor::Decrementer(decrementer) => decrementer.resting(),
             AnyActor::Tracer(tracer) => tracer.resting(),
+            AnyActor::Decrementer(decrementer) => decrementer.resting(),
+            AnyActor::Mutator(mutator) => mutator.resting(),
         }
     }
 

@@ -44,17 +44,6 @@ pub record IsNextChosen (t : Tables) (from end granule : ℕ) : Type 0 where
   pub is : IsTrue (begins_in_chosen t granule)
   pub passed : NoneBegins t from granule
 
--- no object begins from a granule on among those whose start bits are one word with its own
-abbrev pub NoneInWord : Tables → ℕ → Type 0
-NoneInWord t from = (k : ℕ) → from ≤ k → k / 64 ≡ from / 64 → t.starts k ≡ false
-
--- the first one that does begins at another
-pub record IsFirstInWord (t : Tables) (from granule : ℕ) : Type 0 where
-  pub reached : from ≤ granule
-  pub within : granule / 64 ≡ from / 64
-  pub is : IsTrue (t.starts granule)
-  pub passed : (k : ℕ) → from ≤ k → k < granule → t.starts k ≡ false
-
 -- ---- objects are moved
 
 -- the stage at which evacuation begins

@@ -8,10 +8,11 @@ ghost use Rattle.lxr_model.specs.Moments.{Moment};
 ghost use Rattle.lxr_invariant.specs.Lines.{is_chosen};
 ghost use Rattle.lxr_evac_moving.specs.Evacuation.{CanEvacuate};
 ghost use Rattle.lxr_evac_moving.specs.Stages.{granules, kept_names};
-ghost use Rattle.lxr_evac_moving.specs.Steps.{IsFirstInWord, IsNextChosen, NoneBegins, NoneInWord, last_stage};
+ghost use Rattle.lxr_evac_moving.specs.Steps.{IsNextChosen, NoneBegins, last_stage};
 
 use lxr_blocks::{BlockState, state};
 use lxr_image::Space;
+use lxr_image_search::{Wanted, next_in_word};
 use lxr_layout::GRANULES_IN_BLOCK;
 
 /// Whether a granule lies in a Chosen block.
@@ -24,20 +25,6 @@ fn is_in_chosen(space: &Space, granule: u32) -> bool
         BlockState::Chosen => true,
         _ => false,
     }
-}
-
-/// The first granule from one on at which an object begins, of those whose start bits are one word with its own.
-fn next_in_word(space: &Space, from: u32) -> Option<u32>
-    requires space { IsSpace space.now }
-    requires from { from < GRANULES_IN_BLOCK * space.now.limits.blocks }
-    ensures none { IfNone result (NoneInWord (tables_of space.now) from) }
-    ensures next { IfSome result (λ granule. IsFirstInWord (tables_of space.now) from granule) }
-{
-    let rest = space.start_word(from / 64) >> (from % 64);
-    if rest == 0 {
-        return None;
-    }
-    Some(from + rest.trailing_zeros())
 }
 
 /// The first granule from one on at which an object of a Chosen block begins. It takes one look for each block, and one for 64 granules of
@@ -53,7 +40,7 @@ pub(crate) fn next_chosen(space: &Space, from: u32) -> Option<u32>
             at = (at / GRANULES_IN_BLOCK + 1) * GRANULES_IN_BLOCK;
             continue;
         }
-        if let Some(granule) = next_in_word(space, at) {
+        if let Some(granule) = next_in_word(space, Wanted::Object, at) {
             return Some(granule);
         }
         at = (at / 64 + 1) * 64;

@@ -1,15 +1,44 @@
-//! Names put into the order of reports, in place.
+//! What has a name, put into the order of reports, in place.
 //!
-//! A pause finds names in any order and takes no memory, so the lists of its report are sorted where they stand.
-ghost use Rattle.std.specs.Prelude.{◌≡◌, ◌*◌, ◌+◌, ◌<◌, ◌^◌};
+//! A pause finds objects in any order and takes no memory, so the lists of its report are sorted where they stand. Objects are
+//! often found in the reverse of the order in which they were made, as along a list that grew at its front. A sort takes longest for
+//! such falling runs, so they are turned around first.
+ghost use Rattle.std.specs.Prelude.{◌≡◌, ◌*◌, ◌+◌, ◌<◌, ◌≤◌, ◌^◌, length, map};
 ghost use Rattle.std.specs.List.Sorted.{IsPermutation};
 ghost use Rattle.lxr_layout.specs.declared.Name.{Name};
 ghost use Rattle.lxr_graph.specs.Names.{AreInOrder, has, name_order};
 ghost use Rattle.lxr_graph.specs.Distinct.{IsDistinct};
 
-use crate::Names;
+use crate::{Count, Names};
+use lxr_base::Listed;
 use lxr_layout::Name;
 use std::cmp::Ordering;
+
+/// What is called by a name.
+pub trait Named {
+    /// What it is called.
+    ghost name_of: { Self → Name };
+
+    /// What it is called.
+    fn name(&self) -> Name
+        ensures { result ≡ name_of self.now };
+}
+
+impl Named for Name {
+    ghost name_of = { λ n. n };
+
+    fn name(&self) -> Name {
+        *self
+    }
+}
+
+impl Named for Count {
+    ghost name_of = { λ entry. entry.name };
+
+    fn name(&self) -> Name {
+        self.name
+    }
+}
 
 /// The thread and the serial of a name as one number.
 fn rank(name: Name) -> u64
@@ -20,40 +49,78 @@ fn rank(name: Name) -> u64
     u64::from(name.serial) | thread
 }
 
-/// How two names stand to each other, in one comparison.
-fn compare(left: &Name, right: &Name) -> Ordering
-    ensures { result ≡ name_order left.now right.now }
+/// How two items stand to each other, in one comparison: as their names do.
+fn compare<T: Named>(left: &T, right: &T) -> Ordering
+    ensures { result ≡ name_order (T.name_of left.now) (T.name_of right.now) }
 {
-    rank(*left).cmp(&rank(*right))
+    rank(left.name()).cmp(&rank(right.name()))
 }
 
-/// Whether the first name belongs behind the last one, as where names come from a list that was walked backwards.
-fn runs_down(names: &Names) -> bool {
-    let names = names.as_slice();
-    match (names.first(), names.last()) {
-        (Some(first), Some(last)) => compare(first, last) == Ordering::Greater,
+/// Whether the item at an index belongs behind the last one.
+fn is_above_last<T: Named>(items: &[T], at: usize) -> bool {
+    match (items.get(at), items.last()) {
+        (Some(item), Some(last)) => compare(item, last) == Ordering::Greater,
         _ => false,
     }
 }
 
-/// Turns names around that come in reverse order, which a sort would take longest for.
-fn turn_upwards(names: &mut Names)
-    ensures permutation { IsPermutation names.old.items names.new.items }
-    ensures room { names.new.room ≡ names.old.room }
+/// The end of the falling run that begins at an index: each of its items belongs behind the next one.
+fn falling_end<T: Named>(items: &[T], from: usize) -> usize
+    requires { from < length items.now }
+    ensures { (from < result) × (result ≤ length items.now) }
 {
-    if runs_down(names) {
-        names.reverse();
+    let mut end = from + 1;
+    while end < items.len() && compare(&items[end - 1], &items[end]) == Ordering::Greater {
+        end += 1;
+    }
+    end
+}
+
+/// Turns each falling run of items around.
+fn turn_runs<T: Named>(list: &mut Listed<T>)
+    ensures permutation { IsPermutation list.old.items list.new.items }
+    ensures room { list.new.room ≡ list.old.room }
+{
+    let mut from = 0;
+    while from < list.len() {
+        let end = falling_end(list.as_slice(), from);
+        list.reverse_within(from, end);
+        from = end;
     }
 }
 
-/// Puts names, each of which is there once, into their order: by thread, and those of one thread by serial. It takes
-/// no memory; n names ask for about n times the logarithm of n comparisons.
+/// Turns all items around where the first belongs behind the last, and else each falling run where the last eighth seems to fall.
+fn turn_upwards<T: Named>(list: &mut Listed<T>)
+    ensures permutation { IsPermutation list.old.items list.new.items }
+    ensures room { list.new.room ≡ list.old.room }
+{
+    let count = list.len();
+    if is_above_last(list.as_slice(), 0) {
+        list.reverse_within(0, count);
+    } else if is_above_last(list.as_slice(), count - count / 8) {
+        turn_runs(list);
+    }
+}
+
+/// Puts items, each of another name, into the order of their names: by thread, and those of one thread by serial. It takes no
+/// memory; n items ask for about n times the logarithm of n comparisons, and for about n where they come in order or in falling
+/// runs that stand in order.
+pub fn sort_by_name<T: Named>(list: &mut Listed<T>)
+    requires { IsDistinct (map T.name_of list.old.items) }
+    ensures permutation { IsPermutation list.old.items list.new.items }
+    ensures order { AreInOrder (map T.name_of list.new.items) }
+    ensures room { list.new.room ≡ list.old.room }
+{
+    turn_upwards(list);
+    list.sort_unstable_by(compare::<T>);
+}
+
+/// Puts names, each of which is there once, into their order.
 pub fn sort_names(names: &mut Names)
     requires { IsDistinct names.old.items }
     ensures sorted { AreInOrder names.new.items }
     ensures members { (n : Name) → has names.new.items n ≡ has names.old.items n }
     ensures room { names.new.room ≡ names.old.room }
 {
-    turn_upwards(names);
-    names.sort_unstable_by(compare);
+    sort_by_name(names);
 }

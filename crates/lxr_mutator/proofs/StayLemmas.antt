@@ -33,7 +33,7 @@ use Rattle.lxr_mutator.specs.declared.phases.MutatorPhase.TheVariants as phase
 use Rattle.lxr_mutator.specs.declared.phases.Stop.TheVariants as stop
 use Rattle.lxr_mutator.specs.Operating.{dest_of, indexed_fields, index_of, shape_made}
 use Rattle.lxr_mutator.specs.Mutating.{Mutating, next_name, nil, op_now, register, rests_in}
-use Rattle.lxr_mutator.specs.Steps.{accepts_in, after_in, next_in, done_with, draws_for, end_by, ended, finished, has_room, in_current, in_overflow, is_medium, placed, reaching, run_in, shape_now, shape_told, started, stored, with_register}
+use Rattle.lxr_mutator.specs.Steps.{accepts_in, after_in, done_with, draws_for, end_by, ended, finished, has_room, in_current, in_overflow, is_medium, placed, reaching, run_in, shape_now, shape_told, started, stored, with_register}
 use Rattle.lxr_mutator.specs.Mutators.{AreInHeap, IsHeld, IsIn, IsMutator, IsThrough, MayBeIn, NeedsBlock, NeedsRun}
 use Rattle.lxr_mutator.specs.Laws.{MutatorsStaySo}
 use Rattle.lxr_mutator.proofs.NowLemmas.{few_words, formed_now}

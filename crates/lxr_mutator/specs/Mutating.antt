@@ -92,6 +92,11 @@ rests_in phase.Ready = true
 rests_in phase.Finished = true
 rests_in p = false
 
+-- words of a new object are wiped
+abbrev pub wipes_in : MutatorPhase → Bool
+wipes_in (phase.Wiping place next) = true
+wipes_in p = false
+
 -- its last unit ended for want of free lines, and its `new` was since neither served nor refused
 abbrev pub IsWaiting : Mutating → Type 0
 IsWaiting m = (m.end ≡ Some ends.NoRun) × (rests_in m.phase ≡ true)

@@ -8,7 +8,7 @@ use Rattle.lxr_layout.specs.declared.limits.Limits.{Limits}
 use Rattle.lxr_layout.specs.declared.limits.Regions.{Regions}
 use Rattle.lxr_layout.specs.Objects.{word_count, line_count}
 use Rattle.lxr_layout.specs.Places.{IsPlace}
-use Rattle.lxr_layout.specs.Spaces.{region_begin, regions_of}
+use Rattle.lxr_layout.specs.Spaces.{regions_of}
 use Rattle.lxr_base.specs.Roomy.{Roomy, pushed}
 use Rattle.lxr_graph.specs.declared.Op.{Op}
 use Rattle.lxr_graph.specs.declared.Op.TheVariants as op

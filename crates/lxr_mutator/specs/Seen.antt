@@ -1,7 +1,12 @@
 -- A mutator's fields: what contracts see of them, and what holds of them.
-use Rattle.std.specs.Prelude.{◌≡◌}
+use Rattle.std.specs.Prelude.{◌≡◌, ℕ}
+use Rattle.lxr_layout.specs.declared.Shape.{Shape}
+use Rattle.lxr_layout.specs.Objects.{word_count}
 use Rattle.lxr_mutator.specs.declared.mutator.Mutator.TheInside.{Inside}
+use Rattle.lxr_mutator.specs.declared.phases.MutatorPhase.{MutatorPhase}
+use Rattle.lxr_mutator.specs.declared.phases.MutatorPhase.TheVariants as phase
 use Rattle.lxr_mutator.specs.Mutating.{Mutating, tally_of}
+use Rattle.lxr_mutator.specs.Steps.{shape_now}
 use Rattle.lxr_mutator.specs.Mutators.{IsMutator}
 
 -- what contracts see
@@ -20,7 +25,13 @@ seen m = record {
   end = m.end;
 }
 
--- the fields are those of a mutator, and its tally is that of its replies
+-- while an object of this shape is wiped, it has so many words
+abbrev pub AreWords : ℕ → Shape → MutatorPhase → Type 0
+AreWords words shape (phase.Wiping place next) = words ≡ word_count shape
+AreWords words shape p = Unit {0}
+
+-- The fields are those of a mutator. Its tally is that of its replies, and its words are those of what it wipes.
 pub record IsKept (m : Inside) : Type 0 where
   pub sound : IsMutator (seen m)
   pub tally : m.tally ≡ tally_of m.replies.items
+  pub words : AreWords m.words (shape_now (seen m)) m.phase

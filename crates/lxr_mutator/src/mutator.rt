@@ -40,6 +40,8 @@ pub struct Mutator {
     replies: Replies,
     since: u32,
     phase: MutatorPhase,
+    /// How many words the new object has, while these are wiped.
+    words: u32,
     end: Option<MutEnd>,
     tally: MutTally,
 }
@@ -86,6 +88,7 @@ impl Mutator {
             replies,
             since: 0,
             phase: MutatorPhase::Ready,
+            words: 0,
             end: None,
             tally: MutTally {
                 news: 0,
@@ -284,6 +287,7 @@ impl Mutator {
     }
 
     /// The `new` that waits is done with this reply.
+    #[tactic(auto, using(crate::proofs::NowLemmas::unwiped_between))]
     fn answer(&mut self, reply: Reply)
         requires { IsWaiting self.old }
         ensures { self.new ≡ answered self.old reply }

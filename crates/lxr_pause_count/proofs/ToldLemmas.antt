@@ -34,7 +34,10 @@ use Rattle.lxr_invariant.proofs.NameLemmas.{distinct_more, has_more, in_first, n
 use Rattle.lxr_pause_count.specs.Counting.{CanCount, CountsUnreclaimed}
 use Rattle.lxr_pause_count.specs.Entries.{count_told, entries_below, entry_at, entry_in, with_counts}
 use Rattle.lxr_pause_count.proofs.EntryLemmas.{entries_joined, entries_stay, none_below}
-use Rattle.lxr_pause_count.proofs.CountLemmas.{name_of}
+
+-- the name of an entry
+abbrev pub name_of : Count → Name
+name_of entry = entry.name
 
 module _ (s : Space) (m : Moment) (at : Name → ℕ) (can : CanCount s m at) where
   abbrev tables : Tables

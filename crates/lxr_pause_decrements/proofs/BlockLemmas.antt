@@ -7,10 +7,10 @@ use Rattle.lxr_image.specs.declared.space.Space.{Space}
 use Rattle.lxr_image.specs.Tables.{Tables}
 use Rattle.lxr_image.specs.Spaces.{Turns, tables_of}
 use Rattle.lxr_image.proofs.SpaceLemmas.{same_limits, still_space}
-use Rattle.lxr_pause_decrements.specs.declared.wanted.Wanted.TheVariants.{Handled}
+use Rattle.lxr_image_search.specs.declared.Wanted.TheVariants.{Handled}
+use Rattle.lxr_image_search.specs.Search.{NoneWanted}
 use Rattle.lxr_pause_decrements.specs.Cascade.{CascadeStage, IsHandling, Keeps, TablesStay}
 use Rattle.lxr_pause_decrements.specs.Handled.{HandledStand, IsAhead, OnlyReports, reclaimed_words}
-use Rattle.lxr_pause_decrements.specs.Wanted.{NoneWanted}
 use Rattle.lxr_pause_decrements.proofs.SpaceLemmas.{leaves_by}
 use Rattle.lxr_pause_decrements.proofs.HandlingLemmas.{same_handling}
 use Rattle.lxr_pause_decrements.proofs.HandledLemmas.{next_one}

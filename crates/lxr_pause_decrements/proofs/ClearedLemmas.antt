@@ -13,7 +13,8 @@ use Rattle.lxr_invariant.specs.Lines.{line_behind, next_line}
 use Rattle.lxr_image.proofs.SpaceLemmas.{turns_then}
 use Rattle.lxr_invariant.proofs.KeepingLemmas.{keeps_same}
 use Rattle.lxr_pause_decrements.specs.Cascade.{TablesStay}
-use Rattle.lxr_pause_decrements.specs.Handled.{HandledStand, IsNextBit, NoBit, reclaimed_from, reclaimed_words, shape_in, without_handled, without_reach}
+use Rattle.lxr_base.specs.Bits.{IsNextBit, NoBit}
+use Rattle.lxr_pause_decrements.specs.Handled.{HandledStand, reclaimed_from, reclaimed_words, shape_in, without_handled, without_reach}
 use Rattle.lxr_pause_decrements.specs.Wipe.{cleared, wiped}
 use Rattle.lxr_pause_decrements.proofs.SpaceLemmas.{tables_both}
 use Rattle.lxr_pause_decrements.proofs.HandledLemmas.{cut_in, cut_is, cut_out, cut_word, cut_zero, heap_stays, none_between, one_more}

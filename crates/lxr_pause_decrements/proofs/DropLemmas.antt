@@ -15,6 +15,8 @@ use Rattle.lxr_image.specs.declared.space.Space.{Space}
 use Rattle.lxr_image.specs.Tables.{Tables}
 use Rattle.lxr_image.specs.Spaces.{tables_of}
 use Rattle.lxr_image.specs.Reads.{granule_of}
+use Rattle.lxr_image_search.specs.declared.Wanted.TheVariants.{Dropped}
+use Rattle.lxr_image_search.specs.Search.{IsNextWanted, NoneWanted}
 use Rattle.lxr_model.specs.References.{references_from}
 use Rattle.lxr_model_counting.specs.Lowering.{IsOver}
 use Rattle.lxr_model_counting.proofs.DistinctLemmas.{tested}
@@ -22,9 +24,7 @@ use Rattle.lxr_model_counting.proofs.LoweringLemmas.{over}
 use Rattle.lxr_invariant.specs.Counting.{count_at, entries_between, waiting_at}
 use Rattle.lxr_invariant.specs.Standing.{place_of}
 use Rattle.lxr_invariant.proofs.EntryLemmas.{equal_numbers, passing_cleared, same_number}
-use Rattle.lxr_pause_decrements.specs.declared.wanted.Wanted.TheVariants.{Dropped}
 use Rattle.lxr_pause_decrements.specs.Cascade.{Cascade, CascadeStage, DroppedAt, IsAt, IsEmptied, IsFinished, Keeps, Reclaims, come_to, later, waits, without_object}
-use Rattle.lxr_pause_decrements.specs.Wanted.{IsNextWanted, NoneWanted}
 use Rattle.lxr_pause_decrements.proofs.CascadeLemmas.{BeginsAt, IsPlaced, bare, bare_uncounted, dropped, in_heap, placed, remains_still, same_parts, started}
 use Rattle.lxr_pause_decrements.proofs.SpaceLemmas.{limits_space}
 

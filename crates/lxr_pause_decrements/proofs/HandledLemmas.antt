@@ -2,10 +2,9 @@
 use Rattle.std.proofs.Common.{◌≡◌, ◌≢◌, ℕ, zero, suc, ◌+◌, ◌-◌, ◌*◌, ◌/◌, ◌%◌, ◌^◌, ◌<◌, ◌≤◌, refl, sym, ap, subst, ◌∙◌, inl, inr, ◌⊎◌, arith, Bool, true, false, cond, ◌∷◌, IsTrue, length, nat_le, nat_lt, w64}
 use Rattle.std.specs.Prelude.{◌&&◌, ◌==◌, if◌then◌else◌}
 use Rattle.std.specs.Int.Bits.{bit_and}
-use Rattle.std.specs.Int.{bit_at, bit_not, trailing_zeros}
+use Rattle.std.specs.Int.{bit_at, bit_not}
 use Rattle.std.proofs.lemmas.Bool.Decides.{eqb_tells, leb_tells, nat_tests}
-use Rattle.std.proofs.lemmas.Nat.{shr-shr}
-use Rattle.std.proofs.lemmas.Nat.Bits.{bit_at-lt, bit_at-trailing_zeros, bit_at-zero, bit_at_above, bit_at_and, bit_at_not}
+use Rattle.std.proofs.lemmas.Nat.Bits.{bit_at-lt, bit_at-zero, bit_at_and, bit_at_not}
 use Rattle.lxr_layout.specs.declared.TheConstants.{GRANULES_IN_BLOCK}
 use Rattle.lxr_layout.specs.declared.Name.{Name}
 use Rattle.lxr_layout.specs.declared.Place.{Place}
@@ -23,38 +22,11 @@ use Rattle.lxr_invariant.proofs.EntryLemmas.{changed_here, changed_other, passin
 use Rattle.lxr_pause_decrements.specs.Cascade.{CascadeStage, Handling, IsHeader, later, with_lists}
 use Rattle.lxr_invariant.specs.Lines.{line_behind, next_line}
 use Rattle.lxr_pause_decrements.specs.Wipe.{cleared, wiped}
-use Rattle.lxr_pause_decrements.specs.Handled.{IsAhead, IsNextBit, NoBit, OnlyReports, reclaimed_from, reclaimed_words, shape_in, without_handled}
+use Rattle.lxr_base.specs.Bits.{IsNextBit, NoBit}
+use Rattle.lxr_pause_decrements.specs.Handled.{IsAhead, OnlyReports, reclaimed_from, reclaimed_words, shape_in, without_handled}
 use Rattle.lxr_pause_decrements.proofs.CascadeLemmas.{placed, started}
 use Rattle.lxr_pause_decrements.proofs.HandlingLemmas.{handled, without_done}
 use Rattle.lxr_pause_decrements.proofs.WipeLemmas.{range_cases}
-
--- ---- bits of a word, from one on
-
-rest_at : (word from i : ℕ) → bit_at (word / 2 ^ from) i ≡ bit_at word (from + i)
-rest_at word from i = ap (λ x. x % 2) (shr-shr word from i)
-
-pub no_bit : (word from : ℕ) → word / 2 ^ from ≡ 0 → NoBit word from 64
-no_bit word from none k above below =
-    let place : from + (k - from) ≡ k = omega (arith, above) in
-    ap (bit_at word) (sym place) ∙ sym (rest_at word from (k - from)) ∙ ap (λ x. bit_at x (k - from)) none ∙ bit_at-zero (k - from)
-
-pub next_set : (word from : ℕ) → word < 2 ^ 64 → word / 2 ^ from ≢ 0 → IsNextBit word from (from + trailing_zeros w64 (word / 2 ^ from))
-next_set word from fits some =
-    let low : ℕ = word / 2 ^ from in
-    let first : ℕ = trailing_zeros w64 low in
-    let lowest = bit_at-trailing_zeros w64 low (omega arith) (omega arith) in
-    let set : bit_at word (from + first) ≡ 1 = sym (rest_at word from first) ∙ lowest.1 in
-    record {
-      reached = omega arith;
-      within = elim (leb_tells 64 (from + first)) [
-        | inl c ↦ let none = bit_at_above word 64 (from + first) fits c.1 in absurd (omega (arith, none, set))
-        | inr c ↦ c.1
-      ];
-      set = set;
-      passed = λ k above below.
-          let there : from + (k - from) ≡ k = omega (arith, above) in
-          ap (bit_at word) (sym there) ∙ sym (rest_at word from (k - from)) ∙ lowest.2 (k - from) (omega (arith, above, below));
-    }
 
 -- ---- granule after granule
 

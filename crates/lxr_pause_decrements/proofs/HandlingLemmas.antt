@@ -15,6 +15,8 @@ use Rattle.lxr_image.specs.declared.space.Space.{Space}
 use Rattle.lxr_image.specs.Tables.{Tables, changed}
 use Rattle.lxr_image.specs.Spaces.{tables_of}
 use Rattle.lxr_image.specs.Reads.{granule_of}
+use Rattle.lxr_image_search.specs.declared.Wanted.TheVariants.{Handled}
+use Rattle.lxr_image_search.specs.Search.{NoneWanted}
 use Rattle.lxr_model.specs.Moments.{Moment}
 use Rattle.lxr_model.specs.References.{references}
 use Rattle.lxr_model.proofs.ReachableLemmas.{dead_parts}
@@ -22,9 +24,7 @@ use Rattle.lxr_model_counting.proofs.DistinctLemmas.{tested}
 use Rattle.lxr_invariant.specs.Counting.{count_at, is_done, undone, waiting_at}
 use Rattle.lxr_invariant.proofs.EntryLemmas.{changed_here, changed_other, passing_few}
 use Rattle.lxr_invariant.proofs.FrameLemmas.{none_undone}
-use Rattle.lxr_pause_decrements.specs.declared.wanted.Wanted.TheVariants.{Handled}
 use Rattle.lxr_pause_decrements.specs.Cascade.{Cascade, CascadeStage, Handling, IsHandling, IsOpening, Remains, come_to, kept, later, without_object}
-use Rattle.lxr_pause_decrements.specs.Wanted.{NoneWanted}
 use Rattle.lxr_pause_decrements.proofs.CascadeLemmas.{bare, bare_uncounted, count_stays, granules_differ, in_heap, remains_fall, remains_still, started, written_other}
 use Rattle.lxr_pause_decrements.proofs.GrayLemmas.{BeginsAlone, grays_handled, handled_on}
 

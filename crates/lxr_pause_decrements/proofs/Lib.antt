@@ -1,7 +1,6 @@
 pub mod WipeLemmas
 pub mod LeftLemmas
 pub mod GrayLemmas
-pub mod WantedLemmas
 pub mod CascadeLemmas
 pub mod SpaceLemmas
 pub mod HandlingLemmas

@@ -1,6 +1,5 @@
 -- Reclaiming what decrementers have handled, 64 granules after 64.
 use Rattle.std.specs.Prelude.{◌≡◌, ℕ, zero, suc, ◌+◌, ◌*◌, ◌/◌, ◌%◌, ◌^◌, ◌<◌, ◌≤◌, false, List, IsTrue, if◌then◌else◌}
-use Rattle.std.specs.Int.{bit_at}
 use Rattle.lxr_layout.specs.declared.Name.{Name}
 use Rattle.lxr_layout.specs.declared.Shape.{Shape}
 use Rattle.lxr_layout.specs.declared.TheConstants.{GRANULES_IN_BLOCK}
@@ -11,17 +10,6 @@ use Rattle.lxr_image.specs.Spaces.{IsSpace, tables_of}
 use Rattle.lxr_invariant.specs.Lines.{line_behind, next_line}
 use Rattle.lxr_pause_decrements.specs.Cascade.{CascadeStage, Handling, IsHeader, later, with_lists}
 use Rattle.lxr_pause_decrements.specs.Wipe.{cleared, wiped}
-
--- no bit of a word is set from one on and below another
-abbrev pub NoBit : ℕ → ℕ → ℕ → Type 0
-NoBit word from end = (k : ℕ) → from ≤ k → k < end → bit_at word k ≡ 0
-
--- the first bit of a word, from one on, that is set
-pub record IsNextBit (word from bit : ℕ) : Type 0 where
-  pub reached : from ≤ bit
-  pub within : bit < 64
-  pub set : bit_at word bit ≡ 1
-  pub passed : NoBit word from bit
 
 -- the shape that a header word tells
 abbrev pub shape_in : ℕ → Shape

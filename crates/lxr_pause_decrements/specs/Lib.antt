@@ -1,5 +1,4 @@
 pub mod Wipe
-pub mod Wanted
 pub mod Cascade
 pub mod Steps
 pub mod Finishing

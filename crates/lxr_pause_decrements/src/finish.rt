@@ -13,8 +13,8 @@ ghost use Rattle.lxr_pause_decrements.specs.Steps.{Drops, DropsAll, Empties, Emp
 
 use crate::handled::reclaim_all_handled;
 use crate::reclaiming::reclaim;
-use crate::wanted::{Wanted, next_wanted};
 use lxr_image::{Places, Space};
+use lxr_image_search::{Wanted, next_wanted};
 use lxr_layout::{DECREMENT_COUNT, DECREMENT_CURSOR, Header, Place, TRACING_WORD, unpack, word_of};
 use lxr_tables::Lowered;
 

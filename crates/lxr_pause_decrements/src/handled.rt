@@ -3,7 +3,7 @@
 //! What such an object referred to was lowered when it was handled, and made gray if a trace ran, so it is reported, and its bits
 //! and marks are cleared. All names of a block are reported first: so its headers are read one right after another, and none waits
 //! until the one before it has come from memory. The bits of 64 granules are cleared together.
-ghost use Rattle.std.specs.Prelude.{◌≡◌, ◌==◌, ℕ, ◌+◌, ◌*◌, ◌/◌, ◌<◌, ◌≤◌, IfNone, IfSome, false, if◌then◌else◌, length};
+ghost use Rattle.std.specs.Prelude.{◌≡◌, ◌==◌, ℕ, ◌+◌, ◌*◌, ◌/◌, ◌<◌, ◌≤◌, false, if◌then◌else◌, length};
 ghost use Rattle.lxr_layout.specs.declared.TheConstants.{GRANULES_IN_BLOCK};
 ghost use Rattle.lxr_layout.specs.declared.Name.{Name as NameOf};
 ghost use Rattle.lxr_layout.specs.declared.Shape.{Shape as ShapeOf};
@@ -11,29 +11,14 @@ ghost use Rattle.lxr_layout.specs.Objects.{word_count};
 ghost use Rattle.lxr_base.specs.Roomy.{pushed};
 ghost use Rattle.lxr_image.specs.Spaces.{IsSpace, Turns, tables_of};
 ghost use Rattle.lxr_pause_decrements.specs.Cascade.{IsHeader, Keeps, with_lists};
-ghost use Rattle.lxr_pause_decrements.specs.Handled.{HandledStand, IsNextBit, MayReport, NoBit, OnlyReports, ReportsBlock, ReportsWord, reclaimed_from, reclaimed_words, without_reach};
+ghost use Rattle.lxr_pause_decrements.specs.Handled.{HandledStand, MayReport, OnlyReports, ReportsBlock, ReportsWord, reclaimed_from, reclaimed_words, without_reach};
 ghost use Rattle.lxr_pause_decrements.specs.Steps.{MayReclaimAllHandled, ReclaimsAllHandled, ReclaimsSomeHandled};
 
 use crate::reclaiming::{clear_line_marks, clear_logs};
-use crate::wanted::{Wanted, may_want};
+use lxr_base::take_bit;
 use lxr_image::Space;
+use lxr_image_search::{Wanted, may_want};
 use lxr_layout::{Header, unpack, words_of};
-
-/// The first bit of a word, from one on, that is set.
-#[inline(always)]
-fn next_bit(word: u64, from: u32) -> Option<u32>
-    ensures none { IfNone result (NoBit word from 64) }
-    ensures next { IfSome result (λ bit. IsNextBit word from bit) }
-{
-    if from >= 64 {
-        return None;
-    }
-    let rest = word >> from;
-    if rest == 0 {
-        return None;
-    }
-    Some(from + rest.trailing_zeros())
-}
 
 /// Reports the object that begins at a granule as dead.
 #[inline(always)]
@@ -57,11 +42,9 @@ fn report_word(space: &mut Space, at: u32)
     ensures reports { ReportsWord space.old space.new at }
     ensures only { OnlyReports space.old space.new }
 {
-    let dones = space.done_word(at);
-    let mut from = 0;
-    while let Some(bit) = next_bit(dones, from) {
+    let mut rest = space.done_word(at);
+    while let Some(bit) = take_bit(&mut rest) {
         report_dead(space, 64 * at + bit);
-        from = bit + 1;
     }
 }
 
@@ -99,10 +82,9 @@ fn clear_word(space: &mut Space, at: u32)
     ensures { Turns space.old space.new (reclaimed_from (tables_of space.old) (64 * at) 64) }
 {
     let dones = space.done_word(at);
-    let mut from = 0;
-    while let Some(bit) = next_bit(dones, from) {
+    let mut rest = dones;
+    while let Some(bit) = take_bit(&mut rest) {
         clear_reach(space, 64 * at + bit);
-        from = bit + 1;
     }
     let starts = space.start_word(at);
     space.put_start_word(at, starts & !dones);

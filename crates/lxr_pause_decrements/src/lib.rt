@@ -10,7 +10,6 @@ mod finish;
 mod handled;
 mod laws;
 mod reclaiming;
-mod wanted;
 
 pub use finish::{drain, finish_decrements, lower_place, reference_slots};
 pub use laws::opened_can_finish;

@@ -7,9 +7,9 @@ use Rattle.lxr_image.specs.declared.space.Space.{Space}
 use Rattle.lxr_image.specs.Tables.{Tables}
 use Rattle.lxr_image.specs.Spaces.{IsSpace, tables_of}
 use Rattle.lxr_image.specs.Opened.{HasRoom}
+use Rattle.lxr_pause_promote.proofs.TableLemmas.{space_with}
 use Rattle.lxr_pause_increments.specs.Increments.{RaisingLeaves, RaisingLeavesTables}
 use Rattle.lxr_pause_increments.specs.Traced.{marks_with}
-use Rattle.lxr_pause_increments.proofs.TableLemmas.{space_with}
 use Rattle.lxr_pause_increments.proofs.TracedLemmas.{marks_both, marks_same}
 
 -- ---- tables

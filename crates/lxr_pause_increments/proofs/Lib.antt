@@ -1,5 +1,4 @@
 pub mod TracedLemmas
-pub mod TableLemmas
 pub mod RangeLemmas
 pub mod FrameLemmas
 pub mod MarkLemmas

@@ -37,12 +37,12 @@ use Rattle.lxr_pause_promote.specs.Copying.{StandsAt, StandsKept}
 use Rattle.lxr_pause_promote.specs.Promotion.{Promotes, with_promotion}
 use Rattle.lxr_pause_promote.proofs.CopyLemmas.{IsPromoted, is_promoted}
 use Rattle.lxr_pause_promote.proofs.EitherLemmas.{placed_here}
+use Rattle.lxr_pause_promote.proofs.TableLemmas.{stands_after}
 use Rattle.lxr_pause_increments.specs.Accounted.{GoesOn}
 use Rattle.lxr_pause_increments.specs.Increments.{HasRoomToRaise, IncrementStage, IsIncrementing, RaisingLeaves, RaisingLeavesTables, StaysRemembered, count_so_far, left}
 use Rattle.lxr_pause_increments.specs.Moving.{IsMoving}
 use Rattle.lxr_pause_increments.specs.Promotion.{RaisesAt, stuck_with, with_raised}
 use Rattle.lxr_pause_increments.specs.Steps.{IsTakenIn, KeepsCursor}
-use Rattle.lxr_pause_increments.proofs.TableLemmas.{stands_after}
 use Rattle.lxr_pause_increments.proofs.TracedLemmas.{marks_begun}
 use Rattle.lxr_pause_increments.proofs.RangeLemmas.{marked_cases}
 use Rattle.lxr_pause_increments.proofs.FrameLemmas.{leaves_both, leaves_spread}

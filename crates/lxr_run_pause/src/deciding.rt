@@ -9,7 +9,7 @@ ghost use Rattle.lxr_run_pause.specs.Deciding.{GraysLieInHeap, IsPace, TellsOfMa
 use crate::{Ask, Pace};
 use lxr_graph::Kind;
 use lxr_image::Space;
-use lxr_sweep_trace::next_wanted;
+use lxr_image_search::{Wanted, next_wanted};
 
 /// Whether nothing is left to trace: all that is gray is marked. It looks at the bits of 64 granules at once, and no further than
 /// the first that is gray and unmarked.
@@ -18,7 +18,7 @@ fn all_marked(space: &Space) -> bool
     requires heap { GraysLieInHeap space.now }
     ensures { IsTrue result ↔ AllGrayAreMarked (tables_of space.now) }
 {
-    match next_wanted(space, 0) {
+    match next_wanted(space, Wanted::ToScan, 0) {
         Some(_) => false,
         None => true,
     }

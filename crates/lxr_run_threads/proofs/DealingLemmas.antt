@@ -188,3 +188,15 @@ none_of_any d P hands dealt i h at = of_none h.passes.items (dealt.each i h at)
     of_none : (ps : List (Passing AnyActor)) → numbers_of ps ≡ [] → All P ps
     of_none [] e = λ k p within. absurd (omega arith)
     of_none (p ∷ ps) e = absurd (cc)
+
+none_behind : (hands : List Hand) (last : Hand) → ((i : ℕ) (hand : Hand) → slice_get hands i ≡ Some hand → hand.passes.items ≡ []) → last.passes.items ≡ [] → (i : ℕ) (hand : Hand)
+    → slice_get (hands ++ last ∷ []) i ≡ Some hand → hand.passes.items ≡ []
+none_behind [] last none is zero hand at = let same : last ≡ hand = cc in subst (λ (h : Hand). h.passes.items ≡ []) same is
+none_behind [] last none is (suc i) hand at = absurd (cc)
+none_behind (h ∷ hands) last none is zero hand at = none 0 hand at
+none_behind (h ∷ hands) last none is (suc i) hand at = none_behind hands last (λ j k there. none (suc j) k there) is i hand at
+
+-- one worker more without passes
+pub none_more : (hands hands' : List Hand) (last : Hand) → hands' ≡ hands ++ last ∷ [] → ((i : ℕ) (hand : Hand) → slice_get hands i ≡ Some hand → hand.passes.items ≡ []) → last.passes.items ≡ []
+    → (i : ℕ) (hand : Hand) → slice_get hands' i ≡ Some hand → hand.passes.items ≡ []
+none_more hands hands' last more none is i hand at = none_behind hands last none is i hand (ap (λ hs. slice_get hs i) (sym more) ∙ at)

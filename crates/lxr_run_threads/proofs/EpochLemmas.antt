@@ -1,13 +1,14 @@
 -- An epoch whose passes came back in order, each done: it has run.
-use Rattle.std.proofs.Common.{◌≡◌, ℕ, zero, suc, ◌+◌, true, false, List, [], ◌∷◌, ◌++◌, length, map, take, arith, refl, sym, subst, ap, ◌∙◌, All, get_or, is_some}
-use Rattle.std.specs.Prelude.{Option, Some, IsSome, ◌||◌, slice_get}
+use Rattle.std.proofs.Common.{◌≡◌, ℕ, zero, suc, ◌+◌, true, false, List, [], ◌∷◌, length, map, arith, refl, sym, subst, ap, ◌∙◌, All, get_or, is_some}
+use Rattle.std.specs.Prelude.{Option, Some, ◌||◌, slice_get}
 use Rattle.std.proofs.lemmas.Option.{slice_get-get_or}
-use Rattle.std.proofs.Math.Seq.{take-append_seam}
 use Rattle.atomic_table.specs.Seated.{TableId}
 use Rattle.lxr_actor.specs.declared.Core.{Core}
 use Rattle.lxr_actor.specs.Run.{core_of, run}
 use Rattle.lxr_barrier.proofs.ViewLemmas.{all_at}
 use Rattle.lxr_image.specs.declared.space.Space.{Space}
+use Rattle.lxr_decrement.specs.declared.phases.DecEnd.TheVariants as dec_end
+use Rattle.lxr_trace.specs.declared.phases.TraceEnd.TheVariants as trace_end
 use Rattle.lxr_decrement.specs.Decrementing.{DecrementerState}
 use Rattle.lxr_trace.specs.Tracing.{TracerState}
 use Rattle.lxr_core.specs.declared.actors.AnyActor.{AnyActor}
@@ -22,7 +23,7 @@ use Rattle.lxr_run_replay.proofs.PickLemmas.{all_finished}
 use Rattle.lxr_run_threads.specs.declared.dealing.Dealing.{Dealing}
 use Rattle.lxr_run_threads.specs.declared.dealing.Hand.{Hand}
 use Rattle.lxr_run_threads.specs.Dealing.{AreDealt, OfEach, numbers_from, numbers_of}
-use Rattle.lxr_run_threads.specs.Working.{HasServed, IsDoneOf, IsPassOf, table_of}
+use Rattle.lxr_run_threads.specs.Working.{HasHelped, HasServed, IsDoneOf, IsPassOf, table_of}
 use Rattle.lxr_run_threads.proofs.DealingLemmas.{still_dealt}
 use Rattle.lxr_run_threads.specs.Running.{HasRun}
 
@@ -82,10 +83,6 @@ given_back d count count' hands lent worked back dealt lent_is numbers back_is c
     (subst (AreDealt d (numbers_from 0 count)) (sym back_is)
     (still_dealt d (numbers_from 0 count) lent worked (subst (AreDealt d (numbers_from 0 count)) (sym lent_is) dealt) numbers))
 
--- a list that was lent whole comes back whole
-pub put_back : {X : Type 0} (n : ℕ) (xs ys : List X) → n ≡ length xs → take n (xs ++ ys) ≡ xs
-put_back n xs ys e = ap (λ (k : ℕ). take k (xs ++ ys)) e ∙ take-append_seam xs ys
-
 -- ---- actors that have served
 
 -- how many there are
@@ -107,24 +104,24 @@ none_act (any.Mutator m ∷ actors) served =
 none_act (any.Decrementer d ∷ actors) served = none_act actors (λ i a at. served (suc i) a at)
 none_act (any.Tracer d ∷ actors) served = none_act actors (λ i a at. served (suc i) a at)
 
--- each helper has an end
-decrementers_end : (actors : List AnyActor) → HaveServed actors → (i : ℕ) (d : DecrementerState) → slice_get (decrementers_in actors) i ≡ Some d → IsSome d.end
-decrementers_end [] served i d at = absurd (cc)
-decrementers_end (any.Mutator m ∷ actors) served i d at = decrementers_end actors (λ j a there. served (suc j) a there) i d at
-decrementers_end (any.Decrementer e ∷ actors) served zero d at =
+-- each helper has made a unit, and worked on what it was offered
+decrementers_helped : (actors : List AnyActor) → HaveServed actors → (i : ℕ) (d : DecrementerState) → slice_get (decrementers_in actors) i ≡ Some d → HasHelped dec_end.Nothing d.end d.pocket.items
+decrementers_helped [] served i d at = absurd (cc)
+decrementers_helped (any.Mutator m ∷ actors) served i d at = decrementers_helped actors (λ j a there. served (suc j) a there) i d at
+decrementers_helped (any.Tracer e ∷ actors) served i d at = decrementers_helped actors (λ j a there. served (suc j) a there) i d at
+decrementers_helped (any.Decrementer e ∷ actors) served zero d at =
     let same : e ≡ d = cc in
-    subst (λ (x : DecrementerState). IsSome x.end) same (served 0 (any.Decrementer e) refl)
-decrementers_end (any.Decrementer e ∷ actors) served (suc i) d at = decrementers_end actors (λ j a there. served (suc j) a there) i d at
-decrementers_end (any.Tracer e ∷ actors) served i d at = decrementers_end actors (λ j a there. served (suc j) a there) i d at
+    subst (λ (x : DecrementerState). HasHelped dec_end.Nothing x.end x.pocket.items) same (served 0 (any.Decrementer e) refl)
+decrementers_helped (any.Decrementer e ∷ actors) served (suc i) d at = decrementers_helped actors (λ j a there. served (suc j) a there) i d at
 
-tracers_end : (actors : List AnyActor) → HaveServed actors → (i : ℕ) (d : TracerState) → slice_get (tracers_in actors) i ≡ Some d → IsSome d.end
-tracers_end [] served i d at = absurd (cc)
-tracers_end (any.Mutator m ∷ actors) served i d at = tracers_end actors (λ j a there. served (suc j) a there) i d at
-tracers_end (any.Decrementer e ∷ actors) served i d at = tracers_end actors (λ j a there. served (suc j) a there) i d at
-tracers_end (any.Tracer e ∷ actors) served zero d at =
+tracers_helped : (actors : List AnyActor) → HaveServed actors → (i : ℕ) (d : TracerState) → slice_get (tracers_in actors) i ≡ Some d → HasHelped trace_end.Nothing d.end d.pocket.items
+tracers_helped [] served i d at = absurd (cc)
+tracers_helped (any.Mutator m ∷ actors) served i d at = tracers_helped actors (λ j a there. served (suc j) a there) i d at
+tracers_helped (any.Decrementer e ∷ actors) served i d at = tracers_helped actors (λ j a there. served (suc j) a there) i d at
+tracers_helped (any.Tracer e ∷ actors) served zero d at =
     let same : e ≡ d = cc in
-    subst (λ (x : TracerState). IsSome x.end) same (served 0 (any.Tracer e) refl)
-tracers_end (any.Tracer e ∷ actors) served (suc i) d at = tracers_end actors (λ j a there. served (suc j) a there) i d at
+    subst (λ (x : TracerState). HasHelped trace_end.Nothing x.end x.pocket.items) same (served 0 (any.Tracer e) refl)
+tracers_helped (any.Tracer e ∷ actors) served (suc i) d at = tracers_helped actors (λ j a there. served (suc j) a there) i d at
 
 -- an actor of passes is that of one of them
 actor_at : (passes : List (Passing AnyActor)) (i : ℕ) (a : AnyActor) → slice_get (map (λ (p : Passing AnyActor). p.actor) passes) i ≡ Some a → (p : Passing AnyActor) × (slice_get passes i ≡ Some p) × (p.actor ≡ a)
@@ -158,6 +155,7 @@ has_run space after actors actors' epoch passes can opening space_is closed =
       resting = λ i a at.
           let (p, there, is) = actor_at passes i a (ap (λ (all : List AnyActor). slice_get all i) (sym closed.whose) ∙ at) in
           subst (λ (b : AnyActor). any_machine.rests b ≡ true) is (all_at (IsDoneOf (table_of epoch)) passes i p there closed.done).0.rests;
-      ends = record { decrementers = decrementers_end actors' served; tracers = tracers_end actors' served };
+      ends = record { decrementers = λ i d at. (decrementers_helped actors' served i d at).some; tracers = λ i d at. (tracers_helped actors' served i d at).some };
+      offers = record { decrementers = λ i d at. (decrementers_helped actors' served i d at).worked; tracers = λ i d at. (tracers_helped actors' served i d at).worked };
       rest = closed.rest ∙ ap (λ (s : Space). record s { words = after.words }) space_is;
     }

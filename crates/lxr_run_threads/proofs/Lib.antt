@@ -1,3 +1,5 @@
+pub mod DrainLemmas
+pub mod HelpLemmas
 pub mod DealingLemmas
 pub mod WorkingLemmas
 pub mod RoundLemmas

@@ -1,6 +1,6 @@
 -- A turn: a mutator that isn't finished has less work before it then, and a helper has made a unit.
-use Rattle.std.proofs.Common.{◌≡◌, ℕ, ◌+◌, ◌≤◌, ◌⊎◌, inl, inr, Bool, true, false, List, [], ◌∷◌, ◌++◌, lt_trans, arith, sym, subst, ap, ◌∙◌}
-use Rattle.std.specs.Prelude.{Some, None, is_none, is_some, slice_get}
+use Rattle.std.proofs.Common.{◌≡◌, ℕ, ◌+◌, ◌≤◌, ◌⊎◌, inl, inr, Bool, true, false, List, [], ◌∷◌, ◌++◌, lt_trans, arith, refl, sym, subst, ap, ◌∙◌}
+use Rattle.std.specs.Prelude.{Option, Some, None, is_none, is_some, slice_get}
 use Rattle.std.proofs.lemmas.Option.{none-some}
 use Rattle.lxr_actor.specs.declared.Action.{Action}
 use Rattle.lxr_actor.specs.declared.Core.{Core}
@@ -16,7 +16,7 @@ use Rattle.lxr_shared_passes.specs.Passing.{DoesStep, GoesOn, Passing, Turned}
 use Rattle.lxr_run_replay.specs.Replaying.{CanBeReplayed}
 use Rattle.lxr_run_replay.specs.Working.{work}
 use Rattle.lxr_run_replay.proofs.PickLemmas.{HasWorked, acted_helper, acted_mutator, acted_tracer}
-use Rattle.lxr_run_threads.specs.Working.{goes_on, is_finished, work_of}
+use Rattle.lxr_run_threads.specs.Working.{HasServed, goes_on, is_finished, is_helper, work_of}
 
 -- ---- steps
 
@@ -91,3 +91,23 @@ less_left (any.Tracer d) b going (inr (e, is)) = subst (λ (x : AnyActor). work_
 -- a turn of an actor that wasn't finished leaves less
 pub turn_leaves : (olds : List ℕ) (p q : Passing AnyActor) → CanBeReplayed p.opening → Turned any_machine p olds q → is_finished p.actor ≡ false → work_of q.actor + one_if (goes_on q.actor) ≤ work_of p.actor
 turn_leaves olds p q can turned going = less_left p.actor q.actor going (turn_nearer olds p q can turned)
+
+-- a turn makes no helper of a mutator, and no mutator of a helper
+kind_left : (a b : AnyActor) → ((any_machine.action a ≡ None) × (b ≡ a)) ⊎ IsNearer a b → is_helper b ≡ is_helper a
+kind_left a b (inl (none, same)) = ap is_helper same
+kind_left (any.Mutator m) b (inr has) = ap is_helper has.is
+kind_left (any.Decrementer d) b (inr (e, is)) = ap is_helper is
+kind_left (any.Tracer d) b (inr (e, is)) = ap is_helper is
+
+pub turn_kind : (olds : List ℕ) (p q : Passing AnyActor) → CanBeReplayed p.opening → Turned any_machine p olds q → is_helper q.actor ≡ is_helper p.actor
+turn_kind olds p q can turned = kind_left p.actor q.actor (turn_nearer olds p q can turned)
+
+-- a mutator that doesn't go on has no next action
+none_of : {X : Type 0} (o : Option X) → is_some o ≡ false → o ≡ None
+none_of None stops = refl
+none_of (Some x) stops = absurd (cc)
+
+pub stopped_served : (a : AnyActor) → is_helper a ≡ false → goes_on a ≡ false → HasServed a
+stopped_served (any.Mutator m) is stops = none_of (any_machine.action (any.Mutator m)) stops
+stopped_served (any.Decrementer d) is stops = absurd (cc)
+stopped_served (any.Tracer d) is stops = absurd (cc)

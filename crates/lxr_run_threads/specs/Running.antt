@@ -1,8 +1,10 @@
 -- An epoch that ran on threads: what it needs and what it leaves.
-use Rattle.std.specs.Prelude.{◌≡◌, ℕ, ◌<◌, ◌≤◌, Some, List, IsSome, length, slice_get}
+use Rattle.std.specs.Prelude.{◌≡◌, ℕ, ◌<◌, ◌≤◌, Some, List, [], IsSome, length, slice_get}
 use Rattle.lxr_actor.specs.declared.Event.{Event}
 use Rattle.lxr_actor.specs.Run.{core_of, run}
 use Rattle.lxr_image.specs.declared.space.Space.{Space}
+use Rattle.lxr_decrement.specs.declared.phases.DecEnd.TheVariants as dec_end
+use Rattle.lxr_trace.specs.declared.phases.TraceEnd.TheVariants as trace_end
 use Rattle.lxr_decrement.specs.Decrementing.{DecrementerState}
 use Rattle.lxr_trace.specs.Tracing.{TracerState}
 use Rattle.lxr_core.specs.declared.actors.AnyActor.{AnyActor}
@@ -29,12 +31,18 @@ pub record HelpersHaveEnds (actors : List AnyActor) : Type 0 where
   pub decrementers : (i : ℕ) (d : DecrementerState) → slice_get (decrementers_in actors) i ≡ Some d → IsSome d.end
   pub tracers : (i : ℕ) (d : TracerState) → slice_get (tracers_in actors) i ≡ Some d → IsSome d.end
 
--- It has run: words and actors are those of one schedule. All mutators are through with the epoch, all actors rest, and each helper has
--- made a unit. Of the space only the words have changed.
+-- No helper that found nothing is left with a place in its pocket: one that took an offer isn't finished before a further unit.
+pub record OffersAreWorkedOn (actors : List AnyActor) : Type 0 where
+  pub decrementers : (i : ℕ) (d : DecrementerState) → slice_get (decrementers_in actors) i ≡ Some d → d.end ≡ Some dec_end.Nothing → d.pocket.items ≡ []
+  pub tracers : (i : ℕ) (d : TracerState) → slice_get (tracers_in actors) i ≡ Some d → d.end ≡ Some trace_end.Nothing → d.pocket.items ≡ []
+
+-- It has run: words and actors are those of one schedule. All mutators are through with the epoch, all actors rest, each helper has made a
+-- unit, and none that found nothing is left with a place in its pocket. Of the space only the words have changed.
 pub record HasRun (space after : Space) (actors actors' : List AnyActor) : Type 0 where
   pub schedule : List Event
   pub run : core_of after.words actors' ≡ run any_machine (core_of space.words actors) schedule
   pub finished : AreFinished (mutators_in actors')
   pub resting : AreResting actors'
   pub ends : HelpersHaveEnds actors'
+  pub offers : OffersAreWorkedOn actors'
   pub rest : after ≡ record space { words = after.words }

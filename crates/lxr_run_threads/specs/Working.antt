@@ -1,6 +1,9 @@
 -- What workers do with their passes.
-use Rattle.std.specs.Prelude.{◌≡◌, ℕ, Bool, true, false, None, List, IsSome, is_none, is_some}
+use Rattle.std.specs.Prelude.{◌≡◌, ◌≢◌, ℕ, Bool, true, false, Option, None, Some, List, [], IsSome, is_none, is_some}
 use Rattle.std.specs.List.{sum_by}
+use Rattle.lxr_layout.specs.declared.Place.{Place}
+use Rattle.lxr_decrement.specs.declared.phases.DecEnd.TheVariants as dec_end
+use Rattle.lxr_trace.specs.declared.phases.TraceEnd.TheVariants as trace_end
 use Rattle.lxr_core.specs.declared.actors.AnyActor.{AnyActor}
 use Rattle.lxr_core.specs.declared.actors.AnyActor.TheVariants as any
 use Rattle.lxr_core.specs.Actors.{any_machine}
@@ -30,11 +33,33 @@ is_finished (any.Mutator m) = is_none (any_machine.action (any.Mutator m))
 is_finished (any.Decrementer d) = false
 is_finished (any.Tracer d) = false
 
--- a mutator has come to its end for this epoch, and a helper has made a unit
+-- it is a decrementer or a tracer
+abbrev pub is_helper : AnyActor → Bool
+is_helper (any.Mutator m) = false
+is_helper (any.Decrementer d) = true
+is_helper (any.Tracer d) = true
+
+-- A helper has made a unit, and if the last one found nothing, there is no place in its pocket: each one that it was offered was looked at.
+pub record HasHelped {End : Type 0} (nothing : End) (end : Option End) (pocket : List Place) : Type 0 where
+  pub some : IsSome end
+  pub worked : end ≡ Some nothing → pocket ≡ []
+
+-- a unit was made, and the last one didn't find nothing
+pub record WorkedBefore {End : Type 0} (nothing : End) (end : Option End) : Type 0 where
+  pub some : IsSome end
+  pub other : end ≢ Some nothing
+
+-- a helper's last unit found work
+abbrev pub FoundWork : AnyActor → Type 0
+FoundWork (any.Mutator m) = ⊥
+FoundWork (any.Decrementer d) = WorkedBefore dec_end.Nothing d.end
+FoundWork (any.Tracer d) = WorkedBefore trace_end.Nothing d.end
+
+-- a mutator has come to its end for this epoch, and a helper has made a unit and looked at what it was offered, if it found nothing else
 abbrev pub HasServed : AnyActor → Type 0
 HasServed (any.Mutator m) = any_machine.action (any.Mutator m) ≡ None
-HasServed (any.Decrementer d) = IsSome d.end
-HasServed (any.Tracer d) = IsSome d.end
+HasServed (any.Decrementer d) = HasHelped dec_end.Nothing d.end d.pocket.items
+HasServed (any.Tracer d) = HasHelped trace_end.Nothing d.end d.pocket.items
 
 -- the work that an actor has before it in this epoch, and that of all; helpers don't count
 abbrev pub work_of : AnyActor → ℕ

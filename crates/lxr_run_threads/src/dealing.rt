@@ -8,13 +8,16 @@ ghost use Rattle.lxr_core.specs.declared.actors.AnyActor.{AnyActor};
 ghost use Rattle.lxr_run_threads.specs.Dealing.{AreDealt, OfEach, numbers_from, numbers_of, worker_of};
 ghost use Rattle.lxr_run_threads.specs.Working.{IsDoneOf, IsPassOf};
 
+use crate::helping::Hints;
+use crossbeam_utils::CachePadded;
 use lxr_shared::Pass;
 use std::alloc::{AllocError, Global};
 
-/// The passes of one worker, those with larger numbers first.
+/// The passes of one worker, those with larger numbers first, and its hinters.
 #[derive(Drop)]
 pub struct Hand {
     pub passes: Vec<Pass>,
+    pub hints: CachePadded<Hints>,
 }
 
 /// How passes are dealt: so many of the first are mutators' passes, the others are helpers', and there are so many workers.
@@ -37,30 +40,39 @@ impl Dealing {
         }
     }
 
-    /// A place for each worker's passes, with room for them, and for one more, so that no cache line has passes of two workers.
-    fn prepare(self, alloc: Global) -> Result<Vec<Hand>, AllocError>
-        requires { 0 < self.workers }
+    /// A place for each worker's passes, with room for them, and for one more, and its hinters; no cache line has what two workers
+    /// change.
+    fn prepare(self, alloc: Global, mut hints: Vec<Hints>) -> Result<Vec<Hand>, AllocError>
+        requires { (0 < self.workers) × (vec_len hints ≡ self.workers) }
         ensures { IfOk result (λ hands. AreDealt self [] hands.items) }
     {
         let room = self.mutators.div_ceil(self.workers).saturating_add(3);
         let mut hands = Vec::with_capacity(alloc, self.workers)?;
-        for _ in 0..self.workers {
+        while let Some(own) = hints.pop() {
             let passes = Vec::with_capacity(alloc, room)?;
-            hands.push_reserved(Hand { passes });
+            hands.push_reserved(Hand {
+                passes,
+                hints: CachePadded::new(own),
+            });
         }
         Ok(hands)
     }
 
-    /// Deals all passes of an epoch, which stand in order. The room of their list stays.
-    pub fn deal(self, alloc: Global, passes: &mut Vec<Pass>) -> Result<Vec<Hand>, AllocError>
-        requires workers { 0 < self.workers }
+    /// Deals all passes of an epoch, which stand in order, and the hinters of each worker. The room of the passes' list stays.
+    pub fn deal(
+        self,
+        alloc: Global,
+        passes: &mut Vec<Pass>,
+        hints: Vec<Hints>,
+    ) -> Result<Vec<Hand>, AllocError>
+        requires workers { (0 < self.workers) × (vec_len hints ≡ self.workers) }
         requires order { numbers_of passes.old.items ≡ numbers_from 0 (vec_len passes.old) }
         ensures dealt { IfOk result (λ hands. AreDealt self (numbers_from 0 (vec_len passes.old)) hands.items) }
         ensures each { IfOk result (λ hands. (table : Opened AnyActor) → All (IsPassOf table) passes.old.items → OfEach (IsPassOf table) hands.items) }
         ensures emptied { OnOk result (passes.new.items ≡ []) }
         ensures room { OnOk result (vec_capacity passes.new ≡ vec_capacity passes.old) }
     {
-        let mut hands = self.prepare(alloc)?;
+        let mut hands = self.prepare(alloc, hints)?;
         while let Some(pass) = passes.pop() {
             let worker = self.worker_of(passes.len());
             hands[worker].passes.push(pass)?;

@@ -4,15 +4,20 @@
 //! thread t's to worker (t - 1) modulo how many there are, and each worker gets one decrementer and one tracer. In one round
 //! a worker calls the gate and makes one turn for each of its mutators that isn't finished, and then one turn for each of its
 //! helpers. Every worker makes one round, and further ones until its mutators are finished.
+//!
+//! Helpers share their work by hints, which are stolen: a helper with more than one place spares one, and one that has found
+//! nothing is offered a place that another has spared. No claim rests on a hint; what is left is found by bits, in the pause.
 #![tactic(auto)]
 
 ghost use Rattle.std.specs.Prelude.{IfOk};
 ghost use Rattle.lxr_run_threads.specs.Running.{CanRun, HasRun};
 
 mod dealing;
+mod helping;
 mod workers;
 
 use crate::dealing::Dealing;
+use crate::helping::make_hints;
 use crate::workers::let_work;
 use lxr_core::AnyActor;
 use lxr_image::Space;
@@ -42,7 +47,8 @@ pub fn run_epoch<R: Threads + Sync, G: Gate>(
         mutators: count - 2 * workers,
         workers,
     };
-    let mut hands = dealing.deal(alloc, &mut passes)?;
+    let hints = make_hints(alloc, options.workers)?;
+    let mut hands = dealing.deal(alloc, &mut passes, hints)?;
     let_work(rt, epoch.table(), hands.as_mut_slice(), gate);
     dealing.gather(hands.as_mut_slice(), count, &mut passes);
     Ok(close_shared(epoch, passes))

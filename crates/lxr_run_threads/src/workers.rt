@@ -3,9 +3,10 @@ ghost use Rattle.std.specs.Prelude.{◌≡◌, ◌+◌, ◌<◌, ◌≤◌, fals
 ghost use Rattle.lxr_actor.specs.Run.{one_if};
 ghost use Rattle.lxr_run_replay.specs.Replaying.{CanBeReplayed};
 ghost use Rattle.lxr_run_threads.specs.Dealing.{numbers_of};
-ghost use Rattle.lxr_run_threads.specs.Working.{HasServed, IsDoneOf, IsPassOf, goes_on, is_finished, work_in, work_of};
+ghost use Rattle.lxr_run_threads.specs.Working.{HasServed, IsDoneOf, IsPassOf, goes_on, is_finished, is_helper, work_in, work_of};
 
 use crate::dealing::Hand;
+use crate::helping::{Hints, let_help};
 use lxr_actor::Actor;
 use lxr_core::AnyActor;
 use lxr_run_replay::{Gate, pass_gate};
@@ -35,12 +36,12 @@ pub fn let_work<R: Threads + Sync, G: Gate>(
         &|_, hand: &mut Hand|
             requires { CanBeReplayed table.now.opening × All (IsPassOf table.now) hand.old.passes.items }
             ensures { All (IsDoneOf table.entry.now) hand.new.passes.items × (numbers_of hand.new.passes.items ≡ numbers_of hand.old.passes.items) }
-        { work(table, &mut hand.passes, gate) },
+        { work(table, &mut hand.passes, &mut hand.hints, gate) },
     );
 }
 
 /// Makes rounds, until no mutator goes on.
-fn work<G: Gate>(table: &Epoch<AnyActor>, passes: &mut Vec<Pass>, gate: &G)
+fn work<G: Gate>(table: &Epoch<AnyActor>, passes: &mut Vec<Pass>, hints: &mut Hints, gate: &G)
     requires can { CanBeReplayed table.now.opening }
     requires passes { All (IsPassOf table.now) passes.old.items }
     ensures done { All (IsDoneOf table.now) passes.new.items }
@@ -48,12 +49,18 @@ fn work<G: Gate>(table: &Epoch<AnyActor>, passes: &mut Vec<Pass>, gate: &G)
 {
     let mut some_go_on = true;
     while some_go_on {
-        some_go_on = make_round(table, passes.as_mut_slice(), gate);
+        some_go_on = make_round(table, passes.as_mut_slice(), hints, gate);
     }
 }
 
 /// Gives each pass a turn, from the last to the first: mutators come first. Whether some mutator goes on.
-fn make_round<G: Gate>(table: &Epoch<AnyActor>, passes: &mut [Pass], gate: &G) -> bool
+#[inline(always)]
+fn make_round<G: Gate>(
+    table: &Epoch<AnyActor>,
+    passes: &mut [Pass],
+    hints: &mut Hints,
+    gate: &G,
+) -> bool
     requires can { CanBeReplayed table.now.opening }
     requires passes { All (IsPassOf table.now) passes.old }
     ensures passes { All (IsPassOf table.now) passes.new }
@@ -65,19 +72,43 @@ fn make_round<G: Gate>(table: &Epoch<AnyActor>, passes: &mut [Pass], gate: &G) -
     let mut left = passes.len();
     while left > 0 {
         left -= 1;
-        if take_turn(table, &mut passes[left], gate) {
+        if take_turn(table, &mut passes[left], hints, gate) {
             some_go_on = true;
         }
     }
     some_go_on
 }
 
-/// One turn of a pass, with a call of the gate before the operation of a mutator; none where its mutator is finished. Whether its
-/// mutator goes on.
+/// One turn of a pass. Whether its mutator goes on.
 #[inline(always)]
-fn take_turn<G: Gate>(table: &Epoch<AnyActor>, pass: &mut Pass, gate: &G) -> bool
+#[tactic(auto, using(crate::proofs::HelpLemmas::helpers_have_none))]
+fn take_turn<G: Gate>(table: &Epoch<AnyActor>, pass: &mut Pass, hints: &mut Hints, gate: &G) -> bool
     requires can { CanBeReplayed table.now.opening }
     requires pass { IsPassOf table.now pass.old }
+    ensures pass { IsPassOf table.now pass.new }
+    ensures number { pass.new.number ≡ pass.old.number }
+    ensures done { result ≡ false → HasServed pass.new.actor }
+    ensures nearer { work_of pass.new.actor + one_if result ≤ work_of pass.old.actor }
+{
+    match pass.actor() {
+        AnyActor::Mutator(_) => let_mutate(table, pass, gate),
+        AnyActor::Decrementer(_) => {
+            let_help(table, pass, &mut hints.decrementers);
+            false
+        }
+        AnyActor::Tracer(_) => {
+            let_help(table, pass, &mut hints.tracers);
+            false
+        }
+    }
+}
+
+/// One turn of a mutator, with a call of the gate before its operation; none where it is finished. Whether it goes on.
+#[inline(always)]
+fn let_mutate<G: Gate>(table: &Epoch<AnyActor>, pass: &mut Pass, gate: &G) -> bool
+    requires can { CanBeReplayed table.now.opening }
+    requires pass { IsPassOf table.now pass.old }
+    requires mutator { is_helper pass.old.actor ≡ false }
     ensures pass { IsPassOf table.now pass.new }
     ensures number { pass.new.number ≡ pass.old.number }
     ensures done { result ≡ false → HasServed pass.new.actor }

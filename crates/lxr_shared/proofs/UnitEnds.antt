@@ -339,7 +339,7 @@ spared_between (any.Tracer t) is = record { rests = is.rests; ended = trace_know
 -- ---- units
 
 -- after its next action an actor is as the action leaves it
-acted_actor : (words : List ℕ) (a : AnyActor) (act : Action) → any_machine.action a ≡ Some act → (stepped any_machine words a).1 ≡ any_machine.after a (slice_index words act.word)
+pub acted_actor : (words : List ℕ) (a : AnyActor) (act : Action) → any_machine.action a ≡ Some act → (stepped any_machine words a).1 ≡ any_machine.after a (slice_index words act.word)
 acted_actor words a act is = ap (λ (o : Option Action). (acted any_machine words a o).1) is
 
 -- a step of a pass that leads to rest tells how the unit ended

@@ -118,11 +118,19 @@ impl Pass {
         ensures answer { (self.new.actor, result) ≡ any_machine.offered self.old.actor place }
         ensures event { ToldOfHelper self.old.actor self.old (Give self.old.number place) self.new }
     {
+        self.offer_at(epoch.table(), place)
+    }
+
+    /// The same, at the table of its epoch.
+    pub fn offer_at(&mut self, table: &lxr_shared_passes::Epoch<AnyActor>, place: Place) -> bool
+        requires { self.old.epoch ≡ table.now.id }
+        ensures pass { IsSamePass self.old self.new }
+        ensures answer { (self.new.actor, result) ≡ any_machine.offered self.old.actor place }
+        ensures event { ToldOfHelper self.old.actor self.old (Give self.old.number place) self.new }
+    {
         match self.pass.actor() {
             AnyActor::Mutator(_) => false,
-            AnyActor::Decrementer(_) | AnyActor::Tracer(_) => {
-                self.pass.offer(&epoch.passes, place)
-            }
+            AnyActor::Decrementer(_) | AnyActor::Tracer(_) => self.pass.offer(table, place),
         }
     }
 
@@ -133,9 +141,19 @@ impl Pass {
         ensures answer { (self.new.actor, result) ≡ any_machine.spared self.old.actor }
         ensures event { ToldOfHelper self.old.actor self.old (Out self.old.number) self.new }
     {
+        self.surplus_at(epoch.table())
+    }
+
+    /// The same, at the table of its epoch.
+    pub fn surplus_at(&mut self, table: &lxr_shared_passes::Epoch<AnyActor>) -> Option<Place>
+        requires { self.old.epoch ≡ table.now.id }
+        ensures pass { IsSamePass self.old self.new }
+        ensures answer { (self.new.actor, result) ≡ any_machine.spared self.old.actor }
+        ensures event { ToldOfHelper self.old.actor self.old (Out self.old.number) self.new }
+    {
         match self.pass.actor() {
             AnyActor::Mutator(_) => None,
-            AnyActor::Decrementer(_) | AnyActor::Tracer(_) => self.pass.surplus(&epoch.passes),
+            AnyActor::Decrementer(_) | AnyActor::Tracer(_) => self.pass.surplus(table),
         }
     }
 }

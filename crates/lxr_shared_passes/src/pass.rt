@@ -65,6 +65,7 @@ impl<A: Actor> Pass<A> {
     }
 
     /// Does one unit of the actor, by no more steps than the actor's bound. A finished actor makes no step.
+    #[inline(always)]
     pub fn turn(&mut self, epoch: &Epoch<A>)
         requires { self.old.epoch ≡ epoch.now.id }
         ensures pass { IsSamePass self.old self.new }

@@ -5,7 +5,6 @@ pub mod DrawnLemmas
 pub mod MarkingLemmas
 pub mod ScanLemmas
 pub mod PassingLemmas
-pub mod WantedLemmas
 pub mod HoldsLemmas
 pub mod ClearLemmas
 pub mod NamedLemmas

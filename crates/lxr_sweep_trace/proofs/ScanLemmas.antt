@@ -11,8 +11,10 @@ use Rattle.lxr_base.specs.Roomy.{Roomy, pushed}
 use Rattle.lxr_image.specs.declared.space.Space.{Space}
 use Rattle.lxr_image.specs.Spaces.{tables_of}
 use Rattle.lxr_image.specs.Reads.{field_at, granule_of}
+use Rattle.lxr_image_search.specs.declared.Wanted.TheVariants.{ToScan}
+use Rattle.lxr_image_search.specs.Search.{IsNextWanted, NoneWanted}
 use Rattle.lxr_invariant.proofs.EntryLemmas.{passing_one_more}
-use Rattle.lxr_sweep_trace.specs.Marking.{Finds, IsDue, IsMarking, IsNextWanted, IsOver, IsScanning, IsSeen, IsWaiting, MarkingStage, NoneWanted, WaitOnce, granules, slots_at, waiting_slots}
+use Rattle.lxr_sweep_trace.specs.Marking.{Finds, IsDue, IsMarking, IsOver, IsScanning, IsSeen, IsWaiting, MarkingStage, WaitOnce, granules, slots_at, waiting_slots}
 use Rattle.lxr_sweep_trace.proofs.DrawnLemmas.{drawn_fewer, not_before, once_before}
 use Rattle.lxr_sweep_trace.proofs.LeftLemmas.{due_start, field_place, field_read, field_within, left_start, started_place}
 use Rattle.lxr_sweep_trace.proofs.MarkingLemmas.{found_stage, is_found, marks_grow, still_waits}
@@ -225,7 +227,7 @@ emptied before s w empty same is = subst (λ x. IsOver before (record s { work =
 -- ---- the gray objects
 
 -- the next gray object that is unmarked is to be found
-pub next_due : (before s : Space) (from end granule : ℕ) → IsMarking before s from → IsNextWanted (tables_of s) from end granule → IsDue (tables_of before) (granule + 1)
+pub next_due : (before s : Space) (from end granule : ℕ) → IsMarking before s from → IsNextWanted (tables_of s) ToScan from end granule → IsDue (tables_of before) (granule + 1)
 next_due before s from end granule is next =
     let here : granule_of (granule + 1) ≡ granule = omega arith in
     is.so_far.grays_due (granule + 1) (omega arith) (ap (tables_of s).grays here ∙ first ((tables_of s).grays granule) (not ((tables_of s).marks granule)) next.is)
@@ -241,7 +243,7 @@ unwanted_marked true false none h = absurd (cc)
 unwanted_marked false marked none h = absurd (cc)
 
 -- the grays below a later granule are marked
-pub ended_later : (before s : Space) (from to : ℕ) → IsMarking before s from → NoneWanted (tables_of s) from to → IsMarking before s to
+pub ended_later : (before s : Space) (from to : ℕ) → IsMarking before s from → NoneWanted (tables_of s) ToScan from to → IsMarking before s to
 ended_later before s from to is none = record {
   space = is.space;
   traceable = is.traceable;
@@ -263,7 +265,7 @@ ended_later before s from to is none = record {
 }
 
 -- so they are behind one that is found
-pub ended_behind : (before a b : Space) (from end granule : ℕ) → IsMarking before a from → IsNextWanted (tables_of a) from end granule → end ≡ granules a → Finds a b (record { 0 = granule + 1 }) → IsMarking before b (granule + 1)
+pub ended_behind : (before a b : Space) (from end granule : ℕ) → IsMarking before a from → IsNextWanted (tables_of a) ToScan from end granule → end ≡ granules a → Finds a b (record { 0 = granule + 1 }) → IsMarking before b (granule + 1)
 ended_behind before a b from end granule is next inside finds =
     let due = next_due before a from end granule is next in
     let below = next.within in

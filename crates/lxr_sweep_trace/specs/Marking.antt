@@ -1,5 +1,5 @@
 -- A trace by places: what is left to mark, and what holds while it is marked.
-use Rattle.std.specs.Prelude.{◌≡◌, ◌≢◌, ℕ, ◌+◌, ◌-◌, ◌*◌, ◌^◌, ◌<◌, ◌≤◌, ◌⊎◌, ⊤, ◌&&◌, not, Bool, true, false, Option, Some, None, List, [], ◌∷◌, IsTrue, length, slice_get, if◌then◌else◌}
+use Rattle.std.specs.Prelude.{◌≡◌, ◌≢◌, ℕ, ◌+◌, ◌-◌, ◌*◌, ◌^◌, ◌<◌, ◌≤◌, ◌⊎◌, ⊤, not, Bool, true, false, Option, Some, None, List, [], ◌∷◌, IsTrue, length, slice_get, if◌then◌else◌}
 use Rattle.std.specs.List.{Contains}
 use Rattle.lxr_layout.specs.declared.TheConstants.{GRANULES_IN_BLOCK, REMEMBERED_CURSOR}
 use Rattle.lxr_layout.specs.declared.limits.Limits.{Limits}
@@ -84,23 +84,6 @@ pub record Finds (before after : Space) (place : Place) : Type 0 where
       tables_of after ≡ record t { grays = changed t.grays (granule_of place.0) true; marks = changed t.marks (granule_of place.0) true }
   pub work : after.work ≡ (if (tables_of before).marks (granule_of place.0) then before.work else pushed before.work place)
   pub rest : after ≡ record before { words = after.words; work = after.work }
-
--- ---- the next gray object that is unmarked
-
--- the object at a granule is gray and unmarked
-abbrev pub is_wanted : Tables → ℕ → Bool
-is_wanted t k = t.grays k && not (t.marks k)
-
--- no object from a granule on and below another is gray and unmarked
-abbrev pub NoneWanted : Tables → ℕ → ℕ → Type 0
-NoneWanted t from end = (k : ℕ) → from ≤ k → k < end → is_wanted t k ≡ false
-
--- the first one from a granule on is at another, which is below the end
-pub record IsNextWanted (t : Tables) (from end granule : ℕ) : Type 0 where
-  pub reached : from ≤ granule
-  pub within : granule < end
-  pub is : IsTrue (is_wanted t granule)
-  pub passed : NoneWanted t from granule
 
 -- ---- a trace that is being finished
 

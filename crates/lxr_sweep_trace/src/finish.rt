@@ -7,8 +7,8 @@ ghost use Rattle.lxr_model.specs.Moments.{Moment};
 ghost use Rattle.lxr_sweep_trace.specs.Marking.{Empties, Finds, FindsGrays, MayEmpty, MayFindGrays, MayScan, MayScanField, Scans, ScansField, granules, slots_at, to_do};
 ghost use Rattle.lxr_sweep_trace.specs.Tracing.{CanFinishTrace, FinishesTrace};
 
-use crate::wanted::next_wanted;
 use lxr_image::Space;
+use lxr_image_search::{Wanted, next_wanted};
 use lxr_layout::{Header, Place, field_word};
 use lxr_remset::remember_chosen;
 
@@ -82,7 +82,7 @@ fn find_grays(space: &mut Space)
     ensures { FindsGrays space.old space.new }
 {
     let mut from = 0;
-    while let Some(granule) = next_wanted(space, from) {
+    while let Some(granule) = next_wanted(space, Wanted::ToScan, from) {
         find(space, Place(granule + 1));
         from = granule + 1;
     }

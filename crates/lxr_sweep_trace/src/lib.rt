@@ -8,8 +8,6 @@
 
 mod begin;
 mod finish;
-mod wanted;
 
 pub use begin::begin_trace;
 pub use finish::finish_trace;
-pub use wanted::next_wanted;

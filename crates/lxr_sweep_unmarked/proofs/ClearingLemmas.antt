@@ -1,8 +1,8 @@
 -- Taking one unmarked object out takes out its name alone: what is left keeps its bits, marks and counts.
 use Rattle.std.proofs.Common.{◌≡◌, ◌≢◌, ℕ, ◌+◌, ◌*◌, ◌^◌, ◌<◌, refl, sym, ap, subst, ◌∙◌, inl, inr, arith, true, false, List, [], ◌∷◌, ◌++◌, IsTrue, length, length-append}
-use Rattle.std.specs.Prelude.{Option, Some, map, reverse, slice_get}
+use Rattle.std.specs.Prelude.{Option, Some, map, not, reverse, slice_get}
 use Rattle.std.proofs.lemmas.List.{length-map, length-reverse, reverse-append}
-use Rattle.std.proofs.lemmas.Bool.{or_cases, or_left, or_right}
+use Rattle.std.proofs.lemmas.Bool.{and_from, and_parts, not-true, not_from_false, or_cases, or_left, or_right}
 use Rattle.std.proofs.lemmas.Bool.Decides.{leb_tells}
 use Rattle.lxr_layout.specs.declared.TheConstants.{GRANULES_IN_BLOCK}
 use Rattle.lxr_layout.specs.declared.Name.{Name}
@@ -18,6 +18,8 @@ use Rattle.lxr_image.specs.Tables.{Tables, changed}
 use Rattle.lxr_image.specs.Spaces.{tables_of}
 use Rattle.lxr_image.specs.Reads.{granule_of}
 use Rattle.lxr_image.specs.Image.{place_word}
+use Rattle.lxr_image_search.specs.declared.Wanted.TheVariants.{Unmarked}
+use Rattle.lxr_image_search.specs.Search.{IsNextWanted, NoneWanted}
 use Rattle.lxr_model.specs.Moments.{Moment}
 use Rattle.lxr_model.specs.References.{references_from}
 use Rattle.lxr_model.proofs.ReachableLemmas.{dead_parts}
@@ -39,8 +41,6 @@ use Rattle.lxr_pause_decrements.proofs.SpaceLemmas.{limits_space}
 use Rattle.lxr_pause_decrements.proofs.WipeLemmas.{loses_more, loses_none}
 use Rattle.lxr_sweep_unmarked.specs.Clearing.{ClearingStage, IsClearing, TakesOut, UnmarkedAt, cleared_too, clearing, extended, with_swept, without_any}
 use Rattle.lxr_sweep_unmarked.specs.Sweeping.{CanSweep}
-use Rattle.lxr_sweep_unmarked.specs.Unmarked.{IsNextUnmarked, NoneUnmarked}
-use Rattle.lxr_sweep_unmarked.proofs.UnmarkedLemmas.{unmarked_at, unmarked_there}
 
 -- ---- what the heap holds
 
@@ -280,7 +280,7 @@ module _ (a e : Space) (p : Place) (granule : ℕ) (st : ClearingStage) (h : Unm
 -- ---- the pass
 
 -- a pass that finds no unmarked object further on leaves none behind it
-pub found_on : (s was : Space) (m : Moment) (at : Name → ℕ) (swept : List Name) (from to : ℕ) → NoneUnmarked (tables_of s) from to → IsClearing s (clearing was m at swept from) → IsClearing s (clearing was m at swept to)
+pub found_on : (s was : Space) (m : Moment) (at : Name → ℕ) (swept : List Name) (from to : ℕ) → NoneWanted (tables_of s) Unmarked from to → IsClearing s (clearing was m at swept from) → IsClearing s (clearing was m at swept to)
 found_on s was m at swept from to nothing is = record {
   can = is.can;
   space = is.space;
@@ -300,7 +300,7 @@ found_on s was m at swept from to nothing is = record {
       | inr k ↦
           let start = is.bits.starts.each n (in_without m.unreclaimed swept n in_n (λ q. not_both (has swept n) q k)) in
           let mark = mark_before s (clearing was m at swept from) is n in_n k ∙ un in
-          not_both _ (unmarked_there (tables_of s) (granule_of (at n)) start mark) (nothing (granule_of (at n)) c.1 below)
+          not_both _ (and_from ((tables_of s).starts (granule_of (at n))) _ start (not_from_false ((tables_of s).marks (granule_of (at n))) mark)) (nothing (granule_of (at n)) c.1 below)
     ]
   ];
   once = is.once;
@@ -310,8 +310,8 @@ found_on s was m at swept from to nothing is = record {
 }
 
 -- the object that a pass finds next
-pub unmarked_next : (s was : Space) (m : Moment) (at : Name → ℕ) (swept : List Name) (from end granule : ℕ) → IsNextUnmarked (tables_of s) from end granule → IsClearing s (clearing was m at swept from)
+pub unmarked_next : (s was : Space) (m : Moment) (at : Name → ℕ) (swept : List Name) (from end granule : ℕ) → IsNextWanted (tables_of s) Unmarked from end granule → IsClearing s (clearing was m at swept from)
     → UnmarkedAt s granule (clearing was m at swept granule)
 unmarked_next s was m at swept from end granule next is =
-    let parts = unmarked_at (tables_of s) granule next.is in
-    record { stage = found_on s was m at swept from granule next.passed is; come = refl; start = parts.0; unmarked = parts.1 }
+    let parts = and_parts ((tables_of s).starts granule) (not ((tables_of s).marks granule)) next.is in
+    record { stage = found_on s was m at swept from granule next.passed is; come = refl; start = parts.0; unmarked = not-true ((tables_of s).marks granule) parts.1 }

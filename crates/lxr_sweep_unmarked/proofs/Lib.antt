@@ -1,4 +1,3 @@
-pub mod UnmarkedLemmas
 pub mod ClearingLemmas
 pub mod ReleasingLemmas
 pub mod FollowLemmas

@@ -1,4 +1,3 @@
-pub mod Unmarked
 pub mod Sweeping
 pub mod Clearing
 pub mod Releasing

@@ -9,8 +9,8 @@ ghost use Rattle.lxr_image.specs.Spaces.{IsSpace, tables_of};
 ghost use Rattle.lxr_pause_decrements.specs.Cascade.{IsHeader};
 ghost use Rattle.lxr_sweep_unmarked.specs.Clearing.{Clears, ClearsAll, MayClear, MaySweep, TakesOut};
 
-use crate::unmarked::next_unmarked;
 use lxr_image::Space;
+use lxr_image_search::{Wanted, next_wanted};
 use lxr_layout::{Header, Place, unpack, word_of};
 use lxr_pause_decrements::clear_object;
 
@@ -46,7 +46,7 @@ pub(crate) fn clear_all_unmarked(space: &mut Space)
     ensures { ClearsAll space.old space.new }
 {
     let mut from = 0;
-    while let Some(granule) = next_unmarked(space, from) {
+    while let Some(granule) = next_wanted(space, Wanted::Unmarked, from) {
         clear_unmarked(space, granule);
         from = granule + 1;
     }

@@ -9,6 +9,5 @@
 mod clearing;
 mod releasing;
 mod sweep;
-mod unmarked;
 
 pub use sweep::sweep_unmarked;

@@ -8,7 +8,7 @@ ghost use Rattle.lxr_text_print.specs.Pages.{Moves};
 ghost use Rattle.lxr_text_map.specs.Map.{CanBeMapped, object_line, objects_text};
 
 use lxr_image::Space;
-use lxr_image_starts::next_start;
+use lxr_image_search::{Wanted, next_wanted};
 use lxr_layout::{GRANULES_IN_BLOCK, Header, Name, Shape, unpack};
 use lxr_text_print::{LINE, PAGE, Page};
 use lxr_text_stream::{Sink, WriteError};
@@ -58,7 +58,7 @@ pub(crate) fn put_objects<O: Sink>(
     ensures cause { result ≡ Err WriteError.Fault → Rose (O.faults output.old) (O.faults output.new) }
 {
     let mut from = 0;
-    while let Some(granule) = next_start(space, from) {
+    while let Some(granule) = next_wanted(space, Wanted::Object, from) {
         page.make_room(output)?;
         push_granule(page, space, granule);
         from = granule + 1;

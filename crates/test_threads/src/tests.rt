@@ -1,4 +1,4 @@
-//! Every kind of step, schedules with entries that are skipped, offers, and passes in 2, 8 and 32 threads.
+//! Every kind of step, schedules with entries that are skipped, offers, hints, and passes in 2, 8 and 32 threads.
 ghost use Rattle.std.specs.Prelude.{◌≡◌, ◌<◌, length, IfOk};
 
 use crate::fitting::{
@@ -7,6 +7,7 @@ use crate::fitting::{
 use crate::repeater::Repeater;
 use crate::tickets::Tickets;
 use lxr_actor::Kindred;
+use lxr_hints::hinters;
 use lxr_layout::Place;
 use lxr_tables::{PlainWords, Words};
 use std::alloc::{AllocError, Global};
@@ -91,11 +92,37 @@ fn offers_and_surplus(rt: HostRuntime) -> Result<(), Fail> {
 }
 
 #[test]
+fn hints_are_shared(rt: HostRuntime) -> Result<(), Fail> {
+    let mut set = hinters(rt.alloc(), 3)?;
+    let (Some(mut first), Some(mut second), Some(mut fresh)) = (set.pop(), set.pop(), set.pop())
+    else {
+        panic!(rt; "a set for three workers has three hinters")
+    };
+    assert_eq!(rt;
+        (first.push(Place(5)), first.take(), first.take()),
+        (true, Some(Place(5)), None)
+    );
+    assert_eq!(rt;
+        (first.push(Place(7)), second.take(), second.take()),
+        (true, Some(Place(7)), None)
+    );
+    assert_eq!(rt;
+        (second.push(Place(9)), first.take(), first.take()),
+        (true, Some(Place(9)), None)
+    );
+    for number in 0..1025_u32 {
+        assert!(rt; fresh.push(Place(number + 1)) == (number < 1024));
+    }
+    Ok(())
+}
+
+#[test]
 fn sums_in_threads(rt: HostRuntime) -> Result<(), Fail> {
     for threads in [2, 8, 32] {
         let actors = repeaters(rt.alloc(), 32, Kindred::Add, 3, 1000)?;
         let words = words_from(rt.alloc(), 5, 1)?;
-        let (words, actors) = run_repeaters(&rt, rt.alloc(), words, actors, threads, 1000)?;
+        // Each gets two turns more than it has steps, which change nothing.
+        let (words, actors) = run_repeaters(&rt, rt.alloc(), words, actors, threads, 1002)?;
         assert!(rt; words.count() == 1 && words.get(0) == 5 + 3 * 32 * 1000);
         assert!(rt; actors.len() == 32 && actors.iter().all(|actor| actor.todo == 0));
     }
@@ -110,6 +137,7 @@ fn tickets_in_threads(rt: HostRuntime) -> Result<(), Fail> {
             actors.push(Tickets::new(rt.alloc(), 2)?)?;
         }
         let words = words_from(rt.alloc(), 0, 65)?;
+        // Each gets two turns more than it has units.
         let (words, actors) = run_tickets(&rt, rt.alloc(), words, actors, threads, 4)?;
         assert!(rt; words.count() == 65 && words.get(0) == 64);
         for k in 0..64_usize {

@@ -17,6 +17,7 @@ use lxr_layout::{LINES_IN_BLOCK, Place, Run, Shape, lines_of, words_of};
 impl Mutator {
     /// Places a new object in its spans, or draws lines for it.
     #[inline(always)]
+    #[tactic(auto, using(crate::proofs::NowLemmas::whole_words))]
     pub(super) fn place_object(&mut self, shape: Shape)
         requires phase { self.old.phase ≡ MutatorPhase.Ready }
         requires operation { length self.old.replies.items < length self.old.operations }
@@ -24,10 +25,20 @@ impl Mutator {
         requires fits { FitsShape shape }
         ensures { self.new ≡ placed self.old shape }
     {
+        self.words = words_of(shape);
         self.phase = match self.spans.try_place(shape) {
             Some(place) => MutatorPhase::Wiping { place, next: 1 },
             None => draws_for(shape),
         };
+    }
+
+    /// The number of a run was drawn: the number of runs is loaded next.
+    #[inline(always)]
+    pub(super) fn draw_run(&mut self, number: u64)
+        requires { IsBusy self.old MutatorPhase.DrawsRun }
+        ensures { self.new ≡ next_in self.old MutatorPhase.DrawsRun number }
+    {
+        self.go_on(MutatorPhase::RunNumber { number });
     }
 
     /// The number of runs was loaded: the run is taken that was drawn, or a block where there is none of this number.
@@ -68,7 +79,17 @@ impl Mutator {
         let shape = self.shape();
         self.spans.take_run(run);
         let place = place_drawn(&mut self.spans, shape);
+        self.words = words_of(shape);
         self.phase = MutatorPhase::Wiping { place, next: 1 };
+    }
+
+    /// The number of a free block was drawn: the number of free blocks is loaded next.
+    #[inline(always)]
+    pub(super) fn draw_block(&mut self, number: u64)
+        requires { IsBusy self.old MutatorPhase.DrawsBlock }
+        ensures { self.new ≡ next_in self.old MutatorPhase.DrawsBlock number }
+    {
+        self.go_on(MutatorPhase::BlockNumber { number });
     }
 
     /// The number of free blocks was loaded: the block is taken that was drawn, if there is one of this number.
@@ -110,6 +131,7 @@ impl Mutator {
         let shape = self.shape();
         self.spans.take_block(block, shape);
         let place = place_drawn(&mut self.spans, shape);
+        self.words = words_of(shape);
         self.phase = MutatorPhase::Wiping { place, next: 1 };
     }
 
@@ -119,10 +141,13 @@ impl Mutator {
         requires { IsBusy self.old (MutatorPhase.Wiping place next) }
         ensures { self.new ≡ wiped self.old place next }
     {
-        let words = words_of(self.shape());
+        let words = self.words;
         let next = next + 1;
         if next < words {
-            self.go_on(MutatorPhase::Wiping { place, next });
+            let MutatorPhase::Wiping { next: word, .. } = &mut self.phase else {
+                unreachable!()
+            };
+            *word = next;
         } else {
             self.go_on(MutatorPhase::Heading { place });
         }

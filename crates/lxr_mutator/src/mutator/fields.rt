@@ -1,10 +1,10 @@
 //! Fields: from the header of a base to a reference or a data word of it.
-ghost use Rattle.std.specs.Prelude.{◌≡◌, ◌+◌, ◌&&◌, ◌<◌, ◌≤◌, Some, None, if◌then◌else◌};
+ghost use Rattle.std.specs.Prelude.{◌≡◌, ◌+◌, ◌&&◌, ◌<◌, ◌≤◌, false, Some, None, if◌then◌else◌};
 ghost use Rattle.lxr_layout.specs.Objects.{header_of, word_count};
 ghost use Rattle.lxr_layout.specs.Places.{IsPlace, first_word};
 ghost use Rattle.lxr_barrier.specs.Storing.{Storing};
 ghost use Rattle.lxr_mutator.specs.Operating.{index_of, indexed_fields};
-ghost use Rattle.lxr_mutator.specs.Mutating.{op_now};
+ghost use Rattle.lxr_mutator.specs.Mutating.{op_now, wipes_in};
 ghost use Rattle.lxr_mutator.specs.Steps.{after_in, data_word, is_header, lies_in_heap, name_told, next_in, reaching, shape_told};
 ghost use Rattle.lxr_mutator.specs.Mutators.{IsBusy, MayBeIn};
 
@@ -57,6 +57,7 @@ impl Mutator {
         requires heap { first_word base.0 + word_count shape ≤ self.now.regions.counts }
         ensures phase { result ≡ reaching self.now base shape op }
         ensures may { MayBeIn self.now result }
+        ensures wipes { wipes_in result ≡ false }
     {
         match op {
             Op::Load { .. } => MutatorPhase::Reference { base },

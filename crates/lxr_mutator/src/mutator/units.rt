@@ -1,7 +1,8 @@
 //! Units: how an operation begins and ends, and the steps between.
-ghost use Rattle.std.specs.Prelude.{◌≡◌, ◌≢◌, ◌<◌, length};
+ghost use Rattle.std.specs.Prelude.{◌≡◌, ◌≢◌, ◌<◌, false, length};
 ghost use Rattle.lxr_graph.specs.Step.{IsWellFormed};
-ghost use Rattle.lxr_mutator.specs.Mutating.{op_now};
+ghost use Rattle.lxr_mutator.specs.Operating.{asked_reply};
+ghost use Rattle.lxr_mutator.specs.Mutating.{op_now, wipes_in};
 ghost use Rattle.lxr_mutator.specs.Steps.{after_in, based, done_with, end_by, ended, finished, next_in, started};
 ghost use Rattle.lxr_mutator.specs.Mutators.{IsBusy, IsHeld, MayBeIn};
 
@@ -17,12 +18,14 @@ use lxr_layout::{
 };
 
 impl Mutator {
-    /// Goes on to a further step of the operation.
+    /// Goes on to a further step of the operation, which wipes no word.
     #[inline(always)]
+    #[tactic(auto, using(crate::proofs::NowLemmas::unwiped))]
     pub(super) fn go_on(&mut self, phase: MutatorPhase)
         requires turn { self.old.phase ≢ MutatorPhase.Finished }
         requires operation { length self.old.replies.items < length self.old.operations }
         requires phase { MayBeIn self.old phase }
+        requires wipes { wipes_in phase ≡ false }
         ensures { self.new ≡ record self.old { phase = phase } }
     {
         self.phase = phase;
@@ -81,6 +84,46 @@ impl Mutator {
         } else {
             self.begin(self.op());
         }
+    }
+
+    /// The data word was loaded: the operation is done, and tells it.
+    #[inline(always)]
+    fn tell_datum(&mut self, word: u64)
+        requires turn { self.old.phase ≢ MutatorPhase.Finished }
+        requires operation { length self.old.replies.items < length self.old.operations }
+        ensures { self.new ≡ done_with self.old (Reply.Got word) }
+    {
+        self.reply(Reply::Got(word));
+    }
+
+    /// The data word was stored to: the operation is done.
+    #[inline(always)]
+    fn end_put(&mut self)
+        requires turn { self.old.phase ≢ MutatorPhase.Finished }
+        requires operation { length self.old.replies.items < length self.old.operations }
+        ensures { self.new ≡ done_with self.old Reply.Put }
+    {
+        self.reply(Reply::Put);
+    }
+
+    /// A pause was asked for, as the script says: the operation is done.
+    #[inline(always)]
+    fn end_asking(&mut self)
+        requires turn { self.old.phase ≢ MutatorPhase.Finished }
+        requires operation { length self.old.replies.items < length self.old.operations }
+        ensures { self.new ≡ done_with self.old (asked_reply (op_now self.old)) }
+    {
+        self.reply(asked_reply(self.op()));
+    }
+
+    /// A pause was asked for, without which the unit can't go on: it ends.
+    #[inline(always)]
+    fn give_up(&mut self, stop: Stop)
+        requires turn { self.old.phase ≢ MutatorPhase.Finished }
+        requires operation { length self.old.replies.items < length self.old.operations }
+        ensures { self.new ≡ finished self.old (end_by stop) }
+    {
+        self.stop(end_by(stop));
     }
 
     /// Begins an operation.
@@ -181,19 +224,19 @@ impl Actor for Mutator {
             MutatorPhase::Base { base } => self.reach_field(base, old),
             MutatorPhase::Reference { base } => self.keep_reference(base, old),
             MutatorPhase::Referent { place } => self.name_referent(place, old),
-            MutatorPhase::Datum { .. } => self.reply(Reply::Got(old)),
-            MutatorPhase::Putting { .. } => self.reply(Reply::Put),
+            MutatorPhase::Datum { .. } => self.tell_datum(old),
+            MutatorPhase::Putting { .. } => self.end_put(),
             MutatorPhase::Storing(_) => self.step_store(old),
-            MutatorPhase::DrawsRun => self.go_on(MutatorPhase::RunNumber { number: old }),
+            MutatorPhase::DrawsRun => self.draw_run(old),
             MutatorPhase::RunNumber { number } => self.find_run(number, old),
             MutatorPhase::Run { number } => self.fill_run(number, old),
-            MutatorPhase::DrawsBlock => self.go_on(MutatorPhase::BlockNumber { number: old }),
+            MutatorPhase::DrawsBlock => self.draw_block(old),
             MutatorPhase::BlockNumber { number } => self.find_block(number, old),
             MutatorPhase::Block { number } => self.fill_block(number, old),
             MutatorPhase::Wiping { place, next } => self.wipe_word(place, next),
             MutatorPhase::Heading { place } => self.hand_out(place),
-            MutatorPhase::Asking => self.reply(asked_reply(self.op())),
-            MutatorPhase::GivingUp(stop) => self.stop(end_by(stop)),
+            MutatorPhase::Asking => self.end_asking(),
+            MutatorPhase::GivingUp(stop) => self.give_up(stop),
         }
     }
 

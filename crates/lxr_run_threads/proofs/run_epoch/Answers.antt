@@ -6,7 +6,8 @@ use Rattle.lxr_run_replay.specs.Replaying.{CanBeReplayed}
 use Rattle.lxr_run_threads.specs.declared.dealing.Hand.{Hand}
 use Rattle.lxr_run_threads.specs.Dealing.{OfEach}
 use Rattle.lxr_run_threads.specs.Working.{IsDoneOf, IsPassOf}
-use Rattle.lxr_run_threads.proofs.EpochLemmas.{IsOpened, all_each, as_many_actors, closed_numbers, each_all, given_back, has_run, opened_many, opened_numbers, opened_of, put_back}
+use Rattle.lxr_run_threads.proofs.EpochLemmas.{IsOpened, all_each, as_many_actors, closed_numbers, each_all, given_back, has_run, opened_many, opened_numbers, opened_of}
+use Rattle.lxr_hints.proofs.Lent.{put_back}
 use Rattle.lxr_run_threads.proofs.run_epoch.Goals as goal
 
 pub overflow_sub-dealing : goal.overflow_sub-dealing

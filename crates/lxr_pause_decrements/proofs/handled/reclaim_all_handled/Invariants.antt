@@ -1,10 +1,10 @@
 use Rattle.std.proofs.Common.{◌*◌}
 use Rattle.lxr_layout.specs.declared.TheConstants.{GRANULES_IN_BLOCK}
 use Rattle.lxr_image.specs.Spaces.{tables_of}
-use Rattle.lxr_pause_decrements.specs.declared.wanted.Wanted.TheVariants.{Handled}
+use Rattle.lxr_image_search.specs.declared.Wanted.TheVariants.{Handled}
+use Rattle.lxr_image_search.specs.Search.{NoneWanted}
 use Rattle.lxr_pause_decrements.specs.Cascade.{Keeps}
 use Rattle.lxr_pause_decrements.specs.Steps.{ReclaimsSomeHandled}
-use Rattle.lxr_pause_decrements.specs.Wanted.{NoneWanted}
 use Rattle.lxr_pause_decrements.proofs.handled.reclaim_all_handled.Given as goal
 
 abbrev pub invariant-loop-block : goal.invariant-loop-block

@@ -1,16 +1,17 @@
 use Rattle.std.proofs.Common.{◌+◌, ◌*◌, ◌≤◌, arith, subst, []}
 use Rattle.lxr_layout.specs.declared.TheConstants.{GRANULES_IN_BLOCK}
 use Rattle.lxr_image.specs.Spaces.{tables_of}
+use Rattle.lxr_image_search.specs.declared.Wanted.TheVariants.{Unmarked}
+use Rattle.lxr_image_search.specs.Search.{NoneWanted}
 use Rattle.lxr_sweep_unmarked.specs.Clearing.{clearing}
-use Rattle.lxr_sweep_unmarked.specs.Unmarked.{NoneUnmarked}
 use Rattle.lxr_sweep_unmarked.proofs.ClearingLemmas.{clearing_limits, first_clearing, found_on, unmarked_next}
 use Rattle.lxr_sweep_unmarked.proofs.clearing.clear_all_unmarked.Goals as goal
 
 pub loop-granule-init : goal.loop-granule-init
 loop-granule-init c = record { stage = λ m at can. ([], first_clearing c.args.space.now m at can); within = omega arith }
 
-pub next_unmarked-requires : goal.next_unmarked-requires
-next_unmarked-requires c = record { space = (c.loop-granule.invariant.stage c.requires.0 c.requires.1 c.requires.2).1.space }
+pub next_wanted-requires : goal.next_wanted-requires
+next_wanted-requires c = record { space = (c.loop-granule.invariant.stage c.requires.0 c.requires.1 c.requires.2).1.space }
 
 pub clear_unmarked-requires : goal.clear_unmarked-requires
 clear_unmarked-requires c =
@@ -35,5 +36,5 @@ returns c = λ m at can.
     let limits = clearing_limits c.loop-granule.space (clearing c.args.space.now m at x.0 c.loop-granule.from) x.1 in (
       x.0,
       found_on c.loop-granule.space c.args.space.now m at x.0 c.loop-granule.from _
-          (subst (λ l. NoneUnmarked (tables_of c.loop-granule.space) c.loop-granule.from (GRANULES_IN_BLOCK * l.blocks)) limits c.in_default.ensures.none) x.1,
+          (subst (λ l. NoneWanted (tables_of c.loop-granule.space) Unmarked c.loop-granule.from (GRANULES_IN_BLOCK * l.blocks)) limits c.in_default.ensures.none) x.1,
     )

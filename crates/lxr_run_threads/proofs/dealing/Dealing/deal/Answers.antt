@@ -27,7 +27,7 @@ loop-pass-preserved c =
     let before = c.loop-pass.invariant in
     let last : few + 1 ≡ c.loop-pass.passes.len = c.in-Some.ensures.len in
     let whose : worker ≡ worker_of d few = c.worker_of-worker.ensures ∙ ap (worker_of d) c.len.ensures in
-    let at : slice_get hands worker ≡ Some hand = worker_at d _ hands few worker hand c.requires.workers before.dealt whose c.index_mut.ensures.value in
+    let at : slice_get hands worker ≡ Some hand = worker_at d _ hands few worker hand c.requires.workers.0 before.dealt whose c.index_mut.ensures.value in
     let (order, number) = last_number c.pop.new.self.items pass few (ap numbers_of (sym c.in-Some.ensures.items) ∙ (before.order ∙ ap (numbers_from 0) (let e : c.loop-pass.passes.len ≡ suc few = omega arith in e))) in
     let pushed : c.push.new.self.items ≡ hand.passes.items ++ pass ∷ [] = c.in_ok-push.ensures.items in
     let more : numbers_of c.push.new.self.items ≡ numbers_of hand.passes.items ++ few ∷ [] =
@@ -36,14 +36,14 @@ loop-pass-preserved c =
     record {
       order = order;
       few = let most = before.few in omega arith;
-      dealt = subst (λ ns. AreDealt d ns (slice_set hands worker (record { passes = c.push.new.self }))) (sym (numbers_at few count low))
-          (dealt_more d _ hands few worker hand (record { passes = c.push.new.self }) (subst (λ n. AreDealt d (numbers_from n (count - n)) hands) (sym last) before.dealt) at whose more);
+      dealt = subst (λ ns. AreDealt d ns (slice_set hands worker (record hand { passes = c.push.new.self }))) (sym (numbers_at few count low))
+          (dealt_more d _ hands few worker hand (record hand { passes = c.push.new.self }) (subst (λ n. AreDealt d (numbers_from n (count - n)) hands) (sym last) before.dealt) at whose more);
       room = c.pop.ensures.capacity ∙ before.room;
       each = λ epoch each.
           let (of_passes, of_hands) = before.each epoch each in
           let (rest, of_last) = All-pop (IsPassOf epoch) c.loop-pass.passes.items c.pop.new.self.items (Some pass) c.in-Some.ensures.items of_passes in (
             rest,
-            of_each_set (IsPassOf epoch) hands worker hand (record { passes = c.push.new.self }) of_hands at
+            of_each_set (IsPassOf epoch) hands worker hand (record hand { passes = c.push.new.self }) of_hands at
                 (subst (All (IsPassOf epoch)) (sym pushed) (All-push (IsPassOf epoch) hand.passes.items pass (of_hands worker hand at) of_last)),
           );
     }

@@ -28,12 +28,13 @@ loop-number-preserved c =
     let hands = c.loop-number.hands in
     let worker = c.worker_of-worker.result in
     let hand = c.index-hands-worker.result in
+    let hand' : Hand = record (slice_index_or hands worker hand) { passes = c.pop.new.self } in
     let pass = c.in-Some.pass in
     let before = c.loop-number.invariant in
     let at : slice_get hands worker ≡ Some hand = worker_at d _ hands number worker hand c.requires.workers before.dealt c.worker_of-worker.ensures c.index-hands-worker.is in
     let next = subst (λ ns. AreDealt d ns hands) (numbers_at number c.args.count c.loop-number-test.true) before.dealt in
     let popped : hand.passes.items ≡ c.pop.new.self.items ++ pass ∷ [] = ap (λ (h : Hand). h.passes.items) c.index-hands-worker.is ∙ c.in-Some.ensures.items in
-    let t = taken d _ hands number worker hand (record { passes = c.pop.new.self }) pass next at c.worker_of-worker.ensures popped in
+    let t = taken d _ hands number worker hand (hand') pass next at c.worker_of-worker.ensures popped in
     record {
       dealt = t.dealt;
       order = ap (λ ps. numbers_of ps) c.push_reserved.ensures.items ∙ next_number c.loop-number.passes.items pass number before.order t.number_is;
@@ -43,7 +44,7 @@ loop-number-preserved c =
           let (of_hands, of_passes) = before.each epoch of_each in
           let of_hand = of_hands worker hand at in
           let (rest, last) = All-pop (IsDoneOf epoch) hand.passes.items c.pop.new.self.items (Some pass) popped of_hand in (
-            of_each_set (IsDoneOf epoch) hands worker hand (record { passes = c.pop.new.self }) of_hands at rest,
+            of_each_set (IsDoneOf epoch) hands worker hand (hand') of_hands at rest,
             subst (All (IsDoneOf epoch)) (sym c.push_reserved.ensures.items) (All-push (IsDoneOf epoch) c.loop-number.passes.items pass of_passes last),
           );
     }

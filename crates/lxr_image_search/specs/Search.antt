@@ -1,0 +1,24 @@
+-- What a pass over the heap looks for, and where it stands next.
+use Rattle.std.specs.Prelude.{◌≡◌, ℕ, ◌<◌, ◌≤◌, ◌==◌, ◌&&◌, not, Bool, false, IsTrue}
+use Rattle.lxr_image.specs.Tables.{Tables}
+use Rattle.lxr_image_search.specs.declared.Wanted.{Wanted}
+use Rattle.lxr_image_search.specs.declared.Wanted.TheVariants.{Dropped, Handled, Object, ToScan, Unmarked}
+
+-- a granule has it
+abbrev pub is_wanted : Tables → Wanted → ℕ → Bool
+is_wanted t Object k = t.starts k
+is_wanted t Unmarked k = t.starts k && not (t.marks k)
+is_wanted t ToScan k = t.grays k && not (t.marks k)
+is_wanted t Handled k = t.dones k
+is_wanted t Dropped k = t.starts k && t.counts k == 0
+
+-- no granule from one on and below another has it
+abbrev pub NoneWanted : Tables → Wanted → ℕ → ℕ → Type 0
+NoneWanted t wanted from end = (k : ℕ) → from ≤ k → k < end → is_wanted t wanted k ≡ false
+
+-- the first from a granule on that has it is another, which is below the end
+pub record IsNextWanted (t : Tables) (wanted : Wanted) (from end granule : ℕ) : Type 0 where
+  pub reached : from ≤ granule
+  pub within : granule < end
+  pub is : IsTrue (is_wanted t wanted granule)
+  pub passed : NoneWanted t wanted from granule
