@@ -1,7 +1,7 @@
 //! What whole runs cost: how long a pause takes, by what there is to do at it; what evacuation takes, and what it gives; and how many
 //! operations a second a run does.
 //!
-//! Each word names what is timed: `pauses`, `evacuation` or `rates`. With no word the program does short runs of all and prints what they
+//! Each word names what is timed: `pauses`, of these `references` alone, `evacuation` or `rates`. With no word the program does short runs of all and prints what they
 //! found, which is always the same.
 #![tactic(auto)]
 
@@ -18,9 +18,10 @@ use std::thread::Threads;
 fn time<R: AllocGlobal + Clock + Print + Threads + Sync>(rt: &R, word: &str) -> Result<()> {
     match word {
         "pauses" => pauses::time_all(rt),
+        "references" => pauses::time_broad(rt),
         "evacuation" => evacuation::time_all(rt),
         "rates" => rates::time_all(rt),
-        _ => bail!("the words are pauses, evacuation and rates"),
+        _ => bail!("the words are pauses, references, evacuation and rates"),
     }
 }
 

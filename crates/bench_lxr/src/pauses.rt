@@ -3,13 +3,16 @@
 //! A run does work on a list of objects that the world holds, and pauses after each piece of work. Timing it prints the microseconds of
 //! each pause, the least of several runs, and how many lines were taken before it and after it: for lists of several lengths and heaps of
 //! several sizes; for larger objects, and for a nursery of which every third object is in use; for a list that dies before decrementers had
-//! time to work and after they had; for one that is traced before and after tracers had; and for a ring that is swept. Short runs tell what
-//! their pauses found, which is always the same.
+//! time to work and after they had; for one that is traced before and after tracers had; for both by how many references an object has; and for a
+//! ring that is swept. Short runs tell what their pauses found, which is always the same.
 
+mod broad;
 mod work;
 
 use anyhow::Result;
 use bench_runs::{Pause, best_of, pauses_of};
+use broad::tell_broad;
+pub(crate) use broad::time_broad;
 use std::rt::Clock;
 use std::thread::Threads;
 use work::{Work, script_of};
@@ -83,19 +86,24 @@ const AT_SECOND: &str = "2";
 
 const NEVER: &str = "1000000";
 
-/// A run: so many blocks, when traces begin, and a list of so many objects on which this work is done.
+/// How many workers a run has, and so how many decrementers and tracers.
+const WORKERS: &str = "2";
+
+/// A run: so many blocks and workers, when traces begin, and a list of so many objects on which this work is done.
 #[derive(Clone, Copy)]
-struct Run {
+struct Run<'a> {
     blocks: &'static str,
+    workers: &'static str,
     trace: &'static str,
     objects: u32,
-    works: &'static [Work],
+    works: &'a [Work],
 }
 
 /// A run without a trace.
-fn counted(blocks: &'static str, objects: u32, works: &'static [Work]) -> Run {
+fn counted(blocks: &'static str, objects: u32, works: &'static [Work]) -> Run<'static> {
     Run {
         blocks,
+        workers: WORKERS,
         trace: NEVER,
         objects,
         works,
@@ -103,9 +111,10 @@ fn counted(blocks: &'static str, objects: u32, works: &'static [Work]) -> Run {
 }
 
 /// A run whose second pause begins a trace, and whose third one ends it.
-fn traced(blocks: &'static str, objects: u32, works: &'static [Work]) -> Run {
+fn traced(blocks: &'static str, objects: u32, works: &'static [Work]) -> Run<'static> {
     Run {
         blocks,
+        workers: WORKERS,
         trace: AT_SECOND,
         objects,
         works,
@@ -123,22 +132,12 @@ pub(crate) fn tell_all<R: AllocGlobal + Clock + Print + Threads + Sync>(rt: &R) 
     ] {
         tell(rt, run)?;
     }
-    Ok(())
+    tell_broad(rt)
 }
 
 /// Times all runs, and prints a table with a line for each pause.
 pub(crate) fn time_all<R: AllocGlobal + Clock + Print + Threads + Sync>(rt: &R) -> Result<()> {
-    println!(rt;
-        "{:<8} {:>6} {:>8} {:>14} {:>12} {:>11} {:>16} {:>16}",
-        "work",
-        "blocks",
-        "objects",
-        "microseconds",
-        "lines before",
-        "lines after",
-        "nanoseconds each",
-        "thread's steps"
-    )?;
+    print_head(rt)?;
     for run in [
         counted("1", 0, &IDLE),
         counted("64", 0, &IDLE),
@@ -172,11 +171,33 @@ pub(crate) fn time_all<R: AllocGlobal + Clock + Print + Threads + Sync>(rt: &R) 
     ] {
         time(rt, run)?;
     }
+    time_broad(rt)
+}
+
+/// Prints what the columns are.
+fn print_head(rt: &impl Print) -> Result<()> {
+    println!(rt;
+        "{:<8} {:>10} {:>6} {:>8} {:>14} {:>12} {:>11} {:>16} {:>16}",
+        "work",
+        "references",
+        "blocks",
+        "objects",
+        "microseconds",
+        "lines before",
+        "lines after",
+        "nanoseconds each",
+        "thread's steps"
+    )?;
     Ok(())
 }
 
+/// How many references an object has of the list on which this work is done.
+fn references_of(works: &[Work]) -> u32 {
+    works.first().map_or(1, |made| made.references())
+}
+
 /// Does a run several times, and prints the least time of each of its pauses.
-fn time<R: AllocGlobal + Clock + Print + Threads + Sync>(rt: &R, run: Run) -> Result<()> {
+fn time<R: AllocGlobal + Clock + Print + Threads + Sync>(rt: &R, run: Run<'_>) -> Result<()> {
     let script = script_of(rt.alloc(), run.works, run.objects)?;
     let best = best_of(rt, &words_of(run), script.as_str(), run.works.len(), ROUNDS)?;
     for (work, pause) in run.works.iter().zip(&best) {
@@ -186,13 +207,14 @@ fn time<R: AllocGlobal + Clock + Print + Threads + Sync>(rt: &R, run: Run) -> Re
 }
 
 /// Prints how long a pause took, and how long that is for each unit of its work, where it has units.
-fn print_time(rt: &impl Print, run: Run, work: Work, pause: Pause) -> Result<()> {
+fn print_time(rt: &impl Print, run: Run<'_>, work: Work, pause: Pause) -> Result<()> {
     let name = work.name();
     let nanos = pause.nanos;
     let micros = nanos / 1000;
     let tenths = nanos % 1000 / 100;
+    let references = references_of(run.works);
     print!(rt;
-        "{name:<8} {:>6} {:>8} {micros:>12}.{tenths} {:>12} {:>11}",
+        "{name:<8} {references:>10} {:>6} {:>8} {micros:>12}.{tenths} {:>12} {:>11}",
         run.blocks, run.objects, pause.before.taken, pause.after.taken
     )?;
     match work.units(run.objects) {
@@ -207,7 +229,7 @@ fn print_time(rt: &impl Print, run: Run, work: Work, pause: Pause) -> Result<()>
 }
 
 /// Does a run, and prints what each of its pauses found.
-fn tell<R: AllocGlobal + Clock + Print + Threads + Sync>(rt: &R, run: Run) -> Result<()> {
+fn tell<R: AllocGlobal + Clock + Print + Threads + Sync>(rt: &R, run: Run<'_>) -> Result<()> {
     let script = script_of(rt.alloc(), run.works, run.objects)?;
     let pauses = pauses_of(rt, &words_of(run), script.as_str(), run.works.len())?;
     for (work, pause) in run.works.iter().zip(&pauses) {
@@ -226,9 +248,22 @@ fn tell<R: AllocGlobal + Clock + Print + Threads + Sync>(rt: &R, run: Run) -> Re
 }
 
 /// The words of a run, with room for all its work between two pauses. A trace ends at the pause behind the one that began it.
-fn words_of(run: Run) -> [&'static str; 13] {
+fn words_of(run: Run<'_>) -> [&'static str; 15] {
     [
-        "run", "--blocks", run.blocks, "--log", "65536", "--every", "1048576", "--trace",
-        run.trace, "--within", "1", "--replay", "0",
+        "run",
+        "--blocks",
+        run.blocks,
+        "--workers",
+        run.workers,
+        "--log",
+        "65536",
+        "--every",
+        "1048576",
+        "--trace",
+        run.trace,
+        "--within",
+        "1",
+        "--replay",
+        "0",
     ]
 }

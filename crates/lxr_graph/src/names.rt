@@ -89,7 +89,10 @@ fn turn_runs<T: Named>(list: &mut Listed<T>)
     }
 }
 
-/// Turns all items around where the first belongs behind the last, and else each falling run where the last eighth seems to fall.
+/// How many items before the last one the list is looked at, to see whether it ends in a falling run.
+const NEAR_THE_END: usize = 64;
+
+/// Turns all items around where the first belongs behind the last, and else each falling run where the last items seem to fall.
 fn turn_upwards<T: Named>(list: &mut Listed<T>)
     ensures permutation { IsPermutation list.old.items list.new.items }
     ensures room { list.new.room ≡ list.old.room }
@@ -97,7 +100,7 @@ fn turn_upwards<T: Named>(list: &mut Listed<T>)
     let count = list.len();
     if is_above_last(list.as_slice(), 0) {
         list.reverse_within(0, count);
-    } else if is_above_last(list.as_slice(), count - count / 8) {
+    } else if is_above_last(list.as_slice(), count.saturating_sub(NEAR_THE_END)) {
         turn_runs(list);
     }
 }

@@ -418,6 +418,27 @@ impl Space {
         self.clear_bit_in(BitTable::Unlogged, at as usize);
     }
 
+    /// Which of 64 heap words in a row hold references that haven't been stored to since the last pause.
+    #[inline(always)]
+    pub fn unlogged_word(&self, at: u32) -> u64
+        requires space { IsSpace self.now }
+        requires at { at < 64 * self.now.limits.blocks }
+        ensures { (i : ℕ) → i < 64 → (tables_of self.now).unlogged (64 * at + i) ≡ (bit_at result i == 1) }
+    {
+        self.bit_word_in(BitTable::Unlogged, at)
+    }
+
+    /// Writes which of 64 heap words in a row hold references that haven't been stored to since the last pause.
+    #[inline(always)]
+    pub fn put_unlogged_word(&mut self, at: u32, value: u64)
+        requires space { IsSpace self.old }
+        requires at { at < 64 * self.old.limits.blocks }
+        ensures { let t = tables_of self.old in
+            Turns self.old self.new (record t { unlogged = λ n. if n / 64 == at then bit_at value (n % 64) == 1 else t.unlogged n }) }
+    {
+        self.put_bit_word_in(BitTable::Unlogged, at, value);
+    }
+
     /// Whether the line was handed out since the last promotion.
     #[inline(always)]
     pub fn has_out(&self, line: u32) -> bool

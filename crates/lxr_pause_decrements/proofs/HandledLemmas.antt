@@ -139,6 +139,18 @@ module _ (p : Tables → ℕ → Bool) (each : (t : Tables) (g k : ℕ) → p (w
   cut_is t first zero k = sym (cut_out t.dones (p t) first 0 k (elim (leb_tells first k) [ inl c ↦ inr (let a = c.1 in omega (arith, a)) | inr c ↦ inl c.1 ]))
   cut_is t first (suc n) k = cut_step t first n k (t.dones (first + n)) refl (cut_is t first n k)
 
+-- a bit of a word without the bits of another
+pub bit_without : (word mask i : ℕ) → mask < 2 ^ 64 → i < 64 → (bit_at (bit_and word (bit_not w64 mask)) i == 1) ≡ (if bit_at mask i == 1 then false else bit_at word i == 1)
+bit_without word mask i fits within =
+    let both = bit_at_and word (bit_not w64 mask) i in
+    let turned = bit_at_not w64 mask i fits within in
+    let low = bit_at-lt mask i in
+    let small = bit_at-lt word i in
+    elim (eqb_tells (bit_at mask i) 1) [
+      | inl m ↦ let e = m.1 in ap (λ x. x == 1) (let z : bit_at (bit_and word (bit_not w64 mask)) i ≡ 0 = omega (arith, both, turned, e) in z) ∙ sym (ap (λ b. cond b false (bit_at word i == 1)) m.0)
+      | inr m ↦ let e = m.1 in ap (λ x. x == 1) (let z : bit_at (bit_and word (bit_not w64 mask)) i ≡ bit_at word i = omega (arith, both, turned, e, low, small) in z) ∙ sym (ap (λ b. cond b false (bit_at word i == 1)) m.0)
+    ]
+
 -- a word of bits without those of another
 pub cut_word : (dones f : ℕ → Bool) (at word mask k : ℕ) → mask < 2 ^ 64 → ((i : ℕ) → i < 64 → dones (64 * at + i) ≡ (bit_at mask i == 1)) → ((i : ℕ) → i < 64 → f (64 * at + i) ≡ (bit_at word i == 1))
     → (if k / 64 == at then bit_at (bit_and word (bit_not w64 mask)) (k % 64) == 1 else f k) ≡ cut dones f (64 * at) 64 k
@@ -156,17 +168,6 @@ cut_word dones f at word mask k fits masked told = elim (eqb_tells (k / 64) at) 
       ap (λ b. cond b (bit_at (bit_and word (bit_not w64 mask)) (k % 64) == 1) (f k)) q.0
       ∙ sym (cut_out dones f (64 * at) 64 k (elim (leb_tells (64 * at) k) [ inl c ↦ inr (let a = c.1 in omega (arith, a, ne)) | inr c ↦ inl c.1 ]))
 ]
-  where
-    bit_without : (word mask i : ℕ) → mask < 2 ^ 64 → i < 64 → (bit_at (bit_and word (bit_not w64 mask)) i == 1) ≡ (if bit_at mask i == 1 then false else bit_at word i == 1)
-    bit_without word mask i fits within =
-        let both = bit_at_and word (bit_not w64 mask) i in
-        let turned = bit_at_not w64 mask i fits within in
-        let low = bit_at-lt mask i in
-        let small = bit_at-lt word i in
-        elim (eqb_tells (bit_at mask i) 1) [
-          | inl m ↦ let e = m.1 in ap (λ x. x == 1) (let z : bit_at (bit_and word (bit_not w64 mask)) i ≡ 0 = omega (arith, both, turned, e) in z) ∙ sym (ap (λ b. cond b false (bit_at word i == 1)) m.0)
-          | inr m ↦ let e = m.1 in ap (λ x. x == 1) (let z : bit_at (bit_and word (bit_not w64 mask)) i ≡ bit_at word i = omega (arith, both, turned, e, low, small) in z) ∙ sym (ap (λ b. cond b false (bit_at word i == 1)) m.0)
-        ]
 
 -- a word of bits that becomes 0
 pub cut_zero : (dones : ℕ → Bool) (at mask k : ℕ) → ((i : ℕ) → i < 64 → dones (64 * at + i) ≡ (bit_at mask i == 1))

@@ -9,5 +9,6 @@ pub mod DropLemmas
 pub mod BridgeLemmas
 pub mod OpenedLemmas
 pub mod HandledLemmas
+pub mod LogLemmas
 pub mod ClearedLemmas
 pub mod BlockLemmas

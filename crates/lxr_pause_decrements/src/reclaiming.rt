@@ -1,5 +1,5 @@
 //! Reclaiming one object: its bits and marks are cleared, and it is reported.
-ghost use Rattle.std.specs.Prelude.{◌≡◌, ◌+◌, ◌-◌, ◌*◌, ◌/◌, ◌<◌, ◌≤◌, length};
+ghost use Rattle.std.specs.Prelude.{◌≡◌, ◌+◌, ◌-◌, ◌*◌, ◌/◌, ◌^◌, ◌<◌, ◌≤◌, length};
 ghost use Rattle.lxr_layout.specs.declared.TheConstants.{GRANULES_IN_BLOCK, WORDS_IN_BLOCK};
 ghost use Rattle.lxr_layout.specs.declared.Name.{Name as NameOf};
 ghost use Rattle.lxr_layout.specs.declared.Shape.{Shape as ShapeOf};
@@ -25,14 +25,50 @@ pub(crate) fn clear_line_marks(space: &mut Space, granule: u32, count: u32)
     }
 }
 
-/// Clears the unlogged bits of so many heap words.
+/// The bits from one on, all set.
+#[inline(always)]
+fn bits_from(first: u32) -> u64
+    requires { first ≤ 64 }
+    ensures { result ≡ 2 ^ 64 - 2 ^ first }
+{
+    if first < 64 { u64::MAX << first } else { 0 }
+}
+
+/// The bits from one on and below another, all set.
+#[inline(always)]
+fn bits_between(from: u32, end: u32) -> u64
+    requires { (from ≤ end) × (end ≤ 64) }
+    ensures { result ≡ 2 ^ end - 2 ^ from }
+{
+    bits_from(from) - bits_from(end)
+}
+
+/// Clears the unlogged bits of some of 64 heap words in a row: from one on and below another.
+#[inline(always)]
+fn clear_logs_in(space: &mut Space, at: u32, from: u32, end: u32)
+    requires space { IsSpace space.old }
+    requires heap { at < 64 * space.old.limits.blocks }
+    requires range { (from ≤ end) × (end ≤ 64) }
+    ensures { Turns space.old space.new (record (tables_of space.old) { unlogged = cleared (tables_of space.old).unlogged (64 * at + from) (64 * at + end) }) }
+{
+    let word = space.unlogged_word(at);
+    space.put_unlogged_word(at, word & !bits_between(from, end));
+}
+
+/// Clears the unlogged bits of so many heap words, those of 64 in a row at a time.
+#[inline(always)]
 pub(crate) fn clear_logs(space: &mut Space, at: u32, count: u16)
     requires space { IsSpace space.old }
     requires heap { at + count ≤ WORDS_IN_BLOCK * space.old.limits.blocks }
     ensures { Turns space.old space.new (record (tables_of space.old) { unlogged = cleared (tables_of space.old).unlogged at (at + count) }) }
 {
-    for i in 0..count {
-        space.clear_unlogged(at + u32::from(i));
+    let behind = at + u32::from(count);
+    let mut from = at;
+    while from < behind {
+        let first = from - from % 64;
+        let end = behind.min(first + 64);
+        clear_logs_in(space, from / 64, from % 64, end - first);
+        from = end;
     }
 }
 

@@ -15,9 +15,25 @@ const STRIDE: u64 = 40_503;
 /// The most objects of a list that one thread makes: it has at most 1,048,576 operations, two for each.
 const MOST_MADE: u32 = 500_000;
 
-/// How many operations the first thread waits for the second one, where both make objects. So many are far more than either can be ahead
-/// of the other under the draws.
+/// How many operations the first thread waits for the others, where all make objects. So many are far more than one can be ahead
+/// of another under the draws.
 const WAIT: u32 = 15_000;
+
+/// How many threads make a list of broad objects, each an equal part of it.
+const MAKERS: u32 = 16;
+
+/// To how many objects that live on the broad objects of a thread refer, the register that holds the first of these, and the first of the
+/// world's references that keep them, one a thread.
+const LASTING: u32 = 8;
+
+const FIRST_LASTING: u32 = 5;
+
+const FIRST_KEEPER: u32 = 32;
+
+/// The data words with which an object of so many references takes a line: with its header it has 32 words.
+fn filling(references: u32) -> u32 {
+    31_u32.saturating_sub(references)
+}
 
 /// What the pause finds to do.
 #[derive(Clone, Copy)]
@@ -47,6 +63,11 @@ pub(crate) enum Work {
     Ring,
     /// A list whose objects have as many references as can be, all to the next one, is held by the world.
     Wide,
+    /// A list whose objects have so many references each is held by the world: one to the next object, and the others to objects that live on, so
+    /// many that their counts are stuck. Each of the threads makes a part of it, and the world holds each part.
+    Broad(u32),
+    /// The same for objects that lie in no order: each takes a line.
+    BroadFar(u32),
     /// A trace begins.
     Begin,
     /// A trace ends, and tracers had the time of so many operations of the thread, of three steps each.
@@ -71,21 +92,23 @@ impl Work {
             Work::Scatter => "scatter",
             Work::Ring => "ring",
             Work::Wide => "wide",
+            Work::Broad(_) => "broad",
+            Work::BroadFar(_) => "far",
             Work::Begin => "begin",
             Work::End(_) => "end",
             Work::Collect => "collect",
         }
     }
 
-    /// How many objects or fields the pause handles where the list has so many objects.
+    /// How many objects or fields the pause handles where the list has so many objects; 0 where its time doesn't go by these.
     pub(crate) fn units(self, objects: u32) -> u32 {
         match self {
-            Work::Nothing | Work::Begin => 0,
+            Work::Nothing | Work::LetGo | Work::Begin => 0,
             Work::Promote | Work::Kill | Work::Help(_) | Work::Scatter => objects,
+            Work::Broad(_) | Work::BroadFar(_) => objects,
             Work::Small | Work::Lines | Work::Nursery => objects,
             Work::Ring | Work::Wide | Work::End(_) | Work::Collect => objects,
             Work::Log | Work::Lower => objects.min(MOST_LOGGED),
-            Work::LetGo => 1,
         }
     }
 
@@ -100,20 +123,57 @@ impl Work {
         }
     }
 
-    /// Writes the operations that give the pause this work.
-    fn write(self, script: &mut String, objects: u32) -> Result<(), AllocError> {
+    /// How many references an object of the list has that this work makes, where it makes one.
+    pub(crate) fn references(self) -> u32 {
+        match self {
+            Work::Broad(references) | Work::BroadFar(references) => references,
+            Work::Wide => ROW,
+            _ => 1,
+        }
+    }
+
+    /// How many threads make the list of so many objects that this work begins with.
+    fn makers(self, objects: u32) -> u32 {
+        match self {
+            Work::Broad(_) | Work::BroadFar(_) => MAKERS,
+            _ if objects > MOST_MADE => 2,
+            _ => 1,
+        }
+    }
+
+    /// Writes the operations that give the pause this work, in a script of so many threads.
+    fn write(self, script: &mut String, objects: u32, threads: u32) -> Result<(), AllocError> {
         match self {
             Work::Nothing | Work::Lower | Work::Kill | Work::Begin | Work::Collect => Ok(()),
-            Work::Promote => write_promote(script, objects),
+            Work::Promote => write_promote(script, objects, threads),
             Work::Small => write_shaped(script, objects, "new r2 1 3\n"),
             Work::Lines => write_shaped(script, objects, "new r2 1 30\n"),
             Work::Nursery => write_shaped(script, objects, "new r2 1 3\nnew r2 1 3\nnew r2 1 3\n"),
             Work::Log => write_log(script, self.units(objects)),
-            Work::LetGo => script.push_str("store r0 0 r1\n"),
+            Work::LetGo => write_let_go(script, threads),
             Work::Help(operations) | Work::End(operations) => write_help(script, operations),
             Work::Scatter => write_scatter(script, objects),
             Work::Ring => write_ring(script, objects),
             Work::Wide => write_wide(script, objects),
+            Work::Broad(_) | Work::BroadFar(_) => {
+                self.write_part(script, 1, objects)?;
+                write_help(script, WAIT)?;
+                script.push_str("nil r2\n")
+            }
+        }
+    }
+
+    /// Makes the part of a thread of a list of so many objects, and leaves it to the world.
+    fn write_part(self, script: &mut String, thread: u32, objects: u32) -> Result<(), AllocError> {
+        match self {
+            Work::Broad(references) => write_broad(script, thread, objects / MAKERS, references),
+            Work::BroadFar(references) => {
+                write_broad_far(script, thread, objects / MAKERS, references)
+            }
+            _ => {
+                write_list(script, objects / 2)?;
+                script.push_str("store r0 2 r1\n")
+            }
         }
     }
 
@@ -126,14 +186,18 @@ impl Work {
     }
 }
 
-/// Whether a list of so many objects takes two threads to make.
-fn takes_two(objects: u32) -> bool {
-    objects > MOST_MADE
+/// Lets go of the parts of a list that so many threads have made.
+fn write_let_go(script: &mut String, threads: u32) -> Result<(), AllocError> {
+    script.push_str("store r0 0 r1\n")?;
+    for thread in 2..threads.saturating_add(1) {
+        write!(script, "store r0 {thread} r1\n")?;
+    }
+    Ok(())
 }
 
-/// Makes a list of so many objects, or of half of them where the second thread makes the others, and leaves it to the world.
-fn write_promote(script: &mut String, objects: u32) -> Result<(), AllocError> {
-    if takes_two(objects) {
+/// Makes a list of so many objects, or of half of them where a second thread makes the others, and leaves it to the world.
+fn write_promote(script: &mut String, objects: u32, threads: u32) -> Result<(), AllocError> {
+    if threads > 1 {
         write_list(script, objects - objects / 2)?;
         write_help(script, WAIT)?;
     } else {
@@ -181,22 +245,32 @@ fn write_widest(script: &mut String) -> Result<(), AllocError> {
 fn write_scatter(script: &mut String, objects: u32) -> Result<(), AllocError> {
     script.push_str("new r1 1023 0\n")?;
     for object in 0..objects {
-        write_scattered(script, object)?;
+        write_scattered(script, object, 1)?;
     }
+    write_links(script, objects)?;
+    script.push_str("store r0 0 r4\nnil r1\nnil r2\nnil r3\nnil r4\n")
+}
+
+/// Links so many objects of rows to a list in an order in which neighbours lie far apart.
+fn write_links(script: &mut String, objects: u32) -> Result<(), AllocError> {
     for place in 0..u64::from(objects) {
         let object = place * STRIDE % u64::from(objects);
         write_link(script, object as u32)?;
     }
-    script.push_str("store r0 0 r4\nnil r1\nnil r2\nnil r3\nnil r4\n")
+    Ok(())
 }
 
-/// Makes an object and holds it in its row.
-fn write_scattered(script: &mut String, object: u32) -> Result<(), AllocError> {
+/// Makes an object of so many references that takes a line, and holds it in its row.
+fn write_scattered(script: &mut String, object: u32, references: u32) -> Result<(), AllocError> {
     let (row, index) = (object / ROW, object % ROW);
     if index == 0 {
         write!(script, "new r2 1023 0\nstore r1 {row} r2\n")?;
     }
-    write!(script, "new r3 1 30\nstore r2 {index} r3\n")
+    let values = filling(references);
+    write!(
+        script,
+        "new r3 {references} {values}\nstore r2 {index} r3\n"
+    )
 }
 
 /// Puts an object before the list so far.
@@ -217,25 +291,94 @@ fn write_log(script: &mut String, fields: u32) -> Result<(), AllocError> {
     script.push_str("nil r1\nnil r2\n")
 }
 
-/// The second thread of a script, which makes half of the objects and leaves them to the world.
-fn write_second(script: &mut String, objects: u32) -> Result<(), AllocError> {
-    script.push_str("thread 2\n")?;
-    write_list(script, objects / 2)?;
-    script.push_str("store r0 2 r1\nend\n")
+/// Makes the objects that live on to which the broad objects of a thread refer, and leaves them to the world.
+fn write_lasting(script: &mut String, thread: u32) -> Result<(), AllocError> {
+    write!(script, "new r2 {LASTING} 0\n")?;
+    for kept in 0..LASTING {
+        let register = FIRST_LASTING + kept;
+        write!(script, "new r{register} 1 0\nstore r2 {kept} r{register}\n")?;
+    }
+    let keeper = FIRST_KEEPER.saturating_add(thread);
+    write!(script, "store r0 {keeper} r2\nnil r2\n")
 }
 
-/// A script whose first thread does this work on a list of so many objects, with a pause after each piece of work. It has a second one where
-/// the list takes two to make.
+/// Lets each reference of the object in r3 but the first refer to an object that lives on.
+fn write_references(script: &mut String, references: u32) -> Result<(), AllocError> {
+    for index in 1..references {
+        let register = FIRST_LASTING + index % LASTING;
+        write!(script, "store r3 {index} r{register}\n")?;
+    }
+    Ok(())
+}
+
+/// The reference of the world that holds a thread's part of a list.
+fn part_of(thread: u32) -> u32 {
+    if thread == 1 { 0 } else { thread }
+}
+
+/// Makes a thread's part of a list of broad objects, so many of them, and leaves it to the world.
+fn write_broad(
+    script: &mut String,
+    thread: u32,
+    objects: u32,
+    references: u32,
+) -> Result<(), AllocError> {
+    write_lasting(script, thread)?;
+    for _ in 0..objects {
+        write!(script, "new r3 {references} 0\nstore r3 0 r4\n")?;
+        write_references(script, references)?;
+        script.push_str("move r4 r3\n")?;
+    }
+    let part = part_of(thread);
+    write!(script, "store r0 {part} r4\nnil r3\nnil r4\n")
+}
+
+/// The same where each object takes a line, and neighbours lie far apart.
+fn write_broad_far(
+    script: &mut String,
+    thread: u32,
+    objects: u32,
+    references: u32,
+) -> Result<(), AllocError> {
+    write_lasting(script, thread)?;
+    script.push_str("new r1 1023 0\n")?;
+    for object in 0..objects {
+        write_scattered(script, object, references)?;
+        write_references(script, references)?;
+    }
+    write_links(script, objects)?;
+    let part = part_of(thread);
+    write!(
+        script,
+        "store r0 {part} r4\nnil r1\nnil r2\nnil r3\nnil r4\n"
+    )
+}
+
+/// A further thread of a script, which makes its part of the list.
+fn write_further(
+    script: &mut String,
+    made: Work,
+    thread: u32,
+    objects: u32,
+) -> Result<(), AllocError> {
+    write!(script, "thread {thread}\n")?;
+    made.write_part(script, thread, objects)?;
+    script.push_str("end\n")
+}
+
+/// A script whose first thread does this work on a list of so many objects, with a pause after each piece of work. It has further ones where
+/// the list takes several to make.
 pub(crate) fn script_of(alloc: Global, works: &[Work], objects: u32) -> Result<String, AllocError> {
-    let threads = 1 + u32::from(takes_two(objects));
+    let made = works.first().copied().unwrap_or(Work::Nothing);
+    let threads = made.makers(objects);
     let mut script = format!(in alloc; "lxr 1\nthreads {threads}\nthread 1\n")?;
     for work in works {
-        work.write(&mut script, objects)?;
+        work.write(&mut script, objects, threads)?;
         script.push_str(work.request())?;
     }
     script.push_str("end\n")?;
-    if takes_two(objects) {
-        write_second(&mut script, objects)?;
+    for thread in 2..threads.saturating_add(1) {
+        write_further(&mut script, made, thread, objects)?;
     }
     Ok(script)
 }
