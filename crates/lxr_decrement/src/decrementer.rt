@@ -1,5 +1,5 @@
 //! Decrementers: what is done to them between their units.
-ghost use Rattle.std.specs.Prelude.{◌≡◌, IfOk};
+ghost use Rattle.std.specs.Prelude.{◌≡◌, IfOk, length};
 ghost use Rattle.lxr_layout.specs.Spaces.{AreLimits};
 ghost use Rattle.lxr_decrement.specs.Decrementers.{IsDecrementer, again, first};
 
@@ -63,6 +63,14 @@ impl Decrementer {
         ensures sound { IsDecrementer self.now }
     {
         self.end
+    }
+
+    /// How many places its pocket has.
+    #[inline(always)]
+    pub fn places(&self) -> usize
+        ensures { result ≡ length self.now.pocket.items }
+    {
+        self.pocket.len()
     }
 
     /// A new epoch begins: its pocket is emptied, and it has no end yet, so it isn't finished.

@@ -22,10 +22,12 @@ pub trait HintRule {
     ghost found_empty: { Type 0 };
 }
 
-/// The rule that asks nothing and tells nothing.
-pub struct AnyPlace;
+/// The rule that asks nothing and tells nothing, for hints of a kind: whoever has hinters of two kinds can't mistake one for the other.
+pub struct AnyPlace<K = ()> {
+    kind: PhantomData<K>,
+}
 
-impl HintRule for AnyPlace {
+impl<K> HintRule for AnyPlace<K> {
     ghost use Rattle.std.specs.Prelude.{⊤};
 
     ghost holds = { λ places. ⊤ };

@@ -1,5 +1,6 @@
 pub mod RunLemmas
 pub mod NowLemmas
+pub mod StraightLemmas
 pub mod PlacedLemmas
 pub mod NearerLemmas
 pub mod LengthLemmas

@@ -22,6 +22,7 @@ use std::marker::Model;
 
 mod drawing;
 mod fields;
+mod straight;
 mod units;
 
 /// The last place of the largest heap, of 1,024 blocks.

@@ -38,6 +38,14 @@ impl Pocket {
         Ok(Pocket { places })
     }
 
+    /// How many places it has.
+    #[inline(always)]
+    pub fn len(&self) -> usize
+        ensures { result ≡ length self.now.items }
+    {
+        self.places.len()
+    }
+
     /// Whether it has no place.
     #[inline(always)]
     pub fn is_empty(&self) -> bool

@@ -1,5 +1,5 @@
 -- A round, turn by turn: what holds of all passes, and of those that have had their turn.
-use Rattle.std.proofs.Common.{◌≡◌, ◌≢◌, ℕ, suc, ◌+◌, ◌<◌, ◌≤◌, Bool, true, false, List, [], ◌∷◌, length, map, nat_eq, arith, refl, sym, subst, ap, ◌∙◌, All, get_or}
+use Rattle.std.proofs.Common.{◌≡◌, ◌≢◌, ℕ, ◌+◌, ◌≤◌, Bool, true, false, List, length, nat_eq, arith, refl, sym, subst, ap, ◌∙◌, All, get_or}
 use Rattle.std.specs.Prelude.{Some, ◌||◌, slice_get, slice_set}
 use Rattle.std.proofs.lemmas.List.{length-set}
 use Rattle.std.proofs.lemmas.List.Elements.{All-set}
@@ -71,9 +71,19 @@ pub all_served : (epoch : Opened AnyActor) (before passes : List (Passing AnyAct
     → All (λ (p : Passing AnyActor). HasServed p.actor) passes
 all_served epoch before passes left some_go_on round none stops i d within = round.served stops i (get_or passes i d) (omega arith) (slice_get-get_or passes i d within)
 
--- what a function gives of each element is the same in both lists
-pub same_map : {X Y : Type 0} (f : X → Y) (xs ys : List X) → length ys ≡ length xs → ((k : ℕ) (d : X) → k < length xs → f (get_or ys k d) ≡ f (get_or xs k d)) → map f ys ≡ map f xs
-same_map f [] [] many same = refl
-same_map f [] (y ∷ ys) many same = absurd (omega arith)
-same_map f (x ∷ xs) [] many same = absurd (omega arith)
-same_map f (x ∷ xs) (y ∷ ys) many same = (λ i. same 0 x (omega arith) i ∷ same_map f xs ys (omega arith) (λ k d lt. same (suc k) d (omega arith)) i)
+-- Some of these passes had turns since.
+pub record AreAfterTurns (epoch : Opened AnyActor) (before passes : List (Passing AnyActor)) : Type 0 where
+  pub each : All (IsPassOf epoch) passes
+  pub numbers : numbers_of passes ≡ numbers_of before
+  pub nearer : work_in passes ≤ work_in before
+
+pub one_turn : (epoch : Opened AnyActor) (before passes : List (Passing AnyActor)) (at : ℕ) (p q : Passing AnyActor) → AreAfterTurns epoch before passes
+    → slice_get passes at ≡ Some p → IsPassOf epoch q → q.number ≡ p.number → work_of q.actor ≤ work_of p.actor → AreAfterTurns epoch before (slice_set passes at q)
+one_turn epoch before passes at p q turns there is number less = record {
+  each = All-set (IsPassOf epoch) passes at q is turns.each;
+  numbers = map-set_same (λ (r : Passing AnyActor). r.number) passes at q p (number ∙ ap (λ (r : Passing AnyActor). r.number) (sym (get_or_from_slice_get passes at p p there))) ∙ turns.numbers;
+  nearer =
+      let sum = sum_set (λ (r : Passing AnyActor). work_of r.actor) passes at p q there in
+      let so_far = turns.nearer in
+      omega arith;
+}

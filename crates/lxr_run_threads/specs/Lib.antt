@@ -1,3 +1,4 @@
 pub mod Dealing
 pub mod Working
+pub mod Helping
 pub mod Running

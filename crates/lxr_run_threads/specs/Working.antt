@@ -1,5 +1,5 @@
 -- What workers do with their passes.
-use Rattle.std.specs.Prelude.{◌≡◌, ◌≢◌, ℕ, Bool, true, false, Option, None, Some, List, [], IsSome, is_none, is_some}
+use Rattle.std.specs.Prelude.{◌≡◌, ℕ, Bool, true, false, Option, None, Some, List, [], IsSome, is_none, is_some}
 use Rattle.std.specs.List.{sum_by}
 use Rattle.lxr_layout.specs.declared.Place.{Place}
 use Rattle.lxr_decrement.specs.declared.phases.DecEnd.TheVariants as dec_end
@@ -43,17 +43,6 @@ is_helper (any.Tracer d) = true
 pub record HasHelped {End : Type 0} (nothing : End) (end : Option End) (pocket : List Place) : Type 0 where
   pub some : IsSome end
   pub worked : end ≡ Some nothing → pocket ≡ []
-
--- a unit was made, and the last one didn't find nothing
-pub record WorkedBefore {End : Type 0} (nothing : End) (end : Option End) : Type 0 where
-  pub some : IsSome end
-  pub other : end ≢ Some nothing
-
--- a helper's last unit found work
-abbrev pub FoundWork : AnyActor → Type 0
-FoundWork (any.Mutator m) = ⊥
-FoundWork (any.Decrementer d) = WorkedBefore dec_end.Nothing d.end
-FoundWork (any.Tracer d) = WorkedBefore trace_end.Nothing d.end
 
 -- a mutator has come to its end for this epoch, and a helper has made a unit and looked at what it was offered, if it found nothing else
 abbrev pub HasServed : AnyActor → Type 0

@@ -2,47 +2,140 @@
 //!
 //! Decrementers share with decrementers, and tracers with tracers. What is shared are hints: a place that is lost on the way
 //! loses no work, since the pause does what the bits of the space show.
-ghost use Rattle.std.specs.Prelude.{◌≡◌, ◌≤◌, IfOk, true, vec_len};
+//!
+//! A helper with nothing to do costs a round next to nothing: it looks for a hint as soon as it runs out of work, and after a
+//! look in vain again only some rounds later.
+ghost use Rattle.std.specs.Prelude.{◌≡◌, ◌+◌, ◌-◌, ◌≤◌, IfOk, cond, is_some, min, nat_eq, true, vec_len};
 ghost use Rattle.lxr_run_replay.specs.Replaying.{CanBeReplayed};
-ghost use Rattle.lxr_run_threads.specs.Working.{FoundWork, HasServed, IsPassOf, is_helper};
+ghost use Rattle.lxr_run_threads.specs.Helping.{given, places_in, takes_in, wait_after};
+ghost use Rattle.lxr_run_threads.specs.Working.{HasServed, IsPassOf, is_helper};
 
 use lxr_actor::Actor;
 use lxr_core::AnyActor;
-use lxr_hints::{Hinter, hinters};
+use lxr_decrement::Decrementer;
+use lxr_hints::{AnyPlace, Hinter, hinters_under};
+use lxr_layout::Place;
 use lxr_shared::Pass;
 use lxr_shared_passes::Epoch;
+use lxr_trace::Tracer;
 use std::alloc::{AllocError, Global};
+use std::marker::Model;
 
-/// What the helpers of one worker share by.
+/// How many rounds a helper lets go by after it has looked for a hint in vain.
+const ROUNDS_BETWEEN_LOOKS: u32 = 16;
+
+/// What the helpers of one worker share by, one decrementer and one tracer.
 #[derive(Drop)]
 pub struct Hints {
-    pub decrementers: Hinter,
-    pub tracers: Hinter,
+    pub decrementers: Exchange<Decrementer>,
+    pub tracers: Exchange<Tracer>,
 }
 
-/// The hinters of so many workers, in a set for decrementers and one for tracers.
+impl Hints {
+    /// How many rounds go by before a helper with nothing to do looks for a hint, where both have nothing to do. They are over then.
+    #[inline(always)]
+    pub(crate) fn let_go_by(&mut self) -> u32
+        ensures rounds { result ≡ min self.old.decrementers.wait self.old.tracers.wait }
+        ensures over { (self.new.decrementers.wait ≡ self.old.decrementers.wait - result) × (self.new.tracers.wait ≡ self.old.tracers.wait - result) }
+    {
+        let rounds = self.decrementers.wait.min(self.tracers.wait);
+        self.decrementers.wait -= rounds;
+        self.tracers.wait -= rounds;
+        rounds
+    }
+}
+
+/// Where a helper of this kind gives hints and finds those of its like.
+#[derive(Drop)]
+pub struct Exchange<K> {
+    hinter: Hinter<AnyPlace<K>>,
+    /// How many rounds the helper still lets go by before it looks for a hint.
+    wait: u32,
+}
+
+impl<K> Model for Exchange<K> {
+    ghost use Rattle.lxr_run_threads.specs.Helping.{Exchanging};
+
+    ghost Value = { Exchanging };
+
+    ghost view = { λ e. record { pushes = e.hinter; wait = e.wait } };
+}
+
+impl<K> Exchange<K> {
+    /// One whose helper looks for a hint as soon as it has nothing to do.
+    fn new(hinter: Hinter<AnyPlace<K>>) -> Exchange<K>
+        ensures { result ≡ record { pushes = hinter; wait = 0 } }
+    {
+        Exchange { hinter, wait: 0 }
+    }
+
+    /// Whether a helper with nothing to do looks for a hint in this round. Where it doesn't, its next look comes nearer by a round.
+    #[inline(always)]
+    fn looks(&mut self) -> bool
+        ensures answer { result ≡ nat_eq self.old.wait 0 }
+        ensures nearer { self.new.wait ≡ self.old.wait - 1 }
+        ensures pushes { self.new.pushes ≡ self.old.pushes }
+    {
+        if self.wait == 0 {
+            return true;
+        }
+        self.wait -= 1;
+        false
+    }
+
+    /// Takes a place that some helper has given, if it finds one; else the next look is some rounds away.
+    fn take(&mut self) -> Option<Place>
+        ensures wait { self.new.wait ≡ wait_after (is_some result) }
+        ensures pushes { self.new.pushes ≡ self.old.pushes }
+    {
+        let found = self.hinter.take();
+        self.wait = match found {
+            Some(_) => 0,
+            None => ROUNDS_BETWEEN_LOOKS,
+        };
+        found
+    }
+
+    /// Whether it takes in a further place.
+    fn takes_in(&self) -> bool
+        ensures { result ≡ takes_in self.now.pushes }
+    {
+        self.hinter.takes_in()
+    }
+
+    /// Puts in a place for all helpers of the kind to take. One that isn't taken in is dropped.
+    fn push(&mut self, place: Place)
+        ensures pushes { self.new.pushes ≡ cond (takes_in self.old.pushes) (self.old.pushes + 1) self.old.pushes }
+        ensures wait { self.new.wait ≡ self.old.wait }
+    {
+        self.hinter.push(place);
+    }
+}
+
+/// What so many workers have to share by: the decrementers of all are in one set, and the tracers in another. It takes the memory for all
+/// that is shared in an epoch.
 pub fn make_hints(alloc: Global, workers: u8) -> Result<Vec<Hints>, AllocError>
     requires { (1 ≤ workers) × (workers ≤ 8) }
     ensures { IfOk result (λ hints. vec_len hints ≡ workers) }
 {
-    let mut for_decrementers = hinters(alloc, workers)?;
-    let mut for_tracers = hinters(alloc, workers)?;
+    let mut for_decrementers = hinters_under::<AnyPlace<Decrementer>>(alloc, workers)?;
+    let mut for_tracers = hinters_under::<AnyPlace<Tracer>>(alloc, workers)?;
     let mut hints = Vec::with_capacity(alloc, usize::from(workers))?;
     while let Some(decrementers) = for_decrementers.pop() {
         let Some(tracers) = for_tracers.pop() else {
             unreachable!()
         };
         hints.push_reserved(Hints {
-            decrementers,
-            tracers,
+            decrementers: Exchange::new(decrementers),
+            tracers: Exchange::new(tracers),
         });
     }
     Ok(hints)
 }
 
-/// One turn of a helper. Before it, a helper that has found nothing is offered a place that some helper has spared, so that no
-/// epoch ends with an offer that was taken and not worked on; after it, a helper that has more than one place spares one.
-pub fn let_help(table: &Epoch<AnyActor>, pass: &mut Pass, hinter: &mut Hinter)
+/// A helper's part in a round: a turn, unless it has nothing to do and doesn't look for a hint in this round.
+#[inline(always)]
+pub fn let_help<K>(table: &Epoch<AnyActor>, pass: &mut Pass, exchange: &mut Exchange<K>)
     requires can { CanBeReplayed table.now.opening }
     requires pass { IsPassOf table.now pass.old }
     requires helper { is_helper pass.old.actor ≡ true }
@@ -51,13 +144,42 @@ pub fn let_help(table: &Epoch<AnyActor>, pass: &mut Pass, hinter: &mut Hinter)
     ensures helper { is_helper pass.new.actor ≡ true }
     ensures served { HasServed pass.new.actor }
 {
-    take_hint(table, pass, hinter);
-    pass.turn_at(table);
-    give_hint(table, pass, hinter);
+    if pass.actor().next().is_some() || exchange.looks() {
+        help(table, pass, exchange);
+    }
 }
 
-/// Offers a helper that has no further step a place that was pushed, if there is one.
-fn take_hint(table: &Epoch<AnyActor>, pass: &mut Pass, hinter: &mut Hinter)
+/// A turn of a helper with what it shares. Before it, a helper that has found nothing is offered a place that some helper has spared, so that no
+/// epoch ends with an offer that was taken and not worked on; after it, a helper that has more than one place spares one.
+fn help<K>(table: &Epoch<AnyActor>, pass: &mut Pass, exchange: &mut Exchange<K>)
+    requires can { CanBeReplayed table.now.opening }
+    requires pass { IsPassOf table.now pass.old }
+    requires helper { is_helper pass.old.actor ≡ true }
+    ensures pass { IsPassOf table.now pass.new }
+    ensures number { pass.new.number ≡ pass.old.number }
+    ensures helper { is_helper pass.new.actor ≡ true }
+    ensures served { HasServed pass.new.actor }
+{
+    take_hint(table, pass, exchange);
+    make_turn(table, pass);
+    give_hint(table, pass, exchange);
+}
+
+/// One turn of a helper of any kind.
+fn make_turn(table: &Epoch<AnyActor>, pass: &mut Pass)
+    requires can { CanBeReplayed table.now.opening }
+    requires pass { IsPassOf table.now pass.old }
+    requires helper { is_helper pass.old.actor ≡ true }
+    ensures pass { IsPassOf table.now pass.new }
+    ensures number { pass.new.number ≡ pass.old.number }
+    ensures helper { is_helper pass.new.actor ≡ true }
+    ensures served { HasServed pass.new.actor }
+{
+    pass.turn_at(table);
+}
+
+/// Offers a helper that has no further step a place that was spared, if there is one.
+fn take_hint<K>(table: &Epoch<AnyActor>, pass: &mut Pass, exchange: &mut Exchange<K>)
     requires pass { IsPassOf table.now pass.old }
     requires helper { is_helper pass.old.actor ≡ true }
     ensures pass { IsPassOf table.now pass.new }
@@ -67,13 +189,13 @@ fn take_hint(table: &Epoch<AnyActor>, pass: &mut Pass, hinter: &mut Hinter)
     if pass.actor().next().is_some() {
         return;
     }
-    if let Some(place) = hinter.take() {
+    if let Some(place) = exchange.take() {
         pass.offer_at(table, place);
     }
 }
 
-/// Pushes the last place but one of a helper's pocket, where it has more than one and the push is taken.
-fn give_hint(table: &Epoch<AnyActor>, pass: &mut Pass, hinter: &mut Hinter)
+/// Gives a place of a helper's pocket, where it has more than one and the exchange takes it in.
+fn give_hint<K>(table: &Epoch<AnyActor>, pass: &mut Pass, exchange: &mut Exchange<K>)
     requires pass { IsPassOf table.now pass.old }
     requires helper { is_helper pass.old.actor ≡ true }
     requires served { HasServed pass.old.actor }
@@ -81,27 +203,24 @@ fn give_hint(table: &Epoch<AnyActor>, pass: &mut Pass, hinter: &mut Hinter)
     ensures number { pass.new.number ≡ pass.old.number }
     ensures helper { is_helper pass.new.actor ≡ true }
     ensures served { HasServed pass.new.actor }
+    ensures given { (pass.new.actor, exchange.new.pushes) ≡ given pass.old.actor exchange.old.pushes }
 {
-    if !hinter.takes_in() {
+    if places_of(pass.actor()) < 2 || !exchange.takes_in() {
         return;
     }
-    if let Some(last) = pass.surplus_at(table) {
-        push_spare(table, pass, hinter);
-        pass.offer_at(table, last);
+    if let Some(place) = pass.surplus_at(table) {
+        exchange.push(place);
     }
 }
 
-/// Pushes the last place of a helper's pocket, if there is one.
-fn push_spare(table: &Epoch<AnyActor>, pass: &mut Pass, hinter: &mut Hinter)
-    requires pass { IsPassOf table.now pass.old }
-    requires helper { is_helper pass.old.actor ≡ true }
-    requires worked { FoundWork pass.old.actor }
-    ensures pass { IsPassOf table.now pass.new }
-    ensures number { pass.new.number ≡ pass.old.number }
-    ensures helper { is_helper pass.new.actor ≡ true }
-    ensures worked { FoundWork pass.new.actor }
+/// How many places an actor has in its pocket. A mutator has none.
+#[inline(always)]
+fn places_of(actor: &AnyActor) -> usize
+    ensures { result ≡ places_in actor.now }
 {
-    if let Some(place) = pass.surplus_at(table) {
-        hinter.push(place);
+    match actor {
+        AnyActor::Mutator(_) => 0,
+        AnyActor::Decrementer(decrementer) => decrementer.places(),
+        AnyActor::Tracer(tracer) => tracer.places(),
     }
 }

@@ -3,10 +3,12 @@
 //! The words of the space become one atomic table, on which each actor steps by a pass. Threads' passes are dealt to workers,
 //! thread t's to worker (t - 1) modulo how many there are, and each worker gets one decrementer and one tracer. In one round
 //! a worker calls the gate and makes one turn for each of its mutators that isn't finished, and then one turn for each of its
-//! helpers. Every worker makes one round, and further ones until its mutators are finished.
+//! helpers that has something to do. Every worker makes one round, and further ones until its mutators are finished.
 //!
 //! Helpers share their work by hints, which are stolen: a helper with more than one place spares one, and one that has found
 //! nothing is offered a place that another has spared. No claim rests on a hint; what is left is found by bits, in the pause.
+//!
+//! `run_epoch` is the whole. Its parts are public for whoever measures helpers alone: dealing passes, a worker's rounds, and gathering.
 #![tactic(auto)]
 
 ghost use Rattle.std.specs.Prelude.{IfOk};
@@ -16,9 +18,9 @@ mod dealing;
 mod helping;
 mod workers;
 
-use crate::dealing::Dealing;
-use crate::helping::make_hints;
 use crate::workers::let_work;
+pub use dealing::{Dealing, Hand};
+pub use helping::{Hints, make_hints};
 use lxr_core::AnyActor;
 use lxr_image::Space;
 use lxr_run_replay::Gate;
@@ -26,6 +28,7 @@ use lxr_shared::{close_shared, open_shared};
 use lxr_words::Options;
 use std::alloc::{AllocError, Global};
 use std::thread::Threads;
+pub use workers::work;
 
 /// Runs an epoch, between its opening and its closing, on as many threads of the machine as there are workers. Where a thread
 /// can't be started its work is done by the caller. At a refusal the space and the actors are gone.

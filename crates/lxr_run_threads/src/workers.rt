@@ -1,5 +1,6 @@
 //! Workers: each lets its mutators and its helpers take turns.
-ghost use Rattle.std.specs.Prelude.{◌≡◌, ◌+◌, ◌<◌, ◌≤◌, false, length, map, All};
+ghost use Rattle.std.specs.Prelude.{◌≡◌, ◌+◌, ◌≤◌, false, map, All};
+ghost use Rattle.std.specs.Thread.{IsSync};
 ghost use Rattle.lxr_actor.specs.Run.{one_if};
 ghost use Rattle.lxr_run_replay.specs.Replaying.{CanBeReplayed};
 ghost use Rattle.lxr_run_threads.specs.Dealing.{numbers_of};
@@ -15,33 +16,68 @@ use lxr_shared_passes::Epoch;
 use std::thread;
 use std::thread::Threads;
 
-/// Lets each worker work, on a thread of its own where one can be started.
+/// How many helpers each worker has. Their passes stand before those of its mutators.
+const HELPERS: usize = 2;
+
+/// Lets each worker work, the last one on this thread and each other on a thread that is started from this one, where one can be
+/// started.
+///
+/// A thread that another one starts as soon as it runs may be left on its maker's processor for the whole of an epoch.
+#[cycle(hands)]
 pub fn let_work<R: Threads + Sync, G: Gate>(
     rt: &R,
     table: &Epoch<AnyActor>,
     hands: &mut [Hand],
     gate: &G,
 )
-    requires workers { 0 < length hands.old }
     requires can { CanBeReplayed table.now.opening }
     requires passes { All (λ hand. All (IsPassOf table.now) hand.passes.items) hands.old }
     ensures passes { All (λ hand. All (IsDoneOf table.now) hand.passes.items) hands.new }
     ensures numbers { map (λ hand. numbers_of hand.passes.items) hands.new ≡ map (λ hand. numbers_of hand.passes.items) hands.old }
 {
-    let workers = hands.len();
-    thread::for_each_mut(
+    let Some((hand, others)) = hands.split_first_mut() else {
+        return;
+    };
+    if others.is_empty() {
+        work(table, &mut hand.passes, &mut hand.hints, gate);
+    } else {
+        let_both_work(rt, table, gate, hand, others);
+    }
+}
+
+/// Lets one worker work on a thread of its own, and the others from this one.
+#[cycle(hands)]
+fn let_both_work<R: Threads + Sync, G: Gate>(
+    rt: &R,
+    table: &Epoch<AnyActor>,
+    gate: &G,
+    hand: &mut Hand,
+    others: &mut [Hand],
+)
+    requires can { CanBeReplayed table.now.opening }
+    requires pass { All (IsPassOf table.now) hand.old.passes.items }
+    requires passes { All (λ hand. All (IsPassOf table.now) hand.passes.items) others.old }
+    ensures pass { All (IsDoneOf table.now) hand.new.passes.items }
+    ensures passes { All (λ hand. All (IsDoneOf table.now) hand.passes.items) others.new }
+    ensures number { numbers_of hand.new.passes.items ≡ numbers_of hand.old.passes.items }
+    ensures numbers { map (λ hand. numbers_of hand.passes.items) others.new ≡ map (λ hand. numbers_of hand.passes.items) others.old }
+{
+    thread::join_mut(
         rt,
-        hands,
-        workers,
-        &|_, hand: &mut Hand|
-            requires { CanBeReplayed table.now.opening × All (IsPassOf table.now) hand.old.passes.items }
-            ensures { All (IsDoneOf table.entry.now) hand.new.passes.items × (numbers_of hand.new.passes.items ≡ numbers_of hand.old.passes.items) }
+        &mut ||
+            requires { CanBeReplayed table.now.opening × All (IsPassOf table.now) hand.now.passes.items }
+            ensures { All (IsDoneOf table.entry.now) hand.exit.now.passes.items × (numbers_of hand.exit.now.passes.items ≡ numbers_of hand.entry.now.passes.items) }
         { work(table, &mut hand.passes, &mut hand.hints, gate) },
+        &mut ||
+            requires { IsSync R.row × CanBeReplayed table.now.opening × All (λ hand. All (IsPassOf table.now) hand.passes.items) others.now }
+            ensures { All (λ hand. All (IsDoneOf table.entry.now) hand.passes.items) others.exit.now × (map (λ hand. numbers_of hand.passes.items) others.exit.now ≡ map (λ hand. numbers_of hand.passes.items) others.entry.now) }
+        { let_work(rt, table, others, gate) },
     );
 }
 
-/// Makes rounds, until no mutator goes on.
-fn work<G: Gate>(table: &Epoch<AnyActor>, passes: &mut Vec<Pass>, hints: &mut Hints, gate: &G)
+/// Makes rounds with the passes of a worker, until no mutator among them goes on: one round, where there is none. Each pass has served
+/// then, and is still a pass of the table with the number that it had.
+pub fn work<G: Gate>(table: &Epoch<AnyActor>, passes: &mut Vec<Pass>, hints: &mut Hints, gate: &G)
     requires can { CanBeReplayed table.now.opening }
     requires passes { All (IsPassOf table.now) passes.old.items }
     ensures done { All (IsDoneOf table.now) passes.new.items }
@@ -50,10 +86,57 @@ fn work<G: Gate>(table: &Epoch<AnyActor>, passes: &mut Vec<Pass>, hints: &mut Hi
     let mut some_go_on = true;
     while some_go_on {
         some_go_on = make_round(table, passes.as_mut_slice(), hints, gate);
+        if some_go_on {
+            let_mutators_go_on(table, passes.as_mut_slice(), hints.let_go_by(), gate);
+        }
     }
 }
 
-/// Gives each pass a turn, from the last to the first: mutators come first. Whether some mutator goes on.
+/// Makes so many rounds of mutators alone, while no helper has anything to do.
+#[inline(always)]
+fn let_mutators_go_on<G: Gate>(table: &Epoch<AnyActor>, passes: &mut [Pass], rounds: u32, gate: &G)
+    requires can { CanBeReplayed table.now.opening }
+    requires passes { All (IsPassOf table.now) passes.old }
+    ensures passes { All (IsPassOf table.now) passes.new }
+    ensures numbers { numbers_of passes.new ≡ numbers_of passes.old }
+    ensures nearer { work_in passes.new ≤ work_in passes.old }
+{
+    for _ in 0..rounds {
+        let_mutators_turn(table, passes, gate);
+    }
+}
+
+/// Lets each mutator take its part in a round, from the last to the first of the passes behind those of the helpers.
+#[inline(always)]
+fn let_mutators_turn<G: Gate>(table: &Epoch<AnyActor>, passes: &mut [Pass], gate: &G)
+    requires can { CanBeReplayed table.now.opening }
+    requires passes { All (IsPassOf table.now) passes.old }
+    ensures passes { All (IsPassOf table.now) passes.new }
+    ensures numbers { numbers_of passes.new ≡ numbers_of passes.old }
+    ensures nearer { work_in passes.new ≤ work_in passes.old }
+{
+    let mut left = passes.len();
+    while left > HELPERS {
+        left -= 1;
+        take_mutator_turn(table, &mut passes[left], gate);
+    }
+}
+
+/// A mutator's part in a round; a helper has none in this one.
+#[inline(always)]
+fn take_mutator_turn<G: Gate>(table: &Epoch<AnyActor>, pass: &mut Pass, gate: &G)
+    requires can { CanBeReplayed table.now.opening }
+    requires pass { IsPassOf table.now pass.old }
+    ensures pass { IsPassOf table.now pass.new }
+    ensures number { pass.new.number ≡ pass.old.number }
+    ensures nearer { work_of pass.new.actor ≤ work_of pass.old.actor }
+{
+    if let AnyActor::Mutator(_) = pass.actor() {
+        let_mutate(table, pass, gate);
+    }
+}
+
+/// Lets each pass take its part in a round, from the last to the first: mutators come first. Whether some mutator goes on.
 #[inline(always)]
 fn make_round<G: Gate>(
     table: &Epoch<AnyActor>,
@@ -79,7 +162,7 @@ fn make_round<G: Gate>(
     some_go_on
 }
 
-/// One turn of a pass. Whether its mutator goes on.
+/// A pass's part in a round: a turn of a mutator that isn't finished, or of a helper that has something to do. Whether its mutator goes on.
 #[inline(always)]
 #[tactic(auto, using(crate::proofs::HelpLemmas::helpers_have_none))]
 fn take_turn<G: Gate>(table: &Epoch<AnyActor>, pass: &mut Pass, hints: &mut Hints, gate: &G) -> bool

@@ -1,2 +1,3 @@
 pub mod UnitEnds
 pub mod Openings
+pub mod KindUnits

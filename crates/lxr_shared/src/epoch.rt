@@ -6,6 +6,7 @@ ghost use Rattle.lxr_core.specs.Actors.{any_machine};
 ghost use Rattle.lxr_shared.specs.Ends.{end_of};
 ghost use Rattle.lxr_shared.specs.Sharing.{ToldOfHelper};
 
+use crate::kinds::ByKind;
 use crate::rest::Rest;
 use crate::turns::{Turn, last_turn, unit_is_short};
 use lxr_core::AnyActor;
@@ -104,7 +105,7 @@ impl Pass {
         ensures rests { any_machine.rests self.new.actor ≡ true }
     {
         unit_is_short(self.pass.actor());
-        self.pass.turn(table);
+        self.pass.turn_by::<ByKind>(table);
         let Some(turn) = last_turn(self.pass.actor()) else {
             unreachable!()
         };

@@ -8,6 +8,7 @@
 
 mod close;
 mod epoch;
+mod kinds;
 mod open;
 mod rest;
 mod turns;

@@ -2,9 +2,7 @@
 use Rattle.std.proofs.Common.{◌≡◌, ◌∙◌, ℕ, ◌+◌, ◌<◌, List, [], ◌∷◌, ◌++◌, length, Bool, false, Some, refl, sym, ap, subst, if◌then◌else◌, None, ◌⊎◌, inl, inr, arith}
 use Rattle.std.specs.Coded.{le_prop}
 use Rattle.std.proofs.lemmas.Option.{none-some}
-use Rattle.std.specs.Prelude.{IsTrue}
 use mathlib.Core.Logic.{∥∥₁_elim}
-use mathlib.Core.Bool.{Bool-set}
 use Rattle.lxr_actor.specs.declared.Action.{Action}
 use Rattle.lxr_actor.specs.declared.Core.{Core}
 use Rattle.lxr_actor.specs.declared.Event.{Event}
@@ -12,9 +10,7 @@ use Rattle.lxr_actor.specs.Machine.{Machine, to_go}
 use Rattle.lxr_actor.specs.Run.{times, AlwaysFits}
 use Rattle.lxr_actor.specs.declared.Event.TheVariants.{Step}
 use Rattle.lxr_actor.proofs.Runs.{run-lengths, fits-at, times-append, one_if-same}
-use Rattle.lxr_shared_passes.specs.declared.rule.View.{View}
 use Rattle.lxr_shared_passes.specs.Passing.{Passing, IsAt, DoesStep, GoesOn, Turned}
-use Rattle.lxr_shared_passes.specs.Rule.{one, Advanced}
 
 module _ {A : Type 0} (m : Machine A) where
   -- the word of the next step exists
@@ -25,11 +21,6 @@ module _ {A : Type 0} (m : Machine A) where
   -- within a unit, the bound is the actor's own
   pub busy-left : (a : A) → m.rests a ≡ false → to_go m a ≡ m.left a
   busy-left a e = ap (λ (b : Bool). if b then 0 else m.left a) e
-
-  -- one more step of a unit
-  pub goes-more : (olds : List ℕ) (p q r : Passing A) (old : ℕ) → GoesOn m p olds q → m.rests q.actor ≡ false → DoesStep m q old r → GoesOn m p (olds ++ old ∷ []) r
-  goes-more [] p q r old t busy d = subst (λ (z : Passing A). (m.rests z.actor ≡ false) × ((n : Passing A) × DoesStep m z old n × (r ≡ n))) t (busy, (r, d, refl))
-  goes-more (x ∷ xs) p q r old t busy d = (t.0, (t.1.0, t.1.1, goes-more xs t.1.0 q r old t.1.2 busy d))
 
   -- a step is one event of the pass's own
   step-counts : (p q : Passing A) (old : ℕ) → DoesStep m p old q → times q.number q.seen ≡ times p.number p.seen + 1

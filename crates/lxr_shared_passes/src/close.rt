@@ -6,6 +6,7 @@ ghost use Rattle.lxr_shared_passes.specs.Passing.{dealt, IsEnd};
 
 use crate::pass::{Epoch, Pass};
 use crate::rule::{Merge, Opening, Running, Sit, View};
+use crate::seated::Seated;
 use atomic_table::{Seat, Table};
 use lxr_actor::Actor;
 use lxr_tables::PlainWords;
@@ -46,11 +47,8 @@ fn gather<A: Actor>(
 {
     let mut rest = passes.into_iter();
     while let Some(pass) = rest.next() {
-        let Pass {
-            number: _,
-            actor,
-            seat,
-        } = pass;
+        let Pass { actor, seated } = pass;
+        let Seated { number: _, seat } = seated;
         table.shared.join_seat::<Merge<A>>(main, seat);
         actors.push_reserved(actor);
     }

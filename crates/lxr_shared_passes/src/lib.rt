@@ -10,8 +10,12 @@ mod close;
 mod open;
 mod pass;
 mod rule;
+mod seated;
 mod told;
+mod turning;
 
 pub use close::close_passes;
 pub use open::open_passes;
 pub use pass::{Epoch, Pass};
+pub use seated::Seated;
+pub use turning::{StepByStep, Turning};

@@ -6,6 +6,7 @@ ghost use Rattle.lxr_shared_passes.specs.Passing.{passing, dealt};
 
 use crate::pass::{Epoch, Pass};
 use crate::rule::{First, Opening, OpeningOf, Running, View};
+use crate::seated::Seated;
 use atomic_table::{Seat, Table};
 use lxr_actor::Actor;
 use lxr_tables::PlainWords;
@@ -71,8 +72,7 @@ fn pass_for<A: Actor>(
 {
     let seat = table.shared.split_seat::<First<A>>(main);
     Pass {
-        number,
         actor,
-        seat,
+        seated: Seated { number, seat },
     }
 }

@@ -1,12 +1,12 @@
 //! An epoch, which owns the table, and its passes, each an actor with a seat at the table.
-ghost use Rattle.std.specs.Prelude.{◌≡◌, ℕ, ◌<◌, ◌≤◌, List, [], length, Some, None, IsSome, false};
-ghost use Rattle.lxr_actor.specs.Machine.{to_go};
-ghost use Rattle.lxr_shared_passes.specs.Rule.{one, seen_in, Advanced};
-ghost use Rattle.lxr_shared_passes.specs.Passing.{IsSamePass, DoesStep, Turned};
+ghost use Rattle.std.specs.Prelude.{◌≡◌, ℕ, ◌≤◌, List, length, IsSome, false};
+ghost use Rattle.lxr_shared_passes.specs.Passing.{IsSamePass, Turned};
 
-use crate::rule::{Advance, Opening, Running, View};
-use atomic_table::{Seat, Table};
-use lxr_actor::{Action, Actor, Kindred};
+use crate::rule::{Opening, Running, View};
+use crate::seated::Seated;
+use crate::turning::{StepByStep, Turning};
+use atomic_table::Table;
+use lxr_actor::Actor;
 use std::alloc::Global;
 use std::marker::Model;
 
@@ -32,20 +32,20 @@ impl<A: Actor> Model for Epoch<A> {
 /// An actor of an epoch, with the right to do its steps.
 #[derive(Drop)]
 pub struct Pass<A: Actor> {
-    pub(crate) number: usize,
     pub(crate) actor: A,
-    pub(crate) seat: Seat<(), View<A>>,
+    pub(crate) seated: Seated<A>,
 }
 
 impl<A: Actor> Model for Pass<A> {
     ghost use Rattle.lxr_shared_passes.specs.Passing.{Passing};
-    ghost use Rattle.lxr_shared_passes.specs.Rule.{seen_in, IsSeated};
+    ghost use Rattle.lxr_shared_passes.specs.Rule.{IsSeated};
+    ghost use Rattle.lxr_shared_passes.specs.Seats.{pass_of};
 
     ghost Value = { Passing A };
 
-    ghost view = { λ p. record { epoch = p.seat.table_id; opening = p.seat.me.0.core; number = p.number; actor = p.actor; seen = seen_in p.seat.me.0 } };
+    ghost view = { λ p. pass_of p.seated p.actor };
 
-    ghost invariant = { λ p. IsSeated A.machine p.number p.actor p.seat };
+    ghost invariant = { λ p. IsSeated A.machine p.seated.number p.actor p.seated.seat };
 }
 
 impl<A: Actor> Pass<A> {
@@ -71,56 +71,16 @@ impl<A: Actor> Pass<A> {
         ensures pass { IsSamePass self.old self.new }
         ensures unit { (olds : List ℕ) × (length olds ≤ A.machine.left self.old.actor) × Turned A.machine self.old olds self.new }
     {
-        let Some(action) = self.actor.next() else {
-            return;
-        };
-        self.act(epoch, action);
-        while !self.actor.resting() {
-            let Some(action) = self.actor.next() else {
-                unreachable!()
-            };
-            self.act(epoch, action);
-        }
+        self.turn_by::<StepByStep>(epoch);
     }
 
-    /// Does one step.
+    /// Does one unit in the way `W`, by no more steps than the actor's bound. A finished actor makes no step.
     #[inline(always)]
-    fn act(&mut self, epoch: &Epoch<A>, action: Action)
-        requires epoch { self.old.epoch ≡ epoch.now.id }
-        requires next { A.machine.action self.old.actor ≡ Some action }
+    pub fn turn_by<W: Turning<A>>(&mut self, epoch: &Epoch<A>)
+        requires { self.old.epoch ≡ epoch.now.id }
         ensures pass { IsSamePass self.old self.new }
-        ensures step { (old : ℕ) × DoesStep A.machine self.old old self.new }
-        ensures nearer { to_go A.machine self.new.actor < A.machine.left self.old.actor }
+        ensures unit { (olds : List ℕ) × (length olds ≤ A.machine.left self.old.actor) × Turned A.machine self.old olds self.new }
     {
-        let old = perform(epoch, &mut self.seat, self.number, &self.actor, action);
-        self.actor.take(old);
-    }
-}
-
-/// Does one step of the actor that the seat holds, on the table alone. The answer is what the word was.
-#[inline(always)]
-fn perform<A: Actor>(
-    epoch: &Epoch<A>,
-    seat: &mut Seat<(), View<A>>,
-    number: usize,
-    actor: &A,
-    action: Action,
-) -> u64
-    requires epoch { seat.old.table_id ≡ epoch.now.id }
-    requires holds { seat.old.me ≡ (one seat.old.me.0.core number actor.now (seen_in seat.old.me.0), []) }
-    requires next { A.machine.action actor.now ≡ Some action }
-    requires word { action.word < seat.old.table_id.words }
-    ensures seat { (seat.new.table_id ≡ seat.old.table_id) × (seat.new.me.1 ≡ []) }
-    ensures told { Advanced A.machine action.word seat.old.me.0 result seat.new.me.0 }
-{
-    let shared = &epoch.table.shared;
-    let at = action.word as usize;
-    match action.kind {
-        Kindred::Load => shared.load::<Advance<A>>(seat, at),
-        Kindred::Store | Kindred::Swap => shared.swap::<Advance<A>>(seat, at, action.operand),
-        Kindred::Or => shared.fetch_or::<Advance<A>>(seat, at, action.operand),
-        Kindred::And => shared.fetch_and::<Advance<A>>(seat, at, action.operand),
-        Kindred::Add => shared.fetch_add::<Advance<A>>(seat, at, action.operand),
-        Kindred::Sub => shared.fetch_sub::<Advance<A>>(seat, at, action.operand),
+        W::do_unit(&mut self.actor, &mut self.seated, epoch);
     }
 }

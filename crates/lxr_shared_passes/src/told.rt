@@ -19,7 +19,8 @@ impl<A: Actor> Pass<A> {
         ensures answer { (self.new.actor, result) ≡ A.machine.offered self.old.actor place }
         ensures event { Told A.machine self.old (Give self.old.number place) self.new }
     {
-        say_given::<A, Brand>(epoch, &mut self.seat, self.number, &self.actor, place);
+        let seated = &mut self.seated;
+        say_given::<A, Brand>(epoch, &mut seated.seat, seated.number, &self.actor, place);
         self.actor.offer(place)
     }
 
@@ -30,7 +31,8 @@ impl<A: Actor> Pass<A> {
         ensures answer { (self.new.actor, result) ≡ A.machine.spared self.old.actor }
         ensures event { Told A.machine self.old (Out self.old.number) self.new }
     {
-        say_spared(epoch, &mut self.seat, self.number, &self.actor);
+        let seated = &mut self.seated;
+        say_spared(epoch, &mut seated.seat, seated.number, &self.actor);
         self.actor.surplus()
     }
 }

@@ -75,7 +75,7 @@ impl Mutator {
 
     /// The pause word was loaded: the unit ends where it was 1, and else its operation begins.
     #[inline(always)]
-    fn look_at_pause_word(&mut self, old: u64)
+    pub(super) fn look_at_pause_word(&mut self, old: u64)
         requires { self.old.phase ≡ MutatorPhase.Ready }
         ensures { self.new ≡ after_in self.old MutatorPhase.Ready old }
     {
@@ -88,7 +88,7 @@ impl Mutator {
 
     /// The data word was loaded: the operation is done, and tells it.
     #[inline(always)]
-    fn tell_datum(&mut self, word: u64)
+    pub(super) fn tell_datum(&mut self, word: u64)
         requires turn { self.old.phase ≢ MutatorPhase.Finished }
         requires operation { length self.old.replies.items < length self.old.operations }
         ensures { self.new ≡ done_with self.old (Reply.Got word) }
@@ -98,7 +98,7 @@ impl Mutator {
 
     /// The data word was stored to: the operation is done.
     #[inline(always)]
-    fn end_put(&mut self)
+    pub(super) fn end_put(&mut self)
         requires turn { self.old.phase ≢ MutatorPhase.Finished }
         requires operation { length self.old.replies.items < length self.old.operations }
         ensures { self.new ≡ done_with self.old Reply.Put }

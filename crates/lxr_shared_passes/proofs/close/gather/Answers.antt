@@ -26,7 +26,7 @@ loop-pass-preserved g c =
       taken = (
         taken.0 ++ c.in-Some.pass ∷ [],
         (taken.1 ∙ ap (λ ps. taken.0 ++ ps) c.in-Some.ensures.items) ∙ sym (append_assoc taken.0 (c.in-Some.pass ∷ []) (into_iter_items c.next.new.self)),
-        gathered taken.0 c.in-Some.pass _ c.loop-pass.main.me c.pass.inside.seat.me c.join_seat.new.seat.me c.join_seat.ensures.2 taken.2 (ap (λ z. z.0.held) c.pass.invariant.holds ∙ ap (λ p. held_of p ∷ []) c.pass.view_is),
+        gathered taken.0 c.in-Some.pass _ c.loop-pass.main.me c.pass.inside.seated.seat.me c.join_seat.new.seat.me c.join_seat.ensures.2 taken.2 (ap (λ z. z.0.held) c.pass.invariant.holds ∙ ap (λ p. held_of p ∷ []) c.pass.view_is),
         actors-more taken.0 c.in-Some.pass c.pass.inside.actor c.loop-pass.actors.items c.push_reserved.new.self.items c.push_reserved.ensures.items taken.3 (ap (λ p. p.actor) c.pass.view_is),
       );
     }

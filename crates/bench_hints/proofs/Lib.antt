@@ -1,0 +1,2 @@
+pub mod HelperLemmas
+pub mod CrewLemmas

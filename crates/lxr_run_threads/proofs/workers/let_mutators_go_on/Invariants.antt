@@ -1,0 +1,5 @@
+use Rattle.lxr_run_threads.proofs.RoundLemmas.{AreAfterTurns}
+use Rattle.lxr_run_threads.proofs.workers.let_mutators_go_on.Given as goal
+
+abbrev pub invariant-loop : goal.invariant-loop
+invariant-loop g l = AreAfterTurns l.table l.fn.passes l.passes
