@@ -12,7 +12,7 @@ ghost use Rattle.lxr_blocks.specs.Placing.{IsRest};
 use lxr_blocks::{list_runs, place_now};
 use lxr_image::Space;
 use lxr_layout::{LINES_IN_BLOCK, Limits, Name, Shape, WORDS_IN_BLOCK};
-use lxr_sweep_lines::sweep_lines;
+use lxr_blocks::sweep_lines;
 use std::alloc::{AllocError, Global};
 use std::time::Instant;
 use std::{env, io};

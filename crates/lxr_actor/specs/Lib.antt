@@ -1,3 +1,4 @@
 pub mod Change
 pub mod Machine
 pub mod Run
+pub mod Steps

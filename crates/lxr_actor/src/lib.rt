@@ -5,6 +5,10 @@
 //! threads.
 #![tactic(auto)]
 
+mod units;
+
+pub use units::{Steps, act, do_unit, finish_unit};
+
 ghost use Rattle.std.specs.Prelude.{◌≡◌, ℕ, ◌<◌, ◌↔◌, Bool, Option, IsSome, IsTrue, length, map, false};
 ghost use Rattle.lxr_actor.specs.declared.Action.{Action};
 ghost use Rattle.lxr_actor.specs.declared.Event.TheVariants.{Step};

@@ -7,3 +7,4 @@ pub mod LeftLemmas
 pub mod LineLemmas
 pub mod ListingLemmas
 pub mod MaskLemmas
+pub mod SweptLemmas

@@ -5,3 +5,4 @@ pub mod Listing
 pub mod Masks
 pub mod Placing
 pub mod States
+pub mod Swept

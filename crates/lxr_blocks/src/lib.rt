@@ -12,6 +12,8 @@ mod listing;
 mod masks;
 mod placing;
 mod states;
+mod sweeping;
+mod zeros;
 
 pub use handing::hand_out;
 pub use laws::{free_line_is_told, kept_line_is_taken, placed_is_beside};
@@ -19,3 +21,6 @@ pub use listing::list_runs;
 pub use masks::free_mask;
 pub use placing::place_now;
 pub use states::{BlockState, longest, renew_state, state};
+pub use sweeping::swept_is_by_lines;
+pub use sweeping::sweep_lines;
+pub use zeros::zero_lines;

@@ -38,14 +38,14 @@ use Rattle.lxr_trace.specs.Tracing as trace
 use Rattle.lxr_trace.specs.Steps.{tracer_machine}
 use Rattle.lxr_core_access.specs.Decrementers as decrementing
 use Rattle.lxr_core_access.specs.Tracers as tracing
-use Rattle.lxr_core_events.specs.ThreadStates.{Reason, Stage, ThreadState, Through, all_of}
-use Rattle.lxr_core_events.specs.ThreadStates as why
-use Rattle.lxr_core_events.specs.EpochStates.{Beginning, EpochState, limits_of}
-use Rattle.lxr_core_events.specs.Called.{IsWithinTurn, HasReason}
-use Rattle.lxr_core_events.specs.Logged.{logs_of}
-use Rattle.lxr_core_events.specs.Epoch.{AreResting as StatesRest, AreThrough, DecrementersRest, IsEpoch, IsResting, TracersRest}
-use Rattle.lxr_core_events.specs.Laws.{AllRest}
-use Rattle.lxr_core_events.specs.Through.{IsAsHistory}
+use Rattle.lxr_core_invariant.specs.ThreadStates.{Reason, Stage, ThreadState, Through, all_of}
+use Rattle.lxr_core_invariant.specs.ThreadStates as why
+use Rattle.lxr_core_invariant.specs.EpochStates.{Beginning, EpochState, limits_of}
+use Rattle.lxr_core_invariant.specs.Called.{IsWithinTurn, HasReason}
+use Rattle.lxr_core_invariant.specs.Logged.{logs_of}
+use Rattle.lxr_core_invariant.specs.Epoch.{AreResting as StatesRest, AreThrough, DecrementersRest, IsEpoch, IsResting, TracersRest}
+use Rattle.lxr_core_invariant.specs.Laws.{AllRest}
+use Rattle.lxr_core_invariant.specs.Through.{IsAsHistory}
 use Rattle.lxr_core_inv_counts.proofs.KeepingLemmas.{closing_counts}
 use Rattle.lxr_core_inv_inside.proofs.KeepingLemmas.{closing_inside}
 use Rattle.lxr_core_inv_remembered.proofs.SafepointLemmas.{closing_remembered}
@@ -62,8 +62,8 @@ use Rattle.lxr_core_close.proofs.SafepointLemmas.{closing_reaches_safepoint, dra
 use Rattle.lxr_core_close.proofs.CauseLemmas.{cause_follows}
 use Rattle.lxr_core_close.proofs.ProgressLemmas.{epoch_has_progress}
 use Rattle.lxr_core_sim_mutator.specs.Showing.{IsMutatorOf, IsNew, IsSteadyIn, reason_by, stage_in, thread_state_of}
-use Rattle.lxr_core_sim_decrementer.specs.Showing.{IsDecrementerOf, decrementing_in, decrementing_of}
-use Rattle.lxr_core_sim_tracer.specs.Showing.{IsTracerOf, tracing_in, tracing_of}
+use Rattle.lxr_core_sim_helpers.specs.DecrementerShowing.{IsDecrementerOf, decrementing_in, decrementing_of}
+use Rattle.lxr_core_sim_helpers.specs.TracerShowing.{IsTracerOf, tracing_in, tracing_of}
 use Rattle.lxr_core.specs.declared.actors.AnyActor.{AnyActor}
 use Rattle.lxr_core.specs.declared.actors.AnyActor.TheVariants as any
 use Rattle.lxr_core.specs.Actors.{AreInOrder, decrementers_in, mutators_in, script_of, tracers_in}

@@ -19,12 +19,12 @@ use Rattle.lxr_model.specs.Belongs.{asks_for_pause, calls_since_pause, has_asked
 use Rattle.lxr_model.specs.Kinds.{collect_called}
 use Rattle.lxr_model.specs.Moments.{moment}
 use Rattle.lxr_mutator.specs.Mutating.{Mutating, has_collected, is_collected, last_reply}
-use Rattle.lxr_core_events.specs.ThreadStates.{Reason, Stage, ThreadState, GivesUp, Names, Rests, Through, Works, all_of}
-use Rattle.lxr_core_events.specs.ThreadStates as why
-use Rattle.lxr_core_events.specs.EpochStates.{Beginning, EpochState, Extends, called, limits_of, same}
-use Rattle.lxr_core_events.specs.Called.{IsWithinTurn, uncounted, waiting_in}
-use Rattle.lxr_core_events.specs.Epoch.{IsEpoch, IsResting}
-use Rattle.lxr_core_events.specs.Through.{IsAsHistory}
+use Rattle.lxr_core_invariant.specs.ThreadStates.{Reason, Stage, ThreadState, GivesUp, Names, Rests, Through, Works, all_of}
+use Rattle.lxr_core_invariant.specs.ThreadStates as why
+use Rattle.lxr_core_invariant.specs.EpochStates.{Beginning, EpochState, Extends, called, limits_of, same}
+use Rattle.lxr_core_invariant.specs.Called.{IsWithinTurn, uncounted, waiting_in}
+use Rattle.lxr_core_invariant.specs.Epoch.{IsEpoch, IsResting}
+use Rattle.lxr_core_invariant.specs.Through.{IsAsHistory}
 use Rattle.lxr_core_sim_mutator.specs.Showing.{thread_state_of}
 use Rattle.lxr_core.proofs.CollectingLemmas.{take_one_more}
 

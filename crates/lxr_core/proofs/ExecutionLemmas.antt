@@ -24,25 +24,25 @@ use Rattle.lxr_trace.specs.Tracing.{TracerState}
 use Rattle.lxr_trace.specs.Steps.{tracer_machine}
 use Rattle.lxr_core_access.specs.Decrementers.{Decrementing}
 use Rattle.lxr_core_access.specs.Tracers.{Tracing}
-use Rattle.lxr_core_events.specs.ThreadStates.{ThreadState}
-use Rattle.lxr_core_events.specs.EpochStates.{Beginning, EpochState, limits_of}
-use Rattle.lxr_core_events.specs.Events as event
-use Rattle.lxr_core_events.specs.Decremented.{decremented, traced}
-use Rattle.lxr_core_events.specs.Happening.{happen}
-use Rattle.lxr_core_events.specs.Epoch.{IsEpoch}
-use Rattle.lxr_core_events.specs.Laws.{HaveNotFallen}
+use Rattle.lxr_core_invariant.specs.ThreadStates.{ThreadState}
+use Rattle.lxr_core_invariant.specs.EpochStates.{Beginning, EpochState, limits_of}
+use Rattle.lxr_core_invariant.specs.Events as event
+use Rattle.lxr_core_invariant.specs.Decremented.{decremented, traced}
+use Rattle.lxr_core_invariant.specs.Happening.{happen}
+use Rattle.lxr_core_invariant.specs.Epoch.{IsEpoch}
+use Rattle.lxr_core_invariant.specs.Laws.{HaveNotFallen}
 use Rattle.lxr_core_inv_memory.proofs.RaisingLemmas.{cursors_dont_fall}
 use Rattle.lxr_core_sim_mutator.specs.Showing.{IsMutatorOf, thread_state_of}
 use Rattle.lxr_core_sim_mutator.specs.Stepping.{ShowsAs, history_after, places_after, places_in}
 use Rattle.lxr_core_sim_mutator.proofs.StepLemmas.{each_step}
-use Rattle.lxr_core_sim_decrementer.specs.Showing.{IsDecrementerOf, decrementing_of}
-use Rattle.lxr_core_sim_decrementer.specs.Stepping.{ShowsDecrementer}
-use Rattle.lxr_core_sim_decrementer.proofs.HintLemmas.{hints_stay}
-use Rattle.lxr_core_sim_decrementer.proofs.StepLemmas.{each_step as helper_step}
-use Rattle.lxr_core_sim_tracer.specs.Showing.{IsTracerOf, tracing_of}
-use Rattle.lxr_core_sim_tracer.specs.Stepping.{ShowsTracer}
-use Rattle.lxr_core_sim_tracer.proofs.HintLemmas.{hints_stay as tracer_hints_stay}
-use Rattle.lxr_core_sim_tracer.proofs.StepLemmas.{each_step as tracer_step}
+use Rattle.lxr_core_sim_helpers.specs.DecrementerShowing.{IsDecrementerOf, decrementing_of}
+use Rattle.lxr_core_sim_helpers.specs.DecrementerStepping.{ShowsDecrementer}
+use Rattle.lxr_core_sim_helpers.proofs.DecrementerHintLemmas.{hints_stay}
+use Rattle.lxr_core_sim_helpers.proofs.DecrementerStepLemmas.{each_step as helper_step}
+use Rattle.lxr_core_sim_helpers.specs.TracerShowing.{IsTracerOf, tracing_of}
+use Rattle.lxr_core_sim_helpers.specs.TracerStepping.{ShowsTracer}
+use Rattle.lxr_core_sim_helpers.proofs.TracerHintLemmas.{hints_stay as tracer_hints_stay}
+use Rattle.lxr_core_sim_helpers.proofs.TracerStepLemmas.{each_step as tracer_step}
 use Rattle.lxr_core.specs.declared.actors.AnyActor.{AnyActor}
 use Rattle.lxr_core.specs.declared.actors.AnyActor.TheVariants as any
 use Rattle.lxr_core.specs.Actors.{any_machine, decrementers_in, mutators_in, tracers_in}

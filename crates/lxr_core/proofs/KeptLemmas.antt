@@ -6,15 +6,15 @@ use Rattle.lxr_image.specs.Tables.{Tables}
 use Rattle.lxr_core_access.specs.Accesses.{done_to}
 use Rattle.lxr_core_access.specs.Decrementers.{Decrementing}
 use Rattle.lxr_core_access.specs.Tracers.{Tracing}
-use Rattle.lxr_core_events.specs.EpochStates.{Beginning, EpochState}
-use Rattle.lxr_core_events.specs.Decremented.{LeavesTables}
-use Rattle.lxr_core_events.specs.Counted.{AreCountedIn}
-use Rattle.lxr_core_events.specs.Traced.{AreScannedIn}
-use Rattle.lxr_core_events.specs.Covered.{SnapshotIsCoveredIn}
-use Rattle.lxr_core_events.specs.Inside.{MarksStayInsideIn}
-use Rattle.lxr_core_events.specs.Remembered.{AreRememberedIn}
-use Rattle.lxr_core_events.specs.Epoch.{IsEpoch}
-use Rattle.lxr_core_events.specs.Laws.{DecrementersKeepEpoch, EpochIsKept, TracersKeepEpoch}
+use Rattle.lxr_core_invariant.specs.EpochStates.{Beginning, EpochState}
+use Rattle.lxr_core_invariant.specs.Decremented.{LeavesTables}
+use Rattle.lxr_core_invariant.specs.Counted.{AreCountedIn}
+use Rattle.lxr_core_invariant.specs.Traced.{AreScannedIn}
+use Rattle.lxr_core_invariant.specs.Covered.{SnapshotIsCoveredIn}
+use Rattle.lxr_core_invariant.specs.Inside.{MarksStayInsideIn}
+use Rattle.lxr_core_invariant.specs.Remembered.{AreRememberedIn}
+use Rattle.lxr_core_invariant.specs.Epoch.{IsEpoch}
+use Rattle.lxr_core_invariant.specs.Laws.{DecrementersKeepEpoch, EpochIsKept, TracersKeepEpoch}
 use Rattle.lxr_core_inv_counts.proofs.KeepingLemmas.{counts_are_kept, decrementers_are_sound, decrementers_keep_counts, tracers_keep_counts}
 use Rattle.lxr_core_inv_history.proofs.EventLemmas.{history_is_kept}
 use Rattle.lxr_core_inv_history.proofs.LeftLemmas.{history_is_left}
@@ -27,9 +27,9 @@ use Rattle.lxr_core_inv_memory.proofs.DrawnLemmas.{drawn_memory_is_kept}
 use Rattle.lxr_core_inv_memory.proofs.FixedLemmas.{fixed_tables_are_kept, fixed_tables_are_left}
 use Rattle.lxr_core_inv_memory.proofs.LeftLemmas.{drawn_memory_is_left}
 use Rattle.lxr_core_inv_remembered.proofs.KeepingLemmas.{decrementers_keep_remembered, remembered_is_kept, tracers_keep_remembered}
-use Rattle.lxr_core_inv_replies.proofs.KeepingLemmas.{registers_are_kept}
-use Rattle.lxr_core_inv_replies.proofs.LeftLemmas.{registers_are_left}
-use Rattle.lxr_core_inv_replies.proofs.ReplyLemmas.{replies_are_steps}
+use Rattle.lxr_core_inv_history.proofs.KeepingLemmas.{registers_are_kept}
+use Rattle.lxr_core_inv_history.proofs.RegistersLeftLemmas.{registers_are_left}
+use Rattle.lxr_core_inv_history.proofs.ReplyLemmas.{replies_are_steps}
 use Rattle.lxr_core_inv_scans.proofs.KeepingLemmas.{decrementers_keep_knowledge, knowledge_is_kept, tracers_are_sound, tracers_keep_knowledge}
 use Rattle.lxr_core_inv_snapshot.proofs.HelperLemmas.{decrementers_keep_cover, tracers_keep_cover}
 use Rattle.lxr_core_inv_snapshot.proofs.MutatorLemmas.{cover_is_kept}

@@ -38,17 +38,17 @@ use Rattle.lxr_trace.specs.Tracers.{IsIn as IsTracerIn}
 use Rattle.lxr_trace.specs.Tracers.{again as trace_again}
 use Rattle.lxr_core_access.specs.Decrementers.{Decrementing}
 use Rattle.lxr_core_access.specs.Tracers.{Tracing}
-use Rattle.lxr_core_sim_decrementer.specs.Showing.{IsDecrementerOf, decrementing_of}
-use Rattle.lxr_core_sim_decrementer.proofs.HintLemmas.{hints_stay}
-use Rattle.lxr_core_sim_tracer.specs.Showing.{IsTracerOf, tracing_in, tracing_of}
-use Rattle.lxr_core_sim_tracer.proofs.HintLemmas.{hints_stay as tracers_stay}
-use Rattle.lxr_core_events.specs.ThreadStates.{ThreadState, Through, all_of}
-use Rattle.lxr_core_events.specs.EpochStates.{Beginning, IsBeginning, EpochState, limits_of}
-use Rattle.lxr_core_events.specs.Counted.{IsInHeap}
-use Rattle.lxr_core_events.specs.Imaged.{HoldsRegisters}
-use Rattle.lxr_core_events.specs.Epoch.{IsEpoch}
-use Rattle.lxr_core_events.proofs.HeldLemmas.{in_register}
-use Rattle.lxr_core_events.proofs.HeldLemmas as model
+use Rattle.lxr_core_sim_helpers.specs.DecrementerShowing.{IsDecrementerOf, decrementing_of}
+use Rattle.lxr_core_sim_helpers.proofs.DecrementerHintLemmas.{hints_stay}
+use Rattle.lxr_core_sim_helpers.specs.TracerShowing.{IsTracerOf, tracing_in, tracing_of}
+use Rattle.lxr_core_sim_helpers.proofs.TracerHintLemmas.{hints_stay as tracers_stay}
+use Rattle.lxr_core_invariant.specs.ThreadStates.{ThreadState, Through, all_of}
+use Rattle.lxr_core_invariant.specs.EpochStates.{Beginning, IsBeginning, EpochState, limits_of}
+use Rattle.lxr_core_invariant.specs.Counted.{IsInHeap}
+use Rattle.lxr_core_invariant.specs.Imaged.{HoldsRegisters}
+use Rattle.lxr_core_invariant.specs.Epoch.{IsEpoch}
+use Rattle.lxr_core_invariant.proofs.HeldLemmas.{in_register}
+use Rattle.lxr_core_invariant.proofs.HeldLemmas as model
 use Rattle.lxr_core_sim_mutator.specs.Showing.{IsMutatorOf, IsSteadyIn, WaitsForNew, reason_by, stage_in, thread_state_of}
 use Rattle.lxr_core_sim_mutator.proofs.NamingLemmas.{named_after}
 use Rattle.lxr_core.specs.declared.actors.AnyActor.{AnyActor}

@@ -20,17 +20,17 @@ use Rattle.lxr_invariant.proofs.EntryLemmas.{changed_other}
 use Rattle.lxr_invariant.proofs.FrameLemmas.{bits_still, image_still}
 use Rattle.lxr_core_access.specs.Decrementers.{Decrementing}
 use Rattle.lxr_core_access.specs.Tracers.{Tracing}
-use Rattle.lxr_core_events.specs.ThreadStates.{Stage, ThreadState, Rests, Through, Works, all_of}
-use Rattle.lxr_core_events.specs.ThreadStates as intent
-use Rattle.lxr_core_events.specs.EpochStates.{Beginning, IsBeginning, EpochState, limits_of, moment_of, opening_tables, same}
-use Rattle.lxr_core_events.specs.Events.{Source, span_from}
-use Rattle.lxr_core_events.specs.Events as source
-use Rattle.lxr_core_events.specs.Imaged.{HoldsRegisters, IsImagedIn, IsPlacedIn, Knows}
-use Rattle.lxr_core_events.specs.Logged.{AreBitsAndLogs, logs_of, with_cleared}
-use Rattle.lxr_core_events.specs.Drawn.{AreFixed, Drawers, HasDrawn, IsDrawnMemory}
-use Rattle.lxr_core_events.specs.Called.{AreCalled, AreReplies, IsWithinTurn, HasCalled, waiting_in}
-use Rattle.lxr_core_events.specs.Epoch.{IsEpoch}
-use Rattle.lxr_core_events.specs.Laws.{OpensWith}
+use Rattle.lxr_core_invariant.specs.ThreadStates.{Stage, ThreadState, Rests, Through, Works, all_of}
+use Rattle.lxr_core_invariant.specs.ThreadStates as intent
+use Rattle.lxr_core_invariant.specs.EpochStates.{Beginning, IsBeginning, EpochState, limits_of, moment_of, opening_tables, same}
+use Rattle.lxr_core_invariant.specs.Events.{Source, span_from}
+use Rattle.lxr_core_invariant.specs.Events as source
+use Rattle.lxr_core_invariant.specs.Imaged.{HoldsRegisters, IsImagedIn, IsPlacedIn, Knows}
+use Rattle.lxr_core_invariant.specs.Logged.{AreBitsAndLogs, logs_of, with_cleared}
+use Rattle.lxr_core_invariant.specs.Drawn.{AreFixed, Drawers, HasDrawn, IsDrawnMemory}
+use Rattle.lxr_core_invariant.specs.Called.{AreCalled, AreReplies, IsWithinTurn, HasCalled, waiting_in}
+use Rattle.lxr_core_invariant.specs.Epoch.{IsEpoch}
+use Rattle.lxr_core_invariant.specs.Laws.{OpensWith}
 use Rattle.lxr_core_inv_counts.proofs.KeepingLemmas.{opening_counts}
 use Rattle.lxr_core_inv_inside.proofs.KeepingLemmas.{opening_inside}
 use Rattle.lxr_core_inv_remembered.proofs.SafepointLemmas.{opening_remembered}

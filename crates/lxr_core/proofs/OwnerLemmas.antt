@@ -17,11 +17,11 @@ use Rattle.lxr_invariant.specs.Lines.{Covers, KeepLines}
 use Rattle.lxr_invariant.specs.Listed.{AreApartRuns, IsListed, whole_block}
 use Rattle.lxr_core_access.specs.Decrementers.{Decrementing}
 use Rattle.lxr_core_access.specs.Tracers.{Tracing}
-use Rattle.lxr_core_events.specs.ThreadStates.{Stage, ThreadState}
-use Rattle.lxr_core_events.specs.EpochStates.{Beginning, limits_of, moment_of, opening_tables}
-use Rattle.lxr_core_events.specs.Events.{Source, span_from}
-use Rattle.lxr_core_events.specs.Events as source
-use Rattle.lxr_core_events.specs.Drawn.{HasGranule, IsOfBlock, IsOfHand, IsOfMaking, IsOfMember, IsOfRun, Owner, Owns, UndrawnRun, UndrawnBlock, InHand, InSpan, InMaking, OfMember}
+use Rattle.lxr_core_invariant.specs.ThreadStates.{Stage, ThreadState}
+use Rattle.lxr_core_invariant.specs.EpochStates.{Beginning, limits_of, moment_of, opening_tables}
+use Rattle.lxr_core_invariant.specs.Events.{Source, span_from}
+use Rattle.lxr_core_invariant.specs.Events as source
+use Rattle.lxr_core_invariant.specs.Drawn.{HasGranule, IsOfBlock, IsOfHand, IsOfMaking, IsOfMember, IsOfRun, Owner, Owns, UndrawnRun, UndrawnBlock, InHand, InSpan, InMaking, OfMember}
 use Rattle.lxr_core.proofs.StartingLemmas.{AllStart, Starts, StartsIn, anew, over, opening_epoch_state}
 
 -- ---- granules of runs and blocks

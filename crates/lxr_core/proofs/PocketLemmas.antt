@@ -19,7 +19,7 @@ use Rattle.lxr_actor.proofs.Runs.{slice_get-set_other}
 use Rattle.lxr_pocket.specs.Words.{is_in_heap}
 use Rattle.lxr_trace.specs.Tracing.{TracerState}
 use Rattle.lxr_trace.specs.Steps.{offered}
-use Rattle.lxr_core_sim_tracer.specs.Showing.{IsTracerOf}
+use Rattle.lxr_core_sim_helpers.specs.TracerShowing.{IsTracerOf}
 use Rattle.lxr_core.specs.declared.actors.AnyActor.{AnyActor}
 use Rattle.lxr_core.specs.declared.actors.AnyActor.TheVariants as any
 use Rattle.lxr_core.specs.Actors.{tracers_in}

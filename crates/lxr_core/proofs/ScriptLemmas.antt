@@ -31,7 +31,7 @@ use Rattle.lxr_decrement.specs.Steps.{decrementer_machine}
 use Rattle.lxr_trace.specs.Tracing.{TracerState}
 use Rattle.lxr_trace.specs.Tracers.{again as trace_again}
 use Rattle.lxr_trace.specs.Steps.{tracer_machine}
-use Rattle.lxr_core_events.specs.ThreadStates.{all_of}
+use Rattle.lxr_core_invariant.specs.ThreadStates.{all_of}
 use Rattle.lxr_core.specs.declared.actors.AnyActor.{AnyActor}
 use Rattle.lxr_core.specs.declared.actors.AnyActor.TheVariants as any
 use Rattle.lxr_core.specs.Actors.{any_machine, mutators_in, script_of}

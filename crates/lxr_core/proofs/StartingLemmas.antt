@@ -9,12 +9,12 @@ use Rattle.lxr_core_access.specs.Decrementers.{Decrementing}
 use Rattle.lxr_core_access.specs.Decrementers as decrementing
 use Rattle.lxr_core_access.specs.Tracers.{Tracing}
 use Rattle.lxr_core_access.specs.Tracers as tracing
-use Rattle.lxr_core_events.specs.Happening.{with_cursor}
+use Rattle.lxr_core_invariant.specs.Happening.{with_cursor}
 use Rattle.lxr_alloc.specs.Spans.{empty_span}
-use Rattle.lxr_core_events.specs.ThreadStates.{Stage, ThreadState, Rests, Through, Works, Intent, all_of}
-use Rattle.lxr_core_events.specs.ThreadStates as why
-use Rattle.lxr_core_events.specs.EpochStates.{Beginning, EpochState, limits_of, opening_tables}
-use Rattle.lxr_core_events.specs.Imaged.{HoldsRegisters}
+use Rattle.lxr_core_invariant.specs.ThreadStates.{Stage, ThreadState, Rests, Through, Works, Intent, all_of}
+use Rattle.lxr_core_invariant.specs.ThreadStates as why
+use Rattle.lxr_core_invariant.specs.EpochStates.{Beginning, EpochState, limits_of, opening_tables}
+use Rattle.lxr_core_invariant.specs.Imaged.{HoldsRegisters}
 
 -- it rests, with operations or the end left, or it has done its end
 pub data StartsIn (v : ThreadState) : Stage → Type 0 where

@@ -16,7 +16,7 @@ use Rattle.lxr_decrement.specs.Decrementing.{DecrementerState}
 use Rattle.lxr_decrement.specs.Steps.{decrementer_machine}
 use Rattle.lxr_trace.specs.Tracing.{TracerState}
 use Rattle.lxr_trace.specs.Steps.{tracer_machine}
-use Rattle.lxr_core_events.specs.EpochStates.{Beginning, EpochState, moment_of}
+use Rattle.lxr_core_invariant.specs.EpochStates.{Beginning, EpochState, moment_of}
 use Rattle.lxr_core_sim_mutator.specs.Stepping.{history_after, places_after, places_in, stands_in}
 use Rattle.lxr_core.specs.declared.actors.AnyActor.{AnyActor}
 use Rattle.lxr_core.specs.declared.actors.AnyActor.TheVariants as any

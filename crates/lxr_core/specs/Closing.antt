@@ -19,7 +19,7 @@ use Rattle.lxr_invariant.specs.Quiescent.{IsAtSafepoint}
 use Rattle.lxr_mutator.specs.declared.phases.MutatorPhase.TheVariants as phase
 use Rattle.lxr_mutator.specs.Mutating.{IsWaiting, Mutating, has_collected}
 use Rattle.lxr_mutator.specs.Mutators.{IsThrough}
-use Rattle.lxr_core_events.specs.EpochStates.{Beginning, Extends, limits_of}
+use Rattle.lxr_core_invariant.specs.EpochStates.{Beginning, Extends, limits_of}
 use Rattle.lxr_core_close.specs.HandingOut.{AreHandedOut, IsDrawn}
 use Rattle.lxr_core_close.specs.Safepoint.{WasFree}
 use Rattle.lxr_core_close.specs.Cause.{AreTermsOf}

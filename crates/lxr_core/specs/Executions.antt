@@ -14,13 +14,13 @@ use Rattle.lxr_mutator.specs.Mutating.{Mutating}
 use Rattle.lxr_mutator.specs.Steps.{mutator_machine}
 use Rattle.lxr_decrement.specs.Decrementing.{DecrementerState}
 use Rattle.lxr_trace.specs.Tracing.{TracerState}
-use Rattle.lxr_core_events.specs.EpochStates.{Beginning, EpochState, limits_of}
-use Rattle.lxr_core_events.specs.Epoch.{IsEpoch}
-use Rattle.lxr_core_events.specs.Laws.{HaveNotFallen}
+use Rattle.lxr_core_invariant.specs.EpochStates.{Beginning, EpochState, limits_of}
+use Rattle.lxr_core_invariant.specs.Epoch.{IsEpoch}
+use Rattle.lxr_core_invariant.specs.Laws.{HaveNotFallen}
 use Rattle.lxr_core_sim_mutator.specs.Showing.{IsMutatorOf, thread_state_of}
 use Rattle.lxr_core_sim_mutator.specs.Stepping.{history_after, places_after}
-use Rattle.lxr_core_sim_decrementer.specs.Showing.{IsDecrementerOf, decrementing_of}
-use Rattle.lxr_core_sim_tracer.specs.Showing.{IsTracerOf, tracing_of}
+use Rattle.lxr_core_sim_helpers.specs.DecrementerShowing.{IsDecrementerOf, decrementing_of}
+use Rattle.lxr_core_sim_helpers.specs.TracerShowing.{IsTracerOf, tracing_of}
 use Rattle.lxr_core.specs.declared.actors.AnyActor.{AnyActor}
 use Rattle.lxr_core.specs.declared.actors.AnyActor.TheVariants as any
 use Rattle.lxr_core.specs.Actors.{AreInOrder, any_machine, decrementers_in, mutators_in, tracers_in}

@@ -9,8 +9,8 @@ use Rattle.lxr_image.specs.Reads.{granule_of}
 use Rattle.lxr_image_search.specs.declared.Wanted.TheVariants.{ToScan}
 use Rattle.lxr_image_search.specs.Search.{is_wanted}
 use Rattle.lxr_trace.specs.Tracing.{TracerState}
-use Rattle.lxr_core_events.specs.Counted.{IsInHeap}
-use Rattle.lxr_core_sim_tracer.specs.Showing.{IsTracerOf}
+use Rattle.lxr_core_invariant.specs.Counted.{IsInHeap}
+use Rattle.lxr_core_sim_helpers.specs.TracerShowing.{IsTracerOf}
 use Rattle.lxr_core.specs.declared.actors.AnyActor.{AnyActor}
 use Rattle.lxr_core.specs.declared.actors.AnyActor.TheVariants as any
 use Rattle.lxr_core.specs.Actors.{tracers_in}

@@ -12,9 +12,9 @@ use Rattle.lxr_decrement.specs.Decrementing.{DecrementerState}
 use Rattle.lxr_decrement.specs.Steps.{decrementer_machine}
 use Rattle.lxr_trace.specs.Tracing.{TracerState}
 use Rattle.lxr_trace.specs.Steps.{tracer_machine}
-use Rattle.lxr_core_events.specs.ThreadStates.{all_of}
-use Rattle.lxr_core_sim_decrementer.specs.Showing.{IsDecrementerOf}
-use Rattle.lxr_core_sim_tracer.specs.Showing.{IsTracerOf}
+use Rattle.lxr_core_invariant.specs.ThreadStates.{all_of}
+use Rattle.lxr_core_sim_helpers.specs.DecrementerShowing.{IsDecrementerOf}
+use Rattle.lxr_core_sim_helpers.specs.TracerShowing.{IsTracerOf}
 use Rattle.lxr_core_sim_mutator.specs.Showing.{IsMutatorOf}
 use Rattle.lxr_core.specs.declared.actors.AnyActor.{AnyActor}
 use Rattle.lxr_core.specs.Actors.{AreInOrder, decrementers_in, mutators_in, tracers_in}

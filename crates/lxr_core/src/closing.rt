@@ -1,6 +1,6 @@
 //! The closing of an epoch.
 ghost use Rattle.std.specs.Prelude.{◌≡◌, ◌+◌, ◌^◌, ◌++◌, ◌<◌, ◌≤◌, length};
-ghost use Rattle.lxr_core_events.specs.EpochStates.{Beginning};
+ghost use Rattle.lxr_core_invariant.specs.EpochStates.{Beginning};
 ghost use Rattle.lxr_core.specs.Closing.{Closes, MayClose};
 ghost use Rattle.lxr_core.specs.Collecting.{HaveGiven, MayAllGive, MayGive, MayTake, given_up, taken_of, tallied};
 ghost use Rattle.lxr_core.specs.Executions.{Execution};

@@ -2,7 +2,7 @@
 ghost use Rattle.std.specs.Prelude.{◌≡◌, ℕ, ◌*◌, ◌≤◌, [], length};
 ghost use Rattle.lxr_layout.specs.declared.TheConstants.{GRANULES_IN_BLOCK};
 ghost use Rattle.lxr_image.specs.Spaces.{IsSpace, tables_of};
-ghost use Rattle.lxr_core_sim_tracer.specs.Showing.{IsTracerOf};
+ghost use Rattle.lxr_core_sim_helpers.specs.TracerShowing.{IsTracerOf};
 ghost use Rattle.lxr_core.specs.Filling.{FillsPocket, HaveFilled, MayAllFill};
 
 use crate::actors::AnyActor;

@@ -3,7 +3,7 @@ ghost use Rattle.std.specs.Prelude.{◌≡◌, ◌+◌, ◌*◌, ◌<◌, ◌≤
 ghost use Rattle.std.specs.List.{All};
 ghost use Rattle.lxr_mutator.specs.Mutators.{IsHeld};
 ghost use Rattle.lxr_invariant.specs.AbstractState.{AbstractState};
-ghost use Rattle.lxr_core_events.specs.EpochStates.{Beginning};
+ghost use Rattle.lxr_core_invariant.specs.EpochStates.{Beginning};
 ghost use Rattle.lxr_core.specs.Actors.{AreInOrder, mutators_in};
 ghost use Rattle.lxr_core.specs.Executions.{HoldsExecution};
 ghost use Rattle.lxr_core.specs.Opening.{Begins, MayOpen, Opens, execution_at};

@@ -7,11 +7,11 @@ use Rattle.lxr_graph.specs.History.{calls_of}
 use Rattle.lxr_model.specs.Belongs.{IsCauseOf, calls_since_pause, is_new, is_store, next_operation}
 use Rattle.lxr_model.specs.Moments.{moment}
 use Rattle.lxr_model.specs.Terms.{Terms}
-use Rattle.lxr_core_events.specs.ThreadStates.{ThreadState}
-use Rattle.lxr_core_events.specs.EpochStates.{Beginning, EpochState, moment_of}
-use Rattle.lxr_core_events.specs.Epoch.{AreThrough, IsEpoch}
-use Rattle.lxr_core_events.specs.Laws.{AllBlocksAreTaken, HasClosingLogs}
-use Rattle.lxr_core_events.specs.Through.{CausesPause, next_by}
+use Rattle.lxr_core_invariant.specs.ThreadStates.{ThreadState}
+use Rattle.lxr_core_invariant.specs.EpochStates.{Beginning, EpochState, moment_of}
+use Rattle.lxr_core_invariant.specs.Epoch.{AreThrough, IsEpoch}
+use Rattle.lxr_core_invariant.specs.Laws.{AllBlocksAreTaken, HasClosingLogs}
+use Rattle.lxr_core_invariant.specs.Through.{CausesPause, next_by}
 use Rattle.lxr_core_close.specs.Cause.{AreTermsOf, CauseFollows, script_in}
 
 -- the script has the operations of each mutator

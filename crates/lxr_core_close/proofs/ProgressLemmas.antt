@@ -5,13 +5,13 @@ use Rattle.lxr_graph.specs.History.{Item}
 use Rattle.lxr_graph.proofs.NameSets.{not_both}
 use Rattle.lxr_model.specs.Belongs.{calls_since_pause, has_asked}
 use Rattle.lxr_model.specs.Moments.{moment}
-use Rattle.lxr_core_events.specs.ThreadStates.{Reason, ThreadState, Through}
-use Rattle.lxr_core_events.specs.ThreadStates as why
-use Rattle.lxr_core_events.specs.EpochStates.{Beginning, Extends, EpochState, called, limits_of, moment_of, same}
-use Rattle.lxr_core_events.specs.Called.{IsWithinTurn, HasReason, SetsPauseWord}
-use Rattle.lxr_core_events.specs.Epoch.{AreThrough, IsEpoch}
-use Rattle.lxr_core_events.specs.Laws.{HasClosingLogs}
-use Rattle.lxr_core_events.specs.Through.{AllEnded}
+use Rattle.lxr_core_invariant.specs.ThreadStates.{Reason, ThreadState, Through}
+use Rattle.lxr_core_invariant.specs.ThreadStates as why
+use Rattle.lxr_core_invariant.specs.EpochStates.{Beginning, Extends, EpochState, called, limits_of, moment_of, same}
+use Rattle.lxr_core_invariant.specs.Called.{IsWithinTurn, HasReason, SetsPauseWord}
+use Rattle.lxr_core_invariant.specs.Epoch.{AreThrough, IsEpoch}
+use Rattle.lxr_core_invariant.specs.Laws.{HasClosingLogs}
+use Rattle.lxr_core_invariant.specs.Through.{AllEnded}
 use Rattle.lxr_core_close.specs.Cause.{EpochHasProgress, LacksLines}
 
 -- a history that goes on is the same, or longer

@@ -33,16 +33,16 @@ use Rattle.lxr_invariant.proofs.FrameLemmas.{bits_still, blocks_still, counts_st
 use Rattle.lxr_invariant.proofs.BlockLemmas.{blocks_kept, still_not}
 use Rattle.lxr_invariant.proofs.NameLemmas.{in_first, in_second}
 use Rattle.lxr_invariant.proofs.PlaceLemmas.{marks_stay}
-use Rattle.lxr_core_events.specs.EpochStates.{Beginning, EpochState, limits_of, moment_of, opening_tables}
-use Rattle.lxr_core_events.specs.Logged.{logs_of}
-use Rattle.lxr_core_events.specs.Drawn.{IsDrawnMemory, LieInDrawn}
-use Rattle.lxr_core_events.specs.Epoch.{IsEpoch}
-use Rattle.lxr_core_events.specs.Laws.{HasClosingCounts, HasClosingLogs}
+use Rattle.lxr_core_invariant.specs.EpochStates.{Beginning, EpochState, limits_of, moment_of, opening_tables}
+use Rattle.lxr_core_invariant.specs.Logged.{logs_of}
+use Rattle.lxr_core_invariant.specs.Drawn.{IsDrawnMemory, LieInDrawn}
+use Rattle.lxr_core_invariant.specs.Epoch.{IsEpoch}
+use Rattle.lxr_core_invariant.specs.Laws.{HasClosingCounts, HasClosingLogs}
 use Rattle.lxr_core_close.specs.HandingOut.{AreHandedOut, AreLater, DrawnIsOut, IsDrawnLine, drawn_blocks, drawn_runs}
 use Rattle.lxr_core_close.specs.Safepoint.{ClosingReachesSafepoint, DrawnMayBeHandedOut, DrawnWasFree, HasClosingTrace, HasCollected, IsClosed, registers_of}
 use Rattle.lxr_core_close.proofs.HandingLemmas.{drawn_is_out, keeps_state, listed_was_free, still_out}
-use Rattle.lxr_core_events.proofs.DrawnLemmas.{block_below, run_below}
-use Rattle.lxr_core_events.proofs.PauseLemmas.{one_pause, unmoved}
+use Rattle.lxr_core_invariant.proofs.DrawnLemmas.{block_below, run_below}
+use Rattle.lxr_core_invariant.proofs.PauseLemmas.{one_pause, unmoved}
 use Rattle.lxr_core_close.proofs.ListLemmas.{few_entries, registers_are_places}
 use Rattle.lxr_core_close.proofs.StillLemmas.{marks_unmoved, same_size}
 use Rattle.lxr_core_close.proofs.TraceLemmas.{KeepReuse, traced_closes}

@@ -11,7 +11,7 @@ use Rattle.lxr_model.specs.Moments.{Moment}
 use Rattle.lxr_model_counting.specs.Following.{FollowsPause, HasShapeOf}
 use Rattle.lxr_invariant.specs.Lines.{HasMarks, IsMarkOf}
 use Rattle.lxr_invariant.proofs.PlaceLemmas.{same_object}
-use Rattle.lxr_core_events.proofs.PauseLemmas.{AreUnmoved, HaveOnePause}
+use Rattle.lxr_core_invariant.proofs.PauseLemmas.{AreUnmoved, HaveOnePause}
 
 -- ---- shapes
 

@@ -22,10 +22,10 @@ use Rattle.lxr_invariant.specs.Lines.{Covers}
 use Rattle.lxr_invariant.specs.Standing.{word_of_field}
 use Rattle.lxr_invariant.specs.Tracing.{HandledAreGray, HasOverflowed, IsCovered, IsEntryWord, IsInChosen, IsRemembered, IsRememberedSoFar, IsScanned, IsToBeScanned, IsTracedBy, MarksStayInside, SnapshotIsCovered, StaysGarbage, TraceHolds, unscanned_slots}
 use Rattle.lxr_invariant.proofs.NameLemmas.{in_first}
-use Rattle.lxr_core_events.specs.EpochStates.{Beginning, EpochState, limits_of, moment_of, opening_tables}
-use Rattle.lxr_core_events.specs.Logged.{logs_of}
-use Rattle.lxr_core_events.specs.Epoch.{IsEpoch}
-use Rattle.lxr_core_events.proofs.PauseLemmas.{HaveOnePause, one_pause}
+use Rattle.lxr_core_invariant.specs.EpochStates.{Beginning, EpochState, limits_of, moment_of, opening_tables}
+use Rattle.lxr_core_invariant.specs.Logged.{logs_of}
+use Rattle.lxr_core_invariant.specs.Epoch.{IsEpoch}
+use Rattle.lxr_core_invariant.proofs.PauseLemmas.{HaveOnePause, one_pause}
 use Rattle.lxr_core_close.specs.Safepoint.{HasClosingTrace, closed_state}
 
 -- ---- lines that are handed out

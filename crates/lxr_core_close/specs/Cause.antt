@@ -4,12 +4,12 @@ use Rattle.lxr_model.specs.Belongs.{Script, has_asked}
 use Rattle.lxr_model.specs.Belongs.{HasCause as ScriptHasCause}
 use Rattle.lxr_model.specs.Legal.{IsLegalSoFar}
 use Rattle.lxr_model.specs.Terms.{Terms}
-use Rattle.lxr_core_events.specs.ThreadStates.{ThreadState, Through}
-use Rattle.lxr_core_events.specs.ThreadStates as why
-use Rattle.lxr_core_events.specs.EpochStates.{Beginning, EpochState, limits_of}
-use Rattle.lxr_core_events.specs.Epoch.{AreThrough, IsEpoch}
-use Rattle.lxr_core_events.specs.Laws.{AllBlocksAreTaken, HasClosingLogs}
-use Rattle.lxr_core_events.specs.Through.{AllEnded, EndsAreCounted, ThroughHasCause}
+use Rattle.lxr_core_invariant.specs.ThreadStates.{ThreadState, Through}
+use Rattle.lxr_core_invariant.specs.ThreadStates as why
+use Rattle.lxr_core_invariant.specs.EpochStates.{Beginning, EpochState, limits_of}
+use Rattle.lxr_core_invariant.specs.Epoch.{AreThrough, IsEpoch}
+use Rattle.lxr_core_invariant.specs.Laws.{AllBlocksAreTaken, HasClosingLogs}
+use Rattle.lxr_core_invariant.specs.Through.{AllEnded, EndsAreCounted, ThroughHasCause}
 
 -- these terms are those of the epoch
 pub record AreTermsOf (b : Beginning) (terms : Terms) : Type 0 where

@@ -14,11 +14,11 @@ use Rattle.lxr_invariant.specs.AbstractState.{AbstractState, members}
 use Rattle.lxr_invariant.specs.Lines.{IsTakenBy}
 use Rattle.lxr_invariant.specs.Tracing.{IsRememberedSoFar, MarksStayInside}
 use Rattle.lxr_invariant.specs.Quiescent.{IsAtSafepoint}
-use Rattle.lxr_core_events.specs.ThreadStates.{ThreadState}
-use Rattle.lxr_core_events.specs.EpochStates.{Beginning, EpochState, limits_of, moment_of, opening_tables}
-use Rattle.lxr_core_events.specs.Logged.{logs_of}
-use Rattle.lxr_core_events.specs.Epoch.{IsEpoch}
-use Rattle.lxr_core_events.specs.Laws.{CoversAtSafepoint, HasClosingCounts, HasClosingLogs}
+use Rattle.lxr_core_invariant.specs.ThreadStates.{ThreadState}
+use Rattle.lxr_core_invariant.specs.EpochStates.{Beginning, EpochState, limits_of, moment_of, opening_tables}
+use Rattle.lxr_core_invariant.specs.Logged.{logs_of}
+use Rattle.lxr_core_invariant.specs.Epoch.{IsEpoch}
+use Rattle.lxr_core_invariant.specs.Laws.{CoversAtSafepoint, HasClosingCounts, HasClosingLogs}
 use Rattle.lxr_core_close.specs.HandingOut.{DrawnIsOut, IsDrawn, MayHandOut}
 
 -- the registers of all mutators, thread 1 first

@@ -17,7 +17,7 @@ use Rattle.lxr_invariant.proofs.EntryLemmas.{changed_cases, changed_here, change
 use Rattle.lxr_core_access.specs.declared.Access.TheVariants as access
 use Rattle.lxr_core_access.specs.Accesses.{done_to}
 use Rattle.lxr_core_access.specs.Decrementers.{Decrementing, Handling, Entry, References, Claims, ReadsHeader, AsksTracing, ReadsReference, MakesGray, AsksLowered, Lowers}
-use Rattle.lxr_core_events.specs.Counted.{AreCounted, IsDoneAt, KnowsCounts, KnowsHandling, handled_by, in_hand, place_handled, references_at}
+use Rattle.lxr_core_invariant.specs.Counted.{AreCounted, IsDoneAt, KnowsCounts, KnowsHandling, handled_by, in_hand, place_handled, references_at}
 use Rattle.lxr_core_inv_counts.proofs.HandLemmas.{undone_claimed}
 use Rattle.lxr_core_inv_counts.proofs.GroundLemmas.{IsGround}
 use Rattle.lxr_core_inv_counts.proofs.TurnLemmas.{moved}

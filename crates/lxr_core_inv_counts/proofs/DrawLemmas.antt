@@ -10,7 +10,7 @@ use Rattle.lxr_invariant.specs.Counting.{waiting_at}
 use Rattle.lxr_core_access.specs.declared.Access.TheVariants as access
 use Rattle.lxr_core_access.specs.Accesses.{done_to}
 use Rattle.lxr_core_access.specs.Decrementers.{Decrementing, Rests, Draws, ReadsEntry}
-use Rattle.lxr_core_events.specs.Counted.{AreCounted, draws_soon, KnowsCounts, handled_by, in_hand}
+use Rattle.lxr_core_invariant.specs.Counted.{AreCounted, draws_soon, KnowsCounts, handled_by, in_hand}
 use Rattle.lxr_core_inv_counts.proofs.HandLemmas.{first_between, none_between}
 use Rattle.lxr_core_inv_counts.proofs.GroundLemmas.{IsGround}
 use Rattle.lxr_core_inv_counts.proofs.TurnLemmas.{moved}

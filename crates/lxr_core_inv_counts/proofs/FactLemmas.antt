@@ -20,7 +20,7 @@ use Rattle.lxr_model_counting.proofs.DistinctLemmas.{first_has, later_has, has_s
 use Rattle.lxr_invariant.specs.Counting.{count_at, is_done, undone}
 use Rattle.lxr_invariant.proofs.EntryLemmas.{one_if, same_number, unlike_number}
 use Rattle.lxr_core_access.specs.Decrementers.{Decrementing}
-use Rattle.lxr_core_events.specs.Counted.{AreCounted, IsHandledAt, StandsAt, in_hand, one_at, references_at}
+use Rattle.lxr_core_invariant.specs.Counted.{AreCounted, IsHandledAt, StandsAt, in_hand, one_at, references_at}
 use Rattle.lxr_core_inv_counts.proofs.HandLemmas.{hand_in_hands, name_there}
 use Rattle.lxr_core_inv_counts.proofs.GroundLemmas.{IsGround}
 

@@ -23,11 +23,11 @@ use Rattle.lxr_invariant.specs.AbstractState.{members}
 use Rattle.lxr_invariant.specs.Counting.{HasDecrements}
 use Rattle.lxr_invariant.proofs.FrameLemmas.{decrements_still}
 use Rattle.lxr_invariant.proofs.NameLemmas.{in_first}
-use Rattle.lxr_core_events.specs.EpochStates.{Beginning, EpochState, limits_of, moment_of}
-use Rattle.lxr_core_events.specs.Events.{TellsObject}
-use Rattle.lxr_core_events.specs.Epoch.{IsEpoch}
-use Rattle.lxr_core_events.proofs.PauseLemmas.{AreUnmoved, dead_stays, HaveOnePause, one_pause, unmoved}
-use Rattle.lxr_core_events.proofs.TellingLemmas.{one_place, told_there}
+use Rattle.lxr_core_invariant.specs.EpochStates.{Beginning, EpochState, limits_of, moment_of}
+use Rattle.lxr_core_invariant.specs.Events.{TellsObject}
+use Rattle.lxr_core_invariant.specs.Epoch.{IsEpoch}
+use Rattle.lxr_core_invariant.proofs.PauseLemmas.{AreUnmoved, dead_stays, HaveOnePause, one_pause, unmoved}
+use Rattle.lxr_core_invariant.proofs.TellingLemmas.{one_place, told_there}
 
 -- an unreclaimed object: its header tells how many references it had at the last pause, and those lie in the heap
 pub record StandsIn (l : Limits) (t : Tables) (m : Moment) (at : Name → ℕ) (n : Name) : Type 0 where

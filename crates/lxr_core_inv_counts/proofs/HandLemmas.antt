@@ -15,7 +15,7 @@ use Rattle.lxr_model_counting.proofs.DistinctLemmas.{first_has, has_split, later
 use Rattle.lxr_invariant.specs.Counting.{entries_between, is_done, undone}
 use Rattle.lxr_invariant.proofs.EntryLemmas.{one_if}
 use Rattle.lxr_core_access.specs.Decrementers.{Decrementing, Rests, AsksCount, AsksStart, Claims, ReadsHeader, AsksTracing, ReadsReference, MakesGray, AsksLowered, Lowers, AsksCursor, AsksNumber, Draws, ReadsEntry}
-use Rattle.lxr_core_events.specs.Counted.{draws_soon, in_hand, in_hands, name_at, soon_drawn}
+use Rattle.lxr_core_invariant.specs.Counted.{draws_soon, in_hand, in_hands, name_at, soon_drawn}
 
 -- ---- all decrementers
 

@@ -17,16 +17,16 @@ use Rattle.lxr_core_access.specs.declared.Access.{Access}
 use Rattle.lxr_core_access.specs.Accesses.{done_to}
 use Rattle.lxr_core_access.specs.Decrementers.{Decrementing, ReadsEntry}
 use Rattle.lxr_core_access.specs.Tracers.{Tracing, Rests, AsksGray, AsksObject, Marks, ReadsShape, Scans, AsksReferent, GraysReferent, AsksBlock, ReadsReuse, DrawsNumber, Enters, FindsNothing, tracer_access}
-use Rattle.lxr_core_events.specs.ThreadStates.{ThreadState}
-use Rattle.lxr_core_events.specs.EpochStates.{Beginning, EpochState, limits_of, moment_of, opening_tables}
-use Rattle.lxr_core_events.specs.Events.{Event}
-use Rattle.lxr_core_events.specs.Events as event
-use Rattle.lxr_core_events.specs.Happening.{happen, with_cursor}
-use Rattle.lxr_core_events.specs.Counted.{AreCounted, AreCountedIn, KnowsCounts, handled_by}
-use Rattle.lxr_core_events.specs.Decremented.{DecrementerLeaves, IsSound, MayDecrement, decremented}
-use Rattle.lxr_core_events.specs.Epoch.{DecrementersRest, IsEpoch}
-use Rattle.lxr_core_events.specs.Laws.{ClosingCounts, CountsAreKept, DecrementersAreSound, DecrementersKeepCounts, LiveIsUndone, OpeningCounts, TracersKeepCounts}
-use Rattle.lxr_core_events.proofs.PauseLemmas.{counts_unmoved, dead_stays, decrements_unmoved, one_pause, unmoved}
+use Rattle.lxr_core_invariant.specs.ThreadStates.{ThreadState}
+use Rattle.lxr_core_invariant.specs.EpochStates.{Beginning, EpochState, limits_of, moment_of, opening_tables}
+use Rattle.lxr_core_invariant.specs.Events.{Event}
+use Rattle.lxr_core_invariant.specs.Events as event
+use Rattle.lxr_core_invariant.specs.Happening.{happen, with_cursor}
+use Rattle.lxr_core_invariant.specs.Counted.{AreCounted, AreCountedIn, KnowsCounts, handled_by}
+use Rattle.lxr_core_invariant.specs.Decremented.{DecrementerLeaves, IsSound, MayDecrement, decremented}
+use Rattle.lxr_core_invariant.specs.Epoch.{DecrementersRest, IsEpoch}
+use Rattle.lxr_core_invariant.specs.Laws.{ClosingCounts, CountsAreKept, DecrementersAreSound, DecrementersKeepCounts, LiveIsUndone, OpeningCounts, TracersKeepCounts}
+use Rattle.lxr_core_invariant.proofs.PauseLemmas.{counts_unmoved, dead_stays, decrements_unmoved, one_pause, unmoved}
 use Rattle.lxr_core_inv_counts.proofs.HandLemmas.{hands_rest, soon_rest}
 use Rattle.lxr_core_inv_counts.proofs.GroundLemmas.{IsGround, ground_of}
 use Rattle.lxr_core_inv_counts.proofs.TurnLemmas.{AgreesOnCounts, counted_still}

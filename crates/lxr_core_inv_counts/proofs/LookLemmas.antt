@@ -19,7 +19,7 @@ use Rattle.lxr_model_counting.proofs.DistinctLemmas.{tested}
 use Rattle.lxr_invariant.specs.Counting.{occurrences_from}
 use Rattle.lxr_invariant.proofs.NameLemmas.{occurrences_end, occurrences_step}
 use Rattle.lxr_core_access.specs.Decrementers.{Decrementing, Handling, IsTry, handled_next, pocket, «list», Entry, References, Rests, AsksCount, AsksStart, Claims, ReadsHeader, AsksTracing, ReadsReference, MakesGray, AsksLowered, Lowers, AsksCursor, AsksNumber, Draws, ReadsEntry}
-use Rattle.lxr_core_events.specs.Counted.{AreCounted, HeldAt, IsHandledAt, KnowsCounts, KnowsHandling, StandsAt, draws_soon, handled_by, in_hand, one_at, place_handled, references_at, unreached}
+use Rattle.lxr_core_invariant.specs.Counted.{AreCounted, HeldAt, IsHandledAt, KnowsCounts, KnowsHandling, StandsAt, draws_soon, handled_by, in_hand, one_at, place_handled, references_at, unreached}
 use Rattle.lxr_core_inv_counts.proofs.GroundLemmas.{IsGround}
 use Rattle.lxr_core_inv_counts.proofs.TurnLemmas.{Looks}
 use Rattle.lxr_core_inv_counts.proofs.FactLemmas.{has_read, in_hand_some, is_loose, is_stuck, one_is, refs_there, stands_at, word_of_nil, word_of_some}

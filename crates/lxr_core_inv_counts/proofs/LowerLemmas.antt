@@ -14,7 +14,7 @@ use Rattle.lxr_invariant.proofs.EntryLemmas.{changed_cases, changed_here, change
 use Rattle.lxr_core_access.specs.declared.Access.TheVariants as access
 use Rattle.lxr_core_access.specs.Accesses.{done_to}
 use Rattle.lxr_core_access.specs.Decrementers.{Decrementing, Handling, handled_next, Lowers}
-use Rattle.lxr_core_events.specs.Counted.{AreCounted, KnowsCounts}
+use Rattle.lxr_core_invariant.specs.Counted.{AreCounted, KnowsCounts}
 use Rattle.lxr_core_inv_counts.proofs.GroundLemmas.{IsGround}
 use Rattle.lxr_core_inv_counts.proofs.TurnLemmas.{IsBalanced, KeepsKnown, handling_kept, moved}
 use Rattle.lxr_core_inv_counts.proofs.FactLemmas.{differ, one_is}

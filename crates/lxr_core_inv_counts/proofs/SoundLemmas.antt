@@ -16,8 +16,8 @@ use Rattle.lxr_core_access.specs.declared.Access.TheVariants as access
 use Rattle.lxr_core_access.specs.declared.TableEntry.{TableEntry}
 use Rattle.lxr_core_access.specs.Accesses.{IsTableEntry, MayBeDone, done_to}
 use Rattle.lxr_core_access.specs.Decrementers.{Decrementing, decrementer_access, Rests, AsksCount, AsksStart, Claims, ReadsHeader, AsksTracing, ReadsReference, MakesGray, AsksLowered, Lowers, AsksCursor, AsksNumber, Draws, ReadsEntry}
-use Rattle.lxr_core_events.specs.Decremented.{DecrementerLeaves, LeavesTables}
-use Rattle.lxr_core_events.specs.Counted.{AreCounted, IsHandledAt, StandsAt}
+use Rattle.lxr_core_invariant.specs.Decremented.{DecrementerLeaves, LeavesTables}
+use Rattle.lxr_core_invariant.specs.Counted.{AreCounted, IsHandledAt, StandsAt}
 use Rattle.lxr_core_inv_counts.proofs.HandLemmas.{soon_at}
 use Rattle.lxr_core_inv_counts.proofs.GroundLemmas.{IsGround}
 use Rattle.lxr_core_inv_counts.proofs.FactLemmas.{refs_there}

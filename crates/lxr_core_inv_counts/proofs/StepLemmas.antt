@@ -12,8 +12,8 @@ use Rattle.lxr_core_access.specs.declared.Access.{Access}
 use Rattle.lxr_core_access.specs.Accesses.{done_to}
 use Rattle.lxr_core_access.specs.Decrementers.{Attempts, Decrementing, DecrementerGoes, DecrementerSteps, Handling, begins, goes_on, decrementer_access, Entry, References, Rests, AsksCount, AsksStart, Claims, ReadsHeader, AsksTracing, ReadsReference, MakesGray, AsksLowered, Lowers, AsksCursor, AsksNumber, Draws, ReadsEntry}
 use Rattle.lxr_core_access.specs.Decrementers as goes
-use Rattle.lxr_core_events.specs.Counted.{AreCounted}
-use Rattle.lxr_core_events.proofs.ShowingLemmas.{set_here}
+use Rattle.lxr_core_invariant.specs.Counted.{AreCounted}
+use Rattle.lxr_core_invariant.proofs.ShowingLemmas.{set_here}
 use Rattle.lxr_core_inv_counts.proofs.GroundLemmas.{IsGround}
 use Rattle.lxr_core_inv_counts.proofs.TurnLemmas.{Looks, counted_still, looked}
 use Rattle.lxr_core_inv_counts.proofs.LookLemmas.{count_looks, counted_some, cursor_looks, entry_looks, gray_looks, header_looks, lowered_looks, nil_looks, none_looks, some_looks, started_looks, stuck_looks, traced_looks, tracing_looks, try_looks, untraced_looks}

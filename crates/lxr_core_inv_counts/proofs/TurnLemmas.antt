@@ -11,8 +11,8 @@ use Rattle.lxr_model.specs.Moments.{Moment}
 use Rattle.lxr_model.specs.References.{references}
 use Rattle.lxr_invariant.specs.Counting.{count_at, entries_between, is_done, undone, waiting_at}
 use Rattle.lxr_core_access.specs.Decrementers.{Decrementing, Handling, Entry, References, Rests, AsksCount, AsksStart, Claims, ReadsHeader, AsksTracing, ReadsReference, MakesGray, AsksLowered, Lowers, AsksCursor, AsksNumber, Draws, ReadsEntry}
-use Rattle.lxr_core_events.specs.Counted.{AreCounted, IsDoneAt, IsHandledAt, KnowsCounts, KnowsHandling, draws_soon, handled_by, in_hand, in_hands, soon_drawn}
-use Rattle.lxr_core_events.proofs.ShowingLemmas.{shown_cases}
+use Rattle.lxr_core_invariant.specs.Counted.{AreCounted, IsDoneAt, IsHandledAt, KnowsCounts, KnowsHandling, draws_soon, handled_by, in_hand, in_hands, soon_drawn}
+use Rattle.lxr_core_invariant.proofs.ShowingLemmas.{shown_cases}
 use Rattle.lxr_core_inv_counts.proofs.HandLemmas.{hand_still, hands_set, hands_still, soon_few, soon_set}
 
 -- ---- what decrementers know

@@ -6,7 +6,7 @@
 //! this crate do nothing: the contract of each is a law.
 #![tactic(auto)]
 
-ghost use Rattle.lxr_core_events.specs.Laws.{ClosingCounts, CountsAreKept, DecrementersAreSound, DecrementersKeepCounts, LiveIsUndone, OpeningCounts, TracersKeepCounts};
+ghost use Rattle.lxr_core_invariant.specs.Laws.{ClosingCounts, CountsAreKept, DecrementersAreSound, DecrementersKeepCounts, LiveIsUndone, OpeningCounts, TracersKeepCounts};
 
 /// Each event of a mutator keeps counts and pending decrements: it changes none of them.
 pub fn counts_are_kept()

@@ -8,11 +8,11 @@ use Rattle.lxr_graph.specs.declared.Op.{Op}
 use Rattle.lxr_graph.specs.declared.Op.TheVariants as op
 use Rattle.lxr_graph.specs.History.{calls_of, replies_of}
 use Rattle.lxr_model.specs.Belongs.{calls_since_pause, has_asked}
-use Rattle.lxr_core_events.specs.ThreadStates.{Intent, Stage, ThreadState, all_of, is_end}
-use Rattle.lxr_core_events.specs.ThreadStates.{GivesUp}
-use Rattle.lxr_core_events.specs.ThreadStates.{Rests, Works}
-use Rattle.lxr_core_events.specs.EpochStates.{Beginning, EpochState}
-use Rattle.lxr_core_events.specs.Called.{AreReplies, IsWithinTurn, HasCalled, SetsPauseWord, uncounted, waiting_in}
+use Rattle.lxr_core_invariant.specs.ThreadStates.{Intent, Stage, ThreadState, all_of, is_end}
+use Rattle.lxr_core_invariant.specs.ThreadStates.{GivesUp}
+use Rattle.lxr_core_invariant.specs.ThreadStates.{Rests, Works}
+use Rattle.lxr_core_invariant.specs.EpochStates.{Beginning, EpochState}
+use Rattle.lxr_core_invariant.specs.Called.{AreReplies, IsWithinTurn, HasCalled, SetsPauseWord, uncounted, waiting_in}
 
 -- it may do one more operation, hasn't asked for a pause, and none of its calls waits for its reply
 pub record IsBusy (b : Beginning) (s : EpochState) (v : ThreadState) : Type 0 where

@@ -11,12 +11,12 @@ use Rattle.lxr_invariant.proofs.EntryLemmas.{same_number, unlike_number}
 use Rattle.lxr_model.specs.Kinds.{ends}
 use Rattle.lxr_model.specs.Legal.{IsLegalSoFar}
 use Rattle.lxr_model.specs.Terms.{Terms}
-use Rattle.lxr_core_events.specs.ThreadStates.{Reason, ThreadState, all_of, is_end, Through}
-use Rattle.lxr_core_events.specs.ThreadStates as why
-use Rattle.lxr_core_events.specs.EpochStates.{Beginning, Extends, EpochState, called, limits_of, same}
-use Rattle.lxr_core_events.specs.Called.{IsWithinTurn}
-use Rattle.lxr_core_events.specs.Epoch.{IsEpoch}
-use Rattle.lxr_core_events.specs.Through.{EndsAreCounted}
+use Rattle.lxr_core_invariant.specs.ThreadStates.{Reason, ThreadState, all_of, is_end, Through}
+use Rattle.lxr_core_invariant.specs.ThreadStates as why
+use Rattle.lxr_core_invariant.specs.EpochStates.{Beginning, Extends, EpochState, called, limits_of, same}
+use Rattle.lxr_core_invariant.specs.Called.{IsWithinTurn}
+use Rattle.lxr_core_invariant.specs.Epoch.{IsEpoch}
+use Rattle.lxr_core_invariant.specs.Through.{EndsAreCounted}
 use Rattle.lxr_core_inv_history.proofs.BusyLemmas.{others_before_end}
 use Rattle.lxr_core_inv_history.proofs.ThroughLemmas.{through_calls}
 

@@ -28,21 +28,21 @@ use Rattle.lxr_invariant.specs.AbstractState.{members}
 use Rattle.lxr_invariant.proofs.EntryLemmas.{equal_numbers, same_number}
 use Rattle.lxr_alloc.specs.declared.Spans.{Spans}
 use Rattle.lxr_alloc.specs.Spans.{front_of}
-use Rattle.lxr_core_events.specs.ThreadStates.{Intent, Reason, Stage, ThreadState, all_of, held, is_end}
-use Rattle.lxr_core_events.specs.ThreadStates.{Plain, AtReference, AtValue, Clears, Stores, DrewRun, HasRun, NeedsBlock, DrewBlock, HasBlock, Makes, GivesUp}
-use Rattle.lxr_core_events.specs.ThreadStates.{Rests, Works, Names, Through}
-use Rattle.lxr_core_events.specs.ThreadStates as why
-use Rattle.lxr_core_events.specs.EpochStates.{Beginning, EpochState, limits_of, moment_of}
-use Rattle.lxr_core_events.specs.Events.{Current, Does, Event, TellsObject, at_once, base_of, done_with, making, source_for, span_from, value_word}
-use Rattle.lxr_core_events.specs.Events as event
-use Rattle.lxr_core_events.specs.Happening.{May, MayBegin, asked_by, entry_with, happen, with_block, with_call, with_run}
-use Rattle.lxr_core_events.specs.Called.{AreReplies, IsWithinTurn, HasCalled, HasReason, IsToTell, IsWant, SetsPauseWord, uncounted, waiting_in}
-use Rattle.lxr_core_events.specs.Drawn.{HasDrawn}
-use Rattle.lxr_core_events.specs.Epoch.{IsEpoch}
-use Rattle.lxr_core_events.specs.Laws.{AnswersAs, HasHistory, HistoryIsKept, RepliesAreSteps, RepliesAs}
-use Rattle.lxr_core_events.proofs.DrawnLemmas.{block_below}
-use Rattle.lxr_core_events.proofs.HeldLemmas.{IsHeld, in_register, reference_held}
-use Rattle.lxr_core_events.proofs.TellingLemmas.{placed_there, told_is}
+use Rattle.lxr_core_invariant.specs.ThreadStates.{Intent, Reason, Stage, ThreadState, all_of, held, is_end}
+use Rattle.lxr_core_invariant.specs.ThreadStates.{Plain, AtReference, AtValue, Clears, Stores, DrewRun, HasRun, NeedsBlock, DrewBlock, HasBlock, Makes, GivesUp}
+use Rattle.lxr_core_invariant.specs.ThreadStates.{Rests, Works, Names, Through}
+use Rattle.lxr_core_invariant.specs.ThreadStates as why
+use Rattle.lxr_core_invariant.specs.EpochStates.{Beginning, EpochState, limits_of, moment_of}
+use Rattle.lxr_core_invariant.specs.Events.{Current, Does, Event, TellsObject, at_once, base_of, done_with, making, source_for, span_from, value_word}
+use Rattle.lxr_core_invariant.specs.Events as event
+use Rattle.lxr_core_invariant.specs.Happening.{May, MayBegin, asked_by, entry_with, happen, with_block, with_call, with_run}
+use Rattle.lxr_core_invariant.specs.Called.{AreReplies, IsWithinTurn, HasCalled, HasReason, IsToTell, IsWant, SetsPauseWord, uncounted, waiting_in}
+use Rattle.lxr_core_invariant.specs.Drawn.{HasDrawn}
+use Rattle.lxr_core_invariant.specs.Epoch.{IsEpoch}
+use Rattle.lxr_core_invariant.specs.Laws.{AnswersAs, HasHistory, HistoryIsKept, RepliesAreSteps, RepliesAs}
+use Rattle.lxr_core_invariant.proofs.DrawnLemmas.{block_below}
+use Rattle.lxr_core_invariant.proofs.HeldLemmas.{IsHeld, in_register, reference_held}
+use Rattle.lxr_core_invariant.proofs.TellingLemmas.{placed_there, told_is}
 use Rattle.lxr_core_inv_history.proofs.BusyLemmas.{IsBusy, busy_resting, busy_working, others_before_end}
 use Rattle.lxr_core_inv_history.proofs.StandingLemmas.{Beside, Quiet, done_by, done_history, has_stood, quiet_history, stands_history, works_history}
 

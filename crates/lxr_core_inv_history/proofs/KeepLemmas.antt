@@ -7,13 +7,13 @@ use Rattle.lxr_layout.specs.declared.Name.{Name}
 use Rattle.lxr_graph.specs.Names.{has}
 use Rattle.lxr_model.specs.Belongs.{has_asked}
 use Rattle.lxr_invariant.specs.AbstractState.{members}
-use Rattle.lxr_core_events.specs.ThreadStates.{Intent, Reason, Stage, ThreadState, all_of}
-use Rattle.lxr_core_events.specs.ThreadStates.{Plain, AtReference, AtValue, Clears, Stores, DrewRun, HasRun, NeedsBlock, DrewBlock, HasBlock, Makes, GivesUp}
-use Rattle.lxr_core_events.specs.ThreadStates.{Rests, Works, Names, Through}
-use Rattle.lxr_core_events.specs.ThreadStates as why
-use Rattle.lxr_core_events.specs.EpochStates.{Beginning, EpochState, moment_of}
-use Rattle.lxr_core_events.specs.Called.{AreCalled, AreReplies, IsWithinTurn, HasCalled, HasReason, SetsPauseWord}
-use Rattle.lxr_core_events.proofs.ShowingLemmas.{set_elsewhere, set_here, shown_cases}
+use Rattle.lxr_core_invariant.specs.ThreadStates.{Intent, Reason, Stage, ThreadState, all_of}
+use Rattle.lxr_core_invariant.specs.ThreadStates.{Plain, AtReference, AtValue, Clears, Stores, DrewRun, HasRun, NeedsBlock, DrewBlock, HasBlock, Makes, GivesUp}
+use Rattle.lxr_core_invariant.specs.ThreadStates.{Rests, Works, Names, Through}
+use Rattle.lxr_core_invariant.specs.ThreadStates as why
+use Rattle.lxr_core_invariant.specs.EpochStates.{Beginning, EpochState, moment_of}
+use Rattle.lxr_core_invariant.specs.Called.{AreCalled, AreReplies, IsWithinTurn, HasCalled, HasReason, SetsPauseWord}
+use Rattle.lxr_core_invariant.proofs.ShowingLemmas.{set_elsewhere, set_here, shown_cases}
 use Rattle.lxr_core_inv_history.proofs.CallLemmas.{SaySame}
 
 -- What an event leaves as it is: members stay where they are, the pause word stays set, and no block comes back.

@@ -1,8 +1,8 @@
 -- The history is left by helpers: of tables, it reads the pause word and the numbers of free blocks alone.
 use Rattle.std.proofs.Common.{◌≡◌, refl, sym, ◌∙◌, arith}
 use Rattle.lxr_layout.specs.declared.TheConstants.{FREE_BLOCK_COUNT, FREE_BLOCK_CURSOR, PAUSE_WORD}
-use Rattle.lxr_core_events.specs.EpochStates.{EpochState}
-use Rattle.lxr_core_events.specs.Laws.{HistoryIsLeft}
+use Rattle.lxr_core_invariant.specs.EpochStates.{EpochState}
+use Rattle.lxr_core_invariant.specs.Laws.{HistoryIsLeft}
 use Rattle.lxr_core_inv_history.proofs.CallLemmas.{says_same}
 use Rattle.lxr_core_inv_history.proofs.KeepLemmas.{Keeps, called_kept, sets_kept}
 

@@ -7,3 +7,12 @@ pub mod ThroughLemmas
 pub mod EndLemmas
 pub mod ProgressLemmas
 pub mod LeftLemmas
+mod ReplyStepLemmas
+mod RegisterLemmas
+mod AnswerLemmas
+mod AtOnceLemmas
+mod ObjectLemmas
+mod MakingLemmas
+pub mod ReplyLemmas
+pub mod KeepingLemmas
+pub mod RegistersLeftLemmas

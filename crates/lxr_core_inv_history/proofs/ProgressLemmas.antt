@@ -9,11 +9,11 @@ use Rattle.lxr_model.specs.Moments.{Field, moment}
 use Rattle.lxr_model_counting.specs.Distinct.{has_field}
 use Rattle.lxr_model_counting.proofs.DistinctLemmas.{first_field}
 use Rattle.lxr_invariant.specs.Standing.{entry_of}
-use Rattle.lxr_core_events.specs.ThreadStates.{Stores, ThreadState, Works, Through}
-use Rattle.lxr_core_events.specs.EpochStates.{Beginning, Extends, EpochState, called, limits_of, moment_of, same}
-use Rattle.lxr_core_events.specs.Logged.{logs_of, with_cleared}
-use Rattle.lxr_core_events.specs.Epoch.{AreThrough, IsEpoch}
-use Rattle.lxr_core_events.specs.Through.{EpochProgresses, HasCause, JustPaused, LacksSomeBlock}
+use Rattle.lxr_core_invariant.specs.ThreadStates.{Stores, ThreadState, Works, Through}
+use Rattle.lxr_core_invariant.specs.EpochStates.{Beginning, Extends, EpochState, called, limits_of, moment_of, same}
+use Rattle.lxr_core_invariant.specs.Logged.{logs_of, with_cleared}
+use Rattle.lxr_core_invariant.specs.Epoch.{AreThrough, IsEpoch}
+use Rattle.lxr_core_invariant.specs.Through.{EpochProgresses, HasCause, JustPaused, LacksSomeBlock}
 use Rattle.lxr_core_inv_history.proofs.ThroughLemmas.{through_has_cause}
 
 -- a history that goes on is the same or longer

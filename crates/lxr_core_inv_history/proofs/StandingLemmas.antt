@@ -22,17 +22,17 @@ use Rattle.lxr_invariant.specs.AbstractState.{members}
 use Rattle.lxr_invariant.proofs.EntryLemmas.{equal_numbers, same_number}
 use Rattle.lxr_invariant.proofs.NameLemmas.{or_nothing}
 use Rattle.lxr_alloc.specs.declared.Spans.{Spans}
-use Rattle.lxr_core_events.specs.ThreadStates.{Intent, Reason, Stage, ThreadState, all_of, is_end}
-use Rattle.lxr_core_events.specs.ThreadStates.{Rests, Works, Names, Through}
-use Rattle.lxr_core_events.specs.ThreadStates as why
-use Rattle.lxr_core_events.specs.EpochStates.{Beginning, Extends, IsStepCall, EpochState, called, limits_of, moment_of}
-use Rattle.lxr_core_events.specs.Events.{Does, done_with}
-use Rattle.lxr_core_events.specs.Happening.{with_call}
-use Rattle.lxr_core_events.specs.Called.{AreCalled, IsWithinTurn, HasCalled, SetsPauseWord}
-use Rattle.lxr_core_events.specs.Epoch.{IsEpoch}
-use Rattle.lxr_core_events.specs.Laws.{HasHistory, RepliesAs}
-use Rattle.lxr_core_events.proofs.ActingLemmas.{acts}
-use Rattle.lxr_core_events.proofs.ShowingLemmas.{op_formed}
+use Rattle.lxr_core_invariant.specs.ThreadStates.{Intent, Reason, Stage, ThreadState, all_of, is_end}
+use Rattle.lxr_core_invariant.specs.ThreadStates.{Rests, Works, Names, Through}
+use Rattle.lxr_core_invariant.specs.ThreadStates as why
+use Rattle.lxr_core_invariant.specs.EpochStates.{Beginning, Extends, IsStepCall, EpochState, called, limits_of, moment_of}
+use Rattle.lxr_core_invariant.specs.Events.{Does, done_with}
+use Rattle.lxr_core_invariant.specs.Happening.{with_call}
+use Rattle.lxr_core_invariant.specs.Called.{AreCalled, IsWithinTurn, HasCalled, SetsPauseWord}
+use Rattle.lxr_core_invariant.specs.Epoch.{IsEpoch}
+use Rattle.lxr_core_invariant.specs.Laws.{HasHistory, RepliesAs}
+use Rattle.lxr_core_invariant.proofs.ActingLemmas.{acts}
+use Rattle.lxr_core_invariant.proofs.ShowingLemmas.{op_formed}
 use Rattle.lxr_core_inv_history.proofs.CallLemmas.{SaySame, members_stay, other_call, own_asked, own_calls, own_replies, own_since, says_same, steps_reply, take_next}
 use Rattle.lxr_core_inv_history.proofs.BusyLemmas.{IsBusy, end_is_last, others_before_end}
 use Rattle.lxr_core_inv_history.proofs.KeepLemmas.{Keeps, all_called, asking_sets}

@@ -6,13 +6,13 @@ use Rattle.std.proofs.lemmas.Option.{slice_get_within}
 use Rattle.lxr_graph.specs.declared.Op.{Op}
 use Rattle.lxr_graph.specs.declared.Op.TheVariants as op
 use Rattle.lxr_graph.specs.History.{replies_of}
-use Rattle.lxr_core_events.specs.ThreadStates.{Reason, Stage, ThreadState, all_of, Rests, Works, Names, Through}
-use Rattle.lxr_core_events.specs.ThreadStates as why
-use Rattle.lxr_core_events.specs.EpochStates.{Beginning, EpochState}
-use Rattle.lxr_core_events.specs.Events.{Does}
-use Rattle.lxr_core_events.specs.Called.{AreReplies, IsWithinTurn, SetsPauseWord, waiting_in}
-use Rattle.lxr_core_events.specs.Epoch.{IsEpoch, IsResting}
-use Rattle.lxr_core_events.specs.Through.{CallsAreBeginnings, CausesPause, HasCause, IsAsHistory, RestIsHistory, ThroughHasCause, next_by}
+use Rattle.lxr_core_invariant.specs.ThreadStates.{Reason, Stage, ThreadState, all_of, Rests, Works, Names, Through}
+use Rattle.lxr_core_invariant.specs.ThreadStates as why
+use Rattle.lxr_core_invariant.specs.EpochStates.{Beginning, EpochState}
+use Rattle.lxr_core_invariant.specs.Events.{Does}
+use Rattle.lxr_core_invariant.specs.Called.{AreReplies, IsWithinTurn, SetsPauseWord, waiting_in}
+use Rattle.lxr_core_invariant.specs.Epoch.{IsEpoch, IsResting}
+use Rattle.lxr_core_invariant.specs.Through.{CallsAreBeginnings, CausesPause, HasCause, IsAsHistory, RestIsHistory, ThroughHasCause, next_by}
 use Rattle.lxr_core_inv_history.proofs.StandingLemmas.{thread_within}
 
 -- ---- calls and replies

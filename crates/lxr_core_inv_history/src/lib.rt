@@ -5,8 +5,12 @@
 //! this crate do nothing: the contract of each is a law.
 #![tactic(auto)]
 
-ghost use Rattle.lxr_core_events.specs.Laws.{HistoryIsKept, HistoryIsLeft, RepliesAreSteps};
-ghost use Rattle.lxr_core_events.specs.Through.{CallsAreBeginnings, EndsAreCounted, EpochProgresses, RestIsHistory, ThroughHasCause};
+mod replies;
+
+pub use replies::{registers_are_kept, registers_are_left, replies_are_steps};
+
+ghost use Rattle.lxr_core_invariant.specs.Laws.{HistoryIsKept, HistoryIsLeft, RepliesAreSteps};
+ghost use Rattle.lxr_core_invariant.specs.Through.{CallsAreBeginnings, EndsAreCounted, EpochProgresses, RestIsHistory, ThroughHasCause};
 
 /// Each event keeps the history and the replies, where replies are those of the model's steps.
 pub fn history_is_kept()

@@ -12,13 +12,13 @@ use Rattle.lxr_image.specs.Tables.{Tables}
 use Rattle.lxr_image.specs.Image.{IsImage}
 use Rattle.lxr_model.specs.Moments.{Moment}
 use Rattle.lxr_invariant.specs.AbstractState.{members}
-use Rattle.lxr_core_events.specs.ThreadStates.{Intent, Stage, ThreadState, is_end, nil, op_now, Plain, AtReference, AtValue, Clears, Stores, DrewRun, HasRun, NeedsBlock, DrewBlock, HasBlock, Makes, GivesUp, Rests, Works, Names, Through}
-use Rattle.lxr_core_events.specs.ThreadStates as why
-use Rattle.lxr_core_events.specs.EpochStates.{Beginning, EpochState, limits_of, moment_of}
-use Rattle.lxr_core_events.specs.Events.{WorksOn, done_with, stage_after}
-use Rattle.lxr_core_events.specs.Happening.{at_stage, loaded_with}
-use Rattle.lxr_core_events.specs.Imaged.{IsPlacedIn, IsReferenceAt, IsValueAt, IsWipedTo, Knows}
-use Rattle.lxr_core_events.proofs.ShowingLemmas.{shown_cases}
+use Rattle.lxr_core_invariant.specs.ThreadStates.{Intent, Stage, ThreadState, is_end, nil, op_now, Plain, AtReference, AtValue, Clears, Stores, DrewRun, HasRun, NeedsBlock, DrewBlock, HasBlock, Makes, GivesUp, Rests, Works, Names, Through}
+use Rattle.lxr_core_invariant.specs.ThreadStates as why
+use Rattle.lxr_core_invariant.specs.EpochStates.{Beginning, EpochState, limits_of, moment_of}
+use Rattle.lxr_core_invariant.specs.Events.{WorksOn, done_with, stage_after}
+use Rattle.lxr_core_invariant.specs.Happening.{at_stage, loaded_with}
+use Rattle.lxr_core_invariant.specs.Imaged.{IsPlacedIn, IsReferenceAt, IsValueAt, IsWipedTo, Knows}
+use Rattle.lxr_core_invariant.proofs.ShowingLemmas.{shown_cases}
 
 -- Members of a moment are those of another one, at their places, with objects of their shapes.
 pub record KeepsMembers (m k : Moment) (at to : Name → ℕ) : Type 0 where

@@ -4,8 +4,8 @@ use Rattle.lxr_image.specs.Tables.{Tables}
 use Rattle.lxr_model.specs.Moments.{Moment}
 use Rattle.lxr_invariant.specs.AbstractState.{members}
 use Rattle.lxr_invariant.proofs.FrameLemmas.{image_still}
-use Rattle.lxr_core_events.specs.EpochStates.{limits_of, moment_of}
-use Rattle.lxr_core_events.specs.Laws.{PlacedIsLeft}
+use Rattle.lxr_core_invariant.specs.EpochStates.{limits_of, moment_of}
+use Rattle.lxr_core_invariant.specs.Laws.{PlacedIsLeft}
 use Rattle.lxr_core_inv_image.proofs.KnowLemmas.{all_kept, knows_on}
 use Rattle.lxr_core_inv_image.proofs.StayLemmas.{same_wiped}
 

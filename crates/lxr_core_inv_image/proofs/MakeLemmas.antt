@@ -33,16 +33,16 @@ use Rattle.lxr_invariant.specs.AbstractState.{members}
 use Rattle.lxr_invariant.proofs.MemberLemmas.{member_refers}
 use Rattle.lxr_invariant.proofs.NameLemmas.{in_either, in_first, in_second}
 use Rattle.lxr_invariant.proofs.FrameLemmas.{image_still}
-use Rattle.lxr_core_events.specs.ThreadStates.{ThreadState, Makes, Works, all_of}
-use Rattle.lxr_core_events.specs.EpochStates.{Beginning, EpochState, limits_of, moment_of, opening_tables}
-use Rattle.lxr_core_events.specs.Epoch.{IsEpoch}
-use Rattle.lxr_core_events.specs.Drawn.{Drawers, LieInDrawn}
-use Rattle.lxr_core_events.specs.Called.{waiting_in}
-use Rattle.lxr_core_events.specs.Events.{done_with}
-use Rattle.lxr_core_events.specs.Happening.{intends, shows, stands}
-use Rattle.lxr_core_events.specs.Imaged.{IsPlacedIn, IsWipedTo, Knows}
-use Rattle.lxr_core_events.proofs.TellingLemmas.{stands_there}
-use Rattle.lxr_core_events.proofs.ActingLemmas.{acts}
+use Rattle.lxr_core_invariant.specs.ThreadStates.{ThreadState, Makes, Works, all_of}
+use Rattle.lxr_core_invariant.specs.EpochStates.{Beginning, EpochState, limits_of, moment_of, opening_tables}
+use Rattle.lxr_core_invariant.specs.Epoch.{IsEpoch}
+use Rattle.lxr_core_invariant.specs.Drawn.{Drawers, LieInDrawn}
+use Rattle.lxr_core_invariant.specs.Called.{waiting_in}
+use Rattle.lxr_core_invariant.specs.Events.{done_with}
+use Rattle.lxr_core_invariant.specs.Happening.{intends, shows, stands}
+use Rattle.lxr_core_invariant.specs.Imaged.{IsPlacedIn, IsWipedTo, Knows}
+use Rattle.lxr_core_invariant.proofs.TellingLemmas.{stands_there}
+use Rattle.lxr_core_invariant.proofs.ActingLemmas.{acts}
 use Rattle.lxr_core_inv_image.proofs.KnowLemmas.{KeepsMembers, all_kept, knows_done, still_placed}
 use Rattle.lxr_core_inv_image.proofs.StayLemmas.{call_members, next_moment, opening_member, world_member}
 use Rattle.lxr_core_inv_image.proofs.WordLemmas.{IsWordOf, MakesAt, maker_apart, makers_apart, words_even, wiped_beside, wiped_still, zero_written}

@@ -13,17 +13,17 @@ use Rattle.lxr_graph.specs.declared.Reply.TheVariants as reply
 use Rattle.lxr_image.specs.Tables.{Tables}
 use Rattle.lxr_model.specs.Moments.{Moment}
 use Rattle.lxr_invariant.specs.AbstractState.{members}
-use Rattle.lxr_core_events.specs.ThreadStates.{Intent, ThreadState, held, op_now, Plain, AtReference, AtValue, Clears, Stores, DrewRun, HasRun, NeedsBlock, DrewBlock, HasBlock, Makes, GivesUp, Rests, Works, Names, Through}
-use Rattle.lxr_core_events.specs.ThreadStates as why
-use Rattle.lxr_core_events.specs.EpochStates.{Beginning, EpochState, limits_of, moment_of}
-use Rattle.lxr_core_events.specs.Events.{Source, at_once, bad_at, done_with, making, source_for, Current, value_word}
-use Rattle.lxr_core_events.specs.Events as event
-use Rattle.lxr_core_events.specs.Happening.{MayFindReference, MayFindValue, asked_by, at_stage, entry_with, happen, intends, loaded_with, with_block, with_cursor, with_logged, with_run}
-use Rattle.lxr_core_events.specs.Imaged.{IsPlacedIn, IsWipedTo, Knows, KnowsReference, KnowsValue}
-use Rattle.lxr_core_events.specs.Epoch.{IsEpoch}
-use Rattle.lxr_core_events.specs.Laws.{PlacedIsKept}
-use Rattle.lxr_core_events.proofs.TellingLemmas.{told_is}
-use Rattle.lxr_core_events.proofs.ActingLemmas.{acts, base_held}
+use Rattle.lxr_core_invariant.specs.ThreadStates.{Intent, ThreadState, held, op_now, Plain, AtReference, AtValue, Clears, Stores, DrewRun, HasRun, NeedsBlock, DrewBlock, HasBlock, Makes, GivesUp, Rests, Works, Names, Through}
+use Rattle.lxr_core_invariant.specs.ThreadStates as why
+use Rattle.lxr_core_invariant.specs.EpochStates.{Beginning, EpochState, limits_of, moment_of}
+use Rattle.lxr_core_invariant.specs.Events.{Source, at_once, bad_at, done_with, making, source_for, Current, value_word}
+use Rattle.lxr_core_invariant.specs.Events as event
+use Rattle.lxr_core_invariant.specs.Happening.{MayFindReference, MayFindValue, asked_by, at_stage, entry_with, happen, intends, loaded_with, with_block, with_cursor, with_logged, with_run}
+use Rattle.lxr_core_invariant.specs.Imaged.{IsPlacedIn, IsWipedTo, Knows, KnowsReference, KnowsValue}
+use Rattle.lxr_core_invariant.specs.Epoch.{IsEpoch}
+use Rattle.lxr_core_invariant.specs.Laws.{PlacedIsKept}
+use Rattle.lxr_core_invariant.proofs.TellingLemmas.{told_is}
+use Rattle.lxr_core_invariant.proofs.ActingLemmas.{acts, base_held}
 use Rattle.lxr_core_inv_image.proofs.KnowLemmas.{knows_done, knows_loaded, works_as}
 use Rattle.lxr_core_inv_image.proofs.StayLemmas.{call_placed, leaves_objects, quiet_placed}
 use Rattle.lxr_core_inv_image.proofs.WriteLemmas.{put_placed, store_placed}

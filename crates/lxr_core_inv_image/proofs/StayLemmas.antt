@@ -20,11 +20,11 @@ use Rattle.lxr_model_counting.specs.Following.{FollowsPause}
 use Rattle.lxr_invariant.specs.AbstractState.{members}
 use Rattle.lxr_invariant.proofs.NameLemmas.{in_either, in_first, in_second}
 use Rattle.lxr_invariant.proofs.FrameLemmas.{image_still}
-use Rattle.lxr_core_events.specs.ThreadStates.{ThreadState}
-use Rattle.lxr_core_events.specs.EpochStates.{Beginning, Extends, EpochState, called, limits_of, moment_of, same}
-use Rattle.lxr_core_events.specs.Epoch.{IsEpoch}
-use Rattle.lxr_core_events.specs.Imaged.{IsPlacedIn, Knows}
-use Rattle.lxr_core_events.specs.Happening.{stands}
+use Rattle.lxr_core_invariant.specs.ThreadStates.{ThreadState}
+use Rattle.lxr_core_invariant.specs.EpochStates.{Beginning, Extends, EpochState, called, limits_of, moment_of, same}
+use Rattle.lxr_core_invariant.specs.Epoch.{IsEpoch}
+use Rattle.lxr_core_invariant.specs.Imaged.{IsPlacedIn, Knows}
+use Rattle.lxr_core_invariant.specs.Happening.{stands}
 use Rattle.lxr_core_inv_image.proofs.KnowLemmas.{KeepsMembers, KeepsWiped, all_kept, knows_on, still_placed}
 
 -- ---- what was a member is one

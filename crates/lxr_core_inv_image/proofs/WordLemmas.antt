@@ -14,9 +14,9 @@ use Rattle.lxr_image.specs.ImageLaws.{with_heap}
 use Rattle.lxr_image.proofs.ImageLemmas.{just_at, not_at}
 use Rattle.lxr_alloc.specs.Spans.{granule_count}
 use Rattle.lxr_invariant.specs.AbstractState.{members}
-use Rattle.lxr_core_events.specs.ThreadStates.{Stage, ThreadState, Makes, Works}
-use Rattle.lxr_core_events.specs.EpochStates.{Beginning, EpochState, moment_of}
-use Rattle.lxr_core_events.specs.Drawn.{InMaking, IsDrawnMemory, IsOfMaking, OfMember, Owner, Owns, UndrawnRun, UndrawnBlock, InHand, InSpan}
+use Rattle.lxr_core_invariant.specs.ThreadStates.{Stage, ThreadState, Makes, Works}
+use Rattle.lxr_core_invariant.specs.EpochStates.{Beginning, EpochState, moment_of}
+use Rattle.lxr_core_invariant.specs.Drawn.{InMaking, IsDrawnMemory, IsOfMaking, OfMember, Owner, Owns, UndrawnRun, UndrawnBlock, InHand, InSpan}
 use Rattle.lxr_core_inv_image.proofs.KnowLemmas.{KeepsWiped}
 
 -- ---- words of an object

@@ -18,15 +18,15 @@ use Rattle.lxr_image.specs.ImageLaws.{with_heap}
 use Rattle.lxr_image.proofs.ImageLemmas.{Rewrites, put_keeps_image, rewrites, store_keeps_image, words_cover}
 use Rattle.lxr_model.specs.Moments.{Moment, made_after}
 use Rattle.lxr_invariant.specs.AbstractState.{members}
-use Rattle.lxr_core_events.specs.ThreadStates.{ThreadState, AtValue, Stores, Works, held}
-use Rattle.lxr_core_events.specs.EpochStates.{Beginning, EpochState, limits_of, moment_of}
-use Rattle.lxr_core_events.specs.Epoch.{IsEpoch}
-use Rattle.lxr_core_events.specs.Events.{Does, done_with, value_word}
-use Rattle.lxr_core_events.specs.Happening.{stands}
-use Rattle.lxr_core_events.specs.Imaged.{IsPlacedIn, Knows, KnowsReference, KnowsValue}
-use Rattle.lxr_core_events.proofs.TellingLemmas.{stands_there}
-use Rattle.lxr_core_events.proofs.ShowingLemmas.{op_formed}
-use Rattle.lxr_core_events.proofs.ActingLemmas.{acts, reference_base, same_pair, value_base}
+use Rattle.lxr_core_invariant.specs.ThreadStates.{ThreadState, AtValue, Stores, Works, held}
+use Rattle.lxr_core_invariant.specs.EpochStates.{Beginning, EpochState, limits_of, moment_of}
+use Rattle.lxr_core_invariant.specs.Epoch.{IsEpoch}
+use Rattle.lxr_core_invariant.specs.Events.{Does, done_with, value_word}
+use Rattle.lxr_core_invariant.specs.Happening.{stands}
+use Rattle.lxr_core_invariant.specs.Imaged.{IsPlacedIn, Knows, KnowsReference, KnowsValue}
+use Rattle.lxr_core_invariant.proofs.TellingLemmas.{stands_there}
+use Rattle.lxr_core_invariant.proofs.ShowingLemmas.{op_formed}
+use Rattle.lxr_core_invariant.proofs.ActingLemmas.{acts, reference_base, same_pair, value_base}
 use Rattle.lxr_core_inv_image.proofs.KnowLemmas.{KeepsMembers, knows_done, still_placed}
 use Rattle.lxr_core_inv_image.proofs.StayLemmas.{next_moment, next_state, opening_member, world_member}
 use Rattle.lxr_core_inv_image.proofs.WordLemmas.{IsWordOf, maker_apart, wiped_beside}

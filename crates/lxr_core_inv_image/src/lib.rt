@@ -7,7 +7,7 @@
 //! each is a law.
 #![tactic(auto)]
 
-ghost use Rattle.lxr_core_events.specs.Laws.{PlacedIsKept, PlacedIsLeft};
+ghost use Rattle.lxr_core_invariant.specs.Laws.{PlacedIsKept, PlacedIsLeft};
 
 /// Where replies are those of the model, each event leaves objects at their places.
 pub fn placed_is_kept()

@@ -15,13 +15,13 @@ use Rattle.lxr_invariant.proofs.EntryLemmas.{changed_cases}
 use Rattle.lxr_core_access.specs.declared.Access.{Access}
 use Rattle.lxr_core_access.specs.Accesses.{done_to}
 use Rattle.lxr_core_access.specs.Decrementers.{Attempts, Decrementing, begins, goes_on, pocket, «list», decrementer_access, Rests, MakesGray}
-use Rattle.lxr_core_events.specs.EpochStates.{Beginning, EpochState, limits_of, moment_of}
-use Rattle.lxr_core_events.specs.Counted.{AreCountedIn, KnowsCounts}
-use Rattle.lxr_core_events.specs.Covered.{made_gray_by}
-use Rattle.lxr_core_events.specs.Decremented.{MayDecrement, decremented}
-use Rattle.lxr_core_events.specs.Inside.{StaysInside}
-use Rattle.lxr_core_events.specs.Epoch.{IsEpoch}
-use Rattle.lxr_core_events.proofs.PauseLemmas.{dead_stays, one_pause}
+use Rattle.lxr_core_invariant.specs.EpochStates.{Beginning, EpochState, limits_of, moment_of}
+use Rattle.lxr_core_invariant.specs.Counted.{AreCountedIn, KnowsCounts}
+use Rattle.lxr_core_invariant.specs.Covered.{made_gray_by}
+use Rattle.lxr_core_invariant.specs.Decremented.{MayDecrement, decremented}
+use Rattle.lxr_core_invariant.specs.Inside.{StaysInside}
+use Rattle.lxr_core_invariant.specs.Epoch.{IsEpoch}
+use Rattle.lxr_core_invariant.proofs.PauseLemmas.{dead_stays, one_pause}
 use Rattle.lxr_invariant.proofs.InsideLemmas.{garbage_not_dead, inside_unless_garbage, referred_inside}
 use Rattle.lxr_core_inv_inside.proofs.PlaceLemmas.{HasSnapshot, begins_there, member_now, member_was, one_name, references_there, snapshot_of, stands_now, still}
 use Rattle.lxr_core_inv_inside.proofs.BitLemmas.{IsInsideAt, SetsBits, after_access, bits_inside}

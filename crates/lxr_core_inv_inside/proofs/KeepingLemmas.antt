@@ -11,17 +11,17 @@ use Rattle.lxr_model.specs.Moments.{Moment, Trace, moment}
 use Rattle.lxr_invariant.specs.AbstractState.{AbstractState}
 use Rattle.lxr_invariant.specs.Tracing.{IsTracedBy}
 use Rattle.lxr_core_access.specs.Tracers.{Tracing}
-use Rattle.lxr_core_events.specs.ThreadStates.{ThreadState}
-use Rattle.lxr_core_events.specs.EpochStates.{Beginning, EpochState, limits_of, moment_of, opening_tables}
-use Rattle.lxr_core_events.specs.Events.{Event}
-use Rattle.lxr_core_events.specs.Events as event
-use Rattle.lxr_core_events.specs.Covered.{grayed_by}
-use Rattle.lxr_core_events.specs.Happening.{happen, with_call}
-use Rattle.lxr_core_events.specs.Decremented.{decremented, traced}
-use Rattle.lxr_core_events.specs.Inside.{MarksStayInsideIn, StaysInside, StaysInsideWhile}
-use Rattle.lxr_core_events.specs.Epoch.{IsEpoch, TracersRest}
-use Rattle.lxr_core_events.specs.Laws.{ClosingInside, DecrementersKeepInside, InsideIsKept, OpeningInside, TracersKeepInside}
-use Rattle.lxr_core_events.proofs.ActingLemmas.{acts}
+use Rattle.lxr_core_invariant.specs.ThreadStates.{ThreadState}
+use Rattle.lxr_core_invariant.specs.EpochStates.{Beginning, EpochState, limits_of, moment_of, opening_tables}
+use Rattle.lxr_core_invariant.specs.Events.{Event}
+use Rattle.lxr_core_invariant.specs.Events as event
+use Rattle.lxr_core_invariant.specs.Covered.{grayed_by}
+use Rattle.lxr_core_invariant.specs.Happening.{happen, with_call}
+use Rattle.lxr_core_invariant.specs.Decremented.{decremented, traced}
+use Rattle.lxr_core_invariant.specs.Inside.{MarksStayInsideIn, StaysInside, StaysInsideWhile}
+use Rattle.lxr_core_invariant.specs.Epoch.{IsEpoch, TracersRest}
+use Rattle.lxr_core_invariant.specs.Laws.{ClosingInside, DecrementersKeepInside, InsideIsKept, OpeningInside, TracersKeepInside}
+use Rattle.lxr_core_invariant.proofs.ActingLemmas.{acts}
 use Rattle.lxr_core_inv_inside.proofs.MutatorLemmas.{HasSameBits, bits_stay, call_stays, next_elsewhere}
 use Rattle.lxr_core_inv_inside.proofs.DecrementerLemmas.{decrement_inside}
 use Rattle.lxr_core_inv_inside.proofs.TracerLemmas.{trace_inside}

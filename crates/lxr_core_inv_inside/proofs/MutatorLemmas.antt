@@ -21,8 +21,8 @@ use Rattle.lxr_model_counting.specs.Garbage.{IsGarbageOf}
 use Rattle.lxr_model_counting.proofs.FollowingLemmas.{live_before, live_reachable, stepped, unreclaimed_object}
 use Rattle.lxr_invariant.specs.Tracing.{IsInSnapshot, StaysGarbage}
 use Rattle.lxr_core_access.specs.Tracers.{Tracing}
-use Rattle.lxr_core_events.specs.Inside.{StaysInside}
-use Rattle.lxr_core_events.proofs.ObjectLemmas.{state_after_step}
+use Rattle.lxr_core_invariant.specs.Inside.{StaysInside}
+use Rattle.lxr_core_invariant.proofs.ObjectLemmas.{state_after_step}
 
 -- ---- tables and places
 

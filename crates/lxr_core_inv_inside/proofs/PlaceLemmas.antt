@@ -19,12 +19,12 @@ use Rattle.lxr_model_counting.proofs.DistinctLemmas.{first_has, has_split, later
 use Rattle.lxr_invariant.specs.AbstractState.{AbstractState, members}
 use Rattle.lxr_invariant.specs.Tracing.{IsTracedBy}
 use Rattle.lxr_invariant.proofs.NameLemmas.{in_first}
-use Rattle.lxr_core_events.specs.EpochStates.{Beginning, EpochState, limits_of, moment_of}
-use Rattle.lxr_core_events.specs.Counted.{StandsAt, name_at, references_at}
-use Rattle.lxr_core_events.specs.Epoch.{IsEpoch}
-use Rattle.lxr_core_events.proofs.HeldLemmas.{IsHeld, reference_held}
-use Rattle.lxr_core_events.proofs.PauseLemmas.{AreUnmoved, HaveOnePause, one_pause, unmoved}
-use Rattle.lxr_core_events.proofs.TellingLemmas.{one_place}
+use Rattle.lxr_core_invariant.specs.EpochStates.{Beginning, EpochState, limits_of, moment_of}
+use Rattle.lxr_core_invariant.specs.Counted.{StandsAt, name_at, references_at}
+use Rattle.lxr_core_invariant.specs.Epoch.{IsEpoch}
+use Rattle.lxr_core_invariant.proofs.HeldLemmas.{IsHeld, reference_held}
+use Rattle.lxr_core_invariant.proofs.PauseLemmas.{AreUnmoved, HaveOnePause, one_pause, unmoved}
+use Rattle.lxr_core_invariant.proofs.TellingLemmas.{one_place}
 
 -- the name at a place is that of the object that stands there
 name_there : (at : Name → ℕ) (us : List Name) (n : Name) (place : ℕ) → IsTrue (has us n) → ((x : Name) → IsTrue (has us x) → at x ≡ at n → x ≡ n) → place ≡ at n → name_at at us place ≡ n

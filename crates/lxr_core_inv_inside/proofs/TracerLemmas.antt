@@ -13,13 +13,13 @@ use Rattle.lxr_core_access.specs.declared.Access.{Access}
 use Rattle.lxr_core_access.specs.Accesses.{done_to}
 use Rattle.lxr_core_access.specs.Tracers.{Attempts, IsTry, Tracing, TracerGoes, begins, goes_on, pocket, nothing, scanned_next, tracer_access, Rests, AsksGray, AsksObject, Marks, ReadsShape, Scans, AsksReferent, GraysReferent, AsksBlock, ReadsReuse, DrawsNumber, Enters, FindsNothing}
 use Rattle.lxr_core_access.specs.Tracers as goes
-use Rattle.lxr_core_events.specs.EpochStates.{Beginning, EpochState, limits_of, moment_of}
-use Rattle.lxr_core_events.specs.Covered.{grayed_by}
-use Rattle.lxr_core_events.specs.Decremented.{MayTrace}
-use Rattle.lxr_core_events.specs.Inside.{StaysInside}
-use Rattle.lxr_core_events.specs.Traced.{KnowsObjects}
-use Rattle.lxr_core_events.specs.Epoch.{IsEpoch}
-use Rattle.lxr_core_events.proofs.ShowingLemmas.{shown_cases}
+use Rattle.lxr_core_invariant.specs.EpochStates.{Beginning, EpochState, limits_of, moment_of}
+use Rattle.lxr_core_invariant.specs.Covered.{grayed_by}
+use Rattle.lxr_core_invariant.specs.Decremented.{MayTrace}
+use Rattle.lxr_core_invariant.specs.Inside.{StaysInside}
+use Rattle.lxr_core_invariant.specs.Traced.{KnowsObjects}
+use Rattle.lxr_core_invariant.specs.Epoch.{IsEpoch}
+use Rattle.lxr_core_invariant.proofs.ShowingLemmas.{shown_cases}
 use Rattle.lxr_invariant.proofs.InsideLemmas.{refers_inside}
 use Rattle.lxr_core_inv_inside.proofs.PlaceLemmas.{HasSnapshot, granule_tells, member_now, placed, read_now, snapshot_of, still}
 use Rattle.lxr_core_inv_inside.proofs.BitLemmas.{IsInsideAt, SetsBits, after_access, bits_inside}

@@ -7,7 +7,7 @@
 //! the contract of each is a law.
 #![tactic(auto)]
 
-ghost use Rattle.lxr_core_events.specs.Laws.{ClosingInside, DecrementersKeepInside, InsideIsKept, OpeningInside, TracersKeepInside};
+ghost use Rattle.lxr_core_invariant.specs.Laws.{ClosingInside, DecrementersKeepInside, InsideIsKept, OpeningInside, TracersKeepInside};
 
 /// Each event of a mutator keeps marks inside.
 pub fn inside_is_kept()

@@ -17,9 +17,9 @@ use Rattle.lxr_image.specs.ImageLaws.{placed}
 use Rattle.lxr_model.specs.Moments.{Moment, written_after}
 use Rattle.lxr_model_counting.specs.Following.{FollowsPause}
 use Rattle.lxr_model_counting.proofs.StoreLemmas.{step_keeps}
-use Rattle.lxr_core_events.specs.ThreadStates.{ThreadState, held}
-use Rattle.lxr_core_events.specs.Events.{at_once}
-use Rattle.lxr_core_events.proofs.ObjectLemmas.{state_after_step}
+use Rattle.lxr_core_invariant.specs.ThreadStates.{ThreadState, held}
+use Rattle.lxr_core_invariant.specs.Events.{at_once}
+use Rattle.lxr_core_invariant.proofs.ObjectLemmas.{state_after_step}
 
 -- ---- the moment after a call with the reply of a step
 

@@ -12,11 +12,11 @@ use Rattle.lxr_model.specs.Moments.{Field, Moment}
 use Rattle.lxr_model_counting.specs.Distinct.{AreDistinctFields, has_field}
 use Rattle.lxr_model_counting.proofs.DistinctLemmas.{field_split, first_field, later_field}
 use Rattle.lxr_invariant.specs.Standing.{AreLogged, HasBits, entry_of}
-use Rattle.lxr_core_events.specs.ThreadStates.{Stage, Stores, Works}
-use Rattle.lxr_core_events.specs.EpochStates.{moment_of}
-use Rattle.lxr_core_events.specs.Logged.{logs_of, with_cleared}
-use Rattle.lxr_core_events.specs.Epoch.{IsResting}
-use Rattle.lxr_core_events.specs.Laws.{ClosingLogs}
+use Rattle.lxr_core_invariant.specs.ThreadStates.{Stage, Stores, Works}
+use Rattle.lxr_core_invariant.specs.EpochStates.{moment_of}
+use Rattle.lxr_core_invariant.specs.Logged.{logs_of, with_cleared}
+use Rattle.lxr_core_invariant.specs.Epoch.{IsResting}
+use Rattle.lxr_core_invariant.specs.Laws.{ClosingLogs}
 use Rattle.lxr_core_inv_logs.proofs.ThreadStateLemmas.{log_is_part}
 
 -- ---- lists of fields that have the same ones

@@ -20,17 +20,17 @@ use Rattle.lxr_image.specs.ImageLaws.{placed, with_heap}
 use Rattle.lxr_model.specs.Moments.{Field, Moment, made_after, written_after}
 use Rattle.lxr_model_counting.specs.Distinct.{has_field}
 use Rattle.lxr_model_counting.proofs.DistinctLemmas.{tested}
-use Rattle.lxr_core_events.specs.ThreadStates.{Intent, Reason, Stage, ThreadState, held, is_end, Plain, AtReference, AtValue, Clears, Stores, DrewRun, HasRun, NeedsBlock, DrewBlock, HasBlock, Makes, GivesUp, Rests, Works, Names, Through}
-use Rattle.lxr_core_events.specs.ThreadStates as why
-use Rattle.lxr_core_events.specs.EpochStates.{Beginning, EpochState, limits_of, moment_of}
-use Rattle.lxr_core_events.specs.Events.{Event, done_with, stage_after, value_word}
-use Rattle.lxr_core_events.specs.Events as event
-use Rattle.lxr_core_events.specs.Happening.{asked_by, at_stage, entry_with, happen, intends, loaded_with, shows, stands, with_cursor, MayClearFirst, MayLoadOld, MayStore}
-use Rattle.lxr_core_events.specs.Imaged.{IsReferenceAt, Knows, KnowsReference}
-use Rattle.lxr_core_events.specs.Logged.{AreBitsAndLogs, MayRecord}
-use Rattle.lxr_core_events.specs.Epoch.{IsEpoch}
-use Rattle.lxr_core_events.specs.Laws.{BitsAndLogsAreKept, RepliesAreSteps}
-use Rattle.lxr_core_events.proofs.ActingLemmas.{acts}
+use Rattle.lxr_core_invariant.specs.ThreadStates.{Intent, Reason, Stage, ThreadState, held, is_end, Plain, AtReference, AtValue, Clears, Stores, DrewRun, HasRun, NeedsBlock, DrewBlock, HasBlock, Makes, GivesUp, Rests, Works, Names, Through}
+use Rattle.lxr_core_invariant.specs.ThreadStates as why
+use Rattle.lxr_core_invariant.specs.EpochStates.{Beginning, EpochState, limits_of, moment_of}
+use Rattle.lxr_core_invariant.specs.Events.{Event, done_with, stage_after, value_word}
+use Rattle.lxr_core_invariant.specs.Events as event
+use Rattle.lxr_core_invariant.specs.Happening.{asked_by, at_stage, entry_with, happen, intends, loaded_with, shows, stands, with_cursor, MayClearFirst, MayLoadOld, MayStore}
+use Rattle.lxr_core_invariant.specs.Imaged.{IsReferenceAt, Knows, KnowsReference}
+use Rattle.lxr_core_invariant.specs.Logged.{AreBitsAndLogs, MayRecord}
+use Rattle.lxr_core_invariant.specs.Epoch.{IsEpoch}
+use Rattle.lxr_core_invariant.specs.Laws.{BitsAndLogsAreKept, RepliesAreSteps}
+use Rattle.lxr_core_invariant.proofs.ActingLemmas.{acts}
 use Rattle.lxr_core_inv_logs.proofs.CallLemmas.{IsUnstored, at_once_unstored, places_keep, step_keeps_refs, unstored_writes}
 use Rattle.lxr_core_inv_logs.proofs.FirstLemmas.{first_keeps_logs}
 use Rattle.lxr_core_inv_logs.proofs.ReferenceLemmas.{clear_is_cleared, old_is_read}

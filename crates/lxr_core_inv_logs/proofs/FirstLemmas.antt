@@ -18,15 +18,15 @@ use Rattle.lxr_model_counting.proofs.DistinctLemmas.{field_split, first_field, l
 use Rattle.lxr_invariant.specs.AbstractState.{members}
 use Rattle.lxr_invariant.specs.Standing.{entry_of}
 use Rattle.lxr_invariant.proofs.NameLemmas.{in_first}
-use Rattle.lxr_core_events.specs.ThreadStates.{ThreadState, Clears, Stores, Works}
-use Rattle.lxr_core_events.specs.Happening.{intends, with_logged}
-use Rattle.lxr_core_events.specs.Imaged.{IsReferenceAt}
-use Rattle.lxr_core_events.specs.Logged.{logs_of}
-use Rattle.lxr_core_events.proofs.TellingLemmas.{one_place}
+use Rattle.lxr_core_invariant.specs.ThreadStates.{ThreadState, Clears, Stores, Works}
+use Rattle.lxr_core_invariant.specs.Happening.{intends, with_logged}
+use Rattle.lxr_core_invariant.specs.Imaged.{IsReferenceAt}
+use Rattle.lxr_core_invariant.specs.Logged.{logs_of}
+use Rattle.lxr_core_invariant.proofs.TellingLemmas.{one_place}
 use Rattle.lxr_core_inv_logs.proofs.ReferenceLemmas.{ImageOf, cleared_bits, set_is_uncleared, within_object}
 use Rattle.lxr_core_inv_logs.proofs.TurnLemmas.{HasLogs, StoresTo, ThreadStatesTell}
 use Rattle.lxr_core_inv_logs.proofs.ThreadStateLemmas.{logs_grow, one_shown, put_here, put_other}
-use Rattle.lxr_core_events.proofs.ShowingLemmas.{shown_cases}
+use Rattle.lxr_core_invariant.proofs.ShowingLemmas.{shown_cases}
 
 -- the thread state of a mutator that has recorded an entry
 abbrev pub recording : ThreadState → LogEntry → ThreadState

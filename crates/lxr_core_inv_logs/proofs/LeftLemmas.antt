@@ -6,10 +6,10 @@ use Rattle.lxr_image.specs.Tables.{Tables}
 use Rattle.lxr_image.specs.Reads.{granule_of}
 use Rattle.lxr_model.specs.Moments.{Moment}
 use Rattle.lxr_invariant.specs.Standing.{HasBits}
-use Rattle.lxr_core_events.specs.EpochStates.{moment_of}
-use Rattle.lxr_core_events.specs.Decremented.{LeavesTables}
-use Rattle.lxr_core_events.specs.Logged.{with_cleared}
-use Rattle.lxr_core_events.specs.Laws.{BitsAndLogsAreLeft}
+use Rattle.lxr_core_invariant.specs.EpochStates.{moment_of}
+use Rattle.lxr_core_invariant.specs.Decremented.{LeavesTables}
+use Rattle.lxr_core_invariant.specs.Logged.{with_cleared}
+use Rattle.lxr_core_invariant.specs.Laws.{BitsAndLogsAreLeft}
 
 -- bits stand where they may
 bits_left : (t u : Tables) (m : Moment) (at : Name → ℕ) (us : List Name) → LeavesTables t u → HasBits t m at us → HasBits u m at us

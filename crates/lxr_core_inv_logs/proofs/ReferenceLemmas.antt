@@ -17,11 +17,11 @@ use Rattle.lxr_invariant.specs.AbstractState.{members}
 use Rattle.lxr_invariant.specs.Standing.{HasBits, IsUnwritten, entry_of, word_of_field}
 use Rattle.lxr_invariant.proofs.EntryLemmas.{changed_cases}
 use Rattle.lxr_invariant.proofs.NameLemmas.{in_first}
-use Rattle.lxr_core_events.specs.Happening.{entry_with, with_logged}
-use Rattle.lxr_core_events.specs.Imaged.{IsReferenceAt}
-use Rattle.lxr_core_events.specs.Logged.{with_cleared}
-use Rattle.lxr_core_events.proofs.HeldLemmas.{reference_held}
-use Rattle.lxr_core_events.proofs.TellingLemmas.{one_place, small_place}
+use Rattle.lxr_core_invariant.specs.Happening.{entry_with, with_logged}
+use Rattle.lxr_core_invariant.specs.Imaged.{IsReferenceAt}
+use Rattle.lxr_core_invariant.specs.Logged.{with_cleared}
+use Rattle.lxr_core_invariant.proofs.HeldLemmas.{reference_held}
+use Rattle.lxr_core_invariant.proofs.TellingLemmas.{one_place, small_place}
 use Rattle.lxr_core_inv_logs.proofs.PlaceLemmas.{one_field}
 
 -- members stand in the heap

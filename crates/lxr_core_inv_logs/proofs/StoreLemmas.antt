@@ -13,11 +13,11 @@ use Rattle.lxr_model_counting.specs.Distinct.{has_field}
 use Rattle.lxr_model_counting.proofs.StoreLemmas.{WritesField, written_old, written_split, written_there}
 use Rattle.lxr_invariant.specs.AbstractState.{members}
 use Rattle.lxr_invariant.proofs.NameLemmas.{in_first}
-use Rattle.lxr_core_events.specs.ThreadStates.{Intent, Stage, ThreadState, Clears, Stores, Works}
-use Rattle.lxr_core_events.specs.Events.{Does, base_of}
-use Rattle.lxr_core_events.specs.Imaged.{KnowsReference}
-use Rattle.lxr_core_events.proofs.ActingLemmas.{Acts, base_held, same_pair}
-use Rattle.lxr_core_events.proofs.TellingLemmas.{one_place}
+use Rattle.lxr_core_invariant.specs.ThreadStates.{Intent, Stage, ThreadState, Clears, Stores, Works}
+use Rattle.lxr_core_invariant.specs.Events.{Does, base_of}
+use Rattle.lxr_core_invariant.specs.Imaged.{KnowsReference}
+use Rattle.lxr_core_invariant.proofs.ActingLemmas.{Acts, base_held, same_pair}
+use Rattle.lxr_core_invariant.proofs.TellingLemmas.{one_place}
 use Rattle.lxr_core_inv_logs.proofs.TurnLemmas.{HasLogs, Turns}
 
 -- ---- stages

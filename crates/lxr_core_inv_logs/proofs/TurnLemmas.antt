@@ -15,11 +15,11 @@ use Rattle.lxr_model_counting.specs.Distinct.{AreDistinctFields, has_field}
 use Rattle.lxr_model_counting.specs.Following.{FollowsPause}
 use Rattle.lxr_model_counting.proofs.DistinctLemmas.{first_field, later_field}
 use Rattle.lxr_invariant.specs.Standing.{AreLogged, HasBits, IsUnwritten, entry_of, word_of_field}
-use Rattle.lxr_core_events.specs.ThreadStates.{ThreadState, Clears, Stores, Works}
-use Rattle.lxr_core_events.specs.EpochStates.{Beginning, EpochState, limits_of, moment_of}
-use Rattle.lxr_core_events.specs.Logged.{AreBitsAndLogs, MayRecord, logs_of, with_cleared}
+use Rattle.lxr_core_invariant.specs.ThreadStates.{ThreadState, Clears, Stores, Works}
+use Rattle.lxr_core_invariant.specs.EpochStates.{Beginning, EpochState, limits_of, moment_of}
+use Rattle.lxr_core_invariant.specs.Logged.{AreBitsAndLogs, MayRecord, logs_of, with_cleared}
 use Rattle.lxr_core_inv_logs.proofs.ThreadStateLemmas.{logs_stay, one_shown, put_other}
-use Rattle.lxr_core_events.proofs.ShowingLemmas.{shown_cases}
+use Rattle.lxr_core_invariant.proofs.ShowingLemmas.{shown_cases}
 
 -- ---- the same over tables, a moment, places, cleared fields and thread states
 

@@ -4,7 +4,7 @@
 //! exactly one entry in exactly one log. The functions of this crate do nothing: the contract of each is a law.
 #![tactic(auto)]
 
-ghost use Rattle.lxr_core_events.specs.Laws.{BitsAndLogsAreKept, BitsAndLogsAreLeft, ClosingLogs, RepliesAreSteps};
+ghost use Rattle.lxr_core_invariant.specs.Laws.{BitsAndLogsAreKept, BitsAndLogsAreLeft, ClosingLogs, RepliesAreSteps};
 
 /// Each event keeps bits and logs, where mutators reply as the model does.
 pub fn bits_and_logs_are_kept()

@@ -18,12 +18,12 @@ use Rattle.lxr_model_counting.proofs.StoreLemmas.{step_keeps}
 use Rattle.lxr_invariant.specs.AbstractState.{members}
 use Rattle.lxr_invariant.specs.Lines.{Covers}
 use Rattle.lxr_invariant.proofs.NameLemmas.{in_either, in_first, in_second}
-use Rattle.lxr_core_events.specs.ThreadStates.{ThreadState}
-use Rattle.lxr_core_events.specs.EpochStates.{Beginning, EpochState, moment_of}
-use Rattle.lxr_core_events.specs.Drawn.{IsOfMember}
-use Rattle.lxr_core_events.specs.Epoch.{IsEpoch}
-use Rattle.lxr_core_events.proofs.ObjectLemmas.{state_after_step}
-use Rattle.lxr_core_events.proofs.ActingLemmas.{acts}
+use Rattle.lxr_core_invariant.specs.ThreadStates.{ThreadState}
+use Rattle.lxr_core_invariant.specs.EpochStates.{Beginning, EpochState, moment_of}
+use Rattle.lxr_core_invariant.specs.Drawn.{IsOfMember}
+use Rattle.lxr_core_invariant.specs.Epoch.{IsEpoch}
+use Rattle.lxr_core_invariant.proofs.ObjectLemmas.{state_after_step}
+use Rattle.lxr_core_invariant.proofs.ActingLemmas.{acts}
 
 -- ---- what a call that isn't a `new` makes
 

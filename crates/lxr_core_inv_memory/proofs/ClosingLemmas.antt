@@ -23,12 +23,12 @@ use Rattle.lxr_invariant.specs.Lines.{IsTakenBy}
 use Rattle.lxr_invariant.proofs.NameLemmas.{in_either, in_first, in_second}
 use Rattle.lxr_full.proofs.TakenLines.{all_or_one}
 use Rattle.lxr_full.proofs.RoomLemmas.{member_takes, pigeonhole}
-use Rattle.lxr_core_events.specs.ThreadStates.{Reason, Stage, ThreadState, GivesUp, Rests, Works, Names, Through}
-use Rattle.lxr_core_events.specs.EpochStates.{Beginning, Extends, EpochState, same, called, limits_of, moment_of, opening_tables}
-use Rattle.lxr_core_events.specs.Drawn.{HasMadeInBlock, IsHandOf, IsUsed, MakesInBlock, block_draws, run_draws, total}
-use Rattle.lxr_core_events.specs.Called.{IsWithinTurn}
-use Rattle.lxr_core_events.specs.Epoch.{AreThrough, IsEpoch}
-use Rattle.lxr_core_events.specs.Laws.{AllBlocksAreTaken, CursorsAreFar}
+use Rattle.lxr_core_invariant.specs.ThreadStates.{Reason, Stage, ThreadState, GivesUp, Rests, Works, Names, Through}
+use Rattle.lxr_core_invariant.specs.EpochStates.{Beginning, Extends, EpochState, same, called, limits_of, moment_of, opening_tables}
+use Rattle.lxr_core_invariant.specs.Drawn.{HasMadeInBlock, IsHandOf, IsUsed, MakesInBlock, block_draws, run_draws, total}
+use Rattle.lxr_core_invariant.specs.Called.{IsWithinTurn}
+use Rattle.lxr_core_invariant.specs.Epoch.{AreThrough, IsEpoch}
+use Rattle.lxr_core_invariant.specs.Laws.{AllBlocksAreTaken, CursorsAreFar}
 use Rattle.lxr_core_inv_memory.proofs.ThreadStateLemmas.{total_bound}
 use Rattle.lxr_core_inv_memory.proofs.FixedLemmas.{few_blocks, few_runs}
 

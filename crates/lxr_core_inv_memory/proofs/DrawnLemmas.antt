@@ -18,15 +18,15 @@ use Rattle.lxr_image.specs.Reads.{granule_of}
 use Rattle.lxr_alloc.specs.Spans.{FitsSpan, block_span, run_span}
 use Rattle.lxr_model.specs.Moments.{Field}
 use Rattle.lxr_invariant.specs.Listed.{ListsRun}
-use Rattle.lxr_core_events.specs.ThreadStates.{Stage, ThreadState, Plain, DrewRun, HasRun, NeedsBlock, DrewBlock, HasBlock, Makes, Works}
-use Rattle.lxr_core_events.specs.EpochStates.{Beginning, EpochState, limits_of, opening_tables}
-use Rattle.lxr_core_events.specs.Events.{Current, Does, Event, Source, WorksOn, at_once, base_of, done_with, making, source_for, span_from, with_span}
-use Rattle.lxr_core_events.specs.Events as event
-use Rattle.lxr_core_events.specs.Happening.{DoesNew, MayBump, MayMake, MayTakeBlock, MayTakeRun, asked_by, happen, intends, shows, stands, with_block, with_cursor, with_run}
-use Rattle.lxr_core_events.specs.Drawn.{Drawers, HasDrawn, HasGranule, InHand, InSpan, IsDrawnMemory, IsHandOf, IsOfHand, IsOfMaking, MakesIn, MakesInBlock, Owns, UndrawnBlock, UndrawnRun}
-use Rattle.lxr_core_events.specs.Epoch.{IsEpoch}
-use Rattle.lxr_core_events.specs.Laws.{DrawnMemoryIsKept}
-use Rattle.lxr_core_events.proofs.ShowingLemmas.{op_formed}
+use Rattle.lxr_core_invariant.specs.ThreadStates.{Stage, ThreadState, Plain, DrewRun, HasRun, NeedsBlock, DrewBlock, HasBlock, Makes, Works}
+use Rattle.lxr_core_invariant.specs.EpochStates.{Beginning, EpochState, limits_of, opening_tables}
+use Rattle.lxr_core_invariant.specs.Events.{Current, Does, Event, Source, WorksOn, at_once, base_of, done_with, making, source_for, span_from, with_span}
+use Rattle.lxr_core_invariant.specs.Events as event
+use Rattle.lxr_core_invariant.specs.Happening.{DoesNew, MayBump, MayMake, MayTakeBlock, MayTakeRun, asked_by, happen, intends, shows, stands, with_block, with_cursor, with_run}
+use Rattle.lxr_core_invariant.specs.Drawn.{Drawers, HasDrawn, HasGranule, InHand, InSpan, IsDrawnMemory, IsHandOf, IsOfHand, IsOfMaking, MakesIn, MakesInBlock, Owns, UndrawnBlock, UndrawnRun}
+use Rattle.lxr_core_invariant.specs.Epoch.{IsEpoch}
+use Rattle.lxr_core_invariant.specs.Laws.{DrawnMemoryIsKept}
+use Rattle.lxr_core_invariant.proofs.ShowingLemmas.{op_formed}
 use Rattle.lxr_core_inv_memory.proofs.CarryLemmas.{Carries, IsNoNew, call_carries, still_carries}
 use Rattle.lxr_core_inv_memory.proofs.OwnerLemmas.{AreMore, GoBack, Turns, drawn_kept, made_carried, made_in_carried, one_kept, shown_now, span_more, turns_still, used_kept}
 use Rattle.lxr_core_inv_memory.proofs.QuietLemmas.{IsIdle, after_idle, idle, idle_kept, is_idle, loaded_idle, quiet_kept}

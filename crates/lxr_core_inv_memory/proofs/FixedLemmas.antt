@@ -10,13 +10,13 @@ use Rattle.lxr_graph.specs.declared.Reply.TheVariants as reply
 use Rattle.lxr_graph.proofs.NameSets.{not_both}
 use Rattle.lxr_image.specs.Tables.{Tables}
 use Rattle.lxr_invariant.proofs.EntryLemmas.{changed_other}
-use Rattle.lxr_core_events.specs.ThreadStates.{Stage, ThreadState, Plain, AtReference, AtValue, Clears, Stores, DrewRun, HasRun, NeedsBlock, DrewBlock, HasBlock, Makes, GivesUp, Rests, Works, Names, Through}
-use Rattle.lxr_core_events.specs.EpochStates.{Beginning, EpochState, opening_tables}
-use Rattle.lxr_core_events.specs.Events.{Event, done_with}
-use Rattle.lxr_core_events.specs.Events as event
-use Rattle.lxr_core_events.specs.Happening.{May, at_stage, happen, loaded_with}
-use Rattle.lxr_core_events.specs.Drawn.{AreFixed, block_draws, run_draws, total}
-use Rattle.lxr_core_events.specs.Laws.{FixedTablesAreKept, FixedTablesAreLeft, LeavesToHelpers, MutatorsLeave}
+use Rattle.lxr_core_invariant.specs.ThreadStates.{Stage, ThreadState, Plain, AtReference, AtValue, Clears, Stores, DrewRun, HasRun, NeedsBlock, DrewBlock, HasBlock, Makes, GivesUp, Rests, Works, Names, Through}
+use Rattle.lxr_core_invariant.specs.EpochStates.{Beginning, EpochState, opening_tables}
+use Rattle.lxr_core_invariant.specs.Events.{Event, done_with}
+use Rattle.lxr_core_invariant.specs.Events as event
+use Rattle.lxr_core_invariant.specs.Happening.{May, at_stage, happen, loaded_with}
+use Rattle.lxr_core_invariant.specs.Drawn.{AreFixed, block_draws, run_draws, total}
+use Rattle.lxr_core_invariant.specs.Laws.{FixedTablesAreKept, FixedTablesAreLeft, LeavesToHelpers, MutatorsLeave}
 use Rattle.lxr_core_inv_memory.proofs.ThreadStateLemmas.{total_kept}
 
 -- ---- what a mutator has drawn at most

@@ -6,10 +6,10 @@ use Rattle.lxr_graph.specs.State.{Object}
 use Rattle.lxr_image.specs.Tables.{Tables}
 use Rattle.lxr_core_access.specs.Decrementers.{Decrementing}
 use Rattle.lxr_core_access.specs.Tracers.{Tracing}
-use Rattle.lxr_core_events.specs.EpochStates.{Beginning, EpochState}
-use Rattle.lxr_core_events.specs.Decremented.{LeavesTables}
-use Rattle.lxr_core_events.specs.Drawn.{InHand, InMaking, InSpan, IsUsed, OfMember, Owner, Owns, UndrawnBlock, UndrawnRun, WasServed}
-use Rattle.lxr_core_events.specs.Laws.{DrawnMemoryIsLeft}
+use Rattle.lxr_core_invariant.specs.EpochStates.{Beginning, EpochState}
+use Rattle.lxr_core_invariant.specs.Decremented.{LeavesTables}
+use Rattle.lxr_core_invariant.specs.Drawn.{InHand, InMaking, InSpan, IsUsed, OfMember, Owner, Owns, UndrawnBlock, UndrawnRun, WasServed}
+use Rattle.lxr_core_invariant.specs.Laws.{DrawnMemoryIsLeft}
 
 module _ (b : Beginning) (s : EpochState) (u : Tables) (ds : List Decrementing) (ts : List Tracing) (leaves : LeavesTables s.tables u) where
   -- what there is afterwards

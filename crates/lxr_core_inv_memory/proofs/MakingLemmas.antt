@@ -19,14 +19,14 @@ use Rattle.lxr_alloc.specs.Spans.{block_span, granule_count}
 use Rattle.lxr_model.specs.Moments.{Moment}
 use Rattle.lxr_invariant.specs.AbstractState.{members}
 use Rattle.lxr_invariant.proofs.NameLemmas.{in_either, in_first, in_second}
-use Rattle.lxr_core_events.specs.ThreadStates.{ThreadState}
-use Rattle.lxr_core_events.specs.EpochStates.{Beginning, EpochState, moment_of, opening_tables}
-use Rattle.lxr_core_events.specs.Events.{done_with}
-use Rattle.lxr_core_events.specs.Events as event
-use Rattle.lxr_core_events.specs.Happening.{MayMake, happen}
-use Rattle.lxr_core_events.specs.Drawn.{Drawers, HasGranule, InMaking, IsDrawnMemory, IsHandOf, IsOfMaking, LieInDrawn, MakesInBlock, OfMember, Owner, Owns}
-use Rattle.lxr_core_events.specs.Epoch.{IsEpoch}
-use Rattle.lxr_core_events.proofs.ActingLemmas.{acts}
+use Rattle.lxr_core_invariant.specs.ThreadStates.{ThreadState}
+use Rattle.lxr_core_invariant.specs.EpochStates.{Beginning, EpochState, moment_of, opening_tables}
+use Rattle.lxr_core_invariant.specs.Events.{done_with}
+use Rattle.lxr_core_invariant.specs.Events as event
+use Rattle.lxr_core_invariant.specs.Happening.{MayMake, happen}
+use Rattle.lxr_core_invariant.specs.Drawn.{Drawers, HasGranule, InMaking, IsDrawnMemory, IsHandOf, IsOfMaking, LieInDrawn, MakesInBlock, OfMember, Owner, Owns}
+use Rattle.lxr_core_invariant.specs.Epoch.{IsEpoch}
+use Rattle.lxr_core_invariant.proofs.ActingLemmas.{acts}
 use Rattle.lxr_core_inv_memory.proofs.CarryLemmas.{covers_moved}
 use Rattle.lxr_core_inv_memory.proofs.OwnerLemmas.{GoBack, Turns, drawers_still, drawn_kept, made_more, one_kept, same_drawers, turns_still, used_kept}
 use Rattle.lxr_core_inv_memory.proofs.QuietLemmas.{IsIdle, after_idle, idle}

@@ -11,11 +11,11 @@ use Rattle.lxr_image.specs.Image.{granules_of}
 use Rattle.lxr_image.specs.Reads.{granule_of}
 use Rattle.lxr_alloc.specs.declared.Span.{Span}
 use Rattle.lxr_alloc.specs.Spans.{block_span}
-use Rattle.lxr_core_events.specs.ThreadStates.{Stage, ThreadState, DrewRun, HasRun, DrewBlock, HasBlock, Makes, Works}
-use Rattle.lxr_core_events.specs.EpochStates.{Beginning, EpochState, moment_of, opening_tables}
-use Rattle.lxr_core_events.specs.Events.{Source, span_from}
-use Rattle.lxr_core_events.specs.Drawn.{Drawers, HasDrawn, HasGranule, HasMadeInBlock, HaveDrawn, InHand, InMaking, InSpan, IsDrawnMemory, IsHandOf, IsOfHand, IsOfMaking, IsOfMember, IsUsed, LieInDrawn, MakesIn, MakesInBlock, OfMember, Owner, Owns, Shown, UndrawnBlock, UndrawnRun, WasServed}
-use Rattle.lxr_core_events.proofs.ShowingLemmas.{set_elsewhere, set_here, shown_cases}
+use Rattle.lxr_core_invariant.specs.ThreadStates.{Stage, ThreadState, DrewRun, HasRun, DrewBlock, HasBlock, Makes, Works}
+use Rattle.lxr_core_invariant.specs.EpochStates.{Beginning, EpochState, moment_of, opening_tables}
+use Rattle.lxr_core_invariant.specs.Events.{Source, span_from}
+use Rattle.lxr_core_invariant.specs.Drawn.{Drawers, HasDrawn, HasGranule, HasMadeInBlock, HaveDrawn, InHand, InMaking, InSpan, IsDrawnMemory, IsHandOf, IsOfHand, IsOfMaking, IsOfMember, IsUsed, LieInDrawn, MakesIn, MakesInBlock, OfMember, Owner, Owns, Shown, UndrawnBlock, UndrawnRun, WasServed}
+use Rattle.lxr_core_invariant.proofs.ShowingLemmas.{set_elsewhere, set_here, shown_cases}
 use Rattle.lxr_core_inv_memory.proofs.CarryLemmas.{Carries, covers_moved}
 
 -- ---- mutator i shows another thread state, and no cursor has fallen

@@ -6,12 +6,12 @@ use Rattle.lxr_layout.specs.declared.Place.{Place}
 use Rattle.lxr_layout.specs.declared.Shape.{Shape}
 use Rattle.lxr_graph.specs.declared.Op.{Op}
 use Rattle.lxr_graph.specs.declared.Reply.TheVariants as reply
-use Rattle.lxr_core_events.specs.ThreadStates.{Intent, Stage, ThreadState, Plain, AtReference, AtValue, Clears, Stores, DrewRun, HasRun, NeedsBlock, DrewBlock, HasBlock, Makes, GivesUp, Rests, Works, Names, Through, is_end}
-use Rattle.lxr_core_events.specs.ThreadStates as why
-use Rattle.lxr_core_events.specs.EpochStates.{Beginning, EpochState, opening_tables}
-use Rattle.lxr_core_events.specs.Events.{done_with, span_from, stage_after}
-use Rattle.lxr_core_events.specs.Happening.{at_stage, loaded_with}
-use Rattle.lxr_core_events.specs.Drawn.{Drawers, HasDrawn, HasGranule, IsDrawnMemory, IsHandOf, IsOfHand, IsOfMaking, IsUsed, MakesIn, MakesInBlock, UndrawnRun}
+use Rattle.lxr_core_invariant.specs.ThreadStates.{Intent, Stage, ThreadState, Plain, AtReference, AtValue, Clears, Stores, DrewRun, HasRun, NeedsBlock, DrewBlock, HasBlock, Makes, GivesUp, Rests, Works, Names, Through, is_end}
+use Rattle.lxr_core_invariant.specs.ThreadStates as why
+use Rattle.lxr_core_invariant.specs.EpochStates.{Beginning, EpochState, opening_tables}
+use Rattle.lxr_core_invariant.specs.Events.{done_with, span_from, stage_after}
+use Rattle.lxr_core_invariant.specs.Happening.{at_stage, loaded_with}
+use Rattle.lxr_core_invariant.specs.Drawn.{Drawers, HasDrawn, HasGranule, IsDrawnMemory, IsHandOf, IsOfHand, IsOfMaking, IsUsed, MakesIn, MakesInBlock, UndrawnRun}
 use Rattle.lxr_core_inv_memory.proofs.CarryLemmas.{Carries}
 use Rattle.lxr_core_inv_memory.proofs.OwnerLemmas.{GoBack, SpanLies, StandStill, Turns, drawers_still, drawn_kept, made_carried, made_in_carried, one_kept, same_drawers, used_kept}
 

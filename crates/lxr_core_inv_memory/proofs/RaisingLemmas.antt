@@ -9,12 +9,12 @@ use Rattle.lxr_core_access.specs.Accesses.{done_to}
 use Rattle.lxr_core_access.specs.Decrementers.{Decrementing, Rests, AsksCount, AsksStart, Claims, ReadsHeader, AsksTracing, ReadsReference, MakesGray, AsksLowered, Lowers, AsksCursor, AsksNumber, Draws, ReadsEntry, decrementer_access}
 use Rattle.lxr_core_access.specs.Tracers.{Tracing, AsksGray, AsksObject, Marks, ReadsShape, Scans, AsksReferent, GraysReferent, AsksBlock, ReadsReuse, DrawsNumber, Enters, FindsNothing, tracer_access}
 use Rattle.lxr_core_access.specs.Tracers as tracing
-use Rattle.lxr_core_events.specs.ThreadStates.{ThreadState}
-use Rattle.lxr_core_events.specs.EpochStates.{Beginning, EpochState}
-use Rattle.lxr_core_events.specs.Events.{Event}
-use Rattle.lxr_core_events.specs.Events as event
-use Rattle.lxr_core_events.specs.Happening.{happen}
-use Rattle.lxr_core_events.specs.Laws.{CursorsDontFall, HaveNotFallen}
+use Rattle.lxr_core_invariant.specs.ThreadStates.{ThreadState}
+use Rattle.lxr_core_invariant.specs.EpochStates.{Beginning, EpochState}
+use Rattle.lxr_core_invariant.specs.Events.{Event}
+use Rattle.lxr_core_invariant.specs.Events as event
+use Rattle.lxr_core_invariant.specs.Happening.{happen}
+use Rattle.lxr_core_invariant.specs.Laws.{CursorsDontFall, HaveNotFallen}
 
 -- cursors that stay don't fall
 still : (t : Tables) → HaveNotFallen t t

@@ -7,10 +7,10 @@ use Rattle.lxr_image.specs.Reads.{granule_of}
 use Rattle.lxr_alloc.specs.declared.Span.{Span}
 use Rattle.lxr_alloc.specs.declared.Spans.{Spans}
 use Rattle.lxr_alloc.specs.Spans.{FitsSpan, granule_count, taken_from}
-use Rattle.lxr_core_events.specs.ThreadStates.{ThreadState, Makes, Works}
-use Rattle.lxr_core_events.specs.EpochStates.{Beginning, EpochState, opening_tables}
-use Rattle.lxr_core_events.specs.Events.{Source, Current, Overflow, making, span_from, spans_after, with_span}
-use Rattle.lxr_core_events.specs.Drawn.{Drawers, HasDrawn, HasGranule, InMaking, InSpan, IsDrawnMemory, IsHandOf, IsOfHand, IsOfMaking, IsUsed, LieInDrawn, MakesIn, MakesInBlock, Owner, Owns, Shown}
+use Rattle.lxr_core_invariant.specs.ThreadStates.{ThreadState, Makes, Works}
+use Rattle.lxr_core_invariant.specs.EpochStates.{Beginning, EpochState, opening_tables}
+use Rattle.lxr_core_invariant.specs.Events.{Source, Current, Overflow, making, span_from, spans_after, with_span}
+use Rattle.lxr_core_invariant.specs.Drawn.{Drawers, HasDrawn, HasGranule, InMaking, InSpan, IsDrawnMemory, IsHandOf, IsOfHand, IsOfMaking, IsUsed, LieInDrawn, MakesIn, MakesInBlock, Owner, Owns, Shown}
 use Rattle.lxr_core_inv_memory.proofs.CarryLemmas.{Carries}
 use Rattle.lxr_core_inv_memory.proofs.OwnerLemmas.{GoBack, SpanLies, StandStill, Turns, drawers_still, drawn_kept, made_carried, made_in_carried, one_kept, same_drawers, shown_split, used_kept}
 

@@ -1,8 +1,8 @@
 -- A sum over all mutators, once one of them shows another thread state.
 use Rattle.std.proofs.Common.{◌≡◌, ℕ, zero, suc, ◌+◌, ◌*◌, ◌≤◌, refl, ap, arith, List, [], ◌∷◌, length}
 use Rattle.std.specs.Prelude.{Some, slice_get, slice_set}
-use Rattle.lxr_core_events.specs.ThreadStates.{ThreadState}
-use Rattle.lxr_core_events.specs.Drawn.{total}
+use Rattle.lxr_core_invariant.specs.ThreadStates.{ThreadState}
+use Rattle.lxr_core_invariant.specs.Drawn.{total}
 
 -- a sum over all mutators changes by what one of them contributes
 pub total_set : (f : ThreadState → ℕ) (thread_states : List ThreadState) (i : ℕ) (v w : ThreadState) → slice_get thread_states i ≡ Some v → total f (slice_set thread_states i w) + f v ≡ total f thread_states + f w

@@ -8,7 +8,7 @@
 //! nothing: the contract of each is a law.
 #![tactic(auto)]
 
-ghost use Rattle.lxr_core_events.specs.Laws.{AllBlocksAreTaken, CursorsAreFar, CursorsDontFall, DrawnMemoryIsKept, DrawnMemoryIsLeft, FixedTablesAreKept, FixedTablesAreLeft, MutatorsLeave};
+ghost use Rattle.lxr_core_invariant.specs.Laws.{AllBlocksAreTaken, CursorsAreFar, CursorsDontFall, DrawnMemoryIsKept, DrawnMemoryIsLeft, FixedTablesAreKept, FixedTablesAreLeft, MutatorsLeave};
 
 /// An event of a mutator changes the heap, unlogged bits, the pause word and the two cursors of what is drawn alone: what
 /// decrementers and tracers work on stays.

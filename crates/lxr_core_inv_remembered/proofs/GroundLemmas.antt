@@ -26,15 +26,15 @@ use Rattle.lxr_invariant.specs.AbstractState.{members}
 use Rattle.lxr_invariant.specs.Standing.{HasBits, word_of_field}
 use Rattle.lxr_invariant.specs.Tracing.{IsInSnapshot, MarksStayInside}
 use Rattle.lxr_invariant.proofs.NameLemmas.{in_first}
-use Rattle.lxr_core_events.specs.EpochStates.{Beginning, EpochState, limits_of, moment_of}
-use Rattle.lxr_core_events.specs.Events.{TellsObject}
-use Rattle.lxr_core_events.specs.Counted.{references_at}
-use Rattle.lxr_core_events.specs.Inside.{StaysInsideWhile}
-use Rattle.lxr_core_events.specs.Logged.{with_cleared}
-use Rattle.lxr_core_events.specs.Remembered.{StillHolds}
-use Rattle.lxr_core_events.specs.Epoch.{IsEpoch}
-use Rattle.lxr_core_events.proofs.FieldLemmas.{field_found, name_found}
-use Rattle.lxr_core_events.proofs.PauseLemmas.{AreUnmoved, HaveOnePause, one_pause, unmoved}
+use Rattle.lxr_core_invariant.specs.EpochStates.{Beginning, EpochState, limits_of, moment_of}
+use Rattle.lxr_core_invariant.specs.Events.{TellsObject}
+use Rattle.lxr_core_invariant.specs.Counted.{references_at}
+use Rattle.lxr_core_invariant.specs.Inside.{StaysInsideWhile}
+use Rattle.lxr_core_invariant.specs.Logged.{with_cleared}
+use Rattle.lxr_core_invariant.specs.Remembered.{StillHolds}
+use Rattle.lxr_core_invariant.specs.Epoch.{IsEpoch}
+use Rattle.lxr_core_invariant.proofs.FieldLemmas.{field_found, name_found}
+use Rattle.lxr_core_invariant.proofs.PauseLemmas.{AreUnmoved, HaveOnePause, one_pause, unmoved}
 use Rattle.lxr_core_inv_counts.proofs.GroundLemmas as counts
 
 -- What tracers find below them.

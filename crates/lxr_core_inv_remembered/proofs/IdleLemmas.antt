@@ -12,13 +12,13 @@ use Rattle.lxr_invariant.proofs.BlockLemmas.{none_counted}
 use Rattle.lxr_core_access.specs.declared.Access.{Access}
 use Rattle.lxr_core_access.specs.Tracers.{Attempts, Tracing, TracerGoes, IsTry, begins, goes_on, nothing, pocket, scanned_next, tracer_access, Rests, AsksGray, AsksObject, Marks, ReadsShape, Scans, AsksReferent, GraysReferent, AsksBlock, ReadsReuse, DrawsNumber, Enters, FindsNothing}
 use Rattle.lxr_core_access.specs.Tracers as goes
-use Rattle.lxr_core_events.specs.EpochStates.{Beginning, EpochState, limits_of, opening_tables}
-use Rattle.lxr_core_events.specs.Counted.{StandsAt}
-use Rattle.lxr_core_events.specs.Decremented.{MayTrace, traced}
-use Rattle.lxr_core_events.specs.Traced.{KnowsObjects}
-use Rattle.lxr_core_events.specs.Remembered.{AreIdle, IsRemembering}
-use Rattle.lxr_core_events.specs.Epoch.{IsEpoch}
-use Rattle.lxr_core_events.proofs.ShowingLemmas.{shown_cases}
+use Rattle.lxr_core_invariant.specs.EpochStates.{Beginning, EpochState, limits_of, opening_tables}
+use Rattle.lxr_core_invariant.specs.Counted.{StandsAt}
+use Rattle.lxr_core_invariant.specs.Decremented.{MayTrace, traced}
+use Rattle.lxr_core_invariant.specs.Traced.{KnowsObjects}
+use Rattle.lxr_core_invariant.specs.Remembered.{AreIdle, IsRemembering}
+use Rattle.lxr_core_invariant.specs.Epoch.{IsEpoch}
+use Rattle.lxr_core_invariant.proofs.ShowingLemmas.{shown_cases}
 use Rattle.lxr_core_inv_counts.proofs.StepLemmas.{after_access}
 use Rattle.lxr_core_inv_counts.proofs.GroundLemmas as counts
 

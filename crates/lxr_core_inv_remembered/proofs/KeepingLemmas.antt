@@ -10,15 +10,15 @@ use Rattle.lxr_invariant.proofs.EntryLemmas.{changed_cases, changed_other}
 use Rattle.lxr_core_access.specs.declared.Access.{Access}
 use Rattle.lxr_core_access.specs.Accesses.{done_to}
 use Rattle.lxr_core_access.specs.Tracers.{Tracing}
-use Rattle.lxr_core_events.specs.ThreadStates.{ThreadState}
-use Rattle.lxr_core_events.specs.EpochStates.{Beginning, EpochState, limits_of, moment_of}
-use Rattle.lxr_core_events.specs.Events.{Event}
-use Rattle.lxr_core_events.specs.Events as event
-use Rattle.lxr_core_events.specs.Happening.{happen, with_cursor, with_logged}
-use Rattle.lxr_core_events.specs.Decremented.{MayTrace, decremented, traced}
-use Rattle.lxr_core_events.specs.Remembered.{AreIdle, AreRemembered, AreRememberedIn, AreRememberedWhile}
-use Rattle.lxr_core_events.specs.Epoch.{IsEpoch}
-use Rattle.lxr_core_events.specs.Laws.{DecrementersKeepRemembered, RememberedIsKept, TracersKeepRemembered}
+use Rattle.lxr_core_invariant.specs.ThreadStates.{ThreadState}
+use Rattle.lxr_core_invariant.specs.EpochStates.{Beginning, EpochState, limits_of, moment_of}
+use Rattle.lxr_core_invariant.specs.Events.{Event}
+use Rattle.lxr_core_invariant.specs.Events as event
+use Rattle.lxr_core_invariant.specs.Happening.{happen, with_cursor, with_logged}
+use Rattle.lxr_core_invariant.specs.Decremented.{MayTrace, decremented, traced}
+use Rattle.lxr_core_invariant.specs.Remembered.{AreIdle, AreRemembered, AreRememberedIn, AreRememberedWhile}
+use Rattle.lxr_core_invariant.specs.Epoch.{IsEpoch}
+use Rattle.lxr_core_invariant.specs.Laws.{DecrementersKeepRemembered, RememberedIsKept, TracersKeepRemembered}
 use Rattle.lxr_core_inv_counts.proofs.KeepingLemmas.{decrementers_are_sound}
 use Rattle.lxr_core_inv_counts.proofs.StepLemmas.{after_access}
 use Rattle.lxr_core_inv_remembered.proofs.GroundLemmas.{ground_of, marks_snapshot, pause}

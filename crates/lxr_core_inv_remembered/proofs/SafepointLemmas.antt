@@ -23,11 +23,11 @@ use Rattle.lxr_invariant.specs.Tracing.{HasOverflowed, IsInChosen, IsRemembered,
 use Rattle.lxr_invariant.proofs.EntryLemmas.{changed_other}
 use Rattle.lxr_invariant.proofs.ScanLemmas.{fewer_slots, slots}
 use Rattle.lxr_core_access.specs.Tracers.{Tracing, Rests}
-use Rattle.lxr_core_events.specs.EpochStates.{Beginning, EpochState, IsBeginning, limits_of, moment_of, opening_tables}
-use Rattle.lxr_core_events.specs.Happening.{with_cursor}
-use Rattle.lxr_core_events.specs.Remembered.{AreRemembered, AreRememberedWhile, HasEntry, IsBeingEntered, IsRememberedLater, IsRemembering, KnowsFields, StillHolds, entered_by, remembers_from, undrawn}
-use Rattle.lxr_core_events.specs.Epoch.{IsEpoch, TracersRest}
-use Rattle.lxr_core_events.specs.Laws.{AllRest, ClosingRemembered, OpeningRemembered}
+use Rattle.lxr_core_invariant.specs.EpochStates.{Beginning, EpochState, IsBeginning, limits_of, moment_of, opening_tables}
+use Rattle.lxr_core_invariant.specs.Happening.{with_cursor}
+use Rattle.lxr_core_invariant.specs.Remembered.{AreRemembered, AreRememberedWhile, HasEntry, IsBeingEntered, IsRememberedLater, IsRemembering, KnowsFields, StillHolds, entered_by, remembers_from, undrawn}
+use Rattle.lxr_core_invariant.specs.Epoch.{IsEpoch, TracersRest}
+use Rattle.lxr_core_invariant.specs.Laws.{AllRest, ClosingRemembered, OpeningRemembered}
 use Rattle.lxr_core_inv_remembered.proofs.GroundLemmas.{member_was, pause, still, unlogged_tells}
 use Rattle.lxr_core_inv_remembered.proofs.SlotLemmas.{undrawn_rest}
 use Rattle.lxr_core_inv_remembered.proofs.TurnLemmas.{KeepsRemembered, remembered_still}

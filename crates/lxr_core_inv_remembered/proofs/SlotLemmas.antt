@@ -4,7 +4,7 @@ use Rattle.std.specs.Prelude.{Some, slice_get, slice_set}
 use Rattle.lxr_layout.specs.declared.Name.{Name}
 use Rattle.lxr_model.specs.Moments.{Moment}
 use Rattle.lxr_core_access.specs.Tracers.{Tracing, Rests}
-use Rattle.lxr_core_events.specs.Remembered.{undrawn, undrawn_by}
+use Rattle.lxr_core_invariant.specs.Remembered.{undrawn, undrawn_by}
 
 -- one of them comes to be about to do something else
 pub undrawn_set : (m : Moment) (at : Name → ℕ) (ts : List Tracing) (i : ℕ) (d e : Tracing) → slice_get ts i ≡ Some d → undrawn m at (slice_set ts i e) + undrawn_by m at d ≡ undrawn m at ts + undrawn_by m at e

@@ -28,10 +28,10 @@ use Rattle.lxr_core_access.specs.declared.Access.TheVariants as access
 use Rattle.lxr_core_access.specs.Accesses.{done_to}
 use Rattle.lxr_core_access.specs.Tracers.{Attempts, Tracing, TracerGoes, IsTry, begins, goes_on, nothing, pocket, scanned_next, tracer_access, Rests, AsksGray, AsksObject, Marks, ReadsShape, Scans, AsksReferent, GraysReferent, AsksBlock, ReadsReuse, DrawsNumber, Enters, FindsNothing}
 use Rattle.lxr_core_access.specs.Tracers as goes
-use Rattle.lxr_core_events.specs.Counted.{references_at}
-use Rattle.lxr_core_events.specs.Traced.{IsScannedAt, KnowsObjects}
-use Rattle.lxr_core_events.specs.Remembered.{HasLoaded, IsSomeEntry, KnowsCounter, KnowsFields, KnowsNumber, StillHolds, entered_by, remembers_from, undrawn_by}
-use Rattle.lxr_core_events.proofs.ActingLemmas.{same_pair}
+use Rattle.lxr_core_invariant.specs.Counted.{references_at}
+use Rattle.lxr_core_invariant.specs.Traced.{IsScannedAt, KnowsObjects}
+use Rattle.lxr_core_invariant.specs.Remembered.{HasLoaded, IsSomeEntry, KnowsCounter, KnowsFields, KnowsNumber, StillHolds, entered_by, remembers_from, undrawn_by}
+use Rattle.lxr_core_invariant.proofs.ActingLemmas.{same_pair}
 use Rattle.lxr_core_inv_counts.proofs.StepLemmas.{after_access}
 use Rattle.lxr_core_inv_remembered.proofs.GroundLemmas.{IsGround}
 use Rattle.lxr_core_inv_remembered.proofs.TurnLemmas.{GoesAhead, KeepsFields, Moves}

@@ -19,8 +19,8 @@ use Rattle.lxr_invariant.specs.Standing.{word_of_field}
 use Rattle.lxr_invariant.specs.Tracing.{HasOverflowed, IsInChosen, IsScanned, unscanned_slots}
 use Rattle.lxr_invariant.proofs.ScanLemmas.{fewer_unscanned}
 use Rattle.lxr_core_access.specs.Tracers.{Tracing, Rests, AsksGray, AsksObject, Marks, ReadsShape, Scans, AsksReferent, GraysReferent, AsksBlock, ReadsReuse, DrawsNumber, Enters, FindsNothing}
-use Rattle.lxr_core_events.specs.Remembered.{AreRemembered, HasEntry, HasLoaded, IsBeingEntered, IsRememberedLater, IsSomeEntry, KnowsFields, StillHolds, entered_by, remembers_from, undrawn, undrawn_by}
-use Rattle.lxr_core_events.proofs.ShowingLemmas.{own_or_still, set_here, shown_cases}
+use Rattle.lxr_core_invariant.specs.Remembered.{AreRemembered, HasEntry, HasLoaded, IsBeingEntered, IsRememberedLater, IsSomeEntry, KnowsFields, StillHolds, entered_by, remembers_from, undrawn, undrawn_by}
+use Rattle.lxr_core_invariant.proofs.ShowingLemmas.{own_or_still, set_here, shown_cases}
 use Rattle.lxr_core_inv_remembered.proofs.SlotLemmas.{undrawn_set}
 
 -- ---- tables

@@ -8,7 +8,7 @@
 //! law.
 #![tactic(auto)]
 
-ghost use Rattle.lxr_core_events.specs.Laws.{ClosingRemembered, DecrementersKeepRemembered, OpeningRemembered, RememberedIsKept, TracersKeepRemembered};
+ghost use Rattle.lxr_core_invariant.specs.Laws.{ClosingRemembered, DecrementersKeepRemembered, OpeningRemembered, RememberedIsKept, TracersKeepRemembered};
 
 /// Each event of a mutator keeps what is remembered: it sets no unlogged bit, and leaves all else that this reads.
 pub fn remembered_is_kept()

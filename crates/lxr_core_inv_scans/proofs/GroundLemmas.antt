@@ -18,13 +18,13 @@ use Rattle.lxr_image.proofs.ImageLemmas.{words_cover, words_even}
 use Rattle.lxr_model.specs.Moments.{Moment}
 use Rattle.lxr_invariant.specs.AbstractState.{members}
 use Rattle.lxr_invariant.proofs.NameLemmas.{in_first}
-use Rattle.lxr_core_events.specs.EpochStates.{Beginning, EpochState, limits_of, moment_of}
-use Rattle.lxr_core_events.specs.Events.{TellsObject}
-use Rattle.lxr_core_events.specs.Counted.{IsInHeap, StandsAt, references_at}
-use Rattle.lxr_core_events.specs.Epoch.{IsEpoch}
-use Rattle.lxr_core_events.proofs.HeldLemmas.{IsHeld, reference_held}
-use Rattle.lxr_core_events.proofs.PauseLemmas.{unmoved}
-use Rattle.lxr_core_events.proofs.TellingLemmas.{told_is}
+use Rattle.lxr_core_invariant.specs.EpochStates.{Beginning, EpochState, limits_of, moment_of}
+use Rattle.lxr_core_invariant.specs.Events.{TellsObject}
+use Rattle.lxr_core_invariant.specs.Counted.{IsInHeap, StandsAt, references_at}
+use Rattle.lxr_core_invariant.specs.Epoch.{IsEpoch}
+use Rattle.lxr_core_invariant.proofs.HeldLemmas.{IsHeld, reference_held}
+use Rattle.lxr_core_invariant.proofs.PauseLemmas.{unmoved}
+use Rattle.lxr_core_invariant.proofs.TellingLemmas.{told_is}
 use Rattle.lxr_core_inv_counts.proofs.GroundLemmas as counts
 use Rattle.lxr_core_inv_counts.proofs.FactLemmas.{refs_there, stands_at}
 

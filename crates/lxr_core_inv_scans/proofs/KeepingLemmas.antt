@@ -8,15 +8,15 @@ use Rattle.lxr_model.specs.Moments.{Moment}
 use Rattle.lxr_core_access.specs.declared.Access.{Access}
 use Rattle.lxr_core_access.specs.Accesses.{done_to}
 use Rattle.lxr_core_access.specs.Tracers.{Tracing}
-use Rattle.lxr_core_events.specs.ThreadStates.{ThreadState}
-use Rattle.lxr_core_events.specs.EpochStates.{Beginning, EpochState, limits_of}
-use Rattle.lxr_core_events.specs.Events.{Event}
-use Rattle.lxr_core_events.specs.Events as event
-use Rattle.lxr_core_events.specs.Happening.{happen}
-use Rattle.lxr_core_events.specs.Decremented.{IsSound, MayTrace, TracerLeaves, traced}
-use Rattle.lxr_core_events.specs.Traced.{AreScanned, AreScannedIn, KnowsObjects, scanned_by}
-use Rattle.lxr_core_events.specs.Epoch.{IsEpoch}
-use Rattle.lxr_core_events.specs.Laws.{DecrementersKeepKnowledge, KnowledgeIsKept, OpeningKnowledge, TracersAreSound, TracersKeepKnowledge}
+use Rattle.lxr_core_invariant.specs.ThreadStates.{ThreadState}
+use Rattle.lxr_core_invariant.specs.EpochStates.{Beginning, EpochState, limits_of}
+use Rattle.lxr_core_invariant.specs.Events.{Event}
+use Rattle.lxr_core_invariant.specs.Events as event
+use Rattle.lxr_core_invariant.specs.Happening.{happen}
+use Rattle.lxr_core_invariant.specs.Decremented.{IsSound, MayTrace, TracerLeaves, traced}
+use Rattle.lxr_core_invariant.specs.Traced.{AreScanned, AreScannedIn, KnowsObjects, scanned_by}
+use Rattle.lxr_core_invariant.specs.Epoch.{IsEpoch}
+use Rattle.lxr_core_invariant.specs.Laws.{DecrementersKeepKnowledge, KnowledgeIsKept, OpeningKnowledge, TracersAreSound, TracersKeepKnowledge}
 use Rattle.lxr_core_inv_counts.proofs.KeepingLemmas.{decrementers_are_sound}
 use Rattle.lxr_core_inv_scans.proofs.GroundLemmas.{IsGround, ground_of}
 use Rattle.lxr_core_inv_scans.proofs.NumberLemmas.{may_remember}

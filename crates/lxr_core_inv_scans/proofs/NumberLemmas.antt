@@ -9,9 +9,9 @@ use Rattle.lxr_model.specs.Moments.{Trace, rememberable}
 use Rattle.lxr_invariant.specs.Lines.{ChosenNeedTrace}
 use Rattle.lxr_invariant.specs.Tracing.{IsTracedBy, unscanned_slots}
 use Rattle.lxr_core_access.specs.Tracers.{Attempts, Tracing, begins, goes_on, pocket, nothing, DrawsNumber, Enters}
-use Rattle.lxr_core_events.specs.EpochStates.{Beginning, EpochState, limits_of, opening_tables}
-use Rattle.lxr_core_events.specs.Remembered.{AreIdle, AreRememberedWhile, undrawn}
-use Rattle.lxr_core_events.specs.Epoch.{IsEpoch}
+use Rattle.lxr_core_invariant.specs.EpochStates.{Beginning, EpochState, limits_of, opening_tables}
+use Rattle.lxr_core_invariant.specs.Remembered.{AreIdle, AreRememberedWhile, undrawn}
+use Rattle.lxr_core_invariant.specs.Epoch.{IsEpoch}
 
 -- what a step that draws a number asks of the cursor, and one that writes an entry of its number
 abbrev pub MayRemember : Limits → Tables → Tracing → Type 0

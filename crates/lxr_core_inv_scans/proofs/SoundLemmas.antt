@@ -16,9 +16,9 @@ use Rattle.lxr_core_access.specs.declared.Access.TheVariants as access
 use Rattle.lxr_core_access.specs.declared.TableEntry.{TableEntry}
 use Rattle.lxr_core_access.specs.Accesses.{IsTableEntry, MayBeDone, done_to}
 use Rattle.lxr_core_access.specs.Tracers.{Tracing, tracer_access, Rests, AsksGray, AsksObject, Marks, ReadsShape, Scans, AsksReferent, GraysReferent, AsksBlock, ReadsReuse, DrawsNumber, Enters, FindsNothing}
-use Rattle.lxr_core_events.specs.Decremented.{LeavesTables, TracerLeaves}
-use Rattle.lxr_core_events.specs.Counted.{StandsAt}
-use Rattle.lxr_core_events.specs.Traced.{AreScanned, IsScannedAt}
+use Rattle.lxr_core_invariant.specs.Decremented.{LeavesTables, TracerLeaves}
+use Rattle.lxr_core_invariant.specs.Counted.{StandsAt}
+use Rattle.lxr_core_invariant.specs.Traced.{AreScanned, IsScannedAt}
 use Rattle.lxr_core_inv_scans.proofs.GroundLemmas.{IsGround, block_within}
 use Rattle.lxr_core_inv_scans.proofs.NumberLemmas.{MayRemember}
 use Rattle.lxr_core_inv_scans.proofs.StepLemmas.{gray_keeps, mark_keeps}

@@ -19,9 +19,9 @@ use Rattle.lxr_core_access.specs.declared.Access.TheVariants as access
 use Rattle.lxr_core_access.specs.Accesses.{done_to}
 use Rattle.lxr_core_access.specs.Tracers.{Attempts, Tracing, TracerGoes, IsTry, begins, goes_on, pocket, nothing, scanned_next, tracer_access, Rests, AsksGray, AsksObject, Marks, ReadsShape, Scans, AsksReferent, GraysReferent, AsksBlock, ReadsReuse, DrawsNumber, Enters, FindsNothing}
 use Rattle.lxr_core_access.specs.Tracers as goes
-use Rattle.lxr_core_events.specs.Counted.{IsInHeap}
-use Rattle.lxr_core_events.specs.Traced.{AreScanned, IsScannedAt, KnowsObjects, scanned_by}
-use Rattle.lxr_core_events.proofs.ShowingLemmas.{set_here}
+use Rattle.lxr_core_invariant.specs.Counted.{IsInHeap}
+use Rattle.lxr_core_invariant.specs.Traced.{AreScanned, IsScannedAt, KnowsObjects, scanned_by}
+use Rattle.lxr_core_invariant.proofs.ShowingLemmas.{set_here}
 use Rattle.lxr_core_inv_scans.proofs.GroundLemmas.{IsGround}
 use Rattle.lxr_core_inv_scans.proofs.TurnLemmas.{KeepsBits, looked, moved, scans_still}
 

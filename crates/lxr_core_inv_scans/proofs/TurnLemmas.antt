@@ -6,8 +6,8 @@ use Rattle.lxr_image.specs.Tables.{Tables}
 use Rattle.lxr_image.specs.Reads.{granule_of}
 use Rattle.lxr_model.specs.Moments.{Moment}
 use Rattle.lxr_core_access.specs.Tracers.{Tracing, Rests, AsksGray, AsksObject, Marks, ReadsShape, Scans, AsksReferent, GraysReferent, AsksBlock, ReadsReuse, DrawsNumber, Enters, FindsNothing}
-use Rattle.lxr_core_events.specs.Traced.{AreScanned, IsScannedAt, KnowsObjects, scanned_by}
-use Rattle.lxr_core_events.proofs.ShowingLemmas.{shown_cases}
+use Rattle.lxr_core_invariant.specs.Traced.{AreScanned, IsScannedAt, KnowsObjects, scanned_by}
+use Rattle.lxr_core_invariant.proofs.ShowingLemmas.{shown_cases}
 
 -- marks and grays that are set stay so
 pub record KeepsBits (t u : Tables) : Type 0 where

@@ -6,7 +6,7 @@
 //! the contract of each is a law.
 #![tactic(auto)]
 
-ghost use Rattle.lxr_core_events.specs.Laws.{DecrementersKeepKnowledge, KnowledgeIsKept, OpeningKnowledge, TracersAreSound, TracersKeepKnowledge};
+ghost use Rattle.lxr_core_invariant.specs.Laws.{DecrementersKeepKnowledge, KnowledgeIsKept, OpeningKnowledge, TracersAreSound, TracersKeepKnowledge};
 
 /// Each event of a mutator keeps what tracers know: no bit that they have seen set is cleared.
 pub fn knowledge_is_kept()

@@ -15,7 +15,7 @@ use Rattle.lxr_core_access.specs.declared.Access.{Access}
 use Rattle.lxr_core_access.specs.Accesses.{done_to}
 use Rattle.lxr_core_access.specs.Decrementers.{Decrementing, MakesGray}
 use Rattle.lxr_core_access.specs.Tracers.{Tracing}
-use Rattle.lxr_core_events.specs.Covered.{IsCoveredBy, IsCoveredIn, IsFound, IsHandledLater, IsInHand, IsScannedLater, SeesTrace, WaitsIn}
+use Rattle.lxr_core_invariant.specs.Covered.{IsCoveredBy, IsCoveredIn, IsFound, IsHandledLater, IsInHand, IsScannedLater, SeesTrace, WaitsIn}
 use Rattle.lxr_core_inv_snapshot.proofs.FindLemmas.{HeldThen, HoldsNow}
 
 -- what a dead object's reference held at the last pause is gray, or will be

@@ -18,10 +18,10 @@ use Rattle.lxr_invariant.proofs.EntryLemmas.{changed_cases, changed_here, same_n
 use Rattle.lxr_core_access.specs.Decrementers.{Attempts, Decrementing, DecrementerGoes, Handling, IsTry, begins, goes_on, «list», pocket, handled_next, decrementer_access, Entry, References, Rests, AsksCount, AsksStart, Claims, ReadsHeader, AsksTracing, ReadsReference, MakesGray, AsksLowered, Lowers, AsksCursor, AsksNumber, Draws, ReadsEntry}
 use Rattle.lxr_core_access.specs.Decrementers as goes
 use Rattle.lxr_core_access.specs.Tracers.{Tracing}
-use Rattle.lxr_core_events.specs.Counted.{KnowsCounts, KnowsHandling, references_at}
-use Rattle.lxr_core_events.specs.Covered.{HandlesTraced, IsInHand, SeesTrace, handles_from, handling_from, made_gray_by}
-use Rattle.lxr_core_events.proofs.ActingLemmas.{same_pair}
-use Rattle.lxr_core_events.proofs.ShowingLemmas.{own_or_still, set_here, shown_cases}
+use Rattle.lxr_core_invariant.specs.Counted.{KnowsCounts, KnowsHandling, references_at}
+use Rattle.lxr_core_invariant.specs.Covered.{HandlesTraced, IsInHand, SeesTrace, handles_from, handling_from, made_gray_by}
+use Rattle.lxr_core_invariant.proofs.ActingLemmas.{same_pair}
+use Rattle.lxr_core_invariant.proofs.ShowingLemmas.{own_or_still, set_here, shown_cases}
 use Rattle.lxr_core_inv_snapshot.proofs.FindLemmas.{HeldThen, HelpersFind, HoldsNow}
 use Rattle.lxr_core_inv_snapshot.proofs.CoverLemmas.{IsHandled, IsUnhandled, KeepsCover, after_access, place_by_granule}
 

@@ -17,13 +17,13 @@ use Rattle.lxr_invariant.specs.Counting.{is_done}
 use Rattle.lxr_invariant.specs.Lines.{tracing_word}
 use Rattle.lxr_invariant.proofs.MemberLemmas.{member_refers}
 use Rattle.lxr_invariant.proofs.NameLemmas.{in_first}
-use Rattle.lxr_core_events.specs.EpochStates.{Beginning, EpochState, limits_of, moment_of}
-use Rattle.lxr_core_events.specs.Events.{TellsObject}
-use Rattle.lxr_core_events.specs.Counted.{StandsAt, references_at}
-use Rattle.lxr_core_events.specs.Epoch.{IsEpoch}
-use Rattle.lxr_core_events.proofs.PauseLemmas.{AreUnmoved, HaveOnePause, dead_stays, one_pause, unmoved}
-use Rattle.lxr_core_events.proofs.TellingLemmas.{one_place, placed_there, told_is}
-use Rattle.lxr_core_events.proofs.FieldLemmas.{name_found}
+use Rattle.lxr_core_invariant.specs.EpochStates.{Beginning, EpochState, limits_of, moment_of}
+use Rattle.lxr_core_invariant.specs.Events.{TellsObject}
+use Rattle.lxr_core_invariant.specs.Counted.{StandsAt, references_at}
+use Rattle.lxr_core_invariant.specs.Epoch.{IsEpoch}
+use Rattle.lxr_core_invariant.proofs.PauseLemmas.{AreUnmoved, HaveOnePause, dead_stays, one_pause, unmoved}
+use Rattle.lxr_core_invariant.proofs.TellingLemmas.{one_place, placed_there, told_is}
+use Rattle.lxr_core_invariant.proofs.FieldLemmas.{name_found}
 
 -- a reference of an object holds a name's object now; at the last pause
 abbrev pub HoldsNow : Moment → Name → ℕ → Name → Type 0

@@ -5,11 +5,11 @@ use Rattle.lxr_image.specs.Tables.{Tables}
 use Rattle.lxr_model.specs.Moments.{Moment, Trace}
 use Rattle.lxr_core_access.specs.declared.Access.{Access}
 use Rattle.lxr_core_access.specs.Accesses.{done_to}
-use Rattle.lxr_core_events.specs.EpochStates.{Beginning, EpochState, limits_of, moment_of}
-use Rattle.lxr_core_events.specs.Logged.{logs_of}
-use Rattle.lxr_core_events.specs.Covered.{IsCoveredByIn, IsCoveredWhile}
-use Rattle.lxr_core_events.specs.Decremented.{decremented, traced}
-use Rattle.lxr_core_events.specs.Laws.{DecrementersKeepCover, TracersKeepCover}
+use Rattle.lxr_core_invariant.specs.EpochStates.{Beginning, EpochState, limits_of, moment_of}
+use Rattle.lxr_core_invariant.specs.Logged.{logs_of}
+use Rattle.lxr_core_invariant.specs.Covered.{IsCoveredByIn, IsCoveredWhile}
+use Rattle.lxr_core_invariant.specs.Decremented.{decremented, traced}
+use Rattle.lxr_core_invariant.specs.Laws.{DecrementersKeepCover, TracersKeepCover}
 use Rattle.lxr_core_inv_snapshot.proofs.FindLemmas.{helpers_find}
 use Rattle.lxr_core_inv_snapshot.proofs.CoverLemmas.{after_access, cover_on}
 use Rattle.lxr_core_inv_snapshot.proofs.TracerLemmas.{TracerKeeps, tracer_keeps_cover, tracer_steps}

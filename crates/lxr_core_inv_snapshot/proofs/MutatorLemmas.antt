@@ -20,15 +20,15 @@ use Rattle.lxr_image.specs.ImageLaws.{placed}
 use Rattle.lxr_model.specs.Moments.{Moment, made_after, written_after}
 use Rattle.lxr_model_counting.specs.Following.{FollowsPause}
 use Rattle.lxr_invariant.specs.Tracing.{IsOldValue}
-use Rattle.lxr_core_events.specs.ThreadStates.{ThreadState, Names, Stores}
-use Rattle.lxr_core_events.specs.EpochStates.{Beginning, EpochState, moment_of}
-use Rattle.lxr_core_events.specs.Events.{Event, done_with}
-use Rattle.lxr_core_events.specs.Events as event
-use Rattle.lxr_core_events.specs.Happening.{MayClearFirst, asked_by, at_stage, happen, intends, loaded_with, shows, stands}
-use Rattle.lxr_core_events.specs.Logged.{logs_of}
-use Rattle.lxr_core_events.specs.Covered.{SnapshotIsCoveredIn}
-use Rattle.lxr_core_events.specs.Epoch.{IsEpoch}
-use Rattle.lxr_core_events.specs.Laws.{CoverIsKept}
+use Rattle.lxr_core_invariant.specs.ThreadStates.{ThreadState, Names, Stores}
+use Rattle.lxr_core_invariant.specs.EpochStates.{Beginning, EpochState, moment_of}
+use Rattle.lxr_core_invariant.specs.Events.{Event, done_with}
+use Rattle.lxr_core_invariant.specs.Events as event
+use Rattle.lxr_core_invariant.specs.Happening.{MayClearFirst, asked_by, at_stage, happen, intends, loaded_with, shows, stands}
+use Rattle.lxr_core_invariant.specs.Logged.{logs_of}
+use Rattle.lxr_core_invariant.specs.Covered.{SnapshotIsCoveredIn}
+use Rattle.lxr_core_invariant.specs.Epoch.{IsEpoch}
+use Rattle.lxr_core_invariant.specs.Laws.{CoverIsKept}
 use Rattle.lxr_core_inv_snapshot.proofs.HelperLemmas.{while_runs}
 use Rattle.lxr_core_inv_snapshot.proofs.OldLemmas.{old_joins, old_left, old_stays}
 use Rattle.lxr_core_inv_snapshot.proofs.TurnLemmas.{turn_keeps_cover}

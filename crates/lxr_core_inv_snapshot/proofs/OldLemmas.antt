@@ -3,8 +3,8 @@ use Rattle.std.proofs.Common.{◌≡◌, ℕ, zero, suc, subst, inl, inr, ◌⊎
 use Rattle.std.specs.Prelude.{Some, slice_get, slice_set}
 use Rattle.lxr_layout.specs.declared.LogEntry.{LogEntry}
 use Rattle.lxr_invariant.specs.Tracing.{IsOldValue}
-use Rattle.lxr_core_events.specs.ThreadStates.{ThreadState}
-use Rattle.lxr_core_events.specs.Logged.{logs_of}
+use Rattle.lxr_core_invariant.specs.ThreadStates.{ThreadState}
+use Rattle.lxr_core_invariant.specs.Logged.{logs_of}
 
 -- ---- one list behind another
 

@@ -19,11 +19,11 @@ use Rattle.lxr_invariant.specs.Standing.{entry_of, word_of_field}
 use Rattle.lxr_invariant.specs.Tracing.{IsCovered, IsOldValue, IsToBeScanned, IsTracedBy, TraceHolds}
 use Rattle.lxr_core_access.specs.Decrementers.{Decrementing, MakesGray}
 use Rattle.lxr_core_access.specs.Tracers.{Tracing}
-use Rattle.lxr_core_events.specs.EpochStates.{Beginning, EpochState, IsBeginning, limits_of, moment_of, opening_tables}
-use Rattle.lxr_core_events.specs.Logged.{logs_of}
-use Rattle.lxr_core_events.specs.Happening.{with_cursor}
-use Rattle.lxr_core_events.specs.Covered.{IsCoveredBy, IsCoveredByIn, IsCoveredIn, IsCoveredWhile, IsHandledLater, IsInHand, IsScannedLater, SeesTrace, WaitsIn, grayed_by, handles_from, made_gray_by, scans_from}
-use Rattle.lxr_core_events.specs.Laws.{AllRest, ClosingCover, OpeningCover}
+use Rattle.lxr_core_invariant.specs.EpochStates.{Beginning, EpochState, IsBeginning, limits_of, moment_of, opening_tables}
+use Rattle.lxr_core_invariant.specs.Logged.{logs_of}
+use Rattle.lxr_core_invariant.specs.Happening.{with_cursor}
+use Rattle.lxr_core_invariant.specs.Covered.{IsCoveredBy, IsCoveredByIn, IsCoveredIn, IsCoveredWhile, IsHandledLater, IsInHand, IsScannedLater, SeesTrace, WaitsIn, grayed_by, handles_from, made_gray_by, scans_from}
+use Rattle.lxr_core_invariant.specs.Laws.{AllRest, ClosingCover, OpeningCover}
 
 -- ---- the opening
 

@@ -26,17 +26,17 @@ use Rattle.lxr_invariant.specs.Standing.{word_of_field}
 use Rattle.lxr_invariant.specs.Tracing.{IsOldValue}
 use Rattle.lxr_invariant.proofs.EntryLemmas.{changed_cases, equal_numbers}
 use Rattle.lxr_invariant.proofs.NameLemmas.{in_first}
-use Rattle.lxr_core_events.specs.ThreadStates.{Stage, ThreadState, Clears, Stores, Works, held}
-use Rattle.lxr_core_events.specs.EpochStates.{Beginning, EpochState, limits_of, moment_of}
-use Rattle.lxr_core_events.specs.Events.{at_once, base_of, indexed}
-use Rattle.lxr_core_events.specs.Happening.{MayClearFirst, MayDoAtOnce, MayFindNone, MayStore, with_logged}
-use Rattle.lxr_core_events.specs.Imaged.{Knows, KnowsReference}
-use Rattle.lxr_core_events.specs.Epoch.{IsEpoch}
-use Rattle.lxr_core_events.proofs.ActingLemmas.{Acts, acts, base_held, base_nil, same_pair}
-use Rattle.lxr_core_events.proofs.FieldLemmas.{field_found}
-use Rattle.lxr_core_events.proofs.ObjectLemmas.{state_after_step}
-use Rattle.lxr_core_events.proofs.ShowingLemmas.{op_formed}
-use Rattle.lxr_core_events.proofs.TellingLemmas.{told_is}
+use Rattle.lxr_core_invariant.specs.ThreadStates.{Stage, ThreadState, Clears, Stores, Works, held}
+use Rattle.lxr_core_invariant.specs.EpochStates.{Beginning, EpochState, limits_of, moment_of}
+use Rattle.lxr_core_invariant.specs.Events.{at_once, base_of, indexed}
+use Rattle.lxr_core_invariant.specs.Happening.{MayClearFirst, MayDoAtOnce, MayFindNone, MayStore, with_logged}
+use Rattle.lxr_core_invariant.specs.Imaged.{Knows, KnowsReference}
+use Rattle.lxr_core_invariant.specs.Epoch.{IsEpoch}
+use Rattle.lxr_core_invariant.proofs.ActingLemmas.{Acts, acts, base_held, base_nil, same_pair}
+use Rattle.lxr_core_invariant.proofs.FieldLemmas.{field_found}
+use Rattle.lxr_core_invariant.proofs.ObjectLemmas.{state_after_step}
+use Rattle.lxr_core_invariant.proofs.ShowingLemmas.{op_formed}
+use Rattle.lxr_core_invariant.proofs.TellingLemmas.{told_is}
 use Rattle.lxr_core_inv_snapshot.proofs.FindLemmas.{HeldThen, HoldsNow}
 use Rattle.lxr_core_inv_snapshot.proofs.OldLemmas.{old_right}
 

@@ -20,11 +20,11 @@ use Rattle.lxr_invariant.proofs.EntryLemmas.{changed_cases, changed_here}
 use Rattle.lxr_core_access.specs.Decrementers.{Decrementing}
 use Rattle.lxr_core_access.specs.Tracers.{Attempts, Tracing, TracerGoes, IsTry, begins, goes_on, nothing, pocket, scanned_next, tracer_access, Rests, AsksGray, AsksObject, Marks, ReadsShape, Scans, AsksReferent, GraysReferent, AsksBlock, ReadsReuse, DrawsNumber, Enters, FindsNothing}
 use Rattle.lxr_core_access.specs.Tracers as goes
-use Rattle.lxr_core_events.specs.Counted.{references_at}
-use Rattle.lxr_core_events.specs.Traced.{KnowsObjects}
-use Rattle.lxr_core_events.specs.Covered.{IsInHand, grayed_by, scans_from}
-use Rattle.lxr_core_events.proofs.ActingLemmas.{same_pair}
-use Rattle.lxr_core_events.proofs.ShowingLemmas.{own_or_still, set_here}
+use Rattle.lxr_core_invariant.specs.Counted.{references_at}
+use Rattle.lxr_core_invariant.specs.Traced.{KnowsObjects}
+use Rattle.lxr_core_invariant.specs.Covered.{IsInHand, grayed_by, scans_from}
+use Rattle.lxr_core_invariant.proofs.ActingLemmas.{same_pair}
+use Rattle.lxr_core_invariant.proofs.ShowingLemmas.{own_or_still, set_here}
 use Rattle.lxr_core_inv_snapshot.proofs.FindLemmas.{HelpersFind, HoldsNow}
 use Rattle.lxr_core_inv_snapshot.proofs.CoverLemmas.{GoesOn, IsHandled, IsUnscanned, KeepsCover, after_access, place_by_granule}
 

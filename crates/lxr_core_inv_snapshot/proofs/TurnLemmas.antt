@@ -14,7 +14,7 @@ use Rattle.lxr_invariant.specs.Standing.{word_of_field}
 use Rattle.lxr_invariant.specs.Tracing.{IsOldValue}
 use Rattle.lxr_core_access.specs.Decrementers.{Decrementing, MakesGray}
 use Rattle.lxr_core_access.specs.Tracers.{Tracing}
-use Rattle.lxr_core_events.specs.Covered.{IsCoveredBy, IsCoveredIn, IsFound, IsHandledLater, IsInHand, IsScannedLater, WaitsIn}
+use Rattle.lxr_core_invariant.specs.Covered.{IsCoveredBy, IsCoveredIn, IsFound, IsHandledLater, IsInHand, IsScannedLater, WaitsIn}
 use Rattle.lxr_core_inv_snapshot.proofs.FindLemmas.{HeldThen, HoldsNow}
 use Rattle.lxr_core_inv_snapshot.proofs.CoverLemmas.{IsHandled}
 

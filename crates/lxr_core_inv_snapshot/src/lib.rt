@@ -7,7 +7,7 @@
 //! the contract of each is a law.
 #![tactic(auto)]
 
-ghost use Rattle.lxr_core_events.specs.Laws.{ClosingCover, CoverIsKept, DecrementersKeepCover, OpeningCover, TracersKeepCover};
+ghost use Rattle.lxr_core_invariant.specs.Laws.{ClosingCover, CoverIsKept, DecrementersKeepCover, OpeningCover, TracersKeepCover};
 
 /// Each step of a tracer keeps the snapshot covered: it marks an object that it then scans whole, and makes gray what it reads.
 pub fn tracers_keep_cover()

@@ -22,12 +22,12 @@ use Rattle.lxr_mutator.specs.declared.phases.MutatorPhase.TheVariants as phase
 use Rattle.lxr_mutator.specs.Mutating.{Mutating, op_now, register}
 use Rattle.lxr_mutator.specs.Operating.{indexed_fields, index_of}
 use Rattle.lxr_mutator.specs.Steps.{done_with, reaching, shape_told}
-use Rattle.lxr_core_events.specs.ThreadStates.{AtReference, AtValue, Works}
-use Rattle.lxr_core_events.specs.Events.{TellsObject, WorksOn, base_of, indexed, is_for_reference}
-use Rattle.lxr_core_events.specs.Events as epoch
-use Rattle.lxr_core_events.specs.Happening.{ReadsHeader, at_stage}
-use Rattle.lxr_core_events.specs.EpochStates.{Beginning, EpochState, limits_of, moment_of}
-use Rattle.lxr_core_events.proofs.ActingLemmas.{acts, base_held, same_pair}
+use Rattle.lxr_core_invariant.specs.ThreadStates.{AtReference, AtValue, Works}
+use Rattle.lxr_core_invariant.specs.Events.{TellsObject, WorksOn, base_of, indexed, is_for_reference}
+use Rattle.lxr_core_invariant.specs.Events as epoch
+use Rattle.lxr_core_invariant.specs.Happening.{ReadsHeader, at_stage}
+use Rattle.lxr_core_invariant.specs.EpochStates.{Beginning, EpochState, limits_of, moment_of}
+use Rattle.lxr_core_invariant.proofs.ActingLemmas.{acts, base_held, same_pair}
 use Rattle.lxr_core_sim_mutator.specs.Showing.{IsMutatorOf, stage_in, thread_state_of}
 use Rattle.lxr_core_sim_mutator.specs.Stepping.{ShowsAs, StepIsEvent}
 use Rattle.lxr_core_sim_mutator.proofs.KeepingLemmas.{GoesOn, goes_on, no_end_now, now_shown, to_done, to_phase, thread_state_done}

@@ -22,10 +22,10 @@ use Rattle.lxr_mutator.specs.Mutating.{Mutating, op_now}
 use Rattle.lxr_mutator.specs.Steps.{in_current, in_overflow, is_medium, is_run, run_in, shape_now}
 use Rattle.lxr_mutator.proofs.NowLemmas.{formed_now, shape_fits}
 use Rattle.lxr_mutator.proofs.RunLemmas.{word_of_told}
-use Rattle.lxr_core_events.specs.Events.{Current, Overflow, Source, making, source_for, with_span}
-use Rattle.lxr_core_events.specs.Events as epoch
-use Rattle.lxr_core_events.specs.Laws.{CursorsAreFar}
-use Rattle.lxr_core_events.specs.EpochStates.{Beginning, EpochState, limits_of}
+use Rattle.lxr_core_invariant.specs.Events.{Current, Overflow, Source, making, source_for, with_span}
+use Rattle.lxr_core_invariant.specs.Events as epoch
+use Rattle.lxr_core_invariant.specs.Laws.{CursorsAreFar}
+use Rattle.lxr_core_invariant.specs.EpochStates.{Beginning, EpochState, limits_of}
 use Rattle.lxr_core_sim_mutator.specs.Showing.{IsMutatorOf, IsNew, thread_state_of}
 use Rattle.lxr_core_sim_mutator.specs.Stepping.{ShowsAs, StepIsEvent}
 use Rattle.lxr_core_sim_mutator.proofs.KeepingLemmas.{GoesOn, goes_on, to_phase, with_spans}

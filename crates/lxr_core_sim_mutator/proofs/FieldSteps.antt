@@ -19,11 +19,11 @@ use Rattle.lxr_mutator.specs.declared.phases.MutatorPhase.TheVariants as phase
 use Rattle.lxr_mutator.specs.Mutating.{Mutating, op_now}
 use Rattle.lxr_mutator.specs.Operating.{dest_of, index_of, value_of}
 use Rattle.lxr_mutator.specs.Steps.{done_with, name_told, with_register}
-use Rattle.lxr_core_events.specs.ThreadStates.{ThreadState, Names, is_end}
-use Rattle.lxr_core_events.specs.Events.{TellsObject, value_word}
-use Rattle.lxr_core_events.specs.Events as epoch
-use Rattle.lxr_core_events.specs.Happening.{at_stage}
-use Rattle.lxr_core_events.specs.EpochStates.{Beginning, EpochState, limits_of, moment_of}
+use Rattle.lxr_core_invariant.specs.ThreadStates.{ThreadState, Names, is_end}
+use Rattle.lxr_core_invariant.specs.Events.{TellsObject, value_word}
+use Rattle.lxr_core_invariant.specs.Events as epoch
+use Rattle.lxr_core_invariant.specs.Happening.{at_stage}
+use Rattle.lxr_core_invariant.specs.EpochStates.{Beginning, EpochState, limits_of, moment_of}
 use Rattle.lxr_core_sim_mutator.specs.Showing.{IsLoad, IsMutatorOf, thread_state_of}
 use Rattle.lxr_core_sim_mutator.specs.Stepping.{ShowsAs, StepIsEvent}
 use Rattle.lxr_core_sim_mutator.proofs.KeepingLemmas.{GoesOn, goes_on, no_end_now, now_shown, to_done, to_phase, thread_state_done, with_place}

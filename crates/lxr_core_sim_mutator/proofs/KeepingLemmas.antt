@@ -20,9 +20,9 @@ use Rattle.lxr_mutator.specs.declared.phases.MutatorPhase.TheVariants as phase
 use Rattle.lxr_mutator.specs.Mutating.{Mutating, nil, op_now, register, rests_in}
 use Rattle.lxr_mutator.specs.Mutators.{AreInHeap, HaveIndexes, IsHeld, IsMutator, IsOperation, MayBeIn}
 use Rattle.lxr_mutator.specs.Steps.{done_with, ended, finished, with_register}
-use Rattle.lxr_core_events.specs.ThreadStates.{ThreadState, all_of, is_end, Rests, Through}
-use Rattle.lxr_core_events.specs.ThreadStates as why
-use Rattle.lxr_core_events.specs.Events as epoch
+use Rattle.lxr_core_invariant.specs.ThreadStates.{ThreadState, all_of, is_end, Rests, Through}
+use Rattle.lxr_core_invariant.specs.ThreadStates as why
+use Rattle.lxr_core_invariant.specs.Events as epoch
 use Rattle.lxr_core_sim_mutator.specs.Showing.{IsMutatorOf, IsNew, IsSteadyIn, stage_in, thread_state_of}
 
 -- what holds of a mutator that goes on, whatever its phase

@@ -16,13 +16,13 @@ use Rattle.lxr_image.specs.Image.{IsImage, Stands, place_word}
 use Rattle.lxr_image.specs.Tables.{Tables}
 use Rattle.lxr_model.specs.Moments.{Moment}
 use Rattle.lxr_invariant.specs.AbstractState.{members}
-use Rattle.lxr_core_events.specs.EpochStates.{Beginning, EpochState, limits_of, moment_of, opening_tables}
-use Rattle.lxr_core_events.specs.Events.{TellsObject, value_word}
-use Rattle.lxr_core_events.specs.Imaged.{IsReferenceAt, IsValueAt}
-use Rattle.lxr_core_events.specs.Drawn.{Drawers, MakesIn}
-use Rattle.lxr_core_events.specs.Epoch.{IsEpoch}
-use Rattle.lxr_core_events.proofs.HeldLemmas.{IsHeld, reference_held}
-use Rattle.lxr_core_events.proofs.TellingLemmas.{stands_there, told_there}
+use Rattle.lxr_core_invariant.specs.EpochStates.{Beginning, EpochState, limits_of, moment_of, opening_tables}
+use Rattle.lxr_core_invariant.specs.Events.{TellsObject, value_word}
+use Rattle.lxr_core_invariant.specs.Imaged.{IsReferenceAt, IsValueAt}
+use Rattle.lxr_core_invariant.specs.Drawn.{Drawers, MakesIn}
+use Rattle.lxr_core_invariant.specs.Epoch.{IsEpoch}
+use Rattle.lxr_core_invariant.proofs.HeldLemmas.{IsHeld, reference_held}
+use Rattle.lxr_core_invariant.proofs.TellingLemmas.{stands_there, told_there}
 
 -- the heap has at most 1,024 blocks
 pub few_blocks : (b : Beginning) (s : EpochState) → IsEpoch b s → (limits_of b).blocks ≤ 1024

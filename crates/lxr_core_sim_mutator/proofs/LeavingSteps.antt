@@ -13,10 +13,10 @@ use Rattle.lxr_mutator.specs.declared.phases.Stop.TheVariants as stop
 use Rattle.lxr_mutator.specs.Mutating.{Mutating, op_now}
 use Rattle.lxr_mutator.specs.Operating.{asked_reply}
 use Rattle.lxr_mutator.specs.Steps.{end_by}
-use Rattle.lxr_core_events.specs.Events as epoch
-use Rattle.lxr_core_events.specs.Happening.{asked_by}
-use Rattle.lxr_core_events.specs.EpochStates.{Beginning, EpochState, limits_of}
-use Rattle.lxr_core_events.specs.ThreadStates.{Reason, Through}
+use Rattle.lxr_core_invariant.specs.Events as epoch
+use Rattle.lxr_core_invariant.specs.Happening.{asked_by}
+use Rattle.lxr_core_invariant.specs.EpochStates.{Beginning, EpochState, limits_of}
+use Rattle.lxr_core_invariant.specs.ThreadStates.{Reason, Through}
 use Rattle.lxr_mutator.specs.declared.phases.MutEnd.TheVariants as ends
 use Rattle.lxr_core_sim_mutator.specs.Showing.{IsNew, reason_by, reason_of, thread_state_of}
 use Rattle.lxr_core_sim_mutator.specs.Stepping.{ShowsAs, StepIsEvent}

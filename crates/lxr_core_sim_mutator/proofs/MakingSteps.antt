@@ -17,10 +17,10 @@ use Rattle.lxr_mutator.specs.declared.phases.MutatorPhase.TheVariants as phase
 use Rattle.lxr_mutator.specs.Mutating.{Mutating, op_now, next_name as next_made}
 use Rattle.lxr_mutator.specs.Operating.{dest_of}
 use Rattle.lxr_mutator.specs.Steps.{shape_now, with_register}
-use Rattle.lxr_core_events.specs.ThreadStates.{Makes}
-use Rattle.lxr_core_events.specs.Events as epoch
-use Rattle.lxr_core_events.specs.Happening.{intends}
-use Rattle.lxr_core_events.specs.EpochStates.{Beginning, EpochState, limits_of, moment_of}
+use Rattle.lxr_core_invariant.specs.ThreadStates.{Makes}
+use Rattle.lxr_core_invariant.specs.Events as epoch
+use Rattle.lxr_core_invariant.specs.Happening.{intends}
+use Rattle.lxr_core_invariant.specs.EpochStates.{Beginning, EpochState, limits_of, moment_of}
 use Rattle.lxr_core_sim_mutator.specs.Showing.{IsMutatorOf, IsNew, thread_state_of}
 use Rattle.lxr_core_sim_mutator.specs.Stepping.{ShowsAs, StepIsEvent}
 use Rattle.lxr_core_sim_mutator.proofs.KeepingLemmas.{GoesOn, goes_on, no_end_now, now_shown, to_done, to_phase, thread_state_done, with_place}

@@ -9,9 +9,9 @@ use Rattle.lxr_graph.specs.History.{Item, replies_of}
 use Rattle.lxr_graph.specs.State.{next_name, row_of}
 use Rattle.lxr_model.specs.Moments.{moment}
 use Rattle.lxr_mutator.specs.Mutating.{Mutating, is_new, next_name as next_made}
-use Rattle.lxr_core_events.specs.EpochStates.{Beginning, CountsObjects, EpochState, limits_of, moment_of, tells_new}
-use Rattle.lxr_core_events.specs.Epoch.{IsEpoch}
-use Rattle.lxr_core_events.proofs.ObjectLemmas.{extends_counts}
+use Rattle.lxr_core_invariant.specs.EpochStates.{Beginning, CountsObjects, EpochState, limits_of, moment_of, tells_new}
+use Rattle.lxr_core_invariant.specs.Epoch.{IsEpoch}
+use Rattle.lxr_core_invariant.proofs.ObjectLemmas.{extends_counts}
 use Rattle.lxr_core_sim_mutator.specs.Showing.{thread_state_of}
 
 -- both tests are of the same replies

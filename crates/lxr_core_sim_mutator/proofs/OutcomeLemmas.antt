@@ -22,9 +22,9 @@ use Rattle.lxr_mutator.specs.declared.phases.MutatorPhase.{MutatorPhase}
 use Rattle.lxr_mutator.specs.Mutating.{Mutating, op_now}
 use Rattle.lxr_mutator.specs.Operating.{dest_of, shape_made}
 use Rattle.lxr_mutator.specs.Steps.{accepts_in, action, after, after_in, done_with, mutator_machine, shape_now}
-use Rattle.lxr_core_events.specs.EpochStates.{Beginning, EpochState, limits_of, moment_of}
-use Rattle.lxr_core_events.specs.Events.{Event}
-use Rattle.lxr_core_events.specs.Happening.{DoesNew, May, happen}
+use Rattle.lxr_core_invariant.specs.EpochStates.{Beginning, EpochState, limits_of, moment_of}
+use Rattle.lxr_core_invariant.specs.Events.{Event}
+use Rattle.lxr_core_invariant.specs.Happening.{DoesNew, May, happen}
 use Rattle.lxr_core_sim_mutator.specs.Showing.{IsMutatorOf, IsNew, thread_state_of}
 use Rattle.lxr_core_sim_mutator.specs.Stepping.{ShowsAs, StepIsEvent, history_after, places_after}
 use Rattle.lxr_core_sim_mutator.proofs.KeepingLemmas.{GoesOn, now_shown}

@@ -21,12 +21,12 @@ use Rattle.lxr_mutator.specs.Operating.{shape_made}
 use Rattle.lxr_mutator.specs.Steps.{based, done_with, draws_for, ended, finished, has_room, in_current, in_overflow, is_medium, placed, shape_now, started}
 use Rattle.lxr_invariant.proofs.BlockLemmas.{other_number}
 use Rattle.lxr_invariant.proofs.EntryLemmas.{equal_numbers}
-use Rattle.lxr_core_events.specs.ThreadStates.{ThreadState, Through, is_end}
-use Rattle.lxr_core_events.specs.ThreadStates as why
-use Rattle.lxr_core_events.specs.Events.{Current, Overflow, Source, at_once, bad_at, base_of}
-use Rattle.lxr_core_events.specs.Events as epoch
-use Rattle.lxr_core_events.specs.Happening.{MayBegin}
-use Rattle.lxr_core_events.specs.EpochStates.{Beginning, EpochState, limits_of}
+use Rattle.lxr_core_invariant.specs.ThreadStates.{ThreadState, Through, is_end}
+use Rattle.lxr_core_invariant.specs.ThreadStates as why
+use Rattle.lxr_core_invariant.specs.Events.{Current, Overflow, Source, at_once, bad_at, base_of}
+use Rattle.lxr_core_invariant.specs.Events as epoch
+use Rattle.lxr_core_invariant.specs.Happening.{MayBegin}
+use Rattle.lxr_core_invariant.specs.EpochStates.{Beginning, EpochState, limits_of}
 use Rattle.lxr_core_sim_mutator.specs.Showing.{thread_state_of}
 use Rattle.lxr_core_sim_mutator.specs.Stepping.{ShowsAs, StepIsEvent}
 use Rattle.lxr_core_sim_mutator.proofs.KeepingLemmas.{GoesOn, goes_on, more_to_do, no_end_now, now_shown, register_held, to_done, to_end, to_finished, to_phase, thread_state_done, with_place}

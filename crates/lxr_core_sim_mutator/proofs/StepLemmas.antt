@@ -5,7 +5,7 @@ use Rattle.lxr_mutator.specs.declared.phases.MutatorPhase.{MutatorPhase}
 use Rattle.lxr_mutator.specs.declared.phases.MutatorPhase.TheVariants as phase
 use Rattle.lxr_mutator.specs.Mutating.{Mutating}
 use Rattle.lxr_mutator.specs.Steps.{action}
-use Rattle.lxr_core_events.specs.EpochStates.{Beginning, EpochState}
+use Rattle.lxr_core_invariant.specs.EpochStates.{Beginning, EpochState}
 use Rattle.lxr_core_inv_memory.proofs.ClosingLemmas.{cursors_are_far}
 use Rattle.lxr_core_sim_mutator.specs.Showing.{thread_state_of}
 use Rattle.lxr_core_sim_mutator.specs.Stepping.{ShowsAs, StepIsEvent, StepsAreEvents}

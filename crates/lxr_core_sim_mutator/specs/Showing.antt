@@ -19,9 +19,9 @@ use Rattle.lxr_mutator.specs.Mutating.{Mutating, op_now, register}
 use Rattle.lxr_mutator.specs.Mutators.{IsMutator}
 use Rattle.lxr_mutator.specs.Operating.{index_of}
 use Rattle.lxr_mutator.specs.Steps.{shape_now}
-use Rattle.lxr_core_events.specs.ThreadStates.{Intent, Reason, Stage, ThreadState, Plain, AtReference, AtValue, Clears, Stores, DrewRun, HasRun, NeedsBlock, DrewBlock, HasBlock, Makes, GivesUp, Rests, Works, Names, Through}
-use Rattle.lxr_core_events.specs.ThreadStates as why
-use Rattle.lxr_core_events.specs.Events.{base_of}
+use Rattle.lxr_core_invariant.specs.ThreadStates.{Intent, Reason, Stage, ThreadState, Plain, AtReference, AtValue, Clears, Stores, DrewRun, HasRun, NeedsBlock, DrewBlock, HasBlock, Makes, GivesUp, Rests, Works, Names, Through}
+use Rattle.lxr_core_invariant.specs.ThreadStates as why
+use Rattle.lxr_core_invariant.specs.Events.{base_of}
 
 -- why it is through with the epoch, by how its last unit ended
 abbrev pub reason_by : Option MutEnd → Reason

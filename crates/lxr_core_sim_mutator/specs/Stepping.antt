@@ -13,10 +13,10 @@ use Rattle.lxr_mutator.specs.declared.phases.MutatorPhase.{MutatorPhase}
 use Rattle.lxr_mutator.specs.declared.phases.MutatorPhase.TheVariants as phase
 use Rattle.lxr_mutator.specs.Mutating.{Mutating, op_now}
 use Rattle.lxr_mutator.specs.Steps.{action, mutator_machine}
-use Rattle.lxr_core_events.specs.EpochStates.{Beginning, EpochState, limits_of, moment_of}
-use Rattle.lxr_core_events.specs.Events.{Event}
-use Rattle.lxr_core_events.specs.Happening.{May, happen}
-use Rattle.lxr_core_events.specs.Epoch.{IsEpoch}
+use Rattle.lxr_core_invariant.specs.EpochStates.{Beginning, EpochState, limits_of, moment_of}
+use Rattle.lxr_core_invariant.specs.Events.{Event}
+use Rattle.lxr_core_invariant.specs.Happening.{May, happen}
+use Rattle.lxr_core_invariant.specs.Epoch.{IsEpoch}
 use Rattle.lxr_core_sim_mutator.specs.Showing.{IsMutatorOf, thread_state_of}
 
 -- Whether the operation of a mutator, which has made a step, stands in the history at that step: a load at the step that

@@ -4,3 +4,6 @@ pub mod PartLemmas
 pub mod LegalityLemmas
 pub mod BelongingLemmas
 pub mod TestLemmas
+mod RunLemmas
+mod MissLemmas
+mod RememberedLemmas

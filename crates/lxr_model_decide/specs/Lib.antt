@@ -4,3 +4,7 @@ pub mod Reports
 pub mod Legality
 pub mod Belonging
 pub mod Laws
+pub mod ExampleWords
+pub mod ExampleHistories
+pub mod NearMisses
+pub mod Remembered

@@ -4,7 +4,7 @@ use Rattle.std.specs.Prelude.{IsSome, None, if◌then◌else◌, nat_lt}
 use Rattle.lxr_layout.specs.declared.Place.{Place}
 use Rattle.lxr_layout.specs.Objects.{word_count}
 use Rattle.lxr_actor.specs.Machine.{to_go}
-use Rattle.lxr_actor_units.specs.Steps.{Does}
+use Rattle.lxr_actor.specs.Steps.{Does}
 use Rattle.lxr_barrier.specs.declared.machines.StorePhase.{StorePhase}
 use Rattle.lxr_barrier.specs.declared.machines.StorePhase.TheVariants as store_phase
 use Rattle.lxr_barrier.specs.Storing.{Storing, action_in as store_action, end_in}

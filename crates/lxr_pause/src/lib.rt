@@ -11,10 +11,10 @@
 //!
 //! Each call takes the space alone, takes no memory and has no refusal. Its contract says what it leaves, in terms of the
 //! history that the space stands for. The work is done in the rooms `lxr_pause_decrements`, `lxr_pause_promote`,
-//! `lxr_pause_increments`, `lxr_pause_queue` and `lxr_pause_count`; crates of this repository stand on these.
+//! `lxr_pause_increments`, `lxr_pause_queue` and `lxr_pause_queue`; crates of this repository stand on these.
 #![tactic(auto)]
 
-pub use lxr_pause_count::count_unreclaimed;
+pub use lxr_pause_queue::count_unreclaimed;
 pub use lxr_pause_decrements::finish_decrements;
 pub use lxr_pause_increments::increments;
 pub use lxr_pause_promote::{promote, young_evacuate};

@@ -5,3 +5,5 @@ pub mod ListLemmas
 pub mod PlaceLemmas
 pub mod RaisedLemmas
 pub mod HoldsLemmas
+pub mod EntryLemmas
+pub mod ToldLemmas

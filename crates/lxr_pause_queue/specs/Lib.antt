@@ -1,3 +1,5 @@
 pub mod Appending
 pub mod OldValues
 pub mod Queueing
+pub mod Entries
+pub mod Counting

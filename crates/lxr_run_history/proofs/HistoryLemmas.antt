@@ -16,7 +16,7 @@ use Rattle.lxr_model.specs.Kinds.{ends}
 use Rattle.lxr_model.specs.Legal.{IsLegalSoFar, IsPause, KeepsPromise, OwesNoCall, Replies}
 use Rattle.lxr_model.specs.Terms.{Terms}
 use Rattle.lxr_model.specs.Belongs.{AskedPausesComeFirst, CallsBeginOperations, EarlierPausesWereEarly, HasCause, IsHistorySoFar, LastPauseWasEarly, PausesHaveCauses, Script, TurnsAreShort, calls_since_pause, has_asked, next_operation, operations_of}
-use Rattle.lxr_core_events.specs.EpochStates.{Extends, same, called}
+use Rattle.lxr_core_invariant.specs.EpochStates.{Extends, same, called}
 use Rattle.lxr_words.specs.declared.Options.{Options}
 use Rattle.lxr_run_history.specs.Growing.{CallsBeginScript, HasEnded}
 use Rattle.lxr_run_history.specs.Run.{IsHistoryOf, run_terms, script_terms}

@@ -14,7 +14,7 @@ use Rattle.lxr_graph.specs.State.{State, object_at, refs_of, register_at, values
 use Rattle.lxr_graph.specs.Step.{IsReply, get_from, got, load_from, loaded, put_at, put_to, store_to, stored}
 use Rattle.lxr_model.specs.Legal.{IsLegalSoFar, Replies}
 use Rattle.lxr_model.specs.Moments.{moment}
-use Rattle.lxr_core_events.specs.ThreadStates.{all_of}
+use Rattle.lxr_core_invariant.specs.ThreadStates.{all_of}
 use Rattle.lxr_text_print.specs.Replies.{ArePrintable, replies_text, thread_text}
 use Rattle.lxr_text_print.proofs.HistoryLemmas.{is_of_its_operations}
 use Rattle.lxr_words.specs.declared.Options.{Options}

@@ -14,7 +14,7 @@ use Rattle.lxr_graph.specs.History.{Item, Call, Pause, PauseReport, calls_of, re
 use Rattle.lxr_model.specs.Kinds.{ends}
 use Rattle.lxr_model.specs.Legal.{IsLegalSoFar}
 use Rattle.lxr_model.specs.Terms.{Terms}
-use Rattle.lxr_core_events.specs.ThreadStates.{all_of, is_end}
+use Rattle.lxr_core_invariant.specs.ThreadStates.{all_of, is_end}
 
 -- what is counted of each call and its reply
 abbrev pub Weight : Type 0

@@ -4,7 +4,7 @@ use Rattle.lxr_graph.specs.History.{Item, Pause, PauseReport, calls_of}
 use Rattle.lxr_model.specs.Belongs.{HasCause, IsHistorySoFar, LastPauseWasEarly, Script, operations_of}
 use Rattle.lxr_model.specs.Kinds.{ends}
 use Rattle.lxr_model.specs.Legal.{IsPause, OwesNoCall}
-use Rattle.lxr_core_events.specs.EpochStates.{Extends}
+use Rattle.lxr_core_invariant.specs.EpochStates.{Extends}
 use Rattle.lxr_words.specs.declared.Options.{Options}
 use Rattle.lxr_run_history.specs.Run.{IsHistoryOf, script_terms}
 

@@ -14,7 +14,7 @@ use Rattle.lxr_model.specs.Kinds.{ends}
 use Rattle.lxr_model.specs.Legal.{IsLegalSoFar}
 use Rattle.lxr_mutator.specs.Mutating.{Mutating}
 use Rattle.lxr_mutator.specs.Mutators.{IsMutator, IsOperation, IsThrough}
-use Rattle.lxr_core_events.specs.ThreadStates.{all_of, is_end}
+use Rattle.lxr_core_invariant.specs.ThreadStates.{all_of, is_end}
 use Rattle.lxr_core.specs.Actors.{script_of}
 use Rattle.lxr_core.specs.Resting.{RestsAfter}
 use Rattle.lxr_run_history.specs.Growing.{CallsBeginScript}

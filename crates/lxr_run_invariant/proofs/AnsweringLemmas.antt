@@ -21,7 +21,7 @@ use Rattle.lxr_mutator.specs.Mutating.{IsWaiting, Mutating, next_name as next_ma
 use Rattle.lxr_core.specs.declared.actors.AnyActor.{AnyActor}
 use Rattle.lxr_core.specs.Actors.{mutators_in}
 use Rattle.lxr_core.specs.Resting.{FitsThread, HelpersRest, RestsAfter}
-use Rattle.lxr_run_resume.specs.Serving.{IsServable, served_abstract_state}
+use Rattle.lxr_run_serve.specs.Placing.{IsServable, served_abstract_state}
 use Rattle.lxr_run_serve.specs.Answering.{AnswersAll, TakeTurns, TakesTurn, WantsCollection, begins, next, passes, refuses, serves}
 use Rattle.lxr_run_serve.specs.Serving.{CanServe}
 use Rattle.lxr_run_serve.proofs.MutatorLemmas.{waits_by, waits_for}

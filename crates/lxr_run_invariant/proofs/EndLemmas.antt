@@ -9,7 +9,7 @@ use Rattle.lxr_run_watch.specs.Sights.{Sight}
 use Rattle.lxr_run_pause.specs.declared.Ask.{Ask}
 use Rattle.lxr_text_print.specs.Replies.{ArePrintable, replies_text, thread_text}
 use Rattle.lxr_mutator.specs.Mutating.{Mutating}
-use Rattle.lxr_core_events.specs.ThreadStates.{all_of}
+use Rattle.lxr_core_invariant.specs.ThreadStates.{all_of}
 use Rattle.lxr_core.specs.declared.actors.AnyActor.{AnyActor}
 use Rattle.lxr_core.specs.Actors.{mutators_in}
 use Rattle.lxr_run_history.specs.Run.{threads_text}

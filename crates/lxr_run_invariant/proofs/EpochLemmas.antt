@@ -19,8 +19,8 @@ use Rattle.lxr_invariant.proofs.NameLemmas.{in_first}
 use Rattle.lxr_text_stream.specs.Streams.{Appends}
 use Rattle.lxr_run_watch.specs.Sights.{Sight}
 use Rattle.lxr_mutator.specs.Mutating.{Mutating, is_loaded, is_new, is_stored}
-use Rattle.lxr_core_events.specs.EpochStates.{CountsObjects, Extends, called, same}
-use Rattle.lxr_core_events.proofs.ObjectLemmas.{legal_counts}
+use Rattle.lxr_core_invariant.specs.EpochStates.{CountsObjects, Extends, called, same}
+use Rattle.lxr_core_invariant.proofs.ObjectLemmas.{legal_counts}
 use Rattle.lxr_core.specs.declared.actors.AnyActor.{AnyActor}
 use Rattle.lxr_core.specs.declared.actors.AnyActor.TheVariants as any
 use Rattle.lxr_core.specs.Actors.{decrementers_in, mutators_in, script_of, tracers_in}

@@ -18,7 +18,7 @@ use Rattle.lxr_model.specs.Belongs.{IsHistorySoFar}
 use Rattle.lxr_model.proofs.ReachableLemmas.{promoted_made}
 use Rattle.lxr_invariant.specs.AbstractState.{AbstractState, paused}
 use Rattle.lxr_full.proofs.RoomLemmas.{log_is_written}
-use Rattle.lxr_pause_trace.proofs.HistoryLemmas.{history_keeps}
+use Rattle.lxr_pause_trace_laws.proofs.HistoryLemmas.{history_keeps}
 use Rattle.lxr_run_pause.specs.declared.Ask.{Ask}
 use Rattle.lxr_run_pause.specs.declared.Ask.TheVariants as ask
 use Rattle.lxr_run_pause.specs.Deciding.{kind_of}

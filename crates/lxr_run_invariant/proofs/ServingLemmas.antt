@@ -31,14 +31,14 @@ use Rattle.lxr_invariant.specs.Quiescent.{IsQuiescent}
 use Rattle.lxr_invariant.proofs.NameLemmas.{in_first}
 use Rattle.lxr_text_stream.specs.Streams.{Appends}
 use Rattle.lxr_run_watch.specs.Sights.{Sight}
-use Rattle.lxr_run_resume.specs.Serving.{served_abstract_state}
+use Rattle.lxr_run_serve.specs.Placing.{served_abstract_state}
 use Rattle.lxr_run_serve.proofs.MutatorLemmas.{answered_mutator, with_registers}
 use Rattle.lxr_run_serve.proofs.SpaceLemmas.{IsNewServed}
 use Rattle.lxr_mutator.specs.Mutating.{IsWaiting, Mutating, next_name as next_made, op_now}
 use Rattle.lxr_mutator.specs.Mutators.{IsHeld, answered}
 use Rattle.lxr_mutator.proofs.NowLemmas.{formed_now}
-use Rattle.lxr_core_events.specs.ThreadStates.{all_of}
-use Rattle.lxr_core_events.proofs.ObjectLemmas.{legal_counts}
+use Rattle.lxr_core_invariant.specs.ThreadStates.{all_of}
+use Rattle.lxr_core_invariant.proofs.ObjectLemmas.{legal_counts}
 use Rattle.lxr_core_sim_mutator.specs.Showing.{IsNew}
 use Rattle.lxr_core_sim_mutator.proofs.NamingLemmas.{named_after}
 use Rattle.lxr_core.specs.Resting.{RestsAfter}

@@ -5,7 +5,7 @@ use Rattle.lxr_graph.specs.declared.Reply.{Reply}
 use Rattle.lxr_graph.specs.History.{Item, Call, Pause, PauseReport}
 use Rattle.lxr_words.specs.declared.Command.{Command}
 use Rattle.lxr_words.specs.declared.Command.TheVariants.{Load, Map, Run}
-use Rattle.lxr_core_events.specs.EpochStates.{Extends, called, same}
+use Rattle.lxr_core_invariant.specs.EpochStates.{Extends, called, same}
 use Rattle.lxr_run_history.specs.Sums.{totals_of}
 use Rattle.lxr_run_history.specs.Texts.{told_by, told_report}
 

@@ -16,7 +16,7 @@ use lxr_image::Space;
 use lxr_mutator::MutEnd;
 use lxr_run_pause::Ask;
 use lxr_run_replay::{Gate, replay_epoch};
-use lxr_run_resume::list_for_epoch;
+use lxr_run_serve::list_for_epoch;
 use lxr_run_threads::run_epoch;
 use lxr_run_watch::Watch;
 use lxr_text_stream::{Sink, WriteError};

@@ -10,7 +10,7 @@ use Rattle.lxr_image.specs.declared.space.Tally.{Tally}
 use Rattle.lxr_model.specs.Moments.{Trace, going_on}
 use Rattle.lxr_model.specs.Reports.{PauseParts}
 use Rattle.lxr_invariant.specs.AbstractState.{AbstractState}
-use Rattle.lxr_pause_trace.specs.Laws.{with_slots}
+use Rattle.lxr_pause_trace_laws.specs.Laws.{with_slots}
 use Rattle.lxr_run_pause.specs.Settling.{Settles, SettlesCounts}
 use Rattle.lxr_run_pause.specs.Tracing.{HasTraced, MayTrace}
 use Rattle.lxr_run_pause.specs.Pausing.{CanPause}

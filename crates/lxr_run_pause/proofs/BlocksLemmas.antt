@@ -14,7 +14,7 @@ use Rattle.lxr_evac_blocks.specs.Choosing.{AreChosen, is_sparse, sparse_before, 
 use Rattle.lxr_evac_blocks.specs.Releasing.{AreReleased, with_releases}
 use Rattle.lxr_evac_blocks.proofs.ChosenLemmas.{choice_is_of_the_first}
 use Rattle.lxr_evac_blocks.proofs.ReleaseLemmas.{releases_leave_none}
-use Rattle.lxr_sweep_lines.specs.Swept.{with_states_by_lines}
+use Rattle.lxr_blocks.specs.Swept.{with_states_by_lines}
 use Rattle.lxr_run_pause.specs.Relocating.{ChoosesBlocks}
 use Rattle.lxr_run_pause.proofs.SweepLemmas.{as_many_chosen, by_lines_open, stays_chosen, swept_blocks, swept_states, was_chosen, which_state}
 

@@ -30,7 +30,7 @@ use Rattle.lxr_invariant.specs.Quiescent.{HoldsMoment}
 use Rattle.lxr_invariant.specs.Tracing.{IsTracedBy}
 use Rattle.lxr_invariant.proofs.CopiedLemmas.{IsGoneFrom, copies_still, free_was, stay_still}
 use Rattle.lxr_invariant.proofs.NameLemmas.{in_first, in_second, no_member}
-use Rattle.lxr_pause_trace.specs.Laws.{at_moment}
+use Rattle.lxr_pause_trace_laws.specs.Laws.{at_moment}
 use Rattle.lxr_run_pause.specs.Settling.{DiesBy, IsSweptBy, Settles, SettlesCounts, Tells, counted, kept_by, remaining_by, settled_by}
 use Rattle.lxr_run_pause.specs.Tracing.{CanDrain}
 use Rattle.lxr_run_pause.specs.Pausing.{CanPause, IsDrained, IsLetGo, KeepsObjects, KeepsThroughPause, LeavesRemembered, Traces}

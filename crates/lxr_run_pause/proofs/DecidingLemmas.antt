@@ -22,7 +22,7 @@ use Rattle.lxr_invariant.specs.AbstractState.{AbstractState}
 use Rattle.lxr_invariant.specs.Quiescent.{HoldsMoment}
 use Rattle.lxr_invariant.specs.Tracing.{IsGray, IsMarked, IsOldValue}
 use Rattle.lxr_invariant.proofs.NameLemmas.{in_first, no_member}
-use Rattle.lxr_pause_trace.specs.Laws.{NothingIsLeft}
+use Rattle.lxr_pause_trace_laws.specs.Laws.{NothingIsLeft}
 use Rattle.lxr_run_pause.specs.declared.Ask.{Ask}
 use Rattle.lxr_run_pause.specs.declared.Ask.TheVariants as ask
 use Rattle.lxr_run_pause.specs.declared.Pace.{Pace}

@@ -18,7 +18,7 @@ use Rattle.lxr_evac_blocks.specs.Releasing.{with_releases}
 use Rattle.lxr_evac_moving.specs.declared.evacuating.Evacuated.{Evacuated}
 use Rattle.lxr_evac_moving.specs.Evacuation.{CanEvacuate, EvacuatesChosen, evacuated_of}
 use Rattle.lxr_pause_decrements.specs.Finishing.{CanFinish, Finishes}
-use Rattle.lxr_sweep_trace.specs.Tracing.{CanFinishTrace, FinishesTrace}
+use Rattle.lxr_pause_trace.specs.Tracing.{CanFinishTrace, FinishesTrace}
 use Rattle.lxr_sweep_unmarked.specs.Sweeping.{CanSweep, SweepsUnmarked, swept_moment}
 use Rattle.lxr_run_pause.specs.Pausing.{SameRemembered}
 use Rattle.lxr_run_pause.specs.Steps.{with_evacuated}

@@ -23,8 +23,8 @@ use Rattle.lxr_invariant.proofs.NameLemmas.{in_first, in_second}
 use Rattle.lxr_pause_decrements.specs.Finishing.{Finishes, FinishesGrays, GraysReferents}
 use Rattle.lxr_pause_decrements.specs.Wipe.{LosesBits}
 use Rattle.lxr_pause_increments.specs.Raising.{Raises, RaisesGrays, RaisesMarks}
-use Rattle.lxr_pause_trace.proofs.GranuleLemmas.{is_placed, one_name}
-use Rattle.lxr_pause_trace.proofs.OldLemmas.{old_live}
+use Rattle.lxr_pause_trace_laws.proofs.GranuleLemmas.{is_placed, one_name}
+use Rattle.lxr_pause_trace_laws.proofs.OldLemmas.{old_live}
 use Rattle.lxr_run_pause.specs.Pausing.{Traces}
 
 module _ (before found raised after : Space) (g : AbstractState) (at' : Name → ℕ) (gone : List Name) (holds : HoldsMoment before g.moment g.at) (finishes : Finishes before found g.moment g.at gone)

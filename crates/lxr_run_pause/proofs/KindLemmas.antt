@@ -30,9 +30,9 @@ use Rattle.lxr_invariant.proofs.EntryLemmas.{changed_other}
 use Rattle.lxr_invariant.proofs.FrameLemmas.{undecremented_still}
 use Rattle.lxr_invariant.proofs.NameLemmas.{no_member}
 use Rattle.lxr_evac_blocks.specs.Choosing.{with_choice}
-use Rattle.lxr_pause_trace.specs.Laws.{at_moment, fresh_trace}
-use Rattle.lxr_pause_trace.proofs.BeginningLemmas.{beginning}
-use Rattle.lxr_sweep_lines.specs.Swept.{with_states_by_lines}
+use Rattle.lxr_pause_trace_laws.specs.Laws.{at_moment, fresh_trace}
+use Rattle.lxr_pause_trace_laws.proofs.BeginningLemmas.{beginning}
+use Rattle.lxr_blocks.specs.Swept.{with_states_by_lines}
 use Rattle.lxr_run_pause.specs.Settling.{Settles, SettlesCounts, counted}
 use Rattle.lxr_run_pause.specs.Tracing.{Begins, CanBegin, SetsTrace, drained, word_of_trace}
 use Rattle.lxr_run_pause.specs.Pausing.{BeginsTracing, CanPause, KeepsThroughPause, Traces}

@@ -43,7 +43,7 @@ use Rattle.lxr_invariant.proofs.NameLemmas.{in_either, in_first, in_second, no_m
 use Rattle.lxr_evac_blocks.specs.Releasing.{with_releases}
 use Rattle.lxr_evac_moving.specs.Evacuation.{EvacuatesChosen, IsToMove, evacuated_of}
 use Rattle.lxr_model_counting.specs.Garbage.{IsGarbageOf}
-use Rattle.lxr_pause_trace.specs.Laws.{FindsGarbage}
+use Rattle.lxr_pause_trace_laws.specs.Laws.{FindsGarbage}
 use Rattle.lxr_sweep_unmarked.specs.Sweeping.{swept_moment}
 use Rattle.lxr_run_pause.specs.Settling.{Settles, SettlesCounts}
 use Rattle.lxr_run_pause.specs.Steps.{with_evacuated}

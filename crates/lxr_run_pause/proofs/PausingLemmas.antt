@@ -27,7 +27,7 @@ use Rattle.lxr_model.specs.Moments.{Moment, Trace, after_pause, stuck_after, unr
 use Rattle.lxr_model.specs.References.{references}
 use Rattle.lxr_model.specs.Reports.{AreCounts, PauseParts, count_entry, is_draining}
 use Rattle.lxr_model_counting.specs.Following.{FollowsPause}
-use Rattle.lxr_sweep_lines.specs.Swept.{with_states_by_lines}
+use Rattle.lxr_blocks.specs.Swept.{with_states_by_lines}
 use Rattle.lxr_invariant.specs.AbstractState.{AbstractState, paused}
 use Rattle.lxr_invariant.specs.Copied.{HasCopy}
 use Rattle.lxr_invariant.specs.Counting.{IsUndecremented}

@@ -31,10 +31,10 @@ use Rattle.lxr_remset.specs.Remembering.{with_remembered_of}
 use Rattle.lxr_pause_decrements.specs.Finishing.{CanFinish, Finishes, FinishesGrays, HandledAreTraced}
 use Rattle.lxr_pause_increments.specs.Raising.{CanRaise, Raises, RaisesGrays, RaisesMarks}
 use Rattle.lxr_pause_queue.specs.Queueing.{Queues, with_roots_deferred}
-use Rattle.lxr_pause_trace.specs.Laws.{AllGrayAreMarked, NothingIsLeft, at_moment}
-use Rattle.lxr_pause_trace.proofs.CountingLemmas.{counting_keeps}
-use Rattle.lxr_pause_trace.proofs.FinishingLemmas.{finishing_keeps}
-use Rattle.lxr_pause_trace.proofs.TellingLemmas.{marks_tell}
+use Rattle.lxr_pause_trace_laws.specs.Laws.{AllGrayAreMarked, NothingIsLeft, at_moment}
+use Rattle.lxr_pause_trace_laws.proofs.CountingLemmas.{counting_keeps}
+use Rattle.lxr_pause_trace_laws.proofs.FinishingLemmas.{finishing_keeps}
+use Rattle.lxr_pause_trace_laws.proofs.TellingLemmas.{marks_tell}
 use Rattle.lxr_run_pause.specs.Steps.{begun, with_report_begun}
 use Rattle.lxr_run_pause.specs.Settling.{SettlesCounts, TellsCounts, TellsTheEnd, counted}
 use Rattle.lxr_run_pause.specs.Pausing.{CanPause, KeepsObjects, SameRemembered, Traces}

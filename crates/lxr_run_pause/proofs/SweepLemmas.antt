@@ -12,8 +12,8 @@ use Rattle.lxr_blocks.specs.declared.states.BlockState.TheVariants.{Free, Partly
 use Rattle.lxr_blocks.specs.Lines.{free_count, free_in}
 use Rattle.lxr_blocks.specs.States.{is_fixed, state_by_lines, state_in, state_of}
 use Rattle.lxr_model.specs.Moments.{Trace}
-use Rattle.lxr_sweep_lines.specs.Swept.{AreSwept, with_states_by_lines}
-use Rattle.lxr_sweep_lines.proofs.SweptLemmas.{swept_is_by_lines}
+use Rattle.lxr_blocks.specs.Swept.{AreSwept, with_states_by_lines}
+use Rattle.lxr_blocks.proofs.SweptLemmas.{swept_is_by_lines}
 use Rattle.lxr_invariant.specs.Counting.{count_at}
 use Rattle.lxr_invariant.specs.Lines.{HasBlocks, HasMarks, HasStates, KeepLines, chosen_count, is_chosen}
 use Rattle.lxr_invariant.proofs.FrameLemmas.{chosen_same, need_same}

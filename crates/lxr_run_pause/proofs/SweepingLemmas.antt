@@ -28,8 +28,8 @@ use Rattle.lxr_invariant.proofs.EntryLemmas.{changed_other}
 use Rattle.lxr_invariant.proofs.FrameLemmas.{chosen_still}
 use Rattle.lxr_invariant.proofs.NameLemmas.{in_either, in_first}
 use Rattle.lxr_pause_decrements.specs.Finishing.{Finishes}
-use Rattle.lxr_pause_trace.specs.Laws.{FindsGarbage}
-use Rattle.lxr_pause_trace.proofs.GranuleLemmas.{one_name}
+use Rattle.lxr_pause_trace_laws.specs.Laws.{FindsGarbage}
+use Rattle.lxr_pause_trace_laws.proofs.GranuleLemmas.{one_name}
 use Rattle.lxr_sweep_unmarked.specs.Sweeping.{SweepsUnmarked, swept_moment}
 use Rattle.lxr_run_pause.specs.Settling.{DiesBy, IsSweptBy, IsSweptOf, Settles, SettlesCounts}
 use Rattle.lxr_run_pause.specs.Tracing.{Collects, drained}

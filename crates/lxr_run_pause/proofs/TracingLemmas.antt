@@ -26,11 +26,11 @@ use Rattle.lxr_invariant.proofs.FrameLemmas.{undecremented_still}
 use Rattle.lxr_remset.specs.Remembering.{CanRemember, with_remembered_of}
 use Rattle.lxr_evac_blocks.specs.Releasing.{with_releases}
 use Rattle.lxr_pause_decrements.specs.Finishing.{CanFinish, Finishes, HandledAreTraced}
-use Rattle.lxr_pause_trace.specs.Laws.{FindsGarbage, RemembersMarked, at_moment}
-use Rattle.lxr_pause_trace.proofs.EndRememberedLemmas.{end_remembered as remembered_at_end}
-use Rattle.lxr_pause_trace.proofs.EndLemmas.{collect_finds, end_finds}
-use Rattle.lxr_pause_trace.proofs.FinishingLemmas.{finishing_keeps}
-use Rattle.lxr_sweep_trace.specs.Tracing.{BeginsTrace, CanFinishTrace, CanTrace, FinishesTrace}
+use Rattle.lxr_pause_trace_laws.specs.Laws.{FindsGarbage, RemembersMarked, at_moment}
+use Rattle.lxr_pause_trace_laws.proofs.EndRememberedLemmas.{end_remembered as remembered_at_end}
+use Rattle.lxr_pause_trace_laws.proofs.EndLemmas.{collect_finds, end_finds}
+use Rattle.lxr_pause_trace_laws.proofs.FinishingLemmas.{finishing_keeps}
+use Rattle.lxr_pause_trace.specs.Tracing.{BeginsTrace, CanFinishTrace, CanTrace, FinishesTrace}
 use Rattle.lxr_sweep_unmarked.specs.Sweeping.{CanSweep}
 use Rattle.lxr_run_pause.specs.Pausing.{KeepsObjects}
 use Rattle.lxr_run_pause.specs.Tracing.{CanDrain, CanEnd, drained}

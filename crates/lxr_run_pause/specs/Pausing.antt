@@ -21,7 +21,7 @@ use Rattle.lxr_invariant.specs.Lines.{Covers, NoneChosen}
 use Rattle.lxr_invariant.specs.Quiescent.{IsAtSafepoint, IsQuiescent}
 use Rattle.lxr_invariant.specs.Tracing.{IsGray, IsMarked, IsOldValue, IsRoot}
 use Rattle.lxr_pause_decrements.specs.Wipe.{LosesBits}
-use Rattle.lxr_pause_trace.specs.Laws.{AllGrayAreMarked, HadObjects, KeepsObjectsOf}
+use Rattle.lxr_pause_trace_laws.specs.Laws.{AllGrayAreMarked, HadObjects, KeepsObjectsOf}
 use Rattle.lxr_run_pause.specs.declared.Ask.{Ask}
 use Rattle.lxr_run_pause.specs.declared.Pace.{Pace}
 use Rattle.lxr_run_pause.specs.Deciding.{HasKind}

@@ -26,7 +26,7 @@ use Rattle.lxr_invariant.specs.Quiescent.{HoldsMoment}
 use Rattle.lxr_invariant.specs.Raised.{AreRaised, settled, with_promoted}
 use Rattle.lxr_invariant.specs.Tracing.{IsTracedBy}
 use Rattle.lxr_remset.specs.Remembering.{with_remembered_of}
-use Rattle.lxr_pause_trace.specs.Laws.{AllGrayAreMarked, NothingIsLeft, at_moment}
+use Rattle.lxr_pause_trace_laws.specs.Laws.{AllGrayAreMarked, NothingIsLeft, at_moment}
 use Rattle.lxr_run_pause.specs.Pausing.{IsDrained, IsLetGo, KeepsThroughPause, LeavesRemembered, SameRemembered, Traces}
 use Rattle.lxr_run_pause.specs.Relocating.{ChoosesBlocks, Evacuates, Relocates}
 use Rattle.lxr_run_pause.specs.Steps.{HasDistinctNames}

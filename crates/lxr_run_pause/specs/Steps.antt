@@ -9,7 +9,7 @@ use Rattle.lxr_image.specs.declared.space.Space.{Space}
 use Rattle.lxr_graph.specs.Distinct.{IsDistinct}
 use Rattle.lxr_model.specs.Moments.{Moment}
 use Rattle.lxr_evac_moving.specs.declared.evacuating.Evacuated.{Evacuated}
-use Rattle.lxr_pause_count.specs.Counting.{CanCount, CountsUnreclaimed}
+use Rattle.lxr_pause_queue.specs.Counting.{CanCount, CountsUnreclaimed}
 
 -- a report of a plain pause of this number, in which nothing is reported yet
 abbrev pub begun : Report → ℕ → Report

@@ -19,8 +19,8 @@ use Rattle.lxr_evac_blocks.specs.Choosing.{with_choice}
 use Rattle.lxr_evac_blocks.specs.Releasing.{with_releases}
 use Rattle.lxr_evac_moving.specs.Evacuation.{EvacuatesChosen, evacuated_of}
 use Rattle.lxr_pause_decrements.specs.Finishing.{Finishes}
-use Rattle.lxr_sweep_lines.specs.Swept.{with_states_by_lines}
-use Rattle.lxr_sweep_trace.specs.Tracing.{BeginsTrace, FinishesTrace}
+use Rattle.lxr_blocks.specs.Swept.{with_states_by_lines}
+use Rattle.lxr_pause_trace.specs.Tracing.{BeginsTrace, FinishesTrace}
 use Rattle.lxr_sweep_unmarked.specs.Sweeping.{SweepsUnmarked, swept_moment}
 use Rattle.lxr_run_pause.specs.Pausing.{KeepsObjects}
 use Rattle.lxr_run_pause.specs.Steps.{with_evacuated}

@@ -3,7 +3,7 @@ ghost use Rattle.std.specs.Prelude.{◌≡◌, ◌↔◌, Bool, Option, IsTrue};
 ghost use Rattle.std.specs.Option.{option_map};
 ghost use Rattle.lxr_image.specs.Spaces.{IsSpace, tables_of};
 ghost use Rattle.lxr_model.specs.Moments.{Trace};
-ghost use Rattle.lxr_pause_trace.specs.Laws.{AllGrayAreMarked};
+ghost use Rattle.lxr_pause_trace_laws.specs.Laws.{AllGrayAreMarked};
 ghost use Rattle.lxr_run_pause.specs.Deciding.{GraysLieInHeap, IsPace, TellsOfMarks, kind_along as is_along, kind_apart as is_apart, kind_of};
 
 use crate::{Ask, Pace};

@@ -22,7 +22,7 @@ use counting::settle_counts;
 use deciding::decide_kind;
 pub use laws::opened_can_pause;
 use lxr_image::Space;
-use lxr_sweep_lines::sweep_lines;
+use lxr_blocks::sweep_lines;
 use report::{count_where_drained, sort_report};
 use tracing::trace_by_kind;
 

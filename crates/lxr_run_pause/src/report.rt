@@ -8,7 +8,7 @@ ghost use Rattle.lxr_run_pause.specs.Steps.{CanCountWhere, CountsWhere, HasDisti
 
 use lxr_graph::{Kind, Names, Report, sort_names};
 use lxr_image::Space;
-use lxr_pause_count::count_unreclaimed;
+use lxr_pause_queue::count_unreclaimed;
 
 /// Begins the report of the next pause: its number, and nothing reported yet. It is plain until its kind is decided.
 pub(crate) fn begin_report(space: &mut Space)

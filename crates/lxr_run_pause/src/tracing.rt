@@ -14,8 +14,8 @@ use lxr_graph::Kind;
 use lxr_image::Space;
 use lxr_layout::TRACING_WORD;
 use lxr_pause_decrements::finish_decrements;
-use lxr_sweep_lines::sweep_lines;
-use lxr_sweep_trace::{begin_trace, finish_trace};
+use lxr_blocks::sweep_lines;
+use lxr_pause_trace::{begin_trace, finish_trace};
 use lxr_sweep_unmarked::sweep_unmarked;
 
 /// From now on the trace runs that began at the pause of this number, or none.

@@ -8,7 +8,7 @@ use Rattle.lxr_actor.specs.Run.{AlwaysFits, core_of, event, run}
 use Rattle.lxr_image.specs.declared.space.Space.{Space}
 use Rattle.lxr_mutator.specs.Mutating.{Mutating}
 use Rattle.lxr_mutator.specs.Mutators.{IsMutator}
-use Rattle.lxr_core_events.specs.EpochStates.{Beginning}
+use Rattle.lxr_core_invariant.specs.EpochStates.{Beginning}
 use Rattle.lxr_core.specs.declared.actors.AnyActor.{AnyActor}
 use Rattle.lxr_core.specs.declared.actors.AnyActor.TheVariants as any
 use Rattle.lxr_core.specs.Actors.{AreInOrder, any_machine, mutators_in}

@@ -10,7 +10,7 @@ mod gates;
 mod numbers;
 mod replaying;
 
-ghost use Rattle.lxr_core_events.specs.EpochStates.{Beginning};
+ghost use Rattle.lxr_core_invariant.specs.EpochStates.{Beginning};
 ghost use Rattle.lxr_core.specs.Executions.{HoldsExecution, Execution};
 ghost use Rattle.lxr_run_replay.specs.Replaying.{CanBeReplayed, SchedulesMayClose};
 

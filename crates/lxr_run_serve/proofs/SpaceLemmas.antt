@@ -14,8 +14,8 @@ use Rattle.lxr_image.specs.Image.{place_word}
 use Rattle.lxr_invariant.specs.AbstractState.{AbstractState}
 use Rattle.lxr_invariant.specs.Quiescent.{IsQuiescent}
 use Rattle.lxr_invariant.proofs.ToldLemmas.{holds_told}
-use Rattle.lxr_run_resume.specs.Serving.{IsServable, IsServed, IsServedFrom, served_abstract_state}
-use Rattle.lxr_run_resume.proofs.ServingLemmas.{KeepsOthers, served_keeps}
+use Rattle.lxr_run_serve.specs.Placing.{IsServable, IsServed, IsServedFrom, served_abstract_state}
+use Rattle.lxr_run_serve.proofs.ServedLemmas.{KeepsOthers, served_keeps}
 use Rattle.lxr_mutator.specs.declared.phases.Waiting.{Waiting}
 use Rattle.lxr_mutator.specs.Mutating.{Mutating, next_name, op_now, waiting_by}
 use Rattle.lxr_run_serve.specs.Answering.{ServesNew}

@@ -1,7 +1,7 @@
 -- What an actor does as one of its kind, it does as one of any kind.
 use Rattle.std.proofs.Common.{◌≡◌, ◌∙◌, ℕ, ◌<◌, inl, inr, Bool, refl, sym, ap, subst, if◌then◌else◌}
 use Rattle.lxr_actor.specs.Machine.{Machine, to_go}
-use Rattle.lxr_actor_units.specs.Steps.{Does, DoesUnit, Finishes, rests, goes_on}
+use Rattle.lxr_actor.specs.Steps.{Does, DoesUnit, Finishes, rests, goes_on}
 use Rattle.lxr_mutator.specs.Mutating.{Mutating}
 use Rattle.lxr_mutator.specs.Steps.{mutator_machine}
 use Rattle.lxr_decrement.specs.Decrementing.{DecrementerState}

@@ -2,7 +2,7 @@
 ghost use Rattle.std.specs.Prelude.{◌≡◌};
 
 use lxr_actor::Actor;
-use lxr_actor_units::{Steps, do_unit};
+use lxr_actor::{Steps, do_unit};
 use lxr_core::AnyActor;
 use lxr_decrement::Decrementer;
 use lxr_mutator::Mutator;

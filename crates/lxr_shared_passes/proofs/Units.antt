@@ -2,7 +2,7 @@
 use Rattle.std.proofs.Common.{◌≡◌, ◌∙◌, ℕ, ◌≤◌, inl, inr, List, [], ◌∷◌, length, refl, sym, ap, subst, arith}
 use Rattle.std.specs.Prelude.{IsTrue}
 use Rattle.lxr_actor.specs.Machine.{Machine, to_go}
-use Rattle.lxr_actor_units.specs.Steps.{Begins, Does, DoesUnit, Finishes, rests, goes_on}
+use Rattle.lxr_actor.specs.Steps.{Begins, Does, DoesUnit, Finishes, rests, goes_on}
 use Rattle.lxr_shared_passes.specs.declared.seated.Seated.{Seated}
 use Rattle.lxr_shared_passes.specs.Passing.{Passing, DoesStep, GoesOn, IsSamePass, Turned}
 use Rattle.lxr_shared_passes.specs.Seats.{Did, pass_of}

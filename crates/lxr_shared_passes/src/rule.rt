@@ -11,7 +11,7 @@ use atomic_table::{Join, Play, Split, TableRule};
 use lxr_actor::{Actor, Core, Event};
 use lxr_layout::Place;
 use lxr_tables::PlainWords;
-use lxr_tables_reopen::KeyFrom;
+use lxr_tables::KeyFrom;
 use std::collections::LinkedList;
 use std::marker::{Brand, PhantomData};
 

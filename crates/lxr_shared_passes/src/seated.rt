@@ -8,7 +8,7 @@ use crate::pass::Epoch;
 use crate::rule::{Advance, View};
 use atomic_table::Seat;
 use lxr_actor::{Action, Actor, Kindred};
-use lxr_actor_units::Steps;
+use lxr_actor::Steps;
 
 /// The right to do the steps of one actor at the table of an epoch. The actor is kept beside it.
 #[derive(Drop)]

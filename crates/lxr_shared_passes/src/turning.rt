@@ -1,6 +1,6 @@
 //! Ways to do a unit of an actor at its seat.
 ghost use Rattle.std.specs.Prelude.{◌≡◌};
-ghost use Rattle.lxr_actor_units.specs.Steps.{DoesUnit};
+ghost use Rattle.lxr_actor.specs.Steps.{DoesUnit};
 ghost use Rattle.lxr_shared_passes.specs.Seats.{Did, Sits};
 
 use crate::pass::Epoch;
@@ -22,6 +22,6 @@ pub struct StepByStep;
 impl<A: Actor> Turning<A> for StepByStep {
     #[inline(always)]
     fn do_unit(actor: &mut A, seated: &mut Seated<A>, epoch: &Epoch<A>) {
-        lxr_actor_units::do_unit(actor, seated, epoch);
+        lxr_actor::do_unit(actor, seated, epoch);
     }
 }

@@ -3,3 +3,5 @@ pub mod EntryLemmas
 pub mod GatheringLemmas
 pub mod LanesLemmas
 pub mod MaskLemmas
+pub mod LayoutLemmas
+pub mod SharingLemmas

@@ -7,9 +7,14 @@
 #![tactic(auto)]
 
 mod bits;
+mod closed;
+mod closed_fields;
+mod closed_rows;
 mod counts;
 mod gathering;
+mod key;
 mod lanes;
+mod reopening;
 mod words;
 
 pub use bits::{bit, clear_bit, set_bit};
@@ -17,3 +22,6 @@ pub use counts::{COUNTS_IN_WORD, Lowered, Raised, lower_two, raise_two, set_two,
 pub use gathering::zero_counts;
 pub use lanes::{COUNT_WORDS_IN_BLOCK, uncounted_lines, zero_lanes};
 pub use words::{PlainWords, Words};
+pub use reopening::reopen;
+pub use key::KeyFrom;
+pub use closed::ClosedWords;

@@ -7,8 +7,8 @@ ghost use Rattle.std.specs.Prelude.{◌≡◌, ℕ, ◌+◌, ◌<◌, List, [], 
 ghost use Rattle.atomic_table.specs.Table.{opening, Final, Seen};
 
 use atomic_table::{Seat, Table, TableRule};
-use lxr_tables_reopen::KeyFrom;
-use lxr_tables_words::ClosedWords;
+use crate::KeyFrom;
+use crate::ClosedWords;
 use std::alloc::{AllocError, Global};
 use std::marker::Model;
 

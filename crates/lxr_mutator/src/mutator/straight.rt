@@ -4,7 +4,7 @@
 //! seldom, and by the general way.
 ghost use Rattle.std.specs.Prelude.{◌≡◌, ℕ};
 ghost use Rattle.lxr_layout.specs.declared.Place.{Place};
-ghost use Rattle.lxr_actor_units.specs.Steps.{Does, DoesUnit, Finishes};
+ghost use Rattle.lxr_actor.specs.Steps.{Does, DoesUnit, Finishes};
 ghost use Rattle.lxr_barrier.specs.Storing.{Storing};
 ghost use Rattle.lxr_mutator.specs.Steps.{mutator_machine};
 ghost use Rattle.lxr_mutator.specs.Mutators.{IsBusy, IsMutator};
@@ -12,7 +12,7 @@ ghost use Rattle.lxr_mutator.specs.Mutators.{IsBusy, IsMutator};
 use super::Mutator;
 use crate::phases::MutatorPhase;
 use lxr_actor::Actor;
-use lxr_actor_units::{Steps, do_unit, finish_unit};
+use lxr_actor::{Steps, do_unit, finish_unit};
 use lxr_layout::Place;
 
 impl Mutator {

@@ -1,5 +1,5 @@
 use Rattle.std.proofs.Common.{◌∙◌, sym}
-use Rattle.lxr_actor_units.specs.Steps.{rests}
+use Rattle.lxr_actor.specs.Steps.{rests}
 use Rattle.lxr_mutator.proofs.mutator.Mutator.finish.Goals as goal
 
 pub returns-else-not-resting-clause-rest : goal.returns-else-not-resting-clause-rest

@@ -1,5 +1,5 @@
 use Rattle.std.proofs.Common.{◌∙◌, ap, sym}
-use Rattle.lxr_actor_units.specs.Steps.{goes_on}
+use Rattle.lxr_actor.specs.Steps.{goes_on}
 use Rattle.lxr_mutator.specs.Mutating.{rests_in}
 use Rattle.lxr_mutator.proofs.mutator.Mutator.hand_over.Goals as goal
 

@@ -1,5 +1,5 @@
 use Rattle.lxr_actor.specs.Machine.{to_go}
-use Rattle.lxr_actor_units.specs.Steps.{Finishes}
+use Rattle.lxr_actor.specs.Steps.{Finishes}
 use Rattle.lxr_mutator.specs.Mutating.{Mutating}
 use Rattle.lxr_mutator.specs.Steps.{mutator_machine}
 use Rattle.lxr_mutator.proofs.mutator.Mutator.make_object.Given as goal

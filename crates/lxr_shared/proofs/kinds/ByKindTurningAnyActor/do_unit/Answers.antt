@@ -1,5 +1,5 @@
 use Rattle.std.proofs.Common.{sym, subst}
-use Rattle.lxr_actor_units.specs.Steps.{DoesUnit}
+use Rattle.lxr_actor.specs.Steps.{DoesUnit}
 use Rattle.lxr_core.specs.declared.actors.AnyActor.TheVariants as any
 use Rattle.lxr_core.specs.Actors.{any_machine}
 use Rattle.lxr_shared_passes.specs.Seats.{Did}

@@ -1,0 +1,24 @@
+//! The sweep over all blocks.
+ghost use Rattle.lxr_image.specs.Spaces.{IsSpace, Turns, tables_of};
+ghost use Rattle.lxr_blocks.specs.Swept.{with_states_by_lines};
+
+use crate::renew_state;
+use lxr_image::Space;
+
+/// Gives each block the state of its free lines, unless it is Chosen or World.
+pub fn sweep_lines(space: &mut Space)
+    requires { IsSpace space.old }
+    ensures states { Turns space.old space.new (with_states_by_lines (tables_of space.old) space.old.limits.blocks) }
+    ensures space { IsSpace space.new }
+{
+    for block in 0..space.limits.blocks {
+        renew_state(space, block);
+    }
+}
+
+ghost use Rattle.lxr_blocks.specs.Swept.{SweptIsByLines};
+
+/// After a sweep each block that is neither Chosen nor World has the state of its lines, and all else is as before.
+pub fn swept_is_by_lines()
+    ensures { SweptIsByLines }
+{}

@@ -1,5 +1,0 @@
-use Rattle.lxr_core_inv_replies.proofs.KeepingLemmas.{registers_are_kept}
-use Rattle.lxr_core_inv_replies.proofs.registers_are_kept.Goals as goal
-
-pub returns : goal.returns
-returns c = registers_are_kept

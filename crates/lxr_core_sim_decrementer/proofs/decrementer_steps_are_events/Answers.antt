@@ -1,5 +1,0 @@
-use Rattle.lxr_core_sim_decrementer.proofs.StepLemmas.{each_step}
-use Rattle.lxr_core_sim_decrementer.proofs.decrementer_steps_are_events.Goals as goal
-
-pub returns : goal.returns
-returns c = each_step

@@ -1,0 +1,14 @@
+pub mod DecrementerOutcomeLemmas
+pub mod DecrementerKnowingLemmas
+pub mod DecrementerAskingSteps
+pub mod HandlingSteps
+pub mod LoweringSteps
+pub mod DrawingSteps
+pub mod DecrementerStepLemmas
+pub mod DecrementerHintLemmas
+pub mod TracerOutcomeLemmas
+pub mod TracerKnowingLemmas
+pub mod TracerAskingSteps
+pub mod ScanningSteps
+pub mod TracerStepLemmas
+pub mod TracerHintLemmas

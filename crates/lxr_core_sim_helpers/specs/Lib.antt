@@ -1,0 +1,4 @@
+pub mod DecrementerShowing
+pub mod DecrementerStepping
+pub mod TracerShowing
+pub mod TracerStepping

@@ -1,3 +1,0 @@
-mod RunLemmas
-mod MissLemmas
-mod RememberedLemmas

@@ -1,5 +1,0 @@
-use Rattle.lxr_model_examples.proofs.MissLemmas.{one_pause_behind_the_last_end}
-use Rattle.lxr_model_examples.proofs.near_misses.one_pause_behind_the_last_end.Goals as goal
-
-pub returns : goal.returns
-returns c = one_pause_behind_the_last_end

@@ -1,5 +1,0 @@
-use Rattle.lxr_model_examples.proofs.RememberedLemmas.{remembered_are_summed}
-use Rattle.lxr_model_examples.proofs.remembered.remembered_are_summed.Goals as goal
-
-pub returns : goal.returns
-returns c = remembered_are_summed

@@ -1,7 +1,0 @@
-use Rattle.std.proofs.Common.{refl}
-use Rattle.lxr_model_examples.specs.Histories.{one_block, filling, filling_run}
-use Rattle.lxr_model_examples.proofs.RunLemmas.{is_run}
-use Rattle.lxr_model_examples.proofs.runs.full_after_collecting.Goals as goal
-
-pub returns : goal.returns
-returns c = is_run one_block filling filling_run (record { stand = refl; owes = refl; same = refl }) (record { calls = refl; pauses = refl })

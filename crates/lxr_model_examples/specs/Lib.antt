@@ -1,4 +1,0 @@
-pub mod Words
-pub mod Histories
-pub mod NearMisses
-pub mod Remembered

@@ -1,0 +1,12 @@
+use Rattle.std.proofs.Common.{◌∙◌, ap}
+use Rattle.lxr_pause_trace.proofs.TraceLemmas.{registers_place, registers_placed, trace_begun}
+use Rattle.lxr_pause_trace.proofs.begin.begin_trace.Goals as goal
+
+pub shade_registers-requires-clause-places : goal.shade_registers-requires-clause-places
+shade_registers-requires-clause-places c =
+    registers_placed c.args.space.now c.set_gray.new.self (ap (λ z. z.limits) c.set_gray.ensures.rest ∙ ap (λ z. z.limits) c.clear_bits.ensures.rest)
+    (ap (λ z. z.registers) c.set_gray.ensures.rest ∙ ap (λ z. z.registers) c.clear_bits.ensures.rest)
+    (registers_place c.args.space.now c.requires.0 c.requires.1 c.requires.2)
+
+pub returns : goal.returns
+returns c = λ m at can. trace_begun c.args.space.now m at can c.clear_bits.new.space c.set_gray.new.self c.shade_registers.new.space c.clear_bits.ensures c.set_gray.ensures c.shade_registers.ensures

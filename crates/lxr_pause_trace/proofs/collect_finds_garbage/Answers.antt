@@ -1,5 +1,0 @@
-use Rattle.lxr_pause_trace.proofs.EndLemmas.{collect_finds}
-use Rattle.lxr_pause_trace.proofs.collect_finds_garbage.Goals as goal
-
-pub returns : goal.returns
-returns c = collect_finds

@@ -1,5 +1,0 @@
-use Rattle.lxr_pause_trace.proofs.EndRememberedLemmas.{end_remembered}
-use Rattle.lxr_pause_trace.proofs.end_remembers.Goals as goal
-
-pub returns : goal.returns
-returns c = end_remembered

@@ -1,5 +1,0 @@
-use Rattle.lxr_pause_trace.proofs.TellingLemmas.{marks_tell}
-use Rattle.lxr_pause_trace.proofs.marks_tell_the_end.Goals as goal
-
-pub returns : goal.returns
-returns c = marks_tell

@@ -1,0 +1,44 @@
+//! The beginning of a trace: nothing is marked, and the roots are gray.
+ghost use Rattle.std.specs.Prelude.{◌≡◌, ℕ, ◌+◌, ◌<◌, false, length};
+ghost use Rattle.lxr_layout.specs.declared.Name.{Name as NameOf};
+ghost use Rattle.lxr_image.specs.Spaces.{IsSpace, Turns, tables_of};
+ghost use Rattle.lxr_model.specs.Moments.{Moment};
+ghost use Rattle.lxr_pause_trace.specs.Marking.{HoldPlaces, ShadesRegisters};
+ghost use Rattle.lxr_pause_trace.specs.Tracing.{BeginsTrace, CanTrace};
+
+use lxr_image::Space;
+
+/// Takes all marks away and forgets all that was gray, a word of bits at a time.
+fn clear_bits(space: &mut Space)
+    requires { IsSpace space.old }
+    ensures { Turns space.old space.new (record (tables_of space.old) { marks = λ k. false; grays = λ k. false }) }
+{
+    for at in 0..32 * space.limits.blocks {
+        space.clear_mark_word(at);
+        space.clear_gray_word(at);
+    }
+}
+
+/// Makes gray what registers hold.
+fn shade_registers(space: &mut Space)
+    requires space { IsSpace space.old }
+    requires places { HoldPlaces space.old }
+    ensures { ShadesRegisters space.old space.new (length space.old.registers.items) }
+{
+    for register in 0..space.registers.len() {
+        match space.registers.get(register) {
+            Some(place) if place.0 != 0 => space.set_gray(place.0 - 1),
+            _ => {}
+        }
+    }
+}
+
+/// Begins a trace: takes all marks away, and makes the world and what registers hold gray, and nothing else.
+pub fn begin_trace(space: &mut Space)
+    requires { (m : Moment) × (at : NameOf → ℕ) × CanTrace space.old m at }
+    ensures { (m : Moment) (at : NameOf → ℕ) → CanTrace space.old m at → BeginsTrace space.old space.new m at }
+{
+    clear_bits(space);
+    space.set_gray(0);
+    shade_registers(space);
+}

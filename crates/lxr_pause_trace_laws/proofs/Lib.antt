@@ -1,0 +1,10 @@
+pub mod GranuleLemmas
+pub mod OldLemmas
+pub mod PackingLemmas
+pub mod FinishingLemmas
+pub mod CountingLemmas
+pub mod EndLemmas
+pub mod EndRememberedLemmas
+pub mod BeginningLemmas
+pub mod TellingLemmas
+pub mod HistoryLemmas

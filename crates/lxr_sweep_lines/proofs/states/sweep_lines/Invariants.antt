@@ -1,9 +1,0 @@
-use Rattle.lxr_image.specs.Spaces.{IsSpace, Turns, tables_of}
-use Rattle.lxr_sweep_lines.specs.Swept.{with_states_by_lines}
-use Rattle.lxr_sweep_lines.proofs.states.sweep_lines.Given as goal
-
-abbrev pub invariant-loop-block : goal.invariant-loop-block
-invariant-loop-block l = record {
-  space : IsSpace l.space;
-  turns : Turns l.initial.space l.space (with_states_by_lines (tables_of l.initial.space) l.block);
-}
