@@ -9,10 +9,9 @@ ghost use Rattle.lxr_image.specs.Spaces.{IsSpace};
 ghost use Rattle.lxr_layout.specs.Objects.{FitsShape};
 ghost use Rattle.lxr_blocks.specs.Placing.{IsRest};
 
-use lxr_blocks::{list_runs, place_now};
+use lxr_blocks::{list_runs, place_now, sweep_lines};
 use lxr_image::Space;
 use lxr_layout::{LINES_IN_BLOCK, Limits, Name, Shape, WORDS_IN_BLOCK};
-use lxr_blocks::sweep_lines;
 use std::alloc::{AllocError, Global};
 use std::time::Instant;
 use std::{env, io};

@@ -7,8 +7,6 @@
 
 mod units;
 
-pub use units::{Steps, act, do_unit, finish_unit};
-
 ghost use Rattle.std.specs.Prelude.{◌≡◌, ℕ, ◌<◌, ◌↔◌, Bool, Option, IsSome, IsTrue, length, map, false};
 ghost use Rattle.lxr_actor.specs.declared.Action.{Action};
 ghost use Rattle.lxr_actor.specs.declared.Event.TheVariants.{Step};
@@ -19,6 +17,7 @@ ghost use Rattle.lxr_actor.specs.Run.{core_of, stepped, run, ReplayFits};
 use lxr_layout::Place;
 use lxr_tables::{PlainWords, Words};
 use std::collections::LinkedList;
+pub use units::{Steps, act, do_unit, finish_unit};
 
 /// The kinds of single atomic steps on a word. `Add` and `Sub` wrap.
 #[derive(Clone, Copy, Debug, PartialEq, Eq)]

@@ -1,5 +1,6 @@
 //! What the history has while threads run between two pauses: it goes on by steps of the model alone, and each thread's
-//! calls are its operations, each once and in order, with the replies that its mutator keeps.
+//! calls are its operations, each once and in order, with the replies that its mutator keeps. These replies are the model's, and the
+//! registers of every mutator are those of the model's state.
 //!
 //! Operations stand in the history at one atomic step each, in whatever order the threads' steps come. The functions of
 //! this crate do nothing: the contract of each is a law.
@@ -7,10 +8,10 @@
 
 mod replies;
 
-pub use replies::{registers_are_kept, registers_are_left, replies_are_steps};
-
 ghost use Rattle.lxr_core_invariant.specs.Laws.{HistoryIsKept, HistoryIsLeft, RepliesAreSteps};
 ghost use Rattle.lxr_core_invariant.specs.Through.{CallsAreBeginnings, EndsAreCounted, EpochProgresses, RestIsHistory, ThroughHasCause};
+
+pub use replies::{registers_are_kept, registers_are_left, replies_are_steps};
 
 /// Each event keeps the history and the replies, where replies are those of the model's steps.
 pub fn history_is_kept()

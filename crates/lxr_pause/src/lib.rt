@@ -5,17 +5,15 @@
 //! it ([`finish_decrements`]); while a trace runs, what it referred to is made gray. Counts are raised for the references
 //! that were stored and the registers that changed, and new objects that are held get their first count, and are copied where
 //! lines fit them ([`increments`], [`promote`], [`young_evacuate`]); while a trace runs, these are marked, and what was
-//! overwritten is made gray. What was overwritten
-//! waits for the next pause to be lowered ([`queue_decrements`]), and registers are kept as they are now, to be compared with
-//! then ([`defer_roots`]). Where nothing waits any more, the count of each object can be told ([`count_unreclaimed`]).
+//! overwritten is made gray. What was overwritten waits for the next pause to be lowered ([`queue_decrements`]), and registers are
+//! kept as they are now, to be compared with then ([`defer_roots`]). Where nothing waits any more, the count of each object can be told ([`count_unreclaimed`]).
 //!
 //! Each call takes the space alone, takes no memory and has no refusal. Its contract says what it leaves, in terms of the
 //! history that the space stands for. The work is done in the rooms `lxr_pause_decrements`, `lxr_pause_promote`,
-//! `lxr_pause_increments`, `lxr_pause_queue` and `lxr_pause_queue`; crates of this repository stand on these.
+//! `lxr_pause_increments` and `lxr_pause_queue`; crates of this repository stand on these.
 #![tactic(auto)]
 
-pub use lxr_pause_queue::count_unreclaimed;
 pub use lxr_pause_decrements::finish_decrements;
 pub use lxr_pause_increments::increments;
 pub use lxr_pause_promote::{promote, young_evacuate};
-pub use lxr_pause_queue::{defer_roots, queue_decrements};
+pub use lxr_pause_queue::{count_unreclaimed, defer_roots, queue_decrements};

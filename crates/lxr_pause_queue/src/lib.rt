@@ -1,8 +1,9 @@
-//! What a pause leaves for the next one: the decrements of old values, queued, and the registers, deferred.
+//! What a pause leaves for the next one: the decrements of old values, queued, and the registers, deferred; and the counts of its
+//! report, each unreclaimed object with its count, in the order of names.
 #![tactic(auto)]
 
 mod counting;
 mod queueing;
 
-pub use queueing::{defer_roots, queue_decrements};
 pub use counting::count_unreclaimed;
+pub use queueing::{defer_roots, queue_decrements};

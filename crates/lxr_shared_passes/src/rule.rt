@@ -10,8 +10,7 @@ ghost use Rattle.lxr_actor.specs.Run.{core_of};
 use atomic_table::{Join, Play, Split, TableRule};
 use lxr_actor::{Actor, Core, Event};
 use lxr_layout::Place;
-use lxr_tables::PlainWords;
-use lxr_tables::KeyFrom;
+use lxr_tables::{KeyFrom, PlainWords};
 use std::collections::LinkedList;
 use std::marker::{Brand, PhantomData};
 

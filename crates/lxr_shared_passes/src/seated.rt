@@ -7,8 +7,7 @@ ghost use Rattle.lxr_shared_passes.specs.Seats.{Sits, pass_of};
 use crate::pass::Epoch;
 use crate::rule::{Advance, View};
 use atomic_table::Seat;
-use lxr_actor::{Action, Actor, Kindred};
-use lxr_actor::Steps;
+use lxr_actor::{Action, Actor, Kindred, Steps};
 
 /// The right to do the steps of one actor at the table of an epoch. The actor is kept beside it.
 #[derive(Drop)]

@@ -8,8 +8,8 @@ ghost use Rattle.std.specs.Prelude.{◌≡◌, ℕ, ◌<◌, List, [], length, s
 ghost use Rattle.std.specs.Mem.Slots.{slots_items, slots_len, IsFull};
 ghost use Rattle.atomic_table.specs.Table.{opening, Final, Seen};
 
-use atomic_table::{Closed, Seat, Table, TableRule};
 use crate::{KeyFrom, reopen};
+use atomic_table::{Closed, Seat, Table, TableRule};
 use std::alloc::{AllocError, Allocator};
 use std::marker::Model;
 

@@ -4,6 +4,10 @@
 //! bits: bits, 64 to a word, and reference counts, 32 to a word. Contracts see a table as the list of its entries,
 //! so each call reads one entry, or gives the list with one entry changed. A call takes a few instructions and
 //! neither loops nor branches on what it finds.
+//!
+//! The words themselves ([`PlainWords`], over [`ClosedWords`]) lie in the memory of a closed table of atomic words. The library closes
+//! a table in place and opens one only by copying words in; [`reopen`] makes a table of a closed one where it lies, so that words which are
+//! used by turns from threads and from one owner are never copied.
 #![tactic(auto)]
 
 mod bits;
@@ -18,10 +22,10 @@ mod reopening;
 mod words;
 
 pub use bits::{bit, clear_bit, set_bit};
+pub use closed::ClosedWords;
 pub use counts::{COUNTS_IN_WORD, Lowered, Raised, lower_two, raise_two, set_two, two};
 pub use gathering::zero_counts;
-pub use lanes::{COUNT_WORDS_IN_BLOCK, uncounted_lines, zero_lanes};
-pub use words::{PlainWords, Words};
-pub use reopening::reopen;
 pub use key::KeyFrom;
-pub use closed::ClosedWords;
+pub use lanes::{COUNT_WORDS_IN_BLOCK, uncounted_lines, zero_lanes};
+pub use reopening::reopen;
+pub use words::{PlainWords, Words};

@@ -1,11 +1,16 @@
-//! A closed table becomes a table again.
+//! A closed table becomes a table again, where it lies.
+//!
+//! A table of atomic words is closed when the threads are done: its words are plain memory then, of one owner. `reopen` makes a table of
+//! it again, under another rule and another key. It moves two pointers, whatever the number of words. Three small functions beside it
+//! (`closed_fields`, `closed_rows`) are unsafe inside: they read a value as that of other types, laid out alike. Their proofs
+//! compare the layouts, so a library that lays its fields otherwise is refused by the check.
 ghost use Rattle.std.specs.Prelude.{◌≡◌, []};
 ghost use Rattle.std.specs.Mem.Slots.{slots_items, slots_len, IsFull};
 ghost use Rattle.atomic_table.specs.Table.{opening};
 
 use crate::closed_fields::{put_together, take_apart};
-use crate::key::KeyFrom;
 use crate::closed_rows::share;
+use crate::key::KeyFrom;
 use atomic_table::{Closed, Seat, Table, TableRule};
 use std::alloc::Allocator;
 use std::mem::ManuallyDrop;

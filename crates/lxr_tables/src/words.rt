@@ -6,9 +6,8 @@
 ghost use Rattle.std.specs.Prelude.{◌≡◌, ℕ, ◌+◌, ◌<◌, List, [], length, slice_index, slice_set, replicate, IfOk};
 ghost use Rattle.atomic_table.specs.Table.{opening, Final, Seen};
 
+use crate::{ClosedWords, KeyFrom};
 use atomic_table::{Seat, Table, TableRule};
-use crate::KeyFrom;
-use crate::ClosedWords;
 use std::alloc::{AllocError, Global};
 use std::marker::Model;
 

@@ -5,10 +5,9 @@ ghost use Rattle.lxr_image.specs.Spaces.{IsSpace};
 
 use crate::spaces::opened;
 use lxr_base::draw;
-use lxr_blocks::{free_mask, place_now};
+use lxr_blocks::{free_mask, place_now, zero_lines};
 use lxr_image::Space;
 use lxr_layout::{GRANULES_IN_BLOCK, GRANULES_IN_LINE, LINES_IN_BLOCK, Name, Place, Shape};
-use lxr_blocks::zero_lines;
 
 /// The world has three lines. The two that an object takes behind it are free no more.
 #[test]
