@@ -1,7 +1,7 @@
 //! Runs of free lines, log entries and remembered entries, with the words that tables keep of them.
 ghost use Rattle.std.specs.Prelude.{◌≡◌, ℕ, ◌<◌, ◌≤◌};
-ghost use Rattle.lxr_layout.specs.Places.{IsPlace};
-ghost use Rattle.lxr_layout.specs.Runs.{IsEntry, IsRun, word_of_entry, word_of_run};
+ghost use Rattle.lxr_layout.specs.declared.TheConstants.{MOST_BLOCKS};
+ghost use Rattle.lxr_layout.specs.Runs.{IsEntry, IsRememberedPlace, IsRun, word_of_entry, word_of_run};
 
 use crate::Place;
 
@@ -29,7 +29,7 @@ pub struct LogEntry {
 
 /// The word of a run in the run table.
 pub fn run_word(run: Run) -> u64
-    requires { run.block < 1024 }
+    requires { run.block < MOST_BLOCKS }
     ensures { result ≡ word_of_run run }
 {
     let lines = u64::from(run.lines);
@@ -53,7 +53,7 @@ pub fn run_of(word: u64) -> Run
 /// The word of a remembered entry: a reference `index` of the object at `place`, with the reuse counter of
 /// that reference's line.
 pub fn entry_word(counter: u32, place: Place, index: u16) -> u64
-    requires place { IsPlace place }
+    requires place { IsRememberedPlace place }
     requires index { index ≤ 1022 }
     ensures { result ≡ word_of_entry counter place index }
 {

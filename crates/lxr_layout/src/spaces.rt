@@ -1,8 +1,15 @@
 //! Where the parts of a space begin in its one list of words.
 ghost use Rattle.std.specs.Prelude.{◌≡◌};
-ghost use Rattle.lxr_layout.specs.Spaces.{AreLimits, region_begin};
+ghost use Rattle.lxr_layout.specs.Spaces.{AreLimits, most_chosen, region_begin};
 
 use crate::limits::{Limits, Regions};
+
+/// The most blocks that may be Chosen in a heap of so many: an eighth of them.
+pub fn most_chosen(blocks: u32) -> u32
+    ensures { result ≡ most_chosen blocks }
+{
+    blocks / 8
+}
 
 /// Where each region begins: right behind the one before it, in the order of the fields.
 pub fn regions(limits: Limits) -> Regions
