@@ -10,7 +10,7 @@ use Rattle.lxr_layout.specs.declared.Name.{Name}
 use Rattle.lxr_layout.specs.declared.Place.{Place}
 use Rattle.lxr_layout.specs.declared.limits.Limits.{Limits}
 use Rattle.lxr_layout.specs.Objects.{word_count}
-use Rattle.lxr_layout.specs.Spaces.{region_begin}
+use Rattle.lxr_layout.specs.Spaces.{all_regions, counts_region, region_begin}
 use Rattle.lxr_graph.specs.History.{calls_of, replies_of}
 use Rattle.lxr_graph.specs.State.{State, next_name, shape_of}
 use Rattle.lxr_mutator.specs.Mutating as mutating
@@ -290,7 +290,7 @@ filled_tracer l was d of same few each =
     let regions : d.regions ≡ was.regions = ap (λ (x : TracerState). x.regions) same in
     let room : d.pocket.room ≡ was.pocket.room = ap (λ (x : TracerState). x.pocket.room) same in
     let phase : d.phase ≡ trace_phase.Resting = ap (λ (x : TracerState). x.phase) same in
-    let counts : d.regions.counts ≡ region_begin l 1 = ap (λ r. r.counts) (regions ∙ of.regions) in
+    let counts : d.regions.counts ≡ region_begin l counts_region = ap (λ r. r.counts) (regions ∙ of.regions) in
     record {
       sound = record {
         indexes = subst HaveIndexes (sym regions) of.sound.indexes;
@@ -474,7 +474,7 @@ holds b after before now pauses few is opened =
     let limits : after.limits ≡ b.space.limits = ap (λ s. s.limits) opened.space.rest in
     let start = all_start b before now is.begins is.actors_rest opened.actors in
     let epoch = opens b (map thread_state_of (mutators_in now)) (map decrementing_of (decrementers_in now)) (map tracing_of (tracers_in now)) is.begins pauses start (helpers_rest b before now is.begins is.actors_rest opened.actors few) is.served.few is.served.unasked in
-    let size : (tables_in after.limits after.words).size ≡ region_begin b.space.limits 15 = ap (λ t. t.size) opened.space.tables ∙ is.begins.between.safepoint.holds.space.size in (
+    let size : (tables_in after.limits after.words).size ≡ region_begin b.space.limits all_regions = ap (λ t. t.size) opened.space.tables ∙ is.begins.between.safepoint.holds.space.size in (
       [],
       record {
         epoch = subst (IsEpoch b) (epoch_state_opened b after now limits opened.space.tables) epoch;

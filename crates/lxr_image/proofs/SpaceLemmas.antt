@@ -1,6 +1,6 @@
 -- Calls on the words of a space, one after another.
 use Rattle.std.proofs.Common.{◌≡◌, ◌∙◌, ap, subst, sym}
-use Rattle.lxr_layout.specs.Spaces.{AreLimits, region_begin}
+use Rattle.lxr_layout.specs.Spaces.{AreLimits, all_regions, region_begin}
 use Rattle.lxr_image.specs.declared.space.Space.{Space}
 use Rattle.lxr_image.specs.Tables.{Tables}
 use Rattle.lxr_image.specs.Spaces.{IsSpace, Turns, tables_of}
@@ -15,7 +15,7 @@ still_space a b t space is size =
     let limits = same_limits a b t is in
     record {
       limits = subst AreLimits (sym limits) space.limits;
-      size = ap (λ x. x.size) is.tables ∙ size ∙ space.size ∙ ap (λ l. region_begin l 15) (sym limits);
+      size = ap (λ x. x.size) is.tables ∙ size ∙ space.size ∙ ap (λ l. region_begin l all_regions) (sym limits);
     }
 
 -- two calls are one change

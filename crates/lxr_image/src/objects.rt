@@ -5,7 +5,7 @@ ghost use Rattle.lxr_image.specs.Reads.{StartsStandWhole, datum_at, field_at, gr
 ghost use Rattle.lxr_image.specs.Spaces.{IsSpace, tables_of};
 
 use crate::Space;
-use lxr_layout::{GRANULES_IN_BLOCK, Header, Place, field_word, unpack, word_of};
+use lxr_layout::{GRANULES_IN_BLOCK, Header, Place, field_word, granule_of, unpack, word_of};
 
 impl Space {
     /// Whether an unreclaimed object begins at a place.
@@ -20,7 +20,7 @@ impl Space {
         if GRANULES_IN_BLOCK * self.limits.blocks < place.0 {
             return false;
         }
-        self.has_start(place.0 - 1)
+        self.has_start(granule_of(place))
     }
 
     /// What the header of the unreclaimed object at a place says. None where no start bit stands at a place of the

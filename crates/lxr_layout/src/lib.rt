@@ -49,6 +49,9 @@ pub const MOST_GRANULES_REMEMBERED: u32 = MOST_BLOCKS_REMEMBERED * GRANULES_IN_B
 /// The lines that the world takes, which stands at the front of block 0.
 pub const WORLD_LINES: u32 = 3;
 
+/// The references of the world, which has no data words.
+pub const WORLD_REFS: u16 = 64;
+
 /// The cursor that is 1 while a pause is asked for, else 0.
 pub const PAUSE_WORD: u32 = 0;
 

@@ -1,7 +1,8 @@
 //! Where the parts of a space begin in its one list of words.
 ghost use Rattle.std.specs.Prelude.{◌≡◌};
-ghost use Rattle.lxr_layout.specs.Spaces.{AreLimits, most_chosen, region_begin};
+ghost use Rattle.lxr_layout.specs.Spaces.{AreLimits, all_regions, counts_region, cursors_region, decs_region, dones_region, frees_region, grays_region, heap_region, marks_region, most_chosen, outs_region, region_begin, remembered_region, reuse_region, runs_region, starts_region, states_region, unlogged_region};
 
+use crate::WORDS_IN_BLOCK;
 use crate::limits::{Limits, Regions};
 
 /// The most blocks that may be Chosen in a heap of so many: an eighth of them.
@@ -15,26 +16,26 @@ pub fn most_chosen(blocks: u32) -> u32
 pub fn regions(limits: Limits) -> Regions
     requires { AreLimits limits }
     ensures { result ≡ record {
-      heap = 0;
-      counts = region_begin limits 1;
-      starts = region_begin limits 2;
-      marks = region_begin limits 3;
-      grays = region_begin limits 4;
-      dones = region_begin limits 5;
-      unlogged = region_begin limits 6;
-      reuse = region_begin limits 7;
-      outs = region_begin limits 8;
-      states = region_begin limits 9;
-      runs = region_begin limits 10;
-      frees = region_begin limits 11;
-      decs = region_begin limits 12;
-      remembered = region_begin limits 13;
-      cursors = region_begin limits 14;
-      total = region_begin limits 15;
+      heap = region_begin limits heap_region;
+      counts = region_begin limits counts_region;
+      starts = region_begin limits starts_region;
+      marks = region_begin limits marks_region;
+      grays = region_begin limits grays_region;
+      dones = region_begin limits dones_region;
+      unlogged = region_begin limits unlogged_region;
+      reuse = region_begin limits reuse_region;
+      outs = region_begin limits outs_region;
+      states = region_begin limits states_region;
+      runs = region_begin limits runs_region;
+      frees = region_begin limits frees_region;
+      decs = region_begin limits decs_region;
+      remembered = region_begin limits remembered_region;
+      cursors = region_begin limits cursors_region;
+      total = region_begin limits all_regions;
     } }
 {
     let blocks = limits.blocks;
-    let counts = 4096 * blocks;
+    let counts = WORDS_IN_BLOCK * blocks;
     let starts = counts + 64 * blocks;
     let marks = starts + 32 * blocks;
     let grays = marks + 32 * blocks;

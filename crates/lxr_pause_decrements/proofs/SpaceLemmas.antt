@@ -5,7 +5,7 @@ use Rattle.lxr_layout.specs.declared.Name.{Name}
 use Rattle.lxr_layout.specs.declared.Place.{Place}
 use Rattle.lxr_layout.specs.declared.Shape.{Shape}
 use Rattle.lxr_layout.specs.Places.{IsPlace}
-use Rattle.lxr_layout.specs.Spaces.{AreLimits, region_begin}
+use Rattle.lxr_layout.specs.Spaces.{AreLimits, all_regions, region_begin}
 use Rattle.lxr_base.specs.Roomy.{Roomy, pushed}
 use Rattle.lxr_graph.specs.State.{shape_of}
 use Rattle.lxr_tables.specs.Counts.{lowered_count, lowered_of}
@@ -90,7 +90,7 @@ buried_keeps a b p n shape buries = record {
 }
 
 pub limits_space : (a b : Space) → b.limits ≡ a.limits → (tables_of b).size ≡ (tables_of a).size → IsSpace a → IsSpace b
-limits_space a b limits size is = record { limits = subst AreLimits (sym limits) is.limits; size = size ∙ is.size ∙ ap (λ z. region_begin z 15) (sym limits) }
+limits_space a b limits size is = record { limits = subst AreLimits (sym limits) is.limits; size = size ∙ is.size ∙ ap (λ z. region_begin z all_regions) (sym limits) }
 
 pub reclaimed_space : (a b : Space) (p : Place) (n : Name) (shape : Shape) → Reclaims a b p n shape → IsSpace a → IsSpace b
 reclaimed_space a b p n shape re is = limits_space a b (ap (λ s. s.limits) re.rest) (ap (λ z. z.size) re.tables) is

@@ -5,7 +5,7 @@ use Rattle.lxr_layout.specs.declared.Name.{Name}
 use Rattle.lxr_layout.specs.declared.Place.{Place}
 use Rattle.lxr_layout.specs.declared.Shape.{Shape}
 use Rattle.lxr_layout.specs.declared.Header.TheVariants.{Object}
-use Rattle.lxr_layout.specs.Spaces.{AreLimits, region_begin}
+use Rattle.lxr_layout.specs.Spaces.{AreLimits, all_regions, region_begin}
 use Rattle.lxr_layout.specs.Objects.{header_of, word_count}
 use Rattle.lxr_layout.specs.Places.{first_word}
 use Rattle.lxr_image.specs.declared.space.Space.{Space}
@@ -22,7 +22,7 @@ pub turned_blocks : (a b : Space) (t : Tables) → Turns a b t → b.limits.bloc
 turned_blocks a b t turns = ap (λ s. s.limits.blocks) turns.rest
 
 pub space_with : (a b : Space) → b.limits ≡ a.limits → (tables_of b).size ≡ (tables_of a).size → IsSpace a → IsSpace b
-space_with a b l size is = record { limits = subst AreLimits (sym l) is.limits; size = size ∙ is.size ∙ ap (λ z. region_begin z 15) (sym l) }
+space_with a b l size is = record { limits = subst AreLimits (sym l) is.limits; size = size ∙ is.size ∙ ap (λ z. region_begin z all_regions) (sym l) }
 
 -- ---- an object at a place
 
