@@ -14,8 +14,8 @@ pub record HasGeometry : Type 0 where
 
 -- the largest heap, and the largest in which blocks are chosen for evacuation
 pub record HasLargest : Type 0 where
-  pub blocks : MOST_BLOCKS ≡ 1024
-  pub granules : MOST_GRANULES ≡ 2 ^ 21
+  pub blocks : MOST_BLOCKS ≡ 65536
+  pub granules : MOST_GRANULES ≡ 2 ^ 27
   pub remembered_blocks : MOST_BLOCKS_REMEMBERED ≡ 1024
   pub remembered_granules : MOST_GRANULES_REMEMBERED ≡ 2 ^ 21
 

@@ -34,8 +34,8 @@ pub const WORDS_IN_LINE: u32 = 32;
 /// The granules of a line.
 pub const GRANULES_IN_LINE: u32 = 16;
 
-/// The most blocks of a heap.
-pub const MOST_BLOCKS: u32 = 1024;
+/// The most blocks of a heap: 2 GB of them.
+pub const MOST_BLOCKS: u32 = 65_536;
 
 /// The granules of the largest heap, and so the greatest place.
 pub const MOST_GRANULES: u32 = MOST_BLOCKS * GRANULES_IN_BLOCK;

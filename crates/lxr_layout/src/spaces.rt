@@ -2,14 +2,19 @@
 ghost use Rattle.std.specs.Prelude.{◌≡◌};
 ghost use Rattle.lxr_layout.specs.Spaces.{AreLimits, all_regions, counts_region, cursors_region, decs_region, dones_region, frees_region, grays_region, heap_region, marks_region, most_chosen, outs_region, region_begin, remembered_region, reuse_region, runs_region, starts_region, states_region, unlogged_region};
 
-use crate::WORDS_IN_BLOCK;
+use crate::{MOST_BLOCKS_REMEMBERED, WORDS_IN_BLOCK};
 use crate::limits::{Limits, Regions};
 
-/// The most blocks that may be Chosen in a heap of so many: an eighth of them.
+/// The most blocks that may be Chosen in a heap of so many: an eighth of them, and none in a heap of more than
+/// `MOST_BLOCKS_REMEMBERED`.
 pub fn most_chosen(blocks: u32) -> u32
     ensures { result ≡ most_chosen blocks }
 {
-    blocks / 8
+    if blocks <= MOST_BLOCKS_REMEMBERED {
+        blocks / 8
+    } else {
+        0
+    }
 }
 
 /// Where each region begins: right behind the one before it, in the order of the fields.
