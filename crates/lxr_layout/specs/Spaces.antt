@@ -1,5 +1,5 @@
 -- How large a space is, and where its regions begin.
-use Rattle.std.specs.Prelude.{ℕ, ◌+◌, ◌*◌, ◌≤◌, List, [], ◌∷◌, take, sum}
+use Rattle.std.specs.Prelude.{ℕ, ◌+◌, ◌*◌, ◌/◌, ◌≤◌, List, [], ◌∷◌, take, sum}
 use Rattle.lxr_layout.specs.declared.limits.Limits.{Limits}
 use Rattle.lxr_layout.specs.declared.limits.Regions.{Regions}
 
@@ -9,6 +9,10 @@ pub record AreLimits (l : Limits) : Type 0 where
   pub threads : (1 ≤ l.threads) × (l.threads ≤ 16)
   pub log : (1 ≤ l.log) × (l.log ≤ 65536)
   pub remember : (1 ≤ l.remember) × (l.remember ≤ 1048576)
+
+-- the most blocks that may be Chosen in a heap of so many: an eighth of them
+abbrev pub most_chosen : ℕ → ℕ
+most_chosen blocks = blocks / 8
 
 -- the words of each region, in their order: heap, counts, starts, marks, grays, dones, unlogged, reuse,
 -- outs, states, runs, frees, decrements, remembered, cursors

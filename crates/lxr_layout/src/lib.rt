@@ -34,6 +34,9 @@ pub const WORDS_IN_LINE: u32 = 32;
 /// The granules of a line.
 pub const GRANULES_IN_LINE: u32 = 16;
 
+/// The lines that the world takes, which stands at the front of block 0.
+pub const WORLD_LINES: u32 = 3;
+
 /// The cursor that is 1 while a pause is asked for, else 0.
 pub const PAUSE_WORD: u32 = 0;
 

@@ -3,6 +3,7 @@ use Rattle.std.specs.Prelude.{◌≡◌, ◌≢◌, ℕ, ◌+◌, ◌-◌, ◌*�
 use Rattle.std.specs.Option.{option_map_or}
 use Rattle.lxr_layout.specs.declared.Name.{Name}
 use Rattle.lxr_layout.specs.declared.Shape.{Shape}
+use Rattle.lxr_layout.specs.declared.TheConstants.{LINES_IN_BLOCK, WORLD_LINES}
 use Rattle.lxr_layout.specs.Objects.{line_count}
 use Rattle.lxr_graph.specs.declared.Op.TheVariants as op
 use Rattle.lxr_graph.specs.declared.Reply.TheVariants as reply
@@ -27,9 +28,9 @@ slots_touched k lines = (lines + (k - 1)) / k + 1
 abbrev pub slots_taken : Graph → ℕ → List Name → ℕ
 slots_taken g k ns = sum_by (λ n. slots_touched k (lines_at g n)) ns
 
--- the slots of k lines of block 0, of which the world takes three lines, and of so many whole blocks
+-- the slots of k lines of block 0, whose first lines the world takes, and of so many whole blocks
 abbrev pub slots_in : ℕ → ℕ → ℕ
-slots_in k whole_blocks = 125 / k + whole_blocks * (128 / k)
+slots_in k whole_blocks = (LINES_IN_BLOCK - WORLD_LINES) / k + whole_blocks * (LINES_IN_BLOCK / k)
 
 -- these objects can leave no run of k lines in so many blocks, of which block 0 is one
 abbrev pub LeaveNoRun : Graph → List Name → ℕ → ℕ → Type 0
@@ -47,5 +48,5 @@ IsRightAfterCollecting (Call t _ _ ∷ h) = ⊥
 abbrev pub MayBeFull : Terms → List Item → Shape → Type 0
 MayBeFull terms h shape =
     IsRightAfterCollecting h
-    × (ns : List Name) × IsSetOf ns (λ o. Reachable (state_at terms h) o × (o ≢ world_name))
+    × (ns : List Name) × IsSetOf ns (λ n. Reachable (state_at terms h) n × (n ≢ world_name))
     × LeaveNoRun (state_at terms h).graph ns terms.blocks (line_count shape)
