@@ -241,7 +241,7 @@ pub waiting_may_collect : WaitingMayCollect
 waiting_may_collect s g shape between world fits full =
     let none = full_leaves_no_run s g shape (without (union g.moment.made g.moment.unreclaimed) (world_name ∷ [])) between world full (union_are_others g.moment) in
     let few = between.safepoint.holds.blocks.few in
-    let more : s.limits.blocks - 1 - s.limits.blocks / 8 ≤ s.limits.blocks - chosen_count (tables_of s) s.limits.blocks - 1 = omega (arith, few) in
+    let more : s.limits.blocks - s.limits.blocks / 8 - 1 ≤ s.limits.blocks - chosen_count (tables_of s) s.limits.blocks - 1 = omega (arith, few) in
     let slots = mul-le-mul_right (LINES_IN_BLOCK / line_count shape) more in
     omega (arith, none, slots)
 

@@ -44,16 +44,19 @@ abbrev pub cut : List ℕ → List ℕ → List (List ℕ)
 cut [] words = []
 cut (size ∷ sizes) words = take size words ∷ cut sizes (drop size words)
 
--- a region's words as a table of words, of bits, of reference counts, and of 32-bit halves, the low half first
+-- a region's words as a table of words
 abbrev pub words_in : List ℕ → ℕ → ℕ
 words_in words k = slice_index words k
 
+-- as a table of bits, 64 a word, the lowest first
 abbrev pub bits_in : List ℕ → ℕ → Bool
 bits_in words k = slice_index (table 1 64 words) k == 1
 
+-- as a table of reference counts, the lowest first
 abbrev pub counts_in : List ℕ → ℕ → ℕ
 counts_in words k = slice_index (table COUNT_BITS COUNTS_IN_WORD words) k
 
+-- as a table of 32-bit halves, the low half first
 abbrev pub halves_in : List ℕ → ℕ → ℕ
 halves_in words k = slice_index (table 32 2 words) k
 
