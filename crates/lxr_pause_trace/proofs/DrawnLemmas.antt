@@ -1,5 +1,5 @@
 -- Each number that is drawn while a trace is finished has an entry of its own: a reference is passed once, when its entry is written.
-use Rattle.std.proofs.Common.{◌≡◌, ◌≢◌, ℕ, suc, ◌^◌, ◌<◌, ◌≤◌, refl, sym, ap, subst, ◌∙◌, inl, inr, arith, List, [], ◌∷◌, ◌++◌, IsTrue}
+use Rattle.std.proofs.Common.{◌≡◌, ◌≢◌, ℕ, suc, ◌+◌, ◌^◌, ◌<◌, ◌≤◌, refl, sym, ap, subst, ◌∙◌, inl, inr, arith, List, [], ◌∷◌, ◌++◌, IsTrue, length}
 use Rattle.std.specs.Prelude.{Some}
 use Rattle.std.specs.List.{Contains}
 use Rattle.std.proofs.lemmas.Bool.Decides.{leb_tells}
@@ -10,11 +10,12 @@ use Rattle.lxr_layout.specs.declared.Place.{Place}
 use Rattle.lxr_layout.specs.Runs.{word_of_entry}
 use Rattle.lxr_image.specs.Tables.{Tables}
 use Rattle.lxr_image.specs.Reads.{field_at, granule_of}
+use Rattle.lxr_invariant.proofs.EntryLemmas.{changed_here}
 use Rattle.lxr_model_counting.proofs.DistinctLemmas.{tested}
 use Rattle.lxr_remset.specs.Remembering.{is_in_chosen, line_of_field, remembering, remembering_chosen}
 use Rattle.lxr_remset.proofs.ChosenLemmas.{where_chosen, where_not}
 use Rattle.lxr_remset.proofs.SetLemmas.{new_entry, old_entry}
-use Rattle.lxr_pause_trace.specs.Marking.{EntersOnly, HasEntryAt, IsLeft, IsWaiting, WaitOnce}
+use Rattle.lxr_pause_trace.specs.Marking.{AreEnteredAt, EntersOnly, HasEntryAt, IsLeft, IsWaiting, WaitOnce}
 use Rattle.lxr_pause_trace.proofs.SlotLemmas.{first_or_later, is_first, is_later, none_in}
 
 -- ---- worklists
@@ -55,7 +56,36 @@ pub none_drawn : (l : Limits) (t : Tables) (IsLater : ℕ → ℕ → Type 0) �
 none_drawn l t IsLater = record {
   only = λ k from below room. absurd (omega (arith, from, below));
   once = λ j k from less below room same. absurd (omega (arith, from, less, below));
+  entered = [];
+  are = tt;
+  drawn = omega arith;
 }
+
+-- a reference for which a number was drawn isn't scanned later
+not_later : (l : Limits) (t0 t : Tables) (IsLater : ℕ → ℕ → Type 0) (from : ℕ) (rs : List (ℕ × ℕ)) (r : ℕ × ℕ) → AreEnteredAt l t0 t IsLater from rs → Contains rs r → ¬ IsLater r.0 r.1
+not_later l t0 t IsLater from [] r are h = absurd (none_in r h)
+not_later l t0 t IsLater from (q ∷ rs) r are h = elim (first_or_later q rs r h) [
+  | inl same ↦ subst (λ z. ¬ IsLater z.0 z.1) same are.0.passed
+  | inr later ↦ not_later l t0 t IsLater from rs r are.3 later
+]
+
+-- what was drawn stays so where entries, counters of lines and states do, and as much or more is marked
+entered_alike : (l : Limits) (t0 t u : Tables) (IsLater IsThen : ℕ → ℕ → Type 0) (from : ℕ) (rs : List (ℕ × ℕ)) → ((k : ℕ) → k < from + length rs → u.remembered k ≡ t.remembered k) → u.reuse ≡ t.reuse → u.states ≡ t.states
+    → ((k : ℕ) → IsTrue (t.marks k) → IsTrue (u.marks k)) → ((p i : ℕ) → IsTrue (t.marks (granule_of p)) → IsThen p i → IsLater p i) → AreEnteredAt l t0 t IsLater from rs → AreEnteredAt l t0 u IsThen from rs
+entered_alike l t0 t u IsLater IsThen from [] set reuse states marks fewer are = tt
+entered_alike l t0 t u IsLater IsThen from (r ∷ rs) set reuse states marks fewer are = (
+  record {
+    held = are.0.held;
+    scanned = record { left = are.0.scanned.left; marked = marks (granule_of r.0) are.0.scanned.marked };
+    passed = λ h. are.0.passed (fewer r.0 r.1 are.0.scanned.marked h);
+    placed = are.0.placed;
+    holds = are.0.holds;
+    chosen = ap (λ f. is_in_chosen (record t { states = f }) (record { 0 = are.0.held })) states ∙ are.0.chosen;
+  },
+  are.1,
+  λ room. set (from + length rs) (omega arith) ∙ are.2 room ∙ ap (λ f. word_of_entry (f (line_of_field (record { 0 = r.0 }) r.1)) (record { 0 = r.0 }) r.1) (sym reuse),
+  entered_alike l t0 t u IsLater IsThen from rs (λ k below. set k (omega (arith, below))) reuse states marks fewer are.3,
+)
 
 module _ (l : Limits) (t0 t : Tables) (IsLater : ℕ → ℕ → Type 0) (drawn : EntersOnly l t0 t IsLater) where
   -- where the set stays, and as much or more is marked
@@ -74,6 +104,9 @@ module _ (l : Limits) (t0 t : Tables) (IsLater : ℕ → ℕ → Type 0) (drawn 
       entry = ap (λ f. f k) remembered ∙ e.entry ∙ ap (λ f. word_of_entry (f (line_of_field (record { 0 = e.place }) e.index)) (record { 0 = e.place }) e.index) (sym reuse);
     };
     once = λ j k from less below room same. drawn.once j k from less (subst (λ c. k < c) cursor below) room (sym (ap (λ f. f j) remembered) ∙ same ∙ ap (λ f. f k) remembered);
+    entered = drawn.entered;
+    are = entered_alike l t0 t u IsLater IsThen (t0.cursors REMEMBERED_CURSOR) drawn.entered (λ k below. ap (λ f. f k) remembered) reuse states marks fewer drawn.are;
+    drawn = cursor ∙ drawn.drawn;
   }
 
   -- fewer are scanned later
@@ -134,6 +167,17 @@ module _ (l : Limits) (t0 t : Tables) (IsLater : ℕ → ℕ → Type 0) (drawn 
             let in_room : t.cursors REMEMBERED_CURSOR < l.remember = subst (λ x. x < l.remember) here room in
             differs j in_j (drawn.only j from in_j (omega (arith, less, room))) in_room (same ∙ ap u.remembered here)
       ];
+      entered = (p, i) ∷ drawn.entered;
+      are = (
+        record { held = held; scanned = record { left = waits.left; marked = waits.marked }; passed = passed; placed = placed; holds = holds; chosen = chosen },
+        λ h. not_later l t0 t IsLater (t0.cursors REMEMBERED_CURSOR) drawn.entered (p, i) drawn.are h was,
+        λ room.
+            let here : t0.cursors REMEMBERED_CURSOR + length drawn.entered ≡ t.cursors REMEMBERED_CURSOR = sym drawn.drawn in
+            ap u.remembered here ∙ new_entry l t place i (subst (λ x. x < l.remember) here room),
+        entered_alike l t0 t u IsLater IsThen (t0.cursors REMEMBERED_CURSOR) drawn.entered
+            (λ k below. old_entry l t place i k (let here = drawn.drawn in omega (arith, below, here))) refl refl (λ k h. h) (λ q j marked h. fewer q j h) drawn.are,
+      );
+      drawn = let more = changed_here t.cursors REMEMBERED_CURSOR (t.cursors REMEMBERED_CURSOR + 1) REMEMBERED_CURSOR refl in let here = drawn.drawn in omega (arith, more, here);
     }
 
     pub drawn_passed : EntersOnly l t0 (remembering_chosen l t place i (record { 0 = held })) IsThen

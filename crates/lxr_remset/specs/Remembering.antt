@@ -1,5 +1,5 @@
 -- What changes where a reference is remembered.
-use Rattle.std.specs.Prelude.{◌≡◌, ℕ, ◌+◌, ◌*◌, ◌/◌, ◌^◌, ◌<◌, ◌≤◌, ◌⊎◌, ⊤, nat_lt, if◌then◌else◌, Bool, Option, Some, None, IsTrue, slice_get}
+use Rattle.std.specs.Prelude.{◌≡◌, ℕ, ◌+◌, ◌*◌, ◌/◌, ◌^◌, ◌<◌, ◌≤◌, ◌⊎◌, ⊤, nat_lt, if◌then◌else◌, Bool, false, Option, Some, None, List, [], ◌∷◌, IsTrue, length, slice_get}
 use Rattle.lxr_layout.specs.declared.TheConstants.{GRANULES_IN_BLOCK, REMEMBERED_CURSOR, WORDS_IN_BLOCK, WORDS_IN_LINE}
 use Rattle.lxr_layout.specs.declared.limits.Limits.{Limits}
 use Rattle.lxr_layout.specs.declared.Name.{Name}
@@ -13,7 +13,8 @@ use Rattle.lxr_image.specs.Tables.{Tables, changed}
 use Rattle.lxr_image.specs.Reads.{granule_of}
 use Rattle.lxr_image.specs.Spaces.{AreWithin}
 use Rattle.lxr_blocks.specs.States.{state_in}
-use Rattle.lxr_model.specs.Moments.{Moment, Trace}
+use Rattle.lxr_model.specs.Moments.{Field, Moment, Trace}
+use Rattle.lxr_model_counting.specs.Distinct.{has_field}
 use Rattle.lxr_invariant.specs.Lines.{NoneChosen, is_chosen}
 use Rattle.lxr_invariant.specs.Standing.{place_of, word_of_field}
 use Rattle.lxr_invariant.specs.Tracing.{HasOverflowed, IsEntryWord, IsInChosen, IsRemembered}
@@ -103,6 +104,32 @@ pub record Remembers (l : Limits) (t u : Tables) (m : Moment) (at now : Name →
   pub full : HasOverflowed l t → HasOverflowed l u
   pub entries : AreEntries l t → AreEntries l u
   pub idle : NoneChosen t l.blocks → (u.remembered ≡ t.remembered) × (u.cursors REMEMBERED_CURSOR ≡ t.cursors REMEMBERED_CURSOR)
+
+-- ---- how many references are remembered
+
+-- a reference of an object leads into a Chosen block
+pub record LeadsIntoChosen (t : Tables) (m : Moment) (at : Name → ℕ) (n : Name) (i : ℕ) : Type 0 where
+  pub held : Name
+  pub holds : slice_get (refs_of (object_at m.state.graph n)) i ≡ Some (Some held)
+  pub chosen : IsInChosen t at held
+
+-- where the set has room for a number, it has the entry of this reference there
+abbrev pub HasEntryAtNumber : Limits → Tables → (Name → ℕ) → ℕ → Field → Type 0
+HasEntryAtNumber l t now k field = k < l.remember → t.remembered k ≡ word_of_entry (t.reuse (word_of_field now field.0 field.1 / WORDS_IN_LINE)) (place_of now field.0) field.1
+
+-- The numbers from one on were drawn for these references, the newest first: each is one of those that are meant and leads into a Chosen block, none
+-- stands here twice, and each has its entry.
+abbrev pub AreEntered : Limits → Tables → Moment → (Name → ℕ) → (Name → ℕ → Type 0) → ℕ → List Field → Type 0
+AreEntered l t m now IsOne from [] = ⊤
+AreEntered l t m now IsOne from (field ∷ fields) = IsOne field.0 field.1 × LeadsIntoChosen t m now field.0 field.1 × (has_field fields field ≡ false)
+    × HasEntryAtNumber l t now (from + length fields) field × AreEntered l t m now IsOne from fields
+
+-- Since other tables one number was drawn for each of some of these references, which lead into Chosen blocks, for none of them twice, and
+-- no other number.
+pub record EntersOnce (l : Limits) (t u : Tables) (m : Moment) (now : Name → ℕ) (IsOne : Name → ℕ → Type 0) : Type 0 where
+  pub entered : List Field
+  pub are : AreEntered l u m now IsOne (t.cursors REMEMBERED_CURSOR) entered
+  pub drawn : u.cursors REMEMBERED_CURSOR ≡ t.cursors REMEMBERED_CURSOR + length entered
 
 -- Each reference of an unreclaimed object that leads into a Chosen block is remembered, or the set has overflowed; each entry is one of a
 -- reference.
