@@ -4,7 +4,7 @@ use Rattle.std.specs.Prelude.{Some, None, is_some, option_map, slice_get}
 use Rattle.std.proofs.lemmas.List.{append-nil}
 use Rattle.std.proofs.lemmas.Option.{none-some}
 use Rattle.lxr_layout.specs.declared.limits.Limits.{Limits}
-use Rattle.lxr_layout.specs.Spaces.{AreLimits, all_regions, region_begin}
+use Rattle.lxr_layout.specs.Spaces.{AreLimits, region_begin}
 use Rattle.lxr_actor.specs.declared.Core.{Core}
 use Rattle.lxr_actor.specs.Run.{core_of, run}
 use Rattle.lxr_actor.proofs.Runs.{run-keeps}
@@ -93,7 +93,7 @@ in_order : (j : Job) (actors : List AnyActor) → All (IsFor j) actors → AreIn
 in_order job.Die actors all = let (ds, is) = decrementers_alone actors all in subst AreInOrder (append-nil (map any.Decrementer ds) ∙ sym is) (are_in_order [] ds [])
 in_order job.Trace actors all = let (ts, is) = tracers_alone actors all in subst AreInOrder (sym is) (are_in_order [] [] ts)
 
-pub are_helpers : (j : Job) (words : List ℕ) (actors : List AnyActor) → length words ≡ region_begin LIMITS all_regions → All (IsFor j) actors → AreHelpers LIMITS (core_of words actors)
+pub are_helpers : (j : Job) (words : List ℕ) (actors : List AnyActor) → length words ≡ region_begin LIMITS 15 → All (IsFor j) actors → AreHelpers LIMITS (core_of words actors)
 are_helpers j words actors many all = record { words = many; each = all_to (IsFor j) (IsHelperOf LIMITS) actors (λ a is. helper_for j a is) all; order = in_order j actors all }
 
 -- ---- any schedule

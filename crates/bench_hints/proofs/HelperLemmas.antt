@@ -6,7 +6,7 @@ use Rattle.std.proofs.lemmas.List.Elements.{All-set}
 use Rattle.lxr_layout.specs.declared.Place.{Place}
 use Rattle.lxr_layout.specs.declared.limits.Limits.{Limits}
 use Rattle.lxr_layout.specs.declared.limits.Regions.{Regions}
-use Rattle.lxr_layout.specs.Spaces.{all_regions, region_begin, regions_of}
+use Rattle.lxr_layout.specs.Spaces.{region_begin, regions_of}
 use Rattle.lxr_base.specs.Roomy.{pushed}
 use Rattle.lxr_pocket.specs.Pockets.{has_room}
 use Rattle.lxr_pocket.specs.Words.{is_in_heap}
@@ -43,7 +43,7 @@ word_is : (x act : Action) → Some x ≡ Some act → x.word ≡ act.word
 word_is x act e = let same : x ≡ act = cc in ap (λ (a : Action). a.word) same
 
 -- a step of a decrementer is on a word of its space
-dec_word : (l : Limits) (p : DecrementerPhase) (act : Action) → decrementers.IsIn (regions_of l) p → dec_steps.action_in (regions_of l) p ≡ Some act → act.word < region_begin l all_regions
+dec_word : (l : Limits) (p : DecrementerPhase) (act : Action) → decrementers.IsIn (regions_of l) p → dec_steps.action_in (regions_of l) p ≡ Some act → act.word < region_begin l 15
 dec_word l dec.Resting act is e = absurd (cc)
 dec_word l (dec.AsksCount place) act is e = let w = word_is _ act e in let some = is.0 in let last = is.1 in omega arith
 dec_word l (dec.AsksStart place uncounted) act is e = let w = word_is _ act e in let some = is.0 in let last = is.1 in omega arith
@@ -60,7 +60,7 @@ dec_word l (dec.Draws count) act is e = let w = word_is _ act e in omega arith
 dec_word l (dec.ReadsEntry number) act is e = let w = word_is _ act e in let within = is in omega arith
 
 -- and so is one of a tracer
-tra_word : (l : Limits) (p : TracerPhase) (act : Action) → tracers.IsIn (regions_of l) p → tra_steps.action_in (regions_of l) p ≡ Some act → act.word < region_begin l all_regions
+tra_word : (l : Limits) (p : TracerPhase) (act : Action) → tracers.IsIn (regions_of l) p → tra_steps.action_in (regions_of l) p ≡ Some act → act.word < region_begin l 15
 tra_word l tra.Resting act is e = absurd (cc)
 tra_word l (tra.AsksGray place) act is e = let w = word_is _ act e in let some = is.0 in let last = is.1 in omega arith
 tra_word l (tra.AsksObject place gray) act is e = let w = word_is _ act e in let some = is.0 in let last = is.1 in omega arith
@@ -87,7 +87,7 @@ tra_begun : (t : TracerState) (p : TracerPhase) → (tra_steps.begun_in t p).reg
 tra_begun t tra.Resting = refl
 tra_begun t p = refl
 
-helper_word : (l : Limits) (a : AnyActor) (act : Action) → IsHelperOf l a → any_machine.action a ≡ Some act → act.word < region_begin l all_regions
+helper_word : (l : Limits) (a : AnyActor) (act : Action) → IsHelperOf l a → any_machine.action a ≡ Some act → act.word < region_begin l 15
 helper_word l (any.Mutator m) act is e = absurd is
 helper_word l (any.Decrementer d) act (sound, space) e =
     let begun = dec_stay.begun_stays d d.phase sound in

@@ -2,7 +2,7 @@
 use Rattle.std.specs.Prelude.{◌≡◌, length, true}
 use Rattle.std.specs.List.{All}
 use Rattle.lxr_layout.specs.declared.limits.Limits.{Limits}
-use Rattle.lxr_layout.specs.Spaces.{all_regions, region_begin, regions_of}
+use Rattle.lxr_layout.specs.Spaces.{region_begin, regions_of}
 use Rattle.lxr_actor.specs.declared.Core.{Core}
 use Rattle.lxr_decrement.specs.Decrementers.{IsDecrementer}
 use Rattle.lxr_trace.specs.Tracers.{IsTracer}
@@ -21,7 +21,7 @@ IsHelperOf l (any.Tracer t) = IsTracer t × (t.regions ≡ regions_of l)
 
 -- the words of a space and its helpers, decrementers before tracers
 pub record AreHelpers (l : Limits) (core : Core AnyActor) : Type 0 where
-  pub words : length core.words ≡ region_begin l all_regions
+  pub words : length core.words ≡ region_begin l 15
   pub each : All (IsHelperOf l) core.actors
   pub order : AreInOrder core.actors
 

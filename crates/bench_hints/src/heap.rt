@@ -1,6 +1,6 @@
 //! A heap with one structure that dies, or is to be traced, written word by word.
 ghost use Rattle.std.specs.Prelude.{◌≡◌, IfOk, length};
-ghost use Rattle.lxr_layout.specs.Spaces.{all_regions, region_begin};
+ghost use Rattle.lxr_layout.specs.Spaces.{region_begin};
 
 use lxr_image::Space;
 use lxr_layout::{
@@ -143,7 +143,7 @@ fn write_job(words: &mut PlainWords, tables: &Regions, job: Job)
 
 /// A space whose heap has one structure of so many objects, with the beginning of a job.
 pub fn space_of(alloc: Global, job: Job, form: Form, objects: u32) -> Result<Space, AllocError>
-    ensures { IfOk result (λ space. length space.words ≡ region_begin LIMITS all_regions) }
+    ensures { IfOk result (λ space. length space.words ≡ region_begin LIMITS 15) }
 {
     let mut space = Space::empty(alloc);
     space.open(alloc, LIMITS)?;

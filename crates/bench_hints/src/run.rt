@@ -1,6 +1,6 @@
 //! One run: so many helpers do a job.
 ghost use Rattle.std.specs.Prelude.{◌≡◌, ◌≤◌, All, IfOk, length, vec_len};
-ghost use Rattle.lxr_layout.specs.Spaces.{all_regions, region_begin};
+ghost use Rattle.lxr_layout.specs.Spaces.{region_begin};
 ghost use Rattle.bench_hints.specs.declared.heap.TheConstants.{LIMITS};
 ghost use Rattle.bench_hints.specs.Helpers.{IsFor};
 
@@ -125,7 +125,7 @@ fn do_job<R: AllocGlobal + Clock + Threads + Sync>(
     workers: u8,
     mode: Mode,
 ) -> Result<(Space, u64)>
-    requires space { length space.words ≡ region_begin LIMITS all_regions }
+    requires space { length space.words ≡ region_begin LIMITS 15 }
     requires actors { All (IsFor job) actors.items }
     requires hints { (1 ≤ workers) × (vec_len hints ≡ workers) }
 {

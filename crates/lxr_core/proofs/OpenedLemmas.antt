@@ -5,7 +5,7 @@ use Rattle.std.proofs.Math.ListN.{get_or-map}
 use Rattle.std.proofs.lemmas.List.{get_or-drop, get_or-take, length-drop, length-map, length-take-le}
 use Rattle.std.proofs.lemmas.List.Elements.{All-from_get_or}
 use Rattle.std.proofs.lemmas.Option.{slice_get-get_or, slice_get_past, slice_get_within}
-use Rattle.lxr_layout.specs.declared.TheConstants.{PAUSE_WORD}
+use Rattle.lxr_layout.specs.declared.TheConstants.{MOST_BLOCKS, MOST_GRANULES, PAUSE_WORD}
 use Rattle.lxr_layout.specs.declared.Name.{Name}
 use Rattle.lxr_layout.specs.declared.Place.{Place}
 use Rattle.lxr_layout.specs.declared.limits.Limits.{Limits}
@@ -73,7 +73,7 @@ place_at : (at : Name → ℕ) (places : List Place) (held : List (Option Name))
 place_at at places held k are = sym (get_or-map (λ p. p.0) places k nil) ∙ (ap (λ z. slice_index_or z k 0) are ∙ get_or-map (place_word at) held k None)
 
 -- no place lies behind the largest heap
-in_heap : (t : Tables) (blocks : ℕ) (at : Name → ℕ) (m : Moment) (v : Option Name) → IsImage t blocks at m.state.graph (members m) → blocks ≤ 1024 → model.IsHeld m v → place_word at v ≤ 2 ^ 21
+in_heap : (t : Tables) (blocks : ℕ) (at : Name → ℕ) (m : Moment) (v : Option Name) → IsImage t blocks at m.state.graph (members m) → blocks ≤ MOST_BLOCKS → model.IsHeld m v → place_word at v ≤ MOST_GRANULES
 in_heap t blocks at m None image few held = omega arith
 in_heap t blocks at m (Some n) image few held =
     let a = image.stands n held in
@@ -82,12 +82,12 @@ in_heap t blocks at m (Some n) image few held =
     omega (arith, low, some, few, words)
 
 -- so all registers hold places
-all_held : (t : Tables) (blocks : ℕ) (at : Name → ℕ) (m : Moment) (places : List Place) → FollowsPause m → IsImage t blocks at m.state.graph (members m) → blocks ≤ 1024 → ArePlacesOf at places m.state.registers
+all_held : (t : Tables) (blocks : ℕ) (at : Name → ℕ) (m : Moment) (places : List Place) → FollowsPause m → IsImage t blocks at m.state.graph (members m) → blocks ≤ MOST_BLOCKS → ArePlacesOf at places m.state.registers
     → All IsHeld places
 all_held t blocks at m places follows image few are = All-from_get_or IsHeld places nil (λ k h.
     let same : 16 * (k / 16 + 1 - 1) + k % 16 ≡ k = omega arith in
     let held = subst (λ z. model.IsHeld m (slice_index_or m.state.registers z None)) same (in_register m (k / 16 + 1) (k % 16) follows) in
-    subst (λ z. z ≤ 2 ^ 21) (sym (place_at at places m.state.registers k are)) (in_heap t blocks at m (slice_index_or m.state.registers k None) image few held))
+    subst (λ z. z ≤ MOST_GRANULES) (sym (place_at at places m.state.registers k are)) (in_heap t blocks at m (slice_index_or m.state.registers k None) image few held))
 
 -- each thread has sixteen
 sixteen_of : (places : List Place) (threads i : ℕ) → length places ≡ 16 * threads → i < threads → length (registers_in places i) ≡ 16

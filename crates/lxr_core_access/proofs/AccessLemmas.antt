@@ -1,5 +1,5 @@
 -- Each access's action does the access: a lemma for each access, and all of them as one.
-use Rattle.std.proofs.Common.{◌≡◌, ◌≢◌, ℕ, ◌+◌, ◌-◌, ◌*◌, ◌/◌, ◌%◌, ◌^◌, ◌<◌, refl, sym, ap, subst, ◌∙◌, inl, inr, cond, arith, lit<, true, false, List, [], length, length-set, nat_eq}
+use Rattle.std.proofs.Common.{◌≡◌, ◌≢◌, ℕ, ◌+◌, ◌-◌, ◌*◌, ◌/◌, ◌%◌, ◌^◌, ◌<◌, ◌≤◌, refl, sym, ap, subst, ◌∙◌, inl, inr, cond, arith, lit<, true, false, List, [], length, length-set, nat_eq}
 use Rattle.std.specs.Prelude.{◌==◌, slice_index, slice_index_or, slice_set}
 use Rattle.std.specs.Int.Bits.{bit_and, bit_or}
 use Rattle.std.proofs.Math.Nat.{mod-eq_of_lt}
@@ -10,7 +10,7 @@ use Rattle.std.proofs.lemmas.List.{get_or-set_other, get_or-set_same, set-get_or
 use Rattle.lxr_layout.specs.declared.TheConstants.{GRANULES_IN_BLOCK, STUCK, WORDS_IN_BLOCK}
 use Rattle.lxr_layout.specs.declared.limits.Limits.{Limits}
 use Rattle.lxr_layout.specs.declared.limits.Regions.{Regions}
-use Rattle.lxr_layout.specs.Spaces.{AreLimits, all_regions, counts_region, cursors_region, decs_region, dones_region, frees_region, grays_region, marks_region, outs_region, region_begin, region_sizes, remembered_region, reuse_region, runs_region, starts_region, states_region, unlogged_region}
+use Rattle.lxr_layout.specs.Spaces.{AreLimits, all_regions, region_begin, region_sizes, regions_of}
 use Rattle.lxr_tables.specs.Entries.{all_but, is_set, table}
 use Rattle.lxr_tables.proofs.EntryLemmas.{entry_read}
 use Rattle.lxr_image.specs.Tables.{bits_in, changed, cut, tables_from, tables_in, words_in}
@@ -87,24 +87,7 @@ module _ (l : Limits) (ws : List ℕ) (size : length ws ≡ region_begin l all_r
 
 -- the regions that are computed for limits are those of the limits
 pub regions_are : (l : Limits) (r : Regions)
-    → r ≡ record {
-      heap = 0;
-      counts = region_begin l counts_region;
-      starts = region_begin l starts_region;
-      marks = region_begin l marks_region;
-      grays = region_begin l grays_region;
-      dones = region_begin l dones_region;
-      unlogged = region_begin l unlogged_region;
-      reuse = region_begin l reuse_region;
-      outs = region_begin l outs_region;
-      states = region_begin l states_region;
-      runs = region_begin l runs_region;
-      frees = region_begin l frees_region;
-      decs = region_begin l decs_region;
-      remembered = region_begin l remembered_region;
-      cursors = region_begin l cursors_region;
-      total = region_begin l all_regions;
-    }
+    → r ≡ regions_of l
     → AreRegions l r
 regions_are l r is = record {
   heap = ap (λ x. x.heap) is;

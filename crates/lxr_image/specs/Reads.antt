@@ -32,6 +32,11 @@ datum_in t p i None = None
 abbrev pub datum_at : Tables → ℕ → ℕ → Option ℕ
 datum_at t p i = datum_in t p i (header_at t p)
 
+-- how many references a header tells: none where the object was moved
+abbrev pub slots_of : Header → ℕ
+slots_of (Object n s) = s.refs
+slots_of (Moved q) = 0
+
 -- a name that a header can say
 pub record IsName (n : Name) : Type 0 where
   pub thread : n.thread < 2 ^ 8

@@ -2,7 +2,7 @@
 -- one that is done as handled.
 use Rattle.std.specs.Prelude.{◌≡◌, ℕ, ◌+◌, ◌*◌, ◌/◌, ◌^◌, ◌<◌, ◌≤◌, ◌⊎◌, ◌&&◌, ⊤, not, Bool, false, Option, Some, None, List, IsTrue, filter, slice_get}
 use Rattle.lxr_invariant.specs.Standing.{word_of_field}
-use Rattle.lxr_layout.specs.declared.TheConstants.{GRANULES_IN_BLOCK, REMEMBERED_CURSOR, WORDS_IN_BLOCK, WORDS_IN_LINE}
+use Rattle.lxr_layout.specs.declared.TheConstants.{GRANULES_IN_BLOCK, MOST_BLOCKS_REMEMBERED, MOST_WORDS, REMEMBERED_CURSOR, WORDS_IN_BLOCK, WORDS_IN_LINE}
 use Rattle.lxr_layout.specs.declared.limits.Limits.{Limits}
 use Rattle.lxr_layout.specs.declared.Name.{Name}
 use Rattle.lxr_layout.specs.declared.LogEntry.{LogEntry}
@@ -105,9 +105,10 @@ abbrev pub IsRemembered : Limits → Tables → (Name → ℕ) → Name → ℕ 
 IsRemembered l t at n i = (k : ℕ) × (k < t.cursors REMEMBERED_CURSOR) × (k < l.remember)
     × (t.remembered k ≡ word_of_entry (t.reuse (word_of_field at n i / WORDS_IN_LINE)) (record { 0 = at n }) i)
 
--- an entry of the remembered set is that of a field, whose word is one of the heap
+-- an entry of the remembered set is that of a field, whose word is one of the heap; entries have room for the places of this heap
 pub record IsEntryWord (l : Limits) (word : ℕ) (c : ℕ) (p : Place) (i : ℕ) : Type 0 where
   pub is : word ≡ word_of_entry c p i
+  pub small : l.blocks ≤ MOST_BLOCKS_REMEMBERED
   pub entry : IsEntry c p i
   pub in_heap : first_word p.0 + 1 + i < WORDS_IN_BLOCK * l.blocks
 
@@ -147,7 +148,7 @@ pub record TraceHolds (l : Limits) (t : Tables) (entries : List LogEntry) (g : A
   pub inside : MarksStayInside t g.moment g.at trace
   pub handled : HandledAreGray t g.moment g.at
   pub remembered : IsRememberedSoFar l t g.moment g.at trace snapshot
-  pub few : rememberable trace snapshot ≤ 2 ^ 23 * (g.moment.number + 1)
+  pub few : rememberable trace snapshot ≤ 2 * MOST_WORDS * (g.moment.number + 1)
 
 -- nothing is asked where none runs
 abbrev pub IsTracedBy : Limits → Tables → List LogEntry → AbstractState → Option Trace → Type 0

@@ -1,5 +1,5 @@
 -- The words of the run table and of the remembered set.
-use Rattle.std.specs.Prelude.{ℕ, ◌+◌, ◌*◌, ◌^◌, ◌<◌, ◌≤◌}
+use Rattle.std.specs.Prelude.{ℕ, ◌+◌, ◌*◌, ◌%◌, ◌^◌, ◌<◌, ◌≤◌}
 use Rattle.lxr_layout.specs.declared.runs.Run.{Run}
 use Rattle.lxr_layout.specs.declared.Place.{Place}
 use Rattle.lxr_layout.specs.declared.TheConstants.{MOST_BLOCKS, MOST_GRANULES_REMEMBERED}
@@ -24,6 +24,6 @@ pub record IsEntry (c : ℕ) (p : Place) (i : ℕ) : Type 0 where
   pub place : IsRememberedPlace p
   pub index : i ≤ 1022
 
--- index in bits 0 to 9, place in bits 10 to 31, reuse counter above
+-- index in bits 0 to 9, the low 22 bits of the place in bits 10 to 31, reuse counter above
 abbrev pub word_of_entry : ℕ → Place → ℕ → ℕ
-word_of_entry counter p index = index + p.0 * 2 ^ 10 + counter * 2 ^ 32
+word_of_entry counter p index = index + p.0 % 2 ^ 22 * 2 ^ 10 + counter * 2 ^ 32

@@ -40,6 +40,9 @@ pub const MOST_BLOCKS: u32 = 65_536;
 /// The granules of the largest heap, and so the greatest place.
 pub const MOST_GRANULES: u32 = MOST_BLOCKS * GRANULES_IN_BLOCK;
 
+/// The words of the largest heap.
+pub const MOST_WORDS: u32 = MOST_BLOCKS * WORDS_IN_BLOCK;
+
 /// The most blocks of a heap in which blocks are chosen for evacuation, since a remembered entry has 22 bits for a place.
 pub const MOST_BLOCKS_REMEMBERED: u32 = 1024;
 

@@ -4,7 +4,7 @@ use Rattle.std.specs.Prelude.{Some}
 use Rattle.std.specs.List.{Contains}
 use Rattle.std.proofs.lemmas.Bool.Decides.{leb_tells}
 use Rattle.std.proofs.lemmas.List.Elements.{Contains-append_left, Contains-push, Contains-push_cases}
-use Rattle.lxr_layout.specs.declared.TheConstants.{REMEMBERED_CURSOR}
+use Rattle.lxr_layout.specs.declared.TheConstants.{MOST_GRANULES_REMEMBERED, REMEMBERED_CURSOR}
 use Rattle.lxr_layout.specs.declared.limits.Limits.{Limits}
 use Rattle.lxr_layout.specs.declared.Place.{Place}
 use Rattle.lxr_layout.specs.Runs.{word_of_entry}
@@ -45,7 +45,7 @@ not_before (q ∷ ps) p once h = elim (first_or_later q ps p h) [
 -- ---- entries
 
 -- an entry tells its reference
-same_reference : (c d p q i j : ℕ) → p ≤ 2 ^ 21 → q ≤ 2 ^ 21 → i ≤ 1022 → j ≤ 1022 → word_of_entry c (record { 0 = p }) i ≡ word_of_entry d (record { 0 = q }) j → (p ≡ q) × (i ≡ j)
+same_reference : (c d p q i j : ℕ) → p ≤ MOST_GRANULES_REMEMBERED → q ≤ MOST_GRANULES_REMEMBERED → i ≤ 1022 → j ≤ 1022 → word_of_entry c (record { 0 = p }) i ≡ word_of_entry d (record { 0 = q }) j → (p ≡ q) × (i ≡ j)
 same_reference c d p q i j in_p in_q in_i in_j e =
     let counter : c ≡ d = omega (arith, in_p, in_q, in_i, in_j, e) in
     let place : p ≡ q = omega (arith, in_i, in_j, e, counter) in
@@ -116,7 +116,7 @@ module _ (l : Limits) (t0 t : Tables) (IsLater : ℕ → ℕ → Type 0) (drawn 
   -- ---- one reference is passed
 
   module _ (p i held : ℕ) (IsThen : ℕ → ℕ → Type 0) (waits : IsWaiting t0 t p) (placed : 1 ≤ held) (holds : field_at t0 p i ≡ Some held) (was : IsLater p i) (passed : ¬ IsThen p i)
-      (fewer : (q j : ℕ) → IsThen q j → IsLater q j) (small : (q j r : ℕ) → IsLeft t0 q → field_at t0 q j ≡ Some r → (q ≤ 2 ^ 21) × (j ≤ 1022)) where
+      (fewer : (q j : ℕ) → IsThen q j → IsLater q j) (small : IsTrue (is_in_chosen t (record { 0 = held })) → (q j r : ℕ) → IsLeft t0 q → field_at t0 q j ≡ Some r → (q ≤ MOST_GRANULES_REMEMBERED) × (j ≤ 1022)) where
     abbrev place : Place
     place = record { 0 = p }
 
@@ -141,10 +141,10 @@ module _ (l : Limits) (t0 t : Tables) (IsLater : ℕ → ℕ → Type 0) (drawn 
     }
 
     -- and is none of those before
-    differs : (j : ℕ) → j < t.cursors REMEMBERED_CURSOR → HasEntryAt t0 t IsLater j → t.cursors REMEMBERED_CURSOR < l.remember → u.remembered j ≢ u.remembered (t.cursors REMEMBERED_CURSOR)
-    differs j below e room same =
-        let in_e = small e.place e.index e.held e.scanned.left e.holds in
-        let in_p = small p i held waits.left holds in
+    differs : IsTrue (is_in_chosen t (record { 0 = held })) → (j : ℕ) → j < t.cursors REMEMBERED_CURSOR → HasEntryAt t0 t IsLater j → t.cursors REMEMBERED_CURSOR < l.remember → u.remembered j ≢ u.remembered (t.cursors REMEMBERED_CURSOR)
+    differs chosen j below e room same =
+        let in_e = small chosen e.place e.index e.held e.scanned.left e.holds in
+        let in_p = small chosen p i held waits.left holds in
         let words = sym e.entry ∙ sym (old_entry l t place i j below) ∙ same ∙ new_entry l t place i room in
         let is = same_reference _ _ e.place p e.index i in_e.0 in_p.0 in_e.1 in_p.1 words in
         e.passed (subst (λ x. IsLater x e.index) (sym is.0) (subst (IsLater p) (sym is.1) was))
@@ -165,7 +165,7 @@ module _ (l : Limits) (t0 t : Tables) (IsLater : ℕ → ℕ → Type 0) (drawn 
             let here : k ≡ t.cursors REMEMBERED_CURSOR = let past = after.1 in omega (arith, past, below) in
             let in_j : j < t.cursors REMEMBERED_CURSOR = omega (arith, less, here) in
             let in_room : t.cursors REMEMBERED_CURSOR < l.remember = subst (λ x. x < l.remember) here room in
-            differs j in_j (drawn.only j from in_j (omega (arith, less, room))) in_room (same ∙ ap u.remembered here)
+            differs chosen j in_j (drawn.only j from in_j (omega (arith, less, room))) in_room (same ∙ ap u.remembered here)
       ];
       entered = (p, i) ∷ drawn.entered;
       are = (

@@ -48,6 +48,7 @@ opening_stage s m at may = record {
   space = can.holds.space;
   traceable = traceable s m at can;
   far = counts_far (tables_of s) s.limits.blocks m.trace can.holds.blocks.chosen may.remembers;
+  few_chosen = can.holds.blocks.few;
   so_far = record {
     marks_kept = λ k h. h;
     marks_left = λ p some h. inl h;

@@ -6,13 +6,14 @@ use Rattle.lxr_layout.specs.declared.limits.Limits.{Limits}
 use Rattle.lxr_layout.specs.declared.Place.{Place}
 use Rattle.lxr_layout.specs.declared.Header.{Header}
 use Rattle.lxr_layout.specs.declared.Header.TheVariants.{Object, Moved}
+use Rattle.lxr_layout.specs.Spaces.{most_chosen}
 use Rattle.lxr_base.specs.Roomy.{pushed}
 use Rattle.lxr_image.specs.declared.space.Space.{Space}
 use Rattle.lxr_image.specs.Spaces.{IsSpace, tables_of}
 use Rattle.lxr_image.specs.Tables.{Tables, changed}
 use Rattle.lxr_image.specs.Reads.{StartsStandWhole, field_at, granule_of, header_at}
 use Rattle.lxr_invariant.specs.Counting.{passing}
-use Rattle.lxr_invariant.specs.Lines.{NoneChosen}
+use Rattle.lxr_invariant.specs.Lines.{NoneChosen, chosen_count}
 use Rattle.lxr_invariant.specs.Tracing.{HasOverflowed}
 use Rattle.lxr_remset.specs.Remembering.{AreEntries, entry_now, is_in_chosen, with_remembered_of}
 
@@ -167,6 +168,7 @@ pub record MarkingStage (before s : Space) (end : ℕ) (pending : ℕ → ℕ �
   pub space : IsSpace s
   pub traceable : IsTraceable (tables_of before) before.limits.blocks
   pub far : CountsFar (tables_of before) before.limits.blocks
+  pub few_chosen : chosen_count (tables_of before) before.limits.blocks ≤ most_chosen before.limits.blocks
   pub so_far : IsMarkedSoFar (tables_of before) (tables_of s)
   pub ended : (k : ℕ) → k < end → IsTrue ((tables_of s).grays k) → IsTrue ((tables_of s).marks k)
   pub waiting : (p : Place) → Contains s.work.items p → IsWaiting (tables_of before) (tables_of s) p.0

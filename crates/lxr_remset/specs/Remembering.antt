@@ -1,12 +1,12 @@
 -- What changes where a reference is remembered.
 use Rattle.std.specs.Prelude.{◌≡◌, ℕ, ◌+◌, ◌*◌, ◌/◌, ◌^◌, ◌<◌, ◌≤◌, ◌⊎◌, ⊤, nat_lt, if◌then◌else◌, Bool, false, Option, Some, None, List, [], ◌∷◌, IsTrue, length, slice_get}
-use Rattle.lxr_layout.specs.declared.TheConstants.{GRANULES_IN_BLOCK, REMEMBERED_CURSOR, WORDS_IN_BLOCK, WORDS_IN_LINE}
+use Rattle.lxr_layout.specs.declared.TheConstants.{GRANULES_IN_BLOCK, MOST_BLOCKS_REMEMBERED, REMEMBERED_CURSOR, WORDS_IN_BLOCK, WORDS_IN_LINE}
 use Rattle.lxr_layout.specs.declared.limits.Limits.{Limits}
 use Rattle.lxr_layout.specs.declared.Name.{Name}
 use Rattle.lxr_layout.specs.declared.Place.{Place}
 use Rattle.lxr_layout.specs.Places.{field_word}
 use Rattle.lxr_layout.specs.Runs.{word_of_entry}
-use Rattle.lxr_layout.specs.Spaces.{AreLimits}
+use Rattle.lxr_layout.specs.Spaces.{AreLimits, most_chosen}
 use Rattle.lxr_graph.specs.Names.{has}
 use Rattle.lxr_graph.specs.State.{object_at, refs_of}
 use Rattle.lxr_image.specs.Tables.{Tables, changed}
@@ -15,7 +15,7 @@ use Rattle.lxr_image.specs.Spaces.{AreWithin}
 use Rattle.lxr_blocks.specs.States.{state_in}
 use Rattle.lxr_model.specs.Moments.{Field, Moment, Trace}
 use Rattle.lxr_model_counting.specs.Distinct.{has_field}
-use Rattle.lxr_invariant.specs.Lines.{NoneChosen, is_chosen}
+use Rattle.lxr_invariant.specs.Lines.{NoneChosen, chosen_count, is_chosen}
 use Rattle.lxr_invariant.specs.Standing.{place_of, word_of_field}
 use Rattle.lxr_invariant.specs.Tracing.{HasOverflowed, IsEntryWord, IsInChosen, IsRemembered}
 use Rattle.lxr_remset.specs.declared.remembering.Remembered.{Remembered}
@@ -66,9 +66,9 @@ pub record KeepsSet (l : Limits) (t u : Tables) (at : Name → ℕ) (n : Name) (
   pub full : HasOverflowed l t → HasOverflowed l u
   pub entries : AreEntries l t → AreEntries l u
 
--- so it is with each reference of an object
+-- so it is with each reference of an object, in a heap whose places entries have room for
 abbrev pub RememberingKeepsSet : Type 0
-RememberingKeepsSet = (l : Limits) (t : Tables) (at : Name → ℕ) (n : Name) (i : ℕ) → AreLimits l → AreWithin t → IsField l (place_of at n) i
+RememberingKeepsSet = (l : Limits) (t : Tables) (at : Name → ℕ) (n : Name) (i : ℕ) → AreLimits l → AreWithin t → l.blocks ≤ MOST_BLOCKS_REMEMBERED → IsField l (place_of at n) i
     → KeepsSet l t (remembering l t (place_of at n) i) at n i
 
 -- ---- what a step of a pause does that remembers references
@@ -140,6 +140,6 @@ pub record RemembersChosen (l : Limits) (t : Tables) (m : Moment) (at : Name →
 
 -- what is done so to a reference of an object that holds another
 abbrev pub ChosenAreRemembered : Type 0
-ChosenAreRemembered = (l : Limits) (t : Tables) (m : Moment) (at : Name → ℕ) (n v : Name) (i : ℕ) → AreLimits l → AreWithin t → IsField l (place_of at n) i
-    → granule_of (at v) < GRANULES_IN_BLOCK * l.blocks → slice_get (refs_of (object_at m.state.graph n)) i ≡ Some (Some v)
+ChosenAreRemembered = (l : Limits) (t : Tables) (m : Moment) (at : Name → ℕ) (n v : Name) (i : ℕ) → AreLimits l → AreWithin t
+    → chosen_count t l.blocks ≤ most_chosen l.blocks → IsField l (place_of at n) i → granule_of (at v) < GRANULES_IN_BLOCK * l.blocks → slice_get (refs_of (object_at m.state.graph n)) i ≡ Some (Some v)
     → Remembers l t (remembering_chosen l t (place_of at n) i (place_of at v)) m at at (λ o j. (o ≡ n) × (j ≡ i))

@@ -5,6 +5,7 @@ use Rattle.std.specs.Prelude.{Some, None, IsTrue}
 use Rattle.lxr_layout.specs.declared.Name.{Name}
 use Rattle.lxr_layout.specs.declared.Shape.{Shape}
 use Rattle.lxr_layout.specs.Objects.{FitsShape, line_count}
+use Rattle.lxr_layout.specs.Spaces.{most_chosen}
 use Rattle.lxr_graph.specs.Names.{IsSetOf, has, union, without}
 use Rattle.lxr_graph.specs.State.{world_name}
 use Rattle.lxr_graph.specs.declared.Op.TheVariants as op
@@ -72,17 +73,17 @@ pub is_waited_for : (options : Options) (script : Script) (h : List Item) (s : S
     → IsQuiescent s g → g.moment ≡ moment (length script) h → s.limits.blocks ≡ options.blocks → FitsShape shape → IsFull s shape → IsWaitedFor (script_terms options script) h (Call t (op.New dest shape) r)
 is_waited_for options script h s g t dest shape r legal between is blocks fits full =
     let world : HasWorld (moment (length script) h).state.graph = world_keeps_shape (script_terms options script) h legal in
-    let taken : LeaveNoRun g.moment.state.graph (without (union g.moment.made g.moment.unreclaimed) (world_name ∷ [])) (s.limits.blocks - s.limits.blocks / 8) (line_count shape) =
+    let taken : LeaveNoRun g.moment.state.graph (without (union g.moment.made g.moment.unreclaimed) (world_name ∷ [])) (s.limits.blocks - most_chosen s.limits.blocks) (line_count shape) =
     waiting_may_collect s g shape between (subst (λ (m : Moment). HasWorld m.state.graph) (sym is) world) fits full in
-    subst (λ (m : Moment). LeaveNoRun m.state.graph (without (union m.made m.unreclaimed) (world_name ∷ [])) (options.blocks - options.blocks / 8) (line_count shape)) is
-    (subst (λ b. LeaveNoRun g.moment.state.graph (without (union g.moment.made g.moment.unreclaimed) (world_name ∷ [])) (b - b / 8) (line_count shape)) blocks taken)
+    subst (λ (m : Moment). LeaveNoRun m.state.graph (without (union m.made m.unreclaimed) (world_name ∷ [])) (options.blocks - most_chosen options.blocks) (line_count shape)) is
+    (subst (λ b. LeaveNoRun g.moment.state.graph (without (union g.moment.made g.moment.unreclaimed) (world_name ∷ [])) (b - most_chosen b) (line_count shape)) blocks taken)
 
 -- and one that finds none is a cause of a pause
 pub room_cause : (options : Options) (script : Script) (h : List Item) (s : Space) (g : AbstractState) (t dest : ℕ) (shape : Shape) → 1 ≤ t → t ≤ length script
     → next_operation script t h ≡ Some (op.New dest shape) → IsQuiescent s g → g.moment ≡ moment (length script) h → s.limits.blocks ≡ options.blocks → FitsShape shape → IsFull s shape
     → HasCause (script_terms options script) script h
 room_cause options script h s g t dest shape low high next between is blocks fits full =
-    let taken : s.limits.blocks - s.limits.blocks / 8 ≤ length g.moment.unreclaimed + length g.moment.made = roomless_blocks_are_taken s g shape between fits full in
-    let here : s.limits.blocks - s.limits.blocks / 8 ≤ length (moment (length script) h).unreclaimed + length (moment (length script) h).made =
-    subst (λ (m : Moment). s.limits.blocks - s.limits.blocks / 8 ≤ length m.unreclaimed + length m.made) is taken in
-    inr (t, low, high, inr (inr (inl (subst (λ x. IsTrue (is_new x)) (sym next) refl, subst (λ b. b - b / 8 ≤ length (moment (length script) h).unreclaimed + length (moment (length script) h).made) blocks here))))
+    let taken : s.limits.blocks - most_chosen s.limits.blocks ≤ length g.moment.unreclaimed + length g.moment.made = roomless_blocks_are_taken s g shape between fits full in
+    let here : s.limits.blocks - most_chosen s.limits.blocks ≤ length (moment (length script) h).unreclaimed + length (moment (length script) h).made =
+    subst (λ (m : Moment). s.limits.blocks - most_chosen s.limits.blocks ≤ length m.unreclaimed + length m.made) is taken in
+    inr (t, low, high, inr (inr (inl (subst (λ x. IsTrue (is_new x)) (sym next) refl, subst (λ b. b - most_chosen b ≤ length (moment (length script) h).unreclaimed + length (moment (length script) h).made) blocks here))))

@@ -1,6 +1,6 @@
 use Rattle.std.proofs.Common.{ap, sym, ◌∙◌}
 use Rattle.lxr_layout.specs.declared.limits.Limits.{Limits}
-use Rattle.lxr_layout.specs.Spaces.{all_regions, region_begin}
+use Rattle.lxr_layout.specs.Spaces.{region_begin}
 use Rattle.bench_hints.proofs.CrewLemmas.{limits_are, size_is}
 use Rattle.bench_hints.proofs.heap.space_of.Goals as goal
 
@@ -9,4 +9,4 @@ open-requires-clause-limits c = limits_are
 
 pub loop-number-init : goal.loop-number-init
 loop-number-init c =
-    sym (size_is c.open.new.self.limits c.open.new.self.words) ∙ c.in_ok-open.ensures.space.size ∙ ap (λ (l : Limits). region_begin l all_regions) c.in_ok-open.ensures.opened.limits
+    sym (size_is c.open.new.self.limits c.open.new.self.words) ∙ c.in_ok-open.ensures.space.size ∙ ap (λ (l : Limits). region_begin l 15) c.in_ok-open.ensures.opened.limits
