@@ -1,6 +1,6 @@
 -- Spans of granules from which an allocator takes the front.
 use Rattle.std.specs.Prelude.{ℕ, ◌+◌, ◌-◌, ◌*◌, ◌/◌, ◌<◌, ◌≤◌}
-use Rattle.lxr_layout.specs.declared.TheConstants.{GRANULES_IN_BLOCK, GRANULES_IN_LINE, LINES_IN_BLOCK}
+use Rattle.lxr_layout.specs.declared.TheConstants.{GRANULES_IN_BLOCK, GRANULES_IN_LINE, LINES_IN_BLOCK, MOST_BLOCKS}
 use Rattle.lxr_layout.specs.Objects.{word_count, line_count}
 use Rattle.lxr_layout.specs.declared.Place.{Place}
 use Rattle.lxr_layout.specs.declared.Shape.{Shape}
@@ -37,7 +37,7 @@ IsMedium shape = 1 < line_count shape
 
 -- the lines of a run lie in their block
 abbrev pub IsInBlock : Run → Type 0
-IsInBlock r = (r.block < 1024) × (r.line + r.lines ≤ LINES_IN_BLOCK)
+IsInBlock r = (r.block < MOST_BLOCKS) × (r.line + r.lines ≤ LINES_IN_BLOCK)
 
 -- the granules of a run; a block has 2,048 granules, a line has 16
 abbrev pub run_span : Run → Span

@@ -7,6 +7,7 @@
 #![tactic(auto)]
 
 ghost use Rattle.std.specs.Prelude.{◌≡◌, ◌↔◌, ◌<◌, ◌≤◌, IfNone, IfSome, IsNone, IsTrue, Some};
+ghost use Rattle.lxr_layout.specs.declared.TheConstants.{MOST_BLOCKS};
 ghost use Rattle.lxr_layout.specs.Objects.{FitsShape, line_count};
 ghost use Rattle.lxr_alloc.specs.Spans.{FitsSpan, IsInBlock, IsMedium, block_span, empty_span, front_of, granule_count, rest_of, run_span, taken_from};
 
@@ -99,7 +100,7 @@ impl Spans {
 
     /// The whole block becomes `overflow` for a shape of more than one line, else `current`.
     pub fn take_block(&mut self, block: u32, shape: Shape)
-        requires block { block < 1024 }
+        requires block { block < MOST_BLOCKS }
         requires shape { FitsShape shape }
         ensures medium { IsMedium shape → self.new ≡ record self.old { overflow = block_span block } }
         ensures small { ¬ IsMedium shape → self.new ≡ record self.old { current = block_span block } }

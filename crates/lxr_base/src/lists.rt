@@ -114,6 +114,16 @@ impl<T> Listed<T> {
         self.items.get(at).copied()
     }
 
+    /// The item at an index that there is.
+    pub fn at(&self, index: usize) -> T
+    where
+        T: Copy,
+        requires { index < length self.now.items }
+        ensures { slice_get self.now.items index ≡ Some result }
+    {
+        self.items[index]
+    }
+
     /// Puts an item in place of the one at an index.
     pub fn set(&mut self, at: usize, item: T)
     where

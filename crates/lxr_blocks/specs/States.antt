@@ -20,6 +20,7 @@ state_number World = world_state
 abbrev pub state_of : ℕ → BlockState
 state_of n = if n == 0 then Free else (if n == 1 then Partly else (if n == 2 then Whole else (if n == 3 then Chosen else World)))
 
+-- the state of a block
 abbrev pub state_in : Tables → ℕ → BlockState
 state_in t b = state_of (t.states b)
 

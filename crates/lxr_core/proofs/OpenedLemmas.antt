@@ -5,12 +5,12 @@ use Rattle.std.proofs.Math.ListN.{get_or-map}
 use Rattle.std.proofs.lemmas.List.{get_or-drop, get_or-take, length-drop, length-map, length-take-le}
 use Rattle.std.proofs.lemmas.List.Elements.{All-from_get_or}
 use Rattle.std.proofs.lemmas.Option.{slice_get-get_or, slice_get_past, slice_get_within}
-use Rattle.lxr_layout.specs.declared.TheConstants.{PAUSE_WORD}
+use Rattle.lxr_layout.specs.declared.TheConstants.{MOST_BLOCKS, MOST_GRANULES, PAUSE_WORD}
 use Rattle.lxr_layout.specs.declared.Name.{Name}
 use Rattle.lxr_layout.specs.declared.Place.{Place}
 use Rattle.lxr_layout.specs.declared.limits.Limits.{Limits}
 use Rattle.lxr_layout.specs.Objects.{word_count}
-use Rattle.lxr_layout.specs.Spaces.{region_begin}
+use Rattle.lxr_layout.specs.Spaces.{all_regions, counts_region, region_begin}
 use Rattle.lxr_graph.specs.History.{calls_of, replies_of}
 use Rattle.lxr_graph.specs.State.{State, next_name, shape_of}
 use Rattle.lxr_mutator.specs.Mutating as mutating
@@ -73,7 +73,7 @@ place_at : (at : Name → ℕ) (places : List Place) (held : List (Option Name))
 place_at at places held k are = sym (get_or-map (λ p. p.0) places k nil) ∙ (ap (λ z. slice_index_or z k 0) are ∙ get_or-map (place_word at) held k None)
 
 -- no place lies behind the largest heap
-in_heap : (t : Tables) (blocks : ℕ) (at : Name → ℕ) (m : Moment) (v : Option Name) → IsImage t blocks at m.state.graph (members m) → blocks ≤ 1024 → model.IsHeld m v → place_word at v ≤ 2 ^ 21
+in_heap : (t : Tables) (blocks : ℕ) (at : Name → ℕ) (m : Moment) (v : Option Name) → IsImage t blocks at m.state.graph (members m) → blocks ≤ MOST_BLOCKS → model.IsHeld m v → place_word at v ≤ MOST_GRANULES
 in_heap t blocks at m None image few held = omega arith
 in_heap t blocks at m (Some n) image few held =
     let a = image.stands n held in
@@ -82,12 +82,12 @@ in_heap t blocks at m (Some n) image few held =
     omega (arith, low, some, few, words)
 
 -- so all registers hold places
-all_held : (t : Tables) (blocks : ℕ) (at : Name → ℕ) (m : Moment) (places : List Place) → FollowsPause m → IsImage t blocks at m.state.graph (members m) → blocks ≤ 1024 → ArePlacesOf at places m.state.registers
+all_held : (t : Tables) (blocks : ℕ) (at : Name → ℕ) (m : Moment) (places : List Place) → FollowsPause m → IsImage t blocks at m.state.graph (members m) → blocks ≤ MOST_BLOCKS → ArePlacesOf at places m.state.registers
     → All IsHeld places
 all_held t blocks at m places follows image few are = All-from_get_or IsHeld places nil (λ k h.
     let same : 16 * (k / 16 + 1 - 1) + k % 16 ≡ k = omega arith in
     let held = subst (λ z. model.IsHeld m (slice_index_or m.state.registers z None)) same (in_register m (k / 16 + 1) (k % 16) follows) in
-    subst (λ z. z ≤ 2 ^ 21) (sym (place_at at places m.state.registers k are)) (in_heap t blocks at m (slice_index_or m.state.registers k None) image few held))
+    subst (λ z. z ≤ MOST_GRANULES) (sym (place_at at places m.state.registers k are)) (in_heap t blocks at m (slice_index_or m.state.registers k None) image few held))
 
 -- each thread has sixteen
 sixteen_of : (places : List Place) (threads i : ℕ) → length places ≡ 16 * threads → i < threads → length (registers_in places i) ≡ 16
@@ -290,7 +290,7 @@ filled_tracer l was d of same few each =
     let regions : d.regions ≡ was.regions = ap (λ (x : TracerState). x.regions) same in
     let room : d.pocket.room ≡ was.pocket.room = ap (λ (x : TracerState). x.pocket.room) same in
     let phase : d.phase ≡ trace_phase.Resting = ap (λ (x : TracerState). x.phase) same in
-    let counts : d.regions.counts ≡ region_begin l 1 = ap (λ r. r.counts) (regions ∙ of.regions) in
+    let counts : d.regions.counts ≡ region_begin l counts_region = ap (λ r. r.counts) (regions ∙ of.regions) in
     record {
       sound = record {
         indexes = subst HaveIndexes (sym regions) of.sound.indexes;
@@ -474,7 +474,7 @@ holds b after before now pauses few is opened =
     let limits : after.limits ≡ b.space.limits = ap (λ s. s.limits) opened.space.rest in
     let start = all_start b before now is.begins is.actors_rest opened.actors in
     let epoch = opens b (map thread_state_of (mutators_in now)) (map decrementing_of (decrementers_in now)) (map tracing_of (tracers_in now)) is.begins pauses start (helpers_rest b before now is.begins is.actors_rest opened.actors few) is.served.few is.served.unasked in
-    let size : (tables_in after.limits after.words).size ≡ region_begin b.space.limits 15 = ap (λ t. t.size) opened.space.tables ∙ is.begins.between.safepoint.holds.space.size in (
+    let size : (tables_in after.limits after.words).size ≡ region_begin b.space.limits all_regions = ap (λ t. t.size) opened.space.tables ∙ is.begins.between.safepoint.holds.space.size in (
       [],
       record {
         epoch = subst (IsEpoch b) (epoch_state_opened b after now limits opened.space.tables) epoch;

@@ -10,7 +10,7 @@ use Rattle.std.proofs.lemmas.Option.{slice_get-get_or}
 use Rattle.lxr_layout.specs.declared.TheConstants.{GRANULES_IN_BLOCK}
 use Rattle.lxr_layout.specs.declared.Place.{Place}
 use Rattle.lxr_layout.specs.declared.limits.Limits.{Limits}
-use Rattle.lxr_layout.specs.Spaces.{region_begin, regions_of}
+use Rattle.lxr_layout.specs.Spaces.{counts_region, region_begin, regions_of}
 use Rattle.lxr_image.specs.Tables.{Tables}
 use Rattle.lxr_image.specs.Reads.{granule_of}
 use Rattle.lxr_image_search.specs.declared.Wanted.TheVariants.{ToScan}
@@ -33,7 +33,7 @@ use Rattle.lxr_core.proofs.OrderLemmas.{tracers_of_both}
 -- a granule of the heap has a place that pockets take
 placed : (l : Limits) (d : TracerState) (granule : ℕ) → d.regions ≡ regions_of l → granule < GRANULES_IN_BLOCK * l.blocks → is_in_heap d.regions (granule + 1) ≡ true
 placed l d granule regions within =
-    let counts : d.regions.counts ≡ region_begin l 1 = ap (λ r. r.counts) regions in
+    let counts : d.regions.counts ≡ region_begin l counts_region = ap (λ r. r.counts) regions in
     let last : granule + 1 ≤ d.regions.counts / 2 = omega (arith, counts, within) in
     both (nat_le 1 (granule + 1)) (nat_le (granule + 1) (d.regions.counts / 2)) (le-leb 1 (granule + 1) (omega arith)) (le-leb (granule + 1) (d.regions.counts / 2) last)
   where

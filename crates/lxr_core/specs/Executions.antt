@@ -2,7 +2,7 @@
 -- places.
 use Rattle.std.specs.Prelude.{◌≡◌, ℕ, Option, Some, None, List, [], ◌∷◌, map, length, slice_get}
 use Rattle.lxr_layout.specs.declared.Name.{Name}
-use Rattle.lxr_layout.specs.Spaces.{region_begin}
+use Rattle.lxr_layout.specs.Spaces.{all_regions, region_begin}
 use Rattle.lxr_graph.specs.History.{Item}
 use Rattle.lxr_image.specs.Tables.{tables_in}
 use Rattle.lxr_model.specs.Moments.{Field}
@@ -70,7 +70,7 @@ tell_all b execution (e ∷ es) = tell_all b (tell b execution e) es
 -- The invariant of the epoch holds of an execution, with some references whose bits were cleared.
 pub record IsExecution (b : Beginning) (execution : Execution) (cleared : List Field) : Type 0 where
   pub epoch : IsEpoch b (epoch_state_of b execution cleared)
-  pub size : length execution.core.words ≡ region_begin (limits_of b) 15
+  pub size : length execution.core.words ≡ region_begin (limits_of b) all_regions
   pub order : AreInOrder execution.core.actors
   pub mutators : (i : ℕ) (m : Mutating) → slice_get (mutators_in execution.core.actors) i ≡ Some m → IsMutatorOf (limits_of b) m
   pub decrementers : (i : ℕ) (d : DecrementerState) → slice_get (decrementers_in execution.core.actors) i ≡ Some d → IsDecrementerOf (limits_of b) d

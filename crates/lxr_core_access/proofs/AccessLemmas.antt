@@ -1,5 +1,5 @@
 -- Each access's action does the access: a lemma for each access, and all of them as one.
-use Rattle.std.proofs.Common.{◌≡◌, ◌≢◌, ℕ, ◌+◌, ◌-◌, ◌*◌, ◌/◌, ◌%◌, ◌^◌, ◌<◌, refl, sym, ap, subst, ◌∙◌, inl, inr, cond, arith, lit<, true, false, List, [], length, length-set, nat_eq}
+use Rattle.std.proofs.Common.{◌≡◌, ◌≢◌, ℕ, ◌+◌, ◌-◌, ◌*◌, ◌/◌, ◌%◌, ◌^◌, ◌<◌, ◌≤◌, refl, sym, ap, subst, ◌∙◌, inl, inr, cond, arith, lit<, true, false, List, [], length, length-set, nat_eq}
 use Rattle.std.specs.Prelude.{◌==◌, slice_index, slice_index_or, slice_set}
 use Rattle.std.specs.Int.Bits.{bit_and, bit_or}
 use Rattle.std.proofs.Math.Nat.{mod-eq_of_lt}
@@ -10,7 +10,7 @@ use Rattle.std.proofs.lemmas.List.{get_or-set_other, get_or-set_same, set-get_or
 use Rattle.lxr_layout.specs.declared.TheConstants.{GRANULES_IN_BLOCK, STUCK, WORDS_IN_BLOCK}
 use Rattle.lxr_layout.specs.declared.limits.Limits.{Limits}
 use Rattle.lxr_layout.specs.declared.limits.Regions.{Regions}
-use Rattle.lxr_layout.specs.Spaces.{AreLimits, region_begin, region_sizes}
+use Rattle.lxr_layout.specs.Spaces.{AreLimits, all_regions, region_begin, region_sizes, regions_of}
 use Rattle.lxr_tables.specs.Entries.{all_but, is_set, table}
 use Rattle.lxr_tables.proofs.EntryLemmas.{entry_read}
 use Rattle.lxr_image.specs.Tables.{bits_in, changed, cut, tables_from, tables_in, words_in}
@@ -36,10 +36,10 @@ entry h xs ys k e is within i = elim (eqb_tells i k) as (λ _. h (slice_index ys
 ]
 
 -- a word of a region is one of the words of the space
-below : (l : Limits) (n b o : ℕ) → n < 15 → b ≡ region_begin l n → o < slice_index (region_sizes l) n → b + o < region_begin l 15
+below : (l : Limits) (n b o : ℕ) → n < 15 → b ≡ region_begin l n → o < slice_index (region_sizes l) n → b + o < region_begin l all_regions
 below l n b o known is within = let past = sum_by_more_le (λ x. x) (region_sizes l) n 0 known in omega arith
 
-module _ (l : Limits) (ws : List ℕ) (size : length ws ≡ region_begin l 15) (n b : ℕ) (known : n < 15) (is : b ≡ region_begin l n) where
+module _ (l : Limits) (ws : List ℕ) (size : length ws ≡ region_begin l all_regions) (n b : ℕ) (known : n < 15) (is : b ≡ region_begin l n) where
   -- a word of a region is read
   word_told : (k : ℕ) → k < slice_index (region_sizes l) n → slice_index ws (b + k) ≡ words_in (region l ws n) k
   word_told k within = ap (λ x. slice_index ws (x + k)) is ∙ region_word (region_sizes l) ws n k known within
@@ -87,24 +87,7 @@ module _ (l : Limits) (ws : List ℕ) (size : length ws ≡ region_begin l 15) (
 
 -- the regions that are computed for limits are those of the limits
 pub regions_are : (l : Limits) (r : Regions)
-    → r ≡ record {
-      heap = 0;
-      counts = region_begin l 1;
-      starts = region_begin l 2;
-      marks = region_begin l 3;
-      grays = region_begin l 4;
-      dones = region_begin l 5;
-      unlogged = region_begin l 6;
-      reuse = region_begin l 7;
-      outs = region_begin l 8;
-      states = region_begin l 9;
-      runs = region_begin l 10;
-      frees = region_begin l 11;
-      decs = region_begin l 12;
-      remembered = region_begin l 13;
-      cursors = region_begin l 14;
-      total = region_begin l 15;
-    }
+    → r ≡ regions_of l
     → AreRegions l r
 regions_are l r is = record {
   heap = ap (λ x. x.heap) is;
@@ -125,7 +108,7 @@ regions_are l r is = record {
 }
 
 -- the word of an entry is one of the words of the space
-pub table_entry_below : (l : Limits) (r : Regions) → AreRegions l r → (s : TableEntry) → IsTableEntry l s → table_entry_word r s < region_begin l 15
+pub table_entry_below : (l : Limits) (r : Regions) → AreRegions l r → (s : TableEntry) → IsTableEntry l s → table_entry_word r s < region_begin l all_regions
 table_entry_below l r are (Heap at) h = below l 0 r.heap at (lit< tt) are.heap h
 table_entry_below l r are (Count granule) h = below l 1 r.counts (granule / 32) (lit< tt) are.counts (omega arith)
 table_entry_below l r are (Start granule) h = below l 2 r.starts (granule / 64) (lit< tt) are.starts (omega arith)
@@ -143,7 +126,7 @@ table_entry_below l r are (Remembered at) h = below l 13 r.remembered at (lit< t
 table_entry_below l r are (Cursor number) h = below l 14 r.cursors number (lit< tt) are.cursors h
 
 -- a space has fewer than 2^32 words
-total_fits : (l : Limits) → AreLimits l → region_begin l 15 < 2 ^ 32
+total_fits : (l : Limits) → AreLimits l → region_begin l all_regions < 2 ^ 32
 total_fits l are =
     let decs = mul-le l.threads (l.log + 16) 16 65552 are.threads.1 (omega arith) in
     omega arith
@@ -155,7 +138,7 @@ spot_fits l r limits are s h =
     let fits = total_fits l limits in
     omega arith
 
-module _ (l : Limits) (r : Regions) (ws : List ℕ) (are : AreRegions l r) (size : length ws ≡ region_begin l 15) where
+module _ (l : Limits) (r : Regions) (ws : List ℕ) (are : AreRegions l r) (size : length ws ≡ region_begin l all_regions) where
   -- the word of an entry exists
   pub table_entry_there : (s : TableEntry) → IsTableEntry l s → table_entry_word r s < length ws
   table_entry_there s h = subst (λ x. table_entry_word r s < x) (sym size) (table_entry_below l r are s h)

@@ -6,7 +6,7 @@ use Rattle.lxr_tables.specs.Entries.{all_but, is_set}
 use Rattle.lxr_layout.specs.declared.TheConstants.{COUNT_BITS, GRANULES_IN_BLOCK, LINES_IN_BLOCK, STUCK, WORDS_IN_BLOCK}
 use Rattle.lxr_layout.specs.declared.limits.Limits.{Limits}
 use Rattle.lxr_layout.specs.declared.limits.Regions.{Regions}
-use Rattle.lxr_layout.specs.Spaces.{region_begin}
+use Rattle.lxr_layout.specs.Spaces.{counts_region, cursors_region, decs_region, dones_region, frees_region, grays_region, heap_region, marks_region, outs_region, region_begin, remembered_region, reuse_region, runs_region, starts_region, states_region, unlogged_region}
 use Rattle.lxr_image.specs.Tables.{Tables, changed}
 use Rattle.lxr_actor.specs.declared.Action.{Action}
 use Rattle.lxr_actor.specs.declared.Kindred.{Kindred}
@@ -18,21 +18,21 @@ use Rattle.lxr_core_access.specs.declared.Access.TheVariants.{Look, PutHeap, Cle
 
 -- the regions of a space of these limits
 pub record AreRegions (l : Limits) (r : Regions) : Type 0 where
-  pub heap : r.heap ≡ region_begin l 0
-  pub counts : r.counts ≡ region_begin l 1
-  pub starts : r.starts ≡ region_begin l 2
-  pub marks : r.marks ≡ region_begin l 3
-  pub grays : r.grays ≡ region_begin l 4
-  pub dones : r.dones ≡ region_begin l 5
-  pub unlogged : r.unlogged ≡ region_begin l 6
-  pub reuse : r.reuse ≡ region_begin l 7
-  pub outs : r.outs ≡ region_begin l 8
-  pub states : r.states ≡ region_begin l 9
-  pub runs : r.runs ≡ region_begin l 10
-  pub frees : r.frees ≡ region_begin l 11
-  pub decs : r.decs ≡ region_begin l 12
-  pub remembered : r.remembered ≡ region_begin l 13
-  pub cursors : r.cursors ≡ region_begin l 14
+  pub heap : r.heap ≡ region_begin l heap_region
+  pub counts : r.counts ≡ region_begin l counts_region
+  pub starts : r.starts ≡ region_begin l starts_region
+  pub marks : r.marks ≡ region_begin l marks_region
+  pub grays : r.grays ≡ region_begin l grays_region
+  pub dones : r.dones ≡ region_begin l dones_region
+  pub unlogged : r.unlogged ≡ region_begin l unlogged_region
+  pub reuse : r.reuse ≡ region_begin l reuse_region
+  pub outs : r.outs ≡ region_begin l outs_region
+  pub states : r.states ≡ region_begin l states_region
+  pub runs : r.runs ≡ region_begin l runs_region
+  pub frees : r.frees ≡ region_begin l frees_region
+  pub decs : r.decs ≡ region_begin l decs_region
+  pub remembered : r.remembered ≡ region_begin l remembered_region
+  pub cursors : r.cursors ≡ region_begin l cursors_region
 
 -- the index of the word that has an entry
 abbrev pub table_entry_word : Regions → TableEntry → ℕ

@@ -2,7 +2,7 @@
 use Rattle.std.specs.Prelude.{◌≡◌, ℕ, ◌<◌, List, length, slice_index, slice_set}
 use Rattle.lxr_layout.specs.declared.limits.Limits.{Limits}
 use Rattle.lxr_layout.specs.declared.limits.Regions.{Regions}
-use Rattle.lxr_layout.specs.Spaces.{region_begin}
+use Rattle.lxr_layout.specs.Spaces.{all_regions, region_begin}
 use Rattle.lxr_image.specs.Tables.{tables_in}
 use Rattle.lxr_actor.specs.declared.Action.{Action}
 use Rattle.lxr_actor.specs.Change.{changed}
@@ -24,4 +24,4 @@ pub record DoesAccess (l : Limits) (words : List ℕ) (act : Action) (d : Access
 -- so it is of each access that may be done in a space of these limits and regions
 abbrev pub AccessesAreDone : Type 0
 AccessesAreDone = (l : Limits) (r : Regions) (words : List ℕ) (d : Access)
-    → AreRegions l r → length words ≡ region_begin l 15 → MayBeDone l (tables_in l words) d → DoesAccess l words (action_of r d) d
+    → AreRegions l r → length words ≡ region_begin l all_regions → MayBeDone l (tables_in l words) d → DoesAccess l words (action_of r d) d

@@ -1,7 +1,8 @@
 -- What a mutator is through for is a cause of a pause by the script.
-use Rattle.std.proofs.Common.{◌≡◌, ℕ, ◌+◌, ◌-◌, ◌/◌, ◌≤◌, sym, ap, subst, ◌∙◌, inl, inr, arith, List, [], ◌∷◌, ◌++◌, length}
+use Rattle.std.proofs.Common.{◌≡◌, ℕ, ◌+◌, ◌-◌, ◌≤◌, sym, ap, subst, ◌∙◌, inl, inr, arith, List, [], ◌∷◌, ◌++◌, length}
 use Rattle.std.specs.Prelude.{Some, option_map, slice_get, slice_index_or}
 use Rattle.std.proofs.lemmas.Option.{get_or_from_slice_get, slice_get-map}
+use Rattle.lxr_layout.specs.Spaces.{most_chosen}
 use Rattle.lxr_graph.specs.declared.Op.TheVariants as op
 use Rattle.lxr_graph.specs.History.{calls_of}
 use Rattle.lxr_model.specs.Belongs.{IsCauseOf, calls_since_pause, is_new, is_store, next_operation}
@@ -38,7 +39,8 @@ cause_of b s terms i v taken is through closing are shown (inr (inr (inl block))
     let at : moment terms.threads s.history ≡ moment_of b s = ap (λ z. moment z s.history) are.threads in
     inr (inr (inl (
       ap is_new (next ∙ block.0.2),
-      subst (λ m. terms.blocks - terms.blocks / 8 ≤ length m.unreclaimed + length m.made) (sym at) (omega (arith, all, blocks)),
+      subst (λ m. terms.blocks - most_chosen terms.blocks ≤ length m.unreclaimed + length m.made) (sym at)
+          (subst (λ n. n - most_chosen n ≤ length (moment_of b s).unreclaimed + length (moment_of b s).made) (sym blocks) all),
     )))
 cause_of b s terms i v taken is through closing are shown (inr (inr (inr entry))) =
     let next = next_is s i v shown (is.called.threads i v shown) in

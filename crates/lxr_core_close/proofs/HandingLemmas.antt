@@ -1,6 +1,6 @@
 -- What handing out listed runs and blocks, one after the other, does to the tables.
 use Rattle.std.proofs.Common.{◌≡◌, ℕ, ◌+◌, ◌*◌, ◌<◌, ◌≤◌, refl, sym, ap, subst, ◌∙◌, inl, inr, ◌⊎◌, arith, cond, List, Bool, true, false, nat_eq}
-use Rattle.lxr_layout.specs.declared.TheConstants.{FREE_BLOCK_COUNT, LINES_IN_BLOCK, RUN_COUNT}
+use Rattle.lxr_layout.specs.declared.TheConstants.{FREE_BLOCK_COUNT, LINES_IN_BLOCK, MOST_BLOCKS, RUN_COUNT}
 use Rattle.std.specs.Prelude.{◌/◌, ◌%◌, ◌^◌, ◌==◌, ◌≢◌, IsTrue}
 use Rattle.std.proofs.lemmas.Bool.Decides.{leb_tells}
 use Rattle.lxr_layout.specs.declared.runs.Run.{Run}
@@ -182,7 +182,7 @@ blocks_more : (listed : Tables) (k n : ℕ) → IsInBlocks listed k n → IsInBl
 blocks_more listed k n is = let low = is.drawn in record { number = is.number; drawn = omega (arith, low); line = is.line }
 
 -- words of runs tell the runs
-same_run : (t : Tables) (blocks k : ℕ) (q r : Run) → blocks ≤ 1024 → ListsRun t blocks k q → ListsRun t blocks k r → q ≡ r
+same_run : (t : Tables) (blocks k : ℕ) (q r : Run) → blocks ≤ MOST_BLOCKS → ListsRun t blocks k q → ListsRun t blocks k r → q ≡ r
 same_run t blocks k q r few a b =
     let e : word_of_run q ≡ word_of_run r = sym a.word ∙ b.word in
     let in_q = a.run.run.within in let in_r = b.run.run.within in
@@ -196,7 +196,7 @@ last_or_below : (j k : ℕ) → j < k + 1 → (j ≡ k) ⊎ (j < k)
 last_or_below j k h = elim (leb_tells k j) [ inl c ↦ let m = c.1 in inl (omega (arith, m, h)) | inr c ↦ inr c.1 ]
 
 -- handing out the next listed run
-hands_run : (listed : Tables) (blocks k : ℕ) (t u : Tables) (r : Run) → blocks ≤ 1024 → AreHandedOut (IsDrawnLine listed blocks k 0) t u → ListsRun listed blocks k r
+hands_run : (listed : Tables) (blocks k : ℕ) (t u : Tables) (r : Run) → blocks ≤ MOST_BLOCKS → AreHandedOut (IsDrawnLine listed blocks k 0) t u → ListsRun listed blocks k r
     → ((n : ℕ) → IsLineOf r n → ¬ IsDrawnLine listed blocks k 0 n) → AreHandedOut (IsDrawnLine listed blocks (k + 1) 0) t (handed_out u r)
 hands_run listed blocks k t u r few is lists apart = hands_more (IsDrawnLine listed blocks k 0) (IsDrawnLine listed blocks (k + 1) 0) t u r is (record {
   within = lists.run.run.within;
@@ -378,7 +378,7 @@ run_handed listed start now after k r is at turns = record {
   may = is.may;
   hands = subst (AreHandedOut (IsDrawnLine (tables_of listed) listed.limits.blocks (k + 1) 0) (tables_of start)) (sym turns.tables)
       (hands_run (tables_of listed) listed.limits.blocks k (tables_of start) (tables_of now) r
-      (subst (λ (l : Limits). l.blocks ≤ 1024) (limits_stay listed start now k 0 is) is.space.limits.blocks.1) is.hands at.lists at.apart);
+      (subst (λ (l : Limits). l.blocks ≤ MOST_BLOCKS) (limits_stay listed start now k 0 is) is.space.limits.blocks.1) is.hands at.lists at.apart);
   rest = turns.rest ∙ ap (λ z. with_words z after.words) is.rest;
   space = still_space now after (handed_out (tables_of now) r) is.space turns refl;
 }

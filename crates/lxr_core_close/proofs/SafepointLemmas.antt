@@ -9,7 +9,7 @@ use Rattle.lxr_layout.specs.declared.TheConstants.{DECREMENT_COUNT, DECREMENT_CU
 use Rattle.lxr_layout.specs.declared.limits.Limits.{Limits}
 use Rattle.lxr_layout.specs.declared.LogEntry.{LogEntry}
 use Rattle.lxr_layout.specs.declared.Place.{Place}
-use Rattle.lxr_layout.specs.Spaces.{AreLimits, region_begin}
+use Rattle.lxr_layout.specs.Spaces.{AreLimits, all_regions, region_begin}
 use Rattle.lxr_graph.specs.Names.{has}
 use Rattle.lxr_graph.specs.State.{Object}
 use Rattle.lxr_graph.proofs.NameSets.{not_both}
@@ -85,7 +85,7 @@ drawn_may_be_handed_out b s now is has =
       lists = is.begins.listed;
       space = record {
         limits = subst AreLimits (sym limits) opened.limits;
-        size = ap (λ (z : Tables). z.size) has.tables ∙ ap (λ (z : Tables). z.size) is.fixed.tables ∙ opened.size ∙ ap (λ (l : Limits). region_begin l 15) (sym limits);
+        size = ap (λ (z : Tables). z.size) has.tables ∙ ap (λ (z : Tables). z.size) is.fixed.tables ∙ opened.size ∙ ap (λ (l : Limits). region_begin l all_regions) (sym limits);
       };
       limits = limits;
       tables = subst (AreLater (tables_of b.space)) (sym has.tables) (later b s is);

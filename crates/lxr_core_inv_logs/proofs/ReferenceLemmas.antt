@@ -2,6 +2,7 @@
 use Rattle.std.proofs.Common.{◌≡◌, ℕ, ◌%◌, ◌^◌, ◌<◌, ◌≤◌, sym, ap, subst, ◌∙◌, inl, inr, arith, true, false, List, ◌∷◌, length, get_or}
 use Rattle.std.specs.Prelude.{Option, Some, None, IsTrue, slice_get}
 use Rattle.std.proofs.lemmas.Option.{get_or_from_slice_get, slice_get-get_or}
+use Rattle.lxr_layout.specs.declared.TheConstants.{MOST_BLOCKS}
 use Rattle.lxr_layout.specs.Places.{field_word}
 use Rattle.lxr_layout.specs.declared.Name.{Name}
 use Rattle.lxr_graph.specs.Names.{has}
@@ -76,7 +77,7 @@ small_number : (p : ℕ) → p < 2 ^ 32 → p % 2 ^ 32 ≡ p
 small_number p h = omega arith
 
 -- an unreclaimed object's reference that isn't stored to holds what it held at the last pause
-pub old_is_read : (t : Tables) (blocks : ℕ) (at : Name → ℕ) (m : Moment) (place index : ℕ) (n : Name) → ImageOf t blocks at m → blocks ≤ 1024 → FollowsPause m → IsReferenceAt m at place index
+pub old_is_read : (t : Tables) (blocks : ℕ) (at : Name → ℕ) (m : Moment) (place index : ℕ) (n : Name) → ImageOf t blocks at m → blocks ≤ MOST_BLOCKS → FollowsPause m → IsReferenceAt m at place index
     → IsTrue (has m.unreclaimed n) → place ≡ at n → has_field m.written (n, index) ≡ false → entry_with t place index ≡ entry_of m at (n, index)
 old_is_read t blocks at m place index n image few follows is kept here unwritten =
     let member = in_first m.unreclaimed m.made n kept in

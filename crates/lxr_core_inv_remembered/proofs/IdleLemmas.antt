@@ -26,7 +26,7 @@ use Rattle.lxr_core_inv_counts.proofs.GroundLemmas as counts
 next_forgets : (place refs index : ℕ) → ¬ IsRemembering (scanned_next place refs index)
 next_forgets place refs index = elim (nat_lt index refs) as (λ c. ¬ IsRemembering (cond c (Scans place refs index) Rests)) [ true ↦ λ k. k | false ↦ λ k. k ]
 
-try_forgets : (blocks : ℕ) (d : Tracing) → IsTry blocks d → ¬ IsRemembering d
+pub try_forgets : (blocks : ℕ) (d : Tracing) → IsTry blocks d → ¬ IsRemembering d
 try_forgets blocks d (pocket place some within) k = k
 try_forgets blocks d (nothing) k = k
 

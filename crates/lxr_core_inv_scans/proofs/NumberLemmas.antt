@@ -3,7 +3,7 @@
 use Rattle.std.proofs.Common.{◌≡◌, ℕ, ◌+◌, ◌*◌, ◌^◌, ◌<◌, ◌≤◌, arith}
 use Rattle.std.specs.Prelude.{⊤, Option, Some, None, slice_get}
 use Rattle.lxr_layout.specs.declared.limits.Limits.{Limits}
-use Rattle.lxr_layout.specs.declared.TheConstants.{REMEMBERED_CURSOR}
+use Rattle.lxr_layout.specs.declared.TheConstants.{MOST_WORDS, REMEMBERED_CURSOR}
 use Rattle.lxr_image.specs.Tables.{Tables}
 use Rattle.lxr_model.specs.Moments.{Trace, rememberable}
 use Rattle.lxr_invariant.specs.Lines.{ChosenNeedTrace}
@@ -20,7 +20,7 @@ MayRemember l t (Enters place refs index counter number) = number < l.remember
 MayRemember l t _ = ⊤
 
 -- a cursor that is no further than what may be remembered stays a word
-cursor_far : (cursor unscanned undrawn most pauses number : ℕ) → cursor + unscanned + undrawn ≤ most → most ≤ 2 ^ 23 * (number + 1) → pauses ≡ number → pauses < 2 ^ 32 → cursor + 1 < 2 ^ 64
+cursor_far : (cursor unscanned undrawn most pauses number : ℕ) → cursor + unscanned + undrawn ≤ most → most ≤ 2 * MOST_WORDS * (number + 1) → pauses ≡ number → pauses < 2 ^ 32 → cursor + 1 < 2 ^ 64
 cursor_far cursor unscanned undrawn most pauses number bound few same short = omega arith
 
 module _ (b : Beginning) (s : EpochState) (is : IsEpoch b s) where

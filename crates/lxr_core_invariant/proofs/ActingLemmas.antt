@@ -4,6 +4,7 @@ use Rattle.std.specs.Prelude.{All, Option, Some, None, IsTrue, slice_get}
 use Rattle.std.specs.Option.{option_map_or}
 use Rattle.std.proofs.lemmas.List.{length-map}
 use Rattle.std.proofs.lemmas.Option.{slice_get_within}
+use Rattle.lxr_layout.specs.declared.TheConstants.{MOST_BLOCKS}
 use Rattle.lxr_layout.specs.declared.Name.{Name}
 use Rattle.lxr_layout.specs.declared.Place.{Place}
 use Rattle.lxr_graph.specs.declared.Op.{Op}
@@ -29,7 +30,7 @@ use Rattle.lxr_core_invariant.proofs.ShowingLemmas.{op_formed}
 -- A mutator acts on the image of a moment: its registers hold what those of its thread do, its operations are well formed,
 -- and its thread is one of the model's.
 pub record Acts (t : Tables) (blocks : ℕ) (at : Name → ℕ) (m : Moment) (v : ThreadState) : Type 0 where
-  pub few : blocks ≤ 1024
+  pub few : blocks ≤ MOST_BLOCKS
   pub follows : FollowsPause m
   pub image : IsImage t blocks at m.state.graph (members m)
   pub holds : HoldsRegisters m.state at v

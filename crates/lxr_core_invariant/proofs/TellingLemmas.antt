@@ -1,6 +1,7 @@
 -- What the words at a member's place tell: its header says its name and shape, and no other member has its place.
 use Rattle.std.proofs.Common.{◌≡◌, ◌≢◌, ℕ, ◌^◌, ◌<◌, ◌≤◌, refl, sym, ap, subst, ◌∙◌, inl, inr, arith, true, false, List, nat_eq}
 use Rattle.std.specs.Prelude.{Option, Some, None, IsTrue}
+use Rattle.lxr_layout.specs.declared.TheConstants.{MOST_BLOCKS}
 use Rattle.lxr_layout.specs.declared.Name.{Name}
 use Rattle.lxr_layout.specs.declared.Shape.{Shape}
 use Rattle.lxr_layout.specs.declared.Header.TheVariants as header
@@ -51,7 +52,7 @@ pub placed_there : (t : Tables) (blocks : ℕ) (at : Name → ℕ) (g : Graph) (
 placed_there t blocks at g ms n image member = nothing_below (at n) (image.stands n member).2.placed
 
 -- places are small numbers
-pub small_place : (t : Tables) (blocks : ℕ) (at : Name → ℕ) (m : Moment) (v : Option Name) → IsImage t blocks at m.state.graph (members m) → blocks ≤ 1024 → IsHeld m v → place_word at v < 2 ^ 32
+pub small_place : (t : Tables) (blocks : ℕ) (at : Name → ℕ) (m : Moment) (v : Option Name) → IsImage t blocks at m.state.graph (members m) → blocks ≤ MOST_BLOCKS → IsHeld m v → place_word at v < 2 ^ 32
 small_place t blocks at m None image few held = omega arith
 small_place t blocks at m (Some n) image few held =
     let st = (image.stands n held).2 in

@@ -11,7 +11,7 @@ use Rattle.lxr_layout.specs.declared.limits.Limits.{Limits}
 use Rattle.lxr_layout.specs.declared.limits.Regions.{Regions}
 use Rattle.lxr_layout.specs.Objects.{header_of, word_count}
 use Rattle.lxr_layout.specs.Places.{first_word}
-use Rattle.lxr_layout.specs.Spaces.{region_begin, regions_of}
+use Rattle.lxr_layout.specs.Spaces.{decs_region, region_begin, regions_of}
 use Rattle.lxr_image.specs.Reads.{granule_of}
 use Rattle.lxr_image.proofs.ImageLemmas.{starts_stand_whole}
 use Rattle.lxr_image.proofs.ReadLemmas.{header_unpacked}
@@ -114,8 +114,8 @@ list_told b s r is regions =
     let l = limits_of b in
     let count : ℕ = s.tables.cursors DECREMENT_COUNT in
     let fits = (ground_of b s is).decrements.fits in
-    let decs : r.decs ≡ region_begin l 12 = ap (λ x. x.decs) regions in
-    let after : r.remembered ≡ region_begin l 12 + l.threads * (l.log + 16) = ap (λ x. x.remembered) regions ∙ omega arith in
+    let decs : r.decs ≡ region_begin l decs_region = ap (λ x. x.decs) regions in
+    let after : r.remembered ≡ region_begin l decs_region + l.threads * (l.log + 16) = ap (λ x. x.remembered) regions ∙ omega arith in
     let within : r.decs + count ≤ r.remembered = omega (arith, decs, after, fits) in
     let test = le-leb (r.decs + count) r.remembered within in
     ap (λ c. if c then count else 0) test

@@ -2,7 +2,7 @@
 use Rattle.std.specs.Prelude.{◌≡◌, ℕ, IsSome, Some, List, length, slice_get}
 use Rattle.lxr_layout.specs.declared.Place.{Place}
 use Rattle.lxr_layout.specs.declared.limits.Limits.{Limits}
-use Rattle.lxr_layout.specs.Spaces.{AreLimits, region_begin}
+use Rattle.lxr_layout.specs.Spaces.{AreLimits, all_regions, region_begin}
 use Rattle.lxr_image.specs.Tables.{tables_in}
 use Rattle.lxr_actor.specs.Machine.{Fits}
 use Rattle.lxr_actor.specs.Run.{stepped}
@@ -19,7 +19,7 @@ use Rattle.lxr_core_sim_helpers.specs.DecrementerShowing.{IsDecrementerOf, decre
 -- The words and decrementer i are those of an epoch state of the epoch.
 pub record ShowsDecrementer (b : Beginning) (s : EpochState) (words : List ℕ) (i : ℕ) (d : DecrementerState) : Type 0 where
   pub epoch : IsEpoch b s
-  pub size : length words ≡ region_begin (limits_of b) 15
+  pub size : length words ≡ region_begin (limits_of b) all_regions
   pub tables : s.tables ≡ tables_in (limits_of b) words
   pub shows : slice_get s.decrementers i ≡ Some (decrementing_of d)
   pub decrementer : IsDecrementerOf (limits_of b) d

@@ -3,7 +3,7 @@ use Rattle.std.proofs.Common.{◌≡◌, ℕ, ◌+◌, ◌-◌, ◌*◌, ◌/◌
 use Rattle.std.specs.Prelude.{List, IsTrue, nat_eq, nat_le, nat_lt, slice_set, if◌then◌else◌}
 use Rattle.std.proofs.lemmas.Bool.{ltb-false, ltb-true}
 use Rattle.lxr_layout.specs.Spaces.{regions_of}
-use Rattle.lxr_layout.specs.declared.TheConstants.{FREE_BLOCK_COUNT, FREE_BLOCK_CURSOR, GRANULES_IN_BLOCK, GRANULES_IN_LINE, LINES_IN_BLOCK, RUN_COUNT, RUN_CURSOR}
+use Rattle.lxr_layout.specs.declared.TheConstants.{FREE_BLOCK_COUNT, FREE_BLOCK_CURSOR, GRANULES_IN_BLOCK, GRANULES_IN_LINE, LINES_IN_BLOCK, MOST_BLOCKS, MOST_GRANULES, RUN_COUNT, RUN_CURSOR}
 use Rattle.lxr_layout.specs.declared.Shape.{Shape}
 use Rattle.lxr_layout.specs.declared.limits.Limits.{Limits}
 use Rattle.lxr_layout.specs.declared.limits.Regions.{Regions}
@@ -113,7 +113,7 @@ run_read r line lines =
 
 -- a run that a mutator may take for an object of one line
 record MayTake (r : layout.Run) (shape : Shape) : Type 0 where
-  pub block : r.block < 1024
+  pub block : r.block < MOST_BLOCKS
   pub some : 1 ≤ r.lines
   pub within : r.line + r.lines ≤ LINES_IN_BLOCK
   pub fits : FitsShape shape
@@ -121,7 +121,7 @@ record MayTake (r : layout.Run) (shape : Shape) : Type 0 where
 
 -- a run that may be taken passes the test of the machine
 taken_test : (r : layout.Run) (shape : Shape) → MayTake r shape → IsTrue (is_run r)
-taken_test r shape may = both (nat_lt r.block 1024) _ (is_lt r.block 1024 may.block) (both (nat_le 1 r.lines) _ (is_le 1 r.lines may.some) (is_le (r.line + r.lines) LINES_IN_BLOCK may.within))
+taken_test r shape may = both (nat_lt r.block MOST_BLOCKS) _ (is_lt r.block MOST_BLOCKS may.block) (both (nat_le 1 r.lines) _ (is_le 1 r.lines may.some) (is_le (r.line + r.lines) LINES_IN_BLOCK may.within))
 
 -- it has room for the object, and lies in the heap
 run_room : (r : layout.Run) (shape : Shape) → MayTake r shape → FitsSpan (run_span r) shape
@@ -131,23 +131,23 @@ run_room r shape may = room r.block r.line r.lines (word_count shape) may.some m
     room block line lines words some one = omega arith
 
 -- a run that may be taken lies in the largest heap
-run_end : (r : layout.Run) (shape : Shape) → MayTake r shape → ((run_span r).end ≤ 2 ^ 21) × ((run_span r).next + 1 ≤ 2 ^ 21)
+run_end : (r : layout.Run) (shape : Shape) → MayTake r shape → ((run_span r).end ≤ MOST_GRANULES) × ((run_span r).next + 1 ≤ MOST_GRANULES)
 run_end r shape may = low r.block r.line r.lines may.block may.some may.within
   where
-    low : (block line lines : ℕ) → block < 1024 → 1 ≤ lines → line + lines ≤ LINES_IN_BLOCK → (GRANULES_IN_BLOCK * block + GRANULES_IN_LINE * (line + lines) ≤ 2 ^ 21) × (GRANULES_IN_BLOCK * block + GRANULES_IN_LINE * line + 1 ≤ 2 ^ 21)
+    low : (block line lines : ℕ) → block < MOST_BLOCKS → 1 ≤ lines → line + lines ≤ LINES_IN_BLOCK → (GRANULES_IN_BLOCK * block + GRANULES_IN_LINE * (line + lines) ≤ MOST_GRANULES) × (GRANULES_IN_BLOCK * block + GRANULES_IN_LINE * line + 1 ≤ MOST_GRANULES)
     low block line lines there some within = (omega arith, omega arith)
 
 -- an object is made at the front of a span that is the current one, or the overflow one, from now on
-pub to_current : (l : Limits) (m : Mutating) (span : Span) → GoesOn m → m.regions ≡ regions_of l → length m.replies.items < length m.operations → IsNew m → span.end ≤ 2 ^ 21
-    → span.next + 1 ≤ 2 ^ 21 → IsMutatorOf l (in_current m (shape_now m) span)
+pub to_current : (l : Limits) (m : Mutating) (span : Span) → GoesOn m → m.regions ≡ regions_of l → length m.replies.items < length m.operations → IsNew m → span.end ≤ MOST_GRANULES
+    → span.next + 1 ≤ MOST_GRANULES → IsMutatorOf l (in_current m (shape_now m) span)
 to_current l m span goes regions more new end next =
     let spans = record m.spans { current = record span { next = span.next + granule_count (shape_now m) } } in
     to_phase l (record m { spans = spans }) (phase.Wiping (record { 0 = span.next + 1 }) 1) (with_spans m spans goes (end, goes.spans.1)) regions more
     ((omega arith, next), (omega arith, omega arith)) new
 
 -- and so where the span is the overflow one
-pub to_overflow : (l : Limits) (m : Mutating) (span : Span) → GoesOn m → m.regions ≡ regions_of l → length m.replies.items < length m.operations → IsNew m → span.end ≤ 2 ^ 21
-    → span.next + 1 ≤ 2 ^ 21 → IsMutatorOf l (in_overflow m (shape_now m) span)
+pub to_overflow : (l : Limits) (m : Mutating) (span : Span) → GoesOn m → m.regions ≡ regions_of l → length m.replies.items < length m.operations → IsNew m → span.end ≤ MOST_GRANULES
+    → span.next + 1 ≤ MOST_GRANULES → IsMutatorOf l (in_overflow m (shape_now m) span)
 to_overflow l m span goes regions more new end next =
     let spans = record m.spans { overflow = record span { next = span.next + granule_count (shape_now m) } } in
     to_phase l (record m { spans = spans }) (phase.Wiping (record { 0 = span.next + 1 }) 1) (with_spans m spans goes (goes.spans.0, end)) regions more
@@ -291,8 +291,8 @@ placed_shown m span true = refl
 placed_shown m span false = refl
 
 -- it is a mutator of the space then
-placed_kept : (l : Limits) (m : Mutating) (span : Span) (medium : Bool) → GoesOn m → m.regions ≡ regions_of l → length m.replies.items < length m.operations → IsNew m → span.end ≤ 2 ^ 21
-    → span.next + 1 ≤ 2 ^ 21 → IsMutatorOf l (placed_as m span medium)
+placed_kept : (l : Limits) (m : Mutating) (span : Span) (medium : Bool) → GoesOn m → m.regions ≡ regions_of l → length m.replies.items < length m.operations → IsNew m → span.end ≤ MOST_GRANULES
+    → span.next + 1 ≤ MOST_GRANULES → IsMutatorOf l (placed_as m span medium)
 placed_kept l m span true goes regions more new end next = to_overflow l m span goes regions more new end next
 placed_kept l m span false goes regions more new end next = to_current l m span goes regions more new end next
 
@@ -318,7 +318,7 @@ block_step b s words i m number shows =
     let medium : Bool = is_medium (shape_now n) in
     by_access b s words i n (Look (Free number)) shows refl (record { table_entry = omega (arith, listed, count.0, count.1); entry = tt })
     (λ old told. subst (IsEventOf b s i n (Look (Free number))) (sym told) (record {
-      accepts = is_lt block 1024 (omega (arith, there, few));
+      accepts = is_lt block MOST_BLOCKS (omega (arith, there, few));
       event = epoch.TakesBlock block (shape_now n);
       may = record { number = number; stage = refl; word = refl; does = new_shown n goes shows.mutator.steady };
       tables = refl;

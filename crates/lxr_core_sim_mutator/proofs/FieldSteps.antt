@@ -1,6 +1,7 @@
 -- The steps of loads, gets and puts on the field that they work on.
 use Rattle.std.proofs.Common.{◌≡◌, ℕ, ◌^◌, ◌<◌, ◌≤◌, Bool, true, false, arith, refl, sym, subst, ap, ◌∙◌, length}
 use Rattle.std.specs.Prelude.{List, Some, None, nat_eq, slice_set, if◌then◌else◌}
+use Rattle.lxr_layout.specs.declared.TheConstants.{MOST_GRANULES}
 use Rattle.lxr_layout.specs.Spaces.{regions_of}
 use Rattle.lxr_layout.specs.declared.Name.{Name}
 use Rattle.lxr_layout.specs.declared.Place.{Place}
@@ -60,7 +61,7 @@ taken_shown m p true below goes = thread_state_done (with_register m (dest_of (o
 taken_shown m p false below goes = refl
 
 -- a machine that took a place is a mutator of the space
-taken_kept : (l : Limits) (m : Mutating) (p : Place) (none : Bool) → GoesOn m → m.regions ≡ regions_of l → length m.replies.items < length m.operations → IsLoad m → p.0 ≤ 2 ^ 21
+taken_kept : (l : Limits) (m : Mutating) (p : Place) (none : Bool) → GoesOn m → m.regions ≡ regions_of l → length m.replies.items < length m.operations → IsLoad m → p.0 ≤ MOST_GRANULES
     → nat_eq p.0 0 ≡ none → IsMutatorOf l (taken_as m p none)
 taken_kept l m p true goes regions more load low e = to_done l (with_register m (dest_of (op_now m)) p) (reply.Loaded None) (with_place m (dest_of (op_now m)) p goes low) regions more
 taken_kept l m p false goes regions more load low e =
@@ -83,7 +84,7 @@ reference_step b s words i m base shows =
     let p = place_in (s.tables.heap at) in
     by_access b s words i n (Look (Heap at)) shows (on_heap l n.regions kind.Load at 0 shows.mutator.regions) (record { table_entry = word.within; entry = tt })
     (λ old told. subst (IsEventOf b s i n (Look (Heap at))) (sym told) (record {
-      accepts = is_le (s.tables.heap at) (2 ^ 21) low;
+      accepts = is_le (s.tables.heap at) (MOST_GRANULES) low;
       event = epoch.LoadsReference (op_now n) (dest_of (op_now n)) base.0 index;
       may = record { stage = refl; does = now_shown n goes; loads = load_parts (op_now n) shows.mutator.steady };
       tables = refl;

@@ -1,7 +1,7 @@
 -- What an epoch says of the words that a mutator's steps act on.
 use Rattle.std.proofs.Common.{◌≡◌, ℕ, zero, suc, ◌+◌, ◌-◌, ◌*◌, ◌/◌, ◌%◌, ◌^◌, ◌<◌, ◌≤◌, Bool, true, false, arith, refl, sym, subst, ap, ◌∙◌, inl, inr, List, [], ◌∷◌, length}
 use Rattle.std.specs.Prelude.{Option, Some, None, IsTrue, nat_le, nat_lt, slice_get, if◌then◌else◌}
-use Rattle.lxr_layout.specs.declared.TheConstants.{FREE_BLOCK_COUNT, GRANULES_IN_BLOCK, GRANULES_IN_LINE, LINES_IN_BLOCK, RUN_COUNT, WORDS_IN_BLOCK}
+use Rattle.lxr_layout.specs.declared.TheConstants.{FREE_BLOCK_COUNT, GRANULES_IN_BLOCK, GRANULES_IN_LINE, LINES_IN_BLOCK, MOST_BLOCKS, MOST_GRANULES, RUN_COUNT, WORDS_IN_BLOCK}
 use Rattle.lxr_layout.specs.declared.Header.{Header}
 use Rattle.lxr_layout.specs.declared.Header.TheVariants as header
 use Rattle.lxr_layout.specs.declared.Name.{Name}
@@ -24,24 +24,24 @@ use Rattle.lxr_core_invariant.specs.Epoch.{IsEpoch}
 use Rattle.lxr_core_invariant.proofs.HeldLemmas.{IsHeld, reference_held}
 use Rattle.lxr_core_invariant.proofs.TellingLemmas.{stands_there, told_there}
 
--- the heap has at most 1,024 blocks
-pub few_blocks : (b : Beginning) (s : EpochState) → IsEpoch b s → (limits_of b).blocks ≤ 1024
+-- the heap has no more blocks than the largest one
+pub few_blocks : (b : Beginning) (s : EpochState) → IsEpoch b s → (limits_of b).blocks ≤ MOST_BLOCKS
 few_blocks b s is = is.begins.between.safepoint.holds.space.limits.blocks.1
 
 -- ---- objects
 
 -- a place of the largest heap
-low_place : (t : Tables) (blocks : ℕ) (at : Name → ℕ) (n : Name) (o : Object) → Stands t blocks at n o → blocks ≤ 1024 → at n ≤ 2 ^ 21
+low_place : (t : Tables) (blocks : ℕ) (at : Name → ℕ) (n : Name) (o : Object) → Stands t blocks at n o → blocks ≤ MOST_BLOCKS → at n ≤ MOST_GRANULES
 low_place t blocks at n o st few = let low = st.whole.in_heap in let some = st.placed in omega (arith, low, some, few)
 
 -- what a word that a reference holds says: nil or a place
-pub low_word : (t : Tables) (blocks : ℕ) (at : Name → ℕ) (m : Moment) (v : Option Name) → IsImage t blocks at m.state.graph (members m) → blocks ≤ 1024 → IsHeld m v → place_word at v ≤ 2 ^ 21
+pub low_word : (t : Tables) (blocks : ℕ) (at : Name → ℕ) (m : Moment) (v : Option Name) → IsImage t blocks at m.state.graph (members m) → blocks ≤ MOST_BLOCKS → IsHeld m v → place_word at v ≤ MOST_GRANULES
 low_word t blocks at m None image few held = omega arith
 low_word t blocks at m (Some n) image few held = let a = image.stands n held in low_place t blocks at n a.0 a.2 few
 
 -- the header at a member's place
 pub record HasHeader (t : Tables) (blocks place : ℕ) (n : Name) (s : Shape) : Type 0 where
-  pub placed : (1 ≤ place) × (place ≤ 2 ^ 21)
+  pub placed : (1 ≤ place) × (place ≤ MOST_GRANULES)
   pub fits : FitsShape s
   pub told : TellsObject (t.heap (first_word place)) n s
   pub within : first_word place + word_count s ≤ WORDS_IN_BLOCK * blocks
@@ -53,7 +53,7 @@ whole_words : (place g words blocks : ℕ) → 1 ≤ place → g ≡ words / 2 �
 whole_words place g words blocks some half in_heap even one = (omega arith, omega arith)
 
 -- a member's header stands at its place
-pub header_there : (t : Tables) (blocks : ℕ) (at : Name → ℕ) (m : Moment) (n : Name) (o : Object) (place : ℕ) → IsImage t blocks at m.state.graph (members m) → blocks ≤ 1024
+pub header_there : (t : Tables) (blocks : ℕ) (at : Name → ℕ) (m : Moment) (n : Name) (o : Object) (place : ℕ) → IsImage t blocks at m.state.graph (members m) → blocks ≤ MOST_BLOCKS
     → IsTrue (has (members m) n) → object_at m.state.graph n ≡ Some o → place ≡ at n → HasHeader t blocks place n (shape_of o)
 header_there t blocks at m n o place image few member is stands =
     let st = stands_there t blocks at m.state.graph (members m) n o image member is in
@@ -87,7 +87,7 @@ told_is_header word n s told = no_moved word n s (nat_le (2 ^ 63) word) refl tol
 -- the word of a reference that a mutator works on, and what it holds
 pub record HasReference (t : Tables) (blocks place index : ℕ) : Type 0 where
   pub within : field_word place index < WORDS_IN_BLOCK * blocks
-  pub low : t.heap (field_word place index) ≤ 2 ^ 21
+  pub low : t.heap (field_word place index) ≤ MOST_GRANULES
   pub some : 1 ≤ place
 
 -- a list has an element at each index within it
@@ -117,7 +117,7 @@ reference_there b s place index is at =
     let low = low_word s.tables (limits_of b).blocks s.at m held.0 image few (reference_held m at.name at.object index held.0 is.lives at.member at.is held.1) in
     record {
       within = inside (first_word place) (word_count (shape_of at.object)) index (length at.object.refs) (length at.object.values) (WORDS_IN_BLOCK * (limits_of b).blocks) refl at.within head.within;
-      low = subst (λ p. s.tables.heap (field_word p index) ≤ 2 ^ 21) (sym at.stands) (subst (λ x. x ≤ 2 ^ 21) (sym word) low);
+      low = subst (λ p. s.tables.heap (field_word p index) ≤ MOST_GRANULES) (sym at.stands) (subst (λ x. x ≤ MOST_GRANULES) (sym word) low);
       some = head.placed.0;
     }
 

@@ -1,7 +1,7 @@
 -- The step that looks at the pause word between two operations, and begins one.
 use Rattle.std.proofs.Common.{◌≡◌, ◌≢◌, ℕ, ◌+◌, ◌-◌, ◌/◌, ◌^◌, ◌<◌, ◌≤◌, Bool, true, false, arith, refl, sym, subst, ap, ◌∙◌, inl, inr, ◌⊎◌, List, length, replicate}
 use Rattle.std.specs.Prelude.{Some, None, ◌&&◌, nat_eq, nat_lt, slice_set, if◌then◌else◌}
-use Rattle.lxr_layout.specs.declared.TheConstants.{PAUSE_WORD}
+use Rattle.lxr_layout.specs.declared.TheConstants.{MOST_GRANULES, PAUSE_WORD}
 use Rattle.lxr_layout.specs.declared.Place.{Place}
 use Rattle.lxr_layout.specs.declared.Shape.{Shape}
 use Rattle.lxr_layout.specs.Objects.{line_count, word_count}
@@ -34,7 +34,7 @@ use Rattle.lxr_core_sim_mutator.proofs.OutcomeLemmas.{IsEventOf, IsEventTo, by_a
 use Rattle.lxr_core_sim_mutator.proofs.DrawingSteps.{to_current, to_overflow}
 
 -- the last granule that an object takes of a span lies in the heap
-front_low : (next end words : ℕ) → 2 ≤ words → words / 2 ≤ end - next → end ≤ 2 ^ 21 → next + 1 ≤ 2 ^ 21
+front_low : (next end words : ℕ) → 2 ≤ words → words / 2 ≤ end - next → end ≤ MOST_GRANULES → next + 1 ≤ MOST_GRANULES
 front_low next end words some room low = omega arith
 
 -- an object has at least two words

@@ -1,7 +1,7 @@
 -- Each step of a mutator's machine is an event of the epoch.
 use Rattle.std.specs.Prelude.{◌≡◌, ℕ, ◌+◌, nat_eq, if◌then◌else◌, Bool, true, false, Some, IsSome, List, ◌∷◌, length, slice_get, slice_set}
 use Rattle.lxr_layout.specs.declared.Name.{Name}
-use Rattle.lxr_layout.specs.Spaces.{region_begin}
+use Rattle.lxr_layout.specs.Spaces.{all_regions, region_begin}
 use Rattle.lxr_graph.specs.History.{Item, Call}
 use Rattle.lxr_graph.specs.State.{next_name}
 use Rattle.lxr_graph.specs.Step.{step}
@@ -44,7 +44,7 @@ places_after b s m = places_in m.phase b s m
 -- The words and mutator i are those of an epoch state of the epoch.
 pub record ShowsAs (b : Beginning) (s : EpochState) (words : List ℕ) (i : ℕ) (m : Mutating) : Type 0 where
   pub epoch : IsEpoch b s
-  pub size : length words ≡ region_begin (limits_of b) 15
+  pub size : length words ≡ region_begin (limits_of b) all_regions
   pub tables : s.tables ≡ tables_in (limits_of b) words
   pub thread_state : slice_get s.thread_states i ≡ Some (thread_state_of m)
   pub mutator : IsMutatorOf (limits_of b) m

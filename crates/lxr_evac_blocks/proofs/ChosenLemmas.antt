@@ -3,6 +3,7 @@ use Rattle.std.proofs.Common.{◌≡◌, ◌≢◌, ℕ, zero, suc, ◌+◌, ◌
 use Rattle.std.specs.Prelude.{◌&&◌, ◌↔◌, ◌==◌, IsTrue, Option, if◌then◌else◌, nat_le, nat_lt}
 use Rattle.std.proofs.lemmas.Bool.Decides.{nat_tests}
 use Rattle.lxr_layout.specs.declared.TheConstants.{LINES_IN_BLOCK}
+use Rattle.lxr_layout.specs.Spaces.{most_chosen}
 use Rattle.lxr_image.specs.Tables.{Tables}
 use Rattle.lxr_blocks.specs.declared.states.BlockState.{BlockState}
 use Rattle.lxr_blocks.specs.declared.states.BlockState.TheVariants.{Chosen, Free, Partly, Whole, World}
@@ -52,29 +53,29 @@ module _ (t : Tables) (blocks : ℕ) (trace : Option Trace) (has : HasBlocks t b
 
   -- ---- the states after
 
-  state_at : (b : ℕ) → b < blocks → (with_choice t blocks).states b ≡ state_by t b (is_choice t (blocks / 8) b)
-  state_at b within = ap (λ x. state_by t b (x && is_choice t (blocks / 8) b)) (below b blocks within)
+  state_at : (b : ℕ) → b < blocks → (with_choice t blocks).states b ≡ state_by t b (is_choice t (most_chosen blocks) b)
+  state_at b within = ap (λ x. state_by t b (x && is_choice t (most_chosen blocks) b)) (below b blocks within)
 
-  state_of_choice : (b : ℕ) → b < blocks → is_choice t (blocks / 8) b ≡ true → state_in (with_choice t blocks) b ≡ Chosen
+  state_of_choice : (b : ℕ) → b < blocks → is_choice t (most_chosen blocks) b ≡ true → state_in (with_choice t blocks) b ≡ Chosen
   state_of_choice b within is = ap state_of (state_at b within ∙ ap (state_by t b) is)
 
-  state_of_other : (b : ℕ) → b < blocks → is_choice t (blocks / 8) b ≡ false → state_in (with_choice t blocks) b ≡ state_in t b
+  state_of_other : (b : ℕ) → b < blocks → is_choice t (most_chosen blocks) b ≡ false → state_in (with_choice t blocks) b ≡ state_in t b
   state_of_other b within is = ap state_of (state_at b within ∙ ap (state_by t b) is)
 
-  is_of_choice : (b : ℕ) → b < blocks → state_in (with_choice t blocks) b ≡ Chosen → is_choice t (blocks / 8) b ≡ true
-  is_of_choice b within chosen = elim (told (is_choice t (blocks / 8) b)) [
+  is_of_choice : (b : ℕ) → b < blocks → state_in (with_choice t blocks) b ≡ Chosen → is_choice t (most_chosen blocks) b ≡ true
+  is_of_choice b within chosen = elim (told (is_choice t (most_chosen blocks) b)) [
     | inl holds ↦ holds
     | inr fails ↦ absurd (none_counted t blocks b none within (sym (state_of_other b within fails) ∙ chosen))
   ]
 
-  exactly : (b : ℕ) → b < blocks → (state_in (with_choice t blocks) b ≡ Chosen) ↔ (IsTrue (is_sparse t b) × (sparse_before t b < blocks / 8))
+  exactly : (b : ℕ) → b < blocks → (state_in (with_choice t blocks) b ≡ Chosen) ↔ (IsTrue (is_sparse t b) × (sparse_before t b < most_chosen blocks))
   exactly b within =
       let before : choices t b ≡ sparse_before t b = choices_are_sparse b (omega arith) in (
         (λ chosen.
-            let is = both (may_choose t b) (nat_lt (choices t b) (blocks / 8)) (is_of_choice b within chosen) in
-            (sym (may_is_sparse b within) ∙ is.0, let fewer = ltb-true (choices t b) (blocks / 8) is.1 in omega arith)),
+            let is = both (may_choose t b) (nat_lt (choices t b) (most_chosen blocks)) (is_of_choice b within chosen) in
+            (sym (may_is_sparse b within) ∙ is.0, let fewer = ltb-true (choices t b) (most_chosen blocks) is.1 in omega arith)),
         (λ is. state_of_choice b within
-            (ap (λ x. x && nat_lt (choices t b) (blocks / 8)) (may_is_sparse b within ∙ is.0) ∙ lt-ltb (choices t b) (blocks / 8) (let fewer = is.1 in omega arith))),
+            (ap (λ x. x && nat_lt (choices t b) (most_chosen blocks)) (may_is_sparse b within ∙ is.0) ∙ lt-ltb (choices t b) (most_chosen blocks) (let fewer = is.1 in omega arith))),
       )
 
   others_by : (b : ℕ) (chosen : Bool) → state_of (state_by t b chosen) ≢ Chosen → state_by t b chosen ≡ t.states b
@@ -82,40 +83,40 @@ module _ (t : Tables) (blocks : ℕ) (trace : Option Trace) (has : HasBlocks t b
   others_by b false other = refl
 
   others : (b : ℕ) → state_in (with_choice t blocks) b ≢ Chosen → (with_choice t blocks).states b ≡ t.states b
-  others b other = others_by b (nat_lt b blocks && is_choice t (blocks / 8) b) other
+  others b other = others_by b (nat_lt b blocks && is_choice t (most_chosen blocks) b) other
 
   world : state_in (with_choice t blocks) 0 ≡ World
   world =
       let no : may_choose t 0 ≡ false = ap (λ s. is_partly s && nat_le (taken_count t 0) 32) has.world in
-      ap (λ x. state_of (state_by t 0 (nat_lt 0 blocks && (x && nat_lt (choices t 0) (blocks / 8))))) no
+      ap (λ x. state_of (state_by t 0 (nat_lt 0 blocks && (x && nat_lt (choices t 0) (most_chosen blocks))))) no
       ∙ ap (λ x. state_of (state_by t 0 x)) (and_false (nat_lt 0 blocks))
       ∙ has.world
 
   lone : (b : ℕ) → 1 ≤ b → b < blocks → state_in (with_choice t blocks) b ≢ World
-  lone b behind within is = elim (told (is_choice t (blocks / 8) b)) [
+  lone b behind within is = elim (told (is_choice t (most_chosen blocks) b)) [
     | inl holds ↦ let e : Chosen ≡ World = sym (state_of_choice b within holds) ∙ is in cc
     | inr fails ↦ has.others b behind within (sym (state_of_other b within fails) ∙ is)
   ]
 
   still_by_lines : HasStates (with_choice t blocks) blocks
-  still_by_lines b within free = elim (told (is_choice t (blocks / 8) b)) [
+  still_by_lines b within free = elim (told (is_choice t (most_chosen blocks) b)) [
     | inl holds ↦ absurd (let e : true ≡ false = sym (ap is_fixed (state_of_choice b within holds)) ∙ free in cc)
     | inr fails ↦ state_of_other b within fails ∙ states b within (sym (ap is_fixed (state_of_other b within fails)) ∙ free)
   ]
 
   -- ---- how many are chosen
 
-  few_by : (n : ℕ) → n ≤ blocks → (chosen_count (with_choice t blocks) n ≤ choices t n) × (chosen_count (with_choice t blocks) n ≤ blocks / 8)
+  few_by : (n : ℕ) → n ≤ blocks → (chosen_count (with_choice t blocks) n ≤ choices t n) × (chosen_count (with_choice t blocks) n ≤ most_chosen blocks)
   unfolding choices
   few_by zero within = (omega arith, omega arith)
   few_by (suc n) within =
       let before = few_by n (omega arith) in
-      elim (told (is_choice t (blocks / 8) n)) [
+      elim (told (is_choice t (most_chosen blocks) n)) [
         | inl holds ↦
-            let is = both (may_choose t n) (nat_lt (choices t n) (blocks / 8)) holds in
+            let is = both (may_choose t n) (nat_lt (choices t n) (most_chosen blocks)) holds in
             let one = ap (λ s. (if is_chosen s then 1 else 0) + chosen_count (with_choice t blocks) n) (state_of_choice n (omega arith) holds) in
             let more = ap (λ x. choices t n + (if x then 1 else 0)) is.0 in
-            let fewer = ltb-true (choices t n) (blocks / 8) is.1 in
+            let fewer = ltb-true (choices t n) (most_chosen blocks) is.1 in
             (omega arith, omega arith)
         | inr fails ↦
             let not_one = ap (λ x. (if x then 1 else 0) + chosen_count (with_choice t blocks) n)

@@ -1,6 +1,7 @@
 -- Which blocks are chosen, and what changes.
 use Rattle.std.specs.Prelude.{◌≡◌, ◌≢◌, ℕ, zero, suc, ◌+◌, ◌-◌, ◌/◌, ◌<◌, ◌≤◌, ◌↔◌, nat_le, nat_lt, ◌&&◌, Bool, true, false, Option, IsTrue, if◌then◌else◌}
 use Rattle.lxr_layout.specs.declared.TheConstants.{LINES_IN_BLOCK, REMEMBERED_CURSOR}
+use Rattle.lxr_layout.specs.Spaces.{most_chosen}
 use Rattle.lxr_image.specs.Tables.{Tables, changed}
 use Rattle.lxr_blocks.specs.declared.states.BlockState.{BlockState}
 use Rattle.lxr_blocks.specs.declared.states.BlockState.TheVariants.{Chosen, Free, Partly, Whole, World}
@@ -40,9 +41,9 @@ with_choices t most blocks = record t {
   states = λ b. if nat_lt b blocks && is_choice t most b then state_number Chosen else t.states b;
 }
 
--- an eighth of the blocks is chosen, or fewer, and nothing is remembered
+-- as many blocks are chosen as may be, or fewer where there are fewer, and nothing is remembered
 abbrev pub with_choice : Tables → ℕ → Tables
-with_choice t blocks = record (with_choices t (blocks / 8) blocks) { cursors = changed t.cursors REMEMBERED_CURSOR 0 }
+with_choice t blocks = record (with_choices t (most_chosen blocks) blocks) { cursors = changed t.cursors REMEMBERED_CURSOR 0 }
 
 -- ---- one block
 
@@ -65,12 +66,12 @@ unfoldable pub sparse_before : Tables → ℕ → ℕ
 sparse_before t zero = 0
 sparse_before t (suc b) = sparse_before t b + (if is_sparse t b then 1 else 0)
 
--- Blocks have become Chosen between these tables: exactly the first sparse ones, as many as an eighth of all, or all of them where
+-- Blocks have become Chosen between these tables: exactly the first sparse ones, as many as may be Chosen, or all of them where
 -- there are fewer. Block 0 is World as before and no other is, and blocks have the states of their lines.
 pub record AreChosen (t u : Tables) (blocks : ℕ) : Type 0 where
-  pub exactly : (b : ℕ) → b < blocks → (state_in u b ≡ Chosen) ↔ (IsTrue (is_sparse t b) × (sparse_before t b < blocks / 8))
+  pub exactly : (b : ℕ) → b < blocks → (state_in u b ≡ Chosen) ↔ (IsTrue (is_sparse t b) × (sparse_before t b < most_chosen blocks))
   pub others : (b : ℕ) → state_in u b ≢ Chosen → u.states b ≡ t.states b
-  pub few : chosen_count u blocks ≤ blocks / 8
+  pub few : chosen_count u blocks ≤ most_chosen blocks
   pub world : state_in u 0 ≡ World
   pub lone : (b : ℕ) → 1 ≤ b → b < blocks → state_in u b ≢ World
   pub states : HasStates u blocks

@@ -5,7 +5,7 @@ ghost use Rattle.lxr_evac_blocks.specs.Choosing.{left_after, may_choose, with_bl
 
 use lxr_blocks::{BlockState, free_mask, state};
 use lxr_image::Space;
-use lxr_layout::{LINES_IN_BLOCK, REMEMBERED_CURSOR};
+use lxr_layout::{LINES_IN_BLOCK, REMEMBERED_CURSOR, most_chosen};
 
 /// A block with more lines that aren't free isn't worth moving its objects.
 const MOST_LINES: u32 = 32;
@@ -43,7 +43,7 @@ fn choose_block(space: &mut Space, block: u32, left: u32) -> u32
 
 /// Chooses the blocks whose objects are to be moved away when the trace that begins now ends: the first Partly blocks, in
 /// order, with at most 32 lines that aren't free, as many as an eighth of all blocks, or fewer where there are fewer. They
-/// become Chosen, and the remembered set is cleared.
+/// become Chosen, and the remembered set is cleared. In a heap of more than `MOST_BLOCKS_REMEMBERED` blocks none is chosen.
 ///
 /// Each block is looked at once, by the mask of its free lines.
 pub fn choose_blocks(space: &mut Space)
@@ -51,7 +51,7 @@ pub fn choose_blocks(space: &mut Space)
     ensures tables { Turns space.old space.new (with_choice (tables_of space.old) space.old.limits.blocks) }
     ensures space { IsSpace space.new }
 {
-    let mut left = space.limits.blocks / 8;
+    let mut left = most_chosen(space.limits.blocks);
     for block in 0..space.limits.blocks {
         left = choose_block(space, block, left);
     }

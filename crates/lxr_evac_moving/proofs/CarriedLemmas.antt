@@ -7,6 +7,7 @@ use Rattle.lxr_layout.specs.declared.Shape.{Shape}
 use Rattle.lxr_layout.specs.declared.TheConstants.{GRANULES_IN_LINE}
 use Rattle.lxr_layout.specs.Objects.{word_count}
 use Rattle.lxr_layout.specs.Places.{first_word}
+use Rattle.lxr_image.proofs.SpaceLemmas.{space_alike}
 use Rattle.lxr_graph.specs.Names.{same_name}
 use Rattle.lxr_graph.specs.State.{shape_of}
 use Rattle.lxr_image.specs.declared.space.Space.{Space}
@@ -25,7 +26,7 @@ use Rattle.lxr_pause_promote.proofs.CopyLemmas.{StandsBeside, evacuated_beside}
 use Rattle.lxr_pause_promote.proofs.EitherLemmas.{placed_here, placed_other}
 use Rattle.lxr_pause_promote.proofs.FewerLemmas.{HasFewerLines, evacuated_fewer, fewer_both, granules_kept, marked_grows, turns_fewer, was_open_run}
 use Rattle.lxr_pause_promote.proofs.PlacedLemmas.{KeepsLinesAndBlocks, keeps_fewer, still_rest}
-use Rattle.lxr_pause_promote.proofs.TableLemmas.{space_with, stands_after}
+use Rattle.lxr_pause_promote.proofs.TableLemmas.{stands_after}
 use Rattle.lxr_evac_moving.specs.Stages.{EvacuationStage, IsMovingAway, IsTaken, granules, kept_names}
 use Rattle.lxr_evac_moving.specs.Steps.{ComesBehind, IsNextChosen, with_taken_over}
 use Rattle.lxr_evac_moving.proofs.BitsLemmas.{bits_then}
@@ -52,7 +53,7 @@ turned_beside before copied after t rest taken p q n shape beside turns heap out
     let end : after.rest_end ≡ copied.rest_end = ap (λ s. s.rest_end) turns.rest in
     let same : KeepsLinesAndBlocks copied after = record { blocks = ap (λ l. l.blocks) limits; rest_next = next; rest_end = end; outs = outs_now; states = states_now } in
     record {
-      stands = stands_after copied after q n shape (space_with copied after limits (ap (λ x. x.size) turns.tables ∙ size) beside.stands.space) limits heap_now beside.stands;
+      stands = stands_after copied after q n shape (space_alike copied after limits (ap (λ x. x.size) turns.tables ∙ size) beside.stands.space) limits heap_now beside.stands;
       apart = beside.apart;
       elsewhere = beside.elsewhere;
       onto = beside.onto;

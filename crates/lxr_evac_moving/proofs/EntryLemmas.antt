@@ -131,29 +131,33 @@ pub record TellsField (s : Space) (m : Moment) (st : EvacuationStage) (number : 
   pub entry : (tables_of s).remembered number ≡ word_of_entry ((tables_of s).reuse (word_of_field st.at n i / WORDS_IN_LINE)) (place_of st.at n) i
 
 module _ (s : Space) (m : Moment) (st : EvacuationStage) (is : IsEvacuating s m st) (number : ℕ) (n : Name) (i : ℕ) (tells : TellsField s m st number n i) where
-  pub field_entry : (w : ℕ) → w ≡ (tables_of s).remembered number → IsEntryWord s.limits w ((tables_of s).reuse (word_of_field st.at n i / WORDS_IN_LINE)) (place_of st.at n) i
-  field_entry w read =
+  pub field_entry : number < (tables_of s).cursors REMEMBERED_CURSOR → number < s.limits.remember → (w : ℕ) → w ≡ (tables_of s).remembered number
+      → IsEntryWord s.limits w ((tables_of s).reuse (word_of_field st.at n i / WORDS_IN_LINE)) (place_of st.at n) i
+  field_entry drawn room w read =
       let x = is.heap.stands n tells.member in
       let size : length (refs_of (object_at m.state.graph n)) ≡ length x.0.refs = ap (λ z. length (refs_of z)) x.1 in
       let few = x.2.whole.shape.0 in
       let low = tells.within in
       let h = place_some s m st is n (st.at n) tells.member (inl refl) in
+      let inside = h.2 in
+      let small = (entry_word s m st is number w drawn room read).3.small in
       record {
         is = read ∙ tells.entry;
-        entry = record { counter = reuse_fits s.limits s.words (word_of_field st.at n i / WORDS_IN_LINE); place = (h.0, h.1); index = omega (arith, size, few, low) };
+        small = small;
+        entry = record { counter = reuse_fits s.limits s.words (word_of_field st.at n i / WORDS_IN_LINE); place = (h.0, omega (arith, inside, small)); index = omega (arith, size, few, low) };
         in_heap = field_within s m st is n i (st.at n) tells.member tells.within (inl refl);
       }
 
   -- it is current
-  pub field_current : (w : ℕ) (answer : Bool) → w ≡ (tables_of s).remembered number
+  pub field_current : number < (tables_of s).cursors REMEMBERED_CURSOR → number < s.limits.remember → (w : ℕ) (answer : Bool) → w ≡ (tables_of s).remembered number
       → ((counter : ℕ) (place : Place) (index : ℕ) → IsEntryWord s.limits w counter place index → (IsTrue answer ↔ (counter ≡ (tables_of s).reuse (line_of_field place index)))) → IsTrue answer
-  field_current w answer read told = (told _ _ _ (field_entry w read)).1 refl
+  field_current drawn room w answer read told = (told _ _ _ (field_entry drawn room w read)).1 refl
 
   -- its parts
-  pub field_parts : (w : ℕ) (parts : ℕ × Place × ℕ) → w ≡ (tables_of s).remembered number → ((counter : ℕ) (place : Place) (index : ℕ) → IsEntry counter place index → w ≡ word_of_entry counter place index → parts ≡ (counter, place, index))
+  pub field_parts : number < (tables_of s).cursors REMEMBERED_CURSOR → number < s.limits.remember → (w : ℕ) (parts : ℕ × Place × ℕ) → w ≡ (tables_of s).remembered number → ((counter : ℕ) (place : Place) (index : ℕ) → IsEntry counter place index → w ≡ word_of_entry counter place index → parts ≡ (counter, place, index))
       → (parts.1.0 ≡ st.at n) × (parts.2 ≡ i)
-  field_parts w parts read told =
-      let entry = field_entry w read in
+  field_parts drawn room w parts read told =
+      let entry = field_entry drawn room w read in
       let e = told _ _ _ entry.entry entry.is in
       (ap (λ (x : ℕ × Place × ℕ). x.1.0) e, ap (λ (x : ℕ × Place × ℕ). x.2) e)
 

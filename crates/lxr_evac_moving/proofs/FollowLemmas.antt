@@ -6,7 +6,7 @@ use Rattle.lxr_layout.specs.declared.Header.TheVariants.{Moved, Object as AnObje
 use Rattle.lxr_layout.specs.declared.Name.{Name}
 use Rattle.lxr_layout.specs.declared.Place.{Place}
 use Rattle.lxr_layout.specs.declared.Shape.{Shape}
-use Rattle.lxr_layout.specs.declared.TheConstants.{WORDS_IN_BLOCK}
+use Rattle.lxr_layout.specs.declared.TheConstants.{MOST_GRANULES, WORDS_IN_BLOCK}
 use Rattle.lxr_layout.specs.Objects.{header_of}
 use Rattle.lxr_layout.specs.Places.{first_word}
 use Rattle.lxr_graph.specs.Names.{has}
@@ -43,7 +43,7 @@ module _ (s : Space) (m : Moment) (st : EvacuationStage) (is : IsEvacuating s m 
   held_some w (Some n) some holds = (n, refl, holds.member n refl, either_of st.at st.now w n holds.either)
 
   -- a word that holds something is a place of the heap
-  pub held_place : (w : ℕ) (held : Option Name) → w ≢ 0 → HoldsMember m st w held → (1 ≤ w) × (w ≤ 2 ^ 21) × (first_word w < WORDS_IN_BLOCK * s.limits.blocks)
+  pub held_place : (w : ℕ) (held : Option Name) → w ≢ 0 → HoldsMember m st w held → (1 ≤ w) × (w ≤ MOST_GRANULES) × (first_word w < WORDS_IN_BLOCK * s.limits.blocks)
   held_place w held some holds = let x = held_some w held some holds in let h = place_some s m st is x.0 w x.2 x.3 in (h.0, h.1, h.3)
 
   pub held_small : (w : ℕ) (held : Option Name) → HoldsMember m st w held → w < 2 ^ 32
@@ -95,7 +95,7 @@ module _ (s : Space) (m : Moment) (st : EvacuationStage) (is : IsEvacuating s m 
   -- ---- holders
 
   -- where a holder stands
-  pub holder_place : (n : Name) (p : ℕ) → IsHolder m st n p → (1 ≤ p) × (p ≤ 2 ^ 21) × (first_word p < WORDS_IN_BLOCK * s.limits.blocks)
+  pub holder_place : (n : Name) (p : ℕ) → IsHolder m st n p → (1 ≤ p) × (p ≤ MOST_GRANULES) × (first_word p < WORDS_IN_BLOCK * s.limits.blocks)
   holder_place n p holder = let h = place_some s m st is n p holder.member (inr holder.stands) in (h.0, h.1, h.3)
 
   -- its header tells how many references it has

@@ -6,13 +6,13 @@ use Rattle.std.proofs.lemmas.Bool.Decides.{eqb_tells}
 use Rattle.std.proofs.lemmas.Option.{slice_get-get_or, slice_get_within}
 use Rattle.lxr_layout.specs.declared.Name.{Name}
 use Rattle.lxr_layout.specs.declared.Place.{Place}
+use Rattle.lxr_image.proofs.SpaceLemmas.{space_alike}
 use Rattle.lxr_graph.proofs.RowLemmas.{slice_get-set}
 use Rattle.lxr_image.specs.declared.space.Space.{Space}
 use Rattle.lxr_image.specs.Spaces.{tables_of}
 use Rattle.lxr_image.specs.Image.{ArePlacesOf, place_word}
 use Rattle.lxr_model.specs.Moments.{Moment}
 use Rattle.lxr_model.specs.Reachable.{held as held_by}
-use Rattle.lxr_pause_promote.proofs.TableLemmas.{space_with}
 use Rattle.lxr_pause_promote.specs.Either.{HoldEither, HoldsEither}
 use Rattle.lxr_evac_moving.specs.Stages.{EvacuationStage, HasHeap, IsEvacuating, with_changed_tables, with_changes}
 use Rattle.lxr_evac_moving.specs.Steps.{HoldNow, HoldsMember}
@@ -105,7 +105,7 @@ pub evacuating_held : (a b : Space) (m : Moment) (st : EvacuationStage) → IsEv
     → HoldEither st.at st.now b.deferred.items m.last.registers → IsEvacuating b m st
 evacuating_held a b m st is keeps registers deferred =
     evacuating_with a b m st st.cleared is (subst (λ t. t ≡ with_changed_tables (tables_of a) t) (sym keeps.tables) refl) keeps.changes (record {
-      space = space_with a b keeps.limits (ap (λ t. t.size) keeps.tables) is.space;
+      space = space_alike a b keeps.limits (ap (λ t. t.size) keeps.tables) is.space;
       heap = subst (λ l. HasHeap (tables_of b) l.blocks m st) (sym keeps.limits) (heap_same (tables_of a) (tables_of b) a.limits.blocks m st st.cleared (ap (λ t. t.heap) keeps.tables) is.heap);
       bits = bits_same (tables_of a) (tables_of b) m st (ap (λ t. t.starts) keeps.tables) (ap (λ t. t.marks) keeps.tables) (ap (λ t. t.grays) keeps.tables) (ap (λ t. t.counts) keeps.tables) (ap (λ t. t.unlogged) keeps.tables) is.bits;
       lines = lines_same a b m st (record {

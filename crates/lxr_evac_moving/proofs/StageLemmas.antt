@@ -3,7 +3,7 @@ use Rattle.std.proofs.Common.{◌≡◌, ◌≢◌, ℕ, ◌+◌, ◌-◌, ◌*�
 use Rattle.std.specs.Prelude.{not, Some, IsTrue}
 use Rattle.std.proofs.lemmas.Bool.Decides.{eqb_tells, nat_tests}
 use Rattle.lxr_layout.specs.declared.Name.{Name}
-use Rattle.lxr_layout.specs.declared.TheConstants.{GRANULES_IN_BLOCK, WORDS_IN_BLOCK}
+use Rattle.lxr_layout.specs.declared.TheConstants.{GRANULES_IN_BLOCK, MOST_GRANULES, WORDS_IN_BLOCK}
 use Rattle.lxr_layout.specs.Places.{first_word}
 use Rattle.lxr_graph.specs.Names.{has}
 use Rattle.lxr_graph.specs.State.{Object, object_at, shape_of}
@@ -93,7 +93,7 @@ module _ (s : Space) (m : Moment) (st : EvacuationStage) (is : IsEvacuating s m 
       (x.placed, x.whole.in_heap, x.whole.in_block)
 
   -- so its place is one of the heap
-  pub place_some : (n : Name) (p : ℕ) → IsTrue (has m.unreclaimed n) → IsPlaceOf st.at st.now n p → (1 ≤ p) × (p ≤ 2 ^ 21) × (granule_of p < granules s) × (first_word p < WORDS_IN_BLOCK * s.limits.blocks)
+  pub place_some : (n : Name) (p : ℕ) → IsTrue (has m.unreclaimed n) → IsPlaceOf st.at st.now n p → (1 ≤ p) × (p ≤ MOST_GRANULES) × (granule_of p < granules s) × (first_word p < WORDS_IN_BLOCK * s.limits.blocks)
   place_some n p member place =
       let x = is.heap.stands n member in
       let within = place_within n x.0 p member x.1 place in

@@ -1,24 +1,12 @@
 //! Fixing the registers that hold moved objects, as they are now and as they were at the last pause.
-ghost use Rattle.std.specs.Prelude.{◌≡◌, ◌<◌, length, slice_get};
+ghost use Rattle.std.specs.Prelude.{◌≡◌, ◌<◌};
 ghost use Rattle.lxr_image.specs.Image.{ArePlacesOf};
 ghost use Rattle.lxr_model.specs.Moments.{Moment};
 ghost use Rattle.lxr_evac_moving.specs.Stages.{EvacuationStage, IsEvacuating};
 ghost use Rattle.lxr_evac_moving.specs.Steps.{FixesDeferred, FixesRegister, MayFixDeferred, MayFixRegister};
 
 use crate::references::present_place;
-use lxr_image::{Places, Space};
-use lxr_layout::Place;
-
-/// The place in a list at an index.
-fn place_at(places: &Places, index: usize) -> Place
-    requires { index < length places.now.items }
-    ensures { slice_get places.now.items index ≡ Some result }
-{
-    match places.get(index) {
-        Some(place) => place,
-        None => unreachable!(),
-    }
-}
+use lxr_image::Space;
 
 /// Puts into a register where what it holds stands now.
 fn fix_register(space: &mut Space, register: usize)
@@ -26,7 +14,7 @@ fn fix_register(space: &mut Space, register: usize)
     ensures fixes { FixesRegister space.old space.new register }
     ensures rest { space.new ≡ record space.old { registers = record space.old.registers { items = space.new.registers.items } } }
 {
-    let held = place_at(&space.registers, register);
+    let held = space.registers.at(register);
     let now = present_place(space, held);
     if now.0 != held.0 {
         space.registers.set(register, now);
@@ -50,7 +38,7 @@ fn fix_deferred_register(space: &mut Space, register: usize)
     ensures fixes { FixesDeferred space.old space.new register }
     ensures rest { space.new ≡ record space.old { deferred = record space.old.deferred { items = space.new.deferred.items } } }
 {
-    let held = place_at(&space.deferred, register);
+    let held = space.deferred.at(register);
     let now = present_place(space, held);
     if now.0 != held.0 {
         space.deferred.set(register, now);

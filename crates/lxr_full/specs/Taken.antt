@@ -1,6 +1,6 @@
 -- Objects that take all lines that aren't free, as a pause leaves them, and how many slots they touch at most.
 use Rattle.std.specs.Prelude.{◌≡◌, ◌≢◌, ℕ, ◌+◌, ◌-◌, ◌*◌, ◌<◌, ◌≤◌, false, Some, List, IsTrue}
-use Rattle.lxr_layout.specs.declared.TheConstants.{GRANULES_IN_LINE, LINES_IN_BLOCK}
+use Rattle.lxr_layout.specs.declared.TheConstants.{GRANULES_IN_LINE, LINES_IN_BLOCK, WORLD_LINES}
 use Rattle.lxr_layout.specs.declared.Name.{Name}
 use Rattle.lxr_layout.specs.declared.runs.Run.{Run}
 use Rattle.lxr_graph.specs.State.{Object, Graph, object_at}
@@ -21,9 +21,9 @@ IsOverlapped at g ns line =
     (n : Name) × (o : Object) × IsTrue (has ns n) × (object_at g n ≡ Some o)
     × (granule_of (at n) < GRANULES_IN_LINE * line + GRANULES_IN_LINE) × (GRANULES_IN_LINE * line < granule_of (at n) + granules_of o)
 
--- each line of the heap behind the world's three that isn't free is overlapped by one of these objects
+-- each line of the heap behind the world's that isn't free is overlapped by one of these objects
 abbrev pub LinesAreTaken : Tables → ℕ → (Name → ℕ) → Graph → List Name → Type 0
-LinesAreTaken t blocks at g ns = (line : ℕ) → 3 ≤ line → line < LINES_IN_BLOCK * blocks → is_free t line ≡ false → IsOverlapped at g ns line
+LinesAreTaken t blocks at g ns = (line : ℕ) → WORLD_LINES ≤ line → line < LINES_IN_BLOCK * blocks → is_free t line ≡ false → IsOverlapped at g ns line
 
 -- some of the objects of an image take each line that isn't free
 pub record TakeAllLines (t : Tables) (blocks : ℕ) (at : Name → ℕ) (g : Graph) (ms ns : List Name) : Type 0 where

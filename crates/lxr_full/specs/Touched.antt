@@ -1,13 +1,13 @@
 -- Slots of lines, and which of them objects have touched.
 use Rattle.std.specs.Prelude.{ℕ, zero, suc, ◌+◌, ◌-◌, ◌*◌, ◌/◌, ◌&&◌, not, Bool, true, if◌then◌else◌}
-use Rattle.lxr_layout.specs.declared.TheConstants.{LINES_IN_BLOCK}
+use Rattle.lxr_layout.specs.declared.TheConstants.{LINES_IN_BLOCK, WORLD_LINES}
 use Rattle.lxr_image.specs.Tables.{Tables}
 use Rattle.lxr_blocks.specs.Lines.{free_in}
 
 -- The lines of a block are cut into slots of k lines, one behind another, and lines are left over at its end. In block 0
--- the slots begin behind the three lines of the world.
+-- the slots begin behind the lines of the world.
 abbrev pub slots_begin : ℕ → ℕ
-slots_begin zero = 3
+slots_begin zero = WORLD_LINES
 slots_begin (suc b) = 0
 
 -- the slots of k lines that a block has

@@ -6,7 +6,7 @@ ghost use Rattle.lxr_graph.specs.Step.{IsWellFormed, cleared, fresh, get_from, l
 
 use crate::rows::{Body, Row, reference_of, set_reference, set_value, value_of};
 use crate::{Op, Reply};
-use lxr_layout::{Name, Shape};
+use lxr_layout::{Name, Shape, WORLD_REFS};
 use std::alloc::{AllocError, Global};
 use std::marker::Model;
 
@@ -62,7 +62,7 @@ impl Graph {
         let world = Body::new(
             alloc,
             Shape {
-                refs: 64,
+                refs: WORLD_REFS,
                 values: 0,
             },
         )?;

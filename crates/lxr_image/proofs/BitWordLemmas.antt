@@ -6,7 +6,7 @@ use Rattle.std.proofs.lemmas.Bool.Decides.{eqb_tells, leb_tells}
 use Rattle.std.proofs.lemmas.List.{get_or-set_same, get_or-set_other}
 use Rattle.std.proofs.Math.ListN.{get_or-eq_default, length-set}
 use Rattle.lxr_layout.specs.declared.limits.Limits.{Limits}
-use Rattle.lxr_layout.specs.Spaces.{region_begin, region_sizes}
+use Rattle.lxr_layout.specs.Spaces.{all_regions, region_begin, region_sizes}
 use Rattle.lxr_tables.specs.Entries.{table}
 use Rattle.lxr_tables.proofs.EntryLemmas.{entry_read, length-table, others_stay}
 use Rattle.lxr_image.specs.declared.tables.BitTable.{BitTable}
@@ -59,7 +59,7 @@ word_replaced l ws Unlogged at v region is = λ j. record (tables_from (length w
 word_replaced l ws Outs at v region is = λ j. record (tables_from (length ws) (cut (region_sizes l) ws)) { outs = λ i. is i j }
 
 -- a word of bits is written
-pub bit_word_written : (l : Limits) (ws : List ℕ) (t : BitTable) (at v : ℕ) → (tables_in l ws).size ≡ region_begin l 15 → at < slice_index (region_sizes l) (bit_region t)
+pub bit_word_written : (l : Limits) (ws : List ℕ) (t : BitTable) (at v : ℕ) → (tables_in l ws).size ≡ region_begin l all_regions → at < slice_index (region_sizes l) (bit_region t)
     → tables_in l (slice_set ws (region_begin l (bit_region t) + at) v) ≡ with_bit_word (tables_in l ws) t at v
 unfolding tables_in
 bit_word_written l ws t at v size within =

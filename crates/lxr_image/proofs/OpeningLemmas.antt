@@ -4,7 +4,7 @@ use Rattle.std.specs.Prelude.{Option, Some, None, map}
 use Rattle.std.proofs.lemmas.Bool.Decides.{eqb_tells}
 use Rattle.lxr_layout.specs.declared.limits.Limits.{Limits}
 use Rattle.lxr_layout.specs.declared.Name.{Name}
-use Rattle.lxr_layout.specs.Spaces.{AreLimits, region_begin}
+use Rattle.lxr_layout.specs.Spaces.{AreLimits, all_regions, region_begin}
 use Rattle.lxr_graph.specs.State.{object_at, opening, opening_registers, world, world_name}
 use Rattle.lxr_graph.specs.Names.{same_name}
 use Rattle.lxr_graph.proofs.NameSets.{has_one, same_itself}
@@ -78,9 +78,9 @@ new_turns a b l t u is turns =
     })
 
 -- a cleared space on which the world is placed and the blocks are listed is an opened one
-pub laid_out : (a b c : Space) (l : Limits) → IsNew a l (cleared_tables (region_begin l 15)) → Turns a b (with_world (tables_of a)) → Turns b c (with_blocks b.limits.blocks (tables_of b)) → IsOpened c l
+pub laid_out : (a b c : Space) (l : Limits) → IsNew a l (cleared_tables (region_begin l all_regions)) → Turns a b (with_world (tables_of a)) → Turns b c (with_blocks b.limits.blocks (tables_of b)) → IsOpened c l
 laid_out a b c l is placed listed =
-    let world_there = new_turns a b l (cleared_tables (region_begin l 15)) (with_world (tables_of a)) is placed in
+    let world_there = new_turns a b l (cleared_tables (region_begin l all_regions)) (with_world (tables_of a)) is placed in
     let blocks_there = new_turns b c l (with_world (tables_of a)) (with_blocks b.limits.blocks (tables_of b)) world_there listed in
     subst (IsNew c l) (ap (λ n. with_blocks n (tables_of b)) (ap (λ k. k.blocks) world_there.limits) ∙ ap (with_blocks l.blocks) (world_there.tables ∙ ap with_world is.tables)) blocks_there
 
@@ -98,7 +98,7 @@ opened_is_image s l allowed is = record {
 pub opened_is_space : (s : Space) (l : Limits) → AreLimits l → IsOpened s l → IsSpace s
 opened_is_space s l allowed is = record {
   limits = subst AreLimits (sym is.limits) allowed;
-  size = ap (λ t. t.size) is.tables ∙ ap (λ k. region_begin k 15) (sym is.limits);
+  size = ap (λ t. t.size) is.tables ∙ ap (λ k. region_begin k all_regions) (sym is.limits);
 }
 
 pub opened_stands_whole : (s : Space) → IsOpeningImage s → StartsStandWhole (tables_of s) s.limits.blocks

@@ -7,7 +7,7 @@ use Rattle.std.proofs.lemmas.List.{get_or-set_same, get_or-set_other}
 use Rattle.std.proofs.Math.ListN.{get_or-eq_default, length-set}
 use Rattle.lxr_layout.specs.declared.TheConstants.{GRANULES_IN_BLOCK, LINES_IN_BLOCK}
 use Rattle.lxr_layout.specs.declared.limits.Limits.{Limits}
-use Rattle.lxr_layout.specs.Spaces.{region_begin, region_sizes}
+use Rattle.lxr_layout.specs.Spaces.{all_regions, counts_region, region_begin, region_sizes, reuse_region}
 use Rattle.lxr_tables.specs.Entries.{OthersStay, table}
 use Rattle.lxr_tables.proofs.EntryLemmas.{IsWritten, entry_below, entry_read, others_stay, read_at, written_at}
 use Rattle.lxr_image.specs.declared.tables.BitTable.{BitTable}
@@ -68,7 +68,7 @@ pub bit_read : (l : Limits) (ws : List ℕ) (t : BitTable) (k : ℕ) → k < 64 
 bit_read l ws t k within = bit_table_is l ws t k ∙ ap (λ x. x == 1) (sym (region_read 1 64 (region_sizes l) ws (bit_region t) k (bit_region_known t) within))
 
 -- a bit is written
-pub bit_written : (l : Limits) (ws vs : List ℕ) (t : BitTable) (k e : ℕ) → (tables_in l ws).size ≡ region_begin l 15 → k < 64 * slice_index (region_sizes l) (bit_region t)
+pub bit_written : (l : Limits) (ws vs : List ℕ) (t : BitTable) (k e : ℕ) → (tables_in l ws).size ≡ region_begin l all_regions → k < 64 * slice_index (region_sizes l) (bit_region t)
     → table 1 64 (drop (region_begin l (bit_region t)) vs) ≡ slice_set (table 1 64 (drop (region_begin l (bit_region t)) ws)) k e
     → OthersStay ws vs (region_begin l (bit_region t) + k / 64)
     → tables_in l vs ≡ with_bit (tables_in l ws) t k (e == 1)
@@ -84,19 +84,19 @@ bit_written l ws vs t k e size within written others =
     ∙ bits_replaced l ws t k (e == 1) new (entry (λ x. x == 1) (table 1 64 old) (table 1 64 new) k e (region_entry_written 1 64 sizes ws vs n k e known within written) (omega arith))
 
 -- the word of a bit is one of the words
-pub bit_within : (l : Limits) (ws : List ℕ) (t : BitTable) (k : ℕ) → (tables_in l ws).size ≡ region_begin l 15 → k < 64 * slice_index (region_sizes l) (bit_region t)
+pub bit_within : (l : Limits) (ws : List ℕ) (t : BitTable) (k : ℕ) → (tables_in l ws).size ≡ region_begin l all_regions → k < 64 * slice_index (region_sizes l) (bit_region t)
     → region_begin l (bit_region t) + k / 64 < length ws
 unfolding tables_in
 bit_within l ws t k size within = region_within (region_sizes l) ws (bit_region t) (k / 64) (bit_region_known t) (omega arith) (omega arith)
 
 -- a word of bits is one of the words
-pub bit_word_within : (l : Limits) (ws : List ℕ) (t : BitTable) (at : ℕ) → (tables_in l ws).size ≡ region_begin l 15 → at < slice_index (region_sizes l) (bit_region t)
+pub bit_word_within : (l : Limits) (ws : List ℕ) (t : BitTable) (at : ℕ) → (tables_in l ws).size ≡ region_begin l all_regions → at < slice_index (region_sizes l) (bit_region t)
     → region_begin l (bit_region t) + at < length ws
 unfolding tables_in
 bit_word_within l ws t at size within = region_within (region_sizes l) ws (bit_region t) at (bit_region_known t) within (omega arith)
 
 -- and each of its bits is one of the table
-pub bit_of_word : (l : Limits) (ws : List ℕ) (t : BitTable) (at i : ℕ) → (tables_in l ws).size ≡ region_begin l 15 → at < slice_index (region_sizes l) (bit_region t) → i < 64
+pub bit_of_word : (l : Limits) (ws : List ℕ) (t : BitTable) (at i : ℕ) → (tables_in l ws).size ≡ region_begin l all_regions → at < slice_index (region_sizes l) (bit_region t) → i < 64
     → bit_table (tables_in l ws) t (64 * at + i) ≡ (bit_at (slice_index ws (region_begin l (bit_region t) + at)) i == 1)
 bit_of_word l ws t at i size within in_word =
     let k : ℕ = 64 * at + i in
@@ -145,13 +145,13 @@ pub word_read : (l : Limits) (ws : List ℕ) (t : WordTable) (k : ℕ) → k < s
     → slice_index ws (region_begin l (word_region t) + k) ≡ word_table (tables_in l ws) t k
 word_read l ws t k within = region_word (region_sizes l) ws (word_region t) k (word_region_known t) within ∙ sym (word_table_is l ws t k)
 
-pub word_within : (l : Limits) (ws : List ℕ) (t : WordTable) (k : ℕ) → (tables_in l ws).size ≡ region_begin l 15 → k < slice_index (region_sizes l) (word_region t)
+pub word_within : (l : Limits) (ws : List ℕ) (t : WordTable) (k : ℕ) → (tables_in l ws).size ≡ region_begin l all_regions → k < slice_index (region_sizes l) (word_region t)
     → region_begin l (word_region t) + k < length ws
 unfolding tables_in
 word_within l ws t k size within = region_within (region_sizes l) ws (word_region t) k (word_region_known t) within (omega arith)
 
 -- a word is written
-pub word_written : (l : Limits) (ws : List ℕ) (t : WordTable) (k v : ℕ) → (tables_in l ws).size ≡ region_begin l 15 → k < slice_index (region_sizes l) (word_region t)
+pub word_written : (l : Limits) (ws : List ℕ) (t : WordTable) (k v : ℕ) → (tables_in l ws).size ≡ region_begin l all_regions → k < slice_index (region_sizes l) (word_region t)
     → tables_in l (slice_set ws (region_begin l (word_region t) + k) v) ≡ with_word (tables_in l ws) t k v
 unfolding tables_in
 word_written l ws t k v size within =
@@ -167,30 +167,30 @@ word_written l ws t k v size within =
 
 -- ---- reference counts
 
-pub count_read : (l : Limits) (ws : List ℕ) (g : ℕ) → g < GRANULES_IN_BLOCK * l.blocks → slice_index (table 2 32 (drop (region_begin l 1) ws)) g ≡ (tables_in l ws).counts g
+pub count_read : (l : Limits) (ws : List ℕ) (g : ℕ) → g < GRANULES_IN_BLOCK * l.blocks → slice_index (table 2 32 (drop (region_begin l counts_region) ws)) g ≡ (tables_in l ws).counts g
 unfolding tables_in
 count_read l ws g within = region_read 2 32 (region_sizes l) ws 1 g (lit< tt) (omega arith)
 
-pub count_within : (l : Limits) (ws : List ℕ) (g : ℕ) → (tables_in l ws).size ≡ region_begin l 15 → g < GRANULES_IN_BLOCK * l.blocks → region_begin l 1 + g / 32 < length ws
+pub count_within : (l : Limits) (ws : List ℕ) (g : ℕ) → (tables_in l ws).size ≡ region_begin l all_regions → g < GRANULES_IN_BLOCK * l.blocks → region_begin l counts_region + g / 32 < length ws
 unfolding tables_in
 count_within l ws g size within = region_within (region_sizes l) ws 1 (g / 32) (lit< tt) (omega arith) (omega arith)
 
 -- a count by the word that it stands in
-pub count_of_word : (l : Limits) (ws : List ℕ) (at i : ℕ) → (tables_in l ws).size ≡ region_begin l 15 → at < 64 * l.blocks → i < 32
-    → slice_index ws (region_begin l 1 + at) / 2 ^ (2 * i) % 4 ≡ (tables_in l ws).counts (32 * at + i)
+pub count_of_word : (l : Limits) (ws : List ℕ) (at i : ℕ) → (tables_in l ws).size ≡ region_begin l all_regions → at < 64 * l.blocks → i < 32
+    → slice_index ws (region_begin l counts_region + at) / 2 ^ (2 * i) % 4 ≡ (tables_in l ws).counts (32 * at + i)
 count_of_word l ws at i size within in_word =
     let g : ℕ = 32 * at + i in
     let word : g / 32 ≡ at = omega arith in
     let place : g % 32 ≡ i = omega arith in
-    sym (ap (λ x. slice_index ws (region_begin l 1 + x) / 2 ^ (2 * (g % 32)) % 2 ^ 2) word ∙ ap (λ x. slice_index ws (region_begin l 1 + at) / 2 ^ (2 * x) % 2 ^ 2) place)
-    ∙ sym (entry_read 2 32 (region_begin l 1) g ws (lit< tt) (count_within l ws g size (omega arith))) ∙ count_read l ws g (omega arith)
+    sym (ap (λ x. slice_index ws (region_begin l counts_region + x) / 2 ^ (2 * (g % 32)) % 2 ^ 2) word ∙ ap (λ x. slice_index ws (region_begin l counts_region + at) / 2 ^ (2 * x) % 2 ^ 2) place)
+    ∙ sym (entry_read 2 32 (region_begin l counts_region) g ws (lit< tt) (count_within l ws g size (omega arith))) ∙ count_read l ws g (omega arith)
 
-pub count_word_within : (l : Limits) (ws : List ℕ) (at : ℕ) → (tables_in l ws).size ≡ region_begin l 15 → at < 64 * l.blocks → region_begin l 1 + at < length ws
+pub count_word_within : (l : Limits) (ws : List ℕ) (at : ℕ) → (tables_in l ws).size ≡ region_begin l all_regions → at < 64 * l.blocks → region_begin l counts_region + at < length ws
 unfolding tables_in
 count_word_within l ws at size within = region_within (region_sizes l) ws 1 at (lit< tt) (omega arith) (omega arith)
 
-pub count_written : (l : Limits) (ws vs : List ℕ) (g e : ℕ) → (tables_in l ws).size ≡ region_begin l 15 → g < GRANULES_IN_BLOCK * l.blocks
-    → table 2 32 (drop (region_begin l 1) vs) ≡ slice_set (table 2 32 (drop (region_begin l 1) ws)) g e → OthersStay ws vs (region_begin l 1 + g / 32)
+pub count_written : (l : Limits) (ws vs : List ℕ) (g e : ℕ) → (tables_in l ws).size ≡ region_begin l all_regions → g < GRANULES_IN_BLOCK * l.blocks
+    → table 2 32 (drop (region_begin l counts_region) vs) ≡ slice_set (table 2 32 (drop (region_begin l counts_region) ws)) g e → OthersStay ws vs (region_begin l counts_region + g / 32)
     → tables_in l vs ≡ record (tables_in l ws) { counts = changed (tables_in l ws).counts g e }
 unfolding tables_in
 count_written l ws vs g e size within written others =
@@ -203,16 +203,16 @@ count_written l ws vs g e size within written others =
 
 -- ---- reuse counters
 
-pub reuse_read : (l : Limits) (ws : List ℕ) (n : ℕ) → n < LINES_IN_BLOCK * l.blocks → slice_index (table 32 2 (drop (region_begin l 7) ws)) n ≡ (tables_in l ws).reuse n
+pub reuse_read : (l : Limits) (ws : List ℕ) (n : ℕ) → n < LINES_IN_BLOCK * l.blocks → slice_index (table 32 2 (drop (region_begin l reuse_region) ws)) n ≡ (tables_in l ws).reuse n
 unfolding tables_in
 reuse_read l ws n within = region_read 32 2 (region_sizes l) ws 7 n (lit< tt) (omega arith)
 
-pub reuse_within : (l : Limits) (ws : List ℕ) (n : ℕ) → (tables_in l ws).size ≡ region_begin l 15 → n < LINES_IN_BLOCK * l.blocks → region_begin l 7 + n / 2 < length ws
+pub reuse_within : (l : Limits) (ws : List ℕ) (n : ℕ) → (tables_in l ws).size ≡ region_begin l all_regions → n < LINES_IN_BLOCK * l.blocks → region_begin l reuse_region + n / 2 < length ws
 unfolding tables_in
 reuse_within l ws n size within = region_within (region_sizes l) ws 7 (n / 2) (lit< tt) (omega arith) (omega arith)
 
-pub reuse_written : (l : Limits) (ws vs : List ℕ) (n e : ℕ) → (tables_in l ws).size ≡ region_begin l 15 → n < LINES_IN_BLOCK * l.blocks
-    → table 32 2 (drop (region_begin l 7) vs) ≡ slice_set (table 32 2 (drop (region_begin l 7) ws)) n e → OthersStay ws vs (region_begin l 7 + n / 2)
+pub reuse_written : (l : Limits) (ws vs : List ℕ) (n e : ℕ) → (tables_in l ws).size ≡ region_begin l all_regions → n < LINES_IN_BLOCK * l.blocks
+    → table 32 2 (drop (region_begin l reuse_region) vs) ≡ slice_set (table 32 2 (drop (region_begin l reuse_region) ws)) n e → OthersStay ws vs (region_begin l reuse_region + n / 2)
     → tables_in l vs ≡ record (tables_in l ws) { reuse = changed (tables_in l ws).reuse n e }
 unfolding tables_in
 reuse_written l ws vs n e size within written others =
@@ -229,20 +229,20 @@ test_of true x (from, back) = sym (eq-eqb x 1 (from refl))
 test_of false x (from, back) = elim (eqb_tells x 1) [ inl k ↦ back k.1 ∙ sym k.0 | inr k ↦ sym k.0 ]
 
 -- the half of a word that was read
-pub half_is : (l : Limits) (ws : List ℕ) (n at w : ℕ) → (tables_in l ws).size ≡ region_begin l 15 → n < LINES_IN_BLOCK * l.blocks → at ≡ region_begin l 7 + n / 2 → w ≡ slice_index ws at
+pub half_is : (l : Limits) (ws : List ℕ) (n at w : ℕ) → (tables_in l ws).size ≡ region_begin l all_regions → n < LINES_IN_BLOCK * l.blocks → at ≡ region_begin l reuse_region + n / 2 → w ≡ slice_index ws at
     → w / 2 ^ (32 * (n % 2)) % 2 ^ 32 ≡ (tables_in l ws).reuse n
-half_is l ws n at w size within at_is w_is = read_at 32 2 (region_begin l 7) n ws at w (32 * (n % 2)) (lit< tt) (reuse_within l ws n size within) at_is w_is refl ∙ reuse_read l ws n within
+half_is l ws n at w size within at_is w_is = read_at 32 2 (region_begin l reuse_region) n ws at w (32 * (n % 2)) (lit< tt) (reuse_within l ws n size within) at_is w_is refl ∙ reuse_read l ws n within
 
 -- a half of a word that was read is written
-pub half_put : (l : Limits) (ws vs : List ℕ) (n at w v e : ℕ) → (tables_in l ws).size ≡ region_begin l 15 → n < LINES_IN_BLOCK * l.blocks → at ≡ region_begin l 7 + n / 2 → w ≡ slice_index ws at → vs ≡ slice_set ws at v
+pub half_put : (l : Limits) (ws vs : List ℕ) (n at w v e : ℕ) → (tables_in l ws).size ≡ region_begin l all_regions → n < LINES_IN_BLOCK * l.blocks → at ≡ region_begin l reuse_region + n / 2 → w ≡ slice_index ws at → vs ≡ slice_set ws at v
     → e < 2 ^ 32 → IsWritten 32 w v (n % 2) e → tables_in l vs ≡ record (tables_in l ws) { reuse = changed (tables_in l ws).reuse n e }
 half_put l ws vs n at w v e size within at_is w_is vs_is fits written =
     let inside = reuse_within l ws n size within in
-    reuse_written l ws vs n e size within (written_at 32 2 (region_begin l 7) n ws vs at w v e (lit< tt) inside fits at_is w_is vs_is written)
-    (subst (λ x. OthersStay ws x (region_begin l 7 + n / 2)) (sym (vs_is ∙ ap (λ k. slice_set ws k v) at_is)) (others_stay ws (region_begin l 7 + n / 2) v inside))
+    reuse_written l ws vs n e size within (written_at 32 2 (region_begin l reuse_region) n ws vs at w v e (lit< tt) inside fits at_is w_is vs_is written)
+    (subst (λ x. OthersStay ws x (region_begin l reuse_region + n / 2)) (sym (vs_is ∙ ap (λ k. slice_set ws k v) at_is)) (others_stay ws (region_begin l reuse_region + n / 2) v inside))
 
 -- past the heap no object begins
-pub no_start_past : (l : Limits) (ws : List ℕ) (g : ℕ) → (tables_in l ws).size ≡ region_begin l 15 → GRANULES_IN_BLOCK * l.blocks ≤ g → (tables_in l ws).starts g ≡ false
+pub no_start_past : (l : Limits) (ws : List ℕ) (g : ℕ) → (tables_in l ws).size ≡ region_begin l all_regions → GRANULES_IN_BLOCK * l.blocks ≤ g → (tables_in l ws).starts g ≡ false
 unfolding tables_in
 no_start_past l ws g size past =
     let region : List ℕ = slice_index_or (cut (region_sizes l) ws) 2 [] in
@@ -251,7 +251,7 @@ no_start_past l ws g size past =
     ap (λ x. x == 1) none
 
 -- past the last block no state is told
-pub no_state_past : (l : Limits) (ws : List ℕ) (b : ℕ) → (tables_in l ws).size ≡ region_begin l 15 → l.blocks ≤ b → (tables_in l ws).states b ≡ 0
+pub no_state_past : (l : Limits) (ws : List ℕ) (b : ℕ) → (tables_in l ws).size ≡ region_begin l all_regions → l.blocks ≤ b → (tables_in l ws).states b ≡ 0
 unfolding tables_in
 no_state_past l ws b size past =
     let region : List ℕ = slice_index_or (cut (region_sizes l) ws) 9 [] in

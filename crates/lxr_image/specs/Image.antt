@@ -41,7 +41,7 @@ pub record IsImage (t : Tables) (blocks : ℕ) (at : Name → ℕ) (g : Graph) (
 -- Start bits stand exactly at the places of these names, so their places and names are read off the tables.
 pub record StartsAre (t : Tables) (at : Name → ℕ) (us : List Name) : Type 0 where
   pub each : (n : Name) → IsTrue (has us n) → IsTrue (t.starts (granule_of (at n)))
-  pub only : (g : ℕ) → IsTrue (t.starts g) → (n : Name) × IsTrue (has us n) × (granule_of (at n) ≡ g)
+  pub only : (k : ℕ) → IsTrue (t.starts k) → (n : Name) × IsTrue (has us n) × (granule_of (at n) ≡ k)
 
 -- places are those of what registers hold
 abbrev pub ArePlacesOf : (Name → ℕ) → List Place → List (Option Name) → Type 0

@@ -4,10 +4,10 @@ use Rattle.lxr_layout.specs.declared.limits.Limits.{Limits}
 use Rattle.lxr_layout.specs.declared.runs.Run.{Run}
 use Rattle.lxr_layout.specs.declared.Name.{Name}
 use Rattle.lxr_layout.specs.declared.Place.{Place}
-use Rattle.lxr_layout.specs.declared.TheConstants.{FREE_BLOCK_COUNT, GRANULES_IN_BLOCK, GRANULES_IN_LINE, RUN_COUNT, STUCK}
+use Rattle.lxr_layout.specs.declared.TheConstants.{FREE_BLOCK_COUNT, GRANULES_IN_BLOCK, GRANULES_IN_LINE, LINES_IN_BLOCK, RUN_COUNT, STUCK, WORLD_LINES, WORLD_REFS}
 use Rattle.lxr_layout.specs.Objects.{header_word}
 use Rattle.lxr_layout.specs.Runs.{word_of_run}
-use Rattle.lxr_layout.specs.Spaces.{region_begin}
+use Rattle.lxr_layout.specs.Spaces.{all_regions, region_begin}
 use Rattle.lxr_graph.specs.declared.report.Kind.TheVariants.{Plain}
 use Rattle.lxr_graph.specs.declared.report.Report.{Report}
 use Rattle.lxr_graph.specs.State.{world, world_name, shape_of, opening_registers}
@@ -44,7 +44,7 @@ with_world t = record t {
   heap = changed t.heap 0 (header_word world_name (shape_of world));
   starts = changed t.starts 0 true;
   counts = changed (changed (changed t.counts 0 STUCK) GRANULES_IN_LINE STUCK) (2 * GRANULES_IN_LINE) STUCK;
-  unlogged = λ w. if nat_le 1 w && nat_le w 64 then true else t.unlogged w;
+  unlogged = λ w. if nat_le 1 w && nat_le w WORLD_REFS then true else t.unlogged w;
 }
 
 -- the state of the world's block, as its number
@@ -53,7 +53,7 @@ world_state = 4
 
 -- the lines of the world's block that the world leaves
 abbrev pub first_run : Run
-first_run = record { block = 0; line = 3; lines = 125 }
+first_run = record { block = 0; line = WORLD_LINES; lines = LINES_IN_BLOCK - WORLD_LINES }
 
 -- Block 0 is the world's. The run table has its run, the free table all other blocks in order, and the cursors their numbers.
 abbrev pub with_blocks : ℕ → Tables → Tables
@@ -66,7 +66,7 @@ with_blocks blocks t = record t {
 
 -- the tables of an opened space
 abbrev pub opened_tables : Limits → Tables
-opened_tables l = with_blocks l.blocks (with_world (cleared_tables (region_begin l 15)))
+opened_tables l = with_blocks l.blocks (with_world (cleared_tables (region_begin l all_regions)))
 
 -- where a name that a register holds at the opening stands: the world is at place 1, and 0 is nil
 abbrev pub opening_place : Option Name → Place

@@ -7,11 +7,8 @@ use Rattle.lxr_layout.specs.declared.Header.{Header}
 use Rattle.lxr_layout.specs.declared.Header.TheVariants.{Object, Moved}
 use Rattle.lxr_layout.specs.Objects.{FitsShape, header_of, header_word, word_count}
 use Rattle.lxr_layout.specs.Places.{first_word}
+pub use Rattle.lxr_layout.specs.Places.{granule_of}
 use Rattle.lxr_image.specs.Tables.{Tables}
-
--- the granule of a place, counted over the whole heap; places count from 1, granules from 0
-abbrev pub granule_of : ℕ → ℕ
-granule_of p = p - 1
 
 -- what the header word at a place says, where a start bit stands there
 abbrev pub header_at : Tables → ℕ → Option Header
@@ -34,6 +31,11 @@ datum_in t p i None = None
 
 abbrev pub datum_at : Tables → ℕ → ℕ → Option ℕ
 datum_at t p i = datum_in t p i (header_at t p)
+
+-- how many references a header tells: none where the object was moved
+abbrev pub slots_of : Header → ℕ
+slots_of (Object n s) = s.refs
+slots_of (Moved q) = 0
 
 -- a name that a header can say
 pub record IsName (n : Name) : Type 0 where

@@ -2,7 +2,7 @@
 use Rattle.std.specs.Prelude.{◌≡◌, ℕ, ◌*◌, ◌/◌, ◌%◌, ◌^◌, ◌<◌, ◌≤◌, ◌==◌, Bool, false, if◌then◌else◌}
 use Rattle.std.specs.Int.{bit_at}
 use Rattle.lxr_layout.specs.declared.TheConstants.{GRANULES_IN_BLOCK, STUCK}
-use Rattle.lxr_layout.specs.Spaces.{AreLimits, region_begin}
+use Rattle.lxr_layout.specs.Spaces.{AreLimits, all_regions, cursors_region, decs_region, dones_region, frees_region, grays_region, heap_region, marks_region, outs_region, region_begin, remembered_region, runs_region, starts_region, states_region, unlogged_region}
 use Rattle.lxr_image.specs.declared.space.Space.{Space}
 use Rattle.lxr_image.specs.declared.tables.BitTable.{BitTable}
 use Rattle.lxr_image.specs.declared.tables.BitTable.TheVariants as bit
@@ -17,7 +17,7 @@ tables_of s = tables_in s.limits s.words
 -- an open space: its limits are allowed ones, and it has as many words as they ask for
 pub record IsSpace (s : Space) : Type 0 where
   pub limits : AreLimits s.limits
-  pub size : (tables_of s).size ≡ region_begin s.limits 15
+  pub size : (tables_of s).size ≡ region_begin s.limits all_regions
 
 -- the tables are these now, and nothing but the words has changed
 pub record Turns (before after : Space) (t : Tables) : Type 0 where
@@ -39,21 +39,21 @@ NoneStartsPast = (s : Space) (g : ℕ) → IsSpace s → GRANULES_IN_BLOCK * s.l
 
 -- the region of a table of bits, and of a table of words
 abbrev pub bit_region : BitTable → ℕ
-bit_region bit.Starts = 2
-bit_region bit.Marks = 3
-bit_region bit.Grays = 4
-bit_region bit.Dones = 5
-bit_region bit.Unlogged = 6
-bit_region bit.Outs = 8
+bit_region bit.Starts = starts_region
+bit_region bit.Marks = marks_region
+bit_region bit.Grays = grays_region
+bit_region bit.Dones = dones_region
+bit_region bit.Unlogged = unlogged_region
+bit_region bit.Outs = outs_region
 
 abbrev pub word_region : WordTable → ℕ
-word_region word.Heap = 0
-word_region word.States = 9
-word_region word.Runs = 10
-word_region word.Frees = 11
-word_region word.Decrements = 12
-word_region word.Remembered = 13
-word_region word.Cursors = 14
+word_region word.Heap = heap_region
+word_region word.States = states_region
+word_region word.Runs = runs_region
+word_region word.Frees = frees_region
+word_region word.Decrements = decs_region
+word_region word.Remembered = remembered_region
+word_region word.Cursors = cursors_region
 
 -- the table of that name
 abbrev pub bit_table : Tables → BitTable → ℕ → Bool

@@ -2,7 +2,7 @@
 use Rattle.std.specs.Prelude.{ℕ, ◌==◌, Bool, List, [], ◌∷◌, take, drop, length, slice_index, slice_index_or, nat_eq, if◌then◌else◌}
 use Rattle.lxr_layout.specs.declared.limits.Limits.{Limits}
 use Rattle.lxr_layout.specs.declared.TheConstants.{COUNT_BITS}
-use Rattle.lxr_layout.specs.Spaces.{region_sizes}
+use Rattle.lxr_layout.specs.Spaces.{counts_region, cursors_region, decs_region, dones_region, frees_region, grays_region, heap_region, marks_region, outs_region, region_sizes, remembered_region, reuse_region, runs_region, starts_region, states_region, unlogged_region}
 use Rattle.lxr_tables.specs.declared.counts.TheConstants.{COUNTS_IN_WORD}
 use Rattle.lxr_tables.specs.Entries.{table}
 
@@ -44,16 +44,19 @@ abbrev pub cut : List ℕ → List ℕ → List (List ℕ)
 cut [] words = []
 cut (size ∷ sizes) words = take size words ∷ cut sizes (drop size words)
 
--- a region's words as a table of words, of bits, of reference counts, and of 32-bit halves, the low half first
+-- a region's words as a table of words
 abbrev pub words_in : List ℕ → ℕ → ℕ
 words_in words k = slice_index words k
 
+-- as a table of bits, 64 a word, the lowest first
 abbrev pub bits_in : List ℕ → ℕ → Bool
 bits_in words k = slice_index (table 1 64 words) k == 1
 
+-- as a table of reference counts, the lowest first
 abbrev pub counts_in : List ℕ → ℕ → ℕ
 counts_in words k = slice_index (table COUNT_BITS COUNTS_IN_WORD words) k
 
+-- as a table of 32-bit halves, the low half first
 abbrev pub halves_in : List ℕ → ℕ → ℕ
 halves_in words k = slice_index (table 32 2 words) k
 
@@ -63,21 +66,21 @@ tables_from size regions =
     let region : ℕ → List ℕ = λ n. slice_index_or regions n [] in
     record {
       size = size;
-      heap = words_in (region 0);
-      counts = counts_in (region 1);
-      starts = bits_in (region 2);
-      marks = bits_in (region 3);
-      grays = bits_in (region 4);
-      dones = bits_in (region 5);
-      unlogged = bits_in (region 6);
-      reuse = halves_in (region 7);
-      outs = bits_in (region 8);
-      states = words_in (region 9);
-      runs = words_in (region 10);
-      frees = words_in (region 11);
-      decs = words_in (region 12);
-      remembered = words_in (region 13);
-      cursors = words_in (region 14);
+      heap = words_in (region heap_region);
+      counts = counts_in (region counts_region);
+      starts = bits_in (region starts_region);
+      marks = bits_in (region marks_region);
+      grays = bits_in (region grays_region);
+      dones = bits_in (region dones_region);
+      unlogged = bits_in (region unlogged_region);
+      reuse = halves_in (region reuse_region);
+      outs = bits_in (region outs_region);
+      states = words_in (region states_region);
+      runs = words_in (region runs_region);
+      frees = words_in (region frees_region);
+      decs = words_in (region decs_region);
+      remembered = words_in (region remembered_region);
+      cursors = words_in (region cursors_region);
     }
 
 -- the tables that words are, by the limits of their space

@@ -1,11 +1,13 @@
 //! Objects as they are read by their places.
 ghost use Rattle.std.specs.Prelude.{◌≡◌, ◌*◌, ◌≤◌, ◌&&◌, IsTrue, nat_le};
 ghost use Rattle.lxr_layout.specs.declared.TheConstants.{GRANULES_IN_BLOCK};
-ghost use Rattle.lxr_image.specs.Reads.{StartsStandWhole, datum_at, field_at, granule_of, header_at};
+ghost use Rattle.lxr_layout.specs.Objects.{header_of};
+ghost use Rattle.lxr_layout.specs.Places.{first_word};
+ghost use Rattle.lxr_image.specs.Reads.{StartsStandWhole, datum_at, field_at, granule_of, header_at, slots_of};
 ghost use Rattle.lxr_image.specs.Spaces.{IsSpace, tables_of};
 
 use crate::Space;
-use lxr_layout::{GRANULES_IN_BLOCK, Header, Place, field_word, unpack, word_of};
+use lxr_layout::{GRANULES_IN_BLOCK, Header, Place, field_word, granule_of, unpack, word_of};
 
 impl Space {
     /// Whether an unreclaimed object begins at a place.
@@ -20,7 +22,7 @@ impl Space {
         if GRANULES_IN_BLOCK * self.limits.blocks < place.0 {
             return false;
         }
-        self.has_start(place.0 - 1)
+        self.has_start(granule_of(place))
     }
 
     /// What the header of the unreclaimed object at a place says. None where no start bit stands at a place of the
@@ -33,6 +35,18 @@ impl Space {
             return None;
         }
         Some(unpack(self.heap_word(word_of(place))))
+    }
+
+    /// How many references the object at a place of the heap has by its header; 0 where it was moved.
+    pub fn reference_slots(&self, place: Place) -> u16
+        requires space { IsSpace self.now }
+        requires heap { (1 ≤ place.0) × (place.0 ≤ GRANULES_IN_BLOCK * self.now.limits.blocks) }
+        ensures { result ≡ slots_of (header_of ((tables_of self.now).heap (first_word place.0))) }
+    {
+        match unpack(self.heap_word(word_of(place))) {
+            Header::Object(_, shape) => shape.refs,
+            Header::Moved(_) => 0,
+        }
     }
 
     /// The word of a reference of the unreclaimed object at a place: the place that it holds, and 0 for nil. None

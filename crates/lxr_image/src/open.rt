@@ -8,14 +8,15 @@ ghost use Rattle.lxr_image.specs.Image.{IsOpeningImage};
 ghost use Rattle.lxr_image.specs.Opened.{HasReportRoom, IsBlank, IsNew, IsOpened, cleared_tables, no_tally, opening_place, with_blocks, with_world};
 ghost use Rattle.lxr_image.specs.Reads.{StartsStandWhole};
 ghost use Rattle.lxr_image.specs.Spaces.{IsSpace, Turns, tables_of};
-ghost use Rattle.lxr_layout.specs.Spaces.{AreLimits, region_begin};
+ghost use Rattle.lxr_layout.specs.declared.TheConstants.{MOST_GRANULES};
+ghost use Rattle.lxr_layout.specs.Spaces.{AreLimits, all_regions, region_begin};
 
 use crate::{Places, Space, Tally};
 use lxr_base::Listed;
 use lxr_graph::{Kind, Report};
 use lxr_layout::{
-    FREE_BLOCK_COUNT, GRANULES_IN_BLOCK, Limits, Name, Place, RUN_COUNT, Run, STUCK, Shape, pack,
-    regions, run_word,
+    FREE_BLOCK_COUNT, GRANULES_IN_BLOCK, GRANULES_IN_LINE, LINES_IN_BLOCK, Limits, Name, Place,
+    RUN_COUNT, Run, STUCK, Shape, WORLD_LINES, WORLD_REFS, pack, regions, run_word,
 };
 use lxr_tables::{PlainWords, Words};
 use std::alloc::{AllocError, Global};
@@ -62,7 +63,7 @@ fn opening_places(alloc: Global, threads: u8) -> Result<Places, AllocError>
 
 /// The report of no pause, with room for what a pause of so many granules can report.
 fn blank_report(alloc: Global, granules: usize) -> Result<Report, AllocError>
-    requires { granules ≤ 2 ^ 21 }
+    requires { granules ≤ MOST_GRANULES }
     ensures blank { IfOk result (λ report. IsBlank report) }
     ensures room { IfOk result (λ report. HasReportRoom report granules) }
 {
@@ -151,7 +152,7 @@ impl Space {
     /// A space of these limits in which all words are 0.
     fn with_room(alloc: Global, limits: Limits) -> Result<Space, AllocError>
         requires { AreLimits limits }
-        ensures { IfOk result (λ space. IsNew space limits (cleared_tables (region_begin limits 15))) }
+        ensures { IfOk result (λ space. IsNew space limits (cleared_tables (region_begin limits all_regions))) }
     {
         let granules = (GRANULES_IN_BLOCK * limits.blocks) as usize;
         Ok(Space {
@@ -180,15 +181,15 @@ impl Space {
             serial: 0,
         };
         let shape = Shape {
-            refs: 64,
+            refs: WORLD_REFS,
             values: 0,
         };
         self.put_heap(0, pack(name, shape));
         self.set_start(0);
         self.set_count(0, STUCK);
-        self.set_count(16, STUCK);
-        self.set_count(32, STUCK);
-        for at in 1..65 {
+        self.set_count(GRANULES_IN_LINE, STUCK);
+        self.set_count(2 * GRANULES_IN_LINE, STUCK);
+        for at in 1..1 + u32::from(WORLD_REFS) {
             self.set_unlogged(at);
         }
     }
@@ -200,8 +201,8 @@ impl Space {
     {
         let run = Run {
             block: 0,
-            line: 3,
-            lines: 125,
+            line: WORLD_LINES as u8,
+            lines: (LINES_IN_BLOCK - WORLD_LINES) as u8,
         };
         self.put_state(0, WORLD_STATE);
         self.put_run(0, run_word(run));

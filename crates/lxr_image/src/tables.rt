@@ -8,7 +8,7 @@ ghost use Rattle.std.specs.Int.{bit_at};
 ghost use Rattle.lxr_layout.specs.declared.TheConstants.{GRANULES_IN_BLOCK, GRANULES_IN_LINE, LINES_IN_BLOCK, WORDS_IN_BLOCK};
 ghost use Rattle.lxr_image.specs.Spaces.{IsSpace, Turns, bit_region, bit_table, tables_of, with_bit, with_bit_word, with_word, word_region, word_table};
 ghost use Rattle.lxr_image.specs.Tables.{changed};
-ghost use Rattle.lxr_layout.specs.Spaces.{AreLimits, region_begin, region_sizes};
+ghost use Rattle.lxr_layout.specs.Spaces.{AreLimits, counts_region, region_begin, region_sizes, reuse_region};
 ghost use Rattle.lxr_tables.specs.Counts.{lowered_count, lowered_of, raised_count};
 
 use crate::Space;
@@ -748,7 +748,7 @@ impl Space {
     #[inline(always)]
     fn counts_begin(&self) -> usize
         requires { AreLimits self.now.limits }
-        ensures { result ≡ region_begin self.now.limits 1 }
+        ensures { result ≡ region_begin self.now.limits counts_region }
     {
         regions(self.limits).counts as usize
     }
@@ -786,7 +786,7 @@ impl Space {
     fn reuse_word(&self, line: u32) -> usize
         requires space { IsSpace self.now }
         requires line { line < LINES_IN_BLOCK * self.now.limits.blocks }
-        ensures { result ≡ region_begin self.now.limits 7 + line / 2 }
+        ensures { result ≡ region_begin self.now.limits reuse_region + line / 2 }
     {
         regions(self.limits).reuse as usize + line as usize / 2
     }

@@ -5,7 +5,7 @@ use Rattle.lxr_layout.specs.declared.Name.{Name}
 use Rattle.lxr_layout.specs.declared.limits.Limits.{Limits}
 use Rattle.lxr_layout.specs.declared.TheConstants.{DECREMENT_COUNT, DECREMENT_CURSOR, GRANULES_IN_BLOCK, GRANULES_IN_LINE, STUCK, TRACING_WORD}
 use Rattle.lxr_layout.specs.Places.{first_word}
-use Rattle.lxr_layout.specs.Spaces.{AreLimits, region_begin}
+use Rattle.lxr_layout.specs.Spaces.{AreLimits, all_regions, most_chosen, region_begin}
 use Rattle.lxr_graph.specs.Names.{has}
 use Rattle.lxr_graph.specs.State.{Graph}
 use Rattle.lxr_image.specs.declared.space.Space.{Space}
@@ -86,7 +86,7 @@ pub blocks_still : (t u : Tables) (blocks : ℕ) (trace : Option Trace) → u.st
 blocks_still t u blocks trace states tracing is = record {
   world = ap (λ f. state_of (f 0)) states ∙ is.world;
   others = λ b from below e. is.others b from below (sym (ap (λ f. state_of (f b)) states) ∙ e);
-  few = subst (λ n. n ≤ blocks / 8) (sym (chosen_still t u blocks states)) is.few;
+  few = subst (λ n. n ≤ most_chosen blocks) (sym (chosen_still t u blocks states)) is.few;
   chosen = need_same t u blocks trace (chosen_still t u blocks states) is.chosen;
   tracing = tracing ∙ is.tracing;
 }
@@ -199,7 +199,7 @@ holds_still s after m at same agree is =
     let logged : after.logged ≡ s.logged = ap (λ z. z.logged) same in
     let itself : (n : Name) → IsTrue (has m.unreclaimed n) → IsTrue (has m.unreclaimed n) = λ n h. h in
     record {
-      space = record { limits = subst AreLimits (sym limits) is.space.limits; size = agree.size ∙ is.space.size ∙ ap (λ l. region_begin l 15) (sym limits) };
+      space = record { limits = subst AreLimits (sym limits) is.space.limits; size = agree.size ∙ is.space.size ∙ ap (λ l. region_begin l all_regions) (sym limits) };
       room = subst HasRoom (sym same) (record {
         registers = is.room.registers;
         deferred = is.room.deferred;

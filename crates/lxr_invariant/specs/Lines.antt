@@ -2,6 +2,7 @@
 use Rattle.std.specs.Prelude.{◌≡◌, ◌≢◌, ℕ, zero, suc, ◌+◌, ◌-◌, ◌/◌, ◌%◌, ◌<◌, ◌≤◌, ◌⊎◌, ⊤, Bool, false, true, Option, Some, None, List, IsTrue, if◌then◌else◌}
 use Rattle.lxr_layout.specs.declared.Name.{Name}
 use Rattle.lxr_layout.specs.declared.TheConstants.{GRANULES_IN_BLOCK, GRANULES_IN_LINE, LINES_IN_BLOCK, STUCK, TRACING_WORD}
+use Rattle.lxr_layout.specs.Spaces.{most_chosen}
 use Rattle.lxr_graph.specs.Names.{has}
 use Rattle.lxr_graph.specs.State.{Graph, Object, object_at}
 use Rattle.lxr_image.specs.declared.space.Space.{Space}
@@ -29,10 +30,11 @@ pub record IsMarkOf (at : Name → ℕ) (n : Name) (o : Object) (k : ℕ) : Type
   pub behind : granule_of (at n) < k
   pub within : k < granule_of (at n) + granules_of o
 
--- Each further line of these objects is marked by count STUCK at its first granule. A granule that neither begins one of
--- these objects nor is such a mark has count 0.
+-- The line marks of these objects, which stand in the table of counts.
 pub record HasMarks (t : Tables) (g : Graph) (at : Name → ℕ) (us : List Name) : Type 0 where
+  -- each further line of one of these objects is marked by count STUCK at its first granule
   pub marked : (n : Name) (o : Object) (k : ℕ) → IsTrue (has us n) → object_at g n ≡ Some o → IsMarkOf at n o k → t.counts k ≡ STUCK
+  -- a granule that neither begins one of these objects nor is such a mark has count 0
   pub elsewhere : (k : ℕ) → ((n : Name) → IsTrue (has us n) → granule_of (at n) ≢ k)
       → ((n : Name) (o : Object) → IsTrue (has us n) → object_at g n ≡ Some o → IsMarkOf at n o k → ⊥) → t.counts k ≡ 0
 
@@ -98,7 +100,7 @@ tracing_word (Some trace) = 1
 pub record HasBlocks (t : Tables) (blocks : ℕ) (trace : Option Trace) : Type 0 where
   pub world : state_in t 0 ≡ World
   pub others : (b : ℕ) → 1 ≤ b → b < blocks → state_in t b ≢ World
-  pub few : chosen_count t blocks ≤ blocks / 8
+  pub few : chosen_count t blocks ≤ most_chosen blocks
   pub chosen : ChosenNeedTrace t blocks trace
   pub tracing : t.cursors TRACING_WORD ≡ tracing_word trace
 

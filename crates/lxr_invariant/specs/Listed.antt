@@ -17,12 +17,13 @@ whole_block b = record { block = b; line = 0; lines = LINES_IN_BLOCK }
 abbrev pub AreApartRuns : Run → Run → Type 0
 AreApartRuns q r = (q.block ≢ r.block) ⊎ (q.line + q.lines ≤ r.line) ⊎ (r.line + r.lines ≤ q.line)
 
--- the listed run or block of a number
+-- the listed run of a number: some free lines in a row, outside Chosen blocks
 pub record ListsRun (t : Tables) (blocks k : ℕ) (r : Run) : Type 0 where
   pub word : t.runs k ≡ word_of_run r
   pub some : 1 ≤ r.lines
   pub run : IsOpenRun t blocks r
 
+-- the listed block of a number: all its lines are free, and it is not Chosen
 pub record ListsBlock (t : Tables) (blocks k : ℕ) : Type 0 where
   pub block : t.frees k < blocks
   pub run : IsOpenRun t blocks (whole_block (t.frees k))

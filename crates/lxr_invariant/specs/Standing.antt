@@ -38,24 +38,27 @@ pub record IsUnwrittenAt (m : Moment) (at : Name → ℕ) (us : List Name) (w : 
   pub unwritten : has_field m.written (n, i) ≡ false
   pub word : w ≡ word_of_field at n i
 
+-- a heap word is such a reference of some name
 abbrev pub IsUnwritten : Moment → (Name → ℕ) → List Name → ℕ → Type 0
 IsUnwritten m at us w = (n : Name) × (i : ℕ) × IsUnwrittenAt m at us w n i
 
--- Start bits stand exactly at the places of these names, marks, grays and dones only at start bits, and unlogged bits
--- exactly at those references of their objects that weren't stored to since the last pause.
+-- The bits that tell of these names' objects.
 pub record HasBits (t : Tables) (m : Moment) (at : Name → ℕ) (us : List Name) : Type 0 where
+  -- start bits stand exactly at their places
   pub starts : StartsAre t at us
+  -- marks, grays and dones stand only at start bits
   pub marks : (k : ℕ) → IsTrue (t.marks k) → IsTrue (t.starts k)
   pub grays : (k : ℕ) → IsTrue (t.grays k) → IsTrue (t.starts k)
   pub dones : (k : ℕ) → IsTrue (t.dones k) → IsTrue (t.starts k)
+  -- unlogged bits stand exactly at those of their references that weren't stored to since the last pause
   pub unlogged : (w : ℕ) → IsTrue (t.unlogged w) ↔ IsUnwritten m at us w
 
 -- the entry of a field in a log: its place and index, and the place of what it held at the last pause
 abbrev pub entry_of : Moment → (Name → ℕ) → Field → LogEntry
-entry_of m at w = record {
-  place = record { 0 = at w.0 };
-  index = w.1;
-  old = record { 0 = place_word at (slice_index_or (refs_of (object_at m.last.graph w.0)) w.1 None) };
+entry_of m at field = record {
+  place = record { 0 = at field.0 };
+  index = field.1;
+  old = record { 0 = place_word at (slice_index_or (refs_of (object_at m.last.graph field.0)) field.1 None) };
 }
 
 -- the logs have one entry for each field that was stored to since the last pause, in some order

@@ -2,7 +2,7 @@
 -- one that is done as handled.
 use Rattle.std.specs.Prelude.{◌≡◌, ℕ, ◌+◌, ◌*◌, ◌/◌, ◌^◌, ◌<◌, ◌≤◌, ◌⊎◌, ◌&&◌, ⊤, not, Bool, false, Option, Some, None, List, IsTrue, filter, slice_get}
 use Rattle.lxr_invariant.specs.Standing.{word_of_field}
-use Rattle.lxr_layout.specs.declared.TheConstants.{GRANULES_IN_BLOCK, REMEMBERED_CURSOR, WORDS_IN_BLOCK, WORDS_IN_LINE}
+use Rattle.lxr_layout.specs.declared.TheConstants.{GRANULES_IN_BLOCK, MOST_BLOCKS_REMEMBERED, MOST_WORDS, REMEMBERED_CURSOR, WORDS_IN_BLOCK, WORDS_IN_LINE}
 use Rattle.lxr_layout.specs.declared.limits.Limits.{Limits}
 use Rattle.lxr_layout.specs.declared.Name.{Name}
 use Rattle.lxr_layout.specs.declared.LogEntry.{LogEntry}
@@ -23,10 +23,11 @@ pub use Rattle.lxr_model_counting.specs.Garbage.{IsGarbageOf}
 use Rattle.lxr_invariant.specs.AbstractState.{AbstractState}
 use Rattle.lxr_invariant.specs.Counting.{is_done}
 
--- the object of a name is marked, and is gray
+-- the object of a name is marked: a tracer has scanned it
 abbrev pub IsMarked : Tables → (Name → ℕ) → Name → Type 0
 IsMarked t at n = IsTrue (t.marks (granule_of (at n)))
 
+-- it is gray: found, and to be scanned where it is not marked
 abbrev pub IsGray : Tables → (Name → ℕ) → Name → Type 0
 IsGray t at n = IsTrue (t.grays (granule_of (at n)))
 
@@ -36,7 +37,7 @@ IsYounger m trace n = (object_at trace.state.graph n ≡ None) × HasObject m.st
 
 -- a log has the place of an object as an old value
 abbrev pub IsOldValue : List LogEntry → ℕ → Type 0
-IsOldValue entries p = (k : ℕ) × (entry : LogEntry) × (slice_get entries k ≡ Some entry) × (entry.old.0 ≡ p)
+IsOldValue entries place = (k : ℕ) × (entry : LogEntry) × (slice_get entries k ≡ Some entry) × (entry.old.0 ≡ place)
 
 -- a name of the snapshot is covered: it is gray, marked, reclaimed since, or an old value in a log
 abbrev pub IsCovered : Tables → Moment → (Name → ℕ) → List LogEntry → Name → Type 0
@@ -79,16 +80,20 @@ pub record StaysGarbage (t : Tables) (m : Moment) (at : Name → ℕ) (trace : T
   pub references : refs_of (object_at m.state.graph n) ≡ refs_of (object_at trace.state.graph n)
   pub referred : has m.stuck n ≡ false → (u : Name) × IsGarbageOf trace u × Refers trace.state.graph u n
 
--- Marks stay inside the snapshot: so do grays and dones. What is unreclaimed was so when the trace began, or is younger
--- and marked. No unreclaimed object of the snapshot, and no younger one, refers to garbage of the trace, now or at the
--- last pause, and garbage stays.
+-- A trace stays inside its snapshot: the objects that were reachable when it began, and the younger ones.
 pub record MarksStayInside (t : Tables) (m : Moment) (at : Name → ℕ) (trace : Trace) : Type 0 where
+  -- what is marked is inside
   pub marks : (n : Name) → IsTrue (has m.unreclaimed n) → IsMarked t at n → IsInSnapshot m trace n
+  -- what is gray is inside
   pub grays : (n : Name) → IsTrue (has m.unreclaimed n) → IsGray t at n → IsInSnapshot m trace n
+  -- what a decrementer has claimed is inside
   pub dones : (n : Name) → IsTrue (has m.unreclaimed n) → IsTrue (is_done t at n) → IsInSnapshot m trace n
+  -- what is unreclaimed was so when the trace began, or is younger and marked
   pub members : (n : Name) → IsTrue (has m.unreclaimed n) → IsTrue (has trace.unreclaimed n) ⊎ (IsYounger m trace n × IsMarked t at n)
+  -- no unreclaimed object that is inside refers to garbage of the trace, now or at the last pause
   pub referred : (u n : Name) → IsTrue (has m.unreclaimed u) → IsInSnapshot m trace u → IsGarbageOf trace n
       → ¬ Refers m.last.graph u n × ¬ Refers m.state.graph u n
+  -- garbage of the trace stays
   pub garbage : (n : Name) → IsGarbageOf trace n → StaysGarbage t m at trace n
 
 -- the remembered set has overflowed since the trace began: its cursor tells how many entries were drawn
@@ -100,9 +105,10 @@ abbrev pub IsRemembered : Limits → Tables → (Name → ℕ) → Name → ℕ 
 IsRemembered l t at n i = (k : ℕ) × (k < t.cursors REMEMBERED_CURSOR) × (k < l.remember)
     × (t.remembered k ≡ word_of_entry (t.reuse (word_of_field at n i / WORDS_IN_LINE)) (record { 0 = at n }) i)
 
--- an entry of the remembered set is that of a field, whose word is one of the heap
+-- an entry of the remembered set is that of a field, whose word is one of the heap; entries have room for the places of this heap
 pub record IsEntryWord (l : Limits) (word : ℕ) (c : ℕ) (p : Place) (i : ℕ) : Type 0 where
   pub is : word ≡ word_of_entry c p i
+  pub small : l.blocks ≤ MOST_BLOCKS_REMEMBERED
   pub entry : IsEntry c p i
   pub in_heap : first_word p.0 + 1 + i < WORDS_IN_BLOCK * l.blocks
 
@@ -122,14 +128,16 @@ is_unscanned t m at n = has m.unreclaimed n && not (t.marks (granule_of (at n)))
 abbrev pub unscanned_slots : Tables → Moment → (Name → ℕ) → List Name → ℕ
 unscanned_slots t m at snapshot = reference_slots m.last.graph (filter (is_unscanned t m at) snapshot)
 
--- Remembered so far: each reference of a scanned or promoted object that points into a Chosen block, and that wasn't stored
--- to since the last pause, is remembered, unless the set has overflowed. No more fields were remembered than may be: all that are still to
--- be scanned may be remembered too.
+-- What the remembered set has so far, and how much it may come to.
 pub record IsRememberedSoFar (l : Limits) (t : Tables) (m : Moment) (at : Name → ℕ) (trace : Trace) (snapshot : List Name) : Type 0 where
+  -- each reference of a scanned or promoted object that points into a Chosen block, and that wasn't stored to since the last pause, is
+  -- remembered, unless the set has overflowed
   pub fields : (n v : Name) (i : ℕ) → IsTrue (has m.unreclaimed n) → IsScanned t at trace n
       → slice_get (refs_of (object_at m.state.graph n)) i ≡ Some (Some v) → IsTrue (t.unlogged (word_of_field at n i))
       → IsInChosen t at v → IsRemembered l t at n i ⊎ HasOverflowed l t
+  -- each entry is that of a field of the heap
   pub entries : (k : ℕ) → k < t.cursors REMEMBERED_CURSOR → k < l.remember → (c : ℕ) × (p : Place) × (i : ℕ) × IsEntryWord l (t.remembered k) c p i
+  -- all references that are still to be scanned may be remembered too, and then these are still no more than may be
   pub bound : t.cursors REMEMBERED_CURSOR + unscanned_slots t m at snapshot ≤ rememberable trace snapshot
 
 -- all of this, for the trace that runs and the names of its snapshot
@@ -140,7 +148,7 @@ pub record TraceHolds (l : Limits) (t : Tables) (entries : List LogEntry) (g : A
   pub inside : MarksStayInside t g.moment g.at trace
   pub handled : HandledAreGray t g.moment g.at
   pub remembered : IsRememberedSoFar l t g.moment g.at trace snapshot
-  pub few : rememberable trace snapshot ≤ 2 ^ 23 * (g.moment.number + 1)
+  pub few : rememberable trace snapshot ≤ 2 * MOST_WORDS * (g.moment.number + 1)
 
 -- nothing is asked where none runs
 abbrev pub IsTracedBy : Limits → Tables → List LogEntry → AbstractState → Option Trace → Type 0

@@ -1,6 +1,6 @@
 -- The numbers of the geometry and of the cursors.
-use Rattle.std.specs.Prelude.{◌≡◌}
-use Rattle.lxr_layout.specs.declared.TheConstants.{COUNT_BITS, DECREMENT_COUNT, DECREMENT_CURSOR, FREE_BLOCK_COUNT, FREE_BLOCK_CURSOR, GRANULES_IN_BLOCK, GRANULES_IN_LINE, LINES_IN_BLOCK, PAUSE_WORD, REMEMBERED_CURSOR, RUN_COUNT, RUN_CURSOR, STUCK, TRACING_WORD, WORDS_IN_BLOCK, WORDS_IN_LINE}
+use Rattle.std.specs.Prelude.{◌≡◌, ◌^◌}
+use Rattle.lxr_layout.specs.declared.TheConstants.{COUNT_BITS, DECREMENT_COUNT, DECREMENT_CURSOR, FREE_BLOCK_COUNT, FREE_BLOCK_CURSOR, GRANULES_IN_BLOCK, GRANULES_IN_LINE, LINES_IN_BLOCK, MOST_BLOCKS, MOST_BLOCKS_REMEMBERED, MOST_GRANULES, MOST_GRANULES_REMEMBERED, MOST_WORDS, PAUSE_WORD, REMEMBERED_CURSOR, RUN_COUNT, RUN_CURSOR, STUCK, TRACING_WORD, WORDS_IN_BLOCK, WORDS_IN_LINE, WORLD_LINES, WORLD_REFS}
 
 -- a block of 32 KB has 128 lines of 256 bytes; a granule has two words of 8 bytes
 pub record HasGeometry : Type 0 where
@@ -9,6 +9,16 @@ pub record HasGeometry : Type 0 where
   pub block_lines : LINES_IN_BLOCK ≡ 128
   pub line_words : WORDS_IN_LINE ≡ 32
   pub line_granules : GRANULES_IN_LINE ≡ 16
+  pub world_lines : WORLD_LINES ≡ 3
+  pub world_refs : WORLD_REFS ≡ 64
+
+-- the largest heap, and the largest in which blocks are chosen for evacuation
+pub record HasLargest : Type 0 where
+  pub blocks : MOST_BLOCKS ≡ 65536
+  pub granules : MOST_GRANULES ≡ 2 ^ 27
+  pub words : MOST_WORDS ≡ 2 ^ 28
+  pub remembered_blocks : MOST_BLOCKS_REMEMBERED ≡ 1024
+  pub remembered_granules : MOST_GRANULES_REMEMBERED ≡ 2 ^ 21
 
 -- which word of the region of cursors is which
 pub record HasCursors : Type 0 where

@@ -1,42 +1,97 @@
 -- How large a space is, and where its regions begin.
-use Rattle.std.specs.Prelude.{ℕ, ◌+◌, ◌*◌, ◌≤◌, List, [], ◌∷◌, take, sum}
+use Rattle.std.specs.Prelude.{ℕ, ◌+◌, ◌*◌, ◌/◌, ◌≤◌, nat_le, if◌then◌else◌, List, [], ◌∷◌, take, sum}
+use Rattle.lxr_layout.specs.declared.TheConstants.{MOST_BLOCKS, MOST_BLOCKS_REMEMBERED, WORDS_IN_BLOCK}
 use Rattle.lxr_layout.specs.declared.limits.Limits.{Limits}
 use Rattle.lxr_layout.specs.declared.limits.Regions.{Regions}
 
--- 1 to 1,024 blocks, 1 to 16 threads, logs of 1 to 65,536 entries, a remembered set of 1 to 1,048,576
+-- 1 to 65,536 blocks, 1 to 16 threads, logs of 1 to 65,536 entries, a remembered set of 1 to 1,048,576
 pub record AreLimits (l : Limits) : Type 0 where
-  pub blocks : (1 ≤ l.blocks) × (l.blocks ≤ 1024)
+  pub blocks : (1 ≤ l.blocks) × (l.blocks ≤ MOST_BLOCKS)
   pub threads : (1 ≤ l.threads) × (l.threads ≤ 16)
   pub log : (1 ≤ l.log) × (l.log ≤ 65536)
   pub remember : (1 ≤ l.remember) × (l.remember ≤ 1048576)
 
+-- the most blocks that may be Chosen in a heap of so many: an eighth of them; none where entries have no room for its places
+abbrev pub most_chosen : ℕ → ℕ
+most_chosen blocks = if nat_le blocks MOST_BLOCKS_REMEMBERED then (blocks / 8) else 0
+
+-- the number of each region, in their order
+abbrev pub heap_region : ℕ
+heap_region = 0
+
+abbrev pub counts_region : ℕ
+counts_region = 1
+
+abbrev pub starts_region : ℕ
+starts_region = 2
+
+abbrev pub marks_region : ℕ
+marks_region = 3
+
+abbrev pub grays_region : ℕ
+grays_region = 4
+
+abbrev pub dones_region : ℕ
+dones_region = 5
+
+abbrev pub unlogged_region : ℕ
+unlogged_region = 6
+
+abbrev pub reuse_region : ℕ
+reuse_region = 7
+
+abbrev pub outs_region : ℕ
+outs_region = 8
+
+abbrev pub states_region : ℕ
+states_region = 9
+
+abbrev pub runs_region : ℕ
+runs_region = 10
+
+abbrev pub frees_region : ℕ
+frees_region = 11
+
+abbrev pub decs_region : ℕ
+decs_region = 12
+
+abbrev pub remembered_region : ℕ
+remembered_region = 13
+
+abbrev pub cursors_region : ℕ
+cursors_region = 14
+
+-- how many regions there are; the number at which the words end
+abbrev pub all_regions : ℕ
+all_regions = 15
+
 -- the words of each region, in their order: heap, counts, starts, marks, grays, dones, unlogged, reuse,
 -- outs, states, runs, frees, decrements, remembered, cursors
 abbrev pub region_sizes : Limits → List ℕ
-region_sizes l = 4096 * l.blocks ∷ 64 * l.blocks ∷ 32 * l.blocks ∷ 32 * l.blocks ∷ 32 * l.blocks ∷ 32 * l.blocks ∷ 64 * l.blocks ∷ 64 * l.blocks
+region_sizes l = WORDS_IN_BLOCK * l.blocks ∷ 64 * l.blocks ∷ 32 * l.blocks ∷ 32 * l.blocks ∷ 32 * l.blocks ∷ 32 * l.blocks ∷ 64 * l.blocks ∷ 64 * l.blocks
     ∷ 2 * l.blocks ∷ l.blocks ∷ 64 * l.blocks ∷ l.blocks ∷ l.threads * (l.log + 16) ∷ l.remember ∷ 16 ∷ []
 
--- the first word of a region, by its number in that order: the sum of the sizes of those before it
+-- the first word of a region, by its number: the sum of the sizes of those before it
 abbrev pub region_begin : Limits → ℕ → ℕ
 region_begin l n = sum (take n (region_sizes l))
 
 -- the regions of a space of these limits
 abbrev pub regions_of : Limits → Regions
 regions_of l = record {
-  heap = 0;
-  counts = region_begin l 1;
-  starts = region_begin l 2;
-  marks = region_begin l 3;
-  grays = region_begin l 4;
-  dones = region_begin l 5;
-  unlogged = region_begin l 6;
-  reuse = region_begin l 7;
-  outs = region_begin l 8;
-  states = region_begin l 9;
-  runs = region_begin l 10;
-  frees = region_begin l 11;
-  decs = region_begin l 12;
-  remembered = region_begin l 13;
-  cursors = region_begin l 14;
-  total = region_begin l 15;
+  heap = region_begin l heap_region;
+  counts = region_begin l counts_region;
+  starts = region_begin l starts_region;
+  marks = region_begin l marks_region;
+  grays = region_begin l grays_region;
+  dones = region_begin l dones_region;
+  unlogged = region_begin l unlogged_region;
+  reuse = region_begin l reuse_region;
+  outs = region_begin l outs_region;
+  states = region_begin l states_region;
+  runs = region_begin l runs_region;
+  frees = region_begin l frees_region;
+  decs = region_begin l decs_region;
+  remembered = region_begin l remembered_region;
+  cursors = region_begin l cursors_region;
+  total = region_begin l all_regions;
 }

@@ -5,9 +5,9 @@
 //! granule with a header word that packs its name and shape. Nothing here knows of a heap's content.
 #![tactic(auto)]
 
-ghost use Rattle.std.specs.Prelude.{◌≡◌, ◌↔◌, IsTrue};
+ghost use Rattle.std.specs.Prelude.{◌≡◌, ◌↔◌, ◌<◌, ◌≤◌, IsTrue};
 ghost use Rattle.lxr_layout.specs.Objects.{FitsShape, header_of, header_word, line_count, moved_word, word_count};
-ghost use Rattle.lxr_layout.specs.Places.{IsPlace, block_at, field_word as field_at, first_word, line_at};
+ghost use Rattle.lxr_layout.specs.Places.{IsPlace, block_at, field_word as field_at, first_word, granule_of, line_at, place_at};
 
 mod laws;
 mod limits;
@@ -17,7 +17,7 @@ mod spaces;
 pub use laws::constants_have_numbers;
 pub use limits::{Limits, Regions};
 pub use runs::{LogEntry, Run, entry_of, entry_word, run_of, run_word};
-pub use spaces::regions;
+pub use spaces::{most_chosen, regions};
 
 /// The words of a block of 32 KB.
 pub const WORDS_IN_BLOCK: u32 = 4096;
@@ -33,6 +33,27 @@ pub const WORDS_IN_LINE: u32 = 32;
 
 /// The granules of a line.
 pub const GRANULES_IN_LINE: u32 = 16;
+
+/// The most blocks of a heap: 2 GB of them.
+pub const MOST_BLOCKS: u32 = 65_536;
+
+/// The granules of the largest heap, and so the greatest place.
+pub const MOST_GRANULES: u32 = MOST_BLOCKS * GRANULES_IN_BLOCK;
+
+/// The words of the largest heap.
+pub const MOST_WORDS: u32 = MOST_BLOCKS * WORDS_IN_BLOCK;
+
+/// The most blocks of a heap in which blocks are chosen for evacuation, since a remembered entry has 22 bits for a place.
+pub const MOST_BLOCKS_REMEMBERED: u32 = 1024;
+
+/// The granules of the largest heap in which blocks are chosen, and so the greatest place of a remembered entry.
+pub const MOST_GRANULES_REMEMBERED: u32 = MOST_BLOCKS_REMEMBERED * GRANULES_IN_BLOCK;
+
+/// The lines that the world takes, which stands at the front of block 0.
+pub const WORLD_LINES: u32 = 3;
+
+/// The references of the world, which has no data words.
+pub const WORLD_REFS: u16 = 64;
 
 /// The cursor that is 1 while a pause is asked for, else 0.
 pub const PAUSE_WORD: u32 = 0;
@@ -164,12 +185,30 @@ pub fn unpack(word: u64) -> Header
     Header::Object(name, shape)
 }
 
+/// The granule of a place, counted over the whole heap: granules count from 0, places from 1.
+#[inline(always)]
+pub fn granule_of(place: Place) -> u32
+    requires { 1 ≤ place.0 }
+    ensures { result ≡ granule_of place.0 }
+{
+    place.0 - 1
+}
+
+/// The place of a granule.
+#[inline(always)]
+pub fn place_at(granule: u32) -> Place
+    requires { granule < u32.MAX }
+    ensures { result ≡ place_at granule }
+{
+    Place(granule + 1)
+}
+
 /// The heap word at which a place begins.
 pub fn word_of(place: Place) -> u32
     requires { IsPlace place }
     ensures { result ≡ first_word place.0 }
 {
-    2 * (place.0 - 1)
+    2 * granule_of(place)
 }
 
 /// The heap word of a reference of the object at a place.
@@ -185,7 +224,7 @@ pub fn line_of(place: Place) -> u32
     requires { IsPlace place }
     ensures { result ≡ line_at place.0 }
 {
-    (place.0 - 1) / GRANULES_IN_LINE
+    granule_of(place) / GRANULES_IN_LINE
 }
 
 /// The block of a place.
@@ -193,5 +232,5 @@ pub fn block_of(place: Place) -> u32
     requires { IsPlace place }
     ensures { result ≡ block_at place.0 }
 {
-    (place.0 - 1) / GRANULES_IN_BLOCK
+    granule_of(place) / GRANULES_IN_BLOCK
 }

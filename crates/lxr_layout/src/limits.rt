@@ -3,7 +3,7 @@
 /// How large a space is.
 #[derive(Clone, Copy, Debug, PartialEq, Eq)]
 pub struct Limits {
-    /// Blocks of the heap, 1 to 1,024.
+    /// Blocks of the heap, 1 to `MOST_BLOCKS`.
     pub blocks: u32,
     /// Threads, 1 to 16.
     pub threads: u8,

@@ -1,7 +1,7 @@
 -- After a collecting pause what is unreclaimed is reachable: a kept name that isn't would have been swept. The last pause
 -- of a history that belongs to a script collects, since all threads have ended. And a whole history is one so far.
 use Rattle.std.proofs.Common.{◌≡◌, refl, subst, ◌∙◌, inl, inr, List, [], ◌∷◌, IsTrue}
-use Rattle.std.specs.Prelude.{ℕ, ◌≢◌}
+use Rattle.std.specs.Prelude.{ℕ}
 use Rattle.std.proofs.lemmas.List.{append-nil}
 use Rattle.lxr_layout.specs.declared.Name.{Name}
 use Rattle.lxr_graph.specs.declared.Op.TheVariants as op
@@ -12,7 +12,7 @@ use Rattle.lxr_graph.specs.Names.{has, without}
 use Rattle.lxr_graph.specs.History.{PauseReport, Item, Call, Pause, calls_of}
 use Rattle.lxr_graph.proofs.NameSets.{not_both, without_parts}
 use Rattle.lxr_model.specs.Reachable.{Reachable}
-use Rattle.lxr_model.specs.Terms.{Terms, OnlyPlain}
+use Rattle.lxr_model.specs.Terms.{Terms}
 use Rattle.lxr_model.specs.Moments.{Moment, moment, unreclaimed_after}
 use Rattle.lxr_model.specs.Reports.{PauseParts, IsReportWith, IsSwept, kept_names}
 use Rattle.lxr_model.specs.Kinds.{MustCollect, MayStand}
@@ -49,19 +49,18 @@ refused_keep terms (Pause report ∷ h) legal after n = collecting_keeps terms h
 refused_keep terms (Call t (op.New dest shape) reply.Full ∷ h) legal after n = refused_keep terms h legal.0 after n
 refused_keep terms (Call t o r ∷ h) legal after n = absurd after
 
--- where a pause must collect and not all are plain, it does
-must_collect : (terms : Terms) (h : List Item) (m : Moment) (k : ℕ) (kd : Kind) → terms.kinds ≢ OnlyPlain → MustCollect terms h → MayStand terms h m k kd → kd ≡ kind.Collect
-must_collect terms h m k kind.Collect traces must stands = refl
-must_collect terms h m k (kind.End j) traces must stands = absurd (stands.1 must)
-must_collect terms h m k kind.Begin traces must stands = absurd (stands.1 must)
-must_collect terms h m k kind.Plain traces must stands = elim stands [ inl e ↦ absurd (traces e) | inr both ↦ absurd (both.0 must) ]
+-- where a pause must collect, it does
+must_collect : (terms : Terms) (h : List Item) (m : Moment) (k : ℕ) (kd : Kind) → MustCollect terms h → MayStand terms h m k kd → kd ≡ kind.Collect
+must_collect terms h m k kind.Collect must stands = refl
+must_collect terms h m k (kind.End j) must stands = absurd (stands.0 must)
+must_collect terms h m k kind.Begin must stands = absurd (stands.0 must)
+must_collect terms h m k kind.Plain must stands = absurd (stands.0 must)
 
 pub last_reachable : LastUnreclaimedAreReachable
-last_reachable terms script [] traces legal belongs n = absurd belongs.last
-last_reachable terms script (Call t o r ∷ h) traces legal belongs n = absurd belongs.last
-last_reachable terms script (Pause report ∷ h) traces legal belongs n =
-    collecting_keeps terms h report legal.0
-    (must_collect terms h (moment terms.threads h) report.number report.kind traces (inr belongs.last.0) legal.0.2.stands) n
+last_reachable terms script [] legal belongs n = absurd belongs.last
+last_reachable terms script (Call t o r ∷ h) legal belongs n = absurd belongs.last
+last_reachable terms script (Pause report ∷ h) legal belongs n =
+    collecting_keeps terms h report legal.0 (must_collect terms h (moment terms.threads h) report.number report.kind (inr belongs.last.0) legal.0.2.stands) n
 
 -- a history that ends with its last pause has no earlier one like it
 early_before : (terms : Terms) (h : List Item) → EndsWithPause terms h → EarlierPausesWereEarly terms h

@@ -101,7 +101,7 @@ made_new ms r n e = subst (λ x. IsTrue (has (made_after ms x) n)) (sym e) (inse
 pub call_cases : (terms : Terms) (h : List Item) (t : ℕ) (o : Op) (r : Reply) (s : State) (ms : List Name) → (moment terms.threads h).state ≡ s → Replies terms h t o r
     → ((state_after s t o r ≡ s) × (made_after ms r ≡ ms)) ⊎ ((state_after s t o r ≡ (step s t o).0) × ((step s t o).1 ≡ r))
 call_cases terms h t (op.New dest shape) reply.Full s ms is c = inl (refl, refl)
-call_cases terms h t (op.New dest shape) r s ms is c = inr (refl, ap (λ x. (step x t (op.New dest shape)).1) (sym is) ∙ c.0)
+call_cases terms h t (op.New dest shape) r s ms is c = inr (refl, ap (λ x. (step x t (op.New dest shape)).1) (sym is) ∙ c)
 call_cases terms h t o r s ms is c = inr (refl, ap (λ x. (step x t o).1) (sym is) ∙ c)
 
 running_step : (trace : Option Trace) (s : State) (t : ℕ) (o : Op) → t < length s.graph → RunningGood trace s → RunningGood trace (step s t o).0

@@ -1,5 +1,6 @@
 -- When a history belongs to a script: each thread's operations once and in order, and pauses for a cause.
-use Rattle.std.specs.Prelude.{◌≡◌, ℕ, suc, ◌+◌, ◌-◌, ◌/◌, ◌<◌, ◌≤◌, ◌⊎◌, Bool, true, false, ◌&&◌, ◌||◌, nat_eq, Option, Some, List, [], ◌∷◌, ◌++◌, IsTrue, length, slice_get, slice_index_or, if◌then◌else◌}
+use Rattle.std.specs.Prelude.{◌≡◌, ℕ, suc, ◌+◌, ◌-◌, ◌<◌, ◌≤◌, ◌⊎◌, Bool, true, false, ◌&&◌, ◌||◌, nat_eq, Option, Some, List, [], ◌∷◌, ◌++◌, IsTrue, length, slice_get, slice_index_or, if◌then◌else◌}
+use Rattle.lxr_layout.specs.Spaces.{most_chosen}
 use Rattle.lxr_graph.specs.declared.Op.{Op}
 use Rattle.lxr_graph.specs.declared.Op.TheVariants as op
 use Rattle.lxr_graph.specs.History.{Item, Call, Pause, calls_of}
@@ -28,6 +29,7 @@ CallsBeginOperations terms script h = (t : ℕ) → 1 ≤ t → t ≤ terms.thre
 
 -- ---- second point: a thread that asked for a pause waits for it
 
+-- the operation asks for a pause: `pause` or `collect`
 abbrev pub asks_for_pause : Op → Bool
 asks_for_pause op.Pause = true
 asks_for_pause op.Collect = true
@@ -65,17 +67,19 @@ TurnsAreShort terms (Call t o r ∷ h) = TurnsAreShort terms h × (calls_since_p
 abbrev pub next_operation : Script → ℕ → List Item → Option Op
 next_operation script t h = slice_get (operations_of script t) (length (calls_of t h))
 
+-- there is a next operation, and it is a `new`
 abbrev pub is_new : Option Op → Bool
 is_new (Some (op.New dest shape)) = true
 is_new _ = false
 
+-- there is a next operation, and it is a `store`
 abbrev pub is_store : Option Op → Bool
 is_store (Some (op.Store base index source)) = true
 is_store _ = false
 
 -- a `new` may have found no block: each block that isn't listed as free holds an object, is block 0, or is chosen
 abbrev pub BlocksAreTaken : Terms → Moment → Type 0
-BlocksAreTaken terms m = terms.blocks - terms.blocks / 8 ≤ length m.unreclaimed + length m.made
+BlocksAreTaken terms m = terms.blocks - most_chosen terms.blocks ≤ length m.unreclaimed + length m.made
 
 -- why a pause may stand after h because of thread t
 abbrev pub IsCauseOf : Terms → Script → List Item → ℕ → Type 0
@@ -89,6 +93,7 @@ IsCauseOf terms script h t =
 abbrev pub HasCause : Terms → Script → List Item → Type 0
 HasCause terms script h = (ends h ≡ terms.threads) ⊎ ((t : ℕ) × (1 ≤ t) × (t ≤ terms.threads) × IsCauseOf terms script h t)
 
+-- each pause has a cause in what stands before it
 abbrev pub PausesHaveCauses : Terms → Script → List Item → Type 0
 PausesHaveCauses terms script [] = Unit {0}
 PausesHaveCauses terms script (Call t o r ∷ h) = PausesHaveCauses terms script h
@@ -108,6 +113,7 @@ EarlierPausesWereEarly terms [] = Unit {0}
 EarlierPausesWereEarly terms (Call t o r ∷ h) = EarlierPausesWereEarly terms h
 EarlierPausesWereEarly terms (Pause report ∷ h) = LastPauseWasEarly terms h
 
+-- the newest item is a pause, before which all threads have ended, and they had not at the pause before it
 abbrev pub EndsWithPause : Terms → List Item → Type 0
 EndsWithPause terms [] = ⊥
 EndsWithPause terms (Call t o r ∷ h) = ⊥

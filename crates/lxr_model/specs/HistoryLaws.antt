@@ -8,10 +8,10 @@ use Rattle.lxr_graph.specs.State.{State, HasObject}
 use Rattle.lxr_graph.specs.History.{PauseReport, Item, Pause}
 use Rattle.lxr_model.specs.Reachable.{Reachable}
 use Rattle.lxr_model.specs.References.{references}
-use Rattle.lxr_model.specs.Terms.{Terms, OnlyPlain}
+use Rattle.lxr_model.specs.Terms.{Terms}
 use Rattle.lxr_model.specs.Moments.{moment, state_at, unreclaimed_at, stuck_at}
 use Rattle.lxr_model.specs.Reports.{is_draining}
-use Rattle.lxr_model.specs.Full.{IsRightAfterPause}
+use Rattle.lxr_model.specs.Full.{IsRightAfterCollecting}
 use Rattle.lxr_model.specs.Legal.{IsLegalSoFar, IsLegal}
 use Rattle.lxr_model.specs.Belongs.{Script, Belongs, IsHistorySoFar}
 
@@ -56,15 +56,13 @@ CollectingKeepsTheReachable =
 -- so it is as long as nothing but refused calls of `new` stand behind it
 abbrev pub RefusalsKeepReachable : Type 0
 RefusalsKeepReachable =
-    (terms : Terms) (h : List Item) → IsLegalSoFar terms h → IsRightAfterPause (λ report. report.kind ≡ kind.Collect) h
+    (terms : Terms) (h : List Item) → IsLegalSoFar terms h → IsRightAfterCollecting h
     → (n : Name) → IsTrue (has (unreclaimed_at terms h) n) ↔ Reachable (state_at terms h) n
 
--- where traces are in force, the unreclaimed names at the end of a history that belongs to a script are exactly the
--- reachable ones
+-- the unreclaimed names at the end of a history that belongs to a script are exactly the reachable ones
 abbrev pub LastUnreclaimedAreReachable : Type 0
 LastUnreclaimedAreReachable =
-    (terms : Terms) (script : Script) (h : List Item) → terms.kinds ≢ OnlyPlain → IsLegal terms h
-    → Belongs terms script h → (n : Name) → IsTrue (has (unreclaimed_at terms h) n) ↔ Reachable (state_at terms h) n
+    (terms : Terms) (script : Script) (h : List Item) → IsLegal terms h → Belongs terms script h → (n : Name) → IsTrue (has (unreclaimed_at terms h) n) ↔ Reachable (state_at terms h) n
 
 -- ---- as far as it goes
 

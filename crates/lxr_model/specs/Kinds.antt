@@ -4,7 +4,7 @@ use Rattle.lxr_graph.specs.declared.Op.TheVariants as op
 use Rattle.lxr_graph.specs.declared.report.Kind.{Kind}
 use Rattle.lxr_graph.specs.declared.report.Kind.TheVariants as kind
 use Rattle.lxr_graph.specs.History.{Item, Call, Pause}
-use Rattle.lxr_model.specs.Terms.{Terms, KindRule, OnlyPlain, CollectsWhereAsked, CollectsForWaiting}
+use Rattle.lxr_model.specs.Terms.{Terms}
 use Rattle.lxr_model.specs.Moments.{Trace, Moment}
 
 -- `collect` was called since the last pause
@@ -32,11 +32,10 @@ OnlyNewsSincePause (Pause report ∷ h) = Unit {0}
 OnlyNewsSincePause (Call t (op.New dest shape) r ∷ h) = OnlyNewsSincePause h
 OnlyNewsSincePause (Call t _ r ∷ h) = ⊥
 
--- a collecting pause may stand, as far as what stands before it tells; for a waiting `new` more is asked of what follows
-abbrev pub MayCollect : KindRule → Terms → List Item → Type 0
-MayCollect OnlyPlain terms h = ⊥
-MayCollect CollectsWhereAsked terms h = MustCollect terms h
-MayCollect CollectsForWaiting terms h = MustCollect terms h ⊎ OnlyNewsSincePause h
+-- a collecting pause may stand, as far as what stands before it tells: it must, or it stands for a waiting `new`, of which more is
+-- asked in what follows
+abbrev pub MayCollect : Terms → List Item → Type 0
+MayCollect terms h = MustCollect terms h ⊎ OnlyNewsSincePause h
 
 -- the trace that began at pause j runs
 abbrev pub IsRunning : ℕ → Option Trace → Type 0
@@ -50,7 +49,7 @@ NeedsNoTrace terms k (Some trace) = k < trace.began + terms.within
 
 -- pause k may be of this kind, after h, which leads to m
 abbrev pub MayStand : Terms → List Item → Moment → ℕ → Kind → Type 0
-MayStand terms h m k kind.Collect = MayCollect terms.kinds terms h
-MayStand terms h m k (kind.End j) = (terms.kinds ≢ OnlyPlain) × ¬ MustCollect terms h × IsRunning j m.trace
-MayStand terms h m k kind.Begin = (terms.kinds ≢ OnlyPlain) × ¬ MustCollect terms h × (m.trace ≡ None) × (k % terms.trace ≡ 0)
-MayStand terms h m k kind.Plain = (terms.kinds ≡ OnlyPlain) ⊎ (¬ MustCollect terms h × NeedsNoTrace terms k m.trace)
+MayStand terms h m k kind.Collect = MayCollect terms h
+MayStand terms h m k (kind.End j) = ¬ MustCollect terms h × IsRunning j m.trace
+MayStand terms h m k kind.Begin = ¬ MustCollect terms h × (m.trace ≡ None) × (k % terms.trace ≡ 0)
+MayStand terms h m k kind.Plain = ¬ MustCollect terms h × NeedsNoTrace terms k m.trace

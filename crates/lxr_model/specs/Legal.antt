@@ -1,7 +1,8 @@
 -- Legal histories: each call is a step, each pause gives its report, each kind stands where it may. Items stand newest
 -- first, so what an item asks of those before it is asked of the rest of the list.
-use Rattle.std.specs.Prelude.{◌≡◌, ℕ, ◌-◌, ◌/◌, ◌≤◌, List, [], ◌∷◌}
+use Rattle.std.specs.Prelude.{◌≡◌, ℕ, ◌-◌, ◌≤◌, List, [], ◌∷◌}
 use Rattle.lxr_layout.specs.Objects.{line_count}
+use Rattle.lxr_layout.specs.Spaces.{most_chosen}
 use Rattle.lxr_graph.specs.declared.Op.{Op}
 use Rattle.lxr_graph.specs.declared.Op.TheVariants as op
 use Rattle.lxr_graph.specs.declared.Reply.{Reply}
@@ -12,16 +13,15 @@ use Rattle.lxr_graph.specs.State.{world_name}
 use Rattle.lxr_graph.specs.Step.{IsWellFormed, IsReply}
 use Rattle.lxr_graph.specs.History.{PauseReport, Item, Call, Pause}
 use Rattle.lxr_model.specs.Terms.{Terms}
-use Rattle.lxr_model.specs.Moments.{moment}
+use Rattle.lxr_model.specs.Moments.{moment, state_at}
 use Rattle.lxr_model.specs.Reports.{IsReport}
 use Rattle.lxr_model.specs.Kinds.{MustCollect, MayStand}
-use Rattle.lxr_model.specs.Full.{MayBeFull, MayBePlaced, slots_in, slots_taken}
+use Rattle.lxr_model.specs.Full.{LeaveNoRun, MayBeFull}
 
--- the reply of a call after h: that of a step, or `full` where the rule in force allows it
+-- the reply of a call after h: that of a step, or `full` of a `new` where that may be
 abbrev pub Replies : Terms → List Item → ℕ → Op → Reply → Type 0
-Replies terms h t (op.New dest shape) reply.Full = MayBeFull terms.full terms h shape
-Replies terms h t (op.New dest shape) r = IsReply (moment terms.threads h).state t (op.New dest shape) r × MayBePlaced terms.full terms h shape
-Replies terms h t o r = IsReply (moment terms.threads h).state t o r
+Replies terms h t (op.New dest shape) reply.Full = MayBeFull terms h shape
+Replies terms h t o r = IsReply (state_at terms h) t o r
 
 -- a call after h: of a thread that there is, with registers and a shape that there are
 pub record IsCall (terms : Terms) (h : List Item) (t : ℕ) (o : Op) (r : Reply) : Type 0 where
@@ -39,12 +39,11 @@ abbrev pub StandsForWaiting : Terms → List Item → PauseReport → Type 0
 StandsForWaiting terms h report = (report.kind ≡ kind.Collect) × ¬ MustCollect terms h
 
 -- The item behind a pause that stands for a waiting `new`, which came after h: that `new`, for which the objects that
--- were unreclaimed or made could leave no run outside the blocks that may be chosen for evacuation.
+-- were unreclaimed or made, but for the world, could leave no run outside the blocks that may be chosen for evacuation.
 abbrev pub IsWaitedFor : Terms → List Item → Item → Type 0
 IsWaitedFor terms h (Call t (op.New dest shape) r) =
     let m = moment terms.threads h in
-    slots_in (line_count shape) (terms.blocks - 1 - terms.blocks / 8)
-    ≤ slots_taken m.state.graph (line_count shape) (without (union m.made m.unreclaimed) (world_name ∷ []))
+    LeaveNoRun m.state.graph (without (union m.made m.unreclaimed) (world_name ∷ [])) (terms.blocks - most_chosen terms.blocks) (line_count shape)
 IsWaitedFor terms h _ = ⊥
 
 -- item x may come right behind the newest item of a history

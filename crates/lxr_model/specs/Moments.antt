@@ -19,6 +19,7 @@ use Rattle.lxr_model.specs.References.{reference_slots}
 abbrev pub Field : Type 0
 Field = Name × ℕ
 
+-- two fields are the same reference of the same object
 abbrev pub same_field : Field → Field → Bool
 same_field a b = same_name a.0 b.0 && nat_eq a.1 b.1
 

@@ -5,7 +5,7 @@ use Rattle.lxr_graph.specs.State.{Graph, State, object_at, refs_of, world_name}
 
 -- a register of the state holds n
 abbrev pub Holds : State → Name → Type 0
-Holds s n = (p : ℕ) × (slice_get s.registers p ≡ Some (Some n))
+Holds s n = (i : ℕ) × (slice_get s.registers i ≡ Some (Some n))
 
 -- a reference of m's object is n
 abbrev pub Refers : Graph → Name → Name → Type 0

@@ -36,8 +36,7 @@ pub fn refusals_keep_reachable()
     ensures { RefusalsKeepReachable }
 {}
 
-/// At the end of a history that belongs to a script the unreclaimed names are exactly the reachable ones, where
-/// traces are in force.
+/// At the end of a history that belongs to a script the unreclaimed names are exactly the reachable ones.
 pub fn last_unreclaimed_are_reachable()
     ensures { LastUnreclaimedAreReachable }
 {}

@@ -84,6 +84,7 @@ left_follows m gone follows are =
       grows = follows.grows;
       objects = λ n h. follows.objects n (within n h);
       young = follows.young;
+      unreached = λ n h. follows.unreached n (within n h);
       unwritten = λ n i h. follows.unwritten n i (within n h);
       written_once = follows.written_once;
       written = λ n i h. let w = follows.written n i h in (stays n (inl w.1) w.0, w.1, w.2);

@@ -16,7 +16,6 @@ use Rattle.lxr_graph.proofs.NameSets.{not_both, has_one, insert_new, in_order-no
 use Rattle.lxr_graph.proofs.RowCounts.{step_rows}
 use Rattle.lxr_model.specs.Reachable.{Reachable, the_world, held, referred, Refers, Holds, IsClosed}
 use Rattle.lxr_model.specs.Dead.{Promoted, by_register, by_kept, by_promoted}
-use Rattle.lxr_model.specs.Terms.{FlatSpaceIsFull, OnlyPlain}
 use Rattle.lxr_model.specs.Moments.{Trace, Moment, opening_moment, made_after, written_after}
 use Rattle.lxr_model.proofs.ReachableLemmas.{promoted_made, reachable_within}
 use Rattle.lxr_model.proofs.StepLemmas.{gets-replicate, step_reaches, step_refers}
@@ -59,7 +58,7 @@ unreclaimed_object m follows n h = let a = follows.objects n h in ap is_some a.3
 -- ---- the opening
 
 opening_good : (threads : ℕ) → GoodAt threads (opening_moment threads)
-opening_good threads = good_history (record { threads = threads; blocks = 0; every = 0; log = 0; trace = 0; within = 0; full = FlatSpaceIsFull; kinds = OnlyPlain }) [] tt
+opening_good threads = good_history (record { threads = threads; blocks = 0; every = 0; log = 0; trace = 0; within = 0 }) [] tt
 
 length-opening : (threads : ℕ) → length (opening_registers threads) ≡ 16 * threads
 length-opening zero = refl
@@ -85,6 +84,7 @@ opening_follows threads =
       grows = λ n h. h;
       objects = λ n h. let a = object_of (object_at (opening threads).graph n) (good.kept n h) in (a.0, a.0, a.1, a.1, same_shape a.0);
       young = λ n h. absurd (cc);
+      unreached = λ n h away. refl;
       unwritten = λ n i h e. refl;
       written_once = tt;
       written = λ n i h. absurd (cc);
@@ -170,6 +170,8 @@ module _ (m : Moment) (t : ℕ) (o : Op) (r : Reply) (follows : FollowsPause m) 
               let new = facts.new n (e ∙ q) in
               (none_from_no_object (object_at m.last.graph n) (λ x. no_object m.state.graph n new.0 (follows.grows n x)), new.1)
         ];
+        unreached = λ n k away.
+            facts.same n (unreclaimed_object m follows n k) (λ r. away (live_was_reachable m follows n (live_reachable m follows n r) k)) ∙ follows.unreached n k away;
         unwritten = λ n i k not. elim (keeps.fields n i (unreclaimed_object m follows n k)) [
           | inl q ↦ q ∙ follows.unwritten n i k (false_from_ne_true (has_field m.written (n, i)) (λ w. not_both (has_field (written_after m t o r) (n, i)) (written_old m t o r n i w) not))
           | inr w ↦ not_both (has_field (written_after m t o r) (n, i)) (written_there m t o r n i k (subst (λ x. WritesField m.state t o x n i) e w)) not
@@ -257,6 +259,7 @@ follows_anew m us stuck number trace follows in_order closed objects world_stuck
   grows = λ n h. h;
   objects = λ n h. let a = object_of (object_at m.state.graph n) (objects n h) in (a.0, a.0, a.1, a.1, same_shape a.0);
   young = λ n h. absurd (cc);
+  unreached = λ n h away. refl;
   unwritten = λ n i h e. refl;
   written_once = tt;
   written = λ n i h. absurd (cc);

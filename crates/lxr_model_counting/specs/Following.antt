@@ -21,35 +21,44 @@ pub record HasShapeOf (a b : Object) : Type 0 where
   pub refs : length a.refs ≡ length b.refs
   pub values : length a.values ≡ length b.values
 
--- The state now follows the one at the last pause.
+-- The state now follows the one at the last pause: what calls between two pauses leave as it was, and what they may change.
 pub record FollowsPause (m : Moment) : Type 0 where
-  -- the unreclaimed names and those made since, each once and in order, and none in both lists
+  -- the unreclaimed names stand each once and in order, and so do those made since the pause; none is in both lists
   pub unreclaimed : AreInOrder m.unreclaimed
   pub made : AreInOrder m.made
   pub apart : (n : Name) → IsTrue (has m.made n) → has m.unreclaimed n ≡ false
-  -- what was reachable at the pause is unreclaimed, and what unreclaimed objects referred to there is unreclaimed
+  -- what was reachable at the pause is unreclaimed
   pub kept : (n : Name) → Reachable m.last n → IsTrue (has m.unreclaimed n)
+  -- what an unreclaimed object referred to at the pause is unreclaimed
   pub closed : (u n : Name) → IsTrue (has m.unreclaimed u) → Refers m.last.graph u n → IsTrue (has m.unreclaimed n)
-  -- the world is stuck; what is stuck is unreclaimed
+  -- the world is stuck
   pub world : IsTrue (has m.stuck world_name)
+  -- what is stuck is unreclaimed
   pub stuck : (n : Name) → IsTrue (has m.stuck n) → IsTrue (has m.unreclaimed n)
-  -- registers hold live names now, and live names refer to live names
+  -- registers hold live names now
   pub held : (n : Name) → Holds m.state n → IsLive m n
+  -- what a live object refers to now is live
   pub referred : (u n : Name) → IsLive m u → Refers m.state.graph u n → IsLive m n
-  -- nothing left the graph; an unreclaimed object keeps its shape; one made since has none at the pause and one now
+  -- no object left the graph
   pub grows : (n : Name) → HasObject m.last.graph n → HasObject m.state.graph n
+  -- an unreclaimed name had an object at the pause, and has one of that shape now
   pub objects : (n : Name) → IsTrue (has m.unreclaimed n)
-      → (a b : Object) × (object_at m.last.graph n ≡ Some a) × (object_at m.state.graph n ≡ Some b) × HasShapeOf b a
+      → (was now : Object) × (object_at m.last.graph n ≡ Some was) × (object_at m.state.graph n ≡ Some now) × HasShapeOf now was
+  -- a name made since had no object at the pause, and has one now
   pub young : (n : Name) → IsTrue (has m.made n) → (object_at m.last.graph n ≡ None) × HasObject m.state.graph n
+  -- an unreclaimed object that wasn't reachable at the pause is what it was, references and data words: no thread gets at it
+  pub unreached : (n : Name) → IsTrue (has m.unreclaimed n) → ¬ Reachable m.last n → object_at m.state.graph n ≡ object_at m.last.graph n
   -- a reference of an unreclaimed object that wasn't stored to is what it was
   pub unwritten : (n : Name) (i : ℕ) → IsTrue (has m.unreclaimed n) → has_field m.written (n, i) ≡ false
       → slice_get (refs_of (object_at m.state.graph n)) i ≡ slice_get (refs_of (object_at m.last.graph n)) i
-  -- the references stored to, each once, are of unreclaimed objects that were reachable at the pause
+  -- the references stored to stand each once
   pub written_once : AreDistinctFields m.written
+  -- each is a reference of an unreclaimed object that was reachable at the pause
   pub written : (n : Name) (i : ℕ) → IsTrue (has_field m.written (n, i))
       → IsTrue (has m.unreclaimed n) × Reachable m.last n × (i < length (refs_of (object_at m.last.graph n)))
-  -- there are as many rows as there were, one for each thread and the world's, and sixteen registers for each thread
+  -- the graph has as many rows as it had, one for each thread and the world's
   pub rows : length m.state.graph ≡ length m.last.graph
+  -- there are sixteen registers for each thread, now and at the pause
   pub registers : length m.state.registers ≡ 16 * (length m.state.graph - 1)
   pub registers_were : length m.last.registers ≡ 16 * (length m.last.graph - 1)
 

@@ -5,6 +5,7 @@ use Rattle.std.proofs.lemmas.Bool.{or_cases, or_left, or_right, and_parts, and_f
 use Rattle.lxr_layout.specs.declared.Name.{Name}
 use Rattle.lxr_layout.specs.declared.Shape.{Shape}
 use Rattle.lxr_layout.specs.Objects.{FitsShape, word_count, line_count}
+use Rattle.lxr_layout.specs.Spaces.{most_chosen}
 use Rattle.lxr_graph.specs.declared.Op.{Op}
 use Rattle.lxr_graph.specs.declared.Op.TheVariants as op
 use Rattle.lxr_graph.specs.declared.Reply.{Reply}
@@ -17,15 +18,15 @@ use Rattle.lxr_graph.specs.Step.{IsWellFormed}
 use Rattle.lxr_graph.specs.History.{PauseReport, Item, Call, Pause}
 use Rattle.lxr_graph.proofs.NameSets.{not_both, has_one, in_order-without, without_parts, in_without}
 use Rattle.lxr_model.specs.Reachable.{Reachable}
-use Rattle.lxr_model.specs.Terms.{Terms, FullRule, FlatSpaceIsFull, MadeLeaveNoRun, UnreclaimedLeaveNoRun, ReachableLeaveNoRun, KindRule, OnlyPlain, CollectsWhereAsked, CollectsForWaiting}
+use Rattle.lxr_model.specs.Terms.{Terms}
 use Rattle.lxr_model.specs.Moments.{Trace, Moment, moment}
 use Rattle.lxr_model.specs.Kinds.{collect_called, ends, MustCollect, MayCollect, OnlyNewsSincePause, IsRunning, NeedsNoTrace, MayStand}
 use Rattle.lxr_model.specs.Reports.{IsReport}
-use Rattle.lxr_model.specs.Full.{LeaveNoRun, names_made, IsRightAfterPause, MayBeFull, MayBePlaced, slots_in, slots_taken, flat_words}
+use Rattle.lxr_model.specs.Full.{LeaveNoRun, IsRightAfterCollecting, MayBeFull, slots_in, slots_taken}
 use Rattle.lxr_model.specs.Legal.{Replies, StandsForWaiting, IsWaitedFor, KeepsPromise, MayFollow, IsLegalSoFar, IsLegal, OwesNoCall}
 use Rattle.lxr_model_decide.specs.Sets.{reachable_names}
 use Rattle.lxr_model_decide.specs.Reports.{CanBe}
-use Rattle.lxr_model_decide.specs.Legality.{must_collect, only_news_since_pause, may_collect, has_traces, is_running, may_begin, needs_no_trace, may_stand, fits_shape, is_well_formed, is_collect, leave_no_run, is_right_after_pause, may_be_full, may_be_placed, may_reply, stands_for_waiting, is_waited_for, keeps_promise, owes_no_call, may_follow, all_may_stand, reply_again, item_again, again, IsFoundLegal}
+use Rattle.lxr_model_decide.specs.Legality.{must_collect, only_news_since_pause, may_collect, is_running, may_begin, needs_no_trace, may_stand, fits_shape, is_well_formed, is_collect, leave_no_run, is_right_after_collecting, may_be_full, may_reply, stands_for_waiting, is_waited_for, keeps_promise, owes_no_call, may_follow, all_may_stand, reply_again, item_again, again, IsFoundLegal}
 use Rattle.lxr_model_decide.proofs.SetLemmas.{reachable_right}
 use Rattle.lxr_model_decide.proofs.PartLemmas.{reports_right, le_from_test}
 
@@ -62,21 +63,11 @@ only_news (Pause report ∷ h) e = tt
 only_news (Call t (op.New dest shape) r ∷ h) e = only_news h e
 only_news (Call t _ r ∷ h) e = absurd (cc)
 
-collect_right : (rule : KindRule) (terms : Terms) (h : List Item) → IsTrue (may_collect rule terms h) → MayCollect rule terms h
-collect_right OnlyPlain terms h e = absurd (cc)
-collect_right CollectsWhereAsked terms h e = must_right terms h e
-collect_right CollectsForWaiting terms h e = elim (or_cases (must_collect terms h) (only_news_since_pause h) e) [
+collect_right : (terms : Terms) (h : List Item) → IsTrue (may_collect terms h) → MayCollect terms h
+collect_right terms h e = elim (or_cases (must_collect terms h) (only_news_since_pause h) e) [
   | inl k ↦ inl (must_right terms h k)
   | inr k ↦ inr (only_news h k)
 ]
-
-traces_right : (rule : KindRule) → IsTrue (has_traces rule) → rule ≢ OnlyPlain
-traces_right rule e k = not_both (has_traces rule) e (ap has_traces k)
-
-no_traces : (rule : KindRule) → IsTrue (not (has_traces rule)) → rule ≡ OnlyPlain
-no_traces OnlyPlain e = refl
-no_traces CollectsWhereAsked e = absurd (cc)
-no_traces CollectsForWaiting e = absurd (cc)
 
 running_right : (j : ℕ) (trace : Option Trace) → IsTrue (is_running j trace) → IsRunning j trace
 running_right j None e = absurd (cc)
@@ -94,21 +85,17 @@ no_trace_right terms k None e = ne_from_test (k % terms.trace) 0 e
 no_trace_right terms k (Some trace) e = lt_from_test k (trace.began + terms.within) e
 
 stand_right : (terms : Terms) (h : List Item) (m : Moment) (k : ℕ) (i : Kind) → IsTrue (may_stand terms h m.trace k i) → MayStand terms h m k i × CanBe m i
-stand_right terms h m k kind.Collect e = (collect_right terms.kinds terms h e, tt)
+stand_right terms h m k kind.Collect e = (collect_right terms h e, tt)
 stand_right terms h m k (kind.End j) e =
-    let a = and_parts (has_traces terms.kinds) (not (must_collect terms h) && is_running j m.trace) e in
-    let b = and_parts (not (must_collect terms h)) (is_running j m.trace) a.1 in
-    ((traces_right terms.kinds a.0, must_not terms h b.0, running_right j m.trace b.1), running_some j m.trace b.1)
+    let a = and_parts (not (must_collect terms h)) (is_running j m.trace) e in
+    ((must_not terms h a.0, running_right j m.trace a.1), running_some j m.trace a.1)
 stand_right terms h m k kind.Begin e =
-    let a = and_parts (has_traces terms.kinds) (not (must_collect terms h) && may_begin terms k m.trace) e in
-    let b = and_parts (not (must_collect terms h)) (may_begin terms k m.trace) a.1 in
-    let c = begin_right terms k m.trace b.1 in
-    ((traces_right terms.kinds a.0, must_not terms h b.0, c.0, c.1), tt)
-stand_right terms h m k kind.Plain e = elim (or_cases (not (has_traces terms.kinds)) (not (must_collect terms h) && needs_no_trace terms k m.trace) e) [
-  | inl a ↦ (inl (no_traces terms.kinds a), tt)
-  | inr a ↦ let b = and_parts (not (must_collect terms h)) (needs_no_trace terms k m.trace) a in
-      (inr (must_not terms h b.0, no_trace_right terms k m.trace b.1), tt)
-]
+    let a = and_parts (not (must_collect terms h)) (may_begin terms k m.trace) e in
+    let b = begin_right terms k m.trace a.1 in
+    ((must_not terms h a.0, b.0, b.1), tt)
+stand_right terms h m k kind.Plain e =
+    let a = and_parts (not (must_collect terms h)) (needs_no_trace terms k m.trace) e in
+    ((must_not terms h a.0, no_trace_right terms k m.trace a.1), tt)
 
 -- ---- calls
 
@@ -137,12 +124,11 @@ collect_kind kind.Plain e = absurd (cc)
 collect_kind kind.Begin e = absurd (cc)
 collect_kind (kind.End j) e = absurd (cc)
 
-right_after : (collecting : Bool) (P : PauseReport → Type 0) → ((report : PauseReport) → IsTrue (not collecting || is_collect report.kind) → P report)
-    → (h : List Item) → IsTrue (is_right_after_pause collecting h) → IsRightAfterPause P h
-right_after collecting P f [] e = absurd (cc)
-right_after collecting P f (Pause report ∷ h) e = f report e
-right_after collecting P f (Call t (op.New dest shape) reply.Full ∷ h) e = right_after collecting P f h e
-right_after collecting P f (Call t _ _ ∷ h) e = absurd (cc)
+right_after : (h : List Item) → IsTrue (is_right_after_collecting h) → IsRightAfterCollecting h
+right_after [] e = absurd (cc)
+right_after (Pause report ∷ h) e = collect_kind report.kind e
+right_after (Call t (op.New dest shape) reply.Full ∷ h) e = right_after h e
+right_after (Call t _ _ ∷ h) e = absurd (cc)
 
 pub others_reachable : (s : State) → IsSetOf (without (reachable_names s) (world_name ∷ [])) (λ o. Reachable s o × (o ≢ world_name))
 others_reachable s = record {
@@ -157,29 +143,17 @@ others_reachable s = record {
 run_right : (g : Graph) (ns : List Name) (blocks k : ℕ) → IsTrue (leave_no_run g ns blocks k) → LeaveNoRun g ns blocks k
 run_right g ns blocks k e = le_from_test (slots_in k (blocks - 1)) (slots_taken g k ns) e
 
-full_right : (rule : FullRule) (terms : Terms) (h : List Item) (shape : Shape) → IsTrue (may_be_full rule terms h (moment terms.threads h) shape) → MayBeFull rule terms h shape
-full_right FlatSpaceIsFull terms h shape e = lt_from_test 262144 (flat_words (moment terms.threads h).state.graph h + word_count shape) e
-full_right MadeLeaveNoRun terms h shape e = run_right (moment terms.threads h).state.graph (names_made h) terms.blocks (line_count shape) e
-full_right UnreclaimedLeaveNoRun terms h shape e =
-    let m = moment terms.threads h in
-    let a = and_parts (is_right_after_pause false h) (leave_no_run m.state.graph (without m.unreclaimed (world_name ∷ [])) terms.blocks (line_count shape)) e in
-    (right_after false (λ report. Unit {0}) (λ report k. tt) h a.0, run_right m.state.graph (without m.unreclaimed (world_name ∷ [])) terms.blocks (line_count shape) a.1)
-full_right ReachableLeaveNoRun terms h shape e =
+full_right : (terms : Terms) (h : List Item) (shape : Shape) → IsTrue (may_be_full terms h (moment terms.threads h) shape) → MayBeFull terms h shape
+full_right terms h shape e =
     let s = (moment terms.threads h).state in
     let ns = without (reachable_names s) (world_name ∷ []) in
-    let a = and_parts (is_right_after_pause true h) (leave_no_run s.graph ns terms.blocks (line_count shape)) e in
-    (right_after true (λ report. report.kind ≡ kind.Collect) (λ report k. collect_kind report.kind k) h a.0, ns, others_reachable s, run_right s.graph ns terms.blocks (line_count shape) a.1)
-
-placed_right : (rule : FullRule) (terms : Terms) (h : List Item) (shape : Shape) → IsTrue (may_be_placed rule h (moment terms.threads h) shape) → MayBePlaced rule terms h shape
-placed_right FlatSpaceIsFull terms h shape e = le_from_test (flat_words (moment terms.threads h).state.graph h + word_count shape) 262144 e
-placed_right MadeLeaveNoRun terms h shape e = tt
-placed_right UnreclaimedLeaveNoRun terms h shape e = tt
-placed_right ReachableLeaveNoRun terms h shape e = tt
+    let a = and_parts (is_right_after_collecting h) (leave_no_run s.graph ns terms.blocks (line_count shape)) e in
+    (right_after h a.0, ns, others_reachable s, run_right s.graph ns terms.blocks (line_count shape) a.1)
 
 replies_right : (terms : Terms) (h : List Item) (t : ℕ) (o : Op) (r : Reply) → IsTrue (may_reply terms h (moment terms.threads h) o r)
     → reply_again (moment terms.threads h) t o r ≡ r → Replies terms h t o r
-replies_right terms h t (op.New dest shape) reply.Full e same = full_right terms.full terms h shape e
-replies_right terms h t (op.New dest shape) r e same = (same, placed_right terms.full terms h shape e)
+replies_right terms h t (op.New dest shape) reply.Full e same = full_right terms h shape e
+replies_right terms h t (op.New dest shape) r e same = same
 replies_right terms h t o r e same = same
 
 -- ---- a `new` that was waited for
@@ -187,7 +161,7 @@ replies_right terms h t o r e same = same
 waited_right : (terms : Terms) (h : List Item) (x : Item) → IsTrue (is_waited_for terms (moment terms.threads h) x) → IsWaitedFor terms h x
 waited_right terms h (Call t (op.New dest shape) r) e =
     let m = moment terms.threads h in
-    le_from_test (slots_in (line_count shape) (terms.blocks - 1 - terms.blocks / 8)) (slots_taken m.state.graph (line_count shape) (without (union m.made m.unreclaimed) (world_name ∷ []))) e
+    run_right m.state.graph (without (union m.made m.unreclaimed) (world_name ∷ [])) (terms.blocks - most_chosen terms.blocks) (line_count shape) e
 waited_right terms h (Call t _ r) e = absurd (cc)
 waited_right terms h (Pause report) e = absurd (cc)
 

@@ -6,6 +6,7 @@ use Rattle.std.proofs.lemmas.Bool.{or_left, or_right, and_parts, and_from, not-t
 use Rattle.lxr_layout.specs.declared.Name.{Name}
 use Rattle.lxr_layout.specs.declared.Shape.{Shape}
 use Rattle.lxr_layout.specs.Objects.{FitsShape, word_count, line_count}
+use Rattle.lxr_layout.specs.Spaces.{most_chosen}
 use Rattle.lxr_graph.specs.declared.Op.{Op}
 use Rattle.lxr_graph.specs.declared.Op.TheVariants as op
 use Rattle.lxr_graph.specs.declared.Reply.{Reply}
@@ -17,17 +18,16 @@ use Rattle.lxr_graph.specs.State.{Graph, world_name}
 use Rattle.lxr_graph.specs.Step.{IsWellFormed}
 use Rattle.lxr_graph.specs.History.{PauseReport, Item, Call, Pause}
 use Rattle.lxr_graph.proofs.NameSets.{not_both}
-use Rattle.lxr_model.specs.Terms.{Terms, FullRule, FlatSpaceIsFull, MadeLeaveNoRun, UnreclaimedLeaveNoRun, ReachableLeaveNoRun, KindRule, OnlyPlain, CollectsWhereAsked, CollectsForWaiting}
+use Rattle.lxr_model.specs.Terms.{Terms}
 use Rattle.lxr_model.specs.Moments.{Trace, Moment, moment}
 use Rattle.lxr_model.specs.Kinds.{collect_called, ends, MustCollect, MayCollect, OnlyNewsSincePause, IsRunning, NeedsNoTrace, MayStand}
-use Rattle.lxr_model.specs.Full.{LeaveNoRun, names_made, IsRightAfterPause, MayBeFull, MayBePlaced, slots_in, slots_taken, flat_words}
+use Rattle.lxr_model.specs.Full.{LeaveNoRun, IsRightAfterCollecting, MayBeFull, slots_in, slots_taken}
 use Rattle.lxr_model.specs.Legal.{Replies, StandsForWaiting, IsWaitedFor, KeepsPromise, MayFollow, IsLegalSoFar, OwesNoCall}
 use Rattle.lxr_model_decide.specs.Sets.{reachable_names}
 use Rattle.lxr_model_decide.specs.Reports.{report_at, CanBe}
-use Rattle.lxr_model_decide.specs.Legality.{must_collect, only_news_since_pause, may_collect, has_traces, is_running, may_begin, needs_no_trace, may_stand, fits_shape, is_well_formed, is_collect, leave_no_run, is_right_after_pause, may_be_full, may_be_placed, may_reply, stands_for_waiting, is_waited_for, keeps_promise, owes_no_call, may_follow, all_may_stand, reply_again, item_again, again}
+use Rattle.lxr_model_decide.specs.Legality.{must_collect, only_news_since_pause, may_collect, is_running, may_begin, needs_no_trace, may_stand, fits_shape, is_well_formed, is_collect, leave_no_run, is_right_after_collecting, may_be_full, may_reply, stands_for_waiting, is_waited_for, keeps_promise, owes_no_call, may_follow, all_may_stand, reply_again, item_again, again}
 use Rattle.lxr_model_decide.proofs.PartLemmas.{reports_right}
 use Rattle.lxr_graph.proofs.NameSets.{one_set}
-use Rattle.lxr_model.specs.Full.{LeaveNoRun}
 use Rattle.lxr_model_laws.proofs.ReportLemmas.{report_determined}
 use Rattle.lxr_model_decide.specs.Laws.{LegalityIsComputed}
 use Rattle.lxr_model_decide.proofs.PartLemmas.{test_from_le}
@@ -56,16 +56,9 @@ news_test (Pause report ∷ h) e = refl
 news_test (Call t (op.New dest shape) r ∷ h) e = news_test h e
 news_test (Call t _ r ∷ h) e = absurd e
 
-collect_test : (rule : KindRule) (terms : Terms) (h : List Item) → MayCollect rule terms h → IsTrue (may_collect rule terms h)
-collect_test OnlyPlain terms h e = absurd e
-collect_test CollectsWhereAsked terms h e = must_test terms h e
-collect_test CollectsForWaiting terms h (inl k) = or_left (must_collect terms h) (only_news_since_pause h) (must_test terms h k)
-collect_test CollectsForWaiting terms h (inr k) = or_right (must_collect terms h) (only_news_since_pause h) (news_test h k)
-
-traces_test : (rule : KindRule) → rule ≢ OnlyPlain → IsTrue (has_traces rule)
-traces_test OnlyPlain e = absurd (e refl)
-traces_test CollectsWhereAsked e = refl
-traces_test CollectsForWaiting e = refl
+collect_test : (terms : Terms) (h : List Item) → MayCollect terms h → IsTrue (may_collect terms h)
+collect_test terms h (inl k) = or_left (must_collect terms h) (only_news_since_pause h) (must_test terms h k)
+collect_test terms h (inr k) = or_right (must_collect terms h) (only_news_since_pause h) (news_test h k)
 
 running_test : (j : ℕ) (trace : Option Trace) → IsRunning j trace → IsTrue (is_running j trace)
 running_test j None e = absurd e
@@ -80,14 +73,10 @@ no_trace_test terms k None e = test_from_ne (k % terms.trace) 0 e
 no_trace_test terms k (Some trace) e = test_from_lt k (trace.began + terms.within) e
 
 stand_test : (terms : Terms) (h : List Item) (m : Moment) (k : ℕ) (i : Kind) → MayStand terms h m k i → IsTrue (may_stand terms h m.trace k i)
-stand_test terms h m k kind.Collect e = collect_test terms.kinds terms h e
-stand_test terms h m k (kind.End j) e = and_from (has_traces terms.kinds) (not (must_collect terms h) && is_running j m.trace) (traces_test terms.kinds e.0)
-    (and_from (not (must_collect terms h)) (is_running j m.trace) (must_not_test terms h e.1) (running_test j m.trace e.2))
-stand_test terms h m k kind.Begin e = and_from (has_traces terms.kinds) (not (must_collect terms h) && may_begin terms k m.trace) (traces_test terms.kinds e.0)
-    (and_from (not (must_collect terms h)) (may_begin terms k m.trace) (must_not_test terms h e.1) (begin_test terms k m.trace e.2 e.3))
-stand_test terms h m k kind.Plain (inl a) = or_left (not (has_traces terms.kinds)) (not (must_collect terms h) && needs_no_trace terms k m.trace) (ap (λ rule. not (has_traces rule)) a)
-stand_test terms h m k kind.Plain (inr a) = or_right (not (has_traces terms.kinds)) (not (must_collect terms h) && needs_no_trace terms k m.trace)
-    (and_from (not (must_collect terms h)) (needs_no_trace terms k m.trace) (must_not_test terms h a.0) (no_trace_test terms k m.trace a.1))
+stand_test terms h m k kind.Collect e = collect_test terms h e
+stand_test terms h m k (kind.End j) e = and_from (not (must_collect terms h)) (is_running j m.trace) (must_not_test terms h e.0) (running_test j m.trace e.1)
+stand_test terms h m k kind.Begin e = and_from (not (must_collect terms h)) (may_begin terms k m.trace) (must_not_test terms h e.0) (begin_test terms k m.trace e.1 e.2)
+stand_test terms h m k kind.Plain e = and_from (not (must_collect terms h)) (needs_no_trace terms k m.trace) (must_not_test terms h e.0) (no_trace_test terms k m.trace e.1)
 
 -- ---- calls
 
@@ -110,42 +99,27 @@ formed_test op.Pause e = refl
 formed_test op.Collect e = refl
 formed_test op.End e = refl
 
-after_test : (collecting : Bool) (P : PauseReport → Type 0) → ((report : PauseReport) → P report → IsTrue (not collecting || is_collect report.kind))
-    → (h : List Item) → IsRightAfterPause P h → IsTrue (is_right_after_pause collecting h)
-after_test collecting P f [] e = absurd e
-after_test collecting P f (Pause report ∷ h) e = f report e
-after_test collecting P f (Call t (op.New dest shape) reply.Full ∷ h) e = after_test collecting P f h e
-after_test collecting P f (Call t _ _ ∷ h) e = absurd e
+after_test : (h : List Item) → IsRightAfterCollecting h → IsTrue (is_right_after_collecting h)
+after_test [] e = absurd e
+after_test (Pause report ∷ h) e = ap is_collect e
+after_test (Call t (op.New dest shape) reply.Full ∷ h) e = after_test h e
+after_test (Call t _ _ ∷ h) e = absurd e
 
 run_test : (g : Graph) (ns : List Name) (blocks k : ℕ) → LeaveNoRun g ns blocks k → IsTrue (leave_no_run g ns blocks k)
 run_test g ns blocks k e = test_from_le (slots_in k (blocks - 1)) (slots_taken g k ns) e
 
-full_test : (rule : FullRule) (terms : Terms) (h : List Item) (shape : Shape) → MayBeFull rule terms h shape → IsTrue (may_be_full rule terms h (moment terms.threads h) shape)
-full_test FlatSpaceIsFull terms h shape e = test_from_lt 262144 (flat_words (moment terms.threads h).state.graph h + word_count shape) e
-full_test MadeLeaveNoRun terms h shape e = run_test (moment terms.threads h).state.graph (names_made h) terms.blocks (line_count shape) e
-full_test UnreclaimedLeaveNoRun terms h shape e =
-    let m = moment terms.threads h in
-    let ns = without m.unreclaimed (world_name ∷ []) in
-    and_from (is_right_after_pause false h) (leave_no_run m.state.graph ns terms.blocks (line_count shape))
-    (after_test false (λ report. Unit {0}) (λ report k. refl) h e.0) (run_test m.state.graph ns terms.blocks (line_count shape) e.1)
-full_test ReachableLeaveNoRun terms h shape e =
+full_test : (terms : Terms) (h : List Item) (shape : Shape) → MayBeFull terms h shape → IsTrue (may_be_full terms h (moment terms.threads h) shape)
+full_test terms h shape e =
     let s = (moment terms.threads h).state in
     let ns = without (reachable_names s) (world_name ∷ []) in
     let q : e.1 ≡ ns = one_set e.2 (others_reachable s) in
-    and_from (is_right_after_pause true h) (leave_no_run s.graph ns terms.blocks (line_count shape))
-    (after_test true (λ report. report.kind ≡ kind.Collect) (λ report k. ap is_collect k) h e.0)
+    and_from (is_right_after_collecting h) (leave_no_run s.graph ns terms.blocks (line_count shape)) (after_test h e.0)
     (run_test s.graph ns terms.blocks (line_count shape) (subst (λ ns. LeaveNoRun s.graph ns terms.blocks (line_count shape)) q e.3))
-
-placed_test : (rule : FullRule) (terms : Terms) (h : List Item) (shape : Shape) → MayBePlaced rule terms h shape → IsTrue (may_be_placed rule h (moment terms.threads h) shape)
-placed_test FlatSpaceIsFull terms h shape e = test_from_le (flat_words (moment terms.threads h).state.graph h + word_count shape) 262144 e
-placed_test MadeLeaveNoRun terms h shape e = refl
-placed_test UnreclaimedLeaveNoRun terms h shape e = refl
-placed_test ReachableLeaveNoRun terms h shape e = refl
 
 replies_test : (terms : Terms) (h : List Item) (t : ℕ) (o : Op) (r : Reply) → Replies terms h t o r
     → IsTrue (may_reply terms h (moment terms.threads h) o r) × (reply_again (moment terms.threads h) t o r ≡ r)
-replies_test terms h t (op.New dest shape) reply.Full e = (full_test terms.full terms h shape e, refl)
-replies_test terms h t (op.New dest shape) r e = (placed_test terms.full terms h shape e.1, e.0)
+replies_test terms h t (op.New dest shape) reply.Full e = (full_test terms h shape e, refl)
+replies_test terms h t (op.New dest shape) r e = (refl, e)
 replies_test terms h t o r e = (refl, e)
 
 -- ---- a `new` that was waited for
@@ -153,7 +127,7 @@ replies_test terms h t o r e = (refl, e)
 waited_test : (terms : Terms) (h : List Item) (x : Item) → IsWaitedFor terms h x → IsTrue (is_waited_for terms (moment terms.threads h) x)
 waited_test terms h (Call t (op.New dest shape) r) e =
     let m = moment terms.threads h in
-    test_from_le (slots_in (line_count shape) (terms.blocks - 1 - terms.blocks / 8)) (slots_taken m.state.graph (line_count shape) (without (union m.made m.unreclaimed) (world_name ∷ []))) e
+    run_test m.state.graph (without (union m.made m.unreclaimed) (world_name ∷ [])) (terms.blocks - most_chosen terms.blocks) (line_count shape) e
 waited_test terms h (Call t _ r) e = absurd e
 waited_test terms h (Pause report) e = absurd e
 
@@ -191,7 +165,7 @@ running_some j (Some trace) e none = cc
 can_be : (terms : Terms) (h : List Item) (m : Moment) (k : ℕ) (i : Kind) → MayStand terms h m k i → CanBe m i
 can_be terms h m k kind.Plain e = tt
 can_be terms h m k kind.Begin e = tt
-can_be terms h m k (kind.End j) e = running_some j m.trace e.2
+can_be terms h m k (kind.End j) e = running_some j m.trace e.1
 can_be terms h m k kind.Collect e = tt
 
 follow_test : (terms : Terms) (h : List Item) (x : Item) → MayFollow terms h x

@@ -9,13 +9,13 @@ use Rattle.lxr_graph.specs.declared.report.Count.{Count}
 use Rattle.lxr_graph.specs.declared.report.Kind.{Kind}
 use Rattle.lxr_graph.specs.State.{world_name}
 use Rattle.lxr_graph.specs.History.{PauseReport, Item, Call}
-use Rattle.lxr_model.specs.Terms.{Terms, ReachableLeaveNoRun, CollectsForWaiting}
+use Rattle.lxr_model.specs.Terms.{Terms}
 use Rattle.lxr_model.specs.Legal.{IsLegal}
 use Rattle.lxr_model.specs.Belongs.{Belongs}
 
--- one thread, the numbers that a run has unless told otherwise, and the collector's own rules
+-- one thread, and the numbers that a run has unless told otherwise
 abbrev pub usual_terms : Terms
-usual_terms = record { threads = 1; blocks = 64; every = 1024; log = 1024; trace = 8; within = 4; full = ReachableLeaveNoRun; kinds = CollectsForWaiting }
+usual_terms = record { threads = 1; blocks = 64; every = 1024; log = 1024; trace = 8; within = 4 }
 
 -- the name of thread 1's object of this serial
 abbrev pub made : ℕ → Name

@@ -3,7 +3,8 @@
 use Rattle.std.specs.Prelude.{◌≡◌, ℕ, ◌+◌, ◌-◌, ◌/◌, ◌%◌, Bool, true, false, not, ◌&&◌, ◌||◌, nat_eq, nat_lt, nat_le, Option, Some, None, List, [], ◌∷◌, IsTrue}
 use Rattle.lxr_layout.specs.declared.Name.{Name}
 use Rattle.lxr_layout.specs.declared.Shape.{Shape}
-use Rattle.lxr_layout.specs.Objects.{word_count, line_count}
+use Rattle.lxr_layout.specs.Objects.{line_count}
+use Rattle.lxr_layout.specs.Spaces.{most_chosen}
 use Rattle.lxr_graph.specs.declared.Op.{Op}
 use Rattle.lxr_graph.specs.declared.Op.TheVariants as op
 use Rattle.lxr_graph.specs.declared.Reply.{Reply}
@@ -14,10 +15,10 @@ use Rattle.lxr_graph.specs.Names.{without, union}
 use Rattle.lxr_graph.specs.State.{Graph, world_name}
 use Rattle.lxr_graph.specs.Step.{step}
 use Rattle.lxr_graph.specs.History.{PauseReport, Item, Call, Pause}
-use Rattle.lxr_model.specs.Terms.{Terms, FullRule, FlatSpaceIsFull, MadeLeaveNoRun, UnreclaimedLeaveNoRun, ReachableLeaveNoRun, KindRule, OnlyPlain, CollectsWhereAsked, CollectsForWaiting}
+use Rattle.lxr_model.specs.Terms.{Terms}
 use Rattle.lxr_model.specs.Moments.{Trace, Moment, moment}
 use Rattle.lxr_model.specs.Kinds.{collect_called, ends}
-use Rattle.lxr_model.specs.Full.{slots_in, slots_taken, names_made, flat_words}
+use Rattle.lxr_model.specs.Full.{slots_in, slots_taken}
 use Rattle.lxr_model_decide.specs.Sets.{reachable_names}
 use Rattle.lxr_model_decide.specs.Reports.{report_at}
 
@@ -35,16 +36,8 @@ only_news_since_pause (Call t (op.New dest shape) r ∷ h) = only_news_since_pau
 only_news_since_pause (Call t _ r ∷ h) = false
 
 -- a collecting pause may stand, as far as what stands before it tells
-abbrev pub may_collect : KindRule → Terms → List Item → Bool
-may_collect OnlyPlain terms h = false
-may_collect CollectsWhereAsked terms h = must_collect terms h
-may_collect CollectsForWaiting terms h = must_collect terms h || only_news_since_pause h
-
--- the rule has pauses that begin and end traces
-abbrev pub has_traces : KindRule → Bool
-has_traces OnlyPlain = false
-has_traces CollectsWhereAsked = true
-has_traces CollectsForWaiting = true
+abbrev pub may_collect : Terms → List Item → Bool
+may_collect terms h = must_collect terms h || only_news_since_pause h
 
 -- the trace that began at pause j runs
 abbrev pub is_running : ℕ → Option Trace → Bool
@@ -63,10 +56,10 @@ needs_no_trace terms k (Some trace) = nat_lt k (trace.began + terms.within)
 
 -- pause k may be of this kind after h, where this trace runs
 abbrev pub may_stand : Terms → List Item → Option Trace → ℕ → Kind → Bool
-may_stand terms h trace k kind.Collect = may_collect terms.kinds terms h
-may_stand terms h trace k (kind.End j) = has_traces terms.kinds && (not (must_collect terms h) && is_running j trace)
-may_stand terms h trace k kind.Begin = has_traces terms.kinds && (not (must_collect terms h) && may_begin terms k trace)
-may_stand terms h trace k kind.Plain = not (has_traces terms.kinds) || (not (must_collect terms h) && needs_no_trace terms k trace)
+may_stand terms h trace k kind.Collect = may_collect terms h
+may_stand terms h trace k (kind.End j) = not (must_collect terms h) && is_running j trace
+may_stand terms h trace k kind.Begin = not (must_collect terms h) && may_begin terms k trace
+may_stand terms h trace k kind.Plain = not (must_collect terms h) && needs_no_trace terms k trace
 
 -- ---- calls
 
@@ -97,32 +90,22 @@ abbrev pub is_collect : Kind → Bool
 is_collect kind.Collect = true
 is_collect _ = false
 
--- a pause stands before, collecting where that is asked, with nothing behind it but `new full`
-abbrev pub is_right_after_pause : Bool → List Item → Bool
-is_right_after_pause collecting [] = false
-is_right_after_pause collecting (Pause report ∷ h) = not collecting || is_collect report.kind
-is_right_after_pause collecting (Call t (op.New dest shape) reply.Full ∷ h) = is_right_after_pause collecting h
-is_right_after_pause collecting (Call t _ _ ∷ h) = false
+-- the last pause collected, and nothing but `new full` stands behind it
+abbrev pub is_right_after_collecting : List Item → Bool
+is_right_after_collecting [] = false
+is_right_after_collecting (Pause report ∷ h) = is_collect report.kind
+is_right_after_collecting (Call t (op.New dest shape) reply.Full ∷ h) = is_right_after_collecting h
+is_right_after_collecting (Call t _ _ ∷ h) = false
 
 -- a `new` of this shape may reply `full` after h, which leads to m
-abbrev pub may_be_full : FullRule → Terms → List Item → Moment → Shape → Bool
-may_be_full FlatSpaceIsFull terms h m shape = nat_lt 262144 (flat_words m.state.graph h + word_count shape)
-may_be_full MadeLeaveNoRun terms h m shape = leave_no_run m.state.graph (names_made h) terms.blocks (line_count shape)
-may_be_full UnreclaimedLeaveNoRun terms h m shape =
-    is_right_after_pause false h && leave_no_run m.state.graph (without m.unreclaimed (world_name ∷ [])) terms.blocks (line_count shape)
-may_be_full ReachableLeaveNoRun terms h m shape =
-    is_right_after_pause true h
+abbrev pub may_be_full : Terms → List Item → Moment → Shape → Bool
+may_be_full terms h m shape =
+    is_right_after_collecting h
     && leave_no_run m.state.graph (without (reachable_names m.state) (world_name ∷ [])) terms.blocks (line_count shape)
 
--- a `new` of this shape may succeed after h, which leads to m
-abbrev pub may_be_placed : FullRule → List Item → Moment → Shape → Bool
-may_be_placed FlatSpaceIsFull h m shape = nat_le (flat_words m.state.graph h + word_count shape) 262144
-may_be_placed _ h m shape = true
-
--- a `new` may reply so after h, which leads to m
+-- a call may reply so after h, which leads to m, as far as its step doesn't tell
 abbrev pub may_reply : Terms → List Item → Moment → Op → Reply → Bool
-may_reply terms h m (op.New dest shape) reply.Full = may_be_full terms.full terms h m shape
-may_reply terms h m (op.New dest shape) r = may_be_placed terms.full h m shape
+may_reply terms h m (op.New dest shape) reply.Full = may_be_full terms h m shape
 may_reply terms h m o r = true
 
 -- ---- a `new` that was waited for
@@ -134,8 +117,7 @@ stands_for_waiting terms h report = is_collect report.kind && not (must_collect 
 -- the `new` behind a pause that stands for it, which came after a history that leads to m
 abbrev pub is_waited_for : Terms → Moment → Item → Bool
 is_waited_for terms m (Call t (op.New dest shape) r) =
-    nat_le (slots_in (line_count shape) (terms.blocks - 1 - terms.blocks / 8))
-    (slots_taken m.state.graph (line_count shape) (without (union m.made m.unreclaimed) (world_name ∷ [])))
+    leave_no_run m.state.graph (without (union m.made m.unreclaimed) (world_name ∷ [])) (terms.blocks - most_chosen terms.blocks) (line_count shape)
 is_waited_for terms m _ = false
 
 -- an item may come right behind the newest of a history

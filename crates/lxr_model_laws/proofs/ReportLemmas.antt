@@ -11,7 +11,7 @@ use Rattle.lxr_graph.specs.Names.{without, union, AreInOrder}
 use Rattle.lxr_graph.specs.State.{world_name}
 use Rattle.lxr_graph.specs.History.{PauseReport, Item, Call, Pause}
 use Rattle.lxr_graph.proofs.NameSets.{in_order-none, in_order-one, in_order-insert, in_order-union, in_order-without, one_set}
-use Rattle.lxr_model.specs.Terms.{Terms, OnlyPlain}
+use Rattle.lxr_model.specs.Terms.{Terms}
 use Rattle.lxr_model.specs.Moments.{Trace, Moment, moment, made_after, left_by, going_on, trace_after}
 use Rattle.lxr_model.specs.Reports.{PauseParts, IsReport, IsReportWith, IsSwept, IsSweptAtEnd, AreDrained, AreCounts, is_draining, kept_names}
 use Rattle.lxr_model.specs.Kinds.{MayStand, IsRunning, NeedsNoTrace}
@@ -135,23 +135,22 @@ history_determined terms (Pause a ∷ g) (Call u p q ∷ h) x y alike = absurd a
 
 -- ---- traces
 
--- a trace that runs began at this number or before, and fewer than `within` pauses ago; where all pauses are plain, none runs
+-- a trace that runs began at this number or before, and fewer than `within` pauses ago
 abbrev IsYoung : Terms → ℕ → Option Trace → Type 0
 IsYoung terms k None = Unit {0}
-IsYoung terms k (Some trace) = (terms.kinds ≡ OnlyPlain → ⊥) × (trace.began ≤ k) × (k < trace.began + terms.within)
+IsYoung terms k (Some trace) = (trace.began ≤ k) × (k < trace.began + terms.within)
 
-young_plain : (terms : Terms) (m : Moment) (report : PauseReport) (k : ℕ) (trace : Option Trace) → (terms.kinds ≡ OnlyPlain) ⊎ NeedsNoTrace terms (k + 1) trace → IsYoung terms k trace
+young_plain : (terms : Terms) (m : Moment) (report : PauseReport) (k : ℕ) (trace : Option Trace) → NeedsNoTrace terms (k + 1) trace → IsYoung terms k trace
     → IsYoung terms (k + 1) (going_on m report trace)
 young_plain terms m report k None stands young = tt
-young_plain terms m report k (Some trace) (inl e) young = absurd (young.0 e)
-young_plain terms m report k (Some trace) (inr early) young = (young.0, omega arith, early)
+young_plain terms m report k (Some trace) early young = (omega arith, early)
 
 young_after : (terms : Terms) (h : List Item) (m : Moment) (report : PauseReport) (kd : Kind) → 1 ≤ terms.within → report.number ≡ m.number + 1
     → MayStand terms h m report.number kd → IsYoung terms m.number m.trace → IsYoung terms report.number (trace_after m report kd)
 young_after terms h m report kind.Plain w e stands young =
     subst (λ k. IsYoung terms k (going_on m report m.trace)) (sym e)
-    (young_plain terms m report m.number m.trace (elim stands [ inl p ↦ inl p | inr q ↦ inr (subst (λ k. NeedsNoTrace terms k m.trace) e q.1) ]) young)
-young_after terms h m report kind.Begin w e stands young = (stands.0, omega arith, omega arith)
+    (young_plain terms m report m.number m.trace (subst (λ k. NeedsNoTrace terms k m.trace) e stands.1) young)
+young_after terms h m report kind.Begin w e stands young = (omega arith, omega arith)
 young_after terms h m report (kind.End j) w e stands young = tt
 young_after terms h m report kind.Collect w e stands young = tt
 
@@ -163,8 +162,7 @@ young terms (Pause report ∷ h) w legal =
 
 pub running_young : RunningTracesAreYoung
 running_young terms h trace w legal is =
-    let y : IsYoung terms (moment terms.threads h).number (Some trace) = subst (IsYoung terms (moment terms.threads h).number) is (young terms h w legal) in
-    (y.1, y.2)
+    subst (IsYoung terms (moment terms.threads h).number) is (young terms h w legal)
 
 ends_young : (terms : Terms) (k j : ℕ) (trace : Option Trace) → IsRunning j trace → IsYoung terms k trace → (j < k + 1) × (k + 1 ≤ j + terms.within)
 ends_young terms k j None runs young = absurd runs
@@ -174,4 +172,4 @@ pub ends_in_time : TracesEndInTime
 ends_in_time terms h report j w legal ends =
     let m = moment terms.threads h in
     let stands : MayStand terms h m report.number (kind.End j) = subst (MayStand terms h m report.number) ends legal.2.stands in
-    subst (λ k. (j < k) × (k ≤ j + terms.within)) (sym legal.2.reports.1.number) (ends_young terms m.number j m.trace stands.2 (young terms h w legal.0))
+    subst (λ k. (j < k) × (k ≤ j + terms.within)) (sym legal.2.reports.1.number) (ends_young terms m.number j m.trace stands.1 (young terms h w legal.0))

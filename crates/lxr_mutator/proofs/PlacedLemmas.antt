@@ -1,5 +1,6 @@
 -- What becomes of a mutator that has placed an object.
 use Rattle.std.proofs.Common.{◌≡◌, ◌≤◌, false, arith, refl, sym, subst, inr}
+use Rattle.lxr_layout.specs.declared.TheConstants.{MOST_GRANULES}
 use Rattle.lxr_layout.specs.declared.Place.{Place}
 use Rattle.lxr_layout.specs.declared.Run.{Run}
 use Rattle.lxr_layout.specs.declared.Shape.{Shape}
@@ -13,11 +14,11 @@ use Rattle.lxr_mutator.specs.Steps.{in_current}
 use Rattle.lxr_mutator.specs.Mutators.{IsMutator}
 
 -- the front of a span with room that ends in the heap is a place
-pub front_is_place : (span : Span) (shape : Shape) → FitsSpan span shape → span.end ≤ 2097152 → IsPlace (front_of span)
+pub front_is_place : (span : Span) (shape : Shape) → FitsSpan span shape → span.end ≤ MOST_GRANULES → IsPlace (front_of span)
 front_is_place span shape room within = omega arith
 
 -- a run ends in the heap
-pub run_in_heap : (r : Run) → IsInBlock r → (run_span r).end ≤ 2097152
+pub run_in_heap : (r : Run) → IsInBlock r → (run_span r).end ≤ MOST_GRANULES
 run_in_heap r h = omega arith
 
 -- the spans and the place are those of an object at the front of this span, which is current
@@ -32,7 +33,7 @@ run_filled m taken after shape span place t p a =
     (subst (λ (s : Spans). record m { spans = record s { current = taken_from s.current shape }; phase = phase.Wiping (front_of s.current) 1 } ≡ in_current m shape span) (sym t) refl))
 
 -- with an object placed, it is a mutator still
-pub placed_is_mutator : (m : Mutating) (shape : Shape) (span : Span) → IsMutator m → rests_in m.phase ≡ false → FitsSpan span shape → span.end ≤ 2097152 → IsMutator (in_current m shape span)
+pub placed_is_mutator : (m : Mutating) (shape : Shape) (span : Span) → IsMutator m → rests_in m.phase ≡ false → FitsSpan span shape → span.end ≤ MOST_GRANULES → IsMutator (in_current m shape span)
 placed_is_mutator m shape span is busy room within = record {
   thread = is.thread;
   operations = is.operations;

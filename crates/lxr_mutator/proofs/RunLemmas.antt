@@ -1,7 +1,7 @@
 -- The words of runs.
 use Rattle.std.proofs.Common.{◌≡◌, ℕ, ◌+◌, ◌<◌, ◌≤◌, arith, subst, sym}
 use Rattle.std.specs.Prelude.{IsTrue}
-use Rattle.lxr_layout.specs.declared.TheConstants.{LINES_IN_BLOCK}
+use Rattle.lxr_layout.specs.declared.TheConstants.{LINES_IN_BLOCK, MOST_BLOCKS}
 use Rattle.lxr_layout.specs.declared.Shape.{Shape}
 use Rattle.lxr_layout.specs.Objects.{line_count}
 use Rattle.lxr_alloc.specs.Spans.{IsInBlock}
@@ -11,7 +11,7 @@ use Rattle.lxr_mutator.specs.Steps.{is_run, run_in}
 
 -- what a run's test tells
 pub record FitsRun (r : Run) : Type 0 where
-  pub block : r.block < 1024
+  pub block : r.block < MOST_BLOCKS
   pub some : 1 ≤ r.lines
   pub within : r.line + r.lines ≤ LINES_IN_BLOCK
 

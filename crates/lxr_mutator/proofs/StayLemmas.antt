@@ -4,6 +4,7 @@ use Rattle.std.specs.Prelude.{◌&&◌, IsTrue, nat_eq, nat_le, nat_lt, if◌the
 use Rattle.std.specs.List.{All}
 use Rattle.std.proofs.lemmas.List.Elements.{All-set, All-replicate, All-get_or}
 use Rattle.std.proofs.Math.ListN.{length-set}
+use Rattle.lxr_layout.specs.declared.TheConstants.{MOST_BLOCKS, MOST_GRANULES}
 use Rattle.lxr_tables.specs.Entries.{is_set}
 use Rattle.lxr_layout.specs.declared.Place.{Place}
 use Rattle.lxr_layout.specs.declared.LogEntry.{LogEntry}
@@ -210,13 +211,13 @@ reached_stays m base shape is on at true = go m (reaching m base shape (op_now m
 reached_stays m base shape is on at false = done_stays m reply.Range is on
 
 -- an object is placed at the front of a span
-current_stays : (m : Mutating) (shape : Shape) (span : Span) → IsMutator m → GoesOn m → FitsSpan span shape → span.end ≤ 2097152 → 1 < word_count (shape_now m) → IsMutator (in_current m shape span)
+current_stays : (m : Mutating) (shape : Shape) (span : Span) → IsMutator m → GoesOn m → FitsSpan span shape → span.end ≤ MOST_GRANULES → 1 < word_count (shape_now m) → IsMutator (in_current m shape span)
 current_stays m shape span is on room within words =
     goes_on m m.log m.registers (record m.spans { current = taken_from span shape }) (phase.Wiping (front_of span) 1) is on is.registers is.held (within, is.spans.1)
     (front_is_place span shape room within, (omega arith, words))
 
 -- so it is in the overflow span
-overflow_stays : (m : Mutating) (shape : Shape) (span : Span) → IsMutator m → GoesOn m → FitsSpan span shape → span.end ≤ 2097152 → 1 < word_count (shape_now m) → IsMutator (in_overflow m shape span)
+overflow_stays : (m : Mutating) (shape : Shape) (span : Span) → IsMutator m → GoesOn m → FitsSpan span shape → span.end ≤ MOST_GRANULES → 1 < word_count (shape_now m) → IsMutator (in_overflow m shape span)
 overflow_stays m shape span is on room within words =
     goes_on m m.log m.registers (record m.spans { overflow = taken_from span shape }) (phase.Wiping (front_of span) 1) is on is.registers is.held (is.spans.0, within)
     (front_is_place span shape room within, (omega arith, words))
@@ -247,7 +248,7 @@ placed_stays m is on true e = current_stays m (shape_now m) m.spans.current is o
 placed_stays m is on false e = behind_stays m is on (λ room. absurd (grind arith)) (is_medium (shape_now m)) (has_room m.spans.overflow (shape_now m)) refl refl
 
 -- an object is placed in a block
-block_stays : (m : Mutating) (block : ℕ) → IsMutator m → GoesOn m → block < 1024 → (b : Bool)
+block_stays : (m : Mutating) (block : ℕ) → IsMutator m → GoesOn m → block < MOST_BLOCKS → (b : Bool)
     → IsMutator (if b then in_overflow m (shape_now m) (block_span block) else in_current m (shape_now m) (block_span block))
 block_stays m block is on lt true = let few = few_words m is in overflow_stays m (shape_now m) (block_span block) is on (omega arith) (omega arith) (some_words (shape_now m))
 block_stays m block is on lt false = let few = few_words m is in current_stays m (shape_now m) (block_span block) is on (omega arith) (omega arith) (some_words (shape_now m))

@@ -1,6 +1,7 @@
 -- What holds of each mutator, and what becomes of it between its steps.
 use Rattle.std.specs.Prelude.{◌≡◌, ◌≢◌, ℕ, ◌+◌, ◌/◌, ◌^◌, ◌<◌, ◌≤◌, ◌⊎◌, false, if◌then◌else◌, nat_le, Option, Some, None, List, [], length, replicate}
 use Rattle.std.specs.List.{All}
+use Rattle.lxr_layout.specs.declared.TheConstants.{MOST_GRANULES}
 use Rattle.lxr_layout.specs.declared.Place.{Place}
 use Rattle.lxr_layout.specs.declared.Shape.{Shape}
 use Rattle.lxr_layout.specs.declared.LogEntry.{LogEntry}
@@ -33,7 +34,7 @@ IsOperation o = IsWellFormed o × (o ≢ op.End)
 
 -- nil or a place
 abbrev pub IsHeld : Place → Type 0
-IsHeld p = p.0 ≤ 2 ^ 21
+IsHeld p = p.0 ≤ MOST_GRANULES
 
 -- no granules left, and none to give back
 abbrev pub no_spans : Spans
@@ -41,7 +42,7 @@ no_spans = record { current = empty_span; overflow = empty_span }
 
 -- the granules of its spans are granules of the largest heap
 abbrev pub AreInHeap : Spans → Type 0
-AreInHeap s = (s.current.end ≤ 2 ^ 21) × (s.overflow.end ≤ 2 ^ 21)
+AreInHeap s = (s.current.end ≤ MOST_GRANULES) × (s.overflow.end ≤ MOST_GRANULES)
 
 -- the words of tables and cursors have indexes of 32 bits
 pub record HaveIndexes (r : Regions) : Type 0 where
@@ -137,7 +138,7 @@ answered m r = record m { replies = pushed m.replies r; end = Some (ends.OpDone 
 
 -- this place, or nil where the largest heap has no such place
 abbrev pub held_place : Place → Place
-held_place p = if nat_le p.0 (2 ^ 21) then p else nil
+held_place p = if nat_le p.0 (MOST_GRANULES) then p else nil
 
 -- its `new` is done from outside: the register that it names holds the new object's place, and the reply is the object's name
 abbrev pub served : Mutating → Place → Mutating

@@ -1,6 +1,6 @@
 -- A mutator as a machine: one case for each phase.
 use Rattle.std.specs.Prelude.{ℕ, ◌+◌, ◌-◌, ◌/◌, ◌%◌, ◌^◌, ◌&&◌, nat_eq, nat_le, nat_lt, if◌then◌else◌, Bool, true, false, Option, Some, None, replicate, slice_set}
-use Rattle.lxr_layout.specs.declared.TheConstants.{FREE_BLOCK_COUNT, FREE_BLOCK_CURSOR, LINES_IN_BLOCK, RUN_COUNT, RUN_CURSOR}
+use Rattle.lxr_layout.specs.declared.TheConstants.{FREE_BLOCK_COUNT, FREE_BLOCK_CURSOR, LINES_IN_BLOCK, MOST_BLOCKS, MOST_GRANULES, RUN_COUNT, RUN_CURSOR}
 use Rattle.lxr_layout.specs.declared.Place.{Place}
 use Rattle.lxr_layout.specs.declared.Name.{Name}
 use Rattle.lxr_layout.specs.declared.Shape.{Shape}
@@ -102,18 +102,18 @@ run_in word = record { block = word / 2 ^ 16; line = word / 2 ^ 8 % 2 ^ 8; lines
 
 -- a run of at least one line, which lies in its block
 abbrev pub is_run : Run → Bool
-is_run run = nat_lt run.block 1024 && (nat_le 1 run.lines && nat_le (run.line + run.lines) LINES_IN_BLOCK)
+is_run run = nat_lt run.block MOST_BLOCKS && (nat_le 1 run.lines && nat_le (run.line + run.lines) LINES_IN_BLOCK)
 
 -- The word of its next step tells what its phase looks for: the header of an object of the heap, a reference, a count that its
 -- table has room for, a run, a block. In an epoch each word does.
 abbrev pub accepts_in : Mutating → MutatorPhase → ℕ → Bool
 accepts_in m (phase.Base base) old = is_header old && lies_in_heap m base old
-accepts_in m (phase.Reference base) old = nat_le old (2 ^ 21)
+accepts_in m (phase.Reference base) old = nat_le old (MOST_GRANULES)
 accepts_in m (phase.Referent place) old = is_header old
 accepts_in m (phase.RunNumber number) old = nat_le (m.regions.runs + old) m.regions.frees
 accepts_in m (phase.Run number) old = is_run (run_in old)
 accepts_in m (phase.BlockNumber number) old = nat_le (m.regions.frees + old) m.regions.decs
-accepts_in m (phase.Block number) old = nat_lt old 1024
+accepts_in m (phase.Block number) old = nat_lt old MOST_BLOCKS
 accepts_in m p old = true
 
 -- with one register changed

@@ -16,7 +16,7 @@ use lxr_alloc::{Span, Spans};
 use lxr_barrier::Log;
 use lxr_base::Listed;
 use lxr_graph::{Op, Operations, Replies, Reply};
-use lxr_layout::{Limits, Name, Place, Regions, Shape, regions};
+use lxr_layout::{Limits, MOST_GRANULES, Name, Place, Regions, Shape, regions};
 use std::alloc::{AllocError, Global};
 use std::marker::Model;
 
@@ -24,9 +24,6 @@ mod drawing;
 mod fields;
 mod straight;
 mod units;
-
-/// The last place of the largest heap, of 1,024 blocks.
-const LAST_PLACE: u32 = 1 << 21;
 
 /// A thread of a script, as a machine. One unit is one operation.
 #[derive(Drop)]
@@ -315,7 +312,7 @@ fn held(place: Place) -> Place
     ensures place { result ≡ held_place place }
     ensures held { IsHeld result }
 {
-    if place.0 <= LAST_PLACE {
+    if place.0 <= MOST_GRANULES {
         place
     } else {
         Place::NIL

@@ -3,7 +3,7 @@ use Rattle.std.proofs.Common.{◌≡◌, ◌≢◌, ℕ, zero, suc, ◌+◌, ◌
 use Rattle.std.specs.Prelude.{◌&&◌, ◌==◌, Option, Some, None, map, slice_get}
 use Rattle.std.proofs.lemmas.Bool.{or_left, or_right}
 use Rattle.std.proofs.lemmas.Bool.Decides.{nat_tests}
-use Rattle.lxr_layout.specs.declared.TheConstants.{DECREMENT_COUNT, DECREMENT_CURSOR, GRANULES_IN_BLOCK, TRACING_WORD, WORDS_IN_BLOCK}
+use Rattle.lxr_layout.specs.declared.TheConstants.{DECREMENT_COUNT, DECREMENT_CURSOR, GRANULES_IN_BLOCK, MOST_GRANULES, TRACING_WORD, WORDS_IN_BLOCK}
 use Rattle.lxr_layout.specs.declared.Name.{Name}
 use Rattle.lxr_layout.specs.declared.Place.{Place}
 use Rattle.lxr_layout.specs.declared.Shape.{Shape}
@@ -16,7 +16,7 @@ use Rattle.lxr_image.specs.Tables.{Tables, changed}
 use Rattle.lxr_image.specs.Spaces.{Turns, tables_of}
 use Rattle.lxr_image.specs.Reads.{granule_of}
 use Rattle.lxr_image.specs.Image.{place_word}
-use Rattle.lxr_image.proofs.SpaceLemmas.{same_limits, still_space}
+use Rattle.lxr_image.proofs.SpaceLemmas.{same_limits, space_alike, still_space}
 use Rattle.lxr_model.specs.Dead.{Dead}
 use Rattle.lxr_model.specs.Moments.{Moment}
 use Rattle.lxr_model.specs.References.{occurrences, references_from}
@@ -33,7 +33,7 @@ use Rattle.lxr_invariant.proofs.KeepingLemmas.{keeps_same}
 use Rattle.lxr_pause_decrements.specs.Cascade.{Cascade, CascadeStage, Drains, FieldWaits, IsAt, IsBetween, IsEmptied, IsHeader, IsOpening, Keeps, Leaves, Reaches, Releasing, Waiting, grayed_if, graying, held_by, kept, later, to_do, waits, with_lists}
 use Rattle.lxr_pause_decrements.proofs.GrayLemmas.{grays_pop}
 use Rattle.lxr_pause_decrements.proofs.CascadeLemmas.{counted, counted_left, granules_differ, in_heap, made_gray, refs_more, remains_still, same_parts}
-use Rattle.lxr_pause_decrements.proofs.SpaceLemmas.{leaves_by, limits_space, turned_leaves}
+use Rattle.lxr_pause_decrements.proofs.SpaceLemmas.{leaves_by, turned_leaves}
 
 -- ---- references from a number on
 
@@ -58,7 +58,7 @@ released_dead s p st r rest re =
     let d = re.stage.cascade.lowered.dead r re.gone in
     ((dead_parts d).member, d)
 
-pub released_place : (s : Space) (p : Place) (st : CascadeStage) (r : Name) (rest : Name → ℕ) → Releasing s p.0 st r rest → (1 ≤ p.0) × (p.0 ≤ 2 ^ 21) × (p.0 ≤ GRANULES_IN_BLOCK * s.limits.blocks)
+pub released_place : (s : Space) (p : Place) (st : CascadeStage) (r : Name) (rest : Name → ℕ) → Releasing s p.0 st r rest → (1 ≤ p.0) × (p.0 ≤ MOST_GRANULES) × (p.0 ≤ GRANULES_IN_BLOCK * s.limits.blocks)
 released_place s p st r rest re =
     let h = in_heap (tables_of s).heap s.limits.blocks st.moment st.at re.stage.cascade.remains.ground r (released_dead s p.0 st r rest re).0 in
     let e = re.stands in
@@ -80,7 +80,7 @@ released_header s p st r rest re =
 
 -- the words of the references lie in the heap
 pub field_place : (s : Space) (p : Place) (i : ℕ) (st : CascadeStage) (r : Name) (rest : Name → ℕ) → FieldWaits s p.0 i st r rest
-    → (1 ≤ p.0) × (p.0 ≤ 2 ^ 21) × (2 * (p.0 - 1) + 1 + i < WORDS_IN_BLOCK * s.limits.blocks) × (i < 1024)
+    → (1 ≤ p.0) × (p.0 ≤ MOST_GRANULES) × (2 * (p.0 - 1) + 1 + i < WORDS_IN_BLOCK * s.limits.blocks) × (i < 1024)
 field_place s p i st r rest w =
     let a = w.stage.cascade.remains.ground.stands r w.member in
     let f = a.2.fits in
@@ -266,7 +266,7 @@ popped s now p st at between above work rest =
       x.1,
       record {
         stage = record {
-          space = limits_space s now limits (ap (λ z. z.size) tables) at.space;
+          space = space_alike s now limits (ap (λ z. z.size) tables) at.space;
           cascade = same_parts s.limits now.limits (tables_of s) (tables_of now) now.work now.work s.report.dead now.report.dead st2 limits tables refl dead cascade;
         };
         gone = is.work_gone x.1 r_there;
@@ -387,7 +387,7 @@ last_taken s now st n at undrawn some turns =
     )
 
 -- the last decrement is the place of an object, which is small
-pub last_place : (s : Space) (st : CascadeStage) (n : ℕ) → IsAt s st → (tables_of s).cursors DECREMENT_COUNT ≡ suc n → (tables_of s).decs n ≤ 2 ^ 21
+pub last_place : (s : Space) (st : CascadeStage) (n : ℕ) → IsAt s st → (tables_of s).cursors DECREMENT_COUNT ≡ suc n → (tables_of s).decs n ≤ MOST_GRANULES
 last_place s st n at some =
     let x = at.cascade.remains.decrements.places n (omega (arith, some)) in
     let h = in_heap (tables_of s).heap s.limits.blocks st.moment st.at at.cascade.remains.ground x.0 x.1 in

@@ -4,10 +4,11 @@ use Rattle.std.specs.Prelude.{◌&&◌, ◌==◌}
 use Rattle.std.proofs.lemmas.Bool.{and_parts}
 use Rattle.std.proofs.lemmas.Bool.Decides.{leb_tells}
 use Rattle.lxr_base.specs.Roomy.{Roomy, pushed}
-use Rattle.lxr_layout.specs.declared.TheConstants.{DECREMENT_COUNT, DECREMENT_CURSOR, GRANULES_IN_BLOCK}
+use Rattle.lxr_layout.specs.declared.TheConstants.{DECREMENT_COUNT, DECREMENT_CURSOR, GRANULES_IN_BLOCK, MOST_GRANULES}
 use Rattle.lxr_layout.specs.declared.Name.{Name}
 use Rattle.lxr_layout.specs.declared.Place.{Place}
 use Rattle.lxr_layout.specs.declared.limits.Limits.{Limits}
+use Rattle.lxr_image.proofs.SpaceLemmas.{space_alike}
 use Rattle.lxr_graph.specs.Names.{has}
 use Rattle.lxr_graph.specs.State.{Object, shape_of}
 use Rattle.lxr_graph.proofs.NameSets.{in_without, not_both}
@@ -26,7 +27,6 @@ use Rattle.lxr_invariant.specs.Standing.{place_of}
 use Rattle.lxr_invariant.proofs.EntryLemmas.{equal_numbers, passing_cleared, same_number}
 use Rattle.lxr_pause_decrements.specs.Cascade.{Cascade, CascadeStage, DroppedAt, IsAt, IsEmptied, IsFinished, Keeps, Reclaims, come_to, later, waits, without_object}
 use Rattle.lxr_pause_decrements.proofs.CascadeLemmas.{BeginsAt, IsPlaced, bare, bare_uncounted, dropped, in_heap, placed, remains_still, same_parts, started}
-use Rattle.lxr_pause_decrements.proofs.SpaceLemmas.{limits_space}
 
 -- ---- one object
 
@@ -45,7 +45,7 @@ dropped_placed s p granule st h stands =
     placed (tables_of s).heap s.limits.blocks st.moment st.at h.stage.cascade.remains.ground (tables_of s) refl x.0 x.1.member p.0 (stands ∙ x.1.place)
 
 -- it lies in the heap
-pub dropped_fits : (s : Space) (granule : ℕ) (st : CascadeStage) → DroppedAt s granule st → (granule < GRANULES_IN_BLOCK * s.limits.blocks) × (granule < 2 ^ 21)
+pub dropped_fits : (s : Space) (granule : ℕ) (st : CascadeStage) → DroppedAt s granule st → (granule < GRANULES_IN_BLOCK * s.limits.blocks) × (granule < MOST_GRANULES)
 dropped_fits s granule st h =
     let x = dropped_name s granule st h in
     let inside = in_heap (tables_of s).heap s.limits.blocks st.moment st.at h.stage.cascade.remains.ground x.0 x.1.member in
@@ -82,7 +82,7 @@ dropped_at a e p granule st h stands re =
     let dead : e.report.dead ≡ pushed a.report.dead r = ap (λ s. s.report.dead) re.rest in
     let then : ℕ → CascadeStage = λ passed. come_to (later st (r ∷ st.gone) (st.work ++ r ∷ []) st.extra) passed in
     record {
-      space = limits_space a e limits (ap (λ z. z.size) re.tables) h.stage.space;
+      space = space_alike a e limits (ap (λ z. z.size) re.tables) h.stage.space;
       cascade = subst (λ k. Cascade e.limits (tables_of e) e.work e.report.dead (then (k + 1))) x.1.granule
           (same_parts a.limits e.limits _ (tables_of e) _ e.work _ e.report.dead (then (granule_of (st.at r) + 1)) limits tables work dead
           (dropped a.limits t a.work a.report.dead st r ro h.stage.cascade x.1.member x.1.left none (h.come ∙ sym x.1.granule) o.1));

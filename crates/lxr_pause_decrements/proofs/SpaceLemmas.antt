@@ -1,11 +1,10 @@
 -- The lemmas on tables, at the spaces that the calls leave.
 use Rattle.std.proofs.Common.{◌≡◌, ◌≢◌, ℕ, ◌+◌, ◌*◌, ◌<◌, ◌≤◌, refl, sym, ap, subst, ◌∙◌, ◌^◌, arith, true, false, [], ◌∷◌, ◌++◌, length, length-append}
-use Rattle.lxr_layout.specs.declared.TheConstants.{GRANULES_IN_BLOCK}
+use Rattle.lxr_layout.specs.declared.TheConstants.{GRANULES_IN_BLOCK, MOST_GRANULES}
 use Rattle.lxr_layout.specs.declared.Name.{Name}
 use Rattle.lxr_layout.specs.declared.Place.{Place}
 use Rattle.lxr_layout.specs.declared.Shape.{Shape}
 use Rattle.lxr_layout.specs.Places.{IsPlace}
-use Rattle.lxr_layout.specs.Spaces.{AreLimits, region_begin}
 use Rattle.lxr_base.specs.Roomy.{Roomy, pushed}
 use Rattle.lxr_graph.specs.State.{shape_of}
 use Rattle.lxr_tables.specs.Counts.{lowered_count, lowered_of}
@@ -14,7 +13,7 @@ use Rattle.lxr_image.specs.declared.space.Space.{Space}
 use Rattle.lxr_image.specs.Tables.{Tables, changed}
 use Rattle.lxr_image.specs.Spaces.{IsSpace, Turns, tables_of}
 use Rattle.lxr_image.specs.Reads.{granule_of}
-use Rattle.lxr_image.proofs.SpaceLemmas.{same_limits, still_space}
+use Rattle.lxr_image.proofs.SpaceLemmas.{same_limits, space_alike, still_space}
 use Rattle.lxr_invariant.specs.Counting.{count_at, passing}
 use Rattle.lxr_invariant.specs.Standing.{place_of}
 use Rattle.lxr_invariant.proofs.EntryLemmas.{passing_cleared}
@@ -89,11 +88,8 @@ buried_keeps a b p n shape buries = record {
   cursors = ap (λ t. t.cursors) buries.tables;
 }
 
-pub limits_space : (a b : Space) → b.limits ≡ a.limits → (tables_of b).size ≡ (tables_of a).size → IsSpace a → IsSpace b
-limits_space a b limits size is = record { limits = subst AreLimits (sym limits) is.limits; size = size ∙ is.size ∙ ap (λ z. region_begin z 15) (sym limits) }
-
 pub reclaimed_space : (a b : Space) (p : Place) (n : Name) (shape : Shape) → Reclaims a b p n shape → IsSpace a → IsSpace b
-reclaimed_space a b p n shape re is = limits_space a b (ap (λ s. s.limits) re.rest) (ap (λ z. z.size) re.tables) is
+reclaimed_space a b p n shape re is = space_alike a b (ap (λ s. s.limits) re.rest) (ap (λ z. z.size) re.tables) is
 
 -- ---- what waits at a place
 
@@ -102,10 +98,10 @@ at_place s p st r rest w =
     let h = in_heap (tables_of s).heap s.limits.blocks st.moment st.at w.stage.cascade.remains.ground r w.member in
     let e = w.stands in
     let b = w.stage.space.limits.blocks in
-    (let k : (1 ≤ p.0) × (p.0 ≤ 2 ^ 21) = (omega (arith, e, h.0), omega (arith, e, h.1, h.0, b.1)) in k, omega (arith, e, h.1), λ i. record { 0 = e i })
+    (let k : (1 ≤ p.0) × (p.0 ≤ MOST_GRANULES) = (omega (arith, e, h.0), omega (arith, e, h.1, h.0, b.1)) in k, omega (arith, e, h.1), λ i. record { 0 = e i })
 
 -- a place that waits is small
-pub waiting_place : (s : Space) (p : ℕ) (st : CascadeStage) (r : Name) (rest : Name → ℕ) → Waiting s p st r rest → p ≤ 2 ^ 21
+pub waiting_place : (s : Space) (p : ℕ) (st : CascadeStage) (r : Name) (rest : Name → ℕ) → Waiting s p st r rest → p ≤ MOST_GRANULES
 waiting_place s p st r rest w =
     let h = in_heap (tables_of s).heap s.limits.blocks st.moment st.at w.stage.cascade.remains.ground r w.member in
     let e = w.stands in

@@ -3,11 +3,11 @@ use Rattle.std.proofs.Common.{◌≡◌, ◌≢◌, ℕ, refl, sym, ap, subst, �
 use Rattle.lxr_layout.specs.declared.Name.{Name}
 use Rattle.lxr_layout.specs.declared.Place.{Place}
 use Rattle.lxr_layout.specs.declared.TheConstants.{REMEMBERED_CURSOR, TRACING_WORD}
+use Rattle.lxr_image.proofs.SpaceLemmas.{space_alike}
 use Rattle.lxr_image.specs.declared.space.Space.{Space}
 use Rattle.lxr_image.specs.Tables.{Tables}
 use Rattle.lxr_image.specs.Spaces.{IsSpace, tables_of}
 use Rattle.lxr_image.specs.Opened.{HasRoom}
-use Rattle.lxr_pause_promote.proofs.TableLemmas.{space_with}
 use Rattle.lxr_pause_increments.specs.Increments.{RaisingLeaves, RaisingLeavesTables}
 use Rattle.lxr_pause_increments.specs.Traced.{marks_with}
 use Rattle.lxr_pause_increments.proofs.TracedLemmas.{marks_both, marks_same}
@@ -103,7 +103,7 @@ pub same_blocks : (a c : Space) → RaisingLeaves a c → c.limits.blocks ≡ a.
 same_blocks a c leaves = ap (λ s. s.limits.blocks) leaves.space
 
 pub space_stays : (a c : Space) → RaisingLeaves a c → (tables_of c).size ≡ (tables_of a).size → IsSpace a → IsSpace c
-space_stays a c leaves size is = space_with a c (same_limits a c leaves) size is
+space_stays a c leaves size is = space_alike a c (same_limits a c leaves) size is
 
 pub room_stays : (a c : Space) → RaisingLeaves a c → HasRoom a → HasRoom c
 room_stays a c leaves has =

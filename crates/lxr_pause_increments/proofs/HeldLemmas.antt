@@ -5,7 +5,7 @@ use Rattle.std.proofs.lemmas.Bool.{or_cases, or_left, or_right}
 use Rattle.std.proofs.lemmas.Option.{slice_get-get_or}
 use Rattle.lxr_layout.specs.declared.Name.{Name}
 use Rattle.lxr_layout.specs.declared.Place.{Place}
-use Rattle.lxr_layout.specs.declared.TheConstants.{WORDS_IN_BLOCK}
+use Rattle.lxr_layout.specs.declared.TheConstants.{MOST_GRANULES, WORDS_IN_BLOCK}
 use Rattle.lxr_layout.specs.declared.Header.TheVariants.{Object}
 use Rattle.lxr_layout.specs.Objects.{header_of}
 use Rattle.lxr_layout.specs.Places.{IsPlace, field_word, first_word}
@@ -58,7 +58,7 @@ promoted_holder s m at st u p incrementing promoted stands = record {
 
 -- a member's place is one of the heap
 pub member_place : (s : Space) (m : Moment) (at : Name → ℕ) (st : IncrementStage) (n : Name) (p : ℕ) → IsIncrementing s m at st → IsTrue (has (members m) n) → IsPlaceOf at st.now n p
-    → (1 ≤ p) × (p ≤ 2 ^ 21) × (2 * p ≤ WORDS_IN_BLOCK * s.limits.blocks)
+    → (1 ≤ p) × (p ≤ MOST_GRANULES) × (2 * p ≤ WORDS_IN_BLOCK * s.limits.blocks)
 member_place s m at st n p incrementing member place =
     let h = place_some s st.found m at st.now st.promoted incrementing.moving n p member place in
     let some = h.0 in
@@ -120,13 +120,13 @@ field_is_raised s m at st u p i k w incrementing holder within here word =
 -- ---- what is held
 
 -- a word that may be raised is small
-pub held_small : (s : Space) (m : Moment) (at : Name → ℕ) (st : IncrementStage) (held : Option Name) (w : ℕ) → IsIncrementing s m at st → HeldMayBeRaised m at st held w → w ≤ 2 ^ 21
+pub held_small : (s : Space) (m : Moment) (at : Name → ℕ) (st : IncrementStage) (held : Option Name) (w : ℕ) → IsIncrementing s m at st → HeldMayBeRaised m at st held w → w ≤ MOST_GRANULES
 held_small s m at st None w incrementing may = elim may.word [ inl e ↦ omega (arith, e) | inr e ↦ omega (arith, e) ]
 held_small s m at st (Some o) w incrementing may =
     (member_place s m at st o w incrementing (may.member o refl) (elim may.word as (λ h. IsPlaceOf at st.now o w) [ inl e ↦ inr e | inr e ↦ inl e ])).1
 
 -- so is what raising answers
-pub raised_small : (a b : Space) (m : Moment) (at : Name → ℕ) (st : IncrementStage) (held : Option Name) (w v : ℕ) → HeldMayBeRaised m at st held w → RaisesHeld a b m at st held v → v ≤ 2 ^ 21
+pub raised_small : (a b : Space) (m : Moment) (at : Name → ℕ) (st : IncrementStage) (held : Option Name) (w v : ℕ) → HeldMayBeRaised m at st held w → RaisesHeld a b m at st held v → v ≤ MOST_GRANULES
 raised_small a b m at st None w v may raises = let e = raises.word in omega (arith, e)
 raised_small a b m at st (Some o) w v may raises = (member_place b m at (stage_with m st o v) o v raises.incrementing (may.member o refl) (inr raises.word)).1
 

@@ -31,7 +31,7 @@ use Rattle.lxr_pause_increments.proofs.FixedLemmas.{IsSameStage}
 pub entries_on : (l k : Limits) (t u : Tables) → k ≡ l → u.remembered ≡ t.remembered → u.cursors REMEMBERED_CURSOR ≡ t.cursors REMEMBERED_CURSOR → AreEntries l t → AreEntries k u
 entries_on l k t u limits set cursor are = subst (λ x. AreEntries x u) (sym limits) (λ j below room.
     let e = are j (subst (λ x. j < x) cursor below) room in
-    (e.0, e.1, e.2, record { is = ap (λ f. f j) set ∙ e.3.is; entry = e.3.entry; in_heap = e.3.in_heap }))
+    (e.0, e.1, e.2, record { is = ap (λ f. f j) set ∙ e.3.is; small = e.3.small; entry = e.3.entry; in_heap = e.3.in_heap }))
 
 -- what a step leaves of the set
 pub record LeavesSet (a b : Space) : Type 0 where

@@ -5,7 +5,7 @@ use Rattle.std.proofs.Math.ListN.{get_or-eq_default}
 use Rattle.std.proofs.lemmas.Bool.Decides.{nat_tests}
 use Rattle.lxr_layout.specs.declared.TheConstants.{LINES_IN_BLOCK}
 use Rattle.lxr_layout.specs.declared.limits.Limits.{Limits}
-use Rattle.lxr_layout.specs.Spaces.{region_begin, region_sizes}
+use Rattle.lxr_layout.specs.Spaces.{all_regions, region_begin, region_sizes}
 use Rattle.lxr_tables.specs.Entries.{table}
 use Rattle.lxr_image.specs.declared.space.Space.{Space}
 use Rattle.lxr_image.specs.Spaces.{IsSpace, Turns, tables_of}
@@ -13,7 +13,7 @@ use Rattle.lxr_image.specs.Tables.{Tables, cut, tables_in}
 use Rattle.lxr_image.proofs.RegionLemmas.{length_region_table}
 
 -- past the heap's last line none is out
-pub no_out_past : (l : Limits) (ws : List ℕ) (line : ℕ) → (tables_in l ws).size ≡ region_begin l 15 → LINES_IN_BLOCK * l.blocks ≤ line → (tables_in l ws).outs line ≡ false
+pub no_out_past : (l : Limits) (ws : List ℕ) (line : ℕ) → (tables_in l ws).size ≡ region_begin l all_regions → LINES_IN_BLOCK * l.blocks ≤ line → (tables_in l ws).outs line ≡ false
 unfolding tables_in
 no_out_past l ws line size past =
     let region : List ℕ = slice_index_or (cut (region_sizes l) ws) 8 [] in

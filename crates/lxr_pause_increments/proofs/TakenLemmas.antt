@@ -8,7 +8,7 @@ use Rattle.lxr_layout.specs.declared.Place.{Place}
 use Rattle.lxr_layout.specs.declared.Shape.{Shape}
 use Rattle.lxr_layout.specs.declared.TheConstants.{REMEMBERED_CURSOR, WORDS_IN_LINE}
 use Rattle.lxr_layout.specs.Places.{field_word}
-use Rattle.lxr_layout.specs.Spaces.{AreLimits, region_begin}
+use Rattle.lxr_layout.specs.Spaces.{AreLimits, all_regions, region_begin}
 use Rattle.lxr_tables.specs.Counts.{raised_count}
 use Rattle.lxr_graph.specs.Names.{has, same_name}
 use Rattle.lxr_graph.specs.State.{shape_of}
@@ -170,7 +170,7 @@ module _ (a b : Space) (m : Moment) (at : Name → ℕ) (st : IncrementStage) (o
   pub taken_stands : StandsAt b q o shape
   taken_stands = stands_after middle b q o shape (record {
     limits = subst AreLimits (sym taken_limits) is.space.limits;
-    size = ap (λ t. t.size) taken_tables ∙ is.space.size ∙ ap (λ z. region_begin z 15) (sym taken_limits);
+    size = ap (λ t. t.size) taken_tables ∙ is.space.size ∙ ap (λ z. region_begin z all_regions) (sym taken_limits);
   }) listed.limits listed.heap promoted.stands
 
   -- it begins in the heap, where nothing began and no count was

@@ -3,7 +3,7 @@
 //! The order decides in which order objects are promoted and copied: those that written references hold come first, in the
 //! order of their log entries, and after each root all that it brings along. What is raised may be copied by that, so each
 //! reference and each register that is raised gets the place where its object stands now.
-ghost use Rattle.std.specs.Prelude.{◌≡◌, ℕ, ◌<◌, false, length, slice_get};
+ghost use Rattle.std.specs.Prelude.{◌≡◌, ℕ, ◌<◌, false};
 ghost use Rattle.lxr_layout.specs.declared.Name.{Name as NameOf};
 ghost use Rattle.lxr_image.specs.Spaces.{IsSpace, Turns, tables_of};
 ghost use Rattle.lxr_model.specs.Moments.{Moment};
@@ -15,21 +15,9 @@ ghost use Rattle.lxr_pause_increments.specs.Steps.{Empties, FixesFieldWith, HasH
 use crate::counts::raise;
 use crate::remembering::remember_held;
 use crate::tracing::gray_old_values;
-use lxr_base::Listed;
 use lxr_image::Space;
 use lxr_layout::{Header, Place, field_word, unpack, word_of};
 use lxr_pause_promote::Shortage;
-
-/// The item of a list at an index.
-pub(crate) fn item_at<T: Copy>(list: &Listed<T>, index: usize) -> T
-    requires { index < length list.now.items }
-    ensures { slice_get list.now.items index ≡ Some result }
-{
-    match list.get(index) {
-        Some(item) => item,
-        None => unreachable!(),
-    }
-}
 
 /// Raises the object at the place that a word tells, and answers the word of the place where it stands now; 0 is nil, which
 /// raises nothing and stays 0.
@@ -128,7 +116,7 @@ fn raise_entry(space: &mut Space, index: usize, shortage: &mut Shortage)
     ensures leaves { RaisingLeaves space.old space.new }
     ensures short { IsShortage space.new shortage.new }
 {
-    let entry = item_at(&space.logged, index);
+    let entry = space.logged.at(index);
     raise_field(space, entry.place, entry.index, shortage);
     empty_worklist(space, shortage);
 }
@@ -169,8 +157,8 @@ fn raise_register(space: &mut Space, register: usize, shortage: &mut Shortage)
     ensures leaves { RaisingLeaves space.old space.new }
     ensures short { IsShortage space.new shortage.new }
 {
-    let held = item_at(&space.registers, register);
-    if held.0 != item_at(&space.deferred, register).0 {
+    let held = space.registers.at(register);
+    if held.0 != space.deferred.at(register).0 {
         raise_held(space, register, held, shortage);
         empty_worklist(space, shortage);
     }

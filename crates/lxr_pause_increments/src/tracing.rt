@@ -9,7 +9,6 @@ ghost use Rattle.lxr_layout.specs.declared.TheConstants.{GRANULES_IN_BLOCK};
 ghost use Rattle.lxr_image.specs.Spaces.{IsSpace, Turns, tables_of};
 ghost use Rattle.lxr_pause_increments.specs.Traced.{OldValuesFit, with_gray, with_grays, with_old_grays};
 
-use crate::order::item_at;
 use lxr_image::Space;
 use lxr_layout::Place;
 use lxr_pause_promote::trace_runs;
@@ -32,7 +31,7 @@ fn gray_entries(space: &mut Space)
     ensures { Turns space.old space.new (with_grays (tables_of space.old) space.old.logged.items) }
 {
     for index in 0..space.logged.len() {
-        let entry = item_at(&space.logged, index);
+        let entry = space.logged.at(index);
         gray_place(space, entry.old);
     }
 }

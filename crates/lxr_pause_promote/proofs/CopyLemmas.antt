@@ -7,6 +7,7 @@ use Rattle.lxr_layout.specs.declared.Place.{Place}
 use Rattle.lxr_layout.specs.declared.Shape.{Shape}
 use Rattle.lxr_layout.specs.Objects.{moved_word, word_count}
 use Rattle.lxr_layout.specs.Places.{first_word}
+use Rattle.lxr_image.proofs.SpaceLemmas.{space_alike}
 use Rattle.lxr_image.specs.declared.space.Space.{Space}
 use Rattle.lxr_image.specs.Tables.{Tables, changed}
 use Rattle.lxr_image.specs.Spaces.{Turns, tables_of}
@@ -20,7 +21,7 @@ use Rattle.lxr_invariant.specs.Lines.{line_behind, next_line}
 use Rattle.lxr_pause_promote.specs.Copying.{Evacuates, StandsAt, StandsKept, with_copy, with_words}
 use Rattle.lxr_pause_promote.specs.Promotion.{Promotes, marked_between, with_promotion}
 use Rattle.lxr_pause_promote.proofs.PlacedLemmas.{KeepsLinesAndBlocks, keeps_both, keeps_fewer, keeps_state, marked_zero, still_kept, still_rest}
-use Rattle.lxr_pause_promote.proofs.TableLemmas.{space_with, stands_after}
+use Rattle.lxr_pause_promote.proofs.TableLemmas.{stands_after}
 use Rattle.lxr_pause_promote.proofs.WordLemmas.{elsewhere_copied, moved_there, ranges_apart, word_copied, word_left}
 
 -- n's object of a shape, which stood at place p, stands at place q, where neither what was kept nor the object itself stood. `rest` are
@@ -105,7 +106,7 @@ copied_stands before middle after taken p q n shape is placed turns =
     let limits : after.limits ≡ before.limits = ap (λ s. s.limits) space in
     let elsewhere : first_word q.0 ≢ first_word p.0 = λ e. elim (words_apart before middle taken p q n shape is placed) [ inl h ↦ omega (arith, h, some) | inr h ↦ omega (arith, h, some) ] in
     record {
-      space = space_with before after limits (ap (λ x. x.size) tables) is.stands.space;
+      space = space_alike before after limits (ap (λ x. x.size) tables) is.stands.space;
       placed = placed.placed;
       whole = record {
         name = is.stands.whole.name;
@@ -214,7 +215,7 @@ promotion_kept a b taken q shape turns =
 promotion_stands : (a b : Space) (q : Place) (n : Name) (shape : Shape) → Turns a b (with_promotion (tables_of a) q.0 shape) → StandsAt a q n shape → StandsAt b q n shape
 promotion_stands a b q n shape turns is =
     let limits : b.limits ≡ a.limits = ap (λ s. s.limits) turns.rest in
-    stands_after a b q n shape (space_with a b limits (ap (λ x. x.size) turns.tables) is.space) limits (ap (λ x. x.heap) turns.tables) is
+    stands_after a b q n shape (space_alike a b limits (ap (λ x. x.size) turns.tables) is.space) limits (ap (λ x. x.heap) turns.tables) is
 
 -- a copy is promoted
 promoted_copy : (before copied after : Space) (taken : ℕ → Type 0) (p q : Place) (n : Name) (shape : Shape) → StandsBeside before copied (tables_of before) taken p q n shape

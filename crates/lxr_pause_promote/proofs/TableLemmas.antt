@@ -1,11 +1,10 @@
 -- The tables with one object promoted where it is, and what stands in them.
 use Rattle.std.proofs.Common.{◌≡◌, ◌+◌, ◌*◌, ◌/◌, ◌^◌, ◌<◌, ◌≤◌, sym, ap, subst, ◌∙◌, arith, true}
-use Rattle.lxr_layout.specs.declared.TheConstants.{GRANULES_IN_BLOCK, WORDS_IN_BLOCK}
+use Rattle.lxr_layout.specs.declared.TheConstants.{GRANULES_IN_BLOCK, MOST_GRANULES, WORDS_IN_BLOCK}
 use Rattle.lxr_layout.specs.declared.Name.{Name}
 use Rattle.lxr_layout.specs.declared.Place.{Place}
 use Rattle.lxr_layout.specs.declared.Shape.{Shape}
 use Rattle.lxr_layout.specs.declared.Header.TheVariants.{Object}
-use Rattle.lxr_layout.specs.Spaces.{AreLimits, region_begin}
 use Rattle.lxr_layout.specs.Objects.{header_of, word_count}
 use Rattle.lxr_layout.specs.Places.{first_word}
 use Rattle.lxr_image.specs.declared.space.Space.{Space}
@@ -21,12 +20,9 @@ use Rattle.lxr_pause_promote.specs.Promotion.{with_mark, with_marks, with_promot
 pub turned_blocks : (a b : Space) (t : Tables) → Turns a b t → b.limits.blocks ≡ a.limits.blocks
 turned_blocks a b t turns = ap (λ s. s.limits.blocks) turns.rest
 
-pub space_with : (a b : Space) → b.limits ≡ a.limits → (tables_of b).size ≡ (tables_of a).size → IsSpace a → IsSpace b
-space_with a b l size is = record { limits = subst AreLimits (sym l) is.limits; size = size ∙ is.size ∙ ap (λ z. region_begin z 15) (sym l) }
-
 -- ---- an object at a place
 
-pub is_place : (s : Space) (p : Place) (n : Name) (shape : Shape) → StandsAt s p n shape → (1 ≤ p.0) × (p.0 ≤ 2 ^ 21) × (granule_of p.0 < GRANULES_IN_BLOCK * s.limits.blocks) × (first_word p.0 < WORDS_IN_BLOCK * s.limits.blocks)
+pub is_place : (s : Space) (p : Place) (n : Name) (shape : Shape) → StandsAt s p n shape → (1 ≤ p.0) × (p.0 ≤ MOST_GRANULES) × (granule_of p.0 < GRANULES_IN_BLOCK * s.limits.blocks) × (first_word p.0 < WORDS_IN_BLOCK * s.limits.blocks)
 is_place s p n shape is =
     let first = is.placed in
     let heap = is.whole.in_heap in

@@ -3,7 +3,7 @@
 //! A count is lowered for what a logged reference held at the last pause, and for what a register held then and holds no
 //! more. Such decrements wait in a list until decrementers or the next pause do them, as in LXR (Zhao, Blackburn and
 //! McKinley, 2022); deferring the counts of roots is due to Deutsch and Bobrow (1976).
-ghost use Rattle.std.specs.Prelude.{◌≡◌, ℕ, ◌+◌, ◌*◌, ◌<◌, ◌≤◌, List, Some, length, slice_get};
+ghost use Rattle.std.specs.Prelude.{◌≡◌, ℕ, ◌+◌, ◌*◌, ◌<◌, ◌≤◌, List, length};
 ghost use Rattle.std.specs.List.{All};
 ghost use Rattle.lxr_layout.specs.declared.TheConstants.{DECREMENT_COUNT};
 ghost use Rattle.lxr_layout.specs.declared.Name.{Name};
@@ -29,17 +29,6 @@ fn queue_old(space: &mut Space, old: Place)
     }
 }
 
-/// The entry of a number in the logs.
-fn entry_at(space: &Space, number: usize) -> LogEntry
-    requires { number < length space.now.logged.items }
-    ensures { slice_get space.now.logged.items number ≡ Some result }
-{
-    match space.logged.get(number) {
-        Some(entry) => entry,
-        None => unreachable!(),
-    }
-}
-
 /// Queues the old value of an entry, and sets the unlogged bit of its field.
 fn queue_entry(space: &mut Space, entry: LogEntry)
     requires space { IsSpace space.old }
@@ -61,30 +50,8 @@ fn queue_entries(space: &mut Space)
     ensures space { IsSpace space.new }
 {
     for number in 0..space.logged.len() {
-        let entry = entry_at(space, number);
+        let entry = space.logged.at(number);
         queue_entry(space, entry);
-    }
-}
-
-/// What a register holds now.
-fn place_now(space: &Space, number: usize) -> Place
-    requires { number < length space.now.registers.items }
-    ensures { slice_get space.now.registers.items number ≡ Some result }
-{
-    match space.registers.get(number) {
-        Some(place) => place,
-        None => unreachable!(),
-    }
-}
-
-/// What a register held at the last pause.
-fn place_before(space: &Space, number: usize) -> Place
-    requires { number < length space.now.deferred.items }
-    ensures { slice_get space.now.deferred.items number ≡ Some result }
-{
-    match space.deferred.get(number) {
-        Some(place) => place,
-        None => unreachable!(),
     }
 }
 
@@ -103,7 +70,7 @@ fn queue_registers(space: &mut Space)
     ensures { Turns space.old space.new (with_registers (tables_of space.old) space.old.deferred.items space.old.registers.items) }
 {
     for number in 0..space.deferred.len() {
-        let old = dropped_place(place_before(space, number), place_now(space, number));
+        let old = dropped_place(space.deferred.at(number), space.registers.at(number));
         queue_old(space, old);
     }
 }
@@ -127,7 +94,7 @@ pub fn defer_roots(space: &mut Space)
 {
     space.deferred.clear();
     for number in 0..space.registers.len() {
-        let place = place_now(space, number);
+        let place = space.registers.at(number);
         space.deferred.push(place);
     }
 }

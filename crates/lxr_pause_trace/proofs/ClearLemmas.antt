@@ -5,7 +5,7 @@ use Rattle.std.proofs.Math.ListN.{get_or-eq_default}
 use Rattle.std.proofs.lemmas.Bool.Decides.{nat_tests}
 use Rattle.lxr_layout.specs.declared.TheConstants.{GRANULES_IN_BLOCK}
 use Rattle.lxr_layout.specs.declared.limits.Limits.{Limits}
-use Rattle.lxr_layout.specs.Spaces.{region_begin, region_sizes}
+use Rattle.lxr_layout.specs.Spaces.{all_regions, region_begin, region_sizes}
 use Rattle.lxr_tables.specs.Entries.{table}
 use Rattle.lxr_image.specs.declared.space.Space.{Space}
 use Rattle.lxr_image.specs.Spaces.{IsSpace, Turns, tables_of}
@@ -13,7 +13,7 @@ use Rattle.lxr_image.specs.Tables.{Tables, cut, tables_in}
 use Rattle.lxr_image.proofs.RegionLemmas.{length_region_table}
 
 -- past the heap nothing is marked, and nothing is gray
-pub no_mark_past : (l : Limits) (ws : List ℕ) (k : ℕ) → (tables_in l ws).size ≡ region_begin l 15 → GRANULES_IN_BLOCK * l.blocks ≤ k → (tables_in l ws).marks k ≡ false
+pub no_mark_past : (l : Limits) (ws : List ℕ) (k : ℕ) → (tables_in l ws).size ≡ region_begin l all_regions → GRANULES_IN_BLOCK * l.blocks ≤ k → (tables_in l ws).marks k ≡ false
 unfolding tables_in
 no_mark_past l ws k size past =
     let region : List ℕ = slice_index_or (cut (region_sizes l) ws) 3 [] in
@@ -21,7 +21,7 @@ no_mark_past l ws k size past =
     let none : slice_index (table 1 64 region) k ≡ 0 = get_or-eq_default (table 1 64 region) 0 {n = k} (omega arith) in
     ap (λ x. x == 1) none
 
-pub no_gray_past : (l : Limits) (ws : List ℕ) (k : ℕ) → (tables_in l ws).size ≡ region_begin l 15 → GRANULES_IN_BLOCK * l.blocks ≤ k → (tables_in l ws).grays k ≡ false
+pub no_gray_past : (l : Limits) (ws : List ℕ) (k : ℕ) → (tables_in l ws).size ≡ region_begin l all_regions → GRANULES_IN_BLOCK * l.blocks ≤ k → (tables_in l ws).grays k ≡ false
 unfolding tables_in
 no_gray_past l ws k size past =
     let region : List ℕ = slice_index_or (cut (region_sizes l) ws) 4 [] in

@@ -1,20 +1,21 @@
 -- Each number that is drawn while a trace is finished has an entry of its own: a reference is passed once, when its entry is written.
-use Rattle.std.proofs.Common.{◌≡◌, ◌≢◌, ℕ, suc, ◌^◌, ◌<◌, ◌≤◌, refl, sym, ap, subst, ◌∙◌, inl, inr, arith, List, [], ◌∷◌, ◌++◌, IsTrue}
+use Rattle.std.proofs.Common.{◌≡◌, ◌≢◌, ℕ, suc, ◌+◌, ◌^◌, ◌<◌, ◌≤◌, refl, sym, ap, subst, ◌∙◌, inl, inr, arith, List, [], ◌∷◌, ◌++◌, IsTrue, length}
 use Rattle.std.specs.Prelude.{Some}
 use Rattle.std.specs.List.{Contains}
 use Rattle.std.proofs.lemmas.Bool.Decides.{leb_tells}
 use Rattle.std.proofs.lemmas.List.Elements.{Contains-append_left, Contains-push, Contains-push_cases}
-use Rattle.lxr_layout.specs.declared.TheConstants.{REMEMBERED_CURSOR}
+use Rattle.lxr_layout.specs.declared.TheConstants.{MOST_GRANULES_REMEMBERED, REMEMBERED_CURSOR}
 use Rattle.lxr_layout.specs.declared.limits.Limits.{Limits}
 use Rattle.lxr_layout.specs.declared.Place.{Place}
 use Rattle.lxr_layout.specs.Runs.{word_of_entry}
 use Rattle.lxr_image.specs.Tables.{Tables}
 use Rattle.lxr_image.specs.Reads.{field_at, granule_of}
+use Rattle.lxr_invariant.proofs.EntryLemmas.{changed_here}
 use Rattle.lxr_model_counting.proofs.DistinctLemmas.{tested}
 use Rattle.lxr_remset.specs.Remembering.{is_in_chosen, line_of_field, remembering, remembering_chosen}
 use Rattle.lxr_remset.proofs.ChosenLemmas.{where_chosen, where_not}
 use Rattle.lxr_remset.proofs.SetLemmas.{new_entry, old_entry}
-use Rattle.lxr_pause_trace.specs.Marking.{EntersOnly, HasEntryAt, IsLeft, IsWaiting, WaitOnce}
+use Rattle.lxr_pause_trace.specs.Marking.{AreEnteredAt, EntersOnly, HasEntryAt, IsLeft, IsWaiting, WaitOnce}
 use Rattle.lxr_pause_trace.proofs.SlotLemmas.{first_or_later, is_first, is_later, none_in}
 
 -- ---- worklists
@@ -44,7 +45,7 @@ not_before (q ∷ ps) p once h = elim (first_or_later q ps p h) [
 -- ---- entries
 
 -- an entry tells its reference
-same_reference : (c d p q i j : ℕ) → p ≤ 2 ^ 21 → q ≤ 2 ^ 21 → i ≤ 1022 → j ≤ 1022 → word_of_entry c (record { 0 = p }) i ≡ word_of_entry d (record { 0 = q }) j → (p ≡ q) × (i ≡ j)
+same_reference : (c d p q i j : ℕ) → p ≤ MOST_GRANULES_REMEMBERED → q ≤ MOST_GRANULES_REMEMBERED → i ≤ 1022 → j ≤ 1022 → word_of_entry c (record { 0 = p }) i ≡ word_of_entry d (record { 0 = q }) j → (p ≡ q) × (i ≡ j)
 same_reference c d p q i j in_p in_q in_i in_j e =
     let counter : c ≡ d = omega (arith, in_p, in_q, in_i, in_j, e) in
     let place : p ≡ q = omega (arith, in_i, in_j, e, counter) in
@@ -55,7 +56,36 @@ pub none_drawn : (l : Limits) (t : Tables) (IsLater : ℕ → ℕ → Type 0) �
 none_drawn l t IsLater = record {
   only = λ k from below room. absurd (omega (arith, from, below));
   once = λ j k from less below room same. absurd (omega (arith, from, less, below));
+  entered = [];
+  are = tt;
+  drawn = omega arith;
 }
+
+-- a reference for which a number was drawn isn't scanned later
+not_later : (l : Limits) (t0 t : Tables) (IsLater : ℕ → ℕ → Type 0) (from : ℕ) (rs : List (ℕ × ℕ)) (r : ℕ × ℕ) → AreEnteredAt l t0 t IsLater from rs → Contains rs r → ¬ IsLater r.0 r.1
+not_later l t0 t IsLater from [] r are h = absurd (none_in r h)
+not_later l t0 t IsLater from (q ∷ rs) r are h = elim (first_or_later q rs r h) [
+  | inl same ↦ subst (λ z. ¬ IsLater z.0 z.1) same are.0.passed
+  | inr later ↦ not_later l t0 t IsLater from rs r are.3 later
+]
+
+-- what was drawn stays so where entries, counters of lines and states do, and as much or more is marked
+entered_alike : (l : Limits) (t0 t u : Tables) (IsLater IsThen : ℕ → ℕ → Type 0) (from : ℕ) (rs : List (ℕ × ℕ)) → ((k : ℕ) → k < from + length rs → u.remembered k ≡ t.remembered k) → u.reuse ≡ t.reuse → u.states ≡ t.states
+    → ((k : ℕ) → IsTrue (t.marks k) → IsTrue (u.marks k)) → ((p i : ℕ) → IsTrue (t.marks (granule_of p)) → IsThen p i → IsLater p i) → AreEnteredAt l t0 t IsLater from rs → AreEnteredAt l t0 u IsThen from rs
+entered_alike l t0 t u IsLater IsThen from [] set reuse states marks fewer are = tt
+entered_alike l t0 t u IsLater IsThen from (r ∷ rs) set reuse states marks fewer are = (
+  record {
+    held = are.0.held;
+    scanned = record { left = are.0.scanned.left; marked = marks (granule_of r.0) are.0.scanned.marked };
+    passed = λ h. are.0.passed (fewer r.0 r.1 are.0.scanned.marked h);
+    placed = are.0.placed;
+    holds = are.0.holds;
+    chosen = ap (λ f. is_in_chosen (record t { states = f }) (record { 0 = are.0.held })) states ∙ are.0.chosen;
+  },
+  are.1,
+  λ room. set (from + length rs) (omega arith) ∙ are.2 room ∙ ap (λ f. word_of_entry (f (line_of_field (record { 0 = r.0 }) r.1)) (record { 0 = r.0 }) r.1) (sym reuse),
+  entered_alike l t0 t u IsLater IsThen from rs (λ k below. set k (omega (arith, below))) reuse states marks fewer are.3,
+)
 
 module _ (l : Limits) (t0 t : Tables) (IsLater : ℕ → ℕ → Type 0) (drawn : EntersOnly l t0 t IsLater) where
   -- where the set stays, and as much or more is marked
@@ -74,6 +104,9 @@ module _ (l : Limits) (t0 t : Tables) (IsLater : ℕ → ℕ → Type 0) (drawn 
       entry = ap (λ f. f k) remembered ∙ e.entry ∙ ap (λ f. word_of_entry (f (line_of_field (record { 0 = e.place }) e.index)) (record { 0 = e.place }) e.index) (sym reuse);
     };
     once = λ j k from less below room same. drawn.once j k from less (subst (λ c. k < c) cursor below) room (sym (ap (λ f. f j) remembered) ∙ same ∙ ap (λ f. f k) remembered);
+    entered = drawn.entered;
+    are = entered_alike l t0 t u IsLater IsThen (t0.cursors REMEMBERED_CURSOR) drawn.entered (λ k below. ap (λ f. f k) remembered) reuse states marks fewer drawn.are;
+    drawn = cursor ∙ drawn.drawn;
   }
 
   -- fewer are scanned later
@@ -83,7 +116,7 @@ module _ (l : Limits) (t0 t : Tables) (IsLater : ℕ → ℕ → Type 0) (drawn 
   -- ---- one reference is passed
 
   module _ (p i held : ℕ) (IsThen : ℕ → ℕ → Type 0) (waits : IsWaiting t0 t p) (placed : 1 ≤ held) (holds : field_at t0 p i ≡ Some held) (was : IsLater p i) (passed : ¬ IsThen p i)
-      (fewer : (q j : ℕ) → IsThen q j → IsLater q j) (small : (q j r : ℕ) → IsLeft t0 q → field_at t0 q j ≡ Some r → (q ≤ 2 ^ 21) × (j ≤ 1022)) where
+      (fewer : (q j : ℕ) → IsThen q j → IsLater q j) (small : IsTrue (is_in_chosen t (record { 0 = held })) → (q j r : ℕ) → IsLeft t0 q → field_at t0 q j ≡ Some r → (q ≤ MOST_GRANULES_REMEMBERED) × (j ≤ 1022)) where
     abbrev place : Place
     place = record { 0 = p }
 
@@ -108,10 +141,10 @@ module _ (l : Limits) (t0 t : Tables) (IsLater : ℕ → ℕ → Type 0) (drawn 
     }
 
     -- and is none of those before
-    differs : (j : ℕ) → j < t.cursors REMEMBERED_CURSOR → HasEntryAt t0 t IsLater j → t.cursors REMEMBERED_CURSOR < l.remember → u.remembered j ≢ u.remembered (t.cursors REMEMBERED_CURSOR)
-    differs j below e room same =
-        let in_e = small e.place e.index e.held e.scanned.left e.holds in
-        let in_p = small p i held waits.left holds in
+    differs : IsTrue (is_in_chosen t (record { 0 = held })) → (j : ℕ) → j < t.cursors REMEMBERED_CURSOR → HasEntryAt t0 t IsLater j → t.cursors REMEMBERED_CURSOR < l.remember → u.remembered j ≢ u.remembered (t.cursors REMEMBERED_CURSOR)
+    differs chosen j below e room same =
+        let in_e = small chosen e.place e.index e.held e.scanned.left e.holds in
+        let in_p = small chosen p i held waits.left holds in
         let words = sym e.entry ∙ sym (old_entry l t place i j below) ∙ same ∙ new_entry l t place i room in
         let is = same_reference _ _ e.place p e.index i in_e.0 in_p.0 in_e.1 in_p.1 words in
         e.passed (subst (λ x. IsLater x e.index) (sym is.0) (subst (IsLater p) (sym is.1) was))
@@ -132,8 +165,19 @@ module _ (l : Limits) (t0 t : Tables) (IsLater : ℕ → ℕ → Type 0) (drawn 
             let here : k ≡ t.cursors REMEMBERED_CURSOR = let past = after.1 in omega (arith, past, below) in
             let in_j : j < t.cursors REMEMBERED_CURSOR = omega (arith, less, here) in
             let in_room : t.cursors REMEMBERED_CURSOR < l.remember = subst (λ x. x < l.remember) here room in
-            differs j in_j (drawn.only j from in_j (omega (arith, less, room))) in_room (same ∙ ap u.remembered here)
+            differs chosen j in_j (drawn.only j from in_j (omega (arith, less, room))) in_room (same ∙ ap u.remembered here)
       ];
+      entered = (p, i) ∷ drawn.entered;
+      are = (
+        record { held = held; scanned = record { left = waits.left; marked = waits.marked }; passed = passed; placed = placed; holds = holds; chosen = chosen },
+        λ h. not_later l t0 t IsLater (t0.cursors REMEMBERED_CURSOR) drawn.entered (p, i) drawn.are h was,
+        λ room.
+            let here : t0.cursors REMEMBERED_CURSOR + length drawn.entered ≡ t.cursors REMEMBERED_CURSOR = sym drawn.drawn in
+            ap u.remembered here ∙ new_entry l t place i (subst (λ x. x < l.remember) here room),
+        entered_alike l t0 t u IsLater IsThen (t0.cursors REMEMBERED_CURSOR) drawn.entered
+            (λ k below. old_entry l t place i k (let here = drawn.drawn in omega (arith, below, here))) refl refl (λ k h. h) (λ q j marked h. fewer q j h) drawn.are,
+      );
+      drawn = let more = changed_here t.cursors REMEMBERED_CURSOR (t.cursors REMEMBERED_CURSOR + 1) REMEMBERED_CURSOR refl in let here = drawn.drawn in omega (arith, more, here);
     }
 
     pub drawn_passed : EntersOnly l t0 (remembering_chosen l t place i (record { 0 = held })) IsThen

@@ -3,7 +3,7 @@ use Rattle.std.proofs.Common.{◌≡◌, ℕ, ◌*◌, ◌≤◌, sym, ap, subst
 use Rattle.std.specs.Prelude.{IsTrue}
 use Rattle.lxr_layout.specs.declared.Name.{Name}
 use Rattle.lxr_layout.specs.declared.TheConstants.{DECREMENT_COUNT, DECREMENT_CURSOR, TRACING_WORD}
-use Rattle.lxr_layout.specs.Spaces.{AreLimits, region_begin}
+use Rattle.lxr_layout.specs.Spaces.{AreLimits, all_regions, region_begin}
 use Rattle.lxr_graph.specs.Names.{has}
 use Rattle.lxr_image.specs.declared.space.Space.{Space}
 use Rattle.lxr_image.specs.Spaces.{tables_of}
@@ -45,7 +45,7 @@ holds_remarked s after m at same tables marks grays is =
     let waiting : u.cursors DECREMENT_COUNT ≡ t.cursors DECREMENT_COUNT = ap (λ z. z.cursors DECREMENT_COUNT) tables in
     let tracing : u.cursors TRACING_WORD ≡ t.cursors TRACING_WORD = ap (λ z. z.cursors TRACING_WORD) tables in
     record {
-      space = record { limits = subst AreLimits (sym limits) is.space.limits; size = ap (λ z. z.size) tables ∙ is.space.size ∙ ap (λ l. region_begin l 15) (sym limits) };
+      space = record { limits = subst AreLimits (sym limits) is.space.limits; size = ap (λ z. z.size) tables ∙ is.space.size ∙ ap (λ l. region_begin l all_regions) (sym limits) };
       room = subst HasRoom (sym same) (record {
         registers = is.room.registers;
         deferred = is.room.deferred;

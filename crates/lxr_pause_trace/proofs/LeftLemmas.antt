@@ -3,7 +3,7 @@ use Rattle.std.proofs.Common.{◌≡◌, ℕ, ◌+◌, ◌*◌, ◌^◌, ◌<◌
 use Rattle.std.specs.Prelude.{◌&&◌, Option, Some, None, IsTrue}
 use Rattle.std.proofs.lemmas.Bool.{and_parts}
 use Rattle.std.proofs.lemmas.Bool.Decides.{leb_tells, nat_tests}
-use Rattle.lxr_layout.specs.declared.TheConstants.{WORDS_IN_BLOCK}
+use Rattle.lxr_layout.specs.declared.TheConstants.{MOST_GRANULES, WORDS_IN_BLOCK}
 use Rattle.lxr_layout.specs.declared.Name.{Name}
 use Rattle.lxr_layout.specs.declared.Shape.{Shape}
 use Rattle.lxr_layout.specs.declared.Header.{Header}
@@ -32,7 +32,7 @@ pub due_left : (t : Tables) (q : ℕ) → IsDue t q → t.marks (granule_of q) �
 due_left t q due unmarked = elim due.by [ inl g ↦ gray q due.placed g unmarked | inr r ↦ referred r.0 q r.1 r.2 unmarked ]
 
 -- a start bit's place is one of the heap
-pub started_place : (s : Space) (p : ℕ) → IsSpace s → 1 ≤ p → IsTrue ((tables_of s).starts (granule_of p)) → (p ≤ granules s) × (p ≤ 2 ^ 21)
+pub started_place : (s : Space) (p : ℕ) → IsSpace s → 1 ≤ p → IsTrue ((tables_of s).starts (granule_of p)) → (p ≤ granules s) × (p ≤ MOST_GRANULES)
 started_place s p space placed start = elim (leb_tells (granules s) (granule_of p)) [
   | inl past ↦ absurd (let none = no_start_past s.limits s.words (granule_of p) space.size past.1 in cc)
   | inr within ↦ let c = within.1 in let blocks = space.limits.blocks in (omega (arith, c, placed), omega (arith, c, placed, blocks.1))

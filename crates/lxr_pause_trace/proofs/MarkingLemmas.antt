@@ -6,7 +6,7 @@ use Rattle.std.proofs.lemmas.List.Elements.{Contains-append_left, Contains-push,
 use Rattle.lxr_layout.specs.declared.limits.Limits.{Limits}
 use Rattle.lxr_layout.specs.declared.Place.{Place}
 use Rattle.lxr_layout.specs.declared.TheConstants.{GRANULES_IN_BLOCK, REMEMBERED_CURSOR}
-use Rattle.lxr_layout.specs.Spaces.{AreLimits, region_begin}
+use Rattle.lxr_layout.specs.Spaces.{AreLimits, all_regions, region_begin}
 use Rattle.lxr_base.specs.Roomy.{pushed}
 use Rattle.lxr_image.specs.declared.space.Space.{Space}
 use Rattle.lxr_image.specs.Spaces.{tables_of}
@@ -233,10 +233,11 @@ module _ (a b : Space) (place : Place) (finds : Finds a b place) where
     found_stage = record {
       space = record {
         limits = subst AreLimits (sym limits_stay) stage.space.limits;
-        size = ap (λ z. z.size) finds.tables ∙ stage.space.size ∙ ap (λ l. region_begin l 15) (sym limits_stay);
+        size = ap (λ z. z.size) finds.tables ∙ stage.space.size ∙ ap (λ l. region_begin l all_regions) (sym limits_stay);
       };
       traceable = stage.traceable;
       far = stage.far;
+      few_chosen = stage.few_chosen;
       so_far = so_far;
       ended = λ k below h. elim (grays_cases k h) [ inl old ↦ marks_grow k (stage.ended k below old) | inr here ↦ ap u.marks here ∙ is_found.marked ];
       waiting = waits;

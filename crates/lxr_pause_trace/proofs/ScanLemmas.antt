@@ -4,7 +4,7 @@ use Rattle.std.specs.Prelude.{not, ◌&&◌, Some}
 use Rattle.std.specs.List.{Contains}
 use Rattle.std.proofs.lemmas.Bool.Decides.{eqb_tells, leb_tells}
 use Rattle.std.proofs.lemmas.List.Elements.{Contains-append_left, Contains-push, Contains-push_cases}
-use Rattle.lxr_layout.specs.declared.TheConstants.{GRANULES_IN_BLOCK, WORDS_IN_BLOCK}
+use Rattle.lxr_layout.specs.declared.TheConstants.{GRANULES_IN_BLOCK, MOST_GRANULES, WORDS_IN_BLOCK}
 use Rattle.lxr_layout.specs.declared.Place.{Place}
 use Rattle.lxr_layout.specs.Places.{IsPlace, field_word}
 use Rattle.lxr_base.specs.Roomy.{Roomy, pushed}
@@ -29,7 +29,7 @@ module _ (before s : Space) (end : ℕ) (pending : ℕ → ℕ → Type 0) (ahea
   pub slots_were : (p : ℕ) → slots_at (tables_of s) p ≡ slots_at (tables_of before) p
   slots_were p = ap (λ z. slots_at z p) stage.tables
 
-  pub due_place : (q : ℕ) → IsDue (tables_of before) q → (q ≤ granules s) × (q ≤ 2 ^ 21)
+  pub due_place : (q : ℕ) → IsDue (tables_of before) q → (q ≤ granules s) × (q ≤ MOST_GRANULES)
   due_place q due = started_place s q stage.space due.placed (started_now (granule_of q) (due_start (tables_of before) before.limits.blocks stage.traceable q due))
 
   -- where an object is unmarked the worklist has room
@@ -103,6 +103,7 @@ passed_nil before s place i w is holds nil = record {
     space = is.stage.space;
     traceable = is.stage.traceable;
     far = is.stage.far;
+    few_chosen = is.stage.few_chosen;
     so_far = is.stage.so_far;
     ended = is.stage.ended;
     waiting = is.stage.waiting;
@@ -140,6 +141,7 @@ passed_all before s place i is past = record {
   space = is.stage.space;
   traceable = is.stage.traceable;
   far = is.stage.far;
+  few_chosen = is.stage.few_chosen;
   so_far = is.stage.so_far;
   ended = is.stage.ended;
   waiting = is.stage.waiting;
@@ -193,6 +195,7 @@ module _ (s now : Space) (p : Place) (work : s.work ≡ pushed now.work p) (rest
         space = record { limits = is.space.limits; size = is.space.size };
         traceable = is.traceable;
         far = is.far;
+        few_chosen = is.few_chosen;
         so_far = is.so_far;
         ended = is.ended;
         waiting = λ q h. is.waiting q (in_work q (Contains-append_left now.work.items (p ∷ []) q h));
@@ -248,6 +251,7 @@ ended_later before s from to is none = record {
   space = is.space;
   traceable = is.traceable;
   far = is.far;
+  few_chosen = is.few_chosen;
   so_far = is.so_far;
   ended = λ k below h. elim (leb_tells from k) [
     | inl past ↦ unwanted_marked ((tables_of s).grays k) ((tables_of s).marks k) (none k past.1 below) h
@@ -275,6 +279,7 @@ ended_behind before a b from end granule is next inside finds =
       space = stage.space;
       traceable = stage.traceable;
       far = stage.far;
+      few_chosen = stage.few_chosen;
       so_far = stage.so_far;
       ended = λ k under h. elim (eqb_tells k granule) [
         | inl q ↦ ap (tables_of b).marks (q.1 ∙ sym here) ∙ (is_found a b (record { 0 = granule + 1 }) finds).marked

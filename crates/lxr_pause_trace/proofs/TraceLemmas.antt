@@ -16,14 +16,16 @@ use Rattle.lxr_image.specs.Reads.{field_at, granule_of}
 use Rattle.lxr_image.proofs.TableLaws.{no_start_past}
 use Rattle.lxr_blocks.specs.declared.states.BlockState.TheVariants.{Chosen}
 use Rattle.lxr_blocks.specs.States.{state_in}
-use Rattle.lxr_model.specs.Moments.{Moment, Trace}
+use Rattle.lxr_model.specs.Moments.{Field, Moment, Trace}
+use Rattle.lxr_model_counting.specs.Distinct.{has_field}
+use Rattle.lxr_model_counting.proofs.DistinctLemmas.{field_split, tested}
 use Rattle.lxr_model.specs.Reachable.{Holds, Refers}
 use Rattle.lxr_invariant.specs.Lines.{ChosenNeedTrace, is_chosen}
 use Rattle.lxr_invariant.specs.Tracing.{IsGray, IsMarked, IsRoot, IsToBeMarked, unscanned_slots}
 use Rattle.lxr_invariant.proofs.EntryLemmas.{changed_cases, changed_here, passing_few}
-use Rattle.lxr_remset.specs.Remembering.{CanRemember, HasEntryOf, Remembers, entry_now}
+use Rattle.lxr_remset.specs.Remembering.{AreEntered, CanRemember, EntersOnce, HasEntryOf, Remembers, entry_now}
 use Rattle.lxr_remset.proofs.ChosenLemmas.{chosen_told}
-use Rattle.lxr_pause_trace.specs.Marking.{CountsFar, HasEntryAt, HoldPlaces, IsLeft, IsMarking, IsOver, IsSeen, IsWaiting, RefersAt, ShadesRegisters, WaitOnce, granules, gray, referred, waiting_slots}
+use Rattle.lxr_pause_trace.specs.Marking.{AreEnteredAt, CountsFar, HasEntryAt, HoldPlaces, IsLeft, IsMarking, IsOver, IsSeen, IsWaiting, RefersAt, ShadesRegisters, WaitOnce, granules, gray, referred, waiting_slots}
 use Rattle.lxr_pause_trace.specs.Tracing.{BeginsTrace, CanFinishTrace, CanTrace, FinishesTrace, HasAllToBeMarked}
 use Rattle.lxr_pause_trace.proofs.DrawnLemmas.{none_drawn}
 use Rattle.lxr_pause_trace.proofs.EnteringLemmas.{found_alike, found_none, kept_still}
@@ -31,6 +33,7 @@ use Rattle.lxr_pause_trace.proofs.HoldsLemmas.{holds_remarked}
 use Rattle.lxr_pause_trace.proofs.LeftLemmas.{due_start, left_start, started_place}
 use Rattle.lxr_pause_trace.proofs.NamedLemmas.{held_named, held_placed, left_named, name_placed, refers_kept, refers_named, refers_placed, root_kept, same_place, to_be_kept, to_be_left, traceable}
 use Rattle.lxr_pause_trace.proofs.NameSlotLemmas.{all_placed, places_of, slots_by_names}
+use Rattle.lxr_pause_trace.proofs.SlotLemmas.{is_first, is_later}
 
 -- ---- a trace is finished
 
@@ -45,6 +48,7 @@ opening_stage s m at may = record {
   space = can.holds.space;
   traceable = traceable s m at can;
   far = counts_far (tables_of s) s.limits.blocks m.trace can.holds.blocks.chosen may.remembers;
+  few_chosen = can.holds.blocks.few;
   so_far = record {
     marks_kept = λ k h. h;
     marks_left = λ p some h. inl h;
@@ -200,6 +204,45 @@ module _ (s after : Space) (m : Moment) (at : Name → ℕ) (may : CanFinishTrac
     idle = over.stage.kept.idle;
   }
 
+  -- the references for which numbers were drawn, by names
+  record IsNamed (rs : List (ℕ × ℕ)) : Type 0 where
+    pub fields : List Field
+    pub are : AreEntered s.limits u m at (λ n i. IsToBeMarked t m at n) (t.cursors REMEMBERED_CURSOR) fields
+    pub as_many : length fields ≡ length rs
+    pub among : (w : Field) → IsTrue (has_field fields w) → Contains rs (at w.0, w.1)
+
+  named : (rs : List (ℕ × ℕ)) → AreEnteredAt s.limits t u (λ p i. Contains after.work.items (record { 0 = p }) ⊎ ⊥) (t.cursors REMEMBERED_CURSOR) rs → IsNamed rs
+  named [] are = record { fields = []; are = tt; as_many = refl; among = λ w h. absurd (cc) }
+  named (r ∷ rs) are =
+      let rest = named rs are.3 in
+      let e = are.0 in
+      let n = left_named s m at can r.0 e.scanned.left in
+      let v = held_named s m at can n.0 r.1 e.held (to_be_kept s m at can n.0 n.1) e.placed (ap (λ z. field_at t z r.1) n.2 ∙ e.holds) in
+      let w : Field = (n.0, r.1) in
+      let here : Contains (r ∷ rs) (at n.0, r.1) = subst (λ z. Contains (r ∷ rs) (z, r.1)) (sym n.2) (is_first r rs) in
+      record {
+        fields = w ∷ rest.fields;
+        are = (
+          n.1,
+          record { held = v.0; holds = v.1; chosen = subst (λ z. state_in u (granule_of z / GRANULES_IN_BLOCK) ≡ Chosen) (sym v.2) (chosen_told (state_in u (granule_of e.held / GRANULES_IN_BLOCK)) e.chosen) },
+          elim (tested (has_field rest.fields w)) [
+            | inl there ↦ absurd (are.1 (subst (λ z. Contains rs (z, r.1)) n.2 (rest.among w there)))
+            | inr none ↦ none
+          ],
+          λ room. ap (λ k. u.remembered (t.cursors REMEMBERED_CURSOR + k)) rest.as_many ∙ are.2 (subst (λ k. t.cursors REMEMBERED_CURSOR + k < s.limits.remember) rest.as_many room)
+              ∙ ap (λ z. entry_now u (record { 0 = z }) r.1) (sym n.2),
+          rest.are,
+        );
+        as_many = let same = rest.as_many in omega (arith, same);
+        among = λ x h. elim (field_split w rest.fields x h) [
+          | inl same ↦ subst (λ z. Contains (r ∷ rs) (at z.0, z.1)) (sym same) here
+          | inr later ↦ is_later r rs (at x.0, x.1) (rest.among x later)
+        ];
+      }
+
+  entered : EntersOnce s.limits t u m at (λ n i. IsToBeMarked t m at n)
+  entered = let x = named over.stage.drawn.entered over.stage.drawn.are in record { entered = x.fields; are = x.are; drawn = let drawn = over.stage.drawn.drawn in let same = x.as_many in omega (arith, drawn, same) }
+
   bound : (names : List Name) → HasAllToBeMarked t m at names → u.cursors REMEMBERED_CURSOR + unscanned_slots u m at names ≤ t.cursors REMEMBERED_CURSOR + unscanned_slots t m at names
   bound names all =
       let is = over.stage.bound (places_of m at names) (all_placed s m at can names all) in
@@ -215,6 +258,7 @@ module _ (s after : Space) (m : Moment) (at : Name → ℕ) (may : CanFinishTrac
     none_left = λ k g. start_marked k (grays_start k g) g;
     remembers = remembers;
     once = over.stage.drawn.once;
+    entered = entered;
     bound = bound;
     tables = over.stage.tables;
     space = rest_same;

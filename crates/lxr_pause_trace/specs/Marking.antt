@@ -6,13 +6,14 @@ use Rattle.lxr_layout.specs.declared.limits.Limits.{Limits}
 use Rattle.lxr_layout.specs.declared.Place.{Place}
 use Rattle.lxr_layout.specs.declared.Header.{Header}
 use Rattle.lxr_layout.specs.declared.Header.TheVariants.{Object, Moved}
+use Rattle.lxr_layout.specs.Spaces.{most_chosen}
 use Rattle.lxr_base.specs.Roomy.{pushed}
 use Rattle.lxr_image.specs.declared.space.Space.{Space}
 use Rattle.lxr_image.specs.Spaces.{IsSpace, tables_of}
 use Rattle.lxr_image.specs.Tables.{Tables, changed}
 use Rattle.lxr_image.specs.Reads.{StartsStandWhole, field_at, granule_of, header_at}
 use Rattle.lxr_invariant.specs.Counting.{passing}
-use Rattle.lxr_invariant.specs.Lines.{NoneChosen}
+use Rattle.lxr_invariant.specs.Lines.{NoneChosen, chosen_count}
 use Rattle.lxr_invariant.specs.Tracing.{HasOverflowed}
 use Rattle.lxr_remset.specs.Remembering.{AreEntries, entry_now, is_in_chosen, with_remembered_of}
 
@@ -105,10 +106,29 @@ pub record HasEntryAt (before now : Tables) (IsLater : ℕ → ℕ → Type 0) (
   pub chosen : IsTrue (is_in_chosen now (record { 0 = held }))
   pub entry : now.remembered k ≡ entry_now now (record { 0 = place }) index
 
--- only such references were remembered since, and none of them twice
+-- a reference of an object that was left to mark and is marked; it leads into a Chosen block, and is none of those that are scanned later
+pub record IsPassed (before now : Tables) (IsLater : ℕ → ℕ → Type 0) (place index : ℕ) : Type 0 where
+  pub held : ℕ
+  pub scanned : IsWaiting before now place
+  pub passed : ¬ IsLater place index
+  pub placed : 1 ≤ held
+  pub holds : field_at before place index ≡ Some held
+  pub chosen : IsTrue (is_in_chosen now (record { 0 = held }))
+
+-- The numbers from one on were drawn for such references, the newest first, by their places and indices: none stands here twice, and each has its
+-- entry where the set has room for its number.
+abbrev pub AreEnteredAt : Limits → Tables → Tables → (ℕ → ℕ → Type 0) → ℕ → List (ℕ × ℕ) → Type 0
+AreEnteredAt l before now IsLater from [] = ⊤
+AreEnteredAt l before now IsLater from (r ∷ rs) = IsPassed before now IsLater r.0 r.1 × ¬ Contains rs r
+    × (from + length rs < l.remember → now.remembered (from + length rs) ≡ entry_now now (record { 0 = r.0 }) r.1) × AreEnteredAt l before now IsLater from rs
+
+-- only such references were remembered since, and none of them twice; and for each one number was drawn
 pub record EntersOnly (l : Limits) (before now : Tables) (IsLater : ℕ → ℕ → Type 0) : Type 0 where
   pub only : (k : ℕ) → before.cursors REMEMBERED_CURSOR ≤ k → k < now.cursors REMEMBERED_CURSOR → k < l.remember → HasEntryAt before now IsLater k
   pub once : (j k : ℕ) → before.cursors REMEMBERED_CURSOR ≤ j → j < k → k < now.cursors REMEMBERED_CURSOR → k < l.remember → now.remembered j ≢ now.remembered k
+  pub entered : List (ℕ × ℕ)
+  pub are : AreEnteredAt l before now IsLater (before.cursors REMEMBERED_CURSOR) entered
+  pub drawn : now.cursors REMEMBERED_CURSOR ≡ before.cursors REMEMBERED_CURSOR + length entered
 
 -- no place stands twice in a worklist
 abbrev pub WaitOnce : List Place → Type 0
@@ -148,6 +168,7 @@ pub record MarkingStage (before s : Space) (end : ℕ) (pending : ℕ → ℕ �
   pub space : IsSpace s
   pub traceable : IsTraceable (tables_of before) before.limits.blocks
   pub far : CountsFar (tables_of before) before.limits.blocks
+  pub few_chosen : chosen_count (tables_of before) before.limits.blocks ≤ most_chosen before.limits.blocks
   pub so_far : IsMarkedSoFar (tables_of before) (tables_of s)
   pub ended : (k : ℕ) → k < end → IsTrue ((tables_of s).grays k) → IsTrue ((tables_of s).marks k)
   pub waiting : (p : Place) → Contains s.work.items p → IsWaiting (tables_of before) (tables_of s) p.0

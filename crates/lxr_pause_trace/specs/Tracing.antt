@@ -12,7 +12,7 @@ use Rattle.lxr_model.specs.Reachable.{Refers}
 use Rattle.lxr_invariant.specs.Quiescent.{HoldsMoment}
 use Rattle.lxr_invariant.specs.Settled.{IsSettled}
 use Rattle.lxr_invariant.specs.Tracing.{IsGray, IsMarked, IsRoot, IsToBeMarked, unscanned_slots}
-use Rattle.lxr_remset.specs.Remembering.{CanRemember, Remembers, with_remembered_of}
+use Rattle.lxr_remset.specs.Remembering.{CanRemember, EntersOnce, Remembers, with_remembered_of}
 
 -- a pause may trace: counting is done, whatever is marked and gray
 pub record CanTrace (s : Space) (m : Moment) (at : Name → ℕ) : Type 0 where
@@ -38,7 +38,7 @@ HasAllToBeMarked t m at names = (n : Name) → IsToBeMarked t m at n → IsTrue 
 
 -- A trace is finished: marked is exactly what was and what was left to mark, gray is exactly what was and what the latter refers
 -- to, and nothing gray is unmarked. Each reference of what was left to mark that leads into a Chosen block is remembered, unless the set
--- has overflowed. Only these are remembered, and none of them twice. Nothing else has changed.
+-- has overflowed. Only these are remembered, and none of them twice; one number is drawn for each, and no other. Nothing else has changed.
 pub record FinishesTrace (before after : Space) (m : Moment) (at : Name → ℕ) : Type 0 where
   pub holds : HoldsMoment after m at
   pub marks : (n : Name) → IsTrue (has m.unreclaimed n) → IsMarked (tables_of after) at n ↔ (IsMarked (tables_of before) at n ⊎ IsToBeMarked (tables_of before) m at n)
@@ -48,6 +48,7 @@ pub record FinishesTrace (before after : Space) (m : Moment) (at : Name → ℕ)
   pub remembers : Remembers before.limits (tables_of before) (tables_of after) m at at (λ n i. IsToBeMarked (tables_of before) m at n)
   pub once : (j k : ℕ) → (tables_of before).cursors REMEMBERED_CURSOR ≤ j → j < k → k < (tables_of after).cursors REMEMBERED_CURSOR → k < before.limits.remember
       → (tables_of after).remembered j ≢ (tables_of after).remembered k
+  pub entered : EntersOnce before.limits (tables_of before) (tables_of after) m at (λ n i. IsToBeMarked (tables_of before) m at n)
   pub bound : (names : List Name) → HasAllToBeMarked (tables_of before) m at names
       → (tables_of after).cursors REMEMBERED_CURSOR + unscanned_slots (tables_of after) m at names
       ≤ (tables_of before).cursors REMEMBERED_CURSOR + unscanned_slots (tables_of before) m at names

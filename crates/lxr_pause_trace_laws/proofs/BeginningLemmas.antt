@@ -7,7 +7,7 @@ use Rattle.std.proofs.lemmas.Bool.{and_from, and_parts}
 use Rattle.std.proofs.lemmas.List.Kept.{IsStrictlySortedBy-filter}
 use Rattle.std.proofs.lemmas.Map.Views.{any-filter_same}
 use Rattle.lxr_layout.specs.declared.Name.{Name}
-use Rattle.lxr_layout.specs.declared.TheConstants.{REMEMBERED_CURSOR}
+use Rattle.lxr_layout.specs.declared.TheConstants.{MOST_WORDS, REMEMBERED_CURSOR}
 use Rattle.lxr_graph.specs.Names.{AreInOrder, IsSetOf, has, name_order, same_name}
 use Rattle.lxr_graph.specs.State.{State, object_at, world_name}
 use Rattle.lxr_graph.specs.History.{PauseReport}
@@ -157,7 +157,7 @@ module _ (before after : Space) (states entries cursors : ℕ → ℕ) (m : Mome
   }
 
   -- the references of the snapshot's objects are at most the heap's words
-  few : rememberable trace listed.names ≤ 2 ^ 23 * (m.number + 1)
+  few : rememberable trace listed.names ≤ 2 * MOST_WORDS * (m.number + 1)
   few =
       let within : (x : Name) → IsTrue (has listed.names x) → IsTrue (has _ x) = λ x h. in_first m.unreclaimed m.made x (stands x ((listed.are.members x).0 h)) in
       let fit = references_fit (tables_of after) after.limits.blocks at m.state.graph _ begins.holds.image.image listed.names (in_order_distinct listed.names listed.are.in_order) within in

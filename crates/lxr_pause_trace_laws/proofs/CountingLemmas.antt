@@ -9,7 +9,7 @@ use Rattle.std.proofs.lemmas.Nat.{mul-le}
 use Rattle.std.proofs.lemmas.List.Sorted.{length_permutation}
 use Rattle.std.proofs.lemmas.Option.{slice_get_within}
 use Rattle.lxr_layout.specs.declared.Name.{Name}
-use Rattle.lxr_layout.specs.declared.TheConstants.{GRANULES_IN_BLOCK, REMEMBERED_CURSOR}
+use Rattle.lxr_layout.specs.declared.TheConstants.{GRANULES_IN_BLOCK, MOST_WORDS, REMEMBERED_CURSOR}
 use Rattle.lxr_graph.specs.Names.{has}
 use Rattle.lxr_graph.specs.State.{object_at, refs_of, world_name}
 use Rattle.lxr_graph.proofs.NameSets.{not_both, union_cases, union_left, union_right}
@@ -294,7 +294,7 @@ module _ (found raised queued : Space) (g : AbstractState) (at' : Name → ℕ) 
     fields = λ n v i k scan e bit chosen. still_remembered n i (fields n v i k scan e (chosen_raised v chosen));
     entries = λ k drawn within.
         let r = raises.remembers.entries is.remembered.entries k (subst (λ z. k < z) cursor drawn) within in
-        (r.0, r.1, r.2, record { is = ap (λ f. f k) queues.keeps.remembered ∙ r.3.is; entry = r.3.entry; in_heap = r.3.in_heap });
+        (r.0, r.1, r.2, record { is = ap (λ f. f k) queues.keeps.remembered ∙ r.3.is; small = r.3.small; entry = r.3.entry; in_heap = r.3.in_heap });
     bound =
         let bound = is.remembered.bound in
         let same = cursor in
@@ -303,8 +303,8 @@ module _ (found raised queued : Space) (g : AbstractState) (at' : Name → ℕ) 
         omega (arith, bound, same, drawn, fewer, more);
   }
 
-  -- at most 2 ^ 22 references are promoted, and at most 2 ^ 20 were stored to
-  few_promoted : reference_slots m.state.graph promoted ≤ 2 ^ 22
+  -- no more references are promoted than the largest heap has words, and at most 2 ^ 20 were stored to
+  few_promoted : reference_slots m.state.graph promoted ≤ MOST_WORDS
   few_promoted =
       let fit = references_fit (tables_of raised) raised.limits.blocks at' m.state.graph all raises.raised.image promoted raises.raised.raised.promoted_once (λ x p. union_left promoted m.unreclaimed x p) in
       let blocks = raises.raised.space.limits.blocks.1 in
@@ -318,7 +318,7 @@ module _ (found raised queued : Space) (g : AbstractState) (at' : Name → ℕ) 
       let product : found.limits.threads * found.limits.log ≤ 16 * 65536 = mul-le found.limits.threads found.limits.log 16 65536 holds.space.limits.threads.1 holds.space.limits.log.1 in
       omega (arith, same, mapped, few, product)
 
-  few : rememberable goes_on is.snapshot ≤ 2 ^ 23 * (now.number + 1)
+  few : rememberable goes_on is.snapshot ≤ 2 * MOST_WORDS * (now.number + 1)
   few = let before = is.few in let p = few_promoted in let w = few_written in omega (arith, before, p, w)
 
   holds_on : TraceHolds queued.limits u [] (record g { moment = now; at = at' }) goes_on

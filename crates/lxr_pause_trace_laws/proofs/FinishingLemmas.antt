@@ -169,7 +169,7 @@ module _ (before after : Space) (g : AbstractState) (trace : Trace) (gone : List
         ];
     entries = λ k drawn within.
         let r = is.remembered.entries k (subst (λ z. k < z) cursor drawn) within in
-        (r.0, r.1, r.2, record { is = ap (λ f. f k) finishes.keeps.remembered ∙ r.3.is; entry = r.3.entry; in_heap = r.3.in_heap });
+        (r.0, r.1, r.2, record { is = ap (λ f. f k) finishes.keeps.remembered ∙ r.3.is; small = r.3.small; entry = r.3.entry; in_heap = r.3.in_heap });
     bound =
         let bound = is.remembered.bound in
         let same = cursor in

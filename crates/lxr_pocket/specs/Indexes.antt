@@ -1,15 +1,15 @@
 -- Words of a space have indexes of 32 bits.
 use Rattle.std.specs.Prelude.{◌+◌, ◌/◌, ◌^◌, ◌<◌, ◌≤◌}
-use Rattle.lxr_layout.specs.declared.TheConstants.{GRANULES_IN_BLOCK, WORDS_IN_LINE}
+use Rattle.lxr_layout.specs.declared.TheConstants.{GRANULES_IN_BLOCK, MOST_WORDS, WORDS_IN_LINE}
 use Rattle.lxr_layout.specs.declared.limits.Limits.{Limits}
 use Rattle.lxr_layout.specs.declared.limits.Regions.{Regions}
 use Rattle.lxr_layout.specs.Spaces.{AreLimits, regions_of}
 use Rattle.lxr_tables.specs.declared.counts.TheConstants.{COUNTS_IN_WORD}
 use Rattle.lxr_pocket.specs.Words.{heap_granules}
 
--- the heap is at most the largest one, of 1,024 blocks of 4,096 words, and the words of tables and cursors have indexes of 32 bits
+-- the heap is at most the largest one, and the words of tables and cursors have indexes of 32 bits
 pub record HaveIndexes (r : Regions) : Type 0 where
-  pub size : r.counts ≤ 2 ^ 22
+  pub size : r.counts ≤ MOST_WORDS
   pub heap : r.heap + r.counts < 2 ^ 32
   pub counts : r.counts + heap_granules r / COUNTS_IN_WORD < 2 ^ 32
   pub starts : r.starts + heap_granules r / 64 < 2 ^ 32

@@ -1,3 +1,4 @@
 pub mod SetLemmas
 pub mod FieldLemmas
 pub mod ChosenLemmas
+pub mod OnceLemmas

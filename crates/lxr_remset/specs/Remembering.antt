@@ -1,20 +1,21 @@
 -- What changes where a reference is remembered.
-use Rattle.std.specs.Prelude.{◌≡◌, ℕ, ◌+◌, ◌*◌, ◌/◌, ◌^◌, ◌<◌, ◌≤◌, ◌⊎◌, ⊤, nat_lt, if◌then◌else◌, Bool, Option, Some, None, IsTrue, slice_get}
-use Rattle.lxr_layout.specs.declared.TheConstants.{GRANULES_IN_BLOCK, REMEMBERED_CURSOR, WORDS_IN_BLOCK, WORDS_IN_LINE}
+use Rattle.std.specs.Prelude.{◌≡◌, ℕ, ◌+◌, ◌*◌, ◌/◌, ◌^◌, ◌<◌, ◌≤◌, ◌⊎◌, ⊤, nat_lt, if◌then◌else◌, Bool, false, Option, Some, None, List, [], ◌∷◌, IsTrue, length, slice_get}
+use Rattle.lxr_layout.specs.declared.TheConstants.{GRANULES_IN_BLOCK, MOST_BLOCKS_REMEMBERED, REMEMBERED_CURSOR, WORDS_IN_BLOCK, WORDS_IN_LINE}
 use Rattle.lxr_layout.specs.declared.limits.Limits.{Limits}
 use Rattle.lxr_layout.specs.declared.Name.{Name}
 use Rattle.lxr_layout.specs.declared.Place.{Place}
 use Rattle.lxr_layout.specs.Places.{field_word}
 use Rattle.lxr_layout.specs.Runs.{word_of_entry}
-use Rattle.lxr_layout.specs.Spaces.{AreLimits}
+use Rattle.lxr_layout.specs.Spaces.{AreLimits, most_chosen}
 use Rattle.lxr_graph.specs.Names.{has}
 use Rattle.lxr_graph.specs.State.{object_at, refs_of}
 use Rattle.lxr_image.specs.Tables.{Tables, changed}
 use Rattle.lxr_image.specs.Reads.{granule_of}
 use Rattle.lxr_image.specs.Spaces.{AreWithin}
 use Rattle.lxr_blocks.specs.States.{state_in}
-use Rattle.lxr_model.specs.Moments.{Moment, Trace}
-use Rattle.lxr_invariant.specs.Lines.{NoneChosen, is_chosen}
+use Rattle.lxr_model.specs.Moments.{Field, Moment, Trace}
+use Rattle.lxr_model_counting.specs.Distinct.{has_field}
+use Rattle.lxr_invariant.specs.Lines.{NoneChosen, chosen_count, is_chosen}
 use Rattle.lxr_invariant.specs.Standing.{place_of, word_of_field}
 use Rattle.lxr_invariant.specs.Tracing.{HasOverflowed, IsEntryWord, IsInChosen, IsRemembered}
 use Rattle.lxr_remset.specs.declared.remembering.Remembered.{Remembered}
@@ -65,9 +66,9 @@ pub record KeepsSet (l : Limits) (t u : Tables) (at : Name → ℕ) (n : Name) (
   pub full : HasOverflowed l t → HasOverflowed l u
   pub entries : AreEntries l t → AreEntries l u
 
--- so it is with each reference of an object
+-- so it is with each reference of an object, in a heap whose places entries have room for
 abbrev pub RememberingKeepsSet : Type 0
-RememberingKeepsSet = (l : Limits) (t : Tables) (at : Name → ℕ) (n : Name) (i : ℕ) → AreLimits l → AreWithin t → IsField l (place_of at n) i
+RememberingKeepsSet = (l : Limits) (t : Tables) (at : Name → ℕ) (n : Name) (i : ℕ) → AreLimits l → AreWithin t → l.blocks ≤ MOST_BLOCKS_REMEMBERED → IsField l (place_of at n) i
     → KeepsSet l t (remembering l t (place_of at n) i) at n i
 
 -- ---- what a step of a pause does that remembers references
@@ -104,6 +105,32 @@ pub record Remembers (l : Limits) (t u : Tables) (m : Moment) (at now : Name →
   pub entries : AreEntries l t → AreEntries l u
   pub idle : NoneChosen t l.blocks → (u.remembered ≡ t.remembered) × (u.cursors REMEMBERED_CURSOR ≡ t.cursors REMEMBERED_CURSOR)
 
+-- ---- how many references are remembered
+
+-- a reference of an object leads into a Chosen block
+pub record LeadsIntoChosen (t : Tables) (m : Moment) (at : Name → ℕ) (n : Name) (i : ℕ) : Type 0 where
+  pub held : Name
+  pub holds : slice_get (refs_of (object_at m.state.graph n)) i ≡ Some (Some held)
+  pub chosen : IsInChosen t at held
+
+-- where the set has room for a number, it has the entry of this reference there
+abbrev pub HasEntryAtNumber : Limits → Tables → (Name → ℕ) → ℕ → Field → Type 0
+HasEntryAtNumber l t now k field = k < l.remember → t.remembered k ≡ word_of_entry (t.reuse (word_of_field now field.0 field.1 / WORDS_IN_LINE)) (place_of now field.0) field.1
+
+-- The numbers from one on were drawn for these references, the newest first: each is one of those that are meant and leads into a Chosen block, none
+-- stands here twice, and each has its entry.
+abbrev pub AreEntered : Limits → Tables → Moment → (Name → ℕ) → (Name → ℕ → Type 0) → ℕ → List Field → Type 0
+AreEntered l t m now IsOne from [] = ⊤
+AreEntered l t m now IsOne from (field ∷ fields) = IsOne field.0 field.1 × LeadsIntoChosen t m now field.0 field.1 × (has_field fields field ≡ false)
+    × HasEntryAtNumber l t now (from + length fields) field × AreEntered l t m now IsOne from fields
+
+-- Since other tables one number was drawn for each of some of these references, which lead into Chosen blocks, for none of them twice, and
+-- no other number.
+pub record EntersOnce (l : Limits) (t u : Tables) (m : Moment) (now : Name → ℕ) (IsOne : Name → ℕ → Type 0) : Type 0 where
+  pub entered : List Field
+  pub are : AreEntered l u m now IsOne (t.cursors REMEMBERED_CURSOR) entered
+  pub drawn : u.cursors REMEMBERED_CURSOR ≡ t.cursors REMEMBERED_CURSOR + length entered
+
 -- Each reference of an unreclaimed object that leads into a Chosen block is remembered, or the set has overflowed; each entry is one of a
 -- reference.
 pub record RemembersChosen (l : Limits) (t : Tables) (m : Moment) (at : Name → ℕ) : Type 0 where
@@ -113,6 +140,6 @@ pub record RemembersChosen (l : Limits) (t : Tables) (m : Moment) (at : Name →
 
 -- what is done so to a reference of an object that holds another
 abbrev pub ChosenAreRemembered : Type 0
-ChosenAreRemembered = (l : Limits) (t : Tables) (m : Moment) (at : Name → ℕ) (n v : Name) (i : ℕ) → AreLimits l → AreWithin t → IsField l (place_of at n) i
-    → granule_of (at v) < GRANULES_IN_BLOCK * l.blocks → slice_get (refs_of (object_at m.state.graph n)) i ≡ Some (Some v)
+ChosenAreRemembered = (l : Limits) (t : Tables) (m : Moment) (at : Name → ℕ) (n v : Name) (i : ℕ) → AreLimits l → AreWithin t
+    → chosen_count t l.blocks ≤ most_chosen l.blocks → IsField l (place_of at n) i → granule_of (at v) < GRANULES_IN_BLOCK * l.blocks → slice_get (refs_of (object_at m.state.graph n)) i ≡ Some (Some v)
     → Remembers l t (remembering_chosen l t (place_of at n) i (place_of at v)) m at at (λ o j. (o ≡ n) × (j ≡ i))

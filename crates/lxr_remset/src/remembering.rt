@@ -1,6 +1,6 @@
 //! Entering references into the remembered set, and reading it.
 ghost use Rattle.std.specs.Prelude.{◌≡◌, ◌↔◌, ◌*◌, ◌^◌, ◌<◌, ◌≤◌, ℕ, IsTrue};
-ghost use Rattle.lxr_layout.specs.declared.TheConstants.{REMEMBERED_CURSOR};
+ghost use Rattle.lxr_layout.specs.declared.TheConstants.{GRANULES_IN_BLOCK, REMEMBERED_CURSOR};
 ghost use Rattle.lxr_layout.specs.declared.Place.{Place as PlaceOf};
 ghost use Rattle.lxr_image.specs.Reads.{granule_of};
 ghost use Rattle.lxr_image.specs.Spaces.{IsSpace, Turns, tables_of};
@@ -10,7 +10,7 @@ ghost use Rattle.lxr_remset.specs.Remembering.{IsField, is_in_chosen, kept_or_fu
 use lxr_blocks::{BlockState, state};
 use lxr_image::Space;
 use lxr_layout::{
-    GRANULES_IN_BLOCK, Place, REMEMBERED_CURSOR, WORDS_IN_LINE, entry_of, entry_word, field_word,
+    Place, REMEMBERED_CURSOR, WORDS_IN_LINE, block_of, entry_of, entry_word, field_word,
 };
 
 /// How a reference was remembered.
@@ -53,7 +53,7 @@ pub fn remember_chosen(space: &mut Space, place: Place, index: u16, held: Place)
     ensures tables { Turns space.old space.new (remembering_chosen space.old.limits (tables_of space.old) place index held) }
     ensures space { IsSpace space.new }
 {
-    if let BlockState::Chosen = state(space, (held.0 - 1) / GRANULES_IN_BLOCK) {
+    if let BlockState::Chosen = state(space, block_of(held)) {
         remember(space, place, index);
     }
 }

@@ -39,7 +39,7 @@ done_by run options script asked printed = record {
   text = printed.text;
   space_left = printed.space_left;
   sights = printed.sights;
-  reachable = last_reachable (script_terms options script) script printed.history (λ e. cc) printed.run.legal printed.run.belongs;
+  reachable = last_reachable (script_terms options script) script printed.history printed.run.legal printed.run.belongs;
 }
 
 pub replayed_by : {I O W : Type 0} (run : Run I O W) (options : Options) (script : Script) → WasAsked run.words run.input options script

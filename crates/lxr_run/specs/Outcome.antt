@@ -58,6 +58,7 @@ pub record IsCutOffLate {I O W : Type 0} (run : Run I O W) : Type 0 where
   pub text_front : IsPartlyWritten run.output (run_text options (length script) history run.space)
   pub space_left : IsLeftBy options (length script) history run.space
 
+-- a run was cut off at a report, or at what it prints last
 abbrev pub IsCutOff : {I O W : Type 0} → Run I O W → Type 0
 IsCutOff run = IsCutOffEarly run ⊎ IsCutOffLate run
 

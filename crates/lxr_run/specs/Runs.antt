@@ -25,12 +25,15 @@ pub record Run (I O W : Type 0) : Type 0 where
   pub watch : Watcher W
   pub space : Space
 
+-- a stream told by its bytes, its faults, and what it was before and after a run
 abbrev pub stream : {X : Type 0} → (X → Option (List ℕ)) → (X → ℕ) → X → X → Stream X
 stream bytes faults before after = record { bytes = bytes; faults = faults; before = before; after = after }
 
+-- a watch told by what it has seen, and what it was before and after a run
 abbrev pub watcher : {W : Type 0} → (W → Option (List Sight)) → W → W → Watcher W
 watcher seen before after = record { seen = seen; before = before; after = after }
 
+-- a run told by its parts
 abbrev pub run_of : {I O W : Type 0} → List (List ℕ) → Stream I → Stream O → Watcher W → Space → Run I O W
 run_of words input output watch space = record { words = words; input = input; output = output; watch = watch; space = space }
 
@@ -42,9 +45,10 @@ IsUntouched s = s.after ≡ s.before
 abbrev pub HasFailed : {X : Type 0} → Stream X → Type 0
 HasFailed s = Rose (s.faults s.before) (s.faults s.after)
 
--- this text was written to it; a front of this text was
+-- this text was written to it
 abbrev pub IsWritten : {X : Type 0} → Stream X → List ℕ → Type 0
 IsWritten s text = Appends (s.bytes s.before) (s.bytes s.after) text
 
+-- a prefix of this text was written to it
 abbrev pub IsPartlyWritten : {X : Type 0} → Stream X → List ℕ → Type 0
 IsPartlyWritten s text = AppendsFront (s.bytes s.before) (s.bytes s.after) text

@@ -39,7 +39,7 @@ owes_extends terms threads every h k (called l t o r before is) none = tt
 -- the reply of a step may stand
 pub replies_in : (options : Options) (threads : ℕ) (h : List Item) (t : ℕ) (o : Op) (r : Reply) → IsReply (moment threads h).state t o r → Replies (run_terms options threads) h t o r
 replies_in options threads h t (op.New dest shape) reply.Full is = absurd (cc)
-replies_in options threads h t (op.New dest shape) r is = (is, tt)
+replies_in options threads h t (op.New dest shape) r is = is
 replies_in options threads h t o r is = is
 
 -- a call counts for its own thread

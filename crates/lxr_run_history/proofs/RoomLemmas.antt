@@ -5,6 +5,7 @@ use Rattle.std.specs.Prelude.{Some, None, IsTrue}
 use Rattle.lxr_layout.specs.declared.Name.{Name}
 use Rattle.lxr_layout.specs.declared.Shape.{Shape}
 use Rattle.lxr_layout.specs.Objects.{FitsShape, line_count}
+use Rattle.lxr_layout.specs.Spaces.{most_chosen}
 use Rattle.lxr_graph.specs.Names.{IsSetOf, has, union, without}
 use Rattle.lxr_graph.specs.State.{world_name}
 use Rattle.lxr_graph.specs.declared.Op.TheVariants as op
@@ -16,7 +17,7 @@ use Rattle.lxr_image.specs.declared.space.Space.{Space}
 use Rattle.lxr_image.specs.Spaces.{tables_of}
 use Rattle.lxr_blocks.specs.Placing.{IsFull}
 use Rattle.lxr_model.specs.Moments.{Moment, moment, trace_after}
-use Rattle.lxr_model.specs.Full.{IsRightAfterPause, LeaveNoRun, slots_in, slots_taken}
+use Rattle.lxr_model.specs.Full.{IsRightAfterCollecting, LeaveNoRun}
 use Rattle.lxr_model.specs.Reachable.{Reachable}
 use Rattle.lxr_model.specs.Legal.{IsLegalSoFar, IsWaitedFor, Replies}
 use Rattle.lxr_model.specs.Belongs.{HasCause, Script, is_new, next_operation}
@@ -30,33 +31,33 @@ use Rattle.lxr_full.proofs.WorldLemmas.{world_keeps_shape}
 use Rattle.lxr_words.specs.declared.Options.{Options}
 use Rattle.lxr_run_history.specs.Run.{script_terms}
 
--- right after a pause nothing is made yet
-pub none_made : (threads : ℕ) (P : PauseReport → Type 0) (h : List Item) → IsRightAfterPause P h → (moment threads h).made ≡ []
-none_made threads P [] after = absurd after
-none_made threads P (Pause report ∷ h) after = refl
-none_made threads P (Call t (op.New dest shape) reply.Full ∷ h) after = none_made threads P h after
-none_made threads P (Call t o r ∷ h) after = absurd after
+-- right after a collecting pause nothing is made yet
+pub none_made : (threads : ℕ) (h : List Item) → IsRightAfterCollecting h → (moment threads h).made ≡ []
+none_made threads [] after = absurd after
+none_made threads (Pause report ∷ h) after = refl
+none_made threads (Call t (op.New dest shape) reply.Full ∷ h) after = none_made threads h after
+none_made threads (Call t o r ∷ h) after = absurd after
 
--- nor does a trace run right after a collecting pause
-untraced : (threads : ℕ) (h : List Item) → IsRightAfterPause (λ report. report.kind ≡ kind.Collect) h → (moment threads h).trace ≡ None
+-- nor does a trace run
+untraced : (threads : ℕ) (h : List Item) → IsRightAfterCollecting h → (moment threads h).trace ≡ None
 untraced threads [] after = absurd after
 untraced threads (Pause report ∷ h) after = ap (trace_after (moment threads h) report) after
 untraced threads (Call t (op.New dest shape) reply.Full ∷ h) after = untraced threads h after
 untraced threads (Call t o r ∷ h) after = absurd after
 
 -- so no block is Chosen then
-pub none_chosen : (threads : ℕ) (h : List Item) (s : Space) (g : AbstractState) → IsRightAfterPause (λ report. report.kind ≡ kind.Collect) h → IsQuiescent s g → g.moment ≡ moment threads h → NoneChosen (tables_of s) s.limits.blocks
+pub none_chosen : (threads : ℕ) (h : List Item) (s : Space) (g : AbstractState) → IsRightAfterCollecting h → IsQuiescent s g → g.moment ≡ moment threads h → NoneChosen (tables_of s) s.limits.blocks
 none_chosen threads h s g after between is =
     subst (ChosenNeedTrace (tables_of s) s.limits.blocks) (ap (λ (m : Moment). m.trace) is ∙ untraced threads h after) between.safepoint.holds.blocks.chosen
 
 -- a `new` that finds no room right after a collecting pause may be refused
 pub may_be_refused : (options : Options) (script : Script) (h : List Item) (s : Space) (g : AbstractState) (t dest : ℕ) (shape : Shape) → IsLegalSoFar (script_terms options script) h
-    → IsRightAfterPause (λ report. report.kind ≡ kind.Collect) h → IsQuiescent s g → g.moment ≡ moment (length script) h → s.limits.blocks ≡ options.blocks → IsFull s shape
+    → IsRightAfterCollecting h → IsQuiescent s g → g.moment ≡ moment (length script) h → s.limits.blocks ≡ options.blocks → IsFull s shape
     → Replies (script_terms options script) h t (op.New dest shape) reply.Full
 may_be_refused options script h s g t dest shape legal after between is blocks full =
     let world : HasWorld (moment (length script) h).state.graph = world_keeps_shape (script_terms options script) h legal in
     let reached : (n : Name) → IsTrue (has (moment (length script) h).unreclaimed n) ↔ Reachable (moment (length script) h).state n = refused_keep (script_terms options script) h legal after in
-    let (ns, set, none) = collected_full_leaves_no_run s g shape between (ap (λ (m : Moment). m.made) is ∙ none_made (length script) (λ report. report.kind ≡ kind.Collect) h after)
+    let (ns, set, none) = collected_full_leaves_no_run s g shape between (ap (λ (m : Moment). m.made) is ∙ none_made (length script) h after)
     (none_chosen (length script) h s g after between is)
     (subst (λ (m : Moment). (n : Name) → IsTrue (has m.unreclaimed n) ↔ Reachable m.state n) (sym is) reached)
     (subst (λ (m : Moment). HasWorld m.state.graph) (sym is) world) full in (
@@ -72,17 +73,17 @@ pub is_waited_for : (options : Options) (script : Script) (h : List Item) (s : S
     → IsQuiescent s g → g.moment ≡ moment (length script) h → s.limits.blocks ≡ options.blocks → FitsShape shape → IsFull s shape → IsWaitedFor (script_terms options script) h (Call t (op.New dest shape) r)
 is_waited_for options script h s g t dest shape r legal between is blocks fits full =
     let world : HasWorld (moment (length script) h).state.graph = world_keeps_shape (script_terms options script) h legal in
-    let taken : slots_in (line_count shape) (s.limits.blocks - 1 - s.limits.blocks / 8) ≤ slots_taken g.moment.state.graph (line_count shape) (without (union g.moment.made g.moment.unreclaimed) (world_name ∷ [])) =
+    let taken : LeaveNoRun g.moment.state.graph (without (union g.moment.made g.moment.unreclaimed) (world_name ∷ [])) (s.limits.blocks - most_chosen s.limits.blocks) (line_count shape) =
     waiting_may_collect s g shape between (subst (λ (m : Moment). HasWorld m.state.graph) (sym is) world) fits full in
-    subst (λ (m : Moment). slots_in (line_count shape) (options.blocks - 1 - options.blocks / 8) ≤ slots_taken m.state.graph (line_count shape) (without (union m.made m.unreclaimed) (world_name ∷ []))) is
-    (subst (λ b. slots_in (line_count shape) (b - 1 - b / 8) ≤ slots_taken g.moment.state.graph (line_count shape) (without (union g.moment.made g.moment.unreclaimed) (world_name ∷ []))) blocks taken)
+    subst (λ (m : Moment). LeaveNoRun m.state.graph (without (union m.made m.unreclaimed) (world_name ∷ [])) (options.blocks - most_chosen options.blocks) (line_count shape)) is
+    (subst (λ b. LeaveNoRun g.moment.state.graph (without (union g.moment.made g.moment.unreclaimed) (world_name ∷ [])) (b - most_chosen b) (line_count shape)) blocks taken)
 
 -- and one that finds none is a cause of a pause
 pub room_cause : (options : Options) (script : Script) (h : List Item) (s : Space) (g : AbstractState) (t dest : ℕ) (shape : Shape) → 1 ≤ t → t ≤ length script
     → next_operation script t h ≡ Some (op.New dest shape) → IsQuiescent s g → g.moment ≡ moment (length script) h → s.limits.blocks ≡ options.blocks → FitsShape shape → IsFull s shape
     → HasCause (script_terms options script) script h
 room_cause options script h s g t dest shape low high next between is blocks fits full =
-    let taken : s.limits.blocks - s.limits.blocks / 8 ≤ length g.moment.unreclaimed + length g.moment.made = roomless_blocks_are_taken s g shape between fits full in
-    let here : s.limits.blocks - s.limits.blocks / 8 ≤ length (moment (length script) h).unreclaimed + length (moment (length script) h).made =
-    subst (λ (m : Moment). s.limits.blocks - s.limits.blocks / 8 ≤ length m.unreclaimed + length m.made) is taken in
-    inr (t, low, high, inr (inr (inl (subst (λ x. IsTrue (is_new x)) (sym next) refl, subst (λ b. b - b / 8 ≤ length (moment (length script) h).unreclaimed + length (moment (length script) h).made) blocks here))))
+    let taken : s.limits.blocks - most_chosen s.limits.blocks ≤ length g.moment.unreclaimed + length g.moment.made = roomless_blocks_are_taken s g shape between fits full in
+    let here : s.limits.blocks - most_chosen s.limits.blocks ≤ length (moment (length script) h).unreclaimed + length (moment (length script) h).made =
+    subst (λ (m : Moment). s.limits.blocks - most_chosen s.limits.blocks ≤ length m.unreclaimed + length m.made) is taken in
+    inr (t, low, high, inr (inr (inl (subst (λ x. IsTrue (is_new x)) (sym next) refl, subst (λ b. b - most_chosen b ≤ length (moment (length script) h).unreclaimed + length (moment (length script) h).made) blocks here))))

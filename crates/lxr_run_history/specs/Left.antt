@@ -31,5 +31,6 @@ pub record IsLeftWith (options : Options) (threads : ℕ) (h : List Item) (space
   pub limits : space.limits ≡ run_limits options threads
   pub tally : HasNumbersOf threads h space.tally
 
+-- so it is with some map of places
 abbrev pub IsLeftBy : Options → ℕ → List Item → Space → Type 0
 IsLeftBy options threads h space = (g : AbstractState) × IsLeftWith options threads h space g

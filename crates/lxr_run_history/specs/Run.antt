@@ -1,16 +1,14 @@
 -- Runs with pauses: their histories, whose items stand newest first, and their text.
 use Rattle.std.specs.Prelude.{ℕ, zero, suc, Bool, List, [], ◌∷◌, ◌++◌, length}
 use Rattle.lxr_graph.specs.History.{Item, Call, Pause}
-use Rattle.lxr_model.specs.Terms.{Terms, ReachableLeaveNoRun, CollectsForWaiting}
+use Rattle.lxr_model.specs.Terms.{Terms}
 use Rattle.lxr_model.specs.Legal.{IsLegal}
 use Rattle.lxr_model.specs.Belongs.{Belongs, Script}
 use Rattle.lxr_text_print.specs.Replies.{thread_text}
 use Rattle.lxr_text_print.specs.Reports.{report_text}
 use Rattle.lxr_words.specs.declared.Options.{Options}
 
--- So many threads, with the options of the command line. A `new` replies `full` only right after a collecting pause, where the
--- lines of the reachable objects can leave no run that fits. Traces run, and a pause collects where a thread asked for that since the
--- last one, where all have ended, or for a `new` that waits for room and comes right after it.
+-- so many threads, with the options of the command line
 abbrev pub run_terms : Options → ℕ → Terms
 run_terms options threads = record {
   threads = threads;
@@ -19,8 +17,6 @@ run_terms options threads = record {
   log = options.log;
   trace = options.trace;
   within = options.within;
-  full = ReachableLeaveNoRun;
-  kinds = CollectsForWaiting;
 }
 
 -- the terms of a script

@@ -12,10 +12,11 @@ use Rattle.lxr_invariant.specs.Tracing.{IsInChosen}
 use Rattle.lxr_run_watch.specs.Sights.{Sight, sight_of, sight_tables}
 use Rattle.lxr_run_history.specs.Left.{StandsAfter}
 
--- a sight is that of a space at a safepoint, and of one between epochs, whatever room its lists have
+-- a sight is that of a space at a safepoint, whatever room its lists have
 abbrev pub IsSightAtSafepoint : Sight → AbstractState → Type 0
 IsSightAtSafepoint sight g = (space : Space) × (sight_of space ≡ sight) × IsAtSafepoint space g
 
+-- a sight is that of a space between epochs, whatever room its lists have
 abbrev pub IsSightQuiescent : Sight → AbstractState → Type 0
 IsSightQuiescent sight g = (space : Space) × (sight_of space ≡ sight) × IsQuiescent space g
 
@@ -61,5 +62,6 @@ SeesTo threads h before None places = Unit {0}
 SeesTo threads h None (Some after) places = ⊥
 SeesTo threads h (Some before) (Some after) places = (sights : List Sight) × (after ≡ before ++ sights) × SeesPauses threads h sights places
 
+-- so it is with some places at the last of them
 abbrev pub Sees : ℕ → List Item → Option (List Sight) → Option (List Sight) → Type 0
 Sees threads h before after = (places : Name → ℕ) × SeesTo threads h before after places

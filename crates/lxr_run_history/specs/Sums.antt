@@ -15,11 +15,11 @@ no_totals = record { promoted = 0; dead = 0; swept = 0; stuck = 0 }
 
 -- the totals with one report more: how many names each of its lists has
 abbrev pub with_report : Totals → PauseReport → Totals
-with_report t r = record {
-  promoted = t.promoted + length r.promoted;
-  dead = t.dead + length r.dead;
-  swept = t.swept + length r.swept;
-  stuck = t.stuck + length r.stuck;
+with_report totals report = record {
+  promoted = totals.promoted + length report.promoted;
+  dead = totals.dead + length report.dead;
+  swept = totals.swept + length report.swept;
+  stuck = totals.stuck + length report.stuck;
 }
 
 -- the totals of all reports of a history
@@ -33,6 +33,7 @@ abbrev pub operations_by : Op → ℕ
 operations_by op.End = 0
 operations_by o = 1
 
+-- how many operations a history has
 abbrev pub operations_in : List Item → ℕ
 operations_in [] = 0
 operations_in (Call t o r ∷ h) = operations_by o + operations_in h
@@ -43,11 +44,13 @@ abbrev pub fulls_by : Reply → ℕ
 fulls_by reply.Full = 1
 fulls_by r = 0
 
+-- how many `new` of a history found no room
 abbrev pub fulls_in : List Item → ℕ
 fulls_in [] = 0
 fulls_in (Call t o r ∷ h) = fulls_by r + fulls_in h
 fulls_in (Pause report ∷ h) = fulls_in h
 
+-- how many pauses a history has
 abbrev pub pauses_in : List Item → ℕ
 pauses_in [] = 0
 pauses_in (Call t o r ∷ h) = pauses_in h

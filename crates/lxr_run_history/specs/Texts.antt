@@ -23,6 +23,7 @@ told_by Run counts h = reports_text counts h
 told_by Map counts h = reports_text counts h
 told_by (Load seed) counts h = []
 
+-- what is printed pause by pause with these options
 abbrev pub told_text : Options → List Item → List ℕ
 told_text options h = told_by options.command options.counts h
 
@@ -33,5 +34,6 @@ text_by Run counts threads h space = history_text counts threads h
 text_by Map counts threads h space = history_text counts threads h ++ map_text space
 text_by (Load seed) counts threads h space = summary_text (sums_of threads h)
 
+-- the whole text with these options
 abbrev pub run_text : Options → ℕ → List Item → Space → List ℕ
 run_text options threads h space = text_by options.command options.counts threads h space

@@ -3,7 +3,7 @@ use Rattle.std.proofs.Common.{◌≡◌, ℕ, ◌+◌, ◌*◌, ◌^◌, ◌<◌
 use Rattle.std.proofs.Math.Nat.{mul-add}
 use Rattle.std.proofs.lemmas.Nat.{mul-le}
 use Rattle.lxr_layout.specs.declared.limits.Limits.{Limits}
-use Rattle.lxr_layout.specs.declared.TheConstants.{GRANULES_IN_BLOCK}
+use Rattle.lxr_layout.specs.declared.TheConstants.{GRANULES_IN_BLOCK, MOST_BLOCKS}
 use Rattle.lxr_image.specs.declared.space.Space.{Space}
 use Rattle.lxr_run_invariant.specs.LoopInvariant.{HasEvacuatedFew}
 
@@ -29,7 +29,7 @@ evacuated_more granules pauses moved kept more stay within few =
     omega (arith, within, few, one, own)
 
 -- so the numbers fit
-pub moved_fits : (s : Space) → HasEvacuatedFew s → s.limits.blocks ≤ 1024 → s.pauses + 1 < 2 ^ 32 → (s.tally.moved < 2 ^ 63) × (s.tally.kept < 2 ^ 63)
+pub moved_fits : (s : Space) → HasEvacuatedFew s → s.limits.blocks ≤ MOST_BLOCKS → s.pauses + 1 < 2 ^ 32 → (s.tally.moved < 2 ^ 63) × (s.tally.kept < 2 ^ 63)
 moved_fits s few blocks pauses =
-    let most = mul-le (GRANULES_IN_BLOCK * s.limits.blocks) s.pauses (GRANULES_IN_BLOCK * 1024) (2 ^ 32) (omega arith) (omega arith) in
+    let most = mul-le (GRANULES_IN_BLOCK * s.limits.blocks) s.pauses (GRANULES_IN_BLOCK * MOST_BLOCKS) (2 ^ 32) (omega arith) (omega arith) in
     (omega (arith, few, most), omega (arith, few, most))

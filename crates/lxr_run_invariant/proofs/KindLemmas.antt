@@ -9,7 +9,7 @@ use Rattle.lxr_graph.specs.History.{Item, Call, Pause}
 use Rattle.lxr_model.specs.Belongs.{asks_for_pause, has_asked}
 use Rattle.lxr_model.specs.Kinds.{IsRunning, MayCollect, MayStand, MustCollect, NeedsNoTrace, OnlyNewsSincePause, collect_called, ends}
 use Rattle.lxr_model.specs.Moments.{Moment, Trace}
-use Rattle.lxr_model.specs.Terms.{Terms, CollectsForWaiting, OnlyPlain}
+use Rattle.lxr_model.specs.Terms.{Terms}
 use Rattle.lxr_run_pause.specs.declared.Ask.{Ask}
 use Rattle.lxr_run_pause.specs.declared.Ask.TheVariants as ask
 use Rattle.lxr_run_pause.specs.declared.Pace.{Pace}
@@ -66,16 +66,12 @@ kind_collects ask.Ordinary pace k (Some t) traced = (λ e. absurd (along (traced
     along true e = cc
     along false e = cc
 
-module _ (terms : Terms) (h : List Item) (m : Moment) (k : ℕ) (pace : Pace) (traced : Bool) (kinds : terms.kinds ≡ CollectsForWaiting) (trace : pace.trace ≡ terms.trace) (within : pace.within ≡ terms.within) where
-  -- not every pause is plain
-  others : terms.kinds ≢ OnlyPlain
-  others e = let both : CollectsForWaiting ≡ OnlyPlain = sym kinds ∙ e in cc
-
+module _ (terms : Terms) (h : List Item) (m : Moment) (k : ℕ) (pace : Pace) (traced : Bool) (trace : pace.trace ≡ terms.trace) (within : pace.within ≡ terms.within) where
   module _ (must_not : ¬ MustCollect terms h) where
     -- where no trace runs
     apart : m.trace ≡ None → (b : Bool) → nat_eq (k % pace.trace) 0 ≡ b → MayStand terms h m k (if b then kind.Begin else kind.Plain)
-    apart none true e = (others, must_not, none, let multiple : k % pace.trace ≡ 0 = grind (arith, nat_tests) in ap (λ n. k % n) (sym trace) ∙ multiple)
-    apart none false e = inr (
+    apart none true e = (must_not, none, let multiple : k % pace.trace ≡ 0 = grind (arith, nat_tests) in ap (λ n. k % n) (sym trace) ∙ multiple)
+    apart none false e = (
       must_not,
       subst (NeedsNoTrace terms k) (sym none)
           (λ multiple. let same : k % pace.trace ≡ 0 = ap (λ n. k % n) trace ∙ multiple in let is : nat_eq (k % pace.trace) 0 ≡ true = eq-eqb (k % pace.trace) 0 same in absurd (let both : true ≡ false = sym is ∙ e in cc)),
@@ -83,8 +79,8 @@ module _ (terms : Terms) (h : List Item) (m : Moment) (k : ℕ) (pace : Pace) (t
 
     -- where one runs
     along : (t : Trace) → m.trace ≡ Some t → (b : Bool) → (traced || nat_le (t.began + pace.within) k) ≡ b → MayStand terms h m k (if b then kind.End t.began else kind.Plain)
-    along t runs true e = (others, must_not, subst (IsRunning t.began) (sym runs) refl)
-    along t runs false e = inr (
+    along t runs true e = (must_not, subst (IsRunning t.began) (sym runs) refl)
+    along t runs false e = (
       must_not,
       subst (NeedsNoTrace terms k) (sym runs) (let late : nat_le (t.began + pace.within) k ≡ false = behind traced (nat_le (t.began + pace.within) k) e in let early : k < t.began + pace.within = grind (arith, nat_tests) in omega arith),
     )
@@ -95,7 +91,7 @@ module _ (terms : Terms) (h : List Item) (m : Moment) (k : ℕ) (pace : Pace) (t
 
   -- a pause of the kind that the rules decide may stand, if it is asked to collect exactly where it must, or for a `new` that waits
   pub kind_may_stand : (asked : Ask) → ((asked ≡ ask.Collect) ↔ MustCollect terms h) ⊎ ((asked ≡ ask.Collect) × OnlyNewsSincePause h) → MayStand terms h m k (kind_of asked pace k m.trace traced)
-  kind_may_stand ask.Collect (inl right) = subst (λ rule. MayCollect rule terms h) (sym kinds) (inl (right.0 refl))
-  kind_may_stand ask.Collect (inr waits) = subst (λ rule. MayCollect rule terms h) (sym kinds) (inr waits.1)
+  kind_may_stand ask.Collect (inl right) = inl (right.0 refl)
+  kind_may_stand ask.Collect (inr waits) = inr waits.1
   kind_may_stand ask.Ordinary (inl right) = ordinary (λ must. let e = right.1 must in cc) m.trace refl
   kind_may_stand ask.Ordinary (inr waits) = absurd (let e = waits.0 in cc)

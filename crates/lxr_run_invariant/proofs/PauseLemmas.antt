@@ -142,7 +142,7 @@ module _ (task : Task) (before after : Space) (written : Option (List ℕ)) (see
   stands_so =
       subst (λ k. MayStand (terms_of task) h g.moment report.number k) (sym pauses.kind.kind)
       (subst (λ n. MayStand (terms_of task) h g.moment n (kind_of asked (pace_of task.options) (g.moment.number + 1) g.moment.trace pauses.kind.traced)) (sym pauses.reports.1.number)
-      (kind_may_stand (terms_of task) h g.moment (g.moment.number + 1) (pace_of task.options) pauses.kind.traced refl refl refl asked right))
+      (kind_may_stand (terms_of task) h g.moment (g.moment.number + 1) (pace_of task.options) pauses.kind.traced refl refl asked right))
 
   -- it collects exactly where it is asked to
   collects : (report.kind ≡ kind.Collect) ↔ (asked ≡ ask.Collect)

@@ -12,7 +12,7 @@ use Rattle.lxr_text_stream.specs.Streams.{Appends, AppendsFront}
 use Rattle.lxr_text_stream.specs.declared.transfer.WriteError.{WriteError}
 use Rattle.lxr_text_stream.specs.declared.transfer.WriteError.TheVariants as error
 use Rattle.lxr_model.specs.Belongs.{HasCause, IsHistorySoFar, LastPauseWasEarly, Script, calls_since_pause, has_asked}
-use Rattle.lxr_model.specs.Full.{IsRightAfterPause}
+use Rattle.lxr_model.specs.Full.{IsRightAfterCollecting}
 use Rattle.lxr_model.specs.Kinds.{MustCollect, OnlyNewsSincePause, collect_called}
 use Rattle.lxr_model.specs.Legal.{KeepsPromise, OwesNoCall}
 use Rattle.lxr_model.specs.Terms.{Terms}
@@ -172,7 +172,7 @@ IsPaused task space written seen h asked = (report : PauseReport) × (g : Abstra
 
 -- a collecting pause stands before, and nothing but refusals behind it
 abbrev pub IsCollectedSince : List Item → Type 0
-IsCollectedSince h = IsRightAfterPause (λ report. report.kind ≡ kind.Collect) h
+IsCollectedSince h = IsRightAfterCollecting h
 
 -- so many pauses had been made when waiting `new`s began to be answered, by mutators that were `before`: since then one pause at most was made
 -- for each `new` that was answered, and so many more

@@ -5,7 +5,7 @@ use Rattle.std.proofs.lemmas.List.{length-map}
 use Rattle.std.proofs.lemmas.Option.{slice_get-get_or, slice_get_within}
 use Rattle.lxr_layout.specs.declared.Place.{Place}
 use Rattle.lxr_layout.specs.declared.limits.Limits.{Limits}
-use Rattle.lxr_layout.specs.Spaces.{region_begin}
+use Rattle.lxr_layout.specs.Spaces.{all_regions, region_begin}
 use Rattle.lxr_graph.specs.History.{Item}
 use Rattle.lxr_image.specs.declared.space.Space.{Space}
 use Rattle.lxr_invariant.specs.AbstractState.{AbstractState}
@@ -77,7 +77,7 @@ started_rest places before after have i x at =
     some_same a b e = cc
 
 -- a space has words
-words_stand : (l : Limits) (n : ℕ) → n ≡ region_begin l 15 → 0 < n
+words_stand : (l : Limits) (n : ℕ) → n ≡ region_begin l all_regions → 0 < n
 words_stand l n is = omega arith
 
 -- ---- an epoch of a run

@@ -6,7 +6,7 @@ use Rattle.std.proofs.lemmas.Bool.{false_from_ne_true, or_cases}
 use Rattle.std.proofs.lemmas.Bool.Decides.{nat_tests}
 use Rattle.std.proofs.lemmas.List.{length-map}
 use Rattle.std.proofs.lemmas.Map.Steps.{length-le_from_distinct_below}
-use Rattle.lxr_layout.specs.declared.TheConstants.{GRANULES_IN_BLOCK}
+use Rattle.lxr_layout.specs.declared.TheConstants.{GRANULES_IN_BLOCK, MOST_BLOCKS, MOST_GRANULES}
 use Rattle.lxr_layout.specs.declared.Name.{Name}
 use Rattle.lxr_graph.specs.Distinct.{IsDistinct}
 use Rattle.lxr_graph.specs.Names.{AreInOrder, has, union}
@@ -120,7 +120,7 @@ names_few terms h m report t blocks at legal is (parts, reports) image =
 -- ---- totals
 
 -- one report more keeps totals few
-pub totals_few : (totals : Totals) (pauses : ℕ) (report : PauseReport) (blocks : ℕ) → AreFew totals pauses → NamesFew report (GRANULES_IN_BLOCK * blocks) → blocks ≤ 1024 → AreFew (with_report totals report) (pauses + 1)
+pub totals_few : (totals : Totals) (pauses : ℕ) (report : PauseReport) (blocks : ℕ) → AreFew totals pauses → NamesFew report (GRANULES_IN_BLOCK * blocks) → blocks ≤ MOST_BLOCKS → AreFew (with_report totals report) (pauses + 1)
 totals_few totals pauses report blocks few names most = record {
   promoted = more totals.promoted (length report.promoted) few.promoted names.promoted;
   dead = more totals.dead (length report.dead) few.dead names.dead;
@@ -128,11 +128,11 @@ totals_few totals pauses report blocks few names most = record {
   stuck = more totals.stuck (length report.stuck) few.stuck names.stuck;
 }
   where
-    more : (total named : ℕ) → total ≤ 2 ^ 22 * pauses → named ≤ GRANULES_IN_BLOCK * blocks → total + named ≤ 2 ^ 22 * (pauses + 1)
+    more : (total named : ℕ) → total ≤ MOST_GRANULES * pauses → named ≤ GRANULES_IN_BLOCK * blocks → total + named ≤ MOST_GRANULES * (pauses + 1)
     more total named so_far own = omega arith
 
 -- so they fit
-pub totals_fit : (total pauses : ℕ) → total ≤ 2 ^ 22 * pauses → pauses < 2 ^ 32 → total < 2 ^ 64
+pub totals_fit : (total pauses : ℕ) → total ≤ MOST_GRANULES * pauses → pauses < 2 ^ 32 → total < 2 ^ 64
 totals_fit total pauses few fits = omega arith
 
 -- so are the totals behind a pause that is due

@@ -265,7 +265,7 @@ run_fits options script ranges is =
     let many = length-map script (λ (x : Roomy Op). x.items) in
     let least = is.least in
     let greatest = is.greatest in
-    record { blocks = ranges.blocks; threads = (omega arith, omega arith); log = ranges.log; remember = ranges.remember }
+    record { blocks = (ranges.blocks.0, let few = ranges.blocks.1 in omega (arith, few)); threads = (omega arith, omega arith); log = ranges.log; remember = ranges.remember }
 
 -- nothing is reported yet
 none_told : (space : Space) → AreTotals no_totals space []

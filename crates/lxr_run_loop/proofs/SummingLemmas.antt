@@ -16,7 +16,7 @@ use Rattle.lxr_graph.specs.Names.{union}
 use Rattle.lxr_image.specs.declared.space.Space.{Space}
 use Rattle.lxr_image.specs.declared.space.Tally.{Tally}
 use Rattle.lxr_model.specs.Belongs.{Script}
-use Rattle.lxr_model.specs.Full.{IsRightAfterPause}
+use Rattle.lxr_model.specs.Full.{IsRightAfterCollecting}
 use Rattle.lxr_model.specs.Kinds.{MayStand, ends}
 use Rattle.lxr_model.specs.Moments.{moment, unreclaimed_after}
 use Rattle.lxr_model.specs.Reports.{AreCounts, count_entry, is_draining}
@@ -100,17 +100,16 @@ all_ended options script (Call t o r ∷ h) whole = absurd whole.belongs.last
 all_ended options script (Pause report ∷ h) whole = whole.belongs.last.0
 
 -- so the last pause collects
-pub last_collects : (options : Options) (script : Script) (h : List Item) → IsHistoryOf options script h → IsRightAfterPause (λ report. report.kind ≡ kind.Collect) h
+pub last_collects : (options : Options) (script : Script) (h : List Item) → IsHistoryOf options script h → IsRightAfterCollecting h
 last_collects options script [] whole = absurd whole.belongs.last
 last_collects options script (Call t o r ∷ h) whole = absurd whole.belongs.last
 last_collects options script (Pause report ∷ h) whole = must report.kind whole.legal.0.2.stands
   where
     must : (k : Kind) → MayStand (script_terms options script) h (moment (length script) h) report.number k → k ≡ kind.Collect
     must kind.Collect stands = refl
-    must (kind.End j) stands = absurd (stands.1 (inr whole.belongs.last.0))
-    must kind.Begin stands = absurd (stands.1 (inr whole.belongs.last.0))
-    must kind.Plain (inl only) = absurd (cc)
-    must kind.Plain (inr late) = absurd (late.0 (inr whole.belongs.last.0))
+    must (kind.End j) stands = absurd (stands.0 (inr whole.belongs.last.0))
+    must kind.Begin stands = absurd (stands.0 (inr whole.belongs.last.0))
+    must kind.Plain stands = absurd (stands.0 (inr whole.belongs.last.0))
 
 -- and its report has a count for each name that is left
 counts_all : (options : Options) (script : Script) (h : List Item) → IsHistoryOf options script h → length (last_report h).counts ≡ length (moment (length script) h).unreclaimed

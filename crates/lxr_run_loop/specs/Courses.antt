@@ -1,5 +1,6 @@
 -- What a run carries from round to round, and what it is of a history.
 use Rattle.std.specs.Prelude.{◌≡◌, ℕ, ◌*◌, ◌^◌, ◌≤◌, List}
+use Rattle.lxr_layout.specs.declared.TheConstants.{MOST_GRANULES}
 use Rattle.lxr_graph.specs.History.{Item}
 use Rattle.lxr_image.specs.declared.space.Space.{Space}
 use Rattle.lxr_words.specs.declared.Options.{Options}
@@ -11,12 +12,12 @@ use Rattle.lxr_run_loop.specs.declared.course.Course.{Course}
 abbrev pub opening_course : Options → Course
 opening_course options = record { generator = options.replay; totals = no_totals }
 
--- no list of a report has more than 2^22 names, so the totals of so many pauses are far from the ends of their types
+-- no list of a report has more names than the largest heap has granules, so the totals of so many pauses are far from the ends of their types
 pub record AreFew (totals : Totals) (pauses : ℕ) : Type 0 where
-  pub promoted : totals.promoted ≤ 2 ^ 22 * pauses
-  pub dead : totals.dead ≤ 2 ^ 22 * pauses
-  pub swept : totals.swept ≤ 2 ^ 22 * pauses
-  pub stuck : totals.stuck ≤ 2 ^ 22 * pauses
+  pub promoted : totals.promoted ≤ MOST_GRANULES * pauses
+  pub dead : totals.dead ≤ MOST_GRANULES * pauses
+  pub swept : totals.swept ≤ MOST_GRANULES * pauses
+  pub stuck : totals.stuck ≤ MOST_GRANULES * pauses
 
 -- they are those of a history that led to this space
 pub record AreTotals (totals : Totals) (space : Space) (h : List Item) : Type 0 where

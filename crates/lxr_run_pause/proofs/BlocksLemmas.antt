@@ -2,6 +2,7 @@
 use Rattle.std.proofs.Common.{◌≡◌, ◌≢◌, ℕ, zero, suc, ◌+◌, ◌/◌, ◌<◌, ◌≤◌, refl, sym, ap, subst, ◌∙◌, inl, inr, arith, cond, true, false}
 use Rattle.std.specs.Prelude.{Option, Some, None}
 use Rattle.lxr_layout.specs.declared.TheConstants.{REMEMBERED_CURSOR, TRACING_WORD}
+use Rattle.lxr_layout.specs.Spaces.{most_chosen}
 use Rattle.lxr_graph.specs.declared.report.Kind.{Kind}
 use Rattle.lxr_graph.specs.declared.report.Kind.TheVariants as kind
 use Rattle.lxr_image.specs.Tables.{Tables, changed}
@@ -46,8 +47,8 @@ pub chooses_swept : (k : Kind) (t u : Tables) (blocks : ℕ) → ChoosesBlocks k
 chooses_swept kind.Plain t u blocks is = λ b. ((λ c. (is b).0 (was_chosen u blocks b c)), (λ c. stays_chosen u blocks b ((is b).1 c)))
 chooses_swept kind.Begin t u blocks is = λ b within.
     let same = sparse_same u (with_states_by_lines u blocks).states u.cursors b in (
-      λ c. let a = (is b within).0 (was_chosen u blocks b c) in (a.0, subst (λ n. n < blocks / 8) (sym same) a.1),
-      λ a. stays_chosen u blocks b ((is b within).1 (a.0, subst (λ n. n < blocks / 8) same a.1)),
+      λ c. let a = (is b within).0 (was_chosen u blocks b c) in (a.0, subst (λ n. n < most_chosen blocks) (sym same) a.1),
+      λ a. stays_chosen u blocks b ((is b within).1 (a.0, subst (λ n. n < most_chosen blocks) same a.1)),
     )
 chooses_swept (kind.End j) t u blocks is = as_many_chosen u blocks ∙ is
 chooses_swept kind.Collect t u blocks is = as_many_chosen u blocks ∙ is
@@ -101,8 +102,8 @@ module _ (t : Tables) (blocks : ℕ) where
     begun_chosen before b within =
         let exactly = are_chosen.exactly b within in
         let same : sparse_before begun_anew b ≡ sparse_before (with_states_by_lines t blocks) b = sparse_same (with_states_by_lines t blocks) begun_anew.states begun_anew.cursors b in (
-          λ c. let a = exactly.0 c in (a.0, subst (λ n. n < blocks / 8) (sym same) a.1),
-          λ a. exactly.1 (a.0, subst (λ n. n < blocks / 8) same a.1),
+          λ c. let a = exactly.0 c in (a.0, subst (λ n. n < most_chosen blocks) (sym same) a.1),
+          λ a. exactly.1 (a.0, subst (λ n. n < most_chosen blocks) same a.1),
         )
 
 -- ---- blocks are released
@@ -140,7 +141,7 @@ module _ (t : Tables) (blocks : ℕ) where
   released_blocks trace is = record {
     world = ap state_of (are_released.others 0 (λ c. let e = sym is.world ∙ c in cc)) ∙ is.world;
     others = λ b from within. released_world b within (is.others b from within);
-    few = subst (λ n. n ≤ blocks / 8) (sym are_released.none) (omega arith);
+    few = subst (λ n. n ≤ most_chosen blocks) (sym are_released.none) (omega arith);
     chosen = needs_none released blocks trace are_released.none;
     tracing = is.tracing;
   }

@@ -86,6 +86,7 @@ module _ (m : Moment) (number : ℕ) (stuck : List Name) (trace : Option Trace) 
       grows = f.grows;
       objects = f.objects;
       young = f.young;
+      unreached = f.unreached;
       unwritten = f.unwritten;
       written_once = f.written_once;
       written = f.written;

@@ -4,6 +4,7 @@ use Rattle.std.specs.Prelude.{Option, ◌==◌}
 use Rattle.std.proofs.lemmas.Bool.Decides.{leb_tells}
 use Rattle.lxr_layout.specs.declared.Name.{Name}
 use Rattle.lxr_layout.specs.declared.TheConstants.{LINES_IN_BLOCK}
+use Rattle.lxr_layout.specs.Spaces.{most_chosen}
 use Rattle.lxr_graph.specs.Names.{has}
 use Rattle.lxr_graph.specs.State.{Graph}
 use Rattle.lxr_image.specs.Tables.{Tables}
@@ -102,7 +103,7 @@ module _ (t : Tables) (blocks : ℕ) where
   swept_blocks trace h = record {
     world = are_swept.world 0 h.world;
     others = λ b from within. world_same b within (h.others b from within);
-    few = subst (λ n. n ≤ blocks / 8) (sym as_many_chosen) h.few;
+    few = subst (λ n. n ≤ most_chosen blocks) (sym as_many_chosen) h.few;
     chosen = need_same t swept blocks trace as_many_chosen h.chosen;
     tracing = h.tracing;
   }

@@ -73,7 +73,7 @@ module _ (l : Limits) (t : Tables) (states cursors : ℕ → ℕ) (entries : Lis
       fields = λ n v i k scan e bit c. remembers n i (is.remembered.fields n v i k scan e bit (chosen (granule_of (g.at v) / GRANULES_IN_BLOCK) c));
       entries = λ k drawn within.
           let r = is.remembered.entries k (subst (λ z. k < z) cursor drawn) within in
-          (r.0, r.1, r.2, record { is = r.3.is; entry = r.3.entry; in_heap = r.3.in_heap });
+          (r.0, r.1, r.2, record { is = r.3.is; small = r.3.small; entry = r.3.entry; in_heap = r.3.in_heap });
       bound =
           let bound = is.remembered.bound in
           let fewer = fewer_later t u m then g.at g.at is.snapshot (λ n h unmarked. (h, unmarked, refl)) in

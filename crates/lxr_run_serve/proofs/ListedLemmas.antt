@@ -3,7 +3,7 @@ use Rattle.std.proofs.Common.{◌≡◌, ◌≢◌, ℕ, ◌+◌, ◌-◌, ◌*�
 use Rattle.std.proofs.lemmas.Bool.Decides.{eqb_tells, nat_tests}
 use Rattle.std.proofs.lemmas.List.{length-map}
 use Rattle.std.specs.Prelude.{◌&&◌, map, nat_le, nat_lt, slice_index, if◌then◌else◌}
-use Rattle.lxr_layout.specs.declared.TheConstants.{FREE_BLOCK_COUNT, FREE_BLOCK_CURSOR, LINES_IN_BLOCK, RUN_COUNT, RUN_CURSOR}
+use Rattle.lxr_layout.specs.declared.TheConstants.{FREE_BLOCK_COUNT, FREE_BLOCK_CURSOR, LINES_IN_BLOCK, MOST_BLOCKS, RUN_COUNT, RUN_CURSOR}
 use Rattle.lxr_layout.specs.declared.limits.Limits.{Limits}
 use Rattle.lxr_layout.specs.declared.runs.Run.{Run}
 use Rattle.lxr_layout.specs.Runs.{word_of_run}
@@ -51,7 +51,7 @@ listed_by s is rest = record {
 -- ---- words of runs
 
 -- a run is told by its word
-pub same_run : (t : Tables) (blocks : ℕ) (q r : Run) → blocks ≤ 1024 → IsOpenRun t blocks q → IsOpenRun t blocks r → word_of_run q ≡ word_of_run r → q ≡ r
+pub same_run : (t : Tables) (blocks : ℕ) (q r : Run) → blocks ≤ MOST_BLOCKS → IsOpenRun t blocks q → IsOpenRun t blocks r → word_of_run q ≡ word_of_run r → q ≡ r
 same_run t blocks q r few is too same =
     let a = is.run.within in let b = too.run.within in
     let block : q.block ≡ r.block = omega arith in
@@ -75,7 +75,7 @@ written_read f xs k within =
 unlisted : (s : BlockState) → lists_runs s ≡ true → s ≢ Free
 unlisted s lists is = let k : lists_runs Free ≡ true = ap lists_runs (sym is) ∙ lists in cc
 
-module _ (t : Tables) (blocks : ℕ) (few : blocks ≤ 1024) (states : HasStates t blocks) where
+module _ (t : Tables) (blocks : ℕ) (few : blocks ≤ MOST_BLOCKS) (states : HasStates t blocks) where
   abbrev all_runs : List Run
   all_runs = all_of (runs_of t) blocks
 

@@ -6,6 +6,7 @@ use Rattle.std.proofs.Math.ListN.{length-set}
 use Rattle.std.proofs.lemmas.List.Elements.{All-set}
 use Rattle.std.proofs.lemmas.List.Sums.{sum_by_push}
 use Rattle.std.proofs.lemmas.List.{length_push}
+use Rattle.lxr_layout.specs.declared.TheConstants.{MOST_GRANULES}
 use Rattle.lxr_layout.specs.declared.Name.{Name}
 use Rattle.lxr_layout.specs.declared.Place.{Place}
 use Rattle.lxr_layout.specs.declared.Shape.{Shape}
@@ -99,7 +100,7 @@ pub record AnswersWith (m m' : Mutating) (r : Reply) : Type 0 where
   pub mutator : m' ≡ answered (with_registers m registers) r
 
 -- the place that a register may hold
-held_so : (p : Place) (b : Bool) → nat_le p.0 (2 ^ 21) ≡ b → IsHeld (if b then p else nil)
+held_so : (p : Place) (b : Bool) → nat_le p.0 (MOST_GRANULES) ≡ b → IsHeld (if b then p else nil)
 held_so p true e = grind (arith, e)
 held_so p false e = omega arith
 
@@ -111,7 +112,7 @@ answers_with m m' r is (inr (place, e, now)) =
     record {
       registers = slice_set m.registers dest (held_place place);
       sixteen = length-set m.registers dest (held_place place) ∙ is.registers;
-      held = All-set IsHeld m.registers dest (held_place place) (held_so place (nat_le place.0 (2 ^ 21)) refl) is.held;
+      held = All-set IsHeld m.registers dest (held_place place) (held_so place (nat_le place.0 (MOST_GRANULES)) refl) is.held;
       mutator = now ∙ ap (answered (with_registers m (slice_set m.registers dest (held_place place)))) (sym e);
     }
 

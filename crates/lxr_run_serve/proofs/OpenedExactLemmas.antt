@@ -5,7 +5,7 @@ use Rattle.std.proofs.Math.Seq.{get_or-append_seam}
 use Rattle.std.proofs.lemmas.Bool.Decides.{eqb_tells, leb_tells, nat_tests}
 use Rattle.std.proofs.lemmas.List.{append-nil, get_or_append_left}
 use Rattle.std.specs.Prelude.{Bool, ◌&&◌, map, nat_le, not, nat_lt, slice_index, if◌then◌else◌}
-use Rattle.lxr_layout.specs.declared.TheConstants.{FREE_BLOCK_COUNT, FREE_BLOCK_CURSOR, LINES_IN_BLOCK, RUN_COUNT, RUN_CURSOR}
+use Rattle.lxr_layout.specs.declared.TheConstants.{FREE_BLOCK_COUNT, FREE_BLOCK_CURSOR, LINES_IN_BLOCK, MOST_BLOCKS, RUN_COUNT, RUN_CURSOR}
 use Rattle.lxr_layout.specs.declared.limits.Limits.{Limits}
 use Rattle.lxr_layout.specs.Runs.{word_of_run}
 use Rattle.lxr_layout.specs.Spaces.{AreLimits}
@@ -92,7 +92,7 @@ world_runs l = ap (map word_of_run) (one_run (free_in (opened_tables l) 0) refl 
 
 -- ---- the tables
 
-module _ (l : Limits) (some : 1 ≤ l.blocks) (few : l.blocks ≤ 1024) where
+module _ (l : Limits) (some : 1 ≤ l.blocks) (few : l.blocks ≤ MOST_BLOCKS) where
   abbrev t : Tables
   t = opened_tables l
 

@@ -2,7 +2,7 @@
 use Rattle.std.proofs.Common.{lit≤, ◌≡◌, ℕ, zero, suc, ◌+◌, ◌-◌, ◌*◌, ◌<◌, ◌≤◌, refl, sym, ap, subst, ◌∙◌, arith, true}
 use Rattle.std.proofs.lemmas.Bool.Decides.{nat_tests}
 use Rattle.std.specs.Prelude.{nat_lt, if◌then◌else◌}
-use Rattle.lxr_layout.specs.declared.TheConstants.{FREE_BLOCK_COUNT, GRANULES_IN_LINE, LINES_IN_BLOCK}
+use Rattle.lxr_layout.specs.declared.TheConstants.{FREE_BLOCK_COUNT, GRANULES_IN_LINE, LINES_IN_BLOCK, MOST_BLOCKS}
 use Rattle.lxr_layout.specs.declared.limits.Limits.{Limits}
 use Rattle.lxr_layout.specs.declared.runs.Run.{Run}
 use Rattle.lxr_layout.specs.Spaces.{AreLimits}
@@ -24,7 +24,7 @@ free_line l b i behind = (free_line_is_told (opened_tables l) (LINES_IN_BLOCK * 
   uncounted = λ k small. uncounted_at l (GRANULES_IN_LINE * (LINES_IN_BLOCK * b + i) + k) (λ e. omega arith) (λ e. omega arith) (λ e. omega arith);
 })
 
-module _ (l : Limits) (some : 1 ≤ l.blocks) (few : l.blocks ≤ 1024) where
+module _ (l : Limits) (some : 1 ≤ l.blocks) (few : l.blocks ≤ MOST_BLOCKS) where
   first_open : IsOpenRun (opened_tables l) l.blocks first_run
   first_open = record {
     run = record { block = omega arith; within = lit≤ tt; free = λ i after before. free_line l 0 i (omega arith) };

@@ -3,7 +3,7 @@ use Rattle.std.proofs.Common.{◌≡◌, ℕ, ◌+◌, ◌*◌, ◌≤◌, sym, 
 use Rattle.std.proofs.lemmas.List.{length_push}
 use Rattle.lxr_layout.specs.declared.TheConstants.{GRANULES_IN_BLOCK}
 use Rattle.lxr_layout.specs.declared.limits.Limits.{Limits}
-use Rattle.lxr_layout.specs.Spaces.{region_begin}
+use Rattle.lxr_layout.specs.Spaces.{all_regions, region_begin}
 use Rattle.lxr_base.specs.Roomy.{Roomy, pushed}
 use Rattle.lxr_graph.specs.declared.report.Report.{Report}
 use Rattle.lxr_image.specs.declared.space.Space.{Space}
@@ -32,15 +32,15 @@ room_for_report to from granules room fits = record {
   counts = omega (arith, room.counts, fits.counts);
 }
 
-words_of_space : (s : Space) → IsSpace s → length s.words ≡ region_begin s.limits 15
+words_of_space : (s : Space) → IsSpace s → length s.words ≡ region_begin s.limits all_regions
 unfolding tables_in
 words_of_space s is = is.size
 
 -- what an opened space of these limits has room for fits them
-roomy_fits : (s opened : Space) (l : Limits) → length s.words ≡ region_begin l 15 → HasRoom opened → opened.limits ≡ l → HasRoomFor opened s → FitsRoom s l
+roomy_fits : (s opened : Space) (l : Limits) → length s.words ≡ region_begin l all_regions → HasRoom opened → opened.limits ≡ l → HasRoomFor opened s → FitsRoom s l
 roomy_fits s opened l words room same within =
     let fits : FitsRoom s opened.limits = record {
-      words = words ∙ ap (λ k. region_begin k 15) (sym same);
+      words = words ∙ ap (λ k. region_begin k all_regions) (sym same);
       registers = omega (arith, room.registers, within.registers);
       deferred = omega (arith, room.deferred, within.deferred);
       logged = omega (arith, room.logged, within.logged);
@@ -65,7 +65,7 @@ spare_has_room l to from is fits =
     }
 
 pub spare_has_words : (l : Limits) (to from : Space) → IsSpare l to → FitsRoom from l → length to.words ≡ length from.words
-spare_has_words l to from is fits = words_of_space to is.space ∙ ap (λ k. region_begin k 15) is.limits ∙ sym fits.words
+spare_has_words l to from is fits = words_of_space to is.space ∙ ap (λ k. region_begin k all_regions) is.limits ∙ sym fits.words
 
 -- ---- lists
 

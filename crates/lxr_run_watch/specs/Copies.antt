@@ -2,7 +2,7 @@
 use Rattle.std.specs.Prelude.{◌≡◌, ℕ, ◌-◌, ◌*◌, ◌≤◌, Bool, IsTrue, Option, Some, None, List, [], ◌∷◌, ◌++◌, length, if◌then◌else◌}
 use Rattle.lxr_layout.specs.declared.TheConstants.{GRANULES_IN_BLOCK}
 use Rattle.lxr_layout.specs.declared.limits.Limits.{Limits}
-use Rattle.lxr_layout.specs.Spaces.{region_begin}
+use Rattle.lxr_layout.specs.Spaces.{all_regions, region_begin}
 use Rattle.lxr_graph.specs.declared.report.Report.{Report}
 use Rattle.lxr_image.specs.declared.space.Space.{Space}
 use Rattle.lxr_image.specs.Opened.{HasRoom}
@@ -20,7 +20,7 @@ pub record FitsReportRoom (r : Report) (granules : ℕ) : Type 0 where
 -- a space fits the room of one that is opened with these limits: it has as many words, and no list has more items
 -- than that one has room for
 pub record FitsRoom (s : Space) (l : Limits) : Type 0 where
-  pub words : length s.words ≡ region_begin l 15
+  pub words : length s.words ≡ region_begin l all_regions
   pub registers : length s.registers.items ≤ 16 * l.threads
   pub deferred : length s.deferred.items ≤ 16 * l.threads
   pub logged : length s.logged.items ≤ l.threads * l.log

@@ -23,6 +23,7 @@ pub record Sight : Type 0 where
   pub rest_next : ℕ
   pub rest_end : ℕ
 
+-- what is seen of a space
 abbrev pub sight_of : Space → Sight
 sight_of s = record {
   words = s.words;

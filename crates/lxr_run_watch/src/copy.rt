@@ -1,5 +1,6 @@
 //! Copies of spaces into room that is there.
 ghost use Rattle.std.specs.Prelude.{◌≡◌, ◌*◌, ◌^◌, ◌≤◌, ◌↔◌, IsTrue, length};
+ghost use Rattle.lxr_layout.specs.declared.TheConstants.{MOST_GRANULES};
 ghost use Rattle.lxr_graph.specs.History.{report_of};
 ghost use Rattle.lxr_layout.specs.Spaces.{AreLimits};
 ghost use Rattle.lxr_run_watch.specs.Copies.{FitsReportRoom, FitsRoom, HasReportRoomFor, HasRoomFor};
@@ -13,7 +14,7 @@ use lxr_tables::{PlainWords, Words};
 
 /// Whether a report fits the room of that of an opened space of so many granules.
 fn report_fits(report: &Report, granules: usize) -> bool
-    requires { granules ≤ 2 ^ 21 }
+    requires { granules ≤ MOST_GRANULES }
     ensures { IsTrue result ↔ FitsReportRoom report.now granules }
 {
     report.promoted.len() <= granules

@@ -4,11 +4,12 @@ use Rattle.std.specs.Prelude.{Option, Some, map, not, reverse, slice_get}
 use Rattle.std.proofs.lemmas.List.{length-map, length-reverse, reverse-append}
 use Rattle.std.proofs.lemmas.Bool.{and_from, and_parts, not-true, not_from_false, or_cases, or_left, or_right}
 use Rattle.std.proofs.lemmas.Bool.Decides.{leb_tells}
-use Rattle.lxr_layout.specs.declared.TheConstants.{GRANULES_IN_BLOCK}
+use Rattle.lxr_layout.specs.declared.TheConstants.{GRANULES_IN_BLOCK, MOST_GRANULES}
 use Rattle.lxr_layout.specs.declared.Name.{Name}
 use Rattle.lxr_layout.specs.declared.Place.{Place}
 use Rattle.lxr_layout.specs.declared.Shape.{Shape}
 use Rattle.lxr_layout.specs.Places.{first_word}
+use Rattle.lxr_image.proofs.SpaceLemmas.{space_alike}
 use Rattle.lxr_base.specs.Roomy.{Roomy, pushed}
 use Rattle.lxr_graph.specs.Names.{has, same_name, without}
 use Rattle.lxr_graph.specs.State.{Object, object_at, refs_of, shape_of}
@@ -37,7 +38,6 @@ use Rattle.lxr_pause_decrements.specs.Cascade.{Ground, TablesStay}
 use Rattle.lxr_pause_decrements.specs.Wipe.{LosesBits}
 use Rattle.lxr_pause_decrements.proofs.CascadeLemmas.{BeginsAt, IsPlaced, append_group, bare, bits_fall, count_bare, granules_differ, has_reversed, in_heap, marks_fall, placed, places_more, written_other}
 use Rattle.lxr_pause_decrements.proofs.LeftLemmas.{still_left}
-use Rattle.lxr_pause_decrements.proofs.SpaceLemmas.{limits_space}
 use Rattle.lxr_pause_decrements.proofs.WipeLemmas.{loses_more, loses_none}
 use Rattle.lxr_sweep_unmarked.specs.Clearing.{ClearingStage, IsClearing, TakesOut, UnmarkedAt, cleared_too, clearing, extended, with_swept, without_any}
 use Rattle.lxr_sweep_unmarked.specs.Sweeping.{CanSweep}
@@ -132,7 +132,7 @@ module _ (s : Space) (granule : ℕ) (st : ClearingStage) (h : UnmarkedAt s gran
       (placed now.heap st.was.limits.blocks st.moment st.at (clearing_ground s st h.stage) now refl unmarked_name.0 unmarked_name.1.member p.0 (stands ∙ unmarked_name.1.place))
 
   -- it lies in the heap
-  pub unmarked_fits : (granule < GRANULES_IN_BLOCK * st.was.limits.blocks) × (granule < 2 ^ 21)
+  pub unmarked_fits : (granule < GRANULES_IN_BLOCK * st.was.limits.blocks) × (granule < MOST_GRANULES)
   unmarked_fits =
       let inside = in_heap now.heap st.was.limits.blocks st.moment st.at (clearing_ground s st h.stage) unmarked_name.0 unmarked_name.1.member in
       let same = unmarked_name.1.granule in
@@ -236,7 +236,7 @@ module _ (a e : Space) (p : Place) (granule : ℕ) (st : ClearingStage) (h : Unm
   pub taken_out : IsClearing e (cleared_too st r)
   taken_out = record {
     can = h.stage.can;
-    space = limits_space a e (ap (λ z. z.limits) takes.rest) (ap (λ z. z.size) takes.tables) h.stage.space;
+    space = space_alike a e (ap (λ z. z.limits) takes.rest) (ap (λ z. z.size) takes.tables) h.stage.space;
     stay = taken_stay (tables_of st.was) t (tables_of e) p.0 (shape_of ro) h.stage.stay takes.tables;
     cursors = ap (λ z. z.cursors) takes.tables ∙ h.stage.cursors;
     dones = ap (λ z. z.dones) takes.tables ∙ h.stage.dones;

@@ -100,6 +100,7 @@ module _ (s : Space) (m : Moment) (at : Name → ℕ) (can : CanSweep s m at) (s
           grows = follows.grows;
           objects = λ n h. follows.objects n (still_in n h);
           young = follows.young;
+          unreached = λ n h. follows.unreached n (still_in n h);
           unwritten = λ n i h. follows.unwritten n i (still_in n h);
           written_once = follows.written_once;
           written = λ n i h. let w = follows.written n i h in (still_reachable n w.1, w.1, w.2);

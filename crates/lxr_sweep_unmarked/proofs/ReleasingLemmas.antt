@@ -3,7 +3,7 @@ use Rattle.std.proofs.Common.{◌≡◌, ℕ, zero, suc, ◌+◌, ◌-◌, ◌*�
 use Rattle.std.specs.Prelude.{Option, Some, None, map, slice_get}
 use Rattle.std.proofs.lemmas.Bool.{or_left, or_right}
 use Rattle.std.proofs.lemmas.List.{length-map}
-use Rattle.lxr_layout.specs.declared.TheConstants.{GRANULES_IN_BLOCK, WORDS_IN_BLOCK}
+use Rattle.lxr_layout.specs.declared.TheConstants.{GRANULES_IN_BLOCK, MOST_GRANULES, WORDS_IN_BLOCK}
 use Rattle.lxr_layout.specs.declared.Name.{Name}
 use Rattle.lxr_layout.specs.declared.Place.{Place}
 use Rattle.lxr_layout.specs.declared.Shape.{Shape}
@@ -82,7 +82,7 @@ module _ (s : Space) (p : Place) (i : ℕ) (st : ReleaseStage) (r : Name) (rest 
   in_r = is.stage.members r is.swept
 
   -- the word of the reference lies in the heap
-  pub left_place : (1 ≤ p.0) × (p.0 ≤ 2 ^ 21) × (2 * (p.0 - 1) + 1 + i < WORDS_IN_BLOCK * blocks) × (i < 1024)
+  pub left_place : (1 ≤ p.0) × (p.0 ≤ MOST_GRANULES) × (2 * (p.0 - 1) + 1 + i < WORDS_IN_BLOCK * blocks) × (i < 1024)
   left_place =
       let a = is.stage.ground.stands r in_r in
       let f = a.2.fits in
@@ -183,7 +183,7 @@ module _ (s : Space) (p : Place) (i : ℕ) (st : ReleaseStage) (r : Name) (rest 
 -- ---- one object
 
 module _ (s : Space) (p : Place) (st : ReleaseStage) (r : Name) (rest : Name → ℕ) (is : ObjectIsLeft s p.0 st r rest) where
-  pub object_place : (1 ≤ p.0) × (p.0 ≤ 2 ^ 21) × (p.0 ≤ GRANULES_IN_BLOCK * s.limits.blocks)
+  pub object_place : (1 ≤ p.0) × (p.0 ≤ MOST_GRANULES) × (p.0 ≤ GRANULES_IN_BLOCK * s.limits.blocks)
   object_place =
       let h = in_heap (tables_of s).heap s.limits.blocks st.moment st.at is.stage.ground r (is.stage.members r is.swept) in
       let e = is.stands in

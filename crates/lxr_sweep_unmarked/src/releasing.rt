@@ -1,5 +1,5 @@
 //! Lowering what swept objects referred to, and reclaiming what dies by it.
-ghost use Rattle.std.specs.Prelude.{◌≡◌, ℕ, ◌+◌, ◌*◌, ◌<◌, ◌≤◌, ◌↔◌, Some, IsTrue, length, slice_get};
+ghost use Rattle.std.specs.Prelude.{◌≡◌, ℕ, ◌+◌, ◌*◌, ◌<◌, ◌≤◌, ◌↔◌, IsTrue};
 ghost use Rattle.lxr_layout.specs.declared.TheConstants.{GRANULES_IN_BLOCK};
 ghost use Rattle.lxr_image.specs.Spaces.{IsSpace, tables_of};
 ghost use Rattle.lxr_image.specs.Reads.{granule_of};
@@ -44,17 +44,6 @@ fn release_swept(space: &mut Space, place: Place)
     }
 }
 
-/// The place of a number in the worklist.
-fn place_at(space: &Space, number: usize) -> Place
-    requires { number < length space.now.work.items }
-    ensures { slice_get space.now.work.items number ≡ Some result }
-{
-    match space.work.get(number) {
-        Some(place) => place,
-        None => unreachable!(),
-    }
-}
-
 /// Lowers what the swept objects in the worklist referred to, and reclaims what dies by it. Their places stay in the worklist.
 pub(crate) fn release_all_swept(space: &mut Space)
     requires { MayReleaseAll space.old }
@@ -63,7 +52,7 @@ pub(crate) fn release_all_swept(space: &mut Space)
 {
     let count = space.work.len();
     for number in 0..count {
-        let place = place_at(space, number);
+        let place = space.work.at(number);
         release_swept(space, place);
     }
     drain(space, count);

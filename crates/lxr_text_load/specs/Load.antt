@@ -5,6 +5,7 @@ use Rattle.lxr_graph.specs.declared.Op.{Op}
 use Rattle.lxr_graph.specs.declared.Op.TheVariants as op
 use Rattle.lxr_base.specs.Draws.{draw, step}
 
+-- the shape with so many references and data words
 abbrev pub shape : ℕ → ℕ → Shape
 shape refs values = record { refs = refs; values = values }
 

@@ -28,6 +28,7 @@ state_word World = codes "world"
 unfoldable pub block_line : ℕ → BlockState → ℕ → List ℕ
 block_line b state taken = line (codes "block" ∷ decimal b ∷ state_word state ∷ decimal taken ∷ [])
 
+-- the line of a block of these tables
 abbrev pub block_text : Tables → ℕ → List ℕ
 block_text t b = block_line b (state_in t b) (taken_count t b)
 
@@ -40,10 +41,11 @@ object_line place (Moved to) = []
 abbrev pub granule_text : Tables → ℕ → List ℕ
 granule_text t g = if t.starts g then object_line (g + 1) (header_of (t.heap (2 * g))) else []
 
--- the lines of the first so many blocks, and of the objects that begin at the first so many granules
+-- the lines of the first so many blocks
 abbrev pub blocks_text : Tables → ℕ → List ℕ
 blocks_text t blocks = joined (block_text t) blocks
 
+-- the lines of the objects that begin at the first so many granules
 abbrev pub objects_text : Tables → ℕ → List ℕ
 objects_text t granules = joined (granule_text t) granules
 

@@ -13,8 +13,8 @@ use Rattle.lxr_text_script.specs.Numbers.{number_of, register_of}
 abbrev pub Read : Type 0 → Type 0
 Read A = Result A ScriptFault
 
--- first the one, and where it has no fault, then the other
 infixl 10 ◌>>=◌
+-- first the one, and where it has no fault, then the other
 abbrev pub ◌>>=◌ : {A B : Type 0} → Read A → (A → Read B) → Read B
 (Ok x) >>= next = next x
 (Err f) >>= next = Err f

@@ -1,5 +1,6 @@
 //! Drawing: where a new object is placed, and how it is made there.
 ghost use Rattle.std.specs.Prelude.{◌≡◌, ◌+◌, ◌≤◌, ◌⊎◌, ◌<◌, ◌↔◌, false, length, IsTrue, Some, None, if◌then◌else◌};
+ghost use Rattle.lxr_layout.specs.declared.TheConstants.{MOST_BLOCKS};
 ghost use Rattle.lxr_layout.specs.Objects.{FitsShape};
 ghost use Rattle.lxr_alloc.specs.Spans.{FitsSpan, IsMedium, front_of, run_span, taken_from};
 ghost use Rattle.lxr_mutator.specs.Operating.{dest_of};
@@ -12,7 +13,7 @@ use crate::operating::dest_of;
 use crate::phases::{MutatorPhase, Stop};
 use lxr_alloc::Spans;
 use lxr_graph::Reply;
-use lxr_layout::{LINES_IN_BLOCK, Place, Run, Shape, lines_of, words_of};
+use lxr_layout::{LINES_IN_BLOCK, MOST_BLOCKS, Place, Run, Shape, lines_of, words_of};
 
 impl Mutator {
     /// Places a new object in its spans, or draws lines for it.
@@ -113,7 +114,7 @@ impl Mutator {
         requires { IsBusy self.old (MutatorPhase.Block number) }
         ensures { self.new ≡ next_in self.old (MutatorPhase.Block number) block }
     {
-        if block < 1024 {
+        if block < u64::from(MOST_BLOCKS) {
             self.place_in_block(block as u32);
         } else {
             self.reply(Reply::Bad);
@@ -125,7 +126,7 @@ impl Mutator {
     fn place_in_block(&mut self, block: u32)
         requires turn { rests_in self.old.phase ≡ false }
         requires needs { NeedsBlock self.old.spans (shape_now self.old) }
-        requires block { block < 1024 }
+        requires block { block < MOST_BLOCKS }
         ensures { self.new ≡ in_block self.old (shape_now self.old) block }
     {
         let shape = self.shape();
@@ -173,7 +174,7 @@ fn listed_run(word: u64) -> Option<Run>
     let block = word >> 16;
     let line = word >> 8 & 0xff;
     let lines = word & 0xff;
-    if block < 1024 && 1 <= lines && line + lines <= u64::from(LINES_IN_BLOCK) {
+    if block < u64::from(MOST_BLOCKS) && 1 <= lines && line + lines <= u64::from(LINES_IN_BLOCK) {
         Some(Run {
             block: block as u32,
             line: line as u8,

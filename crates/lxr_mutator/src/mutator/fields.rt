@@ -8,12 +8,12 @@ ghost use Rattle.lxr_mutator.specs.Mutating.{op_now, wipes_in};
 ghost use Rattle.lxr_mutator.specs.Steps.{after_in, data_word, is_header, lies_in_heap, name_told, next_in, reaching, shape_told};
 ghost use Rattle.lxr_mutator.specs.Mutators.{IsBusy, MayBeIn};
 
-use super::{LAST_PLACE, Mutator};
+use super::Mutator;
 use crate::operating::{dest_of, index_of, indexed_fields};
 use crate::phases::{MutatorPhase, Stop};
 use lxr_barrier::{StoreEnd, StoreMachine};
 use lxr_graph::{Op, Reply};
-use lxr_layout::{Header, Name, Place, Shape, unpack, word_of, words_of};
+use lxr_layout::{Header, MOST_GRANULES, Name, Place, Shape, unpack, word_of, words_of};
 
 impl Mutator {
     /// The header of the base was loaded: the operation goes on at a field of it, if it has one of this index.
@@ -85,7 +85,7 @@ impl Mutator {
         requires { IsBusy self.old (MutatorPhase.Reference base) }
         ensures { self.new ≡ next_in self.old (MutatorPhase.Reference base) reference }
     {
-        if reference > u64::from(LAST_PLACE) {
+        if reference > u64::from(MOST_GRANULES) {
             self.reply(Reply::Bad);
             return;
         }

@@ -32,11 +32,11 @@ has_start-requires-clause-granule c =
 pub returns-then-not-is_current : goal.returns-then-not-is_current
 returns-then-not-is_current c = λ m st before. one_entry_more c.args.space.now c.args.space.now m st c.args.number before before.evacuating (λ n i fixed. fixed) (λ n i tells. absurd (elim c.then-not-is_current.branch [
   | then-not-is_current-via-then-not-is_current w ↦
-      let current = field_current c.args.space.now m st before.evacuating c.args.number n i tells c.remembered_at-entry.result c.is_current.result c.remembered_at-entry.ensures c.is_current.ensures in
+      let current = field_current c.args.space.now m st before.evacuating c.args.number n i tells c.requires.3 c.requires.4 c.remembered_at-entry.result c.is_current.result c.remembered_at-entry.ensures c.is_current.ensures in
       let stale = w.if-not-is_current.true in
       cc
   | then-not-is_current-via-else-not-is_current+then-not-has_start w ↦
-      let parts = field_parts c.args.space.now m st before.evacuating c.args.number n i tells c.remembered_at-entry.result c.entry_of-index.result c.remembered_at-entry.ensures c.entry_of-index.ensures in
+      let parts = field_parts c.args.space.now m st before.evacuating c.args.number n i tells c.requires.3 c.requires.4 c.remembered_at-entry.result c.entry_of-index.result c.remembered_at-entry.ensures c.entry_of-index.ensures in
       let begun = field_begun c.args.space.now m st before.evacuating c.args.number n i tells c.entry_of-index.result.1.0 parts.0 before.uncleared in
       let none = sym w.has_start.ensures ∙ w.if-not-has_start.true in
       cc
@@ -77,7 +77,7 @@ returns-then-index-reference_slots c = λ m st before.
     let low = c.if-index-reference_slots.true in
     let fixes = c.fix_reference.ensures m st x.0 is holder (omega (arith, count, low)) in
     one_entry_more c.args.space.now c.fix_reference.new.space m st c.args.number before fixes.evacuating fixes.keeps (λ n i tells.
-    let parts = field_parts c.args.space.now m st is c.args.number n i tells c.remembered_at-entry.result c.entry_of-index.result c.remembered_at-entry.ensures c.entry_of-index.ensures in
+    let parts = field_parts c.args.space.now m st is c.args.number n i tells c.requires.3 c.requires.4 c.remembered_at-entry.result c.entry_of-index.result c.remembered_at-entry.ensures c.entry_of-index.ensures in
     let there = field_holder c.args.space.now m st is c.args.number n i tells c.entry_of-index.result.1.0 parts.0 in
     let here = holder_of c.args.space.now m st is n c.entry_of-index.result.1.0 c.present_place-holder.result.0 there (c.present_place-holder.ensures m st _ is there) in
     let within = subst (λ z. z < length (refs_of (object_at m.state.graph n))) (sym parts.1) tells.within in
@@ -86,7 +86,7 @@ returns-then-index-reference_slots c = λ m st before.
 pub returns-else-index-reference_slots : goal.returns-else-index-reference_slots
 returns-else-index-reference_slots c = λ m st before. one_entry_more c.args.space.now c.args.space.now m st c.args.number before before.evacuating (λ n i fixed. fixed) (λ n i tells.
     let is = before.evacuating in
-    let parts = field_parts c.args.space.now m st is c.args.number n i tells c.remembered_at-entry.result c.entry_of-index.result c.remembered_at-entry.ensures c.entry_of-index.ensures in
+    let parts = field_parts c.args.space.now m st is c.args.number n i tells c.requires.3 c.requires.4 c.remembered_at-entry.result c.entry_of-index.result c.remembered_at-entry.ensures c.entry_of-index.ensures in
     let there = field_holder c.args.space.now m st is c.args.number n i tells c.entry_of-index.result.1.0 parts.0 in
     let here = holder_of c.args.space.now m st is n c.entry_of-index.result.1.0 c.present_place-holder.result.0 there (c.present_place-holder.ensures m st _ is there) in
     let count = c.reference_slots.ensures m st n is here in

@@ -1,4 +1,4 @@
-use Rattle.std.proofs.Common.{◌≡◌, ◌↔◌, ◌/◌, ℕ, sym, ap, subst, ◌∙◌, eq-eqb, eqb-true}
+use Rattle.std.proofs.Common.{◌≡◌, ◌↔◌, ◌/◌, ℕ, sym, ap, subst, ◌∙◌, arith, eq-eqb, eqb-true}
 use Rattle.std.specs.Prelude.{IsTrue, nat_eq}
 use Rattle.lxr_layout.specs.declared.TheConstants.{WORDS_IN_LINE}
 use Rattle.lxr_layout.specs.declared.Place.{Place}
@@ -11,7 +11,7 @@ use Rattle.lxr_remset.proofs.remembering.is_current.Goals as goal
 pub field_word-requires : goal.field_word-requires
 field_word-requires c =
     let e = c.requires.entry in
-    subst (λ (a : ℕ × Place × ℕ). IsPlace a.1) (sym (c.entry_of-counter.ensures e.0 e.1 e.2 e.3.entry e.3.is)) e.3.entry.place
+    subst (λ (a : ℕ × Place × ℕ). IsPlace a.1) (sym (c.entry_of-counter.ensures e.0 e.1 e.2 e.3.entry e.3.is)) (e.3.entry.place.0, let fits = e.3.entry.place.1 in omega (arith, fits))
 
 pub reuse-requires-clause-line : goal.reuse-requires-clause-line
 reuse-requires-clause-line c =

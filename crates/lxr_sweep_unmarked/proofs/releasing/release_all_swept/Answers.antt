@@ -7,8 +7,8 @@ use Rattle.lxr_sweep_unmarked.proofs.releasing.release_all_swept.Goals as goal
 pub loop-number-init : goal.loop-number-init
 loop-number-init c = record { reaches = λ st is. all_begin c.args.space.now st is; keeps = keeps_none c.args.space.now }
 
-pub place_at-place-requires : goal.place_at-place-requires
-place_at-place-requires c =
+pub at-place-requires : goal.at-place-requires
+at-place-requires c =
     let st = c.requires.0 in
     let long = listed_all c.args.space.now st c.requires.1 in
     let t = c.loop-number-test.true in
@@ -22,7 +22,7 @@ release_swept-requires c =
     let t = c.loop-number-test.true in
     let n = c.len-count.ensures in
     let reaches = c.loop-number.invariant.reaches st c.requires.1 in
-    let x = object_is_left c.loop-number.space c.loop-number.number c.place_at-place.result st reaches (omega (arith, long, t, n)) c.place_at-place.ensures in
+    let x = object_is_left c.loop-number.space c.loop-number.number c.at-place.result st reaches (omega (arith, long, t, n)) c.at-place.ensures in
     (_, x.0, _, x.1)
 
 pub loop-number-preserved : goal.loop-number-preserved
@@ -32,7 +32,7 @@ loop-number-preserved c = record {
       let t = c.loop-number-test.true in
       let n = c.len-count.ensures in
       let reaches = c.loop-number.invariant.reaches st is in
-      let x = object_is_left c.loop-number.space c.loop-number.number c.place_at-place.result st reaches (omega (arith, long, t, n)) c.place_at-place.ensures in
+      let x = object_is_left c.loop-number.space c.loop-number.number c.at-place.result st reaches (omega (arith, long, t, n)) c.at-place.ensures in
       c.release_swept.ensures.reaches _ x.0 _ x.1;
   keeps = keeps_both c.args.space.now c.loop-number.space c.release_swept.new.space c.loop-number.invariant.keeps c.release_swept.ensures.keeps;
 }
