@@ -1,6 +1,6 @@
 -- What is read of the objects that stand in the tables.
-use Rattle.std.specs.Prelude.{◌≡◌, ℕ, ◌+◌, ◌-◌, ◌*◌, ◌/◌, ◌^◌, ◌<◌, ◌≤◌, nat_le, nat_lt, ◌&&◌, Option, Some, None, IsTrue, if◌then◌else◌}
-use Rattle.lxr_layout.specs.declared.TheConstants.{GRANULES_IN_BLOCK}
+use Rattle.std.specs.Prelude.{◌≡◌, ℕ, ◌+◌, ◌-◌, ◌*◌, ◌/◌, ◌^◌, ◌<◌, ◌≤◌, nat_eq, nat_le, nat_lt, ◌&&◌, Bool, Option, Some, None, IsTrue, if◌then◌else◌}
+use Rattle.lxr_layout.specs.declared.TheConstants.{GRANULES_IN_BLOCK, TRACING_WORD}
 use Rattle.lxr_layout.specs.declared.Name.{Name}
 use Rattle.lxr_layout.specs.declared.Shape.{Shape}
 use Rattle.lxr_layout.specs.declared.Header.{Header}
@@ -12,6 +12,10 @@ use Rattle.lxr_image.specs.Tables.{Tables}
 -- the granule of a place, counted over the whole heap; places count from 1, granules from 0
 abbrev pub granule_of : ℕ → ℕ
 granule_of p = p - 1
+
+-- a trace runs
+abbrev pub is_tracing : Tables → Bool
+is_tracing t = nat_eq (t.cursors TRACING_WORD) 1
 
 -- what the header word at a place says, where a start bit stands there
 abbrev pub header_at : Tables → ℕ → Option Header
