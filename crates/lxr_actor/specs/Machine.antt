@@ -3,6 +3,7 @@ use Rattle.std.specs.Prelude.{◌≡◌, ℕ, ◌<◌, List, length, Bool, Optio
 use Rattle.lxr_layout.specs.declared.Place.{Place}
 use Rattle.lxr_actor.specs.declared.Action.{Action}
 
+-- What an actor does, one access to a word a step.
 pub record Machine (A : Type 0) : Type 0 where
   -- its next step, if it is not finished
   pub action : A → Option Action

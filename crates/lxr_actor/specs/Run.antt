@@ -7,6 +7,7 @@ use Rattle.lxr_actor.specs.declared.Core.{Core}
 use Rattle.lxr_actor.specs.Change.{changed}
 use Rattle.lxr_actor.specs.Machine.{Machine, Fits}
 
+-- shared words and the actors at work on them
 abbrev pub core_of : {A : Type 0} → List ℕ → List A → Core A
 core_of words actors = record { words = words; actors = actors }
 

@@ -35,10 +35,11 @@ begun r place index value = record { unlogged = r.unlogged; place = place; index
 abbrev pub target : Storing → ℕ
 target s = reference_word s.place s.index
 
--- the word with its unlogged bit, and which of the 64 bits that is
+-- the word with its unlogged bit
 abbrev pub bit_word : Storing → ℕ
 bit_word s = s.unlogged + target s / 64
 
+-- which of the 64 bits of that word it is
 abbrev pub bit_number : Storing → ℕ
 bit_number s = target s % 64
 
@@ -63,6 +64,7 @@ action_in s (Loaded old) = Some (record { kind = And; word = bit_word s; operand
 action_in s Logged = Some (record { kind = Store; word = target s; operand = s.value.0 })
 action_in s (Ended how) = None
 
+-- its next action, if it is not through
 abbrev pub next_action : Storing → Option Action
 next_action s = action_in s s.phase
 
@@ -75,6 +77,7 @@ phase_after s log old (Loaded first) = Logged
 phase_after s log old Logged = Ended Stored
 phase_after s log old (Ended how) = Ended how
 
+-- the store once it is told what the word was
 abbrev pub store_after : Storing → Roomy LogEntry → ℕ → Storing
 store_after s log old = record s { phase = phase_after s log old s.phase }
 
@@ -90,6 +93,7 @@ log_in s log old (Loaded first) = if is_set old (bit_number s) then pushed log (
 log_in s log old Logged = log
 log_in s log old (Ended how) = log
 
+-- the log then: it has one entry more where a set bit was cleared
 abbrev pub log_after : Storing → Roomy LogEntry → ℕ → Roomy LogEntry
 log_after s log old = log_in s log old s.phase
 
@@ -101,5 +105,6 @@ end_in (Loaded old) = None
 end_in Logged = None
 end_in (Ended how) = Some how
 
+-- how it ended, if it is through
 abbrev pub end_of : Storing → Option StoreEnd
 end_of s = end_in s.phase

@@ -539,8 +539,8 @@ closes b execution space now after before given may gave out =
       gave = ap (map actor_given_up) (sym held);
       actors_rest = all_rest b s space before is;
       news = subst (λ ms. (i : ℕ) (m : Mutating) → slice_get ms i ≡ Some m → IsWaiting m → IsNew m) (sym gives) (news_wait b s space before is);
-      cause = λ finished terms are legal. subst (λ z. HasCause terms z s.history) (ap script_in is.thread_states ∙ sym (given_script before ∙ shown_script (mutators_in before)))
-          (cause_follows through_has_cause ends_are_counted all_blocks_are_taken b s terms is.epoch (all_through b s space before is (subst (λ z. AreFinished (mutators_in z)) held finished)) logs are legal);
+      cause = λ finished whole terms are legal. subst (λ z. HasCause terms z s.history) (ap script_in is.thread_states ∙ sym (given_script before ∙ shown_script (mutators_in before)))
+          (cause_follows through_has_cause ends_are_counted all_blocks_are_taken b s terms is.epoch whole (all_through b s space before is (subst (λ z. AreFinished (mutators_in z)) held finished)) logs are legal);
       progress = λ finished unasked. subst (HasProgress b execution) (sym gives) (has_progress b execution cleared space before is (subst (λ z. AreFinished (mutators_in z)) held finished) unasked);
       collects = λ none. collects b s space before is none ∙ ap (list_any has_collected) (sym gives);
       states = closed.states;

@@ -473,7 +473,7 @@ holds : (b : Beginning) (after : Space) (before now : List AnyActor) → b.space
 holds b after before now pauses few is opened =
     let limits : after.limits ≡ b.space.limits = ap (λ s. s.limits) opened.space.rest in
     let start = all_start b before now is.begins is.actors_rest opened.actors in
-    let epoch = opens b (map thread_state_of (mutators_in now)) (map decrementing_of (decrementers_in now)) (map tracing_of (tracers_in now)) is.begins pauses start (helpers_rest b before now is.begins is.actors_rest opened.actors few) is.served.few is.served.unasked in
+    let epoch = opens b (map thread_state_of (mutators_in now)) (map decrementing_of (decrementers_in now)) (map tracing_of (tracers_in now)) is.begins pauses start (helpers_rest b before now is.begins is.actors_rest opened.actors few) is.few is.unasked in
     let size : (tables_in after.limits after.words).size ≡ region_begin b.space.limits all_regions = ap (λ t. t.size) opened.space.tables ∙ is.begins.between.safepoint.holds.space.size in (
       [],
       record {

@@ -15,6 +15,7 @@ use Rattle.lxr_model.specs.Terms.{Terms}
 use Rattle.lxr_actor.specs.Run.{core_of}
 use Rattle.lxr_invariant.specs.AbstractState.{AbstractState, members}
 use Rattle.lxr_invariant.specs.Lines.{NoneChosen}
+use Rattle.lxr_invariant.specs.Listed.{FreeBlocksAreListed}
 use Rattle.lxr_invariant.specs.Quiescent.{IsAtSafepoint}
 use Rattle.lxr_mutator.specs.declared.phases.MutatorPhase.TheVariants as phase
 use Rattle.lxr_mutator.specs.Mutating.{IsWaiting, Mutating, has_collected}
@@ -73,8 +74,9 @@ pub record Closes (b : Beginning) (execution : Execution) (before after : Space)
   pub gave : actors ≡ map actor_given_up execution.core.actors
   pub actors_rest : ActorsRestAfter (limits_of b) b.every execution.history actors
   pub news : (i : ℕ) (m : Mutating) → slice_get (mutators_in actors) i ≡ Some m → IsWaiting m → IsNew m
-  -- where all are through, a pause has a cause; and where nobody had asked for one before, the epoch has done something
-  pub cause : AreFinished (mutators_in execution.core.actors) → (terms : Terms) → AreTermsOf b terms → IsLegalSoFar terms b.history → HasCause terms (script_of (mutators_in actors)) execution.history
+  -- where all are through, and all free blocks were listed as the epoch opened, a pause has a cause
+  pub cause : AreFinished (mutators_in execution.core.actors) → FreeBlocksAreListed b.space → (terms : Terms) → AreTermsOf b terms → IsLegalSoFar terms b.history → HasCause terms (script_of (mutators_in actors)) execution.history
+  -- where all are through, and nobody had asked for a pause before, the epoch has done something
   pub progress : AreFinished (mutators_in execution.core.actors) → ((t : ℕ) → has_asked t b.history ≡ false) → HasProgress b execution (mutators_in actors)
   -- where nobody had called `collect` before, the mutators tell whether somebody has
   pub collects : collect_called b.history ≡ false → collect_called execution.history ≡ list_any has_collected (mutators_in actors)

@@ -4,6 +4,7 @@ use Rattle.lxr_model.specs.Belongs.{Script, has_asked}
 use Rattle.lxr_model.specs.Belongs.{HasCause as ScriptHasCause}
 use Rattle.lxr_model.specs.Legal.{IsLegalSoFar}
 use Rattle.lxr_model.specs.Terms.{Terms}
+use Rattle.lxr_invariant.specs.Listed.{FreeBlocksAreListed}
 use Rattle.lxr_core_invariant.specs.ThreadStates.{ThreadState, Through}
 use Rattle.lxr_core_invariant.specs.ThreadStates as why
 use Rattle.lxr_core_invariant.specs.EpochStates.{Beginning, EpochState, limits_of}
@@ -22,9 +23,9 @@ pub record AreTermsOf (b : Beginning) (terms : Terms) : Type 0 where
 abbrev pub script_in : List ThreadState → Script
 script_in thread_states = map (λ v. v.operations) thread_states
 
--- Where all mutators are through, the pause that comes has a cause.
+-- Where all free blocks were listed as the epoch opened and all mutators are through, the pause that comes has a cause.
 abbrev pub EpochHasCause : Type 0
-EpochHasCause = (b : Beginning) (s : EpochState) (terms : Terms) → IsEpoch b s → AreThrough s → HasClosingLogs b s → AreTermsOf b terms → IsLegalSoFar terms b.history
+EpochHasCause = (b : Beginning) (s : EpochState) (terms : Terms) → IsEpoch b s → FreeBlocksAreListed b.space → AreThrough s → HasClosingLogs b s → AreTermsOf b terms → IsLegalSoFar terms b.history
     → ScriptHasCause terms (script_in s.thread_states) s.history
 
 -- it follows from why mutators are through, from how ends are counted, and from what stands in blocks

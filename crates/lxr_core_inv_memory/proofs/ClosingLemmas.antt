@@ -20,6 +20,7 @@ use Rattle.lxr_model.specs.Moments.{Moment, moment}
 use Rattle.lxr_model.proofs.HistoryLemmas.{made_old}
 use Rattle.lxr_invariant.specs.AbstractState.{members}
 use Rattle.lxr_invariant.specs.Lines.{IsTakenBy}
+use Rattle.lxr_invariant.specs.Listed.{FreeBlocksAreListed}
 use Rattle.lxr_invariant.proofs.NameLemmas.{in_either, in_first, in_second}
 use Rattle.lxr_full.proofs.TakenLines.{all_or_one}
 use Rattle.lxr_full.proofs.RoomLemmas.{member_takes, pigeonhole}
@@ -163,17 +164,17 @@ used_has b s k n through found (inr (inr made)) = made_in b s k n found made
 -- ---- each block
 
 -- each block that isn't Chosen has an object once all are through and each listed block is drawn
-block_has : (b : Beginning) (s : EpochState) → IsEpoch b s → AreThrough s → s.tables.cursors FREE_BLOCK_COUNT ≤ s.tables.cursors FREE_BLOCK_CURSOR → (n : ℕ) → n < (limits_of b).blocks → state_in (opening_tables b) n ≢ Chosen
+block_has : (b : Beginning) (s : EpochState) → IsEpoch b s → FreeBlocksAreListed b.space → AreThrough s → s.tables.cursors FREE_BLOCK_COUNT ≤ s.tables.cursors FREE_BLOCK_CURSOR → (n : ℕ) → n < (limits_of b).blocks → state_in (opening_tables b) n ≢ Chosen
     → HasObjectIn b s n
-block_has b s is through drawn zero below unchosen = (
+block_has b s is whole through drawn zero below unchosen = (
   world_name,
   in_first (moment_of b s).unreclaimed (moment_of b s).made world_name (is.lives.stuck world_name is.lives.world),
   (let place = is.image.placed.world in omega (arith, place)),
 )
-block_has b s is through drawn (suc n) below unchosen = elim (free_or_taken b s (suc n) is (omega arith) below unchosen) [
+block_has b s is whole through drawn (suc n) below unchosen = elim (free_or_taken b s (suc n) is (omega arith) below unchosen) [
   | inr taken ↦ taken
   | inl free ↦
-      let k = is.begins.all_listed (suc n) below free in
+      let k = whole (suc n) below free in
       let fixed = is.fixed.cursors FREE_BLOCK_COUNT (λ e. cc) (λ e. cc) (λ e. cc) (λ e. cc) (λ e. cc) in
       let listed = k.1 in
       used_has b s k.0 (suc n) through k.2 (is.drawn.used k.0 (omega (arith, listed, fixed, drawn)) listed)
@@ -181,8 +182,8 @@ block_has b s is through drawn (suc n) below unchosen = elim (free_or_taken b s 
 
 -- so objects are at least as many as such blocks, and at most an eighth of all is Chosen
 pub all_blocks_are_taken : AllBlocksAreTaken
-all_blocks_are_taken b s is through drawn =
-    let many = pigeonhole (opening_tables b) (λ n. granule_of (s.at n) / GRANULES_IN_BLOCK) (members (moment_of b s)) (limits_of b).blocks (block_has b s is through drawn) in
+all_blocks_are_taken b s is whole through drawn =
+    let many = pigeonhole (opening_tables b) (λ n. granule_of (s.at n) / GRANULES_IN_BLOCK) (members (moment_of b s)) (limits_of b).blocks (block_has b s is whole through drawn) in
     let few = is.begins.between.safepoint.holds.blocks.few in
     let sum = length-append (moment_of b s).unreclaimed (moment_of b s).made in
     omega (arith, many, few, sum)

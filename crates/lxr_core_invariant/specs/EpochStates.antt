@@ -16,7 +16,7 @@ use Rattle.lxr_model.specs.Moments.{Field, Moment, moment}
 use Rattle.lxr_model.specs.Belongs.{calls_since_pause, has_asked}
 use Rattle.lxr_invariant.specs.AbstractState.{AbstractState}
 use Rattle.lxr_invariant.specs.Quiescent.{IsQuiescent}
-use Rattle.lxr_invariant.specs.Listed.{FreeBlocksAreListed, IsListed}
+use Rattle.lxr_invariant.specs.Listed.{IsListed}
 use Rattle.lxr_core_access.specs.Decrementers.{Decrementing}
 use Rattle.lxr_core_access.specs.Tracers.{Tracing}
 use Rattle.lxr_core_invariant.specs.ThreadStates.{ThreadState}
@@ -29,6 +29,7 @@ pub record Beginning : Type 0 where
   pub history : List Item
   pub every : ℕ
 
+-- the limits of its space
 abbrev pub limits_of : Beginning → Limits
 limits_of b = b.space.limits
 
@@ -46,11 +47,10 @@ pub record CountsObjects (threads : ℕ) (h : List Item) : Type 0 where
   pub rows : length (moment threads h).state.graph ≡ threads + 1
   pub objects : (t : ℕ) → 1 ≤ t → t ≤ threads → length (row_of (moment threads h).state.graph t) ≡ count_by tells_new (replies_of t h)
 
--- It is between epochs, runs and all free blocks are listed, and objects are counted by replies.
+-- It is between epochs and listed, and objects are counted by replies.
 pub record IsBeginning (b : Beginning) : Type 0 where
   pub between : IsQuiescent b.space b.abstract_state
   pub listed : IsListed b.space
-  pub all_listed : FreeBlocksAreListed b.space
   pub moment : b.abstract_state.moment ≡ moment b.space.limits.threads b.history
   pub counted : CountsObjects b.space.limits.threads b.history
 

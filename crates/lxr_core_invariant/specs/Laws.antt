@@ -1,5 +1,5 @@
 -- What every event keeps, and that replies are those of the model.
-use Rattle.std.specs.Prelude.{◌≡◌, ◌≢◌, ℕ, ◌+◌, ◌-◌, ◌/◌, ◌^◌, ◌<◌, ◌≤◌, ⊤, Option, Some, List, length, slice_get, false, IsTrue}
+use Rattle.std.specs.Prelude.{◌≡◌, ◌≢◌, ℕ, ◌+◌, ◌-◌, ◌^◌, ◌<◌, ◌≤◌, ⊤, Option, Some, List, length, slice_get, false, IsTrue}
 use Rattle.lxr_layout.specs.Places.{field_word, place_in}
 use Rattle.lxr_layout.specs.declared.TheConstants.{FREE_BLOCK_COUNT, FREE_BLOCK_CURSOR, PAUSE_WORD, RUN_CURSOR}
 use Rattle.lxr_layout.specs.declared.Name.{Name}
@@ -15,6 +15,7 @@ use Rattle.lxr_image.specs.Image.{place_word}
 use Rattle.lxr_image.specs.Tables.{Tables}
 use Rattle.lxr_model_counting.specs.Following.{FollowsPause, IsLive}
 use Rattle.lxr_invariant.specs.Counting.{HasCounts, HasDecrements, is_done}
+use Rattle.lxr_invariant.specs.Listed.{FreeBlocksAreListed}
 use Rattle.lxr_invariant.specs.Standing.{AreLogged, HasBits}
 use Rattle.lxr_invariant.specs.Tracing.{HandledAreGray, IsRememberedSoFar, MarksStayInside, SnapshotIsCovered}
 use Rattle.lxr_model.specs.Moments.{Moment, Trace}
@@ -290,10 +291,10 @@ pub record CursorsDontFall : Type 0 where
   pub decrementers : (b : Beginning) (s : EpochState) (i : ℕ) (access : Access) (after : Decrementing) → MayDecrement b s i access after → HaveNotFallen s.tables (decremented s i access after).tables
   pub tracers : (b : Beginning) (s : EpochState) (i : ℕ) (access : Access) (after : Tracing) → MayTrace b s i access after → HaveNotFallen s.tables (traced s i access after).tables
 
--- Where all mutators are through and each listed block is drawn, each block that isn't Chosen has an object. So objects are at least as many
--- as these blocks.
+-- Where all free blocks were listed as the epoch opened, all mutators are through and each listed block is drawn, each block that isn't Chosen
+-- has an object. So objects are at least as many as these blocks.
 abbrev pub AllBlocksAreTaken : Type 0
-AllBlocksAreTaken = (b : Beginning) (s : EpochState) → IsEpoch b s → AreThrough s → s.tables.cursors FREE_BLOCK_COUNT ≤ s.tables.cursors FREE_BLOCK_CURSOR
+AllBlocksAreTaken = (b : Beginning) (s : EpochState) → IsEpoch b s → FreeBlocksAreListed b.space → AreThrough s → s.tables.cursors FREE_BLOCK_COUNT ≤ s.tables.cursors FREE_BLOCK_CURSOR
     → (limits_of b).blocks - most_chosen (limits_of b).blocks ≤ length (moment_of b s).unreclaimed + length (moment_of b s).made
 
 -- all of it

@@ -98,19 +98,23 @@ pub record IsStoreOf (m : Mutating) (s : Storing) : Type 0 where
   pub index_is : s.index ≡ index
   pub value : s.value ≡ register m source
 
--- the operation in progress is a load, a get, a put, a new, a new of an object of one line
+-- the operation in progress is a `load`
 abbrev pub IsLoad : Mutating → Type 0
 IsLoad m = (dest : ℕ) × (base : ℕ) × (index : ℕ) × (op_now m ≡ op.Load dest base index)
 
+-- it is a `get`
 abbrev pub IsGet : Mutating → Type 0
 IsGet m = (base : ℕ) × (index : ℕ) × (op_now m ≡ op.Get base index)
 
+-- it is a `put`
 abbrev pub IsPut : Mutating → Type 0
 IsPut m = (base : ℕ) × (index : ℕ) × (value : ℕ) × (op_now m ≡ op.Put base index value)
 
+-- it is a `new`
 abbrev pub IsNew : Mutating → Type 0
 IsNew m = (dest : ℕ) × (shape : Shape) × (op_now m ≡ op.New dest shape)
 
+-- it is a `new` of an object of one line
 abbrev pub IsNewOfLine : Mutating → Type 0
 IsNewOfLine m = IsNew m × (line_count (shape_now m) ≡ 1)
 

@@ -1,6 +1,6 @@
 -- What is read of the objects that stand in the tables.
-use Rattle.std.specs.Prelude.{◌≡◌, ℕ, ◌+◌, ◌-◌, ◌*◌, ◌/◌, ◌^◌, ◌<◌, ◌≤◌, nat_le, nat_lt, ◌&&◌, Option, Some, None, IsTrue, if◌then◌else◌}
-use Rattle.lxr_layout.specs.declared.TheConstants.{GRANULES_IN_BLOCK}
+use Rattle.std.specs.Prelude.{◌≡◌, ℕ, ◌+◌, ◌-◌, ◌*◌, ◌/◌, ◌^◌, ◌<◌, ◌≤◌, nat_eq, nat_le, nat_lt, ◌&&◌, Bool, Option, Some, None, IsTrue, if◌then◌else◌}
+use Rattle.lxr_layout.specs.declared.TheConstants.{GRANULES_IN_BLOCK, TRACING_WORD}
 use Rattle.lxr_layout.specs.declared.Name.{Name}
 use Rattle.lxr_layout.specs.declared.Shape.{Shape}
 use Rattle.lxr_layout.specs.declared.Header.{Header}
@@ -9,6 +9,10 @@ use Rattle.lxr_layout.specs.Objects.{FitsShape, header_of, header_word, word_cou
 use Rattle.lxr_layout.specs.Places.{first_word}
 pub use Rattle.lxr_layout.specs.Places.{granule_of}
 use Rattle.lxr_image.specs.Tables.{Tables}
+
+-- a trace runs
+abbrev pub is_tracing : Tables → Bool
+is_tracing t = nat_eq (t.cursors TRACING_WORD) 1
 
 -- what the header word at a place says, where a start bit stands there
 abbrev pub header_at : Tables → ℕ → Option Header

@@ -6,13 +6,14 @@
 ghost use Rattle.std.specs.Prelude.{◌≡◌, ◌≢◌, ℕ, ◌+◌, ◌*◌, ◌/◌, ◌%◌, ◌^◌, ◌<◌, ◌≤◌, ◌↔◌, ◌==◌, IsBitSet, IsTrue, false, if◌then◌else◌, slice_index, true};
 ghost use Rattle.std.specs.Int.{bit_at};
 ghost use Rattle.lxr_layout.specs.declared.TheConstants.{GRANULES_IN_BLOCK, GRANULES_IN_LINE, LINES_IN_BLOCK, WORDS_IN_BLOCK};
+ghost use Rattle.lxr_image.specs.Reads.{is_tracing};
 ghost use Rattle.lxr_image.specs.Spaces.{IsSpace, Turns, bit_region, bit_table, tables_of, with_bit, with_bit_word, with_word, word_region, word_table};
 ghost use Rattle.lxr_image.specs.Tables.{changed};
 ghost use Rattle.lxr_layout.specs.Spaces.{AreLimits, counts_region, region_begin, region_sizes, reuse_region};
 ghost use Rattle.lxr_tables.specs.Counts.{lowered_count, lowered_of, raised_count};
 
 use crate::Space;
-use lxr_layout::{Limits, STUCK, regions};
+use lxr_layout::{Limits, STUCK, TRACING_WORD, regions};
 use lxr_tables::{
     Lowered, Raised, Words, bit, clear_bit, lower_two, raise_two, set_bit, set_two, two,
     uncounted_lines, zero_counts,
@@ -650,6 +651,15 @@ impl Space {
             Turns self.old self.new (record t { cursors = changed t.cursors number value }) }
     {
         self.put_word_in(WordTable::Cursors, number as usize, value);
+    }
+
+    /// Whether a trace runs.
+    #[inline(always)]
+    pub fn is_tracing(&self) -> bool
+        requires { IsSpace self.now }
+        ensures { result ≡ is_tracing (tables_of self.now) }
+    {
+        self.cursor(TRACING_WORD) == 1
     }
 
     /// The reference count of the object at the granule, or the line mark there.

@@ -1,6 +1,6 @@
 -- One lowering on the tables is one lowering of the names.
 use Rattle.std.proofs.Common.{◌≡◌, ◌≢◌, ℕ, ◌+◌, ◌-◌, ◌*◌, ◌/◌, ◌<◌, ◌≤◌, refl, sym, ap, subst, ◌∙◌, inl, inr, ◌⊎◌, arith, Bool, true, false, cond, List, [], ◌∷◌, ◌++◌, IsTrue, length, length-append, nat_eq}
-use Rattle.std.specs.Prelude.{◌==◌, ◌||◌, map, reverse, Some}
+use Rattle.std.specs.Prelude.{◌||◌, map, reverse, Some}
 use Rattle.std.proofs.lemmas.List.{reverse-append}
 use Rattle.std.proofs.lemmas.Bool.{or_cases, or_left, or_right}
 use Rattle.std.proofs.lemmas.Bool.Decides.{eqb_tells}
@@ -17,7 +17,7 @@ use Rattle.lxr_graph.proofs.NameSets.{same_itself, same_names, not_both, without
 use Rattle.lxr_tables.specs.Counts.{lowered_count, lowered_of}
 use Rattle.lxr_tables.specs.declared.counts.Lowered.TheVariants.{Stuck, Zero, Now}
 use Rattle.lxr_image.specs.Tables.{Tables, changed}
-use Rattle.lxr_image.specs.Reads.{granule_of}
+use Rattle.lxr_image.specs.Reads.{granule_of, is_tracing}
 use Rattle.lxr_image.specs.Image.{granules_of}
 use Rattle.lxr_model.specs.Dead.{Dead}
 use Rattle.lxr_model.specs.Moments.{Moment}
@@ -501,7 +501,7 @@ dropped l t w d st r ro is in_r not_gone none come has_ro =
 
 -- what the dead r referred to is made gray, if a trace runs
 pub made_gray : (l : Limits) (t : Tables) (w : Roomy Place) (d : Roomy Name) (st : CascadeStage) (tracing : Bool) (h : Name → ℕ) (r n : Name) → Cascade l t w d st
-    → tracing ≡ (t.cursors TRACING_WORD == 1) → Dead st.moment.last st.moment.unreclaimed st.moment.stuck r → Refers st.moment.last.graph r n → IsTrue (has (kept st) n)
+    → tracing ≡ is_tracing t → Dead st.moment.last st.moment.unreclaimed st.moment.stuck r → Refers st.moment.last.graph r n → IsTrue (has (kept st) n)
     → ((o : Name) → st.ungrayed o ≡ once o n + h o) → Cascade l (record t { grays = grayed_if tracing t.grays (granule_of (st.at n)) }) w d (graying st h)
 made_gray l t w d st tracing h r n is told was_dead refers left taken =
     let m : Moment = st.moment in
@@ -531,7 +531,7 @@ made_gray l t w d st tracing h r n is told was_dead refers left taken =
       lowered = record { dead = is.lowered.dead; zero = is.lowered.zero; exact = is.lowered.exact };
       passed = is.passed;
       none_done = is.none_done;
-      grays = grays_step m.trace tracing st.was.grays t.grays m st.at st.gone st.work st.ungrayed h r n (told ∙ ap (λ k. k == 1) is.remains.tracing) is.grays was_dead refers left
+      grays = grays_step m.trace tracing st.was.grays t.grays m st.at st.gone st.work st.ungrayed h r n (told ∙ ap (λ k. nat_eq k 1) is.remains.tracing) is.grays was_dead refers left
           (λ x in_x other. granules_differ t.heap l.blocks m st.at is.remains.ground x n in_x in_n other) (λ x went. (dead_parts (is.lowered.dead x went)).member) taken;
       work = is.work;
       work_gone = is.work_gone;

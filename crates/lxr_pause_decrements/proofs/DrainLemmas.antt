@@ -1,6 +1,6 @@
 -- The loops of the decrements: references of one object, the worklist, the list.
 use Rattle.std.proofs.Common.{◌≡◌, ◌≢◌, ℕ, zero, suc, ◌+◌, ◌-◌, ◌*◌, ◌<◌, ◌≤◌, refl, sym, ap, subst, ◌∙◌, inl, inr, ◌^◌, arith, Bool, cond, List, [], ◌∷◌, ◌++◌, IsTrue, length, length-append, nat_eq, nat_le, false, true}
-use Rattle.std.specs.Prelude.{◌&&◌, ◌==◌, Option, Some, None, map, slice_get}
+use Rattle.std.specs.Prelude.{◌&&◌, Option, Some, None, map, slice_get}
 use Rattle.std.proofs.lemmas.Bool.{or_left, or_right}
 use Rattle.std.proofs.lemmas.Bool.Decides.{nat_tests}
 use Rattle.lxr_layout.specs.declared.TheConstants.{DECREMENT_COUNT, DECREMENT_CURSOR, GRANULES_IN_BLOCK, MOST_GRANULES, TRACING_WORD, WORDS_IN_BLOCK}
@@ -14,7 +14,7 @@ use Rattle.lxr_graph.proofs.NameSets.{same_itself, same_names}
 use Rattle.lxr_image.specs.declared.space.Space.{Space}
 use Rattle.lxr_image.specs.Tables.{Tables, changed}
 use Rattle.lxr_image.specs.Spaces.{Turns, tables_of}
-use Rattle.lxr_image.specs.Reads.{granule_of}
+use Rattle.lxr_image.specs.Reads.{granule_of, is_tracing}
 use Rattle.lxr_image.specs.Image.{place_word}
 use Rattle.lxr_image.proofs.SpaceLemmas.{same_limits, space_alike, still_space}
 use Rattle.lxr_model.specs.Dead.{Dead}
@@ -144,7 +144,7 @@ abbrev pub with_gray : Tables → Bool → ℕ → Tables
 with_gray t tracing g = record t { grays = grayed_if tracing t.grays g }
 
 gray_step : (s b : Space) (p : Place) (i word : ℕ) (tracing : Bool) (st : CascadeStage) (r : Name) (rest : Name → ℕ) (ref : Option Name) → slice_get (held_by st r) i ≡ Some ref
-    → FieldWaits s p.0 i st r rest → word ≢ 0 → word ≡ place_word st.at ref → tracing ≡ ((tables_of s).cursors TRACING_WORD == 1) → Turns s b (with_gray (tables_of s) tracing (word - 1))
+    → FieldWaits s p.0 i st r rest → word ≢ 0 → word ≡ place_word st.at ref → tracing ≡ is_tracing (tables_of s) → Turns s b (with_gray (tables_of s) tracing (word - 1))
     → (n : Name) × Waiting b word (next_field st r i) n (λ o. rest o + occurrences_from (held_by st r) (i + 1) o)
 gray_step s b p i word tracing st r rest None e w some_word is told turns = absurd (some_word is)
 gray_step s b p i word tracing st r rest (Some n) e w some_word is told turns =
@@ -170,7 +170,7 @@ gray_step s b p i word tracing st r rest (Some n) e w some_word is told turns =
     )
 
 pub gray_reference : (s b : Space) (p : Place) (i word : ℕ) (tracing : Bool) (st : CascadeStage) (r : Name) (rest : Name → ℕ) → FieldWaits s p.0 i st r rest
-    → word ≢ 0 → word ≡ (tables_of s).heap (2 * (p.0 - 1) + 1 + i) → tracing ≡ ((tables_of s).cursors TRACING_WORD == 1) → Turns s b (with_gray (tables_of s) tracing (word - 1))
+    → word ≢ 0 → word ≡ (tables_of s).heap (2 * (p.0 - 1) + 1 + i) → tracing ≡ is_tracing (tables_of s) → Turns s b (with_gray (tables_of s) tracing (word - 1))
     → (n : Name) × Waiting b word (next_field st r i) n (λ o. rest o + occurrences_from (held_by st r) (i + 1) o)
 gray_reference s b p i word tracing st r rest w some_word is told turns =
     let g = got (held_by st r) i w.index in

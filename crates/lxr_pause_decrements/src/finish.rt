@@ -1,10 +1,11 @@
 //! Lowering counts, one after another, until nothing waits.
-ghost use Rattle.std.specs.Prelude.{◌≡◌, ◌==◌, ℕ, ◌+◌, ◌-◌, ◌*◌, ◌<◌, ◌≤◌, List, MatchOption, length};
-ghost use Rattle.lxr_layout.specs.declared.TheConstants.{DECREMENT_COUNT, DECREMENT_CURSOR, GRANULES_IN_BLOCK, TRACING_WORD};
+ghost use Rattle.std.specs.Prelude.{◌≡◌, ℕ, ◌+◌, ◌-◌, ◌*◌, ◌<◌, ◌≤◌, List, MatchOption, length};
+ghost use Rattle.lxr_layout.specs.declared.TheConstants.{DECREMENT_COUNT, DECREMENT_CURSOR, GRANULES_IN_BLOCK};
 ghost use Rattle.lxr_layout.specs.declared.Name.{Name as NameOf};
 ghost use Rattle.lxr_layout.specs.declared.Shape.{Shape as ShapeOf};
 ghost use Rattle.lxr_layout.specs.Places.{IsPlace};
 ghost use Rattle.lxr_base.specs.Roomy.{pushed};
+ghost use Rattle.lxr_image.specs.Reads.{is_tracing};
 ghost use Rattle.lxr_image.specs.Spaces.{IsSpace, Turns, tables_of};
 ghost use Rattle.lxr_model.specs.Moments.{Moment};
 ghost use Rattle.lxr_pause_decrements.specs.Finishing.{CanFinish, Finishes};
@@ -15,7 +16,7 @@ use crate::handled::reclaim_all_handled;
 use crate::reclaiming::reclaim;
 use lxr_image::{Places, Space};
 use lxr_image_search::{Wanted, next_wanted};
-use lxr_layout::{DECREMENT_COUNT, DECREMENT_CURSOR, Header, Place, TRACING_WORD, unpack, word_of};
+use lxr_layout::{DECREMENT_COUNT, DECREMENT_CURSOR, Header, Place, unpack, word_of};
 use lxr_tables::Lowered;
 
 /// Lowers the count of the object at a place; a stuck count stays. With its last count the object is reclaimed, and what it
@@ -44,14 +45,6 @@ pub fn reference_slots(space: &Space, place: Place) -> u16
     }
 }
 
-/// Whether a trace runs.
-fn is_tracing(space: &Space) -> bool
-    requires { IsSpace space.now }
-    ensures { result ≡ ((tables_of space.now).cursors TRACING_WORD == 1) }
-{
-    space.cursor(TRACING_WORD) == 1
-}
-
 /// Makes the object at a place gray, if a trace runs.
 fn make_gray(space: &mut Space, place: Place, tracing: bool)
     requires space { IsSpace space.old }
@@ -68,7 +61,7 @@ fn make_gray(space: &mut Space, place: Place, tracing: bool)
 /// overwritten reference held is: what dies by counting then hides nothing that stood when the trace began.
 fn lower_field(space: &mut Space, place: Place, index: u16, tracing: bool)
     requires field { MayLowerField space.old place.0 index }
-    requires tracing { tracing ≡ ((tables_of space.old).cursors TRACING_WORD == 1) }
+    requires tracing { tracing ≡ is_tracing (tables_of space.old) }
     ensures reaches { LowersField space.old space.new place.0 index }
     ensures to_do { to_do space.new ≡ to_do space.old }
     ensures keeps { Keeps space.old space.new }
@@ -88,7 +81,7 @@ fn release(space: &mut Space, place: Place)
     ensures to_do { to_do space.new ≡ to_do space.old }
     ensures keeps { Keeps space.old space.new }
 {
-    let tracing = is_tracing(space);
+    let tracing = space.is_tracing();
     let count = reference_slots(space, place);
     for i in 0..count {
         lower_field(space, place, i, tracing);

@@ -27,7 +27,7 @@ use Rattle.lxr_invariant.specs.Tracing.{IsOldValue}
 use Rattle.lxr_invariant.proofs.NameLemmas.{in_first, in_second}
 use Rattle.lxr_pause_increments.specs.Increments.{IncrementStage, IsIncrementing, RaisingLeavesTables}
 use Rattle.lxr_pause_increments.specs.Raising.{RaisesGrays, RaisesMarks}
-use Rattle.lxr_pause_promote.specs.Promotion.{is_tracing}
+use Rattle.lxr_image.specs.Reads.{is_tracing}
 use Rattle.lxr_pause_increments.specs.Traced.{OldValuesFit, with_grays, with_old_grays}
 use Rattle.lxr_pause_increments.proofs.TracedLemmas.{grays_join, old_grays_from, only_old_grays, or_none}
 use Rattle.lxr_pause_increments.proofs.RootLemmas.{got_field, got_mapped, log_order}

@@ -14,7 +14,7 @@ use Rattle.lxr_image.specs.Reads.{granule_of}
 use Rattle.lxr_image.proofs.SpaceLemmas.{still_space}
 use Rattle.lxr_invariant.specs.Tracing.{IsOldValue}
 use Rattle.lxr_invariant.proofs.EntryLemmas.{changed_cases, changed_here}
-use Rattle.lxr_pause_promote.specs.Promotion.{is_tracing}
+use Rattle.lxr_image.specs.Reads.{is_tracing}
 use Rattle.lxr_pause_increments.specs.Traced.{OldValuesFit, marks_with, with_gray, with_grays, with_old_grays}
 
 -- ---- marks

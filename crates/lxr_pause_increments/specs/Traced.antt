@@ -5,7 +5,7 @@ use Rattle.lxr_layout.specs.declared.LogEntry.{LogEntry}
 use Rattle.lxr_image.specs.Tables.{Tables, changed}
 use Rattle.lxr_image.specs.Reads.{granule_of}
 use Rattle.lxr_invariant.specs.Tracing.{IsOldValue}
-use Rattle.lxr_pause_promote.specs.Promotion.{is_tracing}
+use Rattle.lxr_image.specs.Reads.{is_tracing}
 
 -- ---- marks
 

@@ -11,7 +11,6 @@ ghost use Rattle.lxr_pause_increments.specs.Traced.{OldValuesFit, with_gray, wit
 
 use lxr_image::Space;
 use lxr_layout::Place;
-use lxr_pause_promote::trace_runs;
 
 /// Makes the object at a place gray, unless the place is nil.
 fn gray_place(space: &mut Space, place: Place)
@@ -42,7 +41,7 @@ pub(crate) fn gray_old_values(space: &mut Space)
     requires fit { OldValuesFit space.old.limits.blocks space.old.logged.items }
     ensures { Turns space.old space.new (with_old_grays (tables_of space.old) space.old.logged.items) }
 {
-    if trace_runs(space) {
+    if space.is_tracing() {
         gray_entries(space);
     }
 }

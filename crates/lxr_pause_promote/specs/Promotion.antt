@@ -3,21 +3,17 @@ use Rattle.std.specs.Prelude.{◌≡◌, ℕ, ◌+◌, ◌/◌, ◌%◌, ◌&&�
 use Rattle.lxr_layout.specs.declared.Name.{Name}
 use Rattle.lxr_layout.specs.declared.Place.{Place}
 use Rattle.lxr_layout.specs.declared.Shape.{Shape}
-use Rattle.lxr_layout.specs.declared.TheConstants.{GRANULES_IN_LINE, STUCK, TRACING_WORD}
+use Rattle.lxr_layout.specs.declared.TheConstants.{GRANULES_IN_LINE, STUCK}
 use Rattle.lxr_layout.specs.Objects.{word_count}
 use Rattle.lxr_layout.specs.Places.{first_word}
 use Rattle.lxr_image.specs.declared.space.Space.{Space}
 use Rattle.lxr_image.specs.Tables.{Tables, changed}
 use Rattle.lxr_image.specs.Spaces.{Turns, tables_of}
-use Rattle.lxr_image.specs.Reads.{granule_of}
+use Rattle.lxr_image.specs.Reads.{granule_of, is_tracing}
 use Rattle.lxr_blocks.specs.Handing.{is_between}
 use Rattle.lxr_blocks.specs.Placing.{IsFull}
 use Rattle.lxr_invariant.specs.Lines.{line_behind, next_line}
 use Rattle.lxr_pause_promote.specs.Copying.{Evacuates}
-
--- a trace runs
-abbrev pub is_tracing : Tables → Bool
-is_tracing t = nat_eq (t.cursors TRACING_WORD) 1
 
 -- the tables with the object at a granule marked while a trace runs
 abbrev pub with_mark : Tables → ℕ → Tables

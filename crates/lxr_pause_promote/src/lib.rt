@@ -11,5 +11,5 @@ mod promoting;
 mod shortage;
 
 pub use copying::{object, young_evacuate, young_evacuate_within};
-pub use promoting::{log_references, mark_lines, promote, promote_within, trace_runs};
+pub use promoting::{log_references, mark_lines, promote, promote_within};
 pub use shortage::Shortage;

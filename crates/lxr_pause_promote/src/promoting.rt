@@ -5,13 +5,13 @@ ghost use Rattle.lxr_layout.specs.declared.Name.{Name as NameOf};
 ghost use Rattle.lxr_layout.specs.declared.Shape.{Shape as ShapeOf};
 ghost use Rattle.lxr_image.specs.Spaces.{IsSpace, Turns, tables_of};
 ghost use Rattle.lxr_pause_promote.specs.Copying.{HasKeptAt, HasObjectAt, StandsAt, StandsKept};
-ghost use Rattle.lxr_pause_promote.specs.Promotion.{Promotes, is_tracing, with_mark, with_marks, with_promotion, with_unlogged};
+ghost use Rattle.lxr_pause_promote.specs.Promotion.{Promotes, with_mark, with_marks, with_promotion, with_unlogged};
 ghost use Rattle.lxr_pause_promote.specs.Shortages.{IsShortage};
 
 use crate::copying::{object, young_evacuate_within};
 use crate::shortage::Shortage;
 use lxr_image::Space;
-use lxr_layout::{GRANULES_IN_LINE, Place, STUCK, TRACING_WORD, word_of, words_of};
+use lxr_layout::{GRANULES_IN_LINE, Place, STUCK, word_of, words_of};
 
 /// Copies the new object at a place where there is room for it, and promotes it where it then is: from now on it begins there,
 /// its references are to be logged, and each further line that it reaches into is marked. While a trace runs, the object is
@@ -57,21 +57,13 @@ fn promote_here(space: &mut Space, place: Place) -> Place
     place
 }
 
-/// Whether a trace runs.
-pub fn trace_runs(space: &Space) -> bool
-    requires { IsSpace space.now }
-    ensures { result ≡ is_tracing (tables_of space.now) }
-{
-    space.cursor(TRACING_WORD) == 1
-}
-
 /// Marks the promoted object at a granule while a trace runs: a trace doesn't find what was made since it began.
 fn mark_promoted(space: &mut Space, granule: u32)
     requires space { IsSpace space.old }
     requires granule { granule < GRANULES_IN_BLOCK * space.old.limits.blocks }
     ensures { Turns space.old space.new (with_mark (tables_of space.old) granule) }
 {
-    if trace_runs(space) {
+    if space.is_tracing() {
         space.set_mark(granule);
     }
 }

@@ -57,12 +57,12 @@ may_open task space written seen actors h g amid =
       begins = record {
         between = amid.between;
         listed = amid.listed;
-        all_listed = amid.all_listed;
         moment = come.stands.moment ∙ ap (λ n. moment n h) threads;
         counted = subst (λ n. CountsObjects n h) threads (legal_counts (terms_of task) h come.history.0);
       };
       actors_rest = subst (λ l. ActorsRestAfter l task.options.every h actors) (sym come.limits) (record { mutators = amid.actors_rest.mutators.rest; helpers = amid.actors_rest.helpers });
-      served = amid.served;
+      few = amid.served.few;
+      unasked = amid.served.unasked;
     }
 
 -- ---- what an epoch leaves
@@ -252,7 +252,7 @@ module _ (task : Task) (space mid after : Space) (written : Option (List ℕ)) (
     news = closes.news;
     due = record {
       cause = subst (λ s. HasCause (terms_of task) s execution.history) have.mutators.script
-          (closes.cause finished (terms_of task) (record { threads = sym threads; blocks = ap (λ (l : Limits). l.blocks) (sym limits); log = ap (λ (l : Limits). l.log) (sym limits); every = refl }) amid.come.history.0);
+          (closes.cause finished amid.all_listed (terms_of task) (record { threads = sym threads; blocks = ap (λ (l : Limits). l.blocks) (sym limits); log = ap (λ (l : Limits). l.log) (sym limits); every = refl }) amid.come.history.0);
       early = early_extends task.options task.script task.options.every h execution.history extends
           (was_early task.options task.script h (ends_are_fewer task h (mutators_in before) amid.come.history.0 amid.actors_rest.mutators amid.more));
       owes_none = owes_extends (terms_of task) (threads_of task) task.options.every h execution.history extends amid.owes_none;

@@ -43,12 +43,15 @@ pub record Task : Type 0 where
   pub written : Option (List ℕ)
   pub seen : Option (List Sight)
 
+-- how many threads its script has
 abbrev pub threads_of : Task → ℕ
 threads_of task = length task.script
 
+-- the terms of its histories
 abbrev pub terms_of : Task → Terms
 terms_of task = script_terms task.options task.script
 
+-- the limits of its space
 abbrev pub task_limits : Task → Limits
 task_limits task = run_limits task.options (threads_of task)
 

@@ -176,6 +176,8 @@ module _ (task : Task) (space : Space) (written : Option (List ℕ)) (seen : Opt
             tracers = amid.actors_rest.tracers;
             abstract_state = g;
             begins = epoch_begins task space written seen actors h g amid;
+            all_listed = amid.all_listed;
+            unwaiting = amid.served.unwaiting;
             opened = opened;
             started = started;
             opens = opens;

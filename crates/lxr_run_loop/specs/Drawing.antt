@@ -1,16 +1,17 @@
 -- That a run's history is the one that its epochs and pauses make; with a generator, the one that it draws.
-use Rattle.std.specs.Prelude.{◌≡◌, ◌↔◌, ℕ, ⊤, Bool, Option, Some, None, List, [], ◌∷◌, is_some, map, length}
+use Rattle.std.specs.Prelude.{◌≡◌, ◌↔◌, ℕ, ⊤, Bool, Option, Some, None, List, [], ◌∷◌, is_some, map, length, slice_get}
 use Rattle.lxr_graph.specs.declared.report.Kind.TheVariants as kind
 use Rattle.lxr_graph.specs.History.{Item, Pause, PauseReport}
 use Rattle.lxr_image.specs.declared.space.Space.{Space}
 use Rattle.lxr_model.specs.Kinds.{MustCollect}
 use Rattle.lxr_invariant.specs.AbstractState.{AbstractState}
+use Rattle.lxr_invariant.specs.Listed.{FreeBlocksAreListed}
 use Rattle.lxr_actor.specs.declared.Core.{Core}
 use Rattle.lxr_actor.specs.declared.Event.{Event}
 use Rattle.lxr_actor.specs.declared.Event.TheVariants.{Step}
 use Rattle.lxr_actor.specs.Run.{core_of, run}
 use Rattle.lxr_core.specs.declared.actors.AnyActor.{AnyActor}
-use Rattle.lxr_mutator.specs.Mutating.{Mutating}
+use Rattle.lxr_mutator.specs.Mutating.{IsWaiting, Mutating}
 use Rattle.lxr_core.specs.Actors.{any_machine, decrementers_in, mutators_in, script_of, tracers_in}
 use Rattle.lxr_core.specs.Closing.{AreFinished, AreResting}
 use Rattle.lxr_core.specs.Executions.{tell_all}
@@ -40,8 +41,8 @@ pub record GoesOn (before after : Space) (actors actors' : List AnyActor) (x x' 
   pub resting : AreResting actors'
   pub rest : after ≡ record before { words = after.words }
 
--- An epoch of this space and these actors, behind a history h, was made: the mutators have the operations of the task, and there are as
--- many decrementers as its options ask for, and as many tracers. From its opening on these events came, in this order, and have led to
+-- An epoch of this space and these actors, behind a history h, was made: all free blocks were listed and no `new` waited, the mutators have
+-- the operations of the task, and there are as many decrementers as its options ask for, and as many tracers. From its opening on these events came, in this order, and have led to
 -- the history h', and the generator from x to x'.
 pub record MakesEpoch (task : Task) (space : Space) (actors : List AnyActor) (h : List Item) (x : Option ℕ) (h' : List Item) (x' : Option ℕ) : Type 0 where
   pub script : script_of (mutators_in actors) ≡ task.script
@@ -49,6 +50,8 @@ pub record MakesEpoch (task : Task) (space : Space) (actors : List AnyActor) (h 
   pub tracers : length (tracers_in actors) ≡ task.options.workers
   pub abstract_state : AbstractState
   pub begins : Begins (beginning_of task space h abstract_state) space actors
+  pub all_listed : FreeBlocksAreListed space
+  pub unwaiting : (i : ℕ) (m : Mutating) → slice_get (mutators_in actors) i ≡ Some m → ¬ IsWaiting m
   pub opened : Space
   pub started : List AnyActor
   pub opens : Opens space opened actors started

@@ -1,5 +1,5 @@
--- What holds of a space between the steps of a pause reads neither its report nor its tally nor the number of pauses; and it stays with
--- another number, another order of stuck names, another trace and other states of blocks, where nothing was made.
+-- What holds of a space between the steps of a pause stays with another number, another order of stuck names, another trace and other
+-- states of blocks, where nothing was made.
 use Rattle.std.proofs.Common.{◌≡◌, ℕ, ◌*◌, ◌/◌, refl, sym, ap, subst, ◌∙◌, inl, inr, List, [], IsTrue}
 use Rattle.std.specs.Prelude.{Option}
 use Rattle.lxr_layout.specs.declared.TheConstants.{DECREMENT_COUNT, DECREMENT_CURSOR, GRANULES_IN_BLOCK, GRANULES_IN_LINE}
@@ -9,7 +9,6 @@ use Rattle.lxr_graph.specs.declared.report.Report.{Report}
 use Rattle.lxr_graph.specs.Names.{has}
 use Rattle.lxr_graph.specs.State.{world_name}
 use Rattle.lxr_image.specs.declared.space.Space.{Space}
-use Rattle.lxr_image.specs.declared.space.Tally.{Tally}
 use Rattle.lxr_image.specs.Opened.{HasReportRoom}
 use Rattle.lxr_image.specs.Tables.{Tables}
 use Rattle.lxr_image.specs.Spaces.{IsSpace, tables_of}
@@ -26,34 +25,10 @@ use Rattle.lxr_invariant.specs.Lines.{HasBlocks, HasMarks}
 use Rattle.lxr_invariant.specs.Standing.{HasBits, IsUnwritten}
 use Rattle.lxr_invariant.specs.Quiescent.{HoldsMoment}
 use Rattle.lxr_invariant.proofs.FrameLemmas.{bits_still, counts_still, decrements_still, image_still, marks_still, rest_still, undecremented_still}
+use Rattle.lxr_invariant.proofs.ToldLemmas.{holds_told}
 use Rattle.lxr_run_pause.specs.Steps.{begun, with_names_in_order}
 
--- ---- the report, the tally and the number of pauses
-
--- the space with another report, tally and number of pauses
-abbrev pub with_told : Space → Report → Tally → ℕ → Space
-with_told s r tally pauses = record s { report = r; tally = tally; pauses = pauses }
-
-pub holds_told : (s : Space) (m : Moment) (at : Name → ℕ) (r : Report) (tally : Tally) (pauses : ℕ) → HasReportRoom r (GRANULES_IN_BLOCK * s.limits.blocks) → HoldsMoment s m at
-    → HoldsMoment (with_told s r tally pauses) m at
-holds_told s m at r tally pauses room h = record {
-  space = record { limits = h.space.limits; size = h.space.size };
-  room = record { registers = h.room.registers; deferred = h.room.deferred; logged = h.room.logged; work = h.room.work; report = room };
-  as_many = h.as_many;
-  follows = h.follows;
-  image = record { image = h.image.image; registers = h.image.registers; deferred = h.image.deferred; world = h.image.world };
-  bits = h.bits;
-  logs = h.logs;
-  few_logs = h.few_logs;
-  counts = h.counts;
-  decrements = h.decrements;
-  marks = h.marks;
-  lines = h.lines;
-  unchosen = h.unchosen;
-  blocks = h.blocks;
-  rest = record { rest = rest_still s (with_told s r tally pauses) refl refl refl refl refl h.rest.rest; apart = h.rest.apart };
-  no_work = h.no_work;
-}
+-- ---- the report
 
 -- the reports of a pause have the room that they had
 pub begun_room : (r : Report) (k granules : ℕ) → HasReportRoom r granules → HasReportRoom (begun r k) granules

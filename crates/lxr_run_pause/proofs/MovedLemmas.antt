@@ -53,7 +53,8 @@ use Rattle.lxr_run_pause.specs.Relocating.{Evacuates, IsEvacuee, IsSnapshotOf, R
 use Rattle.lxr_run_pause.proofs.BlocksLemmas.{blocks_set, chosen_alike, chosen_before, chosen_then, none_released, released_blocks, was_so}
 use Rattle.lxr_run_pause.proofs.BuildingLemmas.{AreParts, KeepsThroughTracing, kept_alive, leads, now, report, settles, stay_then, with_kind}
 use Rattle.lxr_run_pause.proofs.EvacuatingLemmas.{copy_from, copy_to, covers_at, field_word_of, first_granule_of, first_word_of, free_off, granule_of_word, one_of_two, word_at}
-use Rattle.lxr_run_pause.proofs.FrameLemmas.{IsReworded, holds_then, holds_told, rest_then, undecremented_then}
+use Rattle.lxr_invariant.proofs.ToldLemmas.{holds_told}
+use Rattle.lxr_run_pause.proofs.FrameLemmas.{IsReworded, holds_then, rest_then, undecremented_then}
 use Rattle.lxr_run_pause.proofs.KindLemmas.{going_same, lists_on}
 use Rattle.lxr_run_pause.proofs.RelocatingLemmas.{counted_by, refuted}
 use Rattle.lxr_run_pause.proofs.RememberedLemmas.{overflowed_still, same_both, same_kept, same_told}

@@ -48,7 +48,8 @@ use Rattle.lxr_run_pause.specs.Relocating.{ChoosesBlocks, Evacuates, Relocates}
 use Rattle.lxr_run_pause.proofs.ReportLemmas.{entries_same, goes_on, moment_then, reports, stuck_then, stuck_told, told, unreclaimed_then}
 use Rattle.lxr_run_pause.proofs.OrderLemmas.{has_in_order}
 use Rattle.lxr_run_pause.proofs.BlocksLemmas.{chooses_swept}
-use Rattle.lxr_run_pause.proofs.FrameLemmas.{AgreesApartFromBlocks, holds_renumbered, holds_reworded, holds_told, ordered_room, renumbered, rest_reworded, undecremented_renumbered, undecremented_reworded, with_told}
+use Rattle.lxr_invariant.proofs.ToldLemmas.{holds_told, with_told}
+use Rattle.lxr_run_pause.proofs.FrameLemmas.{AgreesApartFromBlocks, holds_renumbered, holds_reworded, ordered_room, renumbered, rest_reworded, undecremented_renumbered, undecremented_reworded}
 use Rattle.lxr_run_pause.proofs.RelocatingLemmas.{evacuates_still, relocates_still}
 use Rattle.lxr_run_pause.proofs.RememberedLemmas.{same_both}
 use Rattle.lxr_run_pause.proofs.TracedLemmas.{traced_still, traces_still}

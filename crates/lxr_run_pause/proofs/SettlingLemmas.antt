@@ -38,7 +38,8 @@ use Rattle.lxr_pause_trace_laws.proofs.TellingLemmas.{marks_tell}
 use Rattle.lxr_run_pause.specs.Steps.{begun, with_report_begun}
 use Rattle.lxr_run_pause.specs.Settling.{SettlesCounts, TellsCounts, TellsTheEnd, counted}
 use Rattle.lxr_run_pause.specs.Pausing.{CanPause, KeepsObjects, SameRemembered, Traces}
-use Rattle.lxr_run_pause.proofs.FrameLemmas.{begun_room, holds_renumbered, holds_told, undecremented_renumbered}
+use Rattle.lxr_invariant.proofs.ToldLemmas.{holds_told}
+use Rattle.lxr_run_pause.proofs.FrameLemmas.{begun_room, holds_renumbered, undecremented_renumbered}
 use Rattle.lxr_run_pause.proofs.GoingOnLemmas.{traces_on}
 use Rattle.lxr_run_pause.proofs.RememberedLemmas.{can_remember, keeps_remembered, remember_still, same_both, same_kept, same_told}
 use Rattle.lxr_run_pause.proofs.TracedLemmas.{trace_still}

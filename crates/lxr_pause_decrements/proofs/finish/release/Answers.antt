@@ -1,5 +1,5 @@
 use Rattle.std.proofs.Common.{◌∙◌, ap, arith, refl, sym}
-use Rattle.std.specs.Prelude.{◌==◌}
+use Rattle.std.specs.Prelude.{nat_eq}
 use Rattle.lxr_layout.specs.declared.TheConstants.{TRACING_WORD}
 use Rattle.lxr_pause_decrements.proofs.SpaceLemmas.{keeps_both, keeps_none}
 use Rattle.lxr_pause_decrements.proofs.DrainLemmas.{released_place, released_header, begins, field_waits, ends}
@@ -32,7 +32,7 @@ lower_field-requires-clause-field c =
     (_, r, rest, field_waits c.args.space.now c.loop-i.space c.args.place.0 c.loop-i.i st r rest re (omega (arith, e, h.2, t)) reaches)
 
 pub lower_field-requires-clause-tracing : goal.lower_field-requires-clause-tracing
-lower_field-requires-clause-tracing c = c.is_tracing-tracing.ensures ∙ ap (λ f. f TRACING_WORD == 1) (sym c.loop-i.invariant.keeps.cursors)
+lower_field-requires-clause-tracing c = c.is_tracing-tracing.ensures ∙ ap (λ f. nat_eq (f TRACING_WORD) 1) (sym c.loop-i.invariant.keeps.cursors)
 
 pub loop-i-preserved : goal.loop-i-preserved
 loop-i-preserved c = record {
