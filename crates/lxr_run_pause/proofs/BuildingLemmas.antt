@@ -3,6 +3,7 @@ use Rattle.std.proofs.Common.{◌≡◌, ◌≢◌, ℕ, ◌+◌, refl, sym, ap,
 use Rattle.std.specs.Prelude.{◌↔◌, Option, Some, None}
 use Rattle.std.specs.Option.{option_map}
 use Rattle.std.proofs.lemmas.Bool.{false_from_ne_true}
+use Rattle.lxr_layout.specs.declared.TheConstants.{REMEMBERED_CURSOR}
 use Rattle.lxr_layout.specs.declared.Name.{Name}
 use Rattle.lxr_graph.specs.declared.report.Kind.{Kind}
 use Rattle.lxr_graph.specs.declared.report.Kind.TheVariants as kind
@@ -33,7 +34,7 @@ use Rattle.lxr_invariant.proofs.NameLemmas.{in_first, in_second, no_member}
 use Rattle.lxr_pause_trace_laws.specs.Laws.{at_moment}
 use Rattle.lxr_run_pause.specs.Settling.{DiesBy, IsSweptBy, Settles, SettlesCounts, Tells, counted, kept_by, remaining_by, settled_by}
 use Rattle.lxr_run_pause.specs.Tracing.{CanDrain}
-use Rattle.lxr_run_pause.specs.Pausing.{CanPause, IsDrained, IsLetGo, KeepsObjects, KeepsThroughPause, LeavesRemembered, Traces}
+use Rattle.lxr_run_pause.specs.Pausing.{CanPause, DrawsByKind, IsDrained, IsLetGo, KeepsObjects, KeepsThroughPause, LeavesRemembered, Traces}
 use Rattle.lxr_run_pause.specs.Relocating.{ChoosesBlocks, Evacuates, Relocates}
 use Rattle.lxr_run_pause.proofs.DistinctnessLemmas.{distinct_three}
 use Rattle.lxr_run_pause.proofs.FrameLemmas.{holds_of_kind}
@@ -217,6 +218,7 @@ module _ (s k : Space) (g : AbstractState) (can : CanPause s g) (at' : Name → 
           pub no_rest : moved ≡ [] → x.rest_next ≡ x.rest_end
           pub lists : KeepsThroughPause (tables_of k) (tables_of x)
           pub remembered : LeavesRemembered is (tables_of s) (tables_of x) s.limits.blocks
+          pub draws : DrawsByKind is s g parts (report_of report) ((tables_of s).cursors REMEMBERED_CURSOR) ((tables_of x).cursors REMEMBERED_CURSOR)
           pub chosen : ChoosesBlocks is (tables_of s) (tables_of x) s.limits.blocks
           pub traces : Traces is m.trace s x g to (report_of report) leads.unreclaimed
           pub tally : x.tally ≡ record s.tally { moved = s.tally.moved + length moved; kept = s.tally.kept + length unmoved }
@@ -245,6 +247,7 @@ module _ (s k : Space) (g : AbstractState) (can : CanPause s g) (at' : Name → 
               frees = ends.lists.frees ∙ counts.keeps.frees;
               cursors = λ j a b c d. ends.lists.cursors j a b c d ∙ other_cursors (tables_of s) (tables_of k) j counts.keeps a b c;
             };
+            draws = subst (λ r. DrawsByKind r.kind s g parts (report_of r) ((tables_of s).cursors REMEMBERED_CURSOR) ((tables_of x).cursors REMEMBERED_CURSOR)) (sym same_report) ends.draws;
             remembered = subst (λ r. LeavesRemembered r.kind (tables_of s) (tables_of x) s.limits.blocks) (sym same_report) ends.remembered;
             chosen = subst (λ r. ChoosesBlocks r.kind (tables_of s) (tables_of x) s.limits.blocks) (sym same_report) ends.chosen;
             traces = subst (λ r. Traces r.kind m.trace s x g to (report_of r) (settled_by m parts r).unreclaimed) (sym same_report) ends.traces;
@@ -288,6 +291,7 @@ module _ (s k : Space) (g : AbstractState) (can : CanPause s g) (at' : Name → 
           pub drained : IsDrained x (is_draining is)
           pub keeps : KeepsThroughTracing (tables_of k) (tables_of x)
           pub remembered : LeavesRemembered is (tables_of s) (tables_of x) s.limits.blocks
+          pub draws : DrawsByKind is s g parts (report_of report) ((tables_of s).cursors REMEMBERED_CURSOR) ((tables_of x).cursors REMEMBERED_CURSOR)
           pub chosen : ChoosesBlocks is (tables_of s) (tables_of x) s.limits.blocks
           pub traces : Traces is m.trace s x g at' (report_of report) leads.unreclaimed
 
@@ -320,6 +324,7 @@ module _ (s k : Space) (g : AbstractState) (can : CanPause s g) (at' : Name → 
             no_rest = λ none. ap (λ (y : Space). y.rest_next) ends.space ∙ counts.no_rest ∙ sym (ap (λ (y : Space). y.rest_end) ends.space);
             lists = ends.keeps.lists;
             remembered = ends.remembered;
+            draws = ends.draws;
             chosen = ends.chosen;
             traces = ends.traces;
             tally = ap (λ (y : Space). y.tally) ends.space ∙ ap (λ (y : Space). y.tally) counts.space ∙ none_counted s.tally;

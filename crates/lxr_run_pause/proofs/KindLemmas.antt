@@ -179,6 +179,7 @@ module _ (s k : Space) (g : AbstractState) (can : CanPause s g) (at' : Name → 
     drained = tt;
     keeps = record { heap = refl; reuse = refl; outs = refl; lists = record { runs = refl; frees = refl; cursors = λ j a b c d. refl } };
     remembered = λ none. same_both (tables_of s) (tables_of k) (tables_of plain_end) (counts.remembered none) (record { entries = refl; cursor = refl });
+    draws = counts.draws;
     chosen = λ b. (chosen_before (tables_of s) (tables_of k) b (counts.states b), chosen_then (tables_of s) (tables_of k) b (counts.states b));
     traces = subst (λ ns. Traces kind.Plain m.trace s plain_end g at' (report_of plain_report) ns) (ap (λ (z : Moment). z.unreclaimed) plain_lead)
         (traces_still s k plain_end g at' (report_of k.report) (report_of plain_report) kept refl refl (λ n. refl) (λ n. ap (λ ns. has ns n) (sym plain_dead)) kind.Plain m.trace counts.traces);
@@ -356,6 +357,7 @@ module _ (s k : Space) (g : AbstractState) (can : CanPause s g) (at' : Name → 
           ∙ begins.finishes.empty;
       keeps = begin_keeps;
       remembered = ap (λ (t : Tables). t.cursors REMEMBERED_CURSOR) tables_are ∙ none_remembered (tables_of begun) begun.limits.blocks;
+      draws = ap (λ (t : Tables). t.cursors REMEMBERED_CURSOR) tables_are ∙ none_remembered (tables_of begun) begun.limits.blocks;
       chosen = subst (λ t. ChoosesBlocks kind.Begin (tables_of s) t s.limits.blocks) (sym tables_are)
           (subst (λ n. ChoosesBlocks kind.Begin (tables_of s) (begun_anew (tables_of begun) begun.limits.blocks) n) begin_blocks (begun_chosen (tables_of begun) begun.limits.blocks blocks_begun (tables_of s)));
       traces = begin_traces;

@@ -43,9 +43,10 @@ use Rattle.lxr_run_pause.specs.declared.Pace.{Pace}
 use Rattle.lxr_run_pause.specs.Deciding.{HasKind}
 use Rattle.lxr_run_pause.specs.Steps.{CanCountWhere, CountsWhere, with_names_in_order, with_pause_counted}
 use Rattle.lxr_run_pause.specs.Settling.{Settles, remaining_by, settled_by}
-use Rattle.lxr_run_pause.specs.Pausing.{CanPause, IsDrained, IsLetGo, KeepsThroughPause, LeavesRemembered, Pauses, SameRemembered, Traces}
+use Rattle.lxr_run_pause.specs.Pausing.{CanPause, DrawsByKind, IsDrained, IsLetGo, KeepsThroughPause, LeavesRemembered, Pauses, SameRemembered, Traces}
+use Rattle.lxr_run_pause.proofs.DrawingLemmas.{draws_told}
 use Rattle.lxr_run_pause.specs.Relocating.{ChoosesBlocks, Evacuates, Relocates}
-use Rattle.lxr_run_pause.proofs.ReportLemmas.{entries_same, goes_on, moment_then, reports, stuck_then, stuck_told, told, unreclaimed_then}
+use Rattle.lxr_run_pause.proofs.ReportLemmas.{entries_same, goes_on, moment_then, parts_in_order, reports, reports_with, stuck_then, stuck_told, told, unreclaimed_then}
 use Rattle.lxr_run_pause.proofs.OrderLemmas.{has_in_order}
 use Rattle.lxr_run_pause.proofs.BlocksLemmas.{chooses_swept}
 use Rattle.lxr_run_pause.proofs.FrameLemmas.{AgreesApartFromBlocks, holds_renumbered, holds_reworded, holds_told, ordered_room, renumbered, rest_reworded, undecremented_renumbered, undecremented_reworded, with_told}
@@ -305,6 +306,13 @@ module _ (s x : Space) (g : AbstractState) (asked : Ask) (pace : Pace) (can : Ca
           refl line_was_free let_go_told settles.stay;
       keeps = keeps;
       remembered = leaves_swept r.kind (tables_of s) t (tables_of at_end) s.limits.blocks (record { entries = ap (λ z. z.remembered) tables; cursor = ap (λ z. z.cursors REMEMBERED_CURSOR) tables }) settles.remembered;
+      draws = (
+        parts_in_order parts,
+        reports_with m r parts counts follows settles.tells afresh,
+        subst (DrawsByKind r.kind s g (parts_in_order parts) said ((tables_of s).cursors REMEMBERED_CURSOR)) (sym (ap (λ z. z.cursors REMEMBERED_CURSOR) tables))
+            (draws_told s g parts (parts_in_order parts) (report_of r) said (has_in_order r.promoted.items) (has_in_order r.swept.items) (has_in_order parts.first_dead) (has_in_order parts.second_dead) r.kind ((tables_of s).cursors REMEMBERED_CURSOR)
+            (t.cursors REMEMBERED_CURSOR) settles.draws),
+      );
       drained = drained_by (is_draining r.kind) settles.drained;
       outs = outs;
       no_rest = settles.no_rest;

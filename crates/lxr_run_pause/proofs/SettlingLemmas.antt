@@ -37,7 +37,8 @@ use Rattle.lxr_pause_trace_laws.proofs.FinishingLemmas.{finishing_keeps}
 use Rattle.lxr_pause_trace_laws.proofs.TellingLemmas.{marks_tell}
 use Rattle.lxr_run_pause.specs.Steps.{begun, with_report_begun}
 use Rattle.lxr_run_pause.specs.Settling.{SettlesCounts, TellsCounts, TellsTheEnd, counted}
-use Rattle.lxr_run_pause.specs.Pausing.{CanPause, KeepsObjects, SameRemembered, Traces}
+use Rattle.lxr_run_pause.specs.Pausing.{CanPause, DrawsFor, IsToRaise, KeepsObjects, SameRemembered, Traces}
+use Rattle.lxr_run_pause.proofs.DrawingLemmas.{into_chosen}
 use Rattle.lxr_run_pause.proofs.FrameLemmas.{begun_room, holds_renumbered, holds_told, undecremented_renumbered}
 use Rattle.lxr_run_pause.proofs.GoingOnLemmas.{traces_on}
 use Rattle.lxr_run_pause.proofs.RememberedLemmas.{can_remember, keeps_remembered, remember_still, same_both, same_kept, same_told}
@@ -235,6 +236,19 @@ module _ (s began : Space) (g : AbstractState) (can : CanPause s g) (begins : be
               same_both (tables_of s) (tables_of finished) (tables_of queued) (same_kept (tables_of s) (tables_of finished) kept_before)
               (same_both (tables_of finished) (tables_of raised) (tables_of queued) (same_told (tables_of finished) (tables_of raised) (raise.remembers.idle there)) (same_kept (tables_of raised) (tables_of queued) queue.keeps))
 
+          -- one number was drawn for each reference that increments entered
+          drawn : DrawsFor s g (IsToRaise g (report_of raised.report)) ((tables_of s).cursors REMEMBERED_CURSOR) ((tables_of queued).cursors REMEMBERED_CURSOR)
+          drawn = record {
+            entered = raise.entered.entered;
+            are = into_chosen finished.limits s g (tables_of raised) left at' raised.report.promoted.items _ (IsToRaise g (report_of raised.report)) ((tables_of finished).cursors REMEMBERED_CURSOR) raise.entered.entered refl
+                (λ b. keeps_state_still (tables_of finished) (tables_of raised) (tables_of s) (tables_of raised) b (sym same_states) refl (raise.states b)) raise.unchosen raise.copies.others (λ n i one. one) raise.entered.are;
+            drawn =
+                let before = kept_before.cursors REMEMBERED_CURSOR (λ e. cc) (λ e. cc) in
+                let after = queue.keeps.cursors REMEMBERED_CURSOR (λ e. cc) (λ e. cc) in
+                let entered = raise.entered.drawn in
+                omega (arith, before, after, entered);
+          }
+
           copied : CopiesPromoted (tables_of s) (tables_of queued) m g.at at' raised.report.promoted.items
           copied =
               copies_still (tables_of finished) (tables_of raised) (tables_of s) (tables_of queued) m (without m.unreclaimed gone) g.at at' raised.report.promoted.items raised.report.promoted.items
@@ -280,6 +294,7 @@ module _ (s began : Space) (g : AbstractState) (can : CanPause s g) (begins : be
                 ∙ sym (ap (λ (x : Space). x.rest_end) queue.space ∙ ap (λ (x : Space). x.rest_end) raise.space);
             keeps = kept;
             remembered = remembered;
+            draws = drawn;
             states = λ b. keeps_state_still (tables_of finished) (tables_of raised) (tables_of s) (tables_of queued) b (sym same_states) queued_states (raise.states b);
             traces = traces_there g.moment.trace (traces_done g.moment.trace refl);
             space =
