@@ -34,7 +34,7 @@ use Rattle.lxr_invariant.proofs.NameLemmas.{in_first, in_second, no_member}
 use Rattle.lxr_pause_trace_laws.specs.Laws.{at_moment}
 use Rattle.lxr_run_pause.specs.Settling.{DiesBy, IsSweptBy, Settles, SettlesCounts, Tells, counted, kept_by, remaining_by, settled_by}
 use Rattle.lxr_run_pause.specs.Tracing.{CanDrain}
-use Rattle.lxr_run_pause.specs.Pausing.{CanPause, DrawsByKind, IsDrained, IsLetGo, KeepsObjects, KeepsThroughPause, LeavesRemembered, Traces}
+use Rattle.lxr_run_pause.specs.Pausing.{CanPause, DrawsByKind, IsDrained, IsLetGo, KeepsObjects, KeepsThroughPause, LeavesRemembered, QueuesOldValues, Traces}
 use Rattle.lxr_run_pause.specs.Relocating.{ChoosesBlocks, Evacuates, Relocates}
 use Rattle.lxr_run_pause.proofs.DistinctnessLemmas.{distinct_three}
 use Rattle.lxr_run_pause.proofs.FrameLemmas.{holds_of_kind}
@@ -213,6 +213,7 @@ module _ (s k : Space) (g : AbstractState) (can : CanPause s g) (at' : Name → 
           pub stay : StayForWantOfLines (tables_of s) (tables_of x) s.limits.blocks m g.at to report.promoted.items (IsLetGo g to (report_of report))
           pub traced : IsTracedBy x.limits (tables_of x) [] (at_moment (standing g to) leads) leads.trace
           pub trace : x.trace ≡ option_map (λ (trace : Trace). trace.began) leads.trace
+          pub queues : QueuesOldValues is s x
           pub drained : IsDrained x (is_draining is)
           pub outs : (line : ℕ) → IsTrue ((tables_of x).outs line) ↔ HasCopy m.state.graph g.at to moved line
           pub no_rest : moved ≡ [] → x.rest_next ≡ x.rest_end
@@ -238,6 +239,7 @@ module _ (s k : Space) (g : AbstractState) (can : CanPause s g) (at' : Name → 
             stay = subst (λ r. StayForWantOfLines (tables_of s) (tables_of x) s.limits.blocks m g.at to r.promoted.items (IsLetGo g to (report_of r))) (sym same_report) ends.stay;
             traced = subst (λ r. IsTracedBy x.limits (tables_of x) [] (at_moment (standing g to) (settled_by m parts r)) (settled_by m parts r).trace) (sym same_report) ends.traced;
             trace = subst (λ r. x.trace ≡ option_map (λ (trace : Trace). trace.began) (settled_by m parts r).trace) (sym same_report) ends.trace;
+            queues = subst (λ r. QueuesOldValues r.kind s x) (sym same_report) ends.queues;
             drained = subst (λ r. IsDrained x (is_draining r.kind)) (sym same_report) ends.drained;
             no_logs = ap (λ (y : Space). y.logged.items) ends.space ∙ counts.no_logs;
             outs = ends.outs;
@@ -288,6 +290,7 @@ module _ (s k : Space) (g : AbstractState) (can : CanPause s g) (at' : Name → 
           pub undecremented : IsUndecremented (tables_of x) leads at'
           pub traced : IsTracedBy x.limits (tables_of x) [] (at_moment (standing g at') leads) leads.trace
           pub trace : x.trace ≡ option_map (λ (trace : Trace). trace.began) leads.trace
+          pub queues : QueuesOldValues is s x
           pub drained : IsDrained x (is_draining is)
           pub keeps : KeepsThroughTracing (tables_of k) (tables_of x)
           pub remembered : LeavesRemembered is (tables_of s) (tables_of x) s.limits.blocks
@@ -319,6 +322,7 @@ module _ (s k : Space) (g : AbstractState) (can : CanPause s g) (at' : Name → 
             stay = stay_then (tables_of x) ends.holds.marks ends.undecremented.positive;
             traced = ends.traced;
             trace = ends.trace;
+            queues = ends.queues;
             drained = ends.drained;
             outs = λ line. ((λ out. not_both ((tables_of x).outs line) out (ap (λ f. f line) ends.keeps.outs ∙ counts.none_out line)), (λ copy. no_member copy.name copy.promoted_is));
             no_rest = λ none. ap (λ (y : Space). y.rest_next) ends.space ∙ counts.no_rest ∙ sym (ap (λ (y : Space). y.rest_end) ends.space);

@@ -176,6 +176,7 @@ module _ (s k : Space) (g : AbstractState) (can : CanPause s g) (at' : Name → 
     undecremented = subst (λ z. IsUndecremented (tables_of k) z at') plain_lead counts.undecremented;
     traced = subst (λ z. IsTracedBy k.limits (tables_of k) [] (at_moment (standing g at') z) z.trace) plain_lead counts.traced;
     trace = ap (λ (x : Space). x.trace) counts.space ∙ can.safepoint.numbers.trace ∙ sym (began_on m (report_of plain_report) m.trace);
+    queues = counts.queues;
     drained = tt;
     keeps = record { heap = refl; reuse = refl; outs = refl; lists = record { runs = refl; frees = refl; cursors = λ j a b c d. refl } };
     remembered = λ none. same_both (tables_of s) (tables_of k) (tables_of plain_end) (counts.remembered none) (record { entries = refl; cursor = refl });
@@ -351,6 +352,7 @@ module _ (s k : Space) (g : AbstractState) (can : CanPause s g) (at' : Name → 
       undecremented = subst (λ z. IsUndecremented (tables_of x) z at') lead_is (undecremented_then begun x began is_reworded left (Some fresh) at' begun_undecremented);
       traced = subst (λ z. IsTracedBy x.limits (tables_of x) [] (at_moment (standing g at') z) z.trace) lead_is begin_traced;
       trace = ap (λ (y : Space). y.trace) begun_is;
+      queues = tt;
       drained = ap (λ (t : Tables). t.cursors DECREMENT_COUNT) tables_are
           ∙ begun_cursor (tables_of begun) begun.limits.blocks DECREMENT_COUNT (λ e. cc) (λ e. cc)
           ∙ ap (λ (t : Tables). t.cursors DECREMENT_COUNT) begins.begins.tables

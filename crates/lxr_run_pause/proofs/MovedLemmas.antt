@@ -616,6 +616,7 @@ module _ (s k : Space) (g : AbstractState) (can : CanPause s g) (at' : Name → 
     stay = stay_ended end_parts;
     traced = tt;
     trace = ap (λ (y : Space). y.trace) ended_from;
+    queues = tt;
     drained = ap (λ (t : Tables). t.cursors DECREMENT_COUNT) tables_ended ∙ changed_other te.cursors TRACING_WORD 0 DECREMENT_COUNT (λ e. cc) ∙ ap (λ (t : Tables). t.cursors DECREMENT_COUNT) moves.tables ∙ ends.sweeps.empty;
     outs = outs_ended;
     no_rest = rest_ended;

@@ -1,6 +1,7 @@
 -- Each step of counting finds what it asks for, and once roots are deferred, counting is done: a trace that runs goes on.
 use Rattle.std.proofs.Common.{◌≡◌, ℕ, ◌+◌, ◌*◌, ◌^◌, ◌≤◌, refl, sym, ap, subst, ◌∙◌, arith, List, [], ◌++◌, IsTrue, length}
 use Rattle.std.specs.Prelude.{◌↔◌, Option, Some, None}
+use Rattle.lxr_pause_queue.specs.OldValues.{decrement_list, dropped_values, first_entries, logged_values, old_values, without_nil}
 use Rattle.lxr_layout.specs.declared.TheConstants.{GRANULES_IN_BLOCK, REMEMBERED_CURSOR}
 use Rattle.lxr_layout.specs.declared.Name.{Name}
 use Rattle.lxr_graph.specs.declared.report.Kind.TheVariants as kind
@@ -236,6 +237,17 @@ module _ (s began : Space) (g : AbstractState) (can : CanPause s g) (begins : be
               same_both (tables_of s) (tables_of finished) (tables_of queued) (same_kept (tables_of s) (tables_of finished) kept_before)
               (same_both (tables_of finished) (tables_of raised) (tables_of queued) (same_told (tables_of finished) (tables_of raised) (raise.remembers.idle there)) (same_kept (tables_of raised) (tables_of queued) queue.keeps))
 
+          -- the old values that were queued are those of the space as the pause began, with registers as they are now
+          queued_values : decrement_list (tables_of queued) ≡ old_values (record s { registers = queued.registers })
+          queued_values =
+              let none = raise.raised.decrements.1 in
+              let logs : raised.logged.items ≡ s.logged.items = ap (λ (x : Space). x.logged.items) raise.space ∙ ap (λ (x : Space). x.logged.items) finish.space ∙ ap (λ (x : Space). x.logged.items) begins in
+              let held : raised.deferred.items ≡ s.deferred.items = ap (λ (x : Space). x.deferred.items) raise.space ∙ ap (λ (x : Space). x.deferred.items) finish.space ∙ ap (λ (x : Space). x.deferred.items) begins in
+              let registers : raised.registers.items ≡ queued.registers.items = sym (ap (λ (x : Space). x.registers.items) queue.space) in
+              queue.decrements
+              ∙ ap (λ n. first_entries (tables_of raised).decs n ++ old_values raised) none
+              ∙ (λ i. without_nil (logged_values (logs i)) ++ without_nil (dropped_values (held i) (registers i)))
+
           -- one number was drawn for each reference that increments entered
           drawn : DrawsFor s g (IsToRaise g (report_of raised.report)) ((tables_of s).cursors REMEMBERED_CURSOR) ((tables_of queued).cursors REMEMBERED_CURSOR)
           drawn = record {
@@ -286,6 +298,7 @@ module _ (s began : Space) (g : AbstractState) (can : CanPause s g) (begins : be
             stay = stays;
             traced = traced_done g.moment.trace refl can.objects can.safepoint.traced;
             tells_the_end = end_told g.moment.trace (tells_done g.moment.trace refl);
+            queues = queued_values;
             few_dead = subst (λ l. length raised.report.dead.items ≤ GRANULES_IN_BLOCK * l.blocks) (sym (ap (λ (x : Space). x.limits) queue.space)) few_gone;
             no_logs = ap (λ (x : Space). x.logged.items) queue.space;
             none_out = queue.none_out;

@@ -257,6 +257,7 @@ module _ (s k : Space) (g : AbstractState) (can : CanPause s g) (at' : Name → 
         undecremented = undecremented_then cleared_there x None collect_reworded collect_last None at' collects.sweeps.undecremented;
         traced = tt;
         trace = ap (λ (y : Space). y.trace) collected_is;
+        queues = tt;
         drained = ap (λ (t : Tables). t.cursors DECREMENT_COUNT) collects.sets.tables ∙ changed_other (tables_of cleared_there).cursors TRACING_WORD 0 DECREMENT_COUNT (λ e. cc) ∙ collects.sweeps.empty;
         keeps = keeps_on (tables_of k) (tables_of cleared_there) (tables_of x)
             (cleared_keeps s k g can at' gone counts kind.Collect collects.found collects.traced cleared_there collects.gone collects.swept collects.third collects.finishes collect_keeps collects.traces.holds collects.sweeps)

@@ -1,5 +1,6 @@
 -- What one pause does.
 use Rattle.std.specs.Prelude.{◌≡◌, ◌≢◌, ℕ, ◌+◌, ◌/◌, ◌^◌, ◌<◌, ◌≤◌, ◌↔◌, ◌⊎◌, ⊤, Bool, true, Option, Some, None, List, [], ◌++◌, IsTrue, false, length}
+use Rattle.lxr_pause_queue.specs.OldValues.{decrement_list, old_values}
 use Rattle.lxr_layout.specs.declared.Name.{Name}
 use Rattle.lxr_layout.specs.declared.TheConstants.{DECREMENT_COUNT, DECREMENT_CURSOR, GRANULES_IN_LINE, REMEMBERED_CURSOR, TRACING_WORD}
 use Rattle.lxr_graph.specs.declared.report.Kind.{Kind}
@@ -130,6 +131,14 @@ Traces kind.Begin trace before after g at' r left = BeginsTracing after g at'
 Traces (kind.End j) trace before after g at' r left = EndsTracing after at' left
 Traces kind.Collect trace before after g at' r left = EndsTracing after at' left
 
+-- Behind a plain pause exactly the decrements wait that it queued, in their order: of what logged references held at the last pause, and of what
+-- registers held then and hold no more.
+abbrev pub QueuesOldValues : Kind → Space → Space → Type 0
+QueuesOldValues kind.Plain before after = decrement_list (tables_of after) ≡ old_values (record before { registers = after.registers })
+QueuesOldValues kind.Begin before after = ⊤
+QueuesOldValues (kind.End j) before after = ⊤
+QueuesOldValues kind.Collect before after = ⊤
+
 -- where a pause drained, no decrement waits
 abbrev pub IsDrained : Space → Bool → Type 0
 IsDrained s false = ⊤
@@ -144,7 +153,8 @@ IsLetGo g at' r line = (n : Name) × (o : Object) × (k : ℕ) × IsTrue (has (r
 -- those that were moved out of Chosen blocks at their new places and all others where they were, and the pause is counted, with what it moved
 -- and kept. Registers hold the new places. Blocks are chosen and released by its kind, and each that is neither Chosen nor World has the state
 -- of its lines. A line is out only where it has a moved object, nothing is left of the lines that a pause placed on but of those of moved
--- objects, and where the pause drained, no decrement waits. Nothing else has changed, but that the tracing word tells whether a trace runs, and
+-- objects. Behind a plain pause exactly those decrements wait that it queued, and where the pause drained, none does. Numbers of the remembered
+-- set are drawn for references alone that it met and that lead into Chosen blocks, one for each. Nothing else has changed, but that the tracing word tells whether a trace runs, and
 -- mark and gray bits are those that the kind asks for, gray bits after a trace but for this, that what is gray is marked.
 pub record Pauses (before after : Space) (g : AbstractState) (at' : Name → ℕ) (asked : Ask) (pace : Pace) : Type 0 where
   pub kind : HasKind (tables_of before) g.moment g.at before.logged.items asked pace after.report.kind
@@ -161,6 +171,7 @@ pub record Pauses (before after : Space) (g : AbstractState) (at' : Name → ℕ
   pub keeps : KeepsThroughPause (tables_of before) (tables_of after)
   pub remembered : LeavesRemembered after.report.kind (tables_of before) (tables_of after) before.limits.blocks
   pub draws : DrawsNumbers after.report.kind before after g (report_of after.report)
+  pub queues : QueuesOldValues after.report.kind before after
   pub drained : IsDrained after (is_draining after.report.kind)
   pub outs : (line : ℕ) → IsTrue ((tables_of after).outs line) ↔ HasCopy g.moment.state.graph g.at at' moved line
   pub no_rest : moved ≡ [] → after.rest_next ≡ after.rest_end

@@ -27,7 +27,7 @@ use Rattle.lxr_invariant.specs.Raised.{AreRaised, settled, with_promoted}
 use Rattle.lxr_invariant.specs.Tracing.{IsTracedBy}
 use Rattle.lxr_remset.specs.Remembering.{with_remembered_of}
 use Rattle.lxr_pause_trace_laws.specs.Laws.{AllGrayAreMarked, NothingIsLeft, at_moment}
-use Rattle.lxr_run_pause.specs.Pausing.{DrawsByKind, DrawsFor, IsDrained, IsLetGo, IsToRaise, KeepsThroughPause, LeavesRemembered, SameRemembered, Traces}
+use Rattle.lxr_run_pause.specs.Pausing.{DrawsByKind, DrawsFor, IsDrained, IsLetGo, IsToRaise, KeepsThroughPause, LeavesRemembered, QueuesOldValues, SameRemembered, Traces}
 use Rattle.lxr_run_pause.specs.Relocating.{ChoosesBlocks, Evacuates, Relocates}
 use Rattle.lxr_run_pause.specs.Steps.{HasDistinctNames}
 
@@ -71,6 +71,7 @@ pub record SettlesCounts (before after : Space) (g : AbstractState) (at' : Name 
   pub stay : StayForWantOfLines (tables_of before) (tables_of after) before.limits.blocks g.moment g.at at' after.report.promoted.items (λ line. ⊥)
   pub traced : IsTracedBy after.limits (tables_of after) [] (at_moment (standing g at') (counted g.moment gone after.report)) (counted g.moment gone after.report).trace
   pub tells_the_end : TellsTheEnd before after g gone g.moment.trace
+  pub queues : QueuesOldValues kind.Plain before after
   pub few_dead : length after.report.dead.items ≤ GRANULES_IN_BLOCK * after.limits.blocks
   pub no_logs : after.logged.items ≡ []
   pub none_out : (line : ℕ) → (tables_of after).outs line ≡ false
@@ -172,6 +173,7 @@ pub record Settles (before after : Space) (g : AbstractState) (at' : Name → �
   pub stay : StayForWantOfLines (tables_of before) (tables_of after) before.limits.blocks g.moment g.at at' after.report.promoted.items (IsLetGo g at' (report_of after.report))
   pub traced : IsTracedBy after.limits (tables_of after) [] (at_moment (standing g at') (settled_by g.moment parts after.report)) (settled_by g.moment parts after.report).trace
   pub trace : after.trace ≡ option_map (λ (trace : Trace). trace.began) (settled_by g.moment parts after.report).trace
+  pub queues : QueuesOldValues after.report.kind before after
   pub drained : IsDrained after (is_draining after.report.kind)
   pub no_logs : after.logged.items ≡ []
   pub outs : (line : ℕ) → IsTrue ((tables_of after).outs line) ↔ HasCopy g.moment.state.graph g.at at' moved line
