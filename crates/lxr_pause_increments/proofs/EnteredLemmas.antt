@@ -1,8 +1,8 @@
 -- A reference that was raised is remembered where it leads into a Chosen block: it is entered then, and all that was remembered is.
 use Rattle.std.proofs.Common.{◌≡◌, ◌≢◌, ℕ, ◌+◌, ◌*◌, ◌/◌, ◌^◌, ◌<◌, ◌≤◌, refl, sym, ap, subst, ◌∙◌, inl, inr, ◌⊎◌, arith, true, false, cond, IsTrue, length}
-use Rattle.std.specs.Prelude.{Option, None, Some, slice_get, slice_index_or}
+use Rattle.std.specs.Prelude.{Option, None, Some, slice_index_or}
 use Rattle.std.proofs.lemmas.Bool.Decides.{eqb_tells}
-use Rattle.std.proofs.lemmas.Option.{slice_get-get_or}
+use Rattle.std.proofs.lemmas.Option.{get_or_from_slice_get, slice_get-get_or}
 use Rattle.lxr_layout.specs.declared.Name.{Name}
 use Rattle.lxr_layout.specs.declared.Place.{Place}
 use Rattle.lxr_layout.specs.declared.TheConstants.{GRANULES_IN_BLOCK, REMEMBERED_CURSOR, WORDS_IN_LINE}
@@ -26,7 +26,7 @@ use Rattle.lxr_invariant.specs.Standing.{place_of, word_of_field}
 use Rattle.lxr_invariant.specs.Tracing.{HasOverflowed, IsRemembered}
 use Rattle.lxr_invariant.proofs.BlockLemmas.{none_chosen, none_counted, small_where_chosen}
 use Rattle.lxr_invariant.proofs.EntryLemmas.{changed_here, changed_other}
-use Rattle.lxr_remset.specs.Remembering.{AreEntries, HasEntryOf, IsField, KeepsSet, is_in_chosen, remembering, remembering_chosen}
+use Rattle.lxr_remset.specs.Remembering.{AreEntries, HasEntryAtNumber, HasEntryOf, IsField, KeepsSet, is_in_chosen, remembering, remembering_chosen}
 use Rattle.lxr_remset.proofs.ChosenLemmas.{chosen_told}
 use Rattle.lxr_remset.proofs.FieldLemmas.{field_of_object}
 use Rattle.lxr_remset.proofs.SetLemmas.{new_entry, old_entry, remembering_keeps_set}
@@ -34,7 +34,7 @@ use Rattle.lxr_pause_promote.proofs.FewerLemmas.{states_same}
 use Rattle.lxr_pause_increments.specs.Accounted.{IsEntered, IsHolder, IsKnown, IsRaisable, references_at, stage_with_held}
 use Rattle.lxr_pause_increments.specs.Entering.{CanEnter, MayEnter, remembering_held}
 use Rattle.lxr_pause_increments.specs.Increments.{IncrementStage, IsIncrementing, StaysRemembered, WasRaised}
-use Rattle.lxr_pause_increments.specs.Steps.{EntersField, FixesField}
+use Rattle.lxr_pause_increments.specs.Steps.{Draws, EntersField, FixesField, KeepsCursor}
 use Rattle.lxr_pause_increments.proofs.ChangedLemmas.{ChangesHeld, changed_incrementing}
 use Rattle.lxr_pause_increments.proofs.FixedLemmas.{LeavesMoving, fixed_left, moving_left, register_left}
 use Rattle.lxr_pause_increments.proofs.HeldLemmas.{goes_both, holder_known, still_placed, still_promoted}
@@ -159,36 +159,44 @@ module _ (b : Space) (m : Moment) (at : Name → ℕ) (st : IncrementStage) (u :
     entry_cursor : remembering_held b.limits (tables_of b) p i q ≡ remembering b.limits (tables_of b) p i → (tables_of c).cursors REMEMBERED_CURSOR ≡ (tables_of b).cursors REMEMBERED_CURSOR + 1
     entry_cursor e = ap (λ t. t.cursors REMEMBERED_CURSOR) (turns.tables ∙ e) ∙ changed_here (tables_of b).cursors REMEMBERED_CURSOR ((tables_of b).cursors REMEMBERED_CURSOR + 1) REMEMBERED_CURSOR refl
 
-    entered_cursor : (tables_of c).cursors REMEMBERED_CURSOR ≤ (tables_of b).cursors REMEMBERED_CURSOR + 1
-    entered_cursor = elim (case_of b p i q) [
-      | nothing reason e ↦ let same = ap (λ t. t.cursors REMEMBERED_CURSOR) (turns.tables ∙ e) in omega (arith, same)
-      | entry some chosen e ↦ let more = entry_cursor e in omega (arith, more)
-    ]
-
-    -- its entry is there then
-    entry_there : (held : Option Name) → slice_index_or (references_at m u) i None ≡ held → (k : ℕ) → q.0 ≢ 0 → is_in_chosen (tables_of b) q ≡ true
-        → remembering_held b.limits (tables_of b) p i q ≡ remembering b.limits (tables_of b) p i → k ≡ (tables_of b).cursors REMEMBERED_CURSOR → k < b.limits.remember
-        → HasEntryOf (tables_of c) m st.now (WasRaised m st) k
-    entry_there None has_none k some chosen e new room = absurd (some (word ∙ ap (place_word st.now) has_none))
-    entry_there (Some v) has_v k some chosen e new room =
+    -- its number is drawn and its entry written then
+    drawn_there : (held : Option Name) → slice_index_or (references_at m u) i None ≡ held → q.0 ≢ 0 → is_in_chosen (tables_of b) q ≡ true
+        → remembering_held b.limits (tables_of b) p i q ≡ remembering b.limits (tables_of b) p i → Draws b c m st.now (u, i)
+    drawn_there None has_none some chosen e = absurd (some (word ∙ ap (place_word st.now) has_none))
+    drawn_there (Some v) has_v some chosen e =
         let place : q.0 ≡ st.now v = word ∙ ap (place_word st.now) has_v in
         let block : ℕ = granule_of (st.now v) / GRANULES_IN_BLOCK in
         let in_b : state_in (tables_of b) block ≡ Chosen = chosen_told (state_in (tables_of b) block) (ap (λ z. is_chosen (state_in (tables_of b) (granule_of z / GRANULES_IN_BLOCK))) (sym place) ∙ chosen) in
-        let got : slice_get (references_at m u) i ≡ Some (Some v) = slice_get-get_or (references_at m u) i None within ∙ ap Some has_v in
+        record {
+          leads = record {
+            held = v;
+            holds = slice_get-get_or (references_at m u) i None within ∙ ap Some has_v;
+            chosen = ap (λ f. state_of (f block)) entered_still.states ∙ in_b;
+          };
+          entry = λ room. ap (λ t. t.remembered ((tables_of b).cursors REMEMBERED_CURSOR)) (entry_tables e)
+              ∙ new_entry b.limits (tables_of b) (place_of st.now u) i (subst (λ l. (tables_of b).cursors REMEMBERED_CURSOR < l.remember) limits room)
+              ∙ ap (λ f. word_of_entry (f (word_of_field st.now u i / WORDS_IN_LINE)) (place_of st.now u) i) (sym entered_still.reuse);
+          cursor = entry_cursor e;
+        }
+
+    entered_drawn : KeepsCursor b c ⊎ Draws b c m st.now (u, i)
+    entered_drawn = elim (case_of b p i q) [
+      | nothing reason e ↦ inl (ap (λ t. t.cursors REMEMBERED_CURSOR) (turns.tables ∙ e))
+      | entry some chosen e ↦ inr (drawn_there (slice_index_or (references_at m u) i None) refl some chosen e)
+    ]
+
+    entry_there : (k : ℕ) → q.0 ≢ 0 → is_in_chosen (tables_of b) q ≡ true → remembering_held b.limits (tables_of b) p i q ≡ remembering b.limits (tables_of b) p i
+        → k ≡ (tables_of b).cursors REMEMBERED_CURSOR → k < c.limits.remember → HasEntryOf (tables_of c) m st.now (WasRaised m st) k
+    entry_there k some chosen e new room =
+        let draws = drawn_there (slice_index_or (references_at m u) i None) refl some chosen e in
         record {
           holder = u;
-          held = v;
+          held = draws.leads.held;
           index = i;
-          one = record {
-            holder = known;
-            changes = changes;
-            known = λ w f. let same : Some (Some v) ≡ Some (Some w) = sym got ∙ f in let one : v ≡ w = cc in all w (has_v ∙ ap Some one);
-          };
-          holds = got;
-          chosen = ap (λ f. state_of (f block)) entered_still.states ∙ in_b;
-          entry = ap (tables_of c).remembered new ∙ ap (λ t. t.remembered ((tables_of b).cursors REMEMBERED_CURSOR)) (entry_tables e)
-              ∙ new_entry b.limits (tables_of b) (place_of st.now u) i (subst (λ z. z < b.limits.remember) new room)
-              ∙ ap (λ f. word_of_entry (f (word_of_field st.now u i / WORDS_IN_LINE)) (place_of st.now u) i) (sym entered_still.reuse);
+          one = record { holder = known; changes = changes; known = λ w f. all w (get_or_from_slice_get (references_at m u) i (Some w) None f) };
+          holds = draws.leads.holds;
+          chosen = draws.leads.chosen;
+          entry = ap (tables_of c).remembered new ∙ draws.entry (subst (λ z. z < c.limits.remember) new room);
         }
 
     entered_stays : StaysRemembered b c m st st
@@ -208,7 +216,7 @@ module _ (b : Space) (m : Moment) (at : Name → ℕ) (st : IncrementStage) (u :
         since = λ k from high room.
             let more = entry_cursor e in
             let new : k ≡ (tables_of b).cursors REMEMBERED_CURSOR = omega (arith, from, high, more) in
-            entry_there (slice_index_or (references_at m u) i None) refl k some chosen e new (subst (λ l. k < l.remember) limits room);
+            entry_there k some chosen e new room;
         entries = λ h. subst (λ l. AreEntries l (tables_of c)) (sym limits) ((kept some chosen e).entries h);
         idle = λ none. absurd (none_counted (tables_of b) b.limits.blocks (granule_of q.0 / GRANULES_IN_BLOCK) none (block_within some) (chosen_told (state_in (tables_of b) (granule_of q.0 / GRANULES_IN_BLOCK)) chosen));
       }
@@ -256,7 +264,7 @@ module _ (a b : Space) (m : Moment) (at : Name → ℕ) (st : IncrementStage) (u
     field_enters =
         let stays = entered_stays b m at later u i p q fixes.incrementing fixes.fixed.holder raisable.within changed_then there fixes.word fixes.fixed.known c turns in
         let still = entered_still b m at later u i p q fixes.incrementing fixes.fixed.holder raisable.within changed_then there fixes.word fixes.fixed.known c turns in
-        let more = entered_cursor b m at later u i p q fixes.incrementing fixes.fixed.holder raisable.within changed_then there fixes.word fixes.fixed.known c turns in
+        let draws = entered_drawn b m at later u i p q fixes.incrementing fixes.fixed.holder raisable.within changed_then there fixes.word fixes.fixed.known c turns in
         let same = fixes.cursor in
         record {
           incrementing = changed_incrementing b c field_changes m at later stays (moving_left b c later.found m at later.now later.promoted still fixes.incrementing.moving) fixes.incrementing;
@@ -270,5 +278,14 @@ module _ (a b : Space) (m : Moment) (at : Name → ℕ) (st : IncrementStage) (u
             registers = register_left b c m later later (record { promoted = refl; now = refl }) still.registers;
             remembered = stays;
           });
-          cursor = omega (arith, more, same);
+          drawn = drawn_since same draws;
         }
+      where
+        -- no number was drawn before
+        drawn_since : KeepsCursor a b → KeepsCursor b c ⊎ Draws b c m later.now (u, i) → KeepsCursor a c ⊎ Draws a c m later.now (u, i)
+        drawn_since same (inl none) = inl (none ∙ same)
+        drawn_since same (inr draws) = inr (record {
+          leads = draws.leads;
+          entry = subst (λ k. HasEntryAtNumber c.limits (tables_of c) later.now k (u, i)) same draws.entry;
+          cursor = let more = draws.cursor in omega (arith, more, same);
+        })

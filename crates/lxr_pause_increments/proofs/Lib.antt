@@ -24,6 +24,7 @@ pub mod ShortLemmas
 pub mod EnteredLemmas
 pub mod GrownLemmas
 pub mod StillLemmas
+pub mod DrawnLemmas
 pub mod ScanLemmas
 pub mod RootLemmas
 pub mod SnapshotLemmas

@@ -36,7 +36,8 @@ use Rattle.lxr_invariant.specs.Tracing.{HasOverflowed, IsInChosen, IsRemembered}
 use Rattle.lxr_invariant.proofs.BlockLemmas.{still_not}
 use Rattle.lxr_invariant.proofs.EntryLemmas.{changed_cases}
 use Rattle.lxr_invariant.proofs.FrameLemmas.{blocks_still, image_still, marks_still, none_undone}
-use Rattle.lxr_remset.specs.Remembering.{AreEntries, HasEntryOf, Remembers, with_remembered_of}
+use Rattle.lxr_remset.specs.Remembering.{AreEntries, EntersOnce, HasEntryOf, Remembers, with_remembered_of}
+use Rattle.lxr_remset.proofs.OnceLemmas.{entered_alike, entered_as}
 use Rattle.lxr_pause_promote.proofs.FewerLemmas.{states_same}
 use Rattle.lxr_pause_increments.specs.Increments.{IsIncrementing, RaisingLeaves, IncrementStage, count_so_far, first_stage}
 use Rattle.lxr_pause_increments.specs.Accounted.{HasRaisedRoots, IsFieldRaised, IsSettled, none_raised, references_at, roots_raise}
@@ -105,6 +106,7 @@ begun s m at can = record {
     };
     accounts = λ o. refl;
     few = record { cursor = omega arith; within = omega arith };
+    entered = record { entered = []; are = tt; drawn = omega arith };
     raised = λ u i h. absurd (cc);
   };
   no_work = refl;
@@ -316,6 +318,21 @@ module _ (s : Space) (m : Moment) (at : Name → ℕ) (st : IncrementStage) (is 
         idle = λ none. let same = stays.idle none in (ap (λ t. t.remembered) tables ∙ same.0, ap (λ t. t.cursors REMEMBERED_CURSOR) tables ∙ same.1);
       }
 
+  -- one number is drawn for each that is entered, and no other
+  entered_end : (u : Tables) → u ≡ with_ended s → EntersOnce st.found.limits (tables_of st.found) u m st.now (λ n i. IsTrue (has s.report.promoted.items n) ⊎ IsTrue (has_field m.written (n, i)))
+  entered_end u tables =
+      let is = is.settled.accounted.entered in
+      let from : ℕ = (tables_of st.found).cursors REMEMBERED_CURSOR in
+      let cursor = ap (λ t. t.cursors REMEMBERED_CURSOR) tables in
+      record {
+        entered = is.entered;
+        are = entered_alike s.limits st.found.limits (tables_of s) u m st.now (λ n i. IsTrue (has s.report.promoted.items n) ⊎ IsTrue (has_field m.written (n, i))) from is.entered (sym incrementing.remembered.limits)
+            (ap (λ t. t.remembered) tables) (ap (λ t. t.reuse) tables) (ap (λ t. t.states) tables)
+            (entered_as s.limits (tables_of s) m st.now _ from (λ n i. IsTrue (has s.report.promoted.items n) ⊎ IsTrue (has_field m.written (n, i))) is.entered
+            (λ n i one. elim one.0.changes [ inl h ↦ inl (last.same n ∙ h) | inr h ↦ inr h ]) is.are);
+        drawn = let drawn = is.drawn in omega (arith, cursor, drawn);
+      }
+
   -- and no more are than there are such references
   few_end : (tables_of s).cursors REMEMBERED_CURSOR ≤ (tables_of st.found).cursors REMEMBERED_CURSOR + reference_slots m.state.graph s.report.promoted.items + length m.written
   few_end =
@@ -383,6 +400,10 @@ module _ (before s b : Space) (m : Moment) (at : Name → ℕ) (st : IncrementSt
   remembers = subst (λ ns. Remembers before.limits (tables_of before) (tables_of b) m at st.now (λ n i. IsTrue (has ns n) ⊎ IsTrue (has_field m.written (n, i)))) reported
       (subst (λ x. Remembers x.limits (tables_of x) (tables_of b) m at st.now (λ n i. IsTrue (has s.report.promoted.items n) ⊎ IsTrue (has_field m.written (n, i)))) found (remembers_end s m at st is (tables_of b) turns.tables))
 
+  entered : EntersOnce before.limits (tables_of before) (tables_of b) m st.now (λ n i. IsTrue (has after.report.promoted.items n) ⊎ IsTrue (has_field m.written (n, i)))
+  entered = subst (λ ns. EntersOnce before.limits (tables_of before) (tables_of b) m st.now (λ n i. IsTrue (has ns n) ⊎ IsTrue (has_field m.written (n, i)))) reported
+      (subst (λ x. EntersOnce x.limits (tables_of x) (tables_of b) m st.now (λ n i. IsTrue (has s.report.promoted.items n) ⊎ IsTrue (has_field m.written (n, i)))) found (entered_end s m at st is (tables_of b) turns.tables))
+
   bound : (tables_of b).cursors REMEMBERED_CURSOR ≤ (tables_of before).cursors REMEMBERED_CURSOR + reference_slots m.state.graph after.report.promoted.items + length m.written
   bound =
       let few = few_end s m at st is in
@@ -442,6 +463,7 @@ module _ (before s b : Space) (m : Moment) (at : Name → ℕ) (st : IncrementSt
     stay = stay;
     keeps = keeps;
     remembers = remembers;
+    entered = entered;
     bound = bound;
     states = states;
     unchosen = unchosen;

@@ -20,7 +20,7 @@ use Rattle.lxr_invariant.specs.Raised.{with_promoted}
 use Rattle.lxr_invariant.specs.Standing.{place_of, word_of_field}
 use Rattle.lxr_invariant.specs.Tracing.{HasOverflowed, IsInChosen, IsRemembered}
 use Rattle.lxr_invariant.proofs.BlockLemmas.{none_kept}
-use Rattle.lxr_remset.specs.Remembering.{AreEntries, HasEntryOf}
+use Rattle.lxr_remset.specs.Remembering.{AreEntries, HasEntryOf, LeadsIntoChosen}
 use Rattle.lxr_pause_promote.proofs.FewerLemmas.{state_back, states_joined, states_same}
 use Rattle.lxr_pause_increments.specs.Accounted.{IsEntered, IsFieldRaised, IsFixed, GoesOn, references_at}
 use Rattle.lxr_pause_increments.specs.Increments.{IncrementStage, StaysRemembered, WasRaised}
@@ -81,8 +81,19 @@ module _ (a b : Space) (m : Moment) (st later : IncrementStage) (stays : StaysRe
       chosen_on (tables_of b) (tables_of a) block (state_back (tables_of a) (tables_of b) block (stays.states block))
       (subst (λ p. state_in (tables_of b) (granule_of p / GRANULES_IN_BLOCK) ≡ Chosen) (stays.known v known).1 chosen)
 
+  -- a reference that was raised was so, and leads into a Chosen block still
+  pub was_raised_on : (u : Name) (i : ℕ) → WasRaised m st u i → WasRaised m later u i
+  was_raised_on u i was = record {
+    holder = (stays.known u was.holder).0;
+    changes = elim was.changes [ inl h ↦ inl (stays.promoted u h) | inr h ↦ inr h ];
+    known = λ v e. (stays.known v (was.known v e)).0;
+  }
+
+  pub leads_on : (u : Name) (i : ℕ) → WasRaised m st u i → LeadsIntoChosen (tables_of a) m st.now u i → LeadsIntoChosen (tables_of b) m later.now u i
+  leads_on u i was leads = record { held = leads.held; holds = leads.holds; chosen = is_in_chosen leads.held (was.known leads.held leads.holds) leads.chosen }
+
   -- the entry of a reference is its entry still
-  entry_stays : (u : Name) (i k : ℕ) → IsTrue (has (with_promoted m st.promoted) u) → i < length (references_at m u) → k < (tables_of a).cursors REMEMBERED_CURSOR
+  pub entry_stays : (u : Name) (i k : ℕ) → IsTrue (has (with_promoted m st.promoted) u) → i < length (references_at m u) → k < (tables_of a).cursors REMEMBERED_CURSOR
       → (tables_of a).remembered k ≡ word_of_entry ((tables_of a).reuse (word_of_field st.now u i / WORDS_IN_LINE)) (place_of st.now u) i
       → (tables_of b).remembered k ≡ word_of_entry ((tables_of b).reuse (word_of_field later.now u i / WORDS_IN_LINE)) (place_of later.now u) i
   entry_stays u i k known within below is =
@@ -102,11 +113,7 @@ module _ (a b : Space) (m : Moment) (st later : IncrementStage) (stays : StaysRe
     holder = is.holder;
     held = is.held;
     index = is.index;
-    one = record {
-      holder = (stays.known is.holder is.one.holder).0;
-      changes = elim is.one.changes [ inl h ↦ inl (stays.promoted is.holder h) | inr h ↦ inr h ];
-      known = λ v e. (stays.known v (is.one.known v e)).0;
-    };
+    one = was_raised_on is.holder is.index is.one;
     holds = is.holds;
     chosen = is_in_chosen is.held (is.one.known is.held is.holds) is.chosen;
     entry = entry_stays is.holder is.index k is.one.holder (slice_get_within (references_at m is.holder) is.index (Some is.held) is.holds) below is.entry;

@@ -28,12 +28,13 @@ use Rattle.lxr_invariant.proofs.EntryLemmas.{one_if}
 use Rattle.lxr_invariant.proofs.NameLemmas.{in_first, live_member}
 use Rattle.lxr_pause_promote.specs.Either.{HoldsEither, IsPlaceOf}
 use Rattle.lxr_pause_increments.specs.Increments.{IsIncrementing, RaisingLeaves, IncrementStage}
-use Rattle.lxr_pause_increments.specs.Accounted.{GoesOn, HasRaisedEntries, HasRaisedRoots, IsEven, IsFieldRaised, IsHolder, IsLogOrder, IsRaisable, IsRegisterFixed, IsSettled, Raisings, Settles, fields_held, fields_raise, none_raised, references_at, roots_held, roots_raise, stage_with_held}
+use Rattle.lxr_pause_increments.specs.Accounted.{GoesOn, HasRaisedEntries, HasRaisedRoots, IsEven, IsFieldRaised, IsHolder, IsLogOrder, IsPassed, IsRaisable, IsRegisterFixed, IsSettled, Raisings, Settles, fields_held, fields_raise, none_raised, references_at, roots_held, roots_raise, stage_with_held}
 use Rattle.lxr_pause_increments.specs.Steps.{AtLater, EntersField, FixesRegister, HeldIsRaised}
 use Rattle.lxr_pause_increments.proofs.HeldLemmas.{was_promoted}
 use Rattle.lxr_pause_increments.proofs.MovingLemmas.{place_some, unreclaimed_still}
 use Rattle.lxr_pause_increments.proofs.StageLemmas.{all_made}
-use Rattle.lxr_pause_increments.proofs.RememberedLemmas.{raised_on}
+use Rattle.lxr_pause_increments.proofs.RememberedLemmas.{raised_on, stays_none}
+use Rattle.lxr_pause_increments.proofs.DrawnLemmas.{at_most_one, fixed_raised, maybe_drawn, none_drawn, not_taken, not_written, passed_on, taken_here, taken_more}
 use Rattle.lxr_pause_increments.proofs.FewLemmas.{few_held}
 use Rattle.lxr_pause_increments.proofs.OrderLemmas.{accounts_held, accounts_same, counted_more, unmapped, zip_got, zip_taken}
 
@@ -117,10 +118,24 @@ entry_raised s now m at st fields i entry q order settled x fixes =
       few =
           let low = slice_get_within fields i x.field x.got in
           let all = length_permutation m.written fields order.order in
-          let more = fixes.cursor in
+          let more = at_most_one s now m (stage_with_held m st held q).now (x.field.0, entry.index) fixes.drawn in
           few_held s now m st held q i 0 (i + 1) 0 fixes.goes_on.found (omega (arith, more)) (omega (arith, low, all)) settled.accounted.few;
+      entered = maybe_drawn s now m st (stage_with_held m st held q) fixes.goes_on.remembered fixes.goes_on.found (IsPassed m st (take i fields) (λ u j. ⊥)) (IsPassed m (stage_with_held m st held q) (take (i + 1) fields) (λ u j. ⊥))
+          (passed_on m st held q (take i fields) (take (i + 1) fields) (λ u j. ⊥) (λ u j. ⊥) (λ u j h. h) (taken_more fields i))
+          x.field.0 entry.index (fixed_raised now m (stage_with_held m st held q) x.field.0 entry.index fixes.raised.fixed (inr written)) (inr (written, this (take (i + 1) fields) (taken_here fields i x.field x.got)))
+          still_open fixes.drawn settled.accounted.entered;
       raised = still_raised s now m at st held q (fields_raise m fields i) settled.accounted fixes.goes_on;
     }
+  where
+    this : (ws : List Field) → IsTrue (has_field ws x.field) → IsTrue (has_field ws (x.field.0, entry.index))
+    this ws h = ap (λ z. has_field ws (x.field.0, z)) x.index ∙ h
+
+    written : IsTrue (has_field m.written (x.field.0, entry.index))
+    written = this m.written (has_field_permuted m.written fields x.field order.order ∙ got_field fields i x.field x.got)
+
+    still_open : ¬ IsPassed m st (take i fields) (λ u j. ⊥) x.field.0 entry.index
+    still_open (inl passed) = not_written s m at st x.field.0 entry.index settled.accounted.incrementing passed.0 written
+    still_open (inr passed) = not_taken m.written fields i x.field settled.accounted.incrementing.follows.written_once order.order x.got (sym (ap (λ z. has_field (take i fields) (x.field.0, z)) x.index) ∙ passed.1)
 
 -- with all that it brought along
 pub entry_settled : (s now after : Space) (m : Moment) (at : Name → ℕ) (st : IncrementStage) (fields : List Field) (i : ℕ) (entry : LogEntry) (q : ℕ) → HasRaisedEntries s m at st fields i → (x : IsEntryOf m st fields i entry)
@@ -157,6 +172,7 @@ no_entries s m at st fields order is = record {
       incrementing = is.accounted.incrementing;
       accounts = accounts_same m st (λ o. 0) (λ o. 0) (fields_held m fields 0) (λ o. 0) (λ o. none fields o) (λ o. refl) is.accounted.accounts;
       few = is.accounted.few;
+      entered = none_drawn s s m st st (stays_none s m st) refl (IsPassed m st [] (λ u j. ⊥)) (IsPassed m st (take 0 fields) (λ u j. ⊥)) (λ u j passed. elim passed [ inl was ↦ inl was | inr was ↦ absurd (let none = was.1 in cc) ]) refl is.accounted.entered;
       raised = is.accounted.raised;
     };
     no_work = is.no_work;
@@ -181,6 +197,7 @@ all_entries s m at st fields i end is = record {
           let none = none_new m.last.registers m.state.registers o in
           omega (arith, whole, same, none)) (λ o. refl) is.settled.accounted.accounts;
       few = let few = is.settled.accounted.few.cursor in let within = is.settled.accounted.few.within in record { cursor = omega (arith, few, within); within = omega arith };
+      entered = none_drawn s s m st st (stays_none s m st) refl (IsPassed m st (take i fields) (λ u j. ⊥)) (IsPassed m st m.written (λ u j. ⊥)) (λ u j passed. elim passed [ inl was ↦ inl was | inr was ↦ inr (was.0, was.0) ]) refl is.settled.accounted.entered;
       raised = is.settled.accounted.raised;
     };
     no_work = is.settled.no_work;
@@ -306,6 +323,7 @@ register_same s m at st i p q v b is e roots = record {
           let n : one_if (same_held (Some o) v && not (same_held (Some o) b)) ≡ 0 = ap (λ z. one_if (same_held (Some o) v && not (same_held (Some o) z))) (sym (is.same e)) ∙ ap one_if (none_new (same_held (Some o) v)) in
           omega (arith, k, n)) (λ o. refl) roots.settled.accounted.accounts;
       few = roots.settled.accounted.few;
+      entered = roots.settled.accounted.entered;
       raised = roots.settled.accounted.raised;
     };
     no_work = roots.settled.no_work;
@@ -338,6 +356,8 @@ register_raised s now m at st i p q v b w is differ roots fixes = record {
       let n : one_if (same_held (Some o) v && not (same_held (Some o) b)) ≡ one_if (same_held (Some o) v) = ap one_if (new o) in
       omega (arith, k, n));
   few = few_held s now m st v w (length m.written) 0 (length m.written) 0 fixes.goes_on.found (let same = fixes.cursor in omega (arith, same)) (omega arith) roots.settled.accounted.few;
+  entered = none_drawn s now m st (stage_with_held m st v w) fixes.goes_on.remembered fixes.goes_on.found (IsPassed m st m.written (λ u j. ⊥)) (IsPassed m (stage_with_held m st v w) m.written (λ u j. ⊥))
+      (passed_on m st v w m.written m.written (λ u j. ⊥) (λ u j. ⊥) (λ u j h. h) (λ f h. h)) fixes.cursor roots.settled.accounted.entered;
   raised = still_raised s now m at st v w (roots_raise m i) roots.settled.accounted fixes.goes_on;
 }
   where

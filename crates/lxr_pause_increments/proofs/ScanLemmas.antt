@@ -19,12 +19,13 @@ use Rattle.lxr_invariant.specs.Raised.{with_promoted}
 use Rattle.lxr_invariant.specs.Standing.{place_of}
 use Rattle.lxr_invariant.proofs.NameLemmas.{has_last, map_empty, occurrences_end, occurrences_step, split_last}
 use Rattle.lxr_pause_increments.specs.Increments.{IncrementStage, IsIncrementing, RaisingLeaves, StaysRemembered, first_stage}
-use Rattle.lxr_pause_increments.specs.Accounted.{GoesOn, IsEven, IsFieldRaised, IsScanning, Raisings, Settles, references_at, stage_with_held}
+use Rattle.lxr_pause_increments.specs.Accounted.{GoesOn, HasEnteredOnce, IsEven, IsFieldRaised, IsPassed, IsScanning, Raisings, Settles, references_at, stage_with_held}
 use Rattle.lxr_pause_increments.specs.Steps.{EntersField}
 use Rattle.lxr_pause_increments.proofs.FrameLemmas.{leaves_spread, tables_same}
 use Rattle.lxr_pause_increments.proofs.FixedLemmas.{LeavesMoving, fixed_left, moving_left, register_left}
 use Rattle.lxr_pause_increments.proofs.HeldLemmas.{goes_none, still_placed, still_promoted, was_promoted}
-use Rattle.lxr_pause_increments.proofs.RememberedLemmas.{raised_on, stays_both, stays_left}
+use Rattle.lxr_pause_increments.proofs.RememberedLemmas.{raised_on, stays_both, stays_left, stays_none}
+use Rattle.lxr_pause_increments.proofs.DrawnLemmas.{at_most_one, fixed_raised, maybe_drawn, none_drawn, not_written, passed_on, still_out}
 use Rattle.lxr_pause_increments.proofs.FewLemmas.{few_held, few_popped}
 use Rattle.lxr_pause_increments.proofs.OrderLemmas.{accounts_held, accounts_popped, accounts_same, distinct_last, has_before, has_other}
 
@@ -52,6 +53,18 @@ module _ (s now : Space) (p i : ℕ) (m : Moment) (at : Name → ℕ) (st : Incr
         ]
       ]
 
+  -- a number was drawn for it, if for any
+  entered_more : HasEnteredOnce now m later base.written (λ v j. (v ≡ u) × (i + 1 ≤ j))
+  entered_more = maybe_drawn s now m st later fixes.goes_on.remembered fixes.goes_on.found (IsPassed m st base.written (λ v j. (v ≡ u) × (i ≤ j))) (IsPassed m later base.written (λ v j. (v ≡ u) × (i + 1 ≤ j)))
+      (passed_on m st ref w base.written base.written (λ v j. (v ≡ u) × (i ≤ j)) (λ v j. (v ≡ u) × (i + 1 ≤ j)) (λ v j h. (h.0, let past = h.1 in omega (arith, past))) (λ f h. h))
+      u i (fixed_raised now m later u i fixes.raised.fixed (inl (still_promoted m st ref w u is.promoted)))
+      (inl (still_promoted m st ref w u is.promoted, still_out m st ref w u is.promoted is.out, λ h. let past = h.1 in omega (arith, past)))
+      still_open fixes.drawn is.accounted.entered
+    where
+      still_open : ¬ IsPassed m st base.written (λ v j. (v ≡ u) × (i ≤ j)) u i
+      still_open (inl passed) = passed.2 (refl, omega arith)
+      still_open (inr passed) = not_written s m at st u i is.accounted.incrementing is.promoted passed.0
+
   -- a reference was raised: the next is to be
   pub scanned_more : IsScanning now p (i + 1) m at later u base
   scanned_more = record {
@@ -59,11 +72,13 @@ module _ (s now : Space) (p i : ℕ) (m : Moment) (at : Name → ℕ) (st : Incr
       incrementing = fixes.incrementing;
       accounts = accounts_held m st ref w base.times (occurrences_from (references_at m u) i) base.times (occurrences_from (references_at m u) (i + 1)) is.accounted.accounts
           (λ o. let k = occurrences_step (references_at m u) i ref o (slice_get-get_or (references_at m u) i None within) in omega (arith, k));
-      few = few_held s now m st ref w base.fields (length (references_at m u) - i) base.fields (length (references_at m u) - (i + 1)) fixes.goes_on.found (let more = fixes.cursor in omega (arith, more, within))
+      few = few_held s now m st ref w base.fields (length (references_at m u) - i) base.fields (length (references_at m u) - (i + 1)) fixes.goes_on.found (let more = at_most_one s now m later.now (u, i) fixes.drawn in omega (arith, more, within))
           is.accounted.few.within is.accounted.few;
+      entered = entered_more;
       raised = open_less;
     };
     promoted = still_promoted m st ref w u is.promoted;
+    out = still_out m st ref w u is.promoted is.out;
     stands = is.stands ∙ sym (still_placed m st ref w u is.accounted.incrementing.follows known);
   }
 
@@ -74,6 +89,8 @@ scanned_all s p i m at st u base end is = record {
   accounts = accounts_same m st base.times (occurrences_from (references_at m u) i) base.times (λ o. 0) (λ o. refl)
       (λ o. sym (ap (λ z. occurrences_from (references_at m u) z o) end ∙ occurrences_end (references_at m u) o)) is.accounted.accounts;
   few = record { cursor = let few = is.accounted.few.cursor in omega (arith, few); within = is.accounted.few.within };
+  entered = none_drawn s s m st st (stays_none s m st) refl (IsPassed m st base.written (λ v j. (v ≡ u) × (i ≤ j))) (IsPassed m st base.written (λ v j. ⊥))
+      (λ v j passed. elim passed [ inl was ↦ inl (was.0, was.1, λ none. none) | inr was ↦ inr was ]) refl is.accounted.entered;
   raised = λ v j promoted out below. elim (is.accounted.raised v j promoted out below) [
     | inl raised ↦ inl raised
     | inr open_one ↦ absurd (
@@ -164,6 +181,9 @@ popped s w p m at st base is work =
           incrementing = popped_incrementing s w m at st x.0 x.1 room (omega (arith, longer)) x.3 x.2 is.incrementing;
           accounts = accounts_popped m st x.0 x.1 base.times x.2 is.incrementing.once_promoted promoted absent is.accounts;
           few = few_popped s w m st x.0 x.1 base.fields x.2 is.incrementing.once_promoted promoted absent is.few;
+          entered = none_drawn s (record s { work = w }) m st (record st { work = x.0 }) (popped_stays s w m st x.0) refl (IsPassed m st base.written (λ v j. ⊥))
+              (IsPassed m (record st { work = x.0 }) base.written (λ v j. (v ≡ x.1) × (0 ≤ j)))
+              (λ v j passed. elim passed [ inl was ↦ inl (was.0, before st.work x.0 x.1 v x.2 was.1, λ h. other st.work x.1 v in_work was.1 h.0) | inr was ↦ inr was ]) refl is.entered;
           raised = λ v j in_promoted out below. elim (tested (same_name v x.1)) [
             | inl k ↦ inr (same_names v x.1 k, omega arith)
             | inr k ↦ elim (is.raised v j in_promoted (ap (λ z. has z v) x.2 ∙ has_other x.0 x.1 v k ∙ out) below) [
@@ -173,10 +193,18 @@ popped s w p m at st base is work =
           ];
         };
         promoted = promoted;
+        out = absent;
         stands = ap (λ z. z.0) x.4;
       };
       goes_on = goes_on;
     }
+  where
+    -- what isn't in a list isn't in its front, nor is it one of it
+    before : (all ws : List Name) (u v : Name) → all ≡ ws ++ u ∷ [] → has all v ≡ false → has ws v ≡ false
+    before all ws u v same out = elim (tested (has ws v)) [ inl there ↦ absurd (let now = ap (λ z. has z v) same ∙ has_before ws u v there in cc) | inr none ↦ none ]
+
+    other : (all : List Name) (u v : Name) → IsTrue (has all u) → has all v ≡ false → v ≡ u → ⊥
+    other all u v there out same = let now : has all v ≡ has all u = ap (has all) same in cc
 
 pub popped_leaves : (s : Space) (w : Roomy Place) (p : Place) → s.work ≡ pushed w p → RaisingLeaves s (record s { work = w })
 popped_leaves s w p work =

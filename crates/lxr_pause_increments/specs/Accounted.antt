@@ -22,7 +22,8 @@ use Rattle.lxr_invariant.specs.Counting.{occurrences_from}
 use Rattle.lxr_invariant.specs.Raised.{with_promoted}
 use Rattle.lxr_invariant.specs.Tracing.{HasOverflowed, IsInChosen, IsRemembered}
 use Rattle.lxr_pause_promote.specs.Either.{HoldsEither}
-use Rattle.lxr_pause_increments.specs.Increments.{Accounts, IsIncrementing, IncrementStage, StaysRemembered, stage_with}
+use Rattle.lxr_remset.specs.Remembering.{EntersOnce}
+use Rattle.lxr_pause_increments.specs.Increments.{Accounts, IsIncrementing, IncrementStage, StaysRemembered, WasRaised, stage_with}
 
 -- what an object refers to now
 abbrev pub references_at : Moment → Name → List (Option Name)
@@ -92,14 +93,15 @@ pub record GoesOn (before after : Space) (m : Moment) (st later : IncrementStage
 
 -- ---- stages
 
--- how often each name is raised, and by how many references
+-- how often each name is raised, by how many references, and by which of those that were stored to
 pub record Raisings : Type 0 where
   pub times : Name → ℕ
   pub fields : ℕ
+  pub written : List Field
 
 -- none is raised
 abbrev pub none_raised : Raisings
-none_raised = record { times = λ o. 0; fields = 0 }
+none_raised = record { times = λ o. 0; fields = 0; written = [] }
 
 -- No more references were remembered since increments began than were raised: so many of those that were stored to, and those of each
 -- promoted object that isn't in the worklist, but for so many that are still pending.
@@ -107,12 +109,24 @@ pub record IsFew (s : Space) (m : Moment) (st : IncrementStage) (base pending : 
   pub cursor : (tables_of s).cursors REMEMBERED_CURSOR + pending ≤ (tables_of st.found).cursors REMEMBERED_CURSOR + base + reference_slots m.state.graph (without st.promoted st.work)
   pub within : base ≤ length m.written
 
+-- a reference is raised already: it is one of a promoted object outside the worklist, but for those that are still open, or one of these that were
+-- stored to
+abbrev pub IsPassed : Moment → IncrementStage → List Field → (Name → ℕ → Type 0) → Name → ℕ → Type 0
+IsPassed m st written open_fields u i = (IsTrue (has st.promoted u) × (has st.work u ≡ false) × ¬ open_fields u i) ⊎ (IsTrue (has_field m.written (u, i)) × IsTrue (has_field written (u, i)))
+
+-- Since increments began one number was drawn for each of some references that are raised already, which lead into Chosen blocks, for none of
+-- them twice, and no other number.
+abbrev pub HasEnteredOnce : Space → Moment → IncrementStage → List Field → (Name → ℕ → Type 0) → Type 0
+HasEnteredOnce s m st written open_fields =
+    EntersOnce s.limits (tables_of st.found) (tables_of s) m st.now (λ u i. WasRaised m st u i × IsPassed m st written open_fields u i)
+
 -- The space is at a stage with these accounts. All references of promoted objects outside the worklist are raised, but for those that
 -- are still open.
 pub record IsAccounted (s : Space) (m : Moment) (at : Name → ℕ) (st : IncrementStage) (base pending : Raisings) (open_fields : Name → ℕ → Type 0) : Type 0 where
   pub incrementing : IsIncrementing s m at st
   pub accounts : Accounts m st base.times pending.times
   pub few : IsFew s m st base.fields pending.fields
+  pub entered : HasEnteredOnce s m st base.written open_fields
   pub raised : (u : Name) (i : ℕ) → IsTrue (has st.promoted u) → has st.work u ≡ false → i < length (references_at m u) → IsFieldRaised s m st u i ⊎ open_fields u i
 
 -- nothing is pending or open
@@ -133,12 +147,13 @@ Settles before after m at st base = (later : IncrementStage) × IsSettled after 
 
 -- what references raise from a number on
 abbrev pub raisings_from : List (Option Name) → ℕ → Raisings
-raisings_from refs i = record { times = occurrences_from refs i; fields = length refs - i }
+raisings_from refs i = record { times = occurrences_from refs i; fields = length refs - i; written = [] }
 
 -- a promoted object out of the worklist, whose references are still to be raised from number i on
 pub record IsScanning (s : Space) (place i : ℕ) (m : Moment) (at : Name → ℕ) (st : IncrementStage) (u : Name) (base : Raisings) : Type 0 where
   pub accounted : IsAccounted s m at st base (raisings_from (references_at m u) i) (λ v j. (v ≡ u) × (i ≤ j))
   pub promoted : IsTrue (has st.promoted u)
+  pub out : has st.work u ≡ false
   pub stands : place ≡ st.now u
 
 -- ---- roots
@@ -158,11 +173,11 @@ roots_held m count o = count_by (field_holds m.state.graph o) m.written + newly_
 
 -- what the first so many written fields raise
 abbrev pub fields_raise : Moment → List Field → ℕ → Raisings
-fields_raise m fields count = record { times = fields_held m fields count; fields = count }
+fields_raise m fields count = record { times = fields_held m fields count; fields = count; written = take count fields }
 
 -- what the written fields raise and the first so many registers
 abbrev pub roots_raise : Moment → ℕ → Raisings
-roots_raise m count = record { times = roots_held m count; fields = length m.written }
+roots_raise m count = record { times = roots_held m count; fields = length m.written; written = m.written }
 
 -- the first so many written fields are raised, with all that they bring along
 pub record HasRaisedEntries (s : Space) (m : Moment) (at : Name → ℕ) (st : IncrementStage) (fields : List Field) (count : ℕ) : Type 0 where

@@ -18,7 +18,7 @@ use Rattle.lxr_invariant.specs.Lines.{AvoidChosen}
 use Rattle.lxr_invariant.specs.Quiescent.{HoldsMoment}
 use Rattle.lxr_invariant.specs.Raised.{IsRaised}
 use Rattle.lxr_invariant.specs.Tracing.{IsOldValue}
-use Rattle.lxr_remset.specs.Remembering.{CanRemember, Remembers, with_remembered_of}
+use Rattle.lxr_remset.specs.Remembering.{CanRemember, EntersOnce, Remembers, with_remembered_of}
 
 -- Counts may be raised: the space holds a moment whose dead are gone, no decrement waits, nothing is reported as promoted or stuck
 -- yet, and references may be remembered.
@@ -45,7 +45,8 @@ RaisesGrays (Some trace) before after entries =
 -- Counts are raised, and what the report has is what was promoted and became stuck. The promoted objects are copied where lines fit
 -- them, and stand at their new places, which registers hold. While a trace runs, what is promoted is marked, and what logged references
 -- held is made gray. Each reference of a promoted object, and each that was stored to, is remembered where it leads into a Chosen block,
--- and no more are remembered than there are such references. Other lists and the entries of the table of decrements stay, and no block
+-- and no more are remembered than there are such references: one number is drawn for each that leads into a Chosen block and is entered, for
+-- none twice, and no other. Other lists and the entries of the table of decrements stay, and no block
 -- has become Chosen or World or ceased to be so; no promoted object stands in a Chosen block. Nothing else has changed, but that no line
 -- is out, and no rest is left of the lines that a pause placed on last.
 pub record Raises (before after : Space) (m : Moment) (at at' : Name → ℕ) : Type 0 where
@@ -55,6 +56,7 @@ pub record Raises (before after : Space) (m : Moment) (at at' : Name → ℕ) : 
   pub stay : StayForWantOfLines (tables_of before) (tables_of after) before.limits.blocks m at at' after.report.promoted.items (λ line. ⊥)
   pub keeps : KeepsLists (with_remembered_of (tables_of before) (tables_of after)) (tables_of after)
   pub remembers : Remembers before.limits (tables_of before) (tables_of after) m at at' (λ n i. IsTrue (has after.report.promoted.items n) ⊎ IsTrue (has_field m.written (n, i)))
+  pub entered : EntersOnce before.limits (tables_of before) (tables_of after) m at' (λ n i. IsTrue (has after.report.promoted.items n) ⊎ IsTrue (has_field m.written (n, i)))
   pub bound : (tables_of after).cursors REMEMBERED_CURSOR ≤ (tables_of before).cursors REMEMBERED_CURSOR + reference_slots m.state.graph after.report.promoted.items + length m.written
   pub states : (b : ℕ) → KeepsState (tables_of before) (tables_of after) b
   pub unchosen : AvoidChosen (tables_of after) at' after.report.promoted.items

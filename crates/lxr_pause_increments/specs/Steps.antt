@@ -1,6 +1,6 @@
 -- What each step of the increments asks, and from which stage to which it leads. What was raised is counted for each name:
 -- `base` tells how often by logged references and registers so far.
-use Rattle.std.specs.Prelude.{◌≡◌, ℕ, ◌+◌, ◌<◌, ◌≤◌, ◌⊎◌, false, Option, None, Some, List, IsTrue, length, slice_get, slice_index_or}
+use Rattle.std.specs.Prelude.{◌≡◌, ℕ, ◌+◌, ◌<◌, ◌⊎◌, false, Option, None, Some, List, IsTrue, length, slice_get, slice_index_or}
 use Rattle.lxr_layout.specs.declared.Name.{Name}
 use Rattle.lxr_layout.specs.declared.Place.{Place}
 use Rattle.lxr_layout.specs.declared.Shape.{Shape}
@@ -13,6 +13,7 @@ use Rattle.lxr_image.specs.Spaces.{tables_of}
 use Rattle.lxr_model.specs.Moments.{Field, Moment}
 use Rattle.lxr_invariant.specs.Raised.{with_promoted}
 use Rattle.lxr_invariant.specs.Standing.{place_of}
+use Rattle.lxr_remset.specs.Remembering.{HasEntryAtNumber, LeadsIntoChosen}
 use Rattle.lxr_pause_promote.specs.Copying.{StandsAt}
 use Rattle.lxr_pause_increments.specs.Accounted.{GoesOn, HasRaisedEntries, HasRaisedRoots, HeldMayBeRaised, IsEven, IsFieldRaised, IsFixed, IsHolder, IsKnown, IsRaisable, IsRegisterFixed, IsScanning, IsSettled, Raisings, Reaches, Settles, none_raised, references_at, stage_with_held}
 use Rattle.lxr_pause_increments.specs.Entering.{CanEnter}
@@ -89,6 +90,12 @@ abbrev pub FixesFieldWith : Space → Space → ℕ → ℕ → ℕ → Type 0
 FixesFieldWith before after place index word =
     (m : Moment) (at : Name → ℕ) (st : IncrementStage) (u : Name) → IsIncrementing before m at st → IsHolder m st u place → IsRaisable m st u index → FixesField before after m at st u index word
 
+-- a number is drawn for a reference that leads into a Chosen block, and it has its entry there
+pub record Draws (before after : Space) (m : Moment) (now : Name → ℕ) (field : Field) : Type 0 where
+  pub leads : LeadsIntoChosen (tables_of after) m now field.0 field.1
+  pub entry : HasEntryAtNumber after.limits (tables_of after) now ((tables_of before).cursors REMEMBERED_CURSOR) field
+  pub cursor : (tables_of after).cursors REMEMBERED_CURSOR ≡ (tables_of before).cursors REMEMBERED_CURSOR + 1
+
 -- and then it is remembered where what it holds stands in a Chosen block
 abbrev pub MayRaiseField : Space → ℕ → ℕ → Type 0
 MayRaiseField s place index =
@@ -98,7 +105,7 @@ pub record EntersField (before after : Space) (m : Moment) (at : Name → ℕ) (
   pub incrementing : IsIncrementing after m at (stage_with_held m st (slice_index_or (references_at m u) i None) w)
   pub raised : IsFieldRaised after m (stage_with_held m st (slice_index_or (references_at m u) i None) w) u i
   pub goes_on : GoesOn before after m st (stage_with_held m st (slice_index_or (references_at m u) i None) w)
-  pub cursor : (tables_of after).cursors REMEMBERED_CURSOR ≤ (tables_of before).cursors REMEMBERED_CURSOR + 1
+  pub drawn : KeepsCursor before after ⊎ Draws before after m (stage_with_held m st (slice_index_or (references_at m u) i None) w).now (u, i)
 
 abbrev pub RaisesField : Space → Space → ℕ → ℕ → Type 0
 RaisesField before after place index =

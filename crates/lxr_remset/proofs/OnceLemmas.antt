@@ -1,8 +1,13 @@
 -- What holds of references for which numbers of the remembered set were drawn holds of each of them.
-use Rattle.std.proofs.Common.{ℕ, sym, subst, inl, inr, List, [], ◌∷◌, IsTrue}
+use Rattle.std.proofs.Common.{◌≡◌, ℕ, ◌+◌, ◌/◌, ◌<◌, sym, ap, subst, ◌∙◌, inl, inr, List, [], ◌∷◌, IsTrue, length}
+use Rattle.lxr_layout.specs.declared.TheConstants.{GRANULES_IN_BLOCK, WORDS_IN_LINE}
+use Rattle.lxr_layout.specs.Runs.{word_of_entry}
 use Rattle.lxr_layout.specs.declared.limits.Limits.{Limits}
 use Rattle.lxr_layout.specs.declared.Name.{Name}
 use Rattle.lxr_image.specs.Tables.{Tables}
+use Rattle.lxr_image.specs.Reads.{granule_of}
+use Rattle.lxr_blocks.specs.States.{state_of}
+use Rattle.lxr_invariant.specs.Standing.{place_of, word_of_field}
 use Rattle.lxr_model.specs.Moments.{Field, Moment}
 use Rattle.lxr_model_counting.specs.Distinct.{AreDistinctFields, has_field}
 use Rattle.lxr_model_counting.proofs.DistinctLemmas.{field_split}
@@ -31,3 +36,17 @@ module _ (l : Limits) (t : Tables) (m : Moment) (now : Name → ℕ) (IsOne : Na
   pub entered_as : (IsOther : Name → ℕ → Type 0) (fields : List Field) → ((n : Name) (i : ℕ) → IsOne n i → IsOther n i) → AreEntered l t m now IsOne from fields → AreEntered l t m now IsOther from fields
   entered_as IsOther [] so are = tt
   entered_as IsOther (f ∷ fields) so are = (so f.0 f.1 are.0, are.1, are.2, are.3, entered_as IsOther fields so are.4)
+
+-- where entries, counters of lines and states stay, so does what was drawn
+pub entered_alike : (l k : Limits) (t u : Tables) (m : Moment) (now : Name → ℕ) (IsOne : Name → ℕ → Type 0) (from : ℕ) (fields : List Field) → k ≡ l → u.remembered ≡ t.remembered → u.reuse ≡ t.reuse → u.states ≡ t.states
+    → AreEntered l t m now IsOne from fields → AreEntered k u m now IsOne from fields
+entered_alike l k t u m now IsOne from [] limits remembered reuse states are = tt
+entered_alike l k t u m now IsOne from (f ∷ fields) limits remembered reuse states are = (
+  are.0,
+  record { held = are.1.held; holds = are.1.holds; chosen = ap (λ g. state_of (g (granule_of (now are.1.held) / GRANULES_IN_BLOCK))) states ∙ are.1.chosen },
+  are.2,
+  λ room.
+      ap (λ g. g (from + length fields)) remembered ∙ are.3 (subst (λ z. from + length fields < z.remember) limits room)
+      ∙ ap (λ g. word_of_entry (g (word_of_field now f.0 f.1 / WORDS_IN_LINE)) (place_of now f.0) f.1) (sym reuse),
+  entered_alike l k t u m now IsOne from fields limits remembered reuse states are.4,
+)

@@ -3,6 +3,7 @@ use Rattle.std.proofs.Common.{◌≡◌, ◌≢◌, ℕ, ◌+◌, refl, sym, ap,
 use Rattle.std.specs.Prelude.{◌↔◌, Option, Some, None}
 use Rattle.std.specs.Option.{option_map}
 use Rattle.std.proofs.lemmas.Bool.{false_from_ne_true}
+use Rattle.lxr_layout.specs.declared.TheConstants.{REMEMBERED_CURSOR}
 use Rattle.lxr_layout.specs.declared.Name.{Name}
 use Rattle.lxr_graph.specs.declared.report.Kind.{Kind}
 use Rattle.lxr_graph.specs.declared.report.Kind.TheVariants as kind
@@ -33,7 +34,7 @@ use Rattle.lxr_invariant.proofs.NameLemmas.{in_first, in_second, no_member}
 use Rattle.lxr_pause_trace_laws.specs.Laws.{at_moment}
 use Rattle.lxr_run_pause.specs.Settling.{DiesBy, IsSweptBy, Settles, SettlesCounts, Tells, counted, kept_by, remaining_by, settled_by}
 use Rattle.lxr_run_pause.specs.Tracing.{CanDrain}
-use Rattle.lxr_run_pause.specs.Pausing.{CanPause, IsDrained, IsLetGo, KeepsObjects, KeepsThroughPause, LeavesRemembered, Traces}
+use Rattle.lxr_run_pause.specs.Pausing.{CanPause, DrawsByKind, IsDrained, IsLetGo, KeepsObjects, KeepsThroughPause, LeavesRemembered, QueuesOldValues, Traces}
 use Rattle.lxr_run_pause.specs.Relocating.{ChoosesBlocks, Evacuates, Relocates}
 use Rattle.lxr_run_pause.proofs.DistinctnessLemmas.{distinct_three}
 use Rattle.lxr_run_pause.proofs.FrameLemmas.{holds_of_kind}
@@ -212,11 +213,13 @@ module _ (s k : Space) (g : AbstractState) (can : CanPause s g) (at' : Name → 
           pub stay : StayForWantOfLines (tables_of s) (tables_of x) s.limits.blocks m g.at to report.promoted.items (IsLetGo g to (report_of report))
           pub traced : IsTracedBy x.limits (tables_of x) [] (at_moment (standing g to) leads) leads.trace
           pub trace : x.trace ≡ option_map (λ (trace : Trace). trace.began) leads.trace
+          pub queues : QueuesOldValues is s x
           pub drained : IsDrained x (is_draining is)
           pub outs : (line : ℕ) → IsTrue ((tables_of x).outs line) ↔ HasCopy m.state.graph g.at to moved line
           pub no_rest : moved ≡ [] → x.rest_next ≡ x.rest_end
           pub lists : KeepsThroughPause (tables_of k) (tables_of x)
           pub remembered : LeavesRemembered is (tables_of s) (tables_of x) s.limits.blocks
+          pub draws : DrawsByKind is s g parts (report_of report) ((tables_of s).cursors REMEMBERED_CURSOR) ((tables_of x).cursors REMEMBERED_CURSOR)
           pub chosen : ChoosesBlocks is (tables_of s) (tables_of x) s.limits.blocks
           pub traces : Traces is m.trace s x g to (report_of report) leads.unreclaimed
           pub tally : x.tally ≡ record s.tally { moved = s.tally.moved + length moved; kept = s.tally.kept + length unmoved }
@@ -236,6 +239,7 @@ module _ (s k : Space) (g : AbstractState) (can : CanPause s g) (at' : Name → 
             stay = subst (λ r. StayForWantOfLines (tables_of s) (tables_of x) s.limits.blocks m g.at to r.promoted.items (IsLetGo g to (report_of r))) (sym same_report) ends.stay;
             traced = subst (λ r. IsTracedBy x.limits (tables_of x) [] (at_moment (standing g to) (settled_by m parts r)) (settled_by m parts r).trace) (sym same_report) ends.traced;
             trace = subst (λ r. x.trace ≡ option_map (λ (trace : Trace). trace.began) (settled_by m parts r).trace) (sym same_report) ends.trace;
+            queues = subst (λ r. QueuesOldValues r.kind s x) (sym same_report) ends.queues;
             drained = subst (λ r. IsDrained x (is_draining r.kind)) (sym same_report) ends.drained;
             no_logs = ap (λ (y : Space). y.logged.items) ends.space ∙ counts.no_logs;
             outs = ends.outs;
@@ -245,6 +249,7 @@ module _ (s k : Space) (g : AbstractState) (can : CanPause s g) (at' : Name → 
               frees = ends.lists.frees ∙ counts.keeps.frees;
               cursors = λ j a b c d. ends.lists.cursors j a b c d ∙ other_cursors (tables_of s) (tables_of k) j counts.keeps a b c;
             };
+            draws = subst (λ r. DrawsByKind r.kind s g parts (report_of r) ((tables_of s).cursors REMEMBERED_CURSOR) ((tables_of x).cursors REMEMBERED_CURSOR)) (sym same_report) ends.draws;
             remembered = subst (λ r. LeavesRemembered r.kind (tables_of s) (tables_of x) s.limits.blocks) (sym same_report) ends.remembered;
             chosen = subst (λ r. ChoosesBlocks r.kind (tables_of s) (tables_of x) s.limits.blocks) (sym same_report) ends.chosen;
             traces = subst (λ r. Traces r.kind m.trace s x g to (report_of r) (settled_by m parts r).unreclaimed) (sym same_report) ends.traces;
@@ -285,9 +290,11 @@ module _ (s k : Space) (g : AbstractState) (can : CanPause s g) (at' : Name → 
           pub undecremented : IsUndecremented (tables_of x) leads at'
           pub traced : IsTracedBy x.limits (tables_of x) [] (at_moment (standing g at') leads) leads.trace
           pub trace : x.trace ≡ option_map (λ (trace : Trace). trace.began) leads.trace
+          pub queues : QueuesOldValues is s x
           pub drained : IsDrained x (is_draining is)
           pub keeps : KeepsThroughTracing (tables_of k) (tables_of x)
           pub remembered : LeavesRemembered is (tables_of s) (tables_of x) s.limits.blocks
+          pub draws : DrawsByKind is s g parts (report_of report) ((tables_of s).cursors REMEMBERED_CURSOR) ((tables_of x).cursors REMEMBERED_CURSOR)
           pub chosen : ChoosesBlocks is (tables_of s) (tables_of x) s.limits.blocks
           pub traces : Traces is m.trace s x g at' (report_of report) leads.unreclaimed
 
@@ -315,11 +322,13 @@ module _ (s k : Space) (g : AbstractState) (can : CanPause s g) (at' : Name → 
             stay = stay_then (tables_of x) ends.holds.marks ends.undecremented.positive;
             traced = ends.traced;
             trace = ends.trace;
+            queues = ends.queues;
             drained = ends.drained;
             outs = λ line. ((λ out. not_both ((tables_of x).outs line) out (ap (λ f. f line) ends.keeps.outs ∙ counts.none_out line)), (λ copy. no_member copy.name copy.promoted_is));
             no_rest = λ none. ap (λ (y : Space). y.rest_next) ends.space ∙ counts.no_rest ∙ sym (ap (λ (y : Space). y.rest_end) ends.space);
             lists = ends.keeps.lists;
             remembered = ends.remembered;
+            draws = ends.draws;
             chosen = ends.chosen;
             traces = ends.traces;
             tally = ap (λ (y : Space). y.tally) ends.space ∙ ap (λ (y : Space). y.tally) counts.space ∙ none_counted s.tally;

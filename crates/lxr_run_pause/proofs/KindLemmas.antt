@@ -176,9 +176,11 @@ module _ (s k : Space) (g : AbstractState) (can : CanPause s g) (at' : Name → 
     undecremented = subst (λ z. IsUndecremented (tables_of k) z at') plain_lead counts.undecremented;
     traced = subst (λ z. IsTracedBy k.limits (tables_of k) [] (at_moment (standing g at') z) z.trace) plain_lead counts.traced;
     trace = ap (λ (x : Space). x.trace) counts.space ∙ can.safepoint.numbers.trace ∙ sym (began_on m (report_of plain_report) m.trace);
+    queues = counts.queues;
     drained = tt;
     keeps = record { heap = refl; reuse = refl; outs = refl; lists = record { runs = refl; frees = refl; cursors = λ j a b c d. refl } };
     remembered = λ none. same_both (tables_of s) (tables_of k) (tables_of plain_end) (counts.remembered none) (record { entries = refl; cursor = refl });
+    draws = counts.draws;
     chosen = λ b. (chosen_before (tables_of s) (tables_of k) b (counts.states b), chosen_then (tables_of s) (tables_of k) b (counts.states b));
     traces = subst (λ ns. Traces kind.Plain m.trace s plain_end g at' (report_of plain_report) ns) (ap (λ (z : Moment). z.unreclaimed) plain_lead)
         (traces_still s k plain_end g at' (report_of k.report) (report_of plain_report) kept refl refl (λ n. refl) (λ n. ap (λ ns. has ns n) (sym plain_dead)) kind.Plain m.trace counts.traces);
@@ -350,12 +352,14 @@ module _ (s k : Space) (g : AbstractState) (can : CanPause s g) (at' : Name → 
       undecremented = subst (λ z. IsUndecremented (tables_of x) z at') lead_is (undecremented_then begun x began is_reworded left (Some fresh) at' begun_undecremented);
       traced = subst (λ z. IsTracedBy x.limits (tables_of x) [] (at_moment (standing g at') z) z.trace) lead_is begin_traced;
       trace = ap (λ (y : Space). y.trace) begun_is;
+      queues = tt;
       drained = ap (λ (t : Tables). t.cursors DECREMENT_COUNT) tables_are
           ∙ begun_cursor (tables_of begun) begun.limits.blocks DECREMENT_COUNT (λ e. cc) (λ e. cc)
           ∙ ap (λ (t : Tables). t.cursors DECREMENT_COUNT) begins.begins.tables
           ∙ begins.finishes.empty;
       keeps = begin_keeps;
       remembered = ap (λ (t : Tables). t.cursors REMEMBERED_CURSOR) tables_are ∙ none_remembered (tables_of begun) begun.limits.blocks;
+      draws = ap (λ (t : Tables). t.cursors REMEMBERED_CURSOR) tables_are ∙ none_remembered (tables_of begun) begun.limits.blocks;
       chosen = subst (λ t. ChoosesBlocks kind.Begin (tables_of s) t s.limits.blocks) (sym tables_are)
           (subst (λ n. ChoosesBlocks kind.Begin (tables_of s) (begun_anew (tables_of begun) begun.limits.blocks) n) begin_blocks (begun_chosen (tables_of begun) begun.limits.blocks blocks_begun (tables_of s)));
       traces = begin_traces;

@@ -6,6 +6,7 @@ pub mod TracedLemmas
 pub mod SweepLemmas
 pub mod BlocksLemmas
 pub mod GoingOnLemmas
+pub mod DrawingLemmas
 pub mod SettlingLemmas
 pub mod DistinctnessLemmas
 pub mod DecidingLemmas

@@ -28,17 +28,18 @@ use Rattle.lxr_blocks.specs.Placing.{IsRest}
 use Rattle.lxr_blocks.specs.States.{IsOpenRun, KeepsState, state_in}
 use Rattle.lxr_model.specs.Moments.{Moment, Trace, going_on}
 use Rattle.lxr_model.specs.Reachable.{Reachable}
-use Rattle.lxr_model.proofs.ReachableLemmas.{promoted_made}
+use Rattle.lxr_model.proofs.ReachableLemmas.{dead_parts, promoted_made}
 use Rattle.lxr_model_counting.proofs.DistinctLemmas.{tested}
 use Rattle.lxr_invariant.specs.AbstractState.{AbstractState, members}
 use Rattle.lxr_invariant.specs.Copied.{CopiesLieApart, HasCopy, HasWord, StayForWantOfLines}
 use Rattle.lxr_invariant.specs.Lines.{HasBlocks, NoneChosen}
 use Rattle.lxr_invariant.specs.Quiescent.{HoldsMoment}
-use Rattle.lxr_invariant.specs.Tracing.{HasOverflowed, IsInChosen}
+use Rattle.lxr_invariant.specs.Tracing.{HasOverflowed, IsInChosen, IsToBeMarked, IsUnmarked}
+use Rattle.lxr_invariant.specs.Tracing as to_mark
 use Rattle.lxr_invariant.proofs.BlockLemmas.{keeps_state_still, none_kept}
 use Rattle.lxr_invariant.proofs.CopiedLemmas.{free_alike}
 use Rattle.lxr_invariant.proofs.EntryLemmas.{changed_other}
-use Rattle.lxr_invariant.proofs.FrameLemmas.{chosen_still, image_still}
+use Rattle.lxr_invariant.proofs.FrameLemmas.{chosen_still, image_still, unchosen_still}
 use Rattle.lxr_invariant.proofs.NameLemmas.{in_either, in_first, in_second, no_member}
 use Rattle.lxr_evac_blocks.specs.Releasing.{with_releases}
 use Rattle.lxr_evac_moving.specs.Evacuation.{EvacuatesChosen, IsToMove, evacuated_of}
@@ -48,7 +49,8 @@ use Rattle.lxr_sweep_unmarked.specs.Sweeping.{swept_moment}
 use Rattle.lxr_run_pause.specs.Settling.{Settles, SettlesCounts}
 use Rattle.lxr_run_pause.specs.Steps.{with_evacuated}
 use Rattle.lxr_run_pause.specs.Tracing.{CanEnd, Ends, drained}
-use Rattle.lxr_run_pause.specs.Pausing.{CanPause, IsLetGo, KeepsThroughPause, SameRemembered}
+use Rattle.lxr_run_pause.specs.Pausing.{CanPause, DrawsByKind, IsLetGo, KeepsThroughPause, SameRemembered, Traces, WasLeftToMark}
+use Rattle.lxr_run_pause.proofs.DrawingLemmas.{into_chosen}
 use Rattle.lxr_run_pause.specs.Relocating.{Evacuates, IsEvacuee, IsSnapshotOf, Relocates, rememberable_by}
 use Rattle.lxr_run_pause.proofs.BlocksLemmas.{blocks_set, chosen_alike, chosen_before, chosen_then, none_released, released_blocks, was_so}
 use Rattle.lxr_run_pause.proofs.BuildingLemmas.{AreParts, KeepsThroughTracing, kept_alive, leads, now, report, settles, stay_then, with_kind}
@@ -59,7 +61,10 @@ use Rattle.lxr_run_pause.proofs.KindLemmas.{going_same, lists_on}
 use Rattle.lxr_run_pause.proofs.RelocatingLemmas.{counted_by, refuted}
 use Rattle.lxr_run_pause.proofs.RememberedLemmas.{overflowed_still, same_both, same_kept, same_told}
 use Rattle.lxr_run_pause.proofs.SweepingLemmas.{cleared_is, cleared_keeps, ends_tracing, gone_then, marked_cleared, member_left, sweep_parts, swept_of}
-use Rattle.lxr_run_pause.proofs.TracingLemmas.{KeepsButMarks, end_remembered, end_traced, keeps_finished}
+use Rattle.lxr_run_pause.proofs.TracingLemmas.{KeepsButMarks, can_trace, end_remembered, end_traced, keeps_finished}
+use Rattle.lxr_pause_trace.specs.Tracing.{CanTrace}
+use Rattle.lxr_pause_trace.proofs.NamedLemmas.{to_be_kept}
+use Rattle.lxr_pause_trace_laws.proofs.GranuleLemmas.{one_name}
 
 -- a snapshot of a trace is that of the trace that goes on
 snapshot_on : (m : Moment) (r : PauseReport) (trace : Option Trace) (running : Trace) (snapshot : List Name) → going_on m r trace ≡ Some running → IsSnapshotOf trace snapshot → IsSetOf snapshot (Reachable running.state)
@@ -68,6 +73,20 @@ snapshot_on m r (Some trace) running snapshot runs is = subst (λ (t : Trace). I
   where
     some_same : (a b : Trace) → Some a ≡ Some b → a ≡ b
     some_same a b e = cc
+
+-- where a trace goes on, what is unmarked then was so, and isn't promoted
+unmarked_before : (s k : Space) (g : AbstractState) (at' : Name → ℕ) (r : PauseReport) (left : List Name) (m : Moment) (trace : Option Trace) (running : Trace) (n : Name) → going_on m r trace ≡ Some running → Traces kind.Plain trace s k g at' r left
+    → IsTrue (has left n) → IsUnmarked (tables_of k) at' n → IsUnmarked (tables_of s) g.at n × (has r.promoted n ≡ false)
+unmarked_before s k g at' r left m None running n e traces h unmarked = absurd (cc)
+unmarked_before s k g at' r left m (Some trace) running n e traces h unmarked = (
+  false_from_ne_true ((tables_of s).marks (granule_of (g.at n))) (λ marked. not_both ((tables_of k).marks (granule_of (at' n))) ((traces.marks n h).1 (inl marked)) unmarked),
+  false_from_ne_true (has r.promoted n) (λ p. not_both ((tables_of k).marks (granule_of (at' n))) ((traces.marks n h).1 (inr p)) unmarked),
+)
+
+-- what is to be marked is unmarked
+to_be_unmarked : (t : Tables) (m : Moment) (at : Name → ℕ) (n : Name) → IsToBeMarked t m at n → IsUnmarked t at n
+to_be_unmarked t m at n (to_mark.gray _ member unmarked gray) = unmarked
+to_be_unmarked t m at n (to_mark.referred u _ is refers unmarked) = unmarked
 
 module _ (s k : Space) (g : AbstractState) (can : CanPause s g) (at' : Name → ℕ) (gone : List Name) (counts : SettlesCounts s k g at' gone) (x : Space) (j : ℕ)
     (may : CanEnd (with_kind s k g can at' gone counts (kind.End j)) (now s k g can at' gone counts (kind.End j)))
@@ -510,6 +529,57 @@ module _ (s k : Space) (g : AbstractState) (can : CanPause s g) (at' : Name → 
       (same_both (tables_of ends.found) (tables_of ends.traced) tx (same_told (tables_of ends.found) (tables_of ends.traced) (ends.traces.remembers.idle idle))
       (same_both (tables_of ends.traced) tc tx (same_kept (tables_of ends.traced) tc ends.sweeps.keeps) set_moved)))
 
+  -- ---- the numbers of the remembered set that it draws
+
+  can_trace_found : CanTrace ends.found left at'
+  can_trace_found = can_trace (with_kind s k g can at' gone counts (kind.End j)) (now s k g can at' gone counts (kind.End j)) may.drains ends.found ends.gone ends.finishes
+
+  -- what stays stands apart from the second dead
+  stands_apart : (n : Name) → IsTrue (has members_then n) → has ends.gone n ≡ false → (o : Name) → IsTrue (has ends.gone o) → granule_of (at' o) ≢ granule_of (at' n)
+  stands_apart n member stays o d e =
+      let there : (q : Name) → IsTrue (has members_then q) → IsTrue (has (members (now s k g can at' gone counts (kind.End j)).moment) q) = in_first members_then [] in
+      let same = one_name tk k.limits.blocks at' graph (members (now s k g can at' gone counts (kind.End j)).moment) counts.holds.image.image o n (there o (dead_parts ((ends.finishes.dead o).0 d)).member) (there n member) e in
+      not_both (has ends.gone n) (subst (λ q. IsTrue (has ends.gone q)) same d) stays
+
+  was_left : (n : Name) → IsToBeMarked (tables_of ends.found) left at' n → WasLeftToMark s g (record { first_dead = gone; second_dead = ends.gone; third_dead = ends.third }) (report_of end_report) n
+  was_left n is =
+      let member = to_be_kept ends.found left at' can_trace_found n is in
+      let kept = without_parts members_then ends.gone n member in
+      let here : IsUnmarked tk at' n = sym (ends.finishes.marks.others (granule_of (at' n)) (stands_apart n kept.0 kept.1)) ∙ to_be_unmarked (tables_of ends.found) left at' n is in
+      let before = unmarked_before s k g at' (report_of k.report) members_then m m.trace may.trace n may.runs counts.traces kept.0 here in
+      let old : IsTrue (has m.unreclaimed n) × (has gone n ≡ false) = elim (union_cases promoted (without m.unreclaimed gone) n kept.0) [
+        | inl p ↦ absurd (not_both (has promoted n) p before.1)
+        | inr stays ↦ without_parts m.unreclaimed gone n stays
+      ] in
+      record {
+        member = old.0;
+        unmarked = before.0;
+        first = old.1;
+        second = kept.1;
+        unswept = false_from_ne_true (has ends.swept n) (λ w. not_both ((tables_of ends.traced).marks (granule_of (at' n))) ((ends.traces.marks n member).1 (inr is)) ((ends.sweeps.swept_are n).0 w).1);
+      }
+
+  traced_states : (tables_of ends.traced).states ≡ tk.states
+  traced_states = ap (λ (t : Tables). t.states) ends.traces.tables ∙ ends.finishes.states
+
+  end_draws : DrawsByKind (kind.End j) s g (record { first_dead = gone; second_dead = ends.gone; third_dead = ends.third }) (report_of end_report) (t0.cursors REMEMBERED_CURSOR) (tx.cursors REMEMBERED_CURSOR)
+  end_draws = (
+    tk.cursors REMEMBERED_CURSOR,
+    record { entered = counts.draws.entered; are = counts.draws.are; drawn = counts.draws.drawn },
+    record {
+      entered = ends.traces.entered.entered;
+      are = into_chosen ends.found.limits s g (tables_of ends.traced) left at' promoted _ _ ((tables_of ends.found).cursors REMEMBERED_CURSOR) ends.traces.entered.entered refl
+          (λ b. keeps_state_still t0 tk t0 (tables_of ends.traced) b refl traced_states (counts.states b)) (unchosen_still tk (tables_of ends.traced) at' promoted traced_states counts.unchosen) counts.copies.others
+          (λ n i is. was_left n is) ends.traces.entered.are;
+      drawn =
+          let first = (same_kept tk (tables_of ends.found) ends.finishes.keeps).cursor in
+          let entered = ends.traces.entered.drawn in
+          let swept = (same_kept (tables_of ends.traced) tc ends.sweeps.keeps).cursor in
+          let last = set_moved.cursor in
+          omega (arith, first, entered, swept, last);
+    },
+  )
+
   -- ---- what it was to sweep
 
   ended_found : FindsGarbage ends.traced left at' (IsGarbageOf may.trace) × ((n : Name) → IsGarbageOf may.trace n → IsTrue (has left.unreclaimed n))
@@ -547,11 +617,13 @@ module _ (s k : Space) (g : AbstractState) (can : CanPause s g) (at' : Name → 
     stay = stay_ended end_parts;
     traced = tt;
     trace = ap (λ (y : Space). y.trace) ended_from;
+    queues = tt;
     drained = ap (λ (t : Tables). t.cursors DECREMENT_COUNT) tables_ended ∙ changed_other te.cursors TRACING_WORD 0 DECREMENT_COUNT (λ e. cc) ∙ ap (λ (t : Tables). t.cursors DECREMENT_COUNT) moves.tables ∙ ends.sweeps.empty;
     outs = outs_ended;
     no_rest = rest_ended;
     lists = lists_on tk tc tx kept_tables.lists lists_moved;
     remembered = end_remembered_there;
+    draws = end_draws;
     chosen = subst (λ t. NoneChosen t s.limits.blocks) (sym tables_ended) (subst (λ l. NoneChosen (with_releases te ends.evacuated.limits.blocks) l.blocks) limits_evacuated (none_released te ends.evacuated.limits.blocks));
     traces = ends_tracing x lead to end_holds (λ n h. ap (λ (t : Tables). t.marks (granule_of (to n))) tables_ended ∙ (moves.marks n h).1
         (marked_cleared s k g can at' gone counts (kind.End j) ends.found ends.traced ends.cleared ends.gone ends.swept ends.third ends.finishes keeps ends.traces.holds ends.sweeps n h));

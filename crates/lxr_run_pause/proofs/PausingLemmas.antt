@@ -4,6 +4,7 @@ use Rattle.std.proofs.Common.{◌≡◌, ◌≢◌, ℕ, ◌+◌, ◌*◌, ◌/�
 use Rattle.std.specs.Prelude.{◌↔◌, Some, None, map, not, ◌&&◌}
 use Rattle.std.specs.Option.{option_map}
 use Rattle.std.proofs.lemmas.List.{append-nil}
+use Rattle.lxr_pause_queue.specs.OldValues.{first_entries, old_values}
 use Rattle.lxr_layout.specs.declared.TheConstants.{DECREMENT_COUNT, GRANULES_IN_BLOCK, LINES_IN_BLOCK, REMEMBERED_CURSOR}
 use Rattle.lxr_layout.specs.declared.Name.{Name}
 use Rattle.lxr_graph.specs.declared.report.Count.{Count}
@@ -43,9 +44,10 @@ use Rattle.lxr_run_pause.specs.declared.Pace.{Pace}
 use Rattle.lxr_run_pause.specs.Deciding.{HasKind}
 use Rattle.lxr_run_pause.specs.Steps.{CanCountWhere, CountsWhere, with_names_in_order, with_pause_counted}
 use Rattle.lxr_run_pause.specs.Settling.{Settles, remaining_by, settled_by}
-use Rattle.lxr_run_pause.specs.Pausing.{CanPause, IsDrained, IsLetGo, KeepsThroughPause, LeavesRemembered, Pauses, SameRemembered, Traces}
+use Rattle.lxr_run_pause.specs.Pausing.{CanPause, DrawsByKind, IsDrained, IsLetGo, KeepsThroughPause, LeavesRemembered, Pauses, QueuesOldValues, SameRemembered, Traces}
+use Rattle.lxr_run_pause.proofs.DrawingLemmas.{draws_told}
 use Rattle.lxr_run_pause.specs.Relocating.{ChoosesBlocks, Evacuates, Relocates}
-use Rattle.lxr_run_pause.proofs.ReportLemmas.{entries_same, goes_on, moment_then, reports, stuck_then, stuck_told, told, unreclaimed_then}
+use Rattle.lxr_run_pause.proofs.ReportLemmas.{entries_same, goes_on, moment_then, parts_in_order, reports, reports_with, stuck_then, stuck_told, told, unreclaimed_then}
 use Rattle.lxr_run_pause.proofs.OrderLemmas.{has_in_order}
 use Rattle.lxr_run_pause.proofs.BlocksLemmas.{chooses_swept}
 use Rattle.lxr_invariant.proofs.ToldLemmas.{holds_told, with_told}
@@ -61,6 +63,13 @@ leaves_swept kind.Plain t u v blocks same is = λ none. same_both t u v (is none
 leaves_swept kind.Begin t u v blocks same is = same.cursor ∙ is
 leaves_swept (kind.End j) t u v blocks same is = λ none. same_both t u v (is none) same
 leaves_swept kind.Collect t u v blocks same is = λ none. same_both t u v (is none) same
+
+-- so is a list of decrements
+queues_swept : (k : Kind) (s x y : Space) → y.registers ≡ x.registers → (tables_of y).decs ≡ (tables_of x).decs → (tables_of y).cursors DECREMENT_COUNT ≡ (tables_of x).cursors DECREMENT_COUNT → QueuesOldValues k s x → QueuesOldValues k s y
+queues_swept kind.Plain s x y registers decs count is = (λ i. first_entries (decs i) (count i)) ∙ is ∙ ap (λ z. old_values (record s { registers = z })) (sym registers)
+queues_swept kind.Begin s x y registers decs count is = tt
+queues_swept (kind.End j) s x y registers decs count is = tt
+queues_swept kind.Collect s x y registers decs count is = tt
 
 -- ---- the end of a pause
 
@@ -306,6 +315,14 @@ module _ (s x : Space) (g : AbstractState) (asked : Ask) (pace : Pace) (can : Ca
           refl line_was_free let_go_told settles.stay;
       keeps = keeps;
       remembered = leaves_swept r.kind (tables_of s) t (tables_of at_end) s.limits.blocks (record { entries = ap (λ z. z.remembered) tables; cursor = ap (λ z. z.cursors REMEMBERED_CURSOR) tables }) settles.remembered;
+      draws = (
+        parts_in_order parts,
+        reports_with m r parts counts follows settles.tells afresh,
+        subst (DrawsByKind r.kind s g (parts_in_order parts) said ((tables_of s).cursors REMEMBERED_CURSOR)) (sym (ap (λ z. z.cursors REMEMBERED_CURSOR) tables))
+            (draws_told s g parts (parts_in_order parts) (report_of r) said (has_in_order r.promoted.items) (has_in_order r.swept.items) (has_in_order parts.first_dead) (has_in_order parts.second_dead) r.kind ((tables_of s).cursors REMEMBERED_CURSOR)
+            (t.cursors REMEMBERED_CURSOR) settles.draws),
+      );
+      queues = queues_swept r.kind s x at_end refl (ap (λ z. z.decs) tables) (ap (λ z. z.cursors DECREMENT_COUNT) tables) settles.queues;
       drained = drained_by (is_draining r.kind) settles.drained;
       outs = outs;
       no_rest = settles.no_rest;

@@ -1,6 +1,7 @@
 -- Each step of counting finds what it asks for, and once roots are deferred, counting is done: a trace that runs goes on.
 use Rattle.std.proofs.Common.{◌≡◌, ℕ, ◌+◌, ◌*◌, ◌^◌, ◌≤◌, refl, sym, ap, subst, ◌∙◌, arith, List, [], ◌++◌, IsTrue, length}
 use Rattle.std.specs.Prelude.{◌↔◌, Option, Some, None}
+use Rattle.lxr_pause_queue.specs.OldValues.{decrement_list, dropped_values, first_entries, logged_values, old_values, without_nil}
 use Rattle.lxr_layout.specs.declared.TheConstants.{GRANULES_IN_BLOCK, REMEMBERED_CURSOR}
 use Rattle.lxr_layout.specs.declared.Name.{Name}
 use Rattle.lxr_graph.specs.declared.report.Kind.TheVariants as kind
@@ -37,7 +38,8 @@ use Rattle.lxr_pause_trace_laws.proofs.FinishingLemmas.{finishing_keeps}
 use Rattle.lxr_pause_trace_laws.proofs.TellingLemmas.{marks_tell}
 use Rattle.lxr_run_pause.specs.Steps.{begun, with_report_begun}
 use Rattle.lxr_run_pause.specs.Settling.{SettlesCounts, TellsCounts, TellsTheEnd, counted}
-use Rattle.lxr_run_pause.specs.Pausing.{CanPause, KeepsObjects, SameRemembered, Traces}
+use Rattle.lxr_run_pause.specs.Pausing.{CanPause, DrawsFor, IsToRaise, KeepsObjects, SameRemembered, Traces}
+use Rattle.lxr_run_pause.proofs.DrawingLemmas.{into_chosen}
 use Rattle.lxr_invariant.proofs.ToldLemmas.{holds_told}
 use Rattle.lxr_run_pause.proofs.FrameLemmas.{begun_room, holds_renumbered, undecremented_renumbered}
 use Rattle.lxr_run_pause.proofs.GoingOnLemmas.{traces_on}
@@ -236,6 +238,30 @@ module _ (s began : Space) (g : AbstractState) (can : CanPause s g) (begins : be
               same_both (tables_of s) (tables_of finished) (tables_of queued) (same_kept (tables_of s) (tables_of finished) kept_before)
               (same_both (tables_of finished) (tables_of raised) (tables_of queued) (same_told (tables_of finished) (tables_of raised) (raise.remembers.idle there)) (same_kept (tables_of raised) (tables_of queued) queue.keeps))
 
+          -- the old values that were queued are those of the space as the pause began, with registers as they are now
+          queued_values : decrement_list (tables_of queued) ≡ old_values (record s { registers = queued.registers })
+          queued_values =
+              let none = raise.raised.decrements.1 in
+              let logs : raised.logged.items ≡ s.logged.items = ap (λ (x : Space). x.logged.items) raise.space ∙ ap (λ (x : Space). x.logged.items) finish.space ∙ ap (λ (x : Space). x.logged.items) begins in
+              let held : raised.deferred.items ≡ s.deferred.items = ap (λ (x : Space). x.deferred.items) raise.space ∙ ap (λ (x : Space). x.deferred.items) finish.space ∙ ap (λ (x : Space). x.deferred.items) begins in
+              let registers : raised.registers.items ≡ queued.registers.items = sym (ap (λ (x : Space). x.registers.items) queue.space) in
+              queue.decrements
+              ∙ ap (λ n. first_entries (tables_of raised).decs n ++ old_values raised) none
+              ∙ (λ i. without_nil (logged_values (logs i)) ++ without_nil (dropped_values (held i) (registers i)))
+
+          -- one number was drawn for each reference that increments entered
+          drawn : DrawsFor s g (IsToRaise g (report_of raised.report)) ((tables_of s).cursors REMEMBERED_CURSOR) ((tables_of queued).cursors REMEMBERED_CURSOR)
+          drawn = record {
+            entered = raise.entered.entered;
+            are = into_chosen finished.limits s g (tables_of raised) left at' raised.report.promoted.items _ (IsToRaise g (report_of raised.report)) ((tables_of finished).cursors REMEMBERED_CURSOR) raise.entered.entered refl
+                (λ b. keeps_state_still (tables_of finished) (tables_of raised) (tables_of s) (tables_of raised) b (sym same_states) refl (raise.states b)) raise.unchosen raise.copies.others (λ n i one. one) raise.entered.are;
+            drawn =
+                let before = kept_before.cursors REMEMBERED_CURSOR (λ e. cc) (λ e. cc) in
+                let after = queue.keeps.cursors REMEMBERED_CURSOR (λ e. cc) (λ e. cc) in
+                let entered = raise.entered.drawn in
+                omega (arith, before, after, entered);
+          }
+
           copied : CopiesPromoted (tables_of s) (tables_of queued) m g.at at' raised.report.promoted.items
           copied =
               copies_still (tables_of finished) (tables_of raised) (tables_of s) (tables_of queued) m (without m.unreclaimed gone) g.at at' raised.report.promoted.items raised.report.promoted.items
@@ -273,6 +299,7 @@ module _ (s began : Space) (g : AbstractState) (can : CanPause s g) (begins : be
             stay = stays;
             traced = traced_done g.moment.trace refl can.objects can.safepoint.traced;
             tells_the_end = end_told g.moment.trace (tells_done g.moment.trace refl);
+            queues = queued_values;
             few_dead = subst (λ l. length raised.report.dead.items ≤ GRANULES_IN_BLOCK * l.blocks) (sym (ap (λ (x : Space). x.limits) queue.space)) few_gone;
             no_logs = ap (λ (x : Space). x.logged.items) queue.space;
             none_out = queue.none_out;
@@ -281,6 +308,7 @@ module _ (s began : Space) (g : AbstractState) (can : CanPause s g) (begins : be
                 ∙ sym (ap (λ (x : Space). x.rest_end) queue.space ∙ ap (λ (x : Space). x.rest_end) raise.space);
             keeps = kept;
             remembered = remembered;
+            draws = drawn;
             states = λ b. keeps_state_still (tables_of finished) (tables_of raised) (tables_of s) (tables_of queued) b (sym same_states) queued_states (raise.states b);
             traces = traces_there g.moment.trace (traces_done g.moment.trace refl);
             space =

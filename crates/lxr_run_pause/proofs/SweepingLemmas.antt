@@ -226,14 +226,13 @@ module _ (s k : Space) (g : AbstractState) (can : CanPause s g) (at' : Name → 
       (subst (λ t. HasBlocks t cleared_there.limits.blocks None) (sym collects.sets.tables) (blocks_set (tables_of cleared_there) cleared_there.limits.blocks 0 collect_last.trace None refl unchosen_then collects.sweeps.holds.blocks))
       collects.sweeps.holds
 
-  -- where no block was Chosen, nothing was remembered
-  collect_remembered : NoneChosen (tables_of s) s.limits.blocks → SameRemembered (tables_of s) (tables_of x)
-  collect_remembered none =
+  -- once blocks are released nothing is remembered any more
+  collect_still : SameRemembered (tables_of k) (tables_of x)
+  collect_still =
       let begun_blocks : collects.begun.limits.blocks ≡ collects.found.limits.blocks = ap (λ (y : Space). y.limits.blocks) collects.begins.space ∙ ap (λ (y : Space). y.limits.blocks) collects.releases.rest in
       let idle : NoneChosen (tables_of collects.begun) collects.begun.limits.blocks =
       chosen_still (tables_of collects.released) (tables_of collects.begun) collects.begun.limits.blocks (ap (λ (t : Tables). t.states) collects.begins.tables) ∙ unchosen_released collects.begun.limits.blocks begun_blocks in
-      same_both (tables_of s) (tables_of k) (tables_of x) (counts.remembered none)
-      (same_both (tables_of k) (tables_of collects.found) (tables_of x) (same_kept (tables_of k) (tables_of collects.found) collects.finishes.keeps)
+      same_both (tables_of k) (tables_of collects.found) (tables_of x) (same_kept (tables_of k) (tables_of collects.found) collects.finishes.keeps)
       (same_both (tables_of collects.found) (tables_of collects.begun) (tables_of x) (record {
         entries = ap (λ (t : Tables). t.remembered) collects.begins.tables ∙ ap (λ (t : Tables). t.remembered) collects.releases.tables;
         cursor = ap (λ (t : Tables). t.cursors REMEMBERED_CURSOR) collects.begins.tables ∙ ap (λ (t : Tables). t.cursors REMEMBERED_CURSOR) collects.releases.tables;
@@ -242,7 +241,11 @@ module _ (s k : Space) (g : AbstractState) (can : CanPause s g) (at' : Name → 
       (same_both (tables_of collects.traced) (tables_of cleared_there) (tables_of x) (same_kept (tables_of collects.traced) (tables_of cleared_there) collects.sweeps.keeps) (record {
         entries = ap (λ (t : Tables). t.remembered) collects.sets.tables;
         cursor = ap (λ (t : Tables). t.cursors REMEMBERED_CURSOR) collects.sets.tables ∙ changed_other (tables_of cleared_there).cursors TRACING_WORD 0 REMEMBERED_CURSOR (λ e. cc);
-      })))))
+      }))))
+
+  -- where no block was Chosen, nothing was remembered
+  collect_remembered : NoneChosen (tables_of s) s.limits.blocks → SameRemembered (tables_of s) (tables_of x)
+  collect_remembered none = same_both (tables_of s) (tables_of k) (tables_of x) (counts.remembered none) collect_still
 
   pub collect_settles : Settles s x g at' (record { first_dead = gone; second_dead = collects.gone; third_dead = collects.third }) [] []
   collect_settles = settles_there s k g can at' gone counts kind.Collect collects.gone collects.third collects.swept
@@ -254,11 +257,13 @@ module _ (s k : Space) (g : AbstractState) (can : CanPause s g) (at' : Name → 
         undecremented = undecremented_then cleared_there x None collect_reworded collect_last None at' collects.sweeps.undecremented;
         traced = tt;
         trace = ap (λ (y : Space). y.trace) collected_is;
+        queues = tt;
         drained = ap (λ (t : Tables). t.cursors DECREMENT_COUNT) collects.sets.tables ∙ changed_other (tables_of cleared_there).cursors TRACING_WORD 0 DECREMENT_COUNT (λ e. cc) ∙ collects.sweeps.empty;
         keeps = keeps_on (tables_of k) (tables_of cleared_there) (tables_of x)
             (cleared_keeps s k g can at' gone counts kind.Collect collects.found collects.traced cleared_there collects.gone collects.swept collects.third collects.finishes collect_keeps collects.traces.holds collects.sweeps)
             (keeps_set cleared_there x None collects.sets);
         remembered = collect_remembered;
+        draws = record { entered = counts.draws.entered; are = counts.draws.are; drawn = collect_still.cursor ∙ counts.draws.drawn };
         chosen = subst (λ t. NoneChosen t s.limits.blocks) (sym collects.sets.tables)
             (subst (λ n. NoneChosen (tables_of cleared_there) n) (cleared_blocks ∙ ap (λ (y : Space). y.limits.blocks) collects.finishes.space ∙ ap (λ (y : Space). y.limits.blocks) counts.space) unchosen_then);
         traces = ends_tracing x collect_lead at' collect_holds (λ n h. ap (λ (t : Tables). t.marks (granule_of (at' n))) collects.sets.tables

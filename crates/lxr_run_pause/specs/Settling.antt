@@ -2,7 +2,7 @@
 use Rattle.std.specs.Prelude.{◌≡◌, ℕ, ◌+◌, ◌*◌, ◌≤◌, ◌↔◌, ⊤, Bool, true, false, Option, Some, None, List, [], ◌++◌, IsTrue, length}
 use Rattle.std.specs.Option.{option_map}
 use Rattle.lxr_layout.specs.declared.Name.{Name}
-use Rattle.lxr_layout.specs.declared.TheConstants.{GRANULES_IN_BLOCK}
+use Rattle.lxr_layout.specs.declared.TheConstants.{GRANULES_IN_BLOCK, REMEMBERED_CURSOR}
 use Rattle.lxr_graph.specs.declared.report.Kind.{Kind}
 use Rattle.lxr_graph.specs.declared.report.Kind.TheVariants as kind
 use Rattle.lxr_graph.specs.declared.report.Report.{Report}
@@ -27,7 +27,7 @@ use Rattle.lxr_invariant.specs.Raised.{AreRaised, settled, with_promoted}
 use Rattle.lxr_invariant.specs.Tracing.{IsTracedBy}
 use Rattle.lxr_remset.specs.Remembering.{with_remembered_of}
 use Rattle.lxr_pause_trace_laws.specs.Laws.{AllGrayAreMarked, NothingIsLeft, at_moment}
-use Rattle.lxr_run_pause.specs.Pausing.{IsDrained, IsLetGo, KeepsThroughPause, LeavesRemembered, SameRemembered, Traces}
+use Rattle.lxr_run_pause.specs.Pausing.{DrawsByKind, DrawsFor, IsDrained, IsLetGo, IsToRaise, KeepsThroughPause, LeavesRemembered, QueuesOldValues, SameRemembered, Traces}
 use Rattle.lxr_run_pause.specs.Relocating.{ChoosesBlocks, Evacuates, Relocates}
 use Rattle.lxr_run_pause.specs.Steps.{HasDistinctNames}
 
@@ -71,12 +71,14 @@ pub record SettlesCounts (before after : Space) (g : AbstractState) (at' : Name 
   pub stay : StayForWantOfLines (tables_of before) (tables_of after) before.limits.blocks g.moment g.at at' after.report.promoted.items (λ line. ⊥)
   pub traced : IsTracedBy after.limits (tables_of after) [] (at_moment (standing g at') (counted g.moment gone after.report)) (counted g.moment gone after.report).trace
   pub tells_the_end : TellsTheEnd before after g gone g.moment.trace
+  pub queues : QueuesOldValues kind.Plain before after
   pub few_dead : length after.report.dead.items ≤ GRANULES_IN_BLOCK * after.limits.blocks
   pub no_logs : after.logged.items ≡ []
   pub none_out : (line : ℕ) → (tables_of after).outs line ≡ false
   pub no_rest : after.rest_next ≡ after.rest_end
   pub keeps : KeepsLists (with_remembered_of (tables_of before) (tables_of after)) (tables_of after)
   pub remembered : NoneChosen (tables_of before) before.limits.blocks → SameRemembered (tables_of before) (tables_of after)
+  pub draws : DrawsFor before g (IsToRaise g (report_of after.report)) ((tables_of before).cursors REMEMBERED_CURSOR) ((tables_of after).cursors REMEMBERED_CURSOR)
   pub states : (b : ℕ) → KeepsState (tables_of before) (tables_of after) b
   pub traces : Traces kind.Plain g.moment.trace before after g at' (report_of after.report) (counted g.moment gone after.report).unreclaimed
   pub space : after ≡ record before {
@@ -171,12 +173,14 @@ pub record Settles (before after : Space) (g : AbstractState) (at' : Name → �
   pub stay : StayForWantOfLines (tables_of before) (tables_of after) before.limits.blocks g.moment g.at at' after.report.promoted.items (IsLetGo g at' (report_of after.report))
   pub traced : IsTracedBy after.limits (tables_of after) [] (at_moment (standing g at') (settled_by g.moment parts after.report)) (settled_by g.moment parts after.report).trace
   pub trace : after.trace ≡ option_map (λ (trace : Trace). trace.began) (settled_by g.moment parts after.report).trace
+  pub queues : QueuesOldValues after.report.kind before after
   pub drained : IsDrained after (is_draining after.report.kind)
   pub no_logs : after.logged.items ≡ []
   pub outs : (line : ℕ) → IsTrue ((tables_of after).outs line) ↔ HasCopy g.moment.state.graph g.at at' moved line
   pub no_rest : moved ≡ [] → after.rest_next ≡ after.rest_end
   pub keeps : KeepsThroughPause (tables_of before) (tables_of after)
   pub remembered : LeavesRemembered after.report.kind (tables_of before) (tables_of after) before.limits.blocks
+  pub draws : DrawsByKind after.report.kind before g parts (report_of after.report) ((tables_of before).cursors REMEMBERED_CURSOR) ((tables_of after).cursors REMEMBERED_CURSOR)
   pub chosen : ChoosesBlocks after.report.kind (tables_of before) (tables_of after) before.limits.blocks
   pub traces : Traces after.report.kind g.moment.trace before after g at' (report_of after.report) (settled_by g.moment parts after.report).unreclaimed
   pub tally : after.tally ≡ record before.tally { moved = before.tally.moved + length moved; kept = before.tally.kept + length kept }
