@@ -11,6 +11,7 @@ use Rattle.lxr_blocks.specs.States.{KeepsFree, KeepsState, is_fixed, state_by_li
 use Rattle.lxr_blocks.specs.Handing.{first_line, handed_out, is_between, with_lines_out}
 use Rattle.lxr_blocks.proofs.KeptLemmas.{out_keeps}
 use Rattle.lxr_blocks.proofs.LineLemmas.{taken_by_lines}
+use Rattle.lxr_blocks.proofs.SweptLemmas.{read_back}
 
 -- numbers from one on and below another are between them, and others aren't
 pub between : (a b w : ℕ) → a ≤ w → w < b → is_between a b w ≡ true
@@ -68,12 +69,6 @@ handing_keeps_states t r b =
           ] refl
     ] refl
 
--- a state by lines is read as it was written
-by_lines_back : (a b : Bool) → state_of (state_number (cond a Free (cond b Whole Partly))) ≡ cond a Free (cond b Whole Partly)
-by_lines_back true b = refl
-by_lines_back false true = refl
-by_lines_back false false = refl
-
 -- a line of a run is one of its block
 line_of_run : (b l n k : ℕ) → l + n ≤ LINES_IN_BLOCK → LINES_IN_BLOCK * b + l ≤ k → k < LINES_IN_BLOCK * b + l + n → k / LINES_IN_BLOCK ≡ b
 line_of_run b l n k within low high = omega arith
@@ -110,7 +105,7 @@ handing_keeps_free t r some within b free = elim (eqb_tells b r.block) [
     there : (c : Bool) → is_fixed (state_in v r.block) ≡ c → state_of (states_by c r.block) ≢ Free
     there true fixed free = let no : true ≡ false = sym fixed ∙ ap is_fixed free in cc
     there false fixed free = taken_by_lines v r.block r.line (omega arith) out_there
-        (sym (by_lines_back (free_count (free_in v r.block) LINES_IN_BLOCK == LINES_IN_BLOCK) (free_count (free_in v r.block) LINES_IN_BLOCK == 0))
+        (sym (read_back (state_by_lines v r.block))
         ∙ sym (ap (λ x. state_of (cond x new (t.states r.block))) (let e : nat_eq r.block r.block ≡ true = grind (arith, nat_tests) in e)) ∙ free)
 
     not_free : state_in (handed_out t r) r.block ≢ Free

@@ -98,7 +98,7 @@ free_next t u b same free = subst (λ x. FreeIsFree x b) (sym same) (λ is. free
 -- ---- what a sweep means
 
 -- a state is read as it was written
-read_back : (s : BlockState) → state_of (state_number s) ≡ s
+pub read_back : (s : BlockState) → state_of (state_number s) ≡ s
 read_back Free = refl
 read_back Partly = refl
 read_back Whole = refl

@@ -1,6 +1,6 @@
 -- Blocks whose state is Free are unused, and so all their lines are free: a count stands only where an object begins, or where one that
 -- begins in the same block reaches into a further line.
-use Rattle.std.proofs.Common.{◌≡◌, ◌≢◌, ℕ, ◌+◌, ◌-◌, ◌*◌, ◌/◌, ◌<◌, ◌≤◌, refl, sym, ap, subst, ◌∙◌, arith, List, true}
+use Rattle.std.proofs.Common.{◌≡◌, ◌≢◌, ℕ, ◌+◌, ◌-◌, ◌*◌, ◌/◌, ◌<◌, ◌≤◌, refl, sym, ap, subst, ◌∙◌, arith, List, true, ◌%◌, ◌⊎◌, inl, inr, false}
 use Rattle.std.specs.Prelude.{IsTrue}
 use Rattle.std.proofs.lemmas.Bool.{false_from_ne_true}
 use Rattle.lxr_layout.specs.declared.Name.{Name}
@@ -13,10 +13,10 @@ use Rattle.lxr_image.specs.Tables.{Tables}
 use Rattle.lxr_image.specs.Reads.{granule_of}
 use Rattle.lxr_image.specs.Image.{IsImage, granules_of}
 use Rattle.lxr_blocks.specs.declared.states.BlockState.TheVariants.{Free}
-use Rattle.lxr_blocks.specs.Lines.{free_in}
-use Rattle.lxr_blocks.specs.States.{FreeBlocksAreFree, KeepsFree, state_in}
-use Rattle.lxr_blocks.proofs.FreeLemmas.{free_same}
-use Rattle.lxr_blocks.proofs.KeptLemmas.{free_line_is_told}
+use Rattle.lxr_blocks.specs.Lines.{free_in, is_free}
+use Rattle.lxr_blocks.specs.States.{FreeBlocksAreFree, KeepsFree, state_in, state_by_lines}
+use Rattle.lxr_blocks.proofs.FreeLemmas.{free_same, used_by_lines}
+use Rattle.lxr_blocks.proofs.KeptLemmas.{free_line_is_told, out_keeps}
 use Rattle.lxr_blocks.proofs.LineLemmas.{all_free_state}
 use Rattle.lxr_model.specs.Moments.{Moment}
 use Rattle.lxr_invariant.specs.AbstractState.{members}
@@ -36,11 +36,37 @@ pub unused_still : (t u : Tables) (at : Name → ℕ) (ms ns : List Name) → u.
 unused_still t u at ms ns states outs sub is = unused_left t u at ms ns (free_same t u states outs) sub is
 
 -- an object that begins on a line that is out begins outside Free blocks
-pub out_used : (t : Tables) (at : Name → ℕ) (ns : List Name) (k : ℕ) → FreeAreUnused t at ns → IsTrue (t.outs (k / GRANULES_IN_LINE)) → state_in t (k / GRANULES_IN_BLOCK) ≢ Free
-out_used t at ns k is out free = is.outs (k / GRANULES_IN_LINE) out (ap (state_in t) (same_block k) ∙ free)
+pub out_used : (t : Tables) (k : ℕ) → ((line : ℕ) → IsTrue (t.outs line) → state_in t (line / LINES_IN_BLOCK) ≢ Free) → IsTrue (t.outs (k / GRANULES_IN_LINE)) → state_in t (k / GRANULES_IN_BLOCK) ≢ Free
+out_used t k used out free = used (k / GRANULES_IN_LINE) out (ap (state_in t) (same_block k) ∙ free)
   where
     same_block : (k : ℕ) → k / GRANULES_IN_LINE / LINES_IN_BLOCK ≡ k / GRANULES_IN_BLOCK
     same_block k = omega arith
+
+-- so they are where states are renewed by lines: no object with a count, and no line that is out, is of a block that is Free by its lines
+pub unused_by_lines : (t u : Tables) (at : Name → ℕ) (ns : List Name) → u.outs ≡ t.outs → ((b : ℕ) → state_in u b ≡ Free → (state_in t b ≡ Free) ⊎ (state_by_lines t b ≡ Free))
+    → ((n : Name) → IsTrue (has ns n) → t.counts (granule_of (at n)) ≢ 0) → FreeAreUnused t at ns → FreeAreUnused u at ns
+unused_by_lines t u at ns outs renewed positive is = record {
+  objects = λ n h free. elim (renewed (granule_of (at n) / GRANULES_IN_BLOCK) free) [
+    | inl was ↦ is.objects n h was
+    | inr lines ↦ used_by_lines t (granule_of (at n) / GRANULES_IN_LINE) (counted (granule_of (at n)) (positive n h)) (ap (state_by_lines t) (same_block (granule_of (at n))) ∙ lines)
+  ];
+  outs = λ line out free.
+      let out_then : IsTrue (t.outs line) = sym (ap (λ f. f line) outs) ∙ out in
+      elim (renewed (line / LINES_IN_BLOCK) free) [
+        | inl was ↦ is.outs line out_then was
+        | inr lines ↦ used_by_lines t line (out_keeps t line out_then) lines
+      ];
+}
+  where
+    same_block : (k : ℕ) → k / GRANULES_IN_LINE / LINES_IN_BLOCK ≡ k / GRANULES_IN_BLOCK
+    same_block k = omega arith
+
+    place_in_line : (k : ℕ) → GRANULES_IN_LINE * (k / GRANULES_IN_LINE) + k % GRANULES_IN_LINE ≡ k
+    place_in_line k = omega arith
+
+    counted : (k : ℕ) → t.counts k ≢ 0 → is_free t (k / GRANULES_IN_LINE) ≡ false
+    counted k some = false_from_ne_true (is_free t (k / GRANULES_IN_LINE)) (λ free.
+        some (sym (ap t.counts (place_in_line k)) ∙ ((free_line_is_told t (k / GRANULES_IN_LINE)).0 free).uncounted (k % GRANULES_IN_LINE) (omega arith)))
 
 -- all lines of a Free block are free
 module _ (t : Tables) (blocks : ℕ) (at : Name → ℕ) (g : Graph) (ms ns : List Name) (image : IsImage t blocks at g ms) (sub : (n : Name) → IsTrue (has ns n) → IsTrue (has ms n))
