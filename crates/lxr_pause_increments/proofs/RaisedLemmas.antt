@@ -53,6 +53,7 @@ use Rattle.lxr_pause_increments.proofs.EndsLemmas.{AllFixed, copies_end, deferre
 use Rattle.lxr_pause_increments.proofs.MovingLemmas.{AreMade, unreclaimed_still}
 use Rattle.lxr_pause_increments.proofs.RememberedLemmas.{overflowed_on, remembered_on, stays_none}
 use Rattle.lxr_pause_increments.proofs.StageLemmas.{all_made}
+use Rattle.lxr_pause_increments.specs.Clearing.{OutsAvoidFree}
 
 -- ---- the first stage
 
@@ -216,6 +217,17 @@ ending s g b grays outs = record {
   tables = outs.tables ∙ ap {A = Tables} (λ t. record t { outs = λ line. false }) (grays.tables ∙ only_old_grays (tables_of s) s.logged.items);
   rest = outs.rest ∙ ap {A = Space} (λ x. record x { words = b.words }) grays.rest;
 }
+
+-- no line of a block that is Free is out at a stage, nor was any before
+pub outs_used : (before s : Space) (m : Moment) (at : Name → ℕ) (st : IncrementStage) → CanRaise before m at → st.found ≡ before → IsIncrementing s m at st → OutsAvoidFree (tables_of s)
+outs_used before s m at st can found is line out free =
+    let was = is.moving.free (line / LINES_IN_BLOCK) free in
+    can.holds.unused.outs line (subst (λ x. IsTrue ((tables_of x).outs line)) found (was.1 line refl out)) (subst (λ x. state_in (tables_of x) (line / LINES_IN_BLOCK) ≡ Free) found was.0)
+
+pub outs_grayed : (s g : Space) → Turns s g (with_old_grays (tables_of s) s.logged.items) → OutsAvoidFree (tables_of s) → OutsAvoidFree (tables_of g)
+outs_grayed s g grays avoid line out free =
+    let same : tables_of g ≡ record (tables_of s) { grays = (with_old_grays (tables_of s) s.logged.items).grays } = grays.tables ∙ only_old_grays (tables_of s) s.logged.items in
+    avoid line (sym (ap (λ t. t.outs line) same) ∙ out) (sym (ap (λ t. state_of (t.states (line / LINES_IN_BLOCK))) same) ∙ free)
 
 -- all registers are raised, and the worklist is empty
 abbrev pub IsAtEnd : Space → Moment → (Name → ℕ) → IncrementStage → Type 0
@@ -429,16 +441,13 @@ module _ (before s b : Space) (m : Moment) (at : Name → ℕ) (st : IncrementSt
   unused : FreeAreUnused (tables_in s.limits b.words) st.now (with_promoted m s.report.promoted.items)
   unused = record {
     objects = λ n h free. elim (union_cases st.promoted m.unreclaimed n (sym (names s m at st is n) ∙ h)) [
-      | inl promoted ↦ out_used (tables_of s) (granule_of (st.now n)) outs_used (promoted_out n promoted) (free_now _ free)
+      | inl promoted ↦ out_used (tables_of s) (granule_of (st.now n)) (outs_used before s m at st can found here) (promoted_out n promoted) (free_now _ free)
       | inr kept ↦ can.holds.unused.objects n kept
           (ap (λ p. state_in (tables_of before) (granule_of p / GRANULES_IN_BLOCK)) (sym (unreclaimed_still s st.found m at st.now st.promoted here.moving (all_made s m at st here) here.follows.apart n kept))
           ∙ free_before _ (free_now _ free))
     ];
     outs = λ line out. absurd (let no : false ≡ true = sym (ap (λ t. t.outs line) words) ∙ out in cc);
   }
-    where
-      outs_used : (line : ℕ) → IsTrue ((tables_of s).outs line) → state_in (tables_of s) (line / LINES_IN_BLOCK) ≢ Free
-      outs_used line out free = can.holds.unused.outs line (subst (λ x. IsTrue ((tables_of x).outs line)) found ((here.moving.free (line / LINES_IN_BLOCK) free).1 line refl out)) (free_before (line / LINES_IN_BLOCK) free)
 
   unchosen : AvoidChosen (tables_of b) st.now after.report.promoted.items
   unchosen n h =
