@@ -4,5 +4,5 @@
 mod counting;
 mod queueing;
 
-pub use queueing::{defer_roots, queue_decrements};
 pub use counting::count_unreclaimed;
+pub use queueing::{defer_roots, queue_decrements};

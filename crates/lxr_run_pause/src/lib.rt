@@ -21,8 +21,8 @@ ghost use Rattle.lxr_run_pause.specs.Steps.{with_pause_counted};
 use counting::settle_counts;
 use deciding::decide_kind;
 pub use laws::opened_can_pause;
-use lxr_image::Space;
 use lxr_blocks::sweep_lines;
+use lxr_image::Space;
 use report::{count_where_drained, sort_report};
 use tracing::trace_by_kind;
 

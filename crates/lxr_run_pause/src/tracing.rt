@@ -8,13 +8,13 @@ ghost use Rattle.lxr_invariant.specs.AbstractState.{AbstractState};
 ghost use Rattle.lxr_run_pause.specs.Steps.{with_evacuated};
 ghost use Rattle.lxr_run_pause.specs.Tracing.{Begins, CanBegin, CanDrain, CanEnd, Collects, Ends, HasTraced, MayTrace, SetsTrace};
 
+use lxr_blocks::sweep_lines;
 use lxr_evac_blocks::{choose_blocks, release_blocks};
 use lxr_evac_moving::{Evacuated, evacuate};
 use lxr_graph::Kind;
 use lxr_image::Space;
 use lxr_layout::TRACING_WORD;
 use lxr_pause_decrements::finish_decrements;
-use lxr_blocks::sweep_lines;
 use lxr_pause_trace::{begin_trace, finish_trace};
 use lxr_sweep_unmarked::sweep_unmarked;
 

@@ -10,9 +10,9 @@ mod listing;
 mod placing;
 mod serving;
 
-pub use serving::serve_waiting;
 pub use listing::{list_for_epoch, opened_is_listed};
 pub use placing::{opened_is_quiescent, serve};
+pub use serving::serve_waiting;
 
 /// What has come of serving the `new`s that wait.
 #[derive(Clone, Copy, Debug, PartialEq, Eq)]

@@ -13,11 +13,10 @@ ghost use Rattle.lxr_run_serve.specs.Answering.{Answers, ServesIfRoom};
 ghost use Rattle.lxr_run_serve.specs.Serving.{CanServe, HasServed, KeepsHelpers};
 ghost use Rattle.lxr_run_serve.specs.Turns.{AreMutatorsWith, CanTakeTurn, ComesOut, IsMutatorWith};
 
-use crate::Served;
+use crate::{Served, serve};
 use lxr_core::AnyActor;
 use lxr_image::Space;
 use lxr_mutator::{Mutator, Waiting};
-use crate::serve;
 
 /// Serves the `new` that a mutator waits for, where there is room for its object. Whether there was.
 fn serve_one(space: &mut Space, mutator: &mut Mutator, waiting: Waiting) -> bool
