@@ -5,11 +5,12 @@
 #![tactic(auto)]
 
 ghost use Rattle.std.specs.Prelude.{◌≡◌, ◌≤◌, IfOk};
-ghost use Rattle.lxr_image.specs.Spaces.{IsSpace};
+ghost use Rattle.lxr_image.specs.Spaces.{IsSpace, tables_of};
 ghost use Rattle.lxr_layout.specs.Objects.{FitsShape};
 ghost use Rattle.lxr_blocks.specs.Placing.{IsRest};
+ghost use Rattle.lxr_blocks.specs.States.{FreeBlocksAreFree};
 
-use lxr_blocks::{list_runs, place_now, sweep_lines};
+use lxr_blocks::{list_runs, place_now, renew_state, sweep_lines};
 use lxr_image::Space;
 use lxr_layout::{LINES_IN_BLOCK, Limits, Name, Shape, WORDS_IN_BLOCK};
 use std::alloc::{AllocError, Global};
@@ -110,7 +111,7 @@ fn report_searching(rt: &HostRuntime, kind: &str, mut space: Space, timed: bool)
 fn report_listing(rt: &HostRuntime, kind: &str, mut space: Space, timed: bool) -> io::Result<()>
     requires space { IsSpace space }
 {
-    sweep_lines(&mut space);
+    renew_states(&mut space);
     let start = Instant::now(rt)?;
     let listed = list(&mut space);
     let nanos = start.elapsed(rt)?.as_nanos();
@@ -121,6 +122,7 @@ fn report_listing(rt: &HostRuntime, kind: &str, mut space: Space, timed: bool) -
 fn report_sweeping(rt: &HostRuntime, kind: &str, mut space: Space, timed: bool) -> io::Result<()>
     requires space { IsSpace space }
 {
+    renew_states(&mut space);
     let start = Instant::now(rt)?;
     sweep(&mut space);
     let nanos = start.elapsed(rt)?.as_nanos();
@@ -224,9 +226,21 @@ fn list(space: &mut Space) -> u32
     listed
 }
 
+/// Gives each block the state of its free lines, whatever its state was.
+fn renew_states(space: &mut Space)
+    requires { IsSpace space.old }
+    ensures space { IsSpace space.new }
+    ensures free { FreeBlocksAreFree (tables_of space.new) space.new.limits.blocks }
+{
+    for block in 0..space.limits.blocks {
+        renew_state(space, block);
+    }
+}
+
 /// Sweeps several times.
 fn sweep(space: &mut Space)
-    requires { IsSpace space.old }
+    requires space { IsSpace space.old }
+    requires free { FreeBlocksAreFree (tables_of space.old) space.old.limits.blocks }
 {
     for _ in 0..ROUNDS {
         sweep_lines(space);

@@ -18,10 +18,10 @@ use Rattle.lxr_blocks.specs.declared.states.BlockState.TheVariants.{Chosen}
 use Rattle.lxr_blocks.specs.Lines.{IsFreeRun, is_free}
 use Rattle.lxr_blocks.specs.Listing.{TurnsWithRest}
 use Rattle.lxr_blocks.specs.Handing.{first_line, handed_out, is_between}
-use Rattle.lxr_blocks.specs.States.{KeepsState, is_fixed, state_in, state_of}
+use Rattle.lxr_blocks.specs.States.{KeepsFree, KeepsState, is_fixed, state_in, state_of}
 use Rattle.lxr_blocks.specs.Placing.{HasRest, IsPlaced, IsPlacedInRest, IsPlacedOn, IsRest, first_granule, granule_count, place_at, with_object}
 use Rattle.lxr_blocks.specs.Kept.{IsAmong, IsKeptGranule, IsOpenGranule, KeepsGranules, IsPlacedBeside, PlacedIsBeside}
-use Rattle.lxr_blocks.proofs.HandedLemmas.{between, handing_keeps_states, out_before, outside, run_out, still_out}
+use Rattle.lxr_blocks.proofs.HandedLemmas.{between, handing_keeps_free, handing_keeps_states, out_before, outside, run_out, still_out}
 use Rattle.lxr_blocks.proofs.KeptLemmas.{free_line_is_told, out_keeps, still_taken}
 
 -- ---- the words of a new object
@@ -99,6 +99,7 @@ record IsSpot (a : Space) (v : Tables) (from end : ℕ) (s : Shape) : Type 0 whe
   outs : (l : ℕ) → IsTrue (v.outs l) → IsTrue ((tables_of a).outs l) ⊎ ((k : ℕ) × IsAmong from (granule_count s) k × (k / GRANULES_IN_LINE ≡ l))
   reuse : (l : ℕ) → v.reuse l ≡ cond (v.outs l && not ((tables_of a).outs l)) (((tables_of a).reuse l + 1) % 2 ^ 32) ((tables_of a).reuse l)
   states : (b : ℕ) → KeepsState (tables_of a) v b
+  free : KeepsFree (tables_of a) v
   tables : v ≡ record (tables_of a) { outs = v.outs; reuse = v.reuse; states = v.states }
 
 some_granules : (s : Shape) → 1 ≤ granule_count s
@@ -208,6 +209,7 @@ placed_on_spot a b v from end n s p spot place turns =
       ));
       reuse = λ l. ap (λ f. f l) reuse ∙ spot.reuse l ∙ ap (λ f. cond (f l && not ((tables_of a).outs l)) (((tables_of a).reuse l + 1) % 2 ^ 32) ((tables_of a).reuse l)) (sym outs);
       states = λ x. subst (λ f. KeepsState (tables_of a) (record v { states = f }) x) (sym states) (spot.states x);
+      free = λ x is. let was = spot.free x (sym (ap (λ f. state_of (f x)) states) ∙ is) in (was.0, λ l of_x out. was.1 l of_x (sym (ap (λ f. f l) outs) ∙ out));
       tables = turned_tables a b v from end n s spot turns;
       space = turns.rest ∙ ap (λ (x : Space). record a { words = b.words; rest_next = x.rest_next; rest_end = x.rest_end }) (sym turns.rest);
       rest = spot_rest a b v from end n s spot turns;
@@ -239,6 +241,7 @@ rest_is_spot a s rest fits =
       outs = λ l out. inl out;
       reuse = λ l. not_newly ((tables_of a).outs l) ((tables_of a).reuse l) (((tables_of a).reuse l + 1) % 2 ^ 32);
       states = λ b. inl refl;
+      free = λ b is. (is, λ l of_b out. out);
       tables = refl;
     }
 
@@ -317,6 +320,7 @@ run_is_spot a s r run unchosen lines =
       reuse = λ l. newly (is_between (first_line r) (first_line r + r.lines) l) (t.outs l) ((t.reuse l + 1) % 2 ^ 32) (t.reuse l)
           (λ is. let in_lines = between_tells (first_line r) (first_line r + r.lines) l is in run_in_hand t a.limits.blocks r l run in_lines.0 in_lines.1);
       states = λ b. handing_keeps_states t r b;
+      free = handing_keeps_free t r some run.within;
       tables = refl;
     }
 
@@ -345,6 +349,7 @@ placed_beside a b taken n s p rest fits keeps is =
       outs = all.outs;
       reuse = all.reuse;
       states = all.states;
+      free = all.free;
       tables = all.tables;
       space = all.space;
       rest = all.rest;

@@ -1,14 +1,17 @@
 -- A run is handed out: which lines are out then, and which states blocks have.
-use Rattle.std.proofs.Common.{◌≡◌, ℕ, ◌+◌, ◌<◌, ◌≤◌, refl, ap, subst, ◌∙◌, inl, inr, ◌⊎◌, arith, cond, Bool, true, false, nat_eq}
+use Rattle.std.proofs.Common.{◌≡◌, ◌≢◌, ℕ, ◌+◌, ◌*◌, ◌/◌, ◌<◌, ◌≤◌, refl, sym, ap, subst, ◌∙◌, inl, inr, ◌⊎◌, arith, cond, Bool, true, false, nat_eq}
 use Rattle.std.specs.Prelude.{◌==◌, IsTrue}
-use Rattle.std.proofs.lemmas.Bool.Decides.{leb_tells}
+use Rattle.std.proofs.lemmas.Bool.Decides.{eqb_tells, leb_tells, nat_tests}
 use Rattle.lxr_layout.specs.declared.TheConstants.{LINES_IN_BLOCK}
 use Rattle.lxr_layout.specs.declared.runs.Run.{Run}
 use Rattle.lxr_image.specs.Tables.{Tables, changed}
 use Rattle.lxr_blocks.specs.declared.states.BlockState.TheVariants.{Free, Partly, Whole}
-use Rattle.lxr_blocks.specs.Lines.{free_count, free_in}
-use Rattle.lxr_blocks.specs.States.{KeepsState, is_fixed, state_by_lines, state_in, state_number, state_of}
+use Rattle.lxr_blocks.specs.Lines.{free_count, free_in, is_free}
+use Rattle.lxr_blocks.specs.States.{KeepsFree, KeepsState, is_fixed, state_by_lines, state_in, state_number, state_of}
 use Rattle.lxr_blocks.specs.Handing.{first_line, handed_out, is_between, with_lines_out}
+use Rattle.lxr_blocks.proofs.KeptLemmas.{out_keeps}
+use Rattle.lxr_blocks.proofs.LineLemmas.{taken_by_lines}
+use Rattle.lxr_blocks.proofs.SweptLemmas.{read_back}
 
 -- numbers from one on and below another are between them, and others aren't
 pub between : (a b w : ℕ) → a ≤ w → w < b → is_between a b w ≡ true
@@ -65,3 +68,45 @@ handing_keeps_states t r b =
                 inr (ap (λ z. is_fixed (state_in t z)) same ∙ e, by_lines (free_count (free_in v r.block) LINES_IN_BLOCK == LINES_IN_BLOCK) (free_count (free_in v r.block) LINES_IN_BLOCK == 0))
           ] refl
     ] refl
+
+-- a line of a run is one of its block
+line_of_run : (b l n k : ℕ) → l + n ≤ LINES_IN_BLOCK → LINES_IN_BLOCK * b + l ≤ k → k < LINES_IN_BLOCK * b + l + n → k / LINES_IN_BLOCK ≡ b
+line_of_run b l n k within low high = omega arith
+
+-- a block of which lines are handed out isn't Free then, and no line of another is
+pub handing_keeps_free : (t : Tables) (r : Run) → 1 ≤ r.lines → r.line + r.lines ≤ LINES_IN_BLOCK → KeepsFree t (handed_out t r)
+handing_keeps_free t r some within b free = elim (eqb_tells b r.block) [
+  | inl same ↦ absurd (not_free (subst (λ x. state_in (handed_out t r) x ≡ Free) same.1 free))
+  | inr other ↦ (
+    sym (elsewhere (is_fixed (state_in v r.block)) other.0) ∙ free,
+    (λ line of_b out. elim (out_before t r line out) [
+      | inl was ↦ was
+      | inr within_run ↦ absurd (other.1 (sym of_b ∙ line_of_run r.block r.line r.lines line within within_run.0 within_run.1))
+    ]),
+  )
+]
+  where
+    v : Tables
+    v = with_lines_out t (first_line r) (first_line r + r.lines)
+
+    new : ℕ
+    new = state_number (state_by_lines v r.block)
+
+    states_by : Bool → ℕ → ℕ
+    states_by c = cond c t.states (changed t.states r.block new)
+
+    elsewhere : (c : Bool) → nat_eq b r.block ≡ false → state_of (states_by c b) ≡ state_in t b
+    elsewhere true other = refl
+    elsewhere false other = ap (λ x. state_of (cond x new (t.states b))) other
+
+    out_there : is_free v (LINES_IN_BLOCK * r.block + r.line) ≡ false
+    out_there = out_keeps v (LINES_IN_BLOCK * r.block + r.line) (run_out t r (LINES_IN_BLOCK * r.block + r.line) (omega arith) (omega arith))
+
+    there : (c : Bool) → is_fixed (state_in v r.block) ≡ c → state_of (states_by c r.block) ≢ Free
+    there true fixed free = let no : true ≡ false = sym fixed ∙ ap is_fixed free in cc
+    there false fixed free = taken_by_lines v r.block r.line (omega arith) out_there
+        (sym (read_back (state_by_lines v r.block))
+        ∙ sym (ap (λ x. state_of (cond x new (t.states r.block))) (let e : nat_eq r.block r.block ≡ true = grind (arith, nat_tests) in e)) ∙ free)
+
+    not_free : state_in (handed_out t r) r.block ≢ Free
+    not_free = there (is_fixed (state_in v r.block)) refl

@@ -1,5 +1,6 @@
 pub mod BesideLemmas
 mod EdgeLemmas
+pub mod FreeLemmas
 pub mod HandedLemmas
 pub mod HandingLemmas
 pub mod KeptLemmas

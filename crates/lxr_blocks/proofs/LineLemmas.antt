@@ -196,3 +196,18 @@ none_free_state t b none = sym (ap by_count (count_none (free_in t b) LINES_IN_B
 pub some_free_state : (t : Tables) (b free taken : ℕ) → free < LINES_IN_BLOCK → free_in t b free ≡ true → taken < LINES_IN_BLOCK → free_in t b taken ≡ false → Partly ≡ state_by_lines t b
 some_free_state t b free taken free_within is taken_within is_not =
     partly_by_count (free_count (free_in t b) LINES_IN_BLOCK) (count_some (free_in t b) free LINES_IN_BLOCK free_within is) (count_less (free_in t b) taken LINES_IN_BLOCK taken_within is_not)
+
+-- a block with a line that isn't free isn't Free by its lines
+free_by_count : (n : ℕ) → by_count n ≡ Free → n ≡ LINES_IN_BLOCK
+free_by_count n is = elim (eqb_tells n LINES_IN_BLOCK) [
+  | inl k ↦ k.1
+  | inr k ↦ elim (eqb_tells n 0) [
+    | inl z ↦ let other : Whole ≡ Free = sym (ap (λ b. if b then Free else (if n == 0 then Whole else Partly)) k.0 ∙ ap (λ b. if b then Whole else Partly) z.0) ∙ is in cc
+    | inr z ↦ let other : Partly ≡ Free = sym (ap (λ b. if b then Free else (if n == 0 then Whole else Partly)) k.0 ∙ ap (λ b. if b then Whole else Partly) z.0) ∙ is in cc
+  ]
+]
+
+pub taken_by_lines : (t : Tables) (b i : ℕ) → i < LINES_IN_BLOCK → free_in t b i ≡ false → state_by_lines t b ≢ Free
+taken_by_lines t b i within taken is =
+    let all = free_by_count (free_count (free_in t b) LINES_IN_BLOCK) is in
+    let less = count_less (free_in t b) i LINES_IN_BLOCK within taken in omega arith

@@ -13,7 +13,7 @@ use Rattle.lxr_image.specs.ImageLaws.{WritesNew}
 use Rattle.lxr_blocks.specs.declared.states.BlockState.TheVariants.{Chosen}
 use Rattle.lxr_blocks.specs.Lines.{is_free}
 use Rattle.lxr_blocks.specs.Placing.{IsPlaced, IsRest, granule_count}
-use Rattle.lxr_blocks.specs.States.{KeepsState, state_in}
+use Rattle.lxr_blocks.specs.States.{KeepsFree, KeepsState, state_in}
 
 -- a free line: it isn't handed out, and each count on it is 0
 pub record IsFreeLine (t : Tables) (n : ℕ) : Type 0 where
@@ -55,8 +55,9 @@ pub record KeepsGranules (s : Space) (taken : ℕ → Type 0) : Type 0 where
   pub rest : (k : ℕ) → taken k → (k < s.rest_next) ⊎ (s.rest_end ≤ k)
 
 -- An object was placed on granules that were open and not kept, whole in one block of the heap, outside Chosen blocks. Its header and
--- zeros are written there, and all its lines are out. A line that wasn't out before is counted as handed out once more, and no block has
--- become Chosen or World or ceased to be so. Nothing else has changed, and what was kept is, and the object's granules.
+-- zeros are written there, and all its lines are out. A line that wasn't out before is counted as handed out once more, no block has
+-- become Chosen or World or ceased to be so, and one that is Free was so and has no line that was handed out. Nothing else has changed, and
+-- what was kept is, and the object's granules.
 pub record IsPlacedBeside (before after : Space) (taken : ℕ → Type 0) (n : Name) (s : Shape) (p : Place) : Type 0 where
   pub placed : 1 ≤ p.0
   pub in_heap : granule_of p.0 + granule_count s ≤ GRANULES_IN_BLOCK * before.limits.blocks
@@ -70,6 +71,7 @@ pub record IsPlacedBeside (before after : Space) (taken : ℕ → Type 0) (n : N
   pub reuse : (line : ℕ) → (tables_of after).reuse line
       ≡ if (tables_of after).outs line && not ((tables_of before).outs line) then (((tables_of before).reuse line + 1) % 2 ^ 32) else (tables_of before).reuse line
   pub states : (b : ℕ) → KeepsState (tables_of before) (tables_of after) b
+  pub free : KeepsFree (tables_of before) (tables_of after)
   pub tables : tables_of after ≡ record (tables_of before) { heap = (tables_of after).heap; outs = (tables_of after).outs; reuse = (tables_of after).reuse; states = (tables_of after).states }
   pub space : after ≡ record before { words = after.words; rest_next = after.rest_next; rest_end = after.rest_end }
   pub rest : IsRest after

@@ -1,5 +1,5 @@
 -- States of blocks, as numbers and by their free lines.
-use Rattle.std.specs.Prelude.{◌≡◌, ◌≢◌, ℕ, ◌==◌, ◌⊎◌, Bool, true, false, if◌then◌else◌}
+use Rattle.std.specs.Prelude.{◌≡◌, ◌≢◌, ℕ, ◌/◌, ◌<◌, ◌==◌, ◌⊎◌, IsTrue, Bool, true, false, if◌then◌else◌}
 use Rattle.lxr_image.specs.Opened.{world_state}
 use Rattle.lxr_layout.specs.declared.TheConstants.{LINES_IN_BLOCK}
 use Rattle.lxr_layout.specs.declared.runs.Run.{Run}
@@ -39,6 +39,18 @@ is_fixed World = true
 -- a block has the number of the state that it had, or neither that state nor its own is Chosen or World
 abbrev pub KeepsState : Tables → Tables → ℕ → Type 0
 KeepsState t u b = (u.states b ≡ t.states b) ⊎ ((is_fixed (state_in t b) ≡ false) × (is_fixed (state_in u b) ≡ false))
+
+-- a block whose state is Free has only free lines
+abbrev pub FreeIsFree : Tables → ℕ → Type 0
+FreeIsFree t b = state_in t b ≡ Free → state_by_lines t b ≡ Free
+
+-- so has each of the first so many blocks
+abbrev pub FreeBlocksAreFree : Tables → ℕ → Type 0
+FreeBlocksAreFree t blocks = (b : ℕ) → b < blocks → FreeIsFree t b
+
+-- a block that is Free was so, and no line of it was handed out since
+abbrev pub KeepsFree : Tables → Tables → Type 0
+KeepsFree t u = (b : ℕ) → state_in u b ≡ Free → (state_in t b ≡ Free) × ((line : ℕ) → line / LINES_IN_BLOCK ≡ b → IsTrue (u.outs line) → IsTrue (t.outs line))
 
 -- the block has the state of its lines, unless it is Chosen or World
 abbrev pub with_state_by_lines : Tables → ℕ → Tables

@@ -65,6 +65,10 @@ use Rattle.lxr_core.proofs.OrderLemmas.{AreAlike, SameKind, alike_counts, alike_
 use Rattle.lxr_core.proofs.PocketLemmas.{pockets_filled, stands_in_all}
 use Rattle.lxr_core.proofs.StartingLemmas.{AllRest, AllStart, Starts, StartsIn, anew, opening_epoch_state, over}
 use Rattle.lxr_core.proofs.OpeningLemmas.{opens}
+use Rattle.lxr_image_search.specs.declared.Wanted.TheVariants.{ToScan}
+use Rattle.lxr_image_search.specs.Search.{AvoidsFree}
+use Rattle.lxr_image_search.proofs.SearchLemmas.{avoids_by_starts}
+use Rattle.lxr_invariant.proofs.UnusedLemmas.{starts_used}
 
 -- ---- registers
 
@@ -385,6 +389,12 @@ module _ (b : Beginning) (before after : List AnyActor) (begins : IsBeginning b)
         let (d, there, same) = mapped_from tracing_of (tracers_in after) i shows at in
         same ∙ ap (λ (x : TracerState). tracing_in x.phase) (was_tracer i d there).is;
   }
+
+-- what is gray stands outside blocks that are Free
+pub grays_used : (g : AbstractState) (before : Space) (actors : List AnyActor) → MayOpen g before actors → AvoidsFree (tables_of before) ToScan
+grays_used g before actors may =
+    let holds = may.between.safepoint.holds in
+    avoids_by_starts (tables_of before) ToScan (starts_used before g.moment g.at holds) holds.bits.grays holds.bits.dones
 
 -- what opening the epoch asks of the space and the actors
 pub held_before : (g : AbstractState) (before : Space) (actors : List AnyActor) → MayOpen g before actors → All IsHeld before.registers.items

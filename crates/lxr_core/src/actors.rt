@@ -3,6 +3,8 @@ ghost use Rattle.std.specs.Prelude.{◌≡◌, ◌*◌, ◌≤◌};
 ghost use Rattle.std.specs.List.{All};
 ghost use Rattle.lxr_layout.specs.declared.TheConstants.{GRANULES_IN_BLOCK};
 ghost use Rattle.lxr_image.specs.Spaces.{IsSpace, tables_of};
+ghost use Rattle.lxr_image_search.specs.Search.{AvoidsFree};
+ghost use Rattle.lxr_image_search.specs.declared.Wanted.TheVariants.{ToScan};
 ghost use Rattle.lxr_mutator.specs.Mutators.{IsHeld};
 ghost use Rattle.lxr_core.specs.Collecting.{ActorMayGive, MayTakeOf, actor_given_up, taken_of_actor};
 ghost use Rattle.lxr_core.specs.Filling.{FillsActor, MayFill};
@@ -45,6 +47,7 @@ impl AnyActor {
     /// with the granule from which on others are left, the heap's end where none is. Other actors stay as they are.
     pub(crate) fn fill(&mut self, space: &Space, from: u32) -> u32
         requires space { IsSpace space.now }
+        requires free { AvoidsFree (tables_of space.now) ToScan }
         requires from { from ≤ GRANULES_IN_BLOCK * space.now.limits.blocks }
         requires empty { MayFill space.now.limits self.old }
         ensures { FillsActor (tables_of space.now) space.now.limits.blocks from result self.old self.new }

@@ -2,6 +2,8 @@
 ghost use Rattle.std.specs.Prelude.{◌≡◌, ℕ, ◌*◌, ◌≤◌, [], length};
 ghost use Rattle.lxr_layout.specs.declared.TheConstants.{GRANULES_IN_BLOCK};
 ghost use Rattle.lxr_image.specs.Spaces.{IsSpace, tables_of};
+ghost use Rattle.lxr_image_search.specs.Search.{AvoidsFree};
+ghost use Rattle.lxr_image_search.specs.declared.Wanted.TheVariants.{ToScan};
 ghost use Rattle.lxr_core_sim_helpers.specs.TracerShowing.{IsTracerOf};
 ghost use Rattle.lxr_core.specs.Filling.{FillsPocket, HaveFilled, MayAllFill};
 
@@ -16,6 +18,7 @@ use lxr_trace::Tracer;
 /// answers with the granule from which on others are left, the heap's end where none is.
 pub(crate) fn fill_pocket(tracer: &mut Tracer, space: &Space, from: u32) -> u32
     requires space { IsSpace space.now }
+    requires free { AvoidsFree (tables_of space.now) ToScan }
     requires from { from ≤ GRANULES_IN_BLOCK * space.now.limits.blocks }
     requires tracer { IsTracerOf space.now.limits tracer.old }
     requires empty { tracer.old.pocket.items ≡ [] }
@@ -34,6 +37,7 @@ pub(crate) fn fill_pocket(tracer: &mut Tracer, space: &Space, from: u32) -> u32
 /// Fills the pockets of all tracers, one after another.
 pub(crate) fn fill_pockets(space: &Space, actors: &mut [AnyActor])
     requires space { IsSpace space.now }
+    requires free { AvoidsFree (tables_of space.now) ToScan }
     requires empty { MayAllFill space.now.limits actors.old }
     ensures { (to : ℕ) × HaveFilled (tables_of space.now) space.now.limits.blocks to actors.old actors.new (length actors.old) }
 {

@@ -13,16 +13,18 @@ use Rattle.lxr_image.proofs.SpaceLemmas.{still_space}
 use Rattle.lxr_blocks.specs.declared.states.BlockState.TheVariants.{Free, Partly, Whole}
 use Rattle.lxr_blocks.specs.Kept.{IsFreeLine}
 use Rattle.lxr_blocks.proofs.HandedLemmas.{between, outside}
-use Rattle.lxr_blocks.proofs.KeptLemmas.{free_line_is_told}
+use Rattle.lxr_blocks.proofs.KeptLemmas.{free_line_is_told, out_keeps}
 use Rattle.lxr_graph.proofs.NameSets.{not_both}
 use Rattle.std.proofs.lemmas.Bool.{false_from_ne_true}
 use Rattle.lxr_blocks.specs.Lines.{IsFreeRun, free_count, free_in, is_free}
-use Rattle.lxr_blocks.specs.States.{KeepsState, is_fixed, state_by_lines, state_in, state_number, state_of}
+use Rattle.lxr_blocks.specs.States.{KeepsState, is_fixed, state_by_lines, state_in, state_number, state_of, KeepsFree}
 use Rattle.lxr_blocks.specs.Handing.{first_line, handed_out}
 use Rattle.lxr_invariant.specs.Listed.{AreApartRuns, IsListed, ListsRun, whole_block}
 use Rattle.lxr_invariant.proofs.BlockLemmas.{line_free, other_lines, other_number, states_alike}
 use Rattle.lxr_invariant.proofs.EntryLemmas.{equal_numbers}
 use Rattle.lxr_core_close.specs.HandingOut.{AreHandedOut, AreLater, HasHandedOut, IsBlockChanged, IsBlockLeft, IsDrawnLine, IsHandedOut, IsInBlocks, IsInRuns, IsLeft, IsLineOf, MayHandOut, drawn_blocks, drawn_runs}
+use Rattle.lxr_blocks.proofs.FreeLemmas.{used_by_lines}
+use Rattle.lxr_blocks.proofs.SweptLemmas.{read_back}
 
 -- ---- one run
 
@@ -260,6 +262,24 @@ out_before lines t u n is out = elim (is.lines_are n) [ inl handed ↦ inr hande
 -- each block keeps its state, or has that of its lines
 pub keeps_state : (lines : ℕ → Type 0) (t u : Tables) (b : ℕ) → AreHandedOut lines t u → KeepsState t u b
 keeps_state lines t u b is = elim (is.blocks_are b) [ inl new ↦ inr (new.loose, new_loose lines t u b new) | inr keeps ↦ inl keeps.state ]
+
+-- one that is Free then was so, and none of its lines was handed out
+pub keeps_free : (lines : ℕ → Type 0) (t u : Tables) → AreHandedOut lines t u → KeepsFree t u
+keeps_free lines t u is b free = elim (is.blocks_are b) [
+  | inl new ↦ absurd (used_by_lines u new.line (out_keeps u new.line (drawn_is_out lines t u new.line is new.drawn))
+      (ap (state_by_lines u) new.in_block ∙ sym (read_back (state_by_lines u b)) ∙ sym (ap state_of new.state) ∙ free))
+  | inr left ↦
+      let was : state_in t b ≡ Free = sym (ap state_of left.state) ∙ free in (
+        was,
+        λ line of_b out. elim (is.lines_are line) [
+          | inl handed ↦ elim left.why [
+            | inl fixed ↦ absurd (let no : true ≡ false = sym fixed ∙ ap is_fixed was in cc)
+            | inr none ↦ absurd (none line of_b handed.drawn)
+          ]
+          | inr stays ↦ sym stays.out ∙ out
+        ],
+      )
+]
 
 -- ---- what is left free
 

@@ -23,7 +23,7 @@ use Rattle.lxr_image.specs.Image.{ArePlacesOf, granules_of, place_word}
 use Rattle.lxr_image.proofs.ImageLemmas.{places_still}
 use Rattle.lxr_blocks.specs.declared.states.BlockState.TheVariants.{Chosen}
 use Rattle.lxr_blocks.specs.Lines.{is_free}
-use Rattle.lxr_blocks.specs.States.{KeepsState, is_fixed, state_in, state_of}
+use Rattle.lxr_blocks.specs.States.{KeepsState, is_fixed, state_in, state_of, KeepsFree}
 use Rattle.lxr_model.specs.Moments.{Moment, Trace}
 use Rattle.lxr_model.specs.Reachable.{held}
 use Rattle.lxr_invariant.specs.AbstractState.{members}
@@ -40,12 +40,13 @@ use Rattle.lxr_core_invariant.specs.Epoch.{IsEpoch}
 use Rattle.lxr_core_invariant.specs.Laws.{HasClosingCounts, HasClosingLogs}
 use Rattle.lxr_core_close.specs.HandingOut.{AreHandedOut, AreLater, DrawnIsOut, IsDrawnLine, drawn_blocks, drawn_runs}
 use Rattle.lxr_core_close.specs.Safepoint.{ClosingReachesSafepoint, DrawnMayBeHandedOut, DrawnWasFree, HasClosingTrace, HasCollected, IsClosed, registers_of}
-use Rattle.lxr_core_close.proofs.HandingLemmas.{drawn_is_out, keeps_state, listed_was_free, still_out}
+use Rattle.lxr_core_close.proofs.HandingLemmas.{drawn_is_out, keeps_state, listed_was_free, still_out, keeps_free}
 use Rattle.lxr_core_invariant.proofs.DrawnLemmas.{block_below, run_below}
 use Rattle.lxr_core_invariant.proofs.PauseLemmas.{one_pause, unmoved}
 use Rattle.lxr_core_close.proofs.ListLemmas.{few_entries, registers_are_places}
 use Rattle.lxr_core_close.proofs.StillLemmas.{marks_unmoved, same_size}
 use Rattle.lxr_core_close.proofs.TraceLemmas.{KeepReuse, traced_closes}
+use Rattle.lxr_blocks.proofs.FreeLemmas.{free_joined, free_same}
 
 -- ---- the end of an epoch
 
@@ -134,6 +135,11 @@ states_kept : (b : Beginning) (s : EpochState) (u : Tables) → IsEpoch b s → 
 states_kept b s u is hands n =
     subst (λ (f : ℕ → ℕ). (u.states n ≡ f n) ⊎ ((is_fixed (state_of (f n)) ≡ false) × (is_fixed (state_in u n) ≡ false))) (ap (λ (z : Tables). z.states) is.fixed.tables)
     (keeps_state (drawn_in b s) s.tables u n hands)
+
+-- a block that is Free was so as the epoch opened, and no line of it was handed out
+free_kept : (b : Beginning) (s : EpochState) (u : Tables) → IsEpoch b s → DrawnAreOut b s u → KeepsFree (opening_tables b) u
+free_kept b s u is hands = free_joined (opening_tables b) s.tables u
+    (free_same (opening_tables b) s.tables (ap (λ (z : Tables). z.states) is.fixed.tables) (ap (λ (z : Tables). z.outs) is.fixed.tables)) (keeps_free (drawn_in b s) s.tables u hands)
 
 -- what begins within a run of a block, or within a block, begins in the block
 in_run : (g granules block line lines : ℕ) → GRANULES_IN_BLOCK * block + GRANULES_IN_LINE * line ≤ g → g + granules ≤ GRANULES_IN_BLOCK * block + GRANULES_IN_LINE * (line + lines) → line + lines ≤ LINES_IN_BLOCK → 1 ≤ granules
@@ -279,6 +285,11 @@ holds_closed b s words tally is closing counted hands =
       marks = marks_still t u m.state.graph s.at m.unreclaimed counts marked;
       lines = lines_out b s u is hands;
       unchosen = unchosen b s u is hands;
+      unused = record {
+        objects = λ n member free. opened.unused.objects n (subst (λ us. IsTrue (has us n)) one.unreclaimed member)
+            (ap (λ p. state_in o (granule_of p / GRANULES_IN_BLOCK)) (sym (still n (subst (λ us. IsTrue (has us n)) one.unreclaimed member))) ∙ (free_kept b s u is hands (granule_of (s.at n) / GRANULES_IN_BLOCK) free).0);
+        outs = λ line out free. let was = free_kept b s u is hands (line / LINES_IN_BLOCK) free in opened.unused.outs line (was.1 line refl out) was.0;
+      };
       blocks = subst (λ (z : Option Trace). HasBlocks u (limits_of b).blocks z) (sym one.trace) (blocks_kept t u (limits_of b).blocks b.abstract_state.moment.trace (λ c. keeps_state (drawn_in b s) t u c hands) (ap (λ f. f 8) cursors) blocks);
       rest = record {
         rest = inl is.begins.listed.no_rest;

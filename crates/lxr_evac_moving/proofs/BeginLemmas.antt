@@ -186,6 +186,7 @@ module _ (s : Space) (m : Moment) (at : Name → ℕ) (can : CanEvacuate s m at)
         outs = λ line. (λ out. inl out, λ out. elim out [ inl was ↦ was | inr copy ↦ absurd (copy.moved refl) ]);
         reuse = λ line. handed_none ((tables_of s).outs line) ((tables_of s).reuse line);
         states = λ b. inl refl;
+        free = λ b is. (is, λ line of_b out. out);
         wanting = λ n o kept has_o. absurd (none_kept n kept);
       };
       registers = held_began at s.registers.items m.state.registers can.holds.image.registers;

@@ -34,6 +34,7 @@ use Rattle.lxr_evac_moving.proofs.FullLemmas.{copied_full, still_full}
 use Rattle.lxr_evac_moving.proofs.LookedLemmas.{kept_one_more, kept_same, looked_to, moved_one_more, moved_same}
 use Rattle.lxr_evac_moving.proofs.MovedLemmas.{IsMovedTo, moving_then}
 use Rattle.lxr_evac_moving.proofs.StepLemmas.{next_kept, next_object, tells_stood}
+use Rattle.lxr_blocks.proofs.FreeLemmas.{free_joined, free_same}
 
 -- ---- a copy takes bits and a count over
 
@@ -64,6 +65,7 @@ turned_beside before copied after t rest taken p q n shape beside turns heap out
       outs = λ l. subst (λ f. IsTrue (f l) ↔ (IsTrue (b.outs l) ⊎ ((k : ℕ) × IsAmong (granule_of q.0) (granule_count shape) k × (k / GRANULES_IN_LINE ≡ l)))) (sym outs_now) (beside.outs l);
       reuse = λ l. ap (λ f. f l) reuse_now ∙ beside.reuse l ∙ ap (λ f. cond (f l && not (b.outs l)) ((b.reuse l + 1) % 2 ^ 32) (b.reuse l)) (sym outs_now);
       states = λ k. subst (λ f. KeepsState b (record (tables_of copied) { states = f }) k) (sym states_now) (beside.states k);
+      free = free_joined b (tables_of copied) (tables_of after) beside.free (free_same (tables_of copied) (tables_of after) states_now outs_now);
       tables = tables;
       space = turns.rest
           ∙ ap (λ (x : Space). record x { words = after.words }) beside.space

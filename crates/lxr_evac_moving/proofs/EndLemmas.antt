@@ -1,11 +1,11 @@
 -- The last stage: all was looked at, all references and registers are fixed, and all old places are cleared. So objects have been evacuated.
-use Rattle.std.proofs.Common.{◌≡◌, ℕ, ◌+◌, ◌*◌, ◌/◌, ◌%◌, ◌^◌, ◌<◌, ◌≤◌, refl, sym, ap, subst, ◌∙◌, inl, inr, arith, Bool, true, false, [], length, map, nat_eq}
+use Rattle.std.proofs.Common.{◌≡◌, ℕ, ◌+◌, ◌*◌, ◌/◌, ◌%◌, ◌^◌, ◌<◌, ◌≤◌, refl, sym, ap, subst, ◌∙◌, inl, inr, arith, Bool, true, false, [], length, map, nat_eq, ◌≢◌}
 use Rattle.std.specs.Prelude.{◌↔◌, ◌&&◌, nat_lt, not, None, Option, Some, IsTrue, slice_index_or, if◌then◌else◌}
 use Rattle.std.specs.List.Sorted.{IsPermutation}
 use Rattle.std.proofs.lemmas.Bool.Decides.{eqb_tells, nat_tests}
 use Rattle.std.proofs.lemmas.Option.{get_or_from_slice_get, slice_get_within}
 use Rattle.lxr_layout.specs.declared.Name.{Name}
-use Rattle.lxr_layout.specs.declared.TheConstants.{DECREMENT_COUNT, DECREMENT_CURSOR, GRANULES_IN_BLOCK, STUCK, TRACING_WORD}
+use Rattle.lxr_layout.specs.declared.TheConstants.{DECREMENT_COUNT, DECREMENT_CURSOR, GRANULES_IN_BLOCK, STUCK, TRACING_WORD, GRANULES_IN_LINE, LINES_IN_BLOCK}
 use Rattle.lxr_layout.specs.Places.{field_word}
 use Rattle.lxr_graph.specs.Names.{IsSetOf, has, same_name}
 use Rattle.lxr_graph.specs.State.{Object, object_at, refs_of, world_name}
@@ -16,14 +16,14 @@ use Rattle.lxr_image.specs.Spaces.{tables_of}
 use Rattle.lxr_image.specs.Reads.{granule_of}
 use Rattle.lxr_image.specs.Image.{ArePlacesOf, IsImage, Stands, place_word}
 use Rattle.lxr_image.specs.Opened.{HasRoom}
-use Rattle.lxr_blocks.specs.declared.states.BlockState.TheVariants.{Chosen, World}
+use Rattle.lxr_blocks.specs.declared.states.BlockState.TheVariants.{Chosen, World, Free}
 use Rattle.lxr_blocks.specs.States.{state_in}
 use Rattle.lxr_model.specs.Moments.{Moment}
 use Rattle.lxr_model.specs.References.{references}
 use Rattle.lxr_model_counting.specs.Distinct.{has_field}
 use Rattle.lxr_invariant.specs.AbstractState.{members}
 use Rattle.lxr_invariant.specs.Counting.{HasCounts, IsUndecremented, count_at, entries_between, undone, waiting_at}
-use Rattle.lxr_invariant.specs.Lines.{HasBlocks, HasMarks, is_chosen}
+use Rattle.lxr_invariant.specs.Lines.{HasBlocks, HasMarks, is_chosen, FreeAreUnused}
 use Rattle.lxr_invariant.specs.Quiescent.{HoldsMoment}
 use Rattle.lxr_invariant.specs.Standing.{AreLogged, HasBits, entry_of}
 use Rattle.lxr_invariant.specs.Tracing.{HasOverflowed}
@@ -38,6 +38,7 @@ use Rattle.lxr_evac_moving.proofs.FilterLemmas.{filter_in_order, filter_parts, i
 use Rattle.lxr_evac_moving.proofs.LookedLemmas.{all_three}
 use Rattle.lxr_evac_moving.proofs.StageLemmas.{moved_in, moved_parts, place_some, same_cursors, same_limits, stands}
 use Rattle.lxr_evac_moving.proofs.StepLemmas.{chosen_state}
+use Rattle.lxr_invariant.proofs.UnusedLemmas.{out_used}
 
 -- ---- which objects were kept
 
@@ -282,6 +283,29 @@ module _ (s : Space) (m : Moment) (st : EvacuationStage) (is : IsEvacuating s m 
 
   -- ---- the moment
 
+  -- a line that is out then, or an object that stands then, is of no block that is Free
+  outs_used : (line : ℕ) → IsTrue (t.outs line) → state_in t (line / LINES_IN_BLOCK) ≢ Free
+  outs_used line out free = let was_free = is.lines.free (line / LINES_IN_BLOCK) free in was.unused.outs line (was_free.1 line refl out) was_free.0
+
+  unused_then : FreeAreUnused t st.now m.unreclaimed
+  unused_then = record {
+    objects = λ n in_n free. elim (eqb_tells (st.now n) (st.at n)) [
+      | inl stays ↦ was.unused.objects n in_n (ap (λ p. state_in f (granule_of p / GRANULES_IN_BLOCK)) (sym stays.1) ∙ (is.lines.free (granule_of (st.now n) / GRANULES_IN_BLOCK) free).0)
+      | inr moved ↦
+          let x = is.heap.stands n in_n in
+          out_used t (granule_of (st.now n)) outs_used ((is.lines.outs (granule_of (st.now n) / GRANULES_IN_LINE)).1 (inr (record {
+            name = n;
+            promoted_is = moved_in m st n in_n moved.1;
+            moved = moved.1;
+            object = x.0;
+            granule = granule_of (st.now n);
+            covers = record { object = x.1; first = omega arith; behind = omega arith };
+            line_is = refl;
+          }))) free
+    ];
+    outs = outs_used;
+  }
+
   holds_then : HoldsMoment s m st.now
   holds_then = record {
     space = is.space;
@@ -300,6 +324,7 @@ module _ (s : Space) (m : Moment) (st : EvacuationStage) (is : IsEvacuating s m 
     marks = marks_then;
     lines = λ n o k h. absurd (none_made m no_made n h);
     unchosen = λ n h. absurd (none_made m no_made n h);
+    unused = unused_then;
     blocks = subst (λ l. HasBlocks t l.blocks m.trace) (sym limits_same) (blocks_kept f t st.found.limits.blocks m.trace is.lines.states (ap (λ c. c TRACING_WORD) (same_cursors s m st is)) was.blocks);
     rest = record {
       rest = is.lines.rest;

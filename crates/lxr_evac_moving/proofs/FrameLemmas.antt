@@ -18,6 +18,7 @@ use Rattle.lxr_image.specs.Reads.{granule_of}
 use Rattle.lxr_pause_promote.specs.Either.{HoldEither, HoldsEither}
 use Rattle.lxr_evac_moving.specs.Stages.{AreMovedApart, EvacuationStage, HasBitsAndCounts, HasHeap, HasLines, IsEvacuating, IsTaken, moved_names, with_changed_tables, with_changes}
 use Rattle.lxr_evac_moving.specs.Steps.{cleared_to}
+use Rattle.lxr_blocks.proofs.FreeLemmas.{free_joined, free_same}
 
 -- ---- which tables and which parts of a space have changed
 
@@ -70,6 +71,7 @@ module _ (a b : Space) (m : Moment) (st : EvacuationStage) (keeps : KeepsOuts a 
     outs = λ line. subst (λ f. IsTrue (f line) ↔ (IsTrue ((tables_of st.found).outs line) ⊎ HasCopy m.state.graph st.at st.now (moved_names m st) line)) (sym keeps.outs) (is.outs line);
     reuse = λ line. ap (λ f. f line) keeps.reuse ∙ is.reuse line ∙ ap (λ f. handed_since (tables_of st.found) f line) (sym keeps.outs);
     states = λ k. states_joined (tables_of st.found) (tables_of a) (tables_of b) k (is.states k) (states_same (tables_of a) (tables_of b) k keeps.states);
+    free = free_joined (tables_of st.found) (tables_of a) (tables_of b) is.free (free_same (tables_of a) (tables_of b) keeps.states keeps.outs);
     wanting = λ n o kept_is has_o. still_full a b (shape_of o) keeps.rest_next keeps.rest_end before (is.wanting n o kept_is has_o);
   }
 

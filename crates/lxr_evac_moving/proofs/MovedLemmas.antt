@@ -40,6 +40,7 @@ use Rattle.lxr_evac_moving.specs.Stages.{AreMovedApart, EvacuationStage, HasBits
 use Rattle.lxr_evac_moving.specs.Steps.{with_taken_over}
 use Rattle.lxr_evac_moving.proofs.LookedLemmas.{looked_to}
 use Rattle.lxr_evac_moving.proofs.StageLemmas.{moved_in, moved_parts, place_has, place_is, stands}
+use Rattle.lxr_blocks.proofs.FreeLemmas.{free_joined}
 
 -- the stage once an object is moved to a place
 abbrev pub moved_to : EvacuationStage → Name → ℕ → EvacuationStage
@@ -404,6 +405,7 @@ module _ (a c : Space) (m : Moment) (st : EvacuationStage) (o : Name) (q : Place
         ∙ handed_on ((tables_of c).outs line) ((tables_of a).outs line) ((tables_of st.found).outs line) ((tables_of a).reuse line) ((tables_of st.found).reuse line) (is.grows.outs line)
         (λ was. (lines.outs line).1 (inl was)) (lines.reuse line);
     states = λ b. states_joined (tables_of st.found) (tables_of a) (tables_of c) b (lines.states b) (is.beside.states b);
+    free = free_joined (tables_of st.found) (tables_of a) (tables_of c) lines.free is.beside.free;
     wanting = λ n x kept has_x. is.full (shape_of x) (lines.wanting n x (subst (λ ns. IsTrue (has ns n)) same kept) has_x);
   }
     where

@@ -110,6 +110,7 @@ module _ (s : Space) (m : Moment) (st : EvacuationStage) (k : ℕ) where
         outs = is.evacuating.lines.outs;
         reuse = is.evacuating.lines.reuse;
         states = is.evacuating.lines.states;
+        free = is.evacuating.lines.free;
         wanting = wanting;
       };
       registers = is.evacuating.registers;

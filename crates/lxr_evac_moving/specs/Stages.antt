@@ -13,7 +13,7 @@ use Rattle.lxr_image.specs.Reads.{granule_of}
 use Rattle.lxr_image.specs.Image.{granules_of, place_word}
 use Rattle.lxr_blocks.specs.Kept.{IsAmong, IsKeptGranule, KeepsGranules}
 use Rattle.lxr_blocks.specs.Placing.{IsFull, IsRest}
-use Rattle.lxr_blocks.specs.States.{KeepsState, state_in}
+use Rattle.lxr_blocks.specs.States.{KeepsState, state_in, KeepsFree}
 use Rattle.lxr_model.specs.Moments.{Moment}
 use Rattle.lxr_invariant.specs.Copied.{CopiesLieOnFreeLines, HasCopy, HasWord}
 use Rattle.lxr_invariant.specs.Lines.{is_chosen}
@@ -141,6 +141,7 @@ pub record HasLines (s : Space) (m : Moment) (st : EvacuationStage) : Type 0 whe
   pub reuse : (line : ℕ) → (tables_of s).reuse line
       ≡ if (tables_of s).outs line && not ((tables_of st.found).outs line) then (((tables_of st.found).reuse line + 1) % 2 ^ 32) else (tables_of st.found).reuse line
   pub states : (b : ℕ) → KeepsState (tables_of st.found) (tables_of s) b
+  pub free : KeepsFree (tables_of st.found) (tables_of s)
   pub wanting : (n : Name) (o : Object) → IsTrue (has (kept_names m st) n) → object_at m.state.graph n ≡ Some o → IsFull s (shape_of o)
 
 -- ---- a stage

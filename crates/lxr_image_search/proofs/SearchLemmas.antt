@@ -3,7 +3,7 @@ use Rattle.std.proofs.Common.{◌≡◌, ◌≢◌, ℕ, zero, suc, ◌+◌, ◌
 use Rattle.std.specs.Prelude.{◌↔◌, ◌==◌, ◌&&◌, not, min, IsBitSet, IsTrue}
 use Rattle.std.specs.Int.{bit_at, bit_not, trailing_zeros}
 use Rattle.std.specs.Int.Bits.{bit_and, bit_or}
-use Rattle.std.proofs.lemmas.Bool.{false_from_ne_true}
+use Rattle.std.proofs.lemmas.Bool.{and_parts, false_from_ne_true}
 use Rattle.std.proofs.lemmas.Bool.Decides.{leb_tells}
 use Rattle.std.proofs.lemmas.Nat.{le_or_l, le_or_r, shr-shr}
 use Rattle.std.proofs.lemmas.Nat.Bits.{bit_at-lt, bit_at-trailing_zeros, bit_at-zero, bit_at_above, bit_at_and, bit_at_not}
@@ -11,8 +11,11 @@ use Rattle.lxr_layout.specs.declared.TheConstants.{GRANULES_IN_BLOCK}
 use Rattle.lxr_tables.proofs.BitLemmas.{one_is_set, set_is_one}
 use Rattle.lxr_image.specs.Tables.{Tables}
 use Rattle.lxr_image.proofs.OutLemmas.{told_by_bit}
+use Rattle.lxr_blocks.specs.declared.states.BlockState.TheVariants.{Free}
+use Rattle.lxr_blocks.specs.States.{state_in}
 use Rattle.lxr_image_search.specs.declared.Wanted.{Wanted}
-use Rattle.lxr_image_search.specs.Search.{IsNextWanted, NoneWanted, is_wanted}
+use Rattle.lxr_image_search.specs.declared.Wanted.TheVariants.{Dropped, Handled, Object, ToScan, Unmarked}
+use Rattle.lxr_image_search.specs.Search.{AvoidsFree, IsNextWanted, NoneWanted, is_wanted}
 
 -- ---- what one word tells
 
@@ -95,3 +98,19 @@ none_seen t wanted block at seen hint before here clear k above below =
     let left = le_or_l seen hint in
     let right = le_or_r seen hint in
     none_further t wanted (GRANULES_IN_BLOCK * block) (64 * at) (64 * at + 64) (before (omega (arith, left, clear))) (here (omega (arith, right, clear))) k above (omega (arith, below))
+
+-- a block whose state is Free has none
+pub none_in_free : (t : Tables) (wanted : Wanted) (block : ℕ) → AvoidsFree t wanted → state_in t block ≡ Free → NoneWanted t wanted (GRANULES_IN_BLOCK * block) (GRANULES_IN_BLOCK * (block + 1))
+none_in_free t wanted block avoids free k from below = false_from_ne_true (is_wanted t wanted k) (λ yes. avoids k yes (ap (state_in t) (of_block block k from below) ∙ free))
+  where
+    of_block : (b k : ℕ) → GRANULES_IN_BLOCK * b ≤ k → k < GRANULES_IN_BLOCK * (b + 1) → k / GRANULES_IN_BLOCK ≡ b
+    of_block b k from below = omega arith
+
+-- what is wanted stands outside Free blocks where start bits do, and gray and done bits stand only at these
+pub avoids_by_starts : (t : Tables) (wanted : Wanted) → ((k : ℕ) → IsTrue (t.starts k) → state_in t (k / GRANULES_IN_BLOCK) ≢ Free) → ((k : ℕ) → IsTrue (t.grays k) → IsTrue (t.starts k))
+    → ((k : ℕ) → IsTrue (t.dones k) → IsTrue (t.starts k)) → AvoidsFree t wanted
+avoids_by_starts t Object starts grays dones k is = starts k is
+avoids_by_starts t Unmarked starts grays dones k is = starts k (and_parts (t.starts k) (not (t.marks k)) is).0
+avoids_by_starts t ToScan starts grays dones k is = starts k (grays k (and_parts (t.grays k) (not (t.marks k)) is).0)
+avoids_by_starts t Handled starts grays dones k is = starts k (dones k is)
+avoids_by_starts t Dropped starts grays dones k is = starts k (and_parts (t.starts k) (t.counts k == 0) is).0

@@ -1,6 +1,9 @@
 -- What a pass over the heap looks for, and where it stands next.
-use Rattle.std.specs.Prelude.{◌≡◌, ℕ, ◌<◌, ◌≤◌, ◌==◌, ◌&&◌, not, Bool, false, IsTrue}
+use Rattle.std.specs.Prelude.{◌≡◌, ◌≢◌, ℕ, ◌/◌, ◌<◌, ◌≤◌, ◌==◌, ◌&&◌, not, Bool, false, IsTrue}
+use Rattle.lxr_layout.specs.declared.TheConstants.{GRANULES_IN_BLOCK}
 use Rattle.lxr_image.specs.Tables.{Tables}
+use Rattle.lxr_blocks.specs.declared.states.BlockState.TheVariants.{Free}
+use Rattle.lxr_blocks.specs.States.{state_in}
 use Rattle.lxr_image_search.specs.declared.Wanted.{Wanted}
 use Rattle.lxr_image_search.specs.declared.Wanted.TheVariants.{Dropped, Handled, Object, ToScan, Unmarked}
 
@@ -11,6 +14,10 @@ is_wanted t Unmarked k = t.starts k && not (t.marks k)
 is_wanted t ToScan k = t.grays k && not (t.marks k)
 is_wanted t Handled k = t.dones k
 is_wanted t Dropped k = t.starts k && t.counts k == 0
+
+-- no granule of a block whose state is Free has it
+abbrev pub AvoidsFree : Tables → Wanted → Type 0
+AvoidsFree t wanted = (k : ℕ) → IsTrue (is_wanted t wanted k) → state_in t (k / GRANULES_IN_BLOCK) ≢ Free
 
 -- no granule from one on and below another has it
 abbrev pub NoneWanted : Tables → Wanted → ℕ → ℕ → Type 0

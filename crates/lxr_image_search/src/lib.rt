@@ -4,8 +4,9 @@
 ghost use Rattle.std.specs.Prelude.{◌≡◌, ◌↔◌, ℕ, ◌+◌, ◌*◌, ◌/◌, ◌<◌, IfNone, IfSome, IsBitSet, IsTrue, false};
 ghost use Rattle.lxr_layout.specs.declared.TheConstants.{GRANULES_IN_BLOCK};
 ghost use Rattle.lxr_image.specs.Spaces.{IsSpace, tables_of};
-ghost use Rattle.lxr_image_search.specs.Search.{IsNextWanted, NoneWanted, is_wanted};
+ghost use Rattle.lxr_image_search.specs.Search.{AvoidsFree, IsNextWanted, NoneWanted, is_wanted};
 
+use lxr_blocks::{BlockState, state};
 use lxr_image::Space;
 use lxr_layout::GRANULES_IN_BLOCK;
 
@@ -54,9 +55,9 @@ fn wanted_hint(space: &Space, wanted: Wanted, at: u32) -> u64
     }
 }
 
-/// Whether a block may have a wanted object. Its looks, one for 64 granules, don't wait for one another.
+/// Whether a block that isn't Free may have a wanted object. Its looks, one for 64 granules, don't wait for one another.
 #[inline(always)]
-pub fn may_want(space: &Space, wanted: Wanted, block: u32) -> bool
+fn has_hint(space: &Space, wanted: Wanted, block: u32) -> bool
     requires space { IsSpace space.now }
     requires block { block < space.now.limits.blocks }
     ensures { result ≡ false → NoneWanted (tables_of space.now) wanted (GRANULES_IN_BLOCK * block) (GRANULES_IN_BLOCK * (block + 1)) }
@@ -66,6 +67,20 @@ pub fn may_want(space: &Space, wanted: Wanted, block: u32) -> bool
         seen |= wanted_hint(space, wanted, at);
     }
     seen != 0
+}
+
+/// Whether a block may have a wanted object. One whose state is Free has none, and costs one read.
+#[inline(always)]
+pub fn may_want(space: &Space, wanted: Wanted, block: u32) -> bool
+    requires space { IsSpace space.now }
+    requires free { AvoidsFree (tables_of space.now) wanted }
+    requires block { block < space.now.limits.blocks }
+    ensures { result ≡ false → NoneWanted (tables_of space.now) wanted (GRANULES_IN_BLOCK * block) (GRANULES_IN_BLOCK * (block + 1)) }
+{
+    match state(space, block) {
+        BlockState::Free => false,
+        _ => has_hint(space, wanted, block),
+    }
 }
 
 /// The first granule from one on that has a wanted object, of those whose bits are one word with its own.
@@ -84,10 +99,11 @@ pub fn next_in_word(space: &Space, wanted: Wanted, from: u32) -> Option<u32>
 }
 
 /// The first granule from one on that has a wanted object. It takes one look for 64 granules, and before them one for their
-/// block, behind which it goes on at once where that can have none.
+/// block, behind which it goes on at once where that can have none. A block whose state is Free costs one read.
 #[inline(always)]
 pub fn next_wanted(space: &Space, wanted: Wanted, from: u32) -> Option<u32>
     requires space { IsSpace space.now }
+    requires free { AvoidsFree (tables_of space.now) wanted }
     ensures none { IfNone result (NoneWanted (tables_of space.now) wanted from (GRANULES_IN_BLOCK * space.now.limits.blocks)) }
     ensures next { IfSome result (λ granule. IsNextWanted (tables_of space.now) wanted from (GRANULES_IN_BLOCK * space.now.limits.blocks) granule) }
 {

@@ -26,6 +26,7 @@ use Rattle.lxr_invariant.specs.Counting.{HasCounts, HasDecrements, IsUndecrement
 use Rattle.lxr_invariant.specs.Lines.{AvoidChosen, ChosenNeedTrace, HasBlocks, HasMarks, KeepLines, KeepsRest, LinesAreOut, chosen_count, is_chosen}
 use Rattle.lxr_invariant.specs.Quiescent.{HoldsMoment}
 use Rattle.lxr_invariant.proofs.NameLemmas.{in_longer}
+use Rattle.lxr_invariant.proofs.UnusedLemmas.{unused_still}
 
 -- ---- the heap
 
@@ -218,6 +219,7 @@ holds_still s after m at same agree is =
       marks = marks_still t u m.state.graph at m.unreclaimed agree.counts is.marks;
       lines = out_still t u m.state.graph at m.made agree.outs is.lines;
       unchosen = unchosen_still t u at m.made agree.states is.unchosen;
+      unused = unused_still t u at m.unreclaimed m.unreclaimed agree.states agree.outs itself is.unused;
       blocks = subst (λ l. HasBlocks u l.blocks m.trace) (sym limits) (blocks_still t u s.limits.blocks m.trace agree.states agree.tracing is.blocks);
       rest = rest_left s after m at m.unreclaimed itself (ap (λ z. z.rest_next) same) (ap (λ z. z.rest_end) same) limits agree.outs agree.states is.rest;
       no_work = ap (λ z. z.work.items) same ∙ is.no_work;

@@ -11,3 +11,4 @@ pub mod InsideLemmas
 pub mod ScanLemmas
 pub mod CopiedLemmas
 pub mod LandingLemmas
+pub mod UnusedLemmas

@@ -24,7 +24,7 @@ use Rattle.lxr_model.specs.Moments.{Moment, opening_moment}
 use Rattle.lxr_model_counting.proofs.FollowingLemmas.{opening_follows}
 use Rattle.lxr_invariant.specs.Standing.{HasBits}
 use Rattle.lxr_invariant.specs.Counting.{HasCounts, HasDecrements, IsUndecremented}
-use Rattle.lxr_invariant.specs.Lines.{HasBlocks, HasMarks, IsMarkOf, chosen_count, is_chosen}
+use Rattle.lxr_invariant.specs.Lines.{FreeAreUnused, HasBlocks, HasMarks, IsMarkOf, chosen_count, is_chosen}
 use Rattle.lxr_invariant.specs.Quiescent.{HoldsMoment}
 use Rattle.lxr_invariant.proofs.NameLemmas.{no_member}
 use Rattle.lxr_invariant.proofs.EntryLemmas.{changed_other, unlike_number}
@@ -132,6 +132,10 @@ opening_blocks l =
       tracing = refl;
     }
 
+-- the world's block is World, and no line is out
+opening_unused : (l : Limits) → FreeAreUnused (opened_tables l) opening_at (world_name ∷ [])
+opening_unused l = record { objects = λ n member e. let k : World ≡ Free = e in cc; outs = λ line out. absurd (let no : false ≡ true = out in cc) }
+
 -- ---- registers
 
 many_registers : (n : ℕ) → length (opening_registers n) ≡ 16 * n
@@ -168,6 +172,7 @@ opening_holds s l is opened image =
       marks = subst (λ z. HasMarks z g opening_at (world_name ∷ [])) (sym same) (opening_marks l l.threads);
       lines = λ n o k member covers. no_member n member;
       unchosen = λ n member. no_member n member;
+      unused = subst (λ z. FreeAreUnused z opening_at (world_name ∷ [])) (sym same) (opening_unused l);
       blocks = subst (λ z. HasBlocks (tables_of s) z.blocks None) (sym opened.limits) (subst (λ z. HasBlocks z l.blocks None) (sym same) (opening_blocks l));
       rest = record {
         rest = inl (opened.rest.0 ∙ sym opened.rest.1);

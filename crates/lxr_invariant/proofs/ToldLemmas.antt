@@ -31,6 +31,7 @@ holds_told s m at r tally pauses room h = record {
   marks = h.marks;
   lines = h.lines;
   unchosen = h.unchosen;
+  unused = h.unused;
   blocks = h.blocks;
   rest = record { rest = rest_still s (with_told s r tally pauses) refl refl refl refl refl h.rest.rest; apart = h.rest.apart };
   no_work = h.no_work;

@@ -56,6 +56,15 @@ LinesAreOut t g at ns = (n : Name) (o : Object) (k : ℕ) → IsTrue (has ns n) 
 abbrev pub AvoidChosen : Tables → (Name → ℕ) → List Name → Type 0
 AvoidChosen t at ns = (n : Name) → IsTrue (has ns n) → state_in t (granule_of (at n) / GRANULES_IN_BLOCK) ≢ Chosen
 
+-- none of these objects begins in a Free block
+abbrev pub AvoidFree : Tables → (Name → ℕ) → List Name → Type 0
+AvoidFree t at ns = (n : Name) → IsTrue (has ns n) → state_in t (granule_of (at n) / GRANULES_IN_BLOCK) ≢ Free
+
+-- a block whose state is Free is unused: none of these objects begins in it, and no line of it is out
+pub record FreeAreUnused (t : Tables) (at : Name → ℕ) (ns : List Name) : Type 0 where
+  pub objects : AvoidFree t at ns
+  pub outs : (line : ℕ) → IsTrue (t.outs line) → state_in t (line / LINES_IN_BLOCK) ≢ Free
+
 -- an object of these names has a granule of a line
 abbrev pub IsTakenBy : Graph → (Name → ℕ) → List Name → ℕ → Type 0
 IsTakenBy g at ns line = (n : Name) × (o : Object) × (k : ℕ) × IsTrue (has ns n) × Covers g at n o k × (k / GRANULES_IN_LINE ≡ line)

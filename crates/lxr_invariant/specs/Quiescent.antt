@@ -11,7 +11,7 @@ use Rattle.lxr_model_counting.specs.Following.{FollowsPause}
 use Rattle.lxr_invariant.specs.AbstractState.{AbstractState, members}
 use Rattle.lxr_invariant.specs.Standing.{AreLogged, HasBits, IsImaged}
 use Rattle.lxr_invariant.specs.Counting.{HasCounts, HasDecrements, IsUndecremented}
-use Rattle.lxr_invariant.specs.Lines.{AvoidChosen, HasBlocks, HasMarks, HasStates, KeepLines, KeepsRest, LinesAreOut, OutsAreTaken}
+use Rattle.lxr_invariant.specs.Lines.{AvoidChosen, FreeAreUnused, HasBlocks, HasMarks, HasStates, KeepLines, KeepsRest, LinesAreOut, OutsAreTaken}
 use Rattle.lxr_invariant.specs.Tracing.{IsTracedBy}
 
 -- The heap and its tables hold a moment: what holds before a pause, and also between its steps. The limits are allowed ones.
@@ -29,6 +29,7 @@ pub record HoldsMoment (s : Space) (m : Moment) (at : Name → ℕ) : Type 0 whe
   pub marks : HasMarks (tables_of s) m.state.graph at m.unreclaimed
   pub lines : LinesAreOut (tables_of s) m.state.graph at m.made
   pub unchosen : AvoidChosen (tables_of s) at m.made
+  pub unused : FreeAreUnused (tables_of s) at m.unreclaimed
   pub blocks : HasBlocks (tables_of s) s.limits.blocks m.trace
   pub rest : KeepsRest s m at
   pub no_work : s.work.items ≡ []

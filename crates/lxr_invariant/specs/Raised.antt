@@ -17,7 +17,7 @@ use Rattle.lxr_model_counting.specs.Distinct.{IsDistinct}
 use Rattle.lxr_model_counting.specs.Following.{FollowsPause}
 use Rattle.lxr_invariant.specs.Standing.{AreLogged, HasBits}
 use Rattle.lxr_invariant.specs.Counting.{count_at}
-use Rattle.lxr_invariant.specs.Lines.{HasBlocks, HasMarks}
+use Rattle.lxr_invariant.specs.Lines.{FreeAreUnused, HasBlocks, HasMarks}
 
 -- the unreclaimed names once these are promoted
 abbrev pub with_promoted : Moment → List Name → List Name
@@ -71,6 +71,7 @@ pub record IsRaised (s : Space) (m : Moment) (at : Name → ℕ) (promoted stuck
   pub marks : HasMarks (tables_of s) m.state.graph at (with_promoted m promoted)
   pub none_done : (k : ℕ) → (tables_of s).dones k ≡ false
   pub none_out : (line : ℕ) → (tables_of s).outs line ≡ false
+  pub unused : FreeAreUnused (tables_of s) at (with_promoted m promoted)
   pub blocks : HasBlocks (tables_of s) s.limits.blocks m.trace
   pub decrements : ((tables_of s).cursors DECREMENT_CURSOR ≡ 0) × ((tables_of s).cursors DECREMENT_COUNT ≡ 0)
   pub no_rest : s.rest_next ≡ s.rest_end

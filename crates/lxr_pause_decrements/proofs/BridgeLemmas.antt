@@ -32,6 +32,7 @@ use Rattle.lxr_invariant.specs.Quiescent.{HoldsMoment}
 use Rattle.lxr_invariant.proofs.NameLemmas.{in_first}
 use Rattle.lxr_invariant.proofs.EntryLemmas.{passing_few}
 use Rattle.lxr_invariant.proofs.FrameLemmas.{AreAsMany, blocks_still, imaged_left, none_undone, out_still, rest_left, unchosen_still}
+use Rattle.lxr_invariant.proofs.UnusedLemmas.{unused_still}
 use Rattle.lxr_pause_decrements.specs.Finishing.{CanFinish, Finishes}
 use Rattle.lxr_pause_decrements.specs.Cascade.{CascadeStage, Ground, IsFinished, IsHandling, Leaves, come_to, later, with_lists}
 use Rattle.lxr_pause_decrements.proofs.WipeLemmas.{loses_none, loses_same}
@@ -91,6 +92,7 @@ opening s m at can =
           below = is.counts.below;
           bits = subst (HasBits t m at) (sym all) is.bits;
           marks = subst (HasMarks t m.state.graph at) (sym all) is.marks;
+          unused = is.unused.objects;
           lost_marks = loses_none t.marks at;
           tracing = is.blocks.tracing;
           decrements = is.decrements;
@@ -224,6 +226,7 @@ holds_left s after m at gone passed can fin leaves =
       marks = is.remains.marks;
       lines = out_still t u m.state.graph at m.made stay.outs b.lines;
       unchosen = unchosen_still t u at m.made stay.states b.unchosen;
+      unused = unused_still t u at m.unreclaimed vs stay.states stay.outs within b.unused;
       blocks = subst (λ l. HasBlocks u l.blocks m.trace) (sym limits) (blocks_still t u s.limits.blocks m.trace stay.states (stay.keeps.cursors TRACING_WORD (λ e. omega arith) (λ e. omega arith)) b.blocks);
       rest = rest_left s after m at vs within (ap (λ z. z.rest_next) same) (ap (λ z. z.rest_end) same) limits stay.outs stay.states b.rest;
       no_work = is.work;

@@ -19,6 +19,10 @@ use Rattle.lxr_tables.specs.declared.counts.Lowered.TheVariants.{Stuck, Zero, No
 use Rattle.lxr_image.specs.Tables.{Tables, changed}
 use Rattle.lxr_image.specs.Reads.{granule_of, is_tracing}
 use Rattle.lxr_image.specs.Image.{granules_of}
+use Rattle.lxr_blocks.specs.States.{state_in}
+use Rattle.lxr_image_search.specs.declared.Wanted.{Wanted}
+use Rattle.lxr_image_search.specs.Search.{AvoidsFree}
+use Rattle.lxr_image_search.proofs.SearchLemmas.{avoids_by_starts}
 use Rattle.lxr_model.specs.Dead.{Dead}
 use Rattle.lxr_model.specs.Moments.{Moment}
 use Rattle.lxr_model.specs.Reachable.{Refers}
@@ -212,6 +216,11 @@ marks_other heap blocks m at ground t v r gone in_r left_r is = record {
   elsewhere = λ g nobody nothing. changed_other t.counts (granule_of (at r)) v g (λ e. nobody r left_r (sym e)) ∙ is.elsewhere g nobody nothing;
 }
 
+-- what a pass looks for stands outside Free blocks
+pub avoids_free : (l : Limits) (t : Tables) (d : Roomy Name) (st : CascadeStage) (wanted : Wanted) → Remains l t d st → AvoidsFree t wanted
+avoids_free l t d st wanted is = avoids_by_starts t wanted
+    (λ k start free. let x = is.bits.starts.only k start in is.unused x.0 (without_parts st.moment.unreclaimed st.gone x.0 x.1).0 (ap (λ z. state_in t (z / GRANULES_IN_BLOCK)) x.2 ∙ free)) is.bits.grays is.bits.dones
+
 -- what is left, at another stage at which the same names are gone
 pub remains_still : (l : Limits) (t : Tables) (d : Roomy Name) (st : CascadeStage) (work : List Name) (extra ungrayed : Name → ℕ) (passed : ℕ) → Remains l t d st
     → Remains l t d (come_to (graying (later st st.gone work extra) ungrayed) passed)
@@ -221,6 +230,7 @@ remains_still l t d st work extra ungrayed passed is = record {
   below = is.below;
   bits = is.bits;
   marks = is.marks;
+  unused = is.unused;
   lost_marks = is.lost_marks;
   tracing = is.tracing;
   decrements = is.decrements;
@@ -246,6 +256,7 @@ sinks l t w d st r rest v is in_r taken unstuck two v_is =
         below = below_other t.heap l.blocks m st.at ground t v r in_r (omega (arith, b, v_is)) is.remains.below;
         bits = bits_still t t2 m st.at (kept st) refl refl refl refl refl is.remains.bits;
         marks = marks_other t.heap l.blocks m st.at ground t v r st.gone in_r (counted_left l t w d st r is in_r (omega (arith, two))).1 is.remains.marks;
+        unused = is.remains.unused;
         lost_marks = is.remains.lost_marks;
         tracing = is.remains.tracing;
         decrements = record { fits = is.remains.decrements.fits; places = is.remains.decrements.places };
@@ -427,6 +438,7 @@ remains_fall l t d st r work extra ro is in_r not_gone unstuck not_done has_ro =
       below = λ n in_n k. let e = unwiped n in_n in let z = below_other t.heap l.blocks m st.at is.ground t 0 r in_r (omega arith) is.below n in_n k in omega (arith, e, z);
       bits = bits_fall t.heap l.blocks m st.at is.ground t r st.gone ro in_r has_ro not_done is.bits;
       marks = marks_fall t.heap l.blocks m st.at is.ground t r st.gone ro in_r has_ro is.marks;
+      unused = is.unused;
       lost_marks = loses_more st.was.marks t.marks st.at st.gone r is.lost_marks;
       tracing = is.tracing;
       decrements = record { fits = is.decrements.fits; places = is.decrements.places };
@@ -520,6 +532,7 @@ made_gray l t w d st tracing h r n is told was_dead refers left taken =
           unlogged = is.remains.bits.unlogged;
         };
         marks = record { marked = is.remains.marks.marked; elsewhere = is.remains.marks.elsewhere };
+        unused = is.remains.unused;
         lost_marks = is.remains.lost_marks;
         tracing = is.remains.tracing;
         decrements = record { fits = is.remains.decrements.fits; places = is.remains.decrements.places };

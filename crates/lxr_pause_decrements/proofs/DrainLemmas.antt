@@ -351,6 +351,7 @@ last_taken s now st n at undrawn some turns =
         below = is.remains.below;
         bits = bits_still t t2 m st.at (kept st) refl refl refl refl refl is.remains.bits;
         marks = marks_still t t2 m.state.graph st.at (kept st) refl is.remains.marks;
+        unused = is.remains.unused;
         lost_marks = is.remains.lost_marks;
         tracing = changed_other t.cursors DECREMENT_COUNT n TRACING_WORD (λ e. omega arith) ∙ is.remains.tracing;
         decrements = record {
@@ -458,6 +459,7 @@ list_emptied s now st is past turns =
         below = c.remains.below;
         bits = bits_still t t2 m st.at (kept st) refl refl refl refl refl c.remains.bits;
         marks = marks_still t t2 m.state.graph st.at (kept st) refl c.remains.marks;
+        unused = c.remains.unused;
         lost_marks = c.remains.lost_marks;
         tracing = none_traced t ∙ c.remains.tracing;
         decrements = record { fits = omega (arith, waiting); places = λ k h. absurd (omega (arith, h, waiting)) };

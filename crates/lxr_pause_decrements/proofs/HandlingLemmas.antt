@@ -82,6 +82,7 @@ module _ (l : Limits) (t : Tables) (w : Roomy Place) (d : Roomy Name) (st : Casc
       unlogged = is.remains.bits.unlogged;
     };
     marks = record { marked = is.remains.marks.marked; elsewhere = is.remains.marks.elsewhere };
+    unused = is.remains.unused;
     lost_marks = is.remains.lost_marks;
     tracing = is.remains.tracing;
     decrements = record { fits = is.remains.decrements.fits; places = is.remains.decrements.places };

@@ -23,7 +23,7 @@ use Rattle.lxr_model_counting.specs.Distinct.{IsDistinct}
 use Rattle.lxr_model_counting.specs.Lowering.{IsLowered, IsOver, TakenFrom}
 use Rattle.lxr_invariant.specs.Keeping.{KeepsListsAndCounters}
 use Rattle.lxr_invariant.specs.Counting.{HasDecrements, count_at, is_done, occurrences_from, passing, undone, waiting_at}
-use Rattle.lxr_invariant.specs.Lines.{HasMarks, line_behind, next_line, tracing_word}
+use Rattle.lxr_invariant.specs.Lines.{AvoidFree, HasMarks, line_behind, next_line, tracing_word}
 use Rattle.lxr_invariant.specs.Standing.{HasBits, place_of}
 use Rattle.lxr_invariant.specs.Tracing.{IsGray}
 use Rattle.lxr_pause_decrements.specs.Wipe.{LosesBits, cleared, wiped}
@@ -109,6 +109,7 @@ pub record Remains (l : Limits) (t : Tables) (d : Roomy Name) (st : CascadeStage
   pub below : (n : Name) → IsTrue (has st.moment.unreclaimed n) → has st.moment.stuck n ≡ false → count_at t st.at n < STUCK
   pub bits : HasBits t st.moment st.at (kept st)
   pub marks : HasMarks t st.moment.state.graph st.at (kept st)
+  pub unused : AvoidFree t st.at st.moment.unreclaimed
   pub lost_marks : LosesBits st.was.marks t.marks st.at st.gone
   pub tracing : t.cursors TRACING_WORD ≡ tracing_word st.moment.trace
   pub decrements : HasDecrements l t st.moment st.at

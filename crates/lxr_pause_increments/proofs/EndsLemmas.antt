@@ -99,6 +99,7 @@ moving_begins s m at holds undecremented =
       reuse = λ line. ap (λ b. if b then ((t.reuse line + 1) % 2 ^ 32) else t.reuse line) (sym (never_both (t.outs line)));
       heap = λ w left promoted written. refl;
       states = λ b. inl refl;
+      free = λ b is. (is, λ line of_b out. out);
       unchosen = holds.unchosen;
       stay = λ n o q promoted. no_member n promoted;
     }

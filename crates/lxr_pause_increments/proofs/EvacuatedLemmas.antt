@@ -24,6 +24,7 @@ use Rattle.lxr_blocks.specs.Placing.{IsFull}
 use Rattle.lxr_blocks.specs.declared.states.BlockState.TheVariants.{Chosen}
 use Rattle.lxr_blocks.specs.States.{IsOpenRun, state_in}
 use Rattle.lxr_blocks.proofs.BesideLemmas.{was_open}
+use Rattle.lxr_blocks.proofs.FreeLemmas.{free_joined}
 use Rattle.lxr_model.specs.Moments.{Field, Moment}
 use Rattle.lxr_model_counting.specs.Distinct.{has_field}
 use Rattle.lxr_model_counting.proofs.DistinctLemmas.{or_false, tested}
@@ -93,6 +94,7 @@ joined_there s found m at now ps o is still full = record {
   reuse = is.reuse;
   heap = λ w left promoted written. is.heap w (λ n h moved. left n (or_right (same_name n o) (has ps n) h) moved) (λ n h. promoted n (or_right (same_name n o) (has ps n) h)) written;
   states = is.states;
+  free = is.free;
   unchosen = is.unchosen;
   stay = λ n x q h place has_x run. elim (or_cases (same_name n o) (has ps n) h) [
     | inl same ↦ full x q (ap (object_at m.state.graph) (sym (same_names n o same)) ∙ has_x) run
@@ -458,6 +460,7 @@ module _ (a b found : Space) (m : Moment) (at now : Name → ℕ) (ps : List Nam
     reuse = reuse_later;
     heap = heap_later;
     states = λ k. states_joined (tables_of found) (tables_of a) (tables_of b) k (is.states k) (beside.states k);
+    free = free_joined (tables_of found) (tables_of a) (tables_of b) is.free beside.free;
     unchosen = unchosen_later;
     stay = λ n x r h place has_x run. elim (tested (same_name n o)) [
       | inl same ↦

@@ -1,22 +1,23 @@
 -- The first stage of the increments, and what holds after the last.
-use Rattle.std.proofs.Common.{◌≡◌, ℕ, zero, suc, ◌+◌, ◌/◌, ◌<◌, ◌≤◌, refl, sym, ap, subst, ◌∙◌, inl, inr, arith, false, cond, List, [], ◌∷◌, IsTrue, length}
+use Rattle.std.proofs.Common.{◌≡◌, ◌≢◌, ℕ, zero, suc, ◌+◌, ◌/◌, ◌<◌, ◌≤◌, refl, sym, ap, subst, ◌∙◌, inl, inr, arith, true, false, cond, List, [], ◌∷◌, IsTrue, length}
 use Rattle.std.specs.Prelude.{◌⊎◌, Some, None, count_by, map, take}
 use Rattle.std.specs.List.Sorted.{IsPermutation}
 use Rattle.std.proofs.Math.ListN.{length-map}
 use Rattle.std.proofs.lemmas.Bool.{cases_lt}
+use Rattle.std.proofs.lemmas.Bool.Decides.{eqb_tells}
 use Rattle.std.proofs.lemmas.List.Sorted.{IsPermutation-reverse, sum_by-IsPermutation}
 use Rattle.std.proofs.lemmas.Option.{get_or_from_slice_get, slice_get_within}
 use Rattle.lxr_layout.specs.declared.Name.{Name}
-use Rattle.lxr_layout.specs.declared.TheConstants.{DECREMENT_COUNT, DECREMENT_CURSOR, GRANULES_IN_BLOCK, REMEMBERED_CURSOR, STUCK, TRACING_WORD}
+use Rattle.lxr_layout.specs.declared.TheConstants.{DECREMENT_COUNT, DECREMENT_CURSOR, GRANULES_IN_BLOCK, GRANULES_IN_LINE, LINES_IN_BLOCK, REMEMBERED_CURSOR, STUCK, TRACING_WORD}
 use Rattle.lxr_graph.specs.Names.{has, without}
-use Rattle.lxr_graph.specs.State.{object_at, refs_of, world_name}
+use Rattle.lxr_graph.specs.State.{Object, object_at, refs_of, world_name}
 use Rattle.lxr_graph.proofs.NameSets.{has-union, not_both, union_cases, union_right}
 use Rattle.lxr_image.specs.declared.space.Space.{Space}
 use Rattle.lxr_image.specs.Tables.{Tables, tables_in}
 use Rattle.lxr_image.specs.Reads.{granule_of}
 use Rattle.lxr_image.specs.Spaces.{Turns, tables_of}
-use Rattle.lxr_blocks.specs.declared.states.BlockState.TheVariants.{Chosen}
-use Rattle.lxr_blocks.specs.States.{KeepsState}
+use Rattle.lxr_blocks.specs.declared.states.BlockState.TheVariants.{Chosen, Free}
+use Rattle.lxr_blocks.specs.States.{KeepsState, state_in, state_of}
 use Rattle.lxr_model.specs.References.{reference_slots, references, references_from}
 use Rattle.lxr_model.specs.Moments.{Moment}
 use Rattle.lxr_model.specs.Reports.{field_holds, newly_held}
@@ -30,12 +31,14 @@ use Rattle.lxr_invariant.specs.Standing.{HasBits, place_of}
 use Rattle.lxr_invariant.specs.Counting.{count_at, entries_between, undone, waiting_at}
 use Rattle.lxr_invariant.specs.Copied.{CopiesLieOnFreeLines, CopiesPromoted, StayForWantOfLines}
 use Rattle.lxr_invariant.specs.Keeping.{KeepsLists}
-use Rattle.lxr_invariant.specs.Lines.{AvoidChosen, HasMarks}
+use Rattle.lxr_invariant.specs.Lines.{AvoidChosen, Covers, FreeAreUnused, HasMarks}
 use Rattle.lxr_invariant.specs.Raised.{AreRaised, CountsAreRaised, IsRaised, count_found, count_raised, with_promoted}
 use Rattle.lxr_invariant.specs.Tracing.{HasOverflowed, IsInChosen, IsRemembered}
 use Rattle.lxr_invariant.proofs.BlockLemmas.{still_not}
 use Rattle.lxr_invariant.proofs.EntryLemmas.{changed_cases}
 use Rattle.lxr_invariant.proofs.FrameLemmas.{blocks_still, image_still, marks_still, none_undone}
+use Rattle.lxr_invariant.proofs.NameLemmas.{in_second}
+use Rattle.lxr_invariant.proofs.UnusedLemmas.{out_used}
 use Rattle.lxr_remset.specs.Remembering.{AreEntries, EntersOnce, HasEntryOf, Remembers, with_remembered_of}
 use Rattle.lxr_remset.proofs.OnceLemmas.{entered_alike, entered_as}
 use Rattle.lxr_pause_promote.proofs.FewerLemmas.{states_same}
@@ -51,6 +54,7 @@ use Rattle.lxr_pause_increments.proofs.EndsLemmas.{AllFixed, copies_end, deferre
 use Rattle.lxr_pause_increments.proofs.MovingLemmas.{AreMade, unreclaimed_still}
 use Rattle.lxr_pause_increments.proofs.RememberedLemmas.{overflowed_on, remembered_on, stays_none}
 use Rattle.lxr_pause_increments.proofs.StageLemmas.{all_made}
+use Rattle.lxr_pause_increments.specs.Clearing.{OutsAvoidFree}
 
 -- ---- the first stage
 
@@ -216,6 +220,17 @@ ending s g b grays outs = record {
   rest = outs.rest ∙ ap {A = Space} (λ x. record x { words = b.words }) grays.rest;
 }
 
+-- no line of a block that is Free is out at a stage, nor was any before
+pub outs_used : (before s : Space) (m : Moment) (at : Name → ℕ) (st : IncrementStage) → CanRaise before m at → st.found ≡ before → IsIncrementing s m at st → OutsAvoidFree (tables_of s)
+outs_used before s m at st can found is line out free =
+    let was = is.moving.free (line / LINES_IN_BLOCK) free in
+    can.holds.unused.outs line (subst (λ x. IsTrue ((tables_of x).outs line)) found (was.1 line refl out)) (subst (λ x. state_in (tables_of x) (line / LINES_IN_BLOCK) ≡ Free) found was.0)
+
+pub outs_grayed : (s g : Space) → Turns s g (with_old_grays (tables_of s) s.logged.items) → OutsAvoidFree (tables_of s) → OutsAvoidFree (tables_of g)
+outs_grayed s g grays avoid line out free =
+    let same : tables_of g ≡ record (tables_of s) { grays = (with_old_grays (tables_of s) s.logged.items).grays } = grays.tables ∙ only_old_grays (tables_of s) s.logged.items in
+    avoid line (sym (ap (λ t. t.outs line) same) ∙ out) (sym (ap (λ t. state_of (t.states (line / LINES_IN_BLOCK))) same) ∙ free)
+
 -- all registers are raised, and the worklist is empty
 abbrev pub IsAtEnd : Space → Moment → (Name → ℕ) → IncrementStage → Type 0
 IsAtEnd s m at st = HasRaisedRoots s m at st (length s.registers.items)
@@ -250,8 +265,8 @@ module _ (s : Space) (m : Moment) (at : Name → ℕ) (st : IncrementStage) (is 
   ]
 
   -- the counts of the last stage are those of a pause, old values are gray at objects that begin, and no line is out
-  ended : (w : List ℕ) → tables_in s.limits w ≡ with_ended s → IsRaised (record s { words = w; rest_next = 0; rest_end = 0 }) m st.now s.report.promoted.items s.report.stuck.items
-  ended w tables =
+  ended : (w : List ℕ) → tables_in s.limits w ≡ with_ended s → FreeAreUnused (tables_in s.limits w) st.now (with_promoted m s.report.promoted.items) → IsRaised (record s { words = w; rest_next = 0; rest_end = 0 }) m st.now s.report.promoted.items s.report.stuck.items
+  ended w tables unused =
       let t : Tables = tables_in s.limits w in
       let counts : t.counts ≡ (tables_of s).counts = ap (λ x. x.counts) tables in
       record {
@@ -274,6 +289,7 @@ module _ (s : Space) (m : Moment) (at : Name → ℕ) (st : IncrementStage) (is 
         marks = marks_still (tables_of s) t m.state.graph st.now (with_promoted m s.report.promoted.items) counts (subst (HasMarks (tables_of s) m.state.graph st.now) (sym last.all) incrementing.marks);
         none_done = λ k. ap (λ x. x.dones k) tables ∙ incrementing.none_done k;
         none_out = λ line. ap (λ x. x.outs line) tables;
+        unused = unused;
         blocks = blocks_still (tables_of s) t s.limits.blocks m.trace (ap (λ x. x.states) tables) (ap (λ x. x.cursors TRACING_WORD) tables) incrementing.blocks;
         decrements = (ap (λ x. x.cursors DECREMENT_CURSOR) tables ∙ incrementing.decrements.0, ap (λ x. x.cursors DECREMENT_COUNT) tables ∙ incrementing.decrements.1);
         no_rest = refl;
@@ -415,6 +431,45 @@ module _ (before s b : Space) (m : Moment) (at : Name → ℕ) (st : IncrementSt
   states : (k : ℕ) → KeepsState (tables_of before) (tables_of b) k
   states k = states_kept (tables_of before) (tables_of s) (tables_of b) k (ap (λ t. t.states) turns.tables) (subst (λ x. KeepsState (tables_of x) (tables_of s) k) found (here.moving.states k))
 
+  -- a block that is Free now was so as increments began, and no line is out
+  free_now : (k : ℕ) → state_in (tables_in s.limits b.words) k ≡ Free → state_in (tables_of s) k ≡ Free
+  free_now k is = sym (ap (λ t. state_of (t.states k)) words) ∙ is
+
+  free_before : (k : ℕ) → state_in (tables_of s) k ≡ Free → state_in (tables_of before) k ≡ Free
+  free_before k is = subst (λ x. state_in (tables_of x) k ≡ Free) found (here.moving.free k is).0
+
+  -- promoted objects stand on lines that were out until then
+  promoted_out : (n : Name) → IsTrue (has st.promoted n) → IsTrue ((tables_of s).outs (granule_of (st.now n) / GRANULES_IN_LINE))
+  promoted_out n promoted =
+      let x = here.moving.stands n (in_second m.unreclaimed m.made n (all_made s m at st here n promoted)) in
+      (here.moving.outs (granule_of (st.now n) / GRANULES_IN_LINE)).1 (elim (eqb_tells (st.now n) (at n)) [
+        | inl there ↦ inl (subst (λ z. IsTrue ((tables_of z).outs (granule_of (st.now n) / GRANULES_IN_LINE))) (sym found)
+            (can.holds.lines n x.0 (granule_of (st.now n)) (all_made s m at st here n promoted) (first_granule_of (st.now n) there.1 x.0 x.1)))
+        | inr moved ↦ inr (record {
+          name = n;
+          promoted_is = promoted;
+          moved = moved.1;
+          object = x.0;
+          granule = granule_of (st.now n);
+          covers = record { object = x.1; first = omega arith; behind = omega arith };
+          line_is = refl;
+        })
+      ])
+    where
+      first_granule_of : (q : ℕ) → q ≡ at n → (o : Object) → object_at m.state.graph n ≡ Some o → Covers m.state.graph at n o (granule_of q)
+      first_granule_of q e o has_o = record { object = has_o; first = omega (arith, e); behind = omega (arith, e) }
+
+  unused : FreeAreUnused (tables_in s.limits b.words) st.now (with_promoted m s.report.promoted.items)
+  unused = record {
+    objects = λ n h free. elim (union_cases st.promoted m.unreclaimed n (sym (names s m at st is n) ∙ h)) [
+      | inl promoted ↦ out_used (tables_of s) (granule_of (st.now n)) (outs_used before s m at st can found here) (promoted_out n promoted) (free_now _ free)
+      | inr kept ↦ can.holds.unused.objects n kept
+          (ap (λ p. state_in (tables_of before) (granule_of p / GRANULES_IN_BLOCK)) (sym (unreclaimed_still s st.found m at st.now st.promoted here.moving (all_made s m at st here) here.follows.apart n kept))
+          ∙ free_before _ (free_now _ free))
+    ];
+    outs = λ line out. absurd (let no : false ≡ true = sym (ap (λ t. t.outs line) words) ∙ out in cc);
+  }
+
   unchosen : AvoidChosen (tables_of b) st.now after.report.promoted.items
   unchosen n h =
       let promoted : IsTrue (has st.promoted n) = sym ((last s m at st is).same n) ∙ ap {A = Space} (λ x. has x.report.promoted.items n) same ∙ h in
@@ -457,7 +512,7 @@ module _ (before s b : Space) (m : Moment) (at : Name → ℕ) (st : IncrementSt
 
   pub raises : Raises before after m at st.now
   raises = record {
-    raised = subst (λ x. IsRaised x m st.now x.report.promoted.items x.report.stuck.items) same (ended s m at st is b.words words);
+    raised = subst (λ x. IsRaised x m st.now x.report.promoted.items x.report.stuck.items) same (ended s m at st is b.words words unused);
     copies = copies;
     onto = onto;
     stay = stay;

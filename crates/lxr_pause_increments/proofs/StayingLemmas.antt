@@ -14,6 +14,7 @@ use Rattle.lxr_image.specs.Reads.{granule_of}
 use Rattle.lxr_image.specs.Image.{ArePlacesOf, granules_of}
 use Rattle.lxr_blocks.specs.declared.states.BlockState.TheVariants.{Chosen}
 use Rattle.lxr_blocks.specs.Kept.{IsKeptGranule}
+use Rattle.lxr_blocks.proofs.FreeLemmas.{free_joined, free_same}
 use Rattle.lxr_model.specs.Moments.{Field, Moment}
 use Rattle.lxr_model_counting.specs.Distinct.{has_field}
 use Rattle.lxr_invariant.specs.AbstractState.{members}
@@ -75,6 +76,7 @@ moving_with a b found m at now ps keeps stays is =
       reuse = λ line. ap (λ f. f line) keeps.reuse ∙ is.reuse line ∙ ap (λ f. handed_since (tables_of found) f line) (sym keeps.outs);
       heap = stays.heap;
       states = λ k. states_joined (tables_of found) (tables_of a) (tables_of b) k (is.states k) (fewer.states k);
+      free = free_joined (tables_of found) (tables_of a) (tables_of b) is.free (free_same (tables_of a) (tables_of b) keeps.states keeps.outs);
       unchosen = λ n made. still_not (tables_of a) (tables_of b) (granule_of (now n) / GRANULES_IN_BLOCK) Chosen refl (fewer.states (granule_of (now n) / GRANULES_IN_BLOCK)) (is.unchosen n made);
       stay = λ n o q promoted still has_o run. is.stay n o q promoted still has_o (was_open_run a b q fewer run);
     }

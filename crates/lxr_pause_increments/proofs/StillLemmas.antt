@@ -1,8 +1,9 @@
--- The lines that are out are cleared word by word of their bits.
-use Rattle.std.proofs.Common.{◌≡◌, ℕ, ◌+◌, ◌*◌, ◌/◌, ◌≤◌, refl, sym, ap, ◌∙◌, arith, lit<, Bool, true, false, cond, List, []}
-use Rattle.std.specs.Prelude.{◌==◌, if◌then◌else◌, nat_lt, slice_index, slice_index_or}
+-- The lines that are out are cleared block by block, by the words of their bits.
+use Rattle.std.proofs.Common.{◌≡◌, ℕ, ◌+◌, ◌*◌, ◌/◌, ◌≤◌, refl, sym, ap, ◌∙◌, arith, lit<, Bool, true, false, cond, List, [], inl, inr}
+use Rattle.std.specs.Prelude.{◌==◌, if◌then◌else◌, nat_lt, slice_index, slice_index_or, IsTrue}
 use Rattle.std.proofs.Math.ListN.{get_or-eq_default}
-use Rattle.std.proofs.lemmas.Bool.Decides.{nat_tests}
+use Rattle.std.proofs.lemmas.Bool.{false_from_ne_true}
+use Rattle.std.proofs.lemmas.Bool.Decides.{nat_tests, eqb_tells}
 use Rattle.lxr_layout.specs.declared.TheConstants.{LINES_IN_BLOCK}
 use Rattle.lxr_layout.specs.declared.limits.Limits.{Limits}
 use Rattle.lxr_layout.specs.Spaces.{all_regions, region_begin, region_sizes}
@@ -11,6 +12,9 @@ use Rattle.lxr_image.specs.declared.space.Space.{Space}
 use Rattle.lxr_image.specs.Spaces.{IsSpace, Turns, tables_of}
 use Rattle.lxr_image.specs.Tables.{Tables, cut, tables_in}
 use Rattle.lxr_image.proofs.RegionLemmas.{length_region_table}
+use Rattle.lxr_blocks.specs.declared.states.BlockState.TheVariants.{Free}
+use Rattle.lxr_blocks.specs.States.{state_in, state_of}
+use Rattle.lxr_pause_increments.specs.Clearing.{OutsAvoidFree, without_outs_of}
 
 -- past the heap's last line none is out
 pub no_out_past : (l : Limits) (ws : List ℕ) (line : ℕ) → (tables_in l ws).size ≡ region_begin l all_regions → LINES_IN_BLOCK * l.blocks ≤ line → (tables_in l ws).outs line ≡ false
@@ -31,15 +35,45 @@ outs_begin s = record { tables = λ i. record (tables_of s) { outs = λ line. sy
     none : (line : ℕ) → out_behind (tables_of s).outs 0 line ≡ (tables_of s).outs line
     none line = let e : nat_lt line 0 ≡ false = grind (arith, nat_tests) in ap (λ b. cond b false ((tables_of s).outs line)) e
 
-pub outs_more : (a b c : Space) (k : ℕ) → Turns a b (record (tables_of a) { outs = out_behind (tables_of a).outs (64 * k) })
-    → Turns b c (record (tables_of b) { outs = λ line. if line / 64 == k then false else (tables_of b).outs line }) → Turns a c (record (tables_of a) { outs = out_behind (tables_of a).outs (64 * (k + 1)) })
+pub outs_more : (a b c : Space) (k : ℕ) → Turns a b (record (tables_of a) { outs = out_behind (tables_of a).outs (LINES_IN_BLOCK * k) })
+    → Turns b c (without_outs_of (tables_of b) k) → Turns a c (record (tables_of a) { outs = out_behind (tables_of a).outs (LINES_IN_BLOCK * (k + 1)) })
 outs_more a b c k before one = record {
-  tables = one.tables ∙ ap {A = Tables} (λ t. record t { outs = λ line. if line / 64 == k then false else t.outs line }) before.tables ∙ (λ i. record (tables_of a) { outs = λ line. step line i });
+  tables = one.tables ∙ ap {A = Tables} (λ t. without_outs_of t k) before.tables ∙ (λ i. record (tables_of a) { outs = λ line. step line i });
   rest = one.rest ∙ ap {A = Space} (λ s. record s { words = c.words }) before.rest;
 }
   where
-    step : (line : ℕ) → (if line / 64 == k then false else out_behind (tables_of a).outs (64 * k) line) ≡ out_behind (tables_of a).outs (64 * (k + 1)) line
+    step : (line : ℕ) → (if line / LINES_IN_BLOCK == k then false else out_behind (tables_of a).outs (LINES_IN_BLOCK * k) line) ≡ out_behind (tables_of a).outs (LINES_IN_BLOCK * (k + 1)) line
     step line = grind (arith, nat_tests)
+
+-- two words have the bits of a block's lines
+pub outs_of_block : (a b c : Space) (k : ℕ) → Turns a b (record (tables_of a) { outs = λ line. if line / 64 == 2 * k then false else (tables_of a).outs line })
+    → Turns b c (record (tables_of b) { outs = λ line. if line / 64 == 2 * k + 1 then false else (tables_of b).outs line }) → Turns a c (without_outs_of (tables_of a) k)
+outs_of_block a b c k first second = record {
+  tables = second.tables ∙ ap {A = Tables} (λ t. record t { outs = λ line. if line / 64 == 2 * k + 1 then false else t.outs line }) first.tables ∙ (λ i. record (tables_of a) { outs = λ line. both line i });
+  rest = second.rest ∙ ap {A = Space} (λ s. record s { words = c.words }) first.rest;
+}
+  where
+    both : (line : ℕ) → (if line / 64 == 2 * k + 1 then false else (if line / 64 == 2 * k then false else (tables_of a).outs line)) ≡ (if line / LINES_IN_BLOCK == k then false else (tables_of a).outs line)
+    both line = grind (arith, nat_tests)
+
+-- a block whose state is Free has none
+pub outs_of_free : (s : Space) (k : ℕ) → OutsAvoidFree (tables_of s) → state_in (tables_of s) k ≡ Free → Turns s s (without_outs_of (tables_of s) k)
+outs_of_free s k avoid free = record { tables = λ i. record (tables_of s) { outs = λ line. none line i }; rest = refl }
+  where
+    none : (line : ℕ) → (tables_of s).outs line ≡ (if line / LINES_IN_BLOCK == k then false else (tables_of s).outs line)
+    none line = elim (eqb_tells (line / LINES_IN_BLOCK) k) [
+      | inl e ↦ false_from_ne_true ((tables_of s).outs line) (λ out. avoid line out (ap (state_in (tables_of s)) e.1 ∙ free)) ∙ sym (ap (λ b. if b then false else (tables_of s).outs line) e.0)
+      | inr e ↦ sym (ap (λ b. if b then false else (tables_of s).outs line) e.0)
+    ]
+
+-- so it stays while lines are forgotten
+pub outs_avoid_still : (a b : Space) (k : ℕ) → Turns a b (record (tables_of a) { outs = out_behind (tables_of a).outs k }) → OutsAvoidFree (tables_of a) → OutsAvoidFree (tables_of b)
+outs_avoid_still a b k turns avoid line out free =
+    avoid line (was (nat_lt line k) (sym (ap (λ t. t.outs line) turns.tables) ∙ out)) (sym (ap (λ t. state_of (t.states (line / LINES_IN_BLOCK))) turns.tables) ∙ free)
+  where
+    was : (past : Bool) → IsTrue (if past then false else (tables_of a).outs line) → IsTrue ((tables_of a).outs line)
+    was true h = absurd (let no : false ≡ true = h in cc)
+    was false h = h
 
 pub outs_end : (s b : Space) (k : ℕ) → IsSpace s → k ≡ LINES_IN_BLOCK * s.limits.blocks → Turns s b (record (tables_of s) { outs = out_behind (tables_of s).outs k }) → Turns s b (record (tables_of s) { outs = λ line. false })
 outs_end s b k space end turns = record { tables = turns.tables ∙ (λ i. record (tables_of s) { outs = λ line. none line i }); rest = turns.rest }

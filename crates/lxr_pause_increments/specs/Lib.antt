@@ -6,3 +6,4 @@ pub mod Accounted
 pub mod Raising
 pub mod Promotion
 pub mod Steps
+pub mod Clearing

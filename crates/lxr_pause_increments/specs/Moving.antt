@@ -13,7 +13,7 @@ use Rattle.lxr_image.specs.Reads.{granule_of}
 use Rattle.lxr_image.specs.Image.{ArePlacesOf, granules_of}
 use Rattle.lxr_blocks.specs.Kept.{IsAmong, IsKeptGranule, KeepsGranules}
 use Rattle.lxr_blocks.specs.Placing.{IsRest}
-use Rattle.lxr_blocks.specs.States.{IsOpenRun, KeepsState}
+use Rattle.lxr_blocks.specs.States.{IsOpenRun, KeepsFree, KeepsState}
 use Rattle.lxr_model.specs.Moments.{Field, Moment}
 use Rattle.lxr_model_counting.specs.Distinct.{has_field}
 use Rattle.lxr_invariant.specs.AbstractState.{members}
@@ -61,6 +61,7 @@ pub record IsMoving (s found : Space) (m : Moment) (at now : Name → ℕ) (prom
   pub heap : (w : ℕ) → ((n : Name) → IsTrue (has promoted n) → now n ≢ at n → w ≢ first_word (at n)) → ((n : Name) → IsTrue (has promoted n) → ¬ HasWord m.state.graph now n w)
       → ((field : Field) → IsTrue (has_field m.written field) → w ≢ word_of_field at field.0 field.1) → (tables_of s).heap w ≡ (tables_of found).heap w
   pub states : (b : ℕ) → KeepsState (tables_of found) (tables_of s) b
+  pub free : KeepsFree (tables_of found) (tables_of s)
   -- no new object stands in a Chosen block
   pub unchosen : AvoidChosen (tables_of s) now m.made
   -- what is promoted where it was made found no room, and lines only become fewer

@@ -8,6 +8,7 @@ ghost use Rattle.lxr_layout.specs.declared.Name.{Name as NameOf};
 ghost use Rattle.lxr_image.specs.Spaces.{IsSpace, Turns, tables_of};
 ghost use Rattle.lxr_model.specs.Moments.{Moment};
 ghost use Rattle.lxr_pause_promote.specs.Shortages.{IsShortage};
+ghost use Rattle.lxr_pause_increments.specs.Clearing.{OutsAvoidFree, without_outs_of};
 ghost use Rattle.lxr_pause_increments.specs.Raising.{CanRaise, Raises};
 ghost use Rattle.lxr_pause_increments.specs.Increments.{RaisingLeaves, left};
 ghost use Rattle.lxr_pause_increments.specs.Steps.{Empties, FixesFieldWith, HasHolder, HasSlots, MayEmpty, MayFixField, MayRaiseEntries, MayRaiseEntry, MayRaiseField, MayRaiseHeld, MayRaiseRegister, MayRaiseRegisters, MayRaiseWord, MayScan, RaisesEntries, RaisesEntry, RaisesField, RaisesHeldIn, RaisesRegister, RaisesRegisters, RaisesWord, Scans};
@@ -15,6 +16,7 @@ ghost use Rattle.lxr_pause_increments.specs.Steps.{Empties, FixesFieldWith, HasH
 use crate::counts::raise;
 use crate::remembering::remember_held;
 use crate::tracing::gray_old_values;
+use lxr_blocks::{BlockState, state};
 use lxr_image::Space;
 use lxr_layout::{Header, Place, field_word, unpack, word_of};
 use lxr_pause_promote::Shortage;
@@ -177,13 +179,31 @@ fn raise_registers(space: &mut Space, shortage: &mut Shortage)
     }
 }
 
-/// Forgets all lines that were handed out, a word of their bits at a time.
+/// Forgets the lines of a block that were handed out, those of a word of their bits at a time. Of a block whose state is Free none
+/// was, and nothing but its state is read.
+fn clear_block(space: &mut Space, block: u32)
+    requires space { IsSpace space.old }
+    requires block { block < space.old.limits.blocks }
+    requires free { OutsAvoidFree (tables_of space.old) }
+    ensures { Turns space.old space.new (without_outs_of (tables_of space.old) block) }
+{
+    match state(space, block) {
+        BlockState::Free => {}
+        BlockState::Partly | BlockState::Whole | BlockState::Chosen | BlockState::World => {
+            space.clear_out_word(2 * block);
+            space.clear_out_word(2 * block + 1);
+        }
+    }
+}
+
+/// Forgets all lines that were handed out. A block whose state is Free costs one read.
 fn clear_outs(space: &mut Space)
-    requires { IsSpace space.old }
+    requires space { IsSpace space.old }
+    requires free { OutsAvoidFree (tables_of space.old) }
     ensures { Turns space.old space.new (record (tables_of space.old) { outs = λ line. false }) }
 {
-    for word in 0..2 * space.limits.blocks {
-        space.clear_out_word(word);
+    for block in 0..space.limits.blocks {
+        clear_block(space, block);
     }
 }
 

@@ -15,8 +15,9 @@ use Rattle.lxr_image.specs.Reads.{granule_of}
 use Rattle.lxr_blocks.specs.declared.states.BlockState.TheVariants.{Chosen}
 use Rattle.lxr_blocks.specs.Kept.{IsAmong, IsOpenGranule, IsPlacedBeside, KeepsGranules}
 use Rattle.lxr_blocks.specs.Placing.{IsFull, IsPlaced, IsRest, granule_count}
-use Rattle.lxr_blocks.specs.States.{KeepsState, state_in}
+use Rattle.lxr_blocks.specs.States.{KeepsFree, KeepsState, state_in}
 use Rattle.lxr_blocks.proofs.BesideLemmas.{placed_beside}
+use Rattle.lxr_blocks.proofs.FreeLemmas.{free_joined, free_same}
 use Rattle.lxr_invariant.specs.Lines.{line_behind, next_line}
 use Rattle.lxr_pause_promote.specs.Copying.{Evacuates, StandsAt, StandsKept, with_copy, with_words}
 use Rattle.lxr_pause_promote.specs.Promotion.{Promotes, marked_between, with_promotion}
@@ -42,6 +43,7 @@ pub record StandsBeside (before after : Space) (rest : Tables) (taken : ℕ → 
   pub reuse : (line : ℕ) → (tables_of after).reuse line
       ≡ if (tables_of after).outs line && not ((tables_of before).outs line) then (((tables_of before).reuse line + 1) % 2 ^ 32) else (tables_of before).reuse line
   pub states : (b : ℕ) → KeepsState (tables_of before) (tables_of after) b
+  pub free : KeepsFree (tables_of before) (tables_of after)
   -- all else
   pub tables : tables_of after ≡ record rest { heap = (tables_of after).heap; outs = (tables_of after).outs; reuse = (tables_of after).reuse; states = (tables_of after).states }
   pub space : after ≡ record before { words = after.words; rest_next = after.rest_next; rest_end = after.rest_end }
@@ -162,6 +164,7 @@ copied_beside before middle after taken p q n shape is placed turns =
       outs = λ l. subst (λ f. IsTrue (f l) ↔ (IsTrue (t.outs l) ⊎ ((k : ℕ) × IsAmong (granule_of q.0) (granule_count shape) k × (k / GRANULES_IN_LINE ≡ l)))) (sym same.outs) (placed.outs l);
       reuse = λ l. ap (λ f. f l) reuse ∙ placed.reuse l ∙ ap (λ f. cond (f l && not (t.outs l)) ((t.reuse l + 1) % 2 ^ 32) (t.reuse l)) (sym same.outs);
       states = λ b. subst (λ f. KeepsState t (record (tables_of middle) { states = f }) b) (sym same.states) (placed.states b);
+      free = free_joined t (tables_of middle) (tables_of after) placed.free (free_same (tables_of middle) (tables_of after) same.states same.outs);
       tables = copied_tables before middle after all p q n shape placed turns;
       space = copied_space before middle after (with_copy (tables_of middle) p.0 q.0 shape) placed.space turns;
       is_rest = still_rest middle after same placed.rest;
@@ -237,6 +240,7 @@ promoted_copy before copied after taken p q n shape beside turns =
       outs = λ l. subst (λ f. IsTrue (f l) ↔ (IsTrue (t.outs l) ⊎ ((k : ℕ) × IsAmong (granule_of q.0) (granule_count shape) k × (k / GRANULES_IN_LINE ≡ l)))) (sym same.outs) (beside.outs l);
       reuse = λ l. ap (λ f. f l) reuse ∙ beside.reuse l ∙ ap (λ f. cond (f l && not (t.outs l)) ((t.reuse l + 1) % 2 ^ 32) (t.reuse l)) (sym same.outs);
       states = λ b. subst (λ f. KeepsState t (record (tables_of copied) { states = f }) b) (sym same.states) (beside.states b);
+      free = free_joined t (tables_of copied) (tables_of after) beside.free (free_same (tables_of copied) (tables_of after) same.states same.outs);
       tables = turns.tables
           ∙ ap (λ (x : Tables). with_promotion x q.0 shape) beside.tables
           ∙ ap (λ (x : Tables). record (with_promotion t q.0 shape) { heap = x.heap; outs = x.outs; reuse = x.reuse; states = x.states }) (sym turns.tables);

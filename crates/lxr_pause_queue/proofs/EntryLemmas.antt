@@ -1,5 +1,5 @@
 -- What is told grows by an object at each granule at which one begins, and stays where none begins.
-use Rattle.std.proofs.Common.{◌≡◌, ℕ, zero, suc, ◌+◌, ◌-◌, ◌*◌, ◌≤◌, ◌<◌, refl, sym, ap, subst, ◌∙◌, inl, inr, arith, Bool, true, false, cond, [], ◌++◌, length, length-append, IsTrue}
+use Rattle.std.proofs.Common.{◌≡◌, ℕ, zero, suc, ◌+◌, ◌-◌, ◌*◌, ◌≤◌, ◌<◌, refl, sym, ap, subst, ◌∙◌, inl, inr, arith, Bool, true, false, cond, [], ◌++◌, length, length-append, IsTrue, List}
 use Rattle.std.specs.Int.{bit_at}
 use Rattle.std.specs.Prelude.{◌==◌}
 use Rattle.std.proofs.lemmas.Bool.Decides.{leb_tells}
@@ -8,12 +8,15 @@ use Rattle.lxr_base.specs.Bits.{AreLeft, IsNextBit, NoBit, TakesLowest}
 use Rattle.lxr_base.proofs.BitLemmas.{all_left, left_behind, next_taken, none_left}
 use Rattle.lxr_layout.specs.declared.TheConstants.{GRANULES_IN_BLOCK}
 use Rattle.lxr_layout.specs.declared.Header.{Header}
-use Rattle.lxr_layout.specs.declared.Header.TheVariants.{Object, Moved}
+use Rattle.lxr_layout.specs.declared.Header.TheVariants as header
 use Rattle.lxr_layout.specs.Objects.{header_of}
 use Rattle.lxr_image.specs.declared.space.Space.{Space}
 use Rattle.lxr_image.specs.Spaces.{tables_of}
 use Rattle.lxr_image.specs.Tables.{Tables}
 use Rattle.lxr_pause_queue.specs.Entries.{entries_below, entry_at, entry_in, with_counts}
+use Rattle.lxr_graph.specs.declared.report.Count.{Count}
+use Rattle.lxr_image_search.specs.declared.Wanted.TheVariants.{Object}
+use Rattle.lxr_image_search.specs.Search.{NoneWanted}
 
 pub none_below : (t : Tables) → entries_below t 0 ≡ []
 unfolding entries_below
@@ -40,11 +43,17 @@ none_told t from (suc k) past none = elim (leb_tells (suc k) from) [
       entries_stay t k (none k before (omega arith)) ∙ none_told t from k before (λ g above below. none g above (omega (arith, below)))
 ]
 
+-- where none is wanted in a block, nothing more is told behind it
+pub no_more_told : (s : Space) (b : ℕ) → s.report.counts.items ≡ entries_below (tables_of s) (GRANULES_IN_BLOCK * b) → NoneWanted (tables_of s) Object (GRANULES_IN_BLOCK * b) (GRANULES_IN_BLOCK * (b + 1))
+    → s ≡ with_counts s (entries_below (tables_of s) (GRANULES_IN_BLOCK * (b + 1)))
+no_more_told s b told none =
+    ap {A = List Count} (with_counts s) (told ∙ sym (none_told (tables_of s) (GRANULES_IN_BLOCK * b) (GRANULES_IN_BLOCK * (b + 1)) (omega arith) (λ g above below. none g above below)))
+
 -- ---- how many there are
 
 few_in : (count : ℕ) (h : Header) → length (entry_in count h) ≤ 1
-few_in count (Object n shape) = omega arith
-few_in count (Moved place) = omega arith
+few_in count (header.Object n shape) = omega arith
+few_in count (header.Moved place) = omega arith
 
 few_at : (t : Tables) (g : ℕ) (b : Bool) → length (cond b (entry_at t g) []) ≤ 1
 few_at t g true = few_in (t.counts g) (header_of (t.heap (2 * g)))

@@ -25,7 +25,7 @@ use Rattle.lxr_invariant.specs.AbstractState.{members}
 use Rattle.lxr_invariant.specs.Standing.{HasBits}
 use Rattle.lxr_invariant.specs.Counting.{HasCounts, HasDecrements, IsUndecremented, count_at, entries_between, waiting_at}
 use Rattle.lxr_invariant.specs.Keeping.{KeepsListsAndCounters}
-use Rattle.lxr_invariant.specs.Lines.{HasBlocks, HasMarks, KeepsRest}
+use Rattle.lxr_invariant.specs.Lines.{FreeAreUnused, HasBlocks, HasMarks, KeepsRest}
 use Rattle.lxr_invariant.specs.Quiescent.{HoldsMoment}
 use Rattle.lxr_invariant.specs.Raised.{IsRaised, count_raised, settled, with_promoted}
 use Rattle.lxr_invariant.proofs.NameLemmas.{no_member}
@@ -136,6 +136,7 @@ module _ (s : Space) (m : Moment) (at : Name → ℕ) (promoted stuck : List Nam
       marks = subst (λ t. HasMarks t m.state.graph at us) (sym are) (marks_still (tables_of s) u m.state.graph at us refl is.marks);
       lines = λ n o k h. no_member n h;
       unchosen = λ n h. no_member n h;
+      unused = subst (λ t. FreeAreUnused t at us) (sym are) (record { objects = is.unused.objects; outs = is.unused.outs });
       blocks = subst (λ t. HasBlocks t s.limits.blocks m.trace) (sym are) (blocks_still (tables_of s) u s.limits.blocks m.trace refl queued.tracing is.blocks);
       rest = rest_then;
       no_work = is.no_work;

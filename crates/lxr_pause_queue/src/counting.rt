@@ -8,12 +8,15 @@ ghost use Rattle.lxr_layout.specs.declared.TheConstants.{GRANULES_IN_BLOCK};
 ghost use Rattle.lxr_layout.specs.declared.Name.{Name as NameOf};
 ghost use Rattle.lxr_model.specs.Moments.{Moment};
 ghost use Rattle.lxr_image.specs.Spaces.{IsSpace, tables_of};
+ghost use Rattle.lxr_image_search.specs.Search.{AvoidsFree};
+ghost use Rattle.lxr_image_search.specs.declared.Wanted.TheVariants.{Object};
 ghost use Rattle.lxr_pause_queue.specs.Counting.{CanCount, CountsUnreclaimed};
 ghost use Rattle.lxr_pause_queue.specs.Entries.{count_told, entries_below, entry_at, with_counts};
 
 use lxr_base::take_bit;
 use lxr_graph::{Count, sort_by_name};
 use lxr_image::Space;
+use lxr_image_search::{Wanted, may_want};
 use lxr_layout::{Header, STUCK, unpack};
 
 /// A count as a report tells it: none where it is stuck.
@@ -51,15 +54,43 @@ fn add_word(space: &mut Space, at: u32)
     }
 }
 
+/// Adds those of the objects that begin in a block, 64 granules after another, where those before are told.
+fn add_words(space: &mut Space, block: u32)
+    requires space { IsSpace space.old }
+    requires block { block < space.old.limits.blocks }
+    requires room { GRANULES_IN_BLOCK * space.old.limits.blocks ≤ space.old.report.counts.room }
+    requires told { space.old.report.counts.items ≡ entries_below (tables_of space.old) (GRANULES_IN_BLOCK * block) }
+    ensures { space.new ≡ with_counts space.old (entries_below (tables_of space.old) (GRANULES_IN_BLOCK * (block + 1))) }
+{
+    for at in 32 * block..32 * block + 32 {
+        add_word(space, at);
+    }
+}
+
+/// Adds those of the objects that begin in a block, where it may have some. A block whose state is Free costs one read.
+fn add_block(space: &mut Space, block: u32)
+    requires space { IsSpace space.old }
+    requires free { AvoidsFree (tables_of space.old) Object }
+    requires block { block < space.old.limits.blocks }
+    requires room { GRANULES_IN_BLOCK * space.old.limits.blocks ≤ space.old.report.counts.room }
+    requires told { space.old.report.counts.items ≡ entries_below (tables_of space.old) (GRANULES_IN_BLOCK * block) }
+    ensures { space.new ≡ with_counts space.old (entries_below (tables_of space.old) (GRANULES_IN_BLOCK * (block + 1))) }
+{
+    if may_want(space, Wanted::Object, block) {
+        add_words(space, block);
+    }
+}
+
 /// Adds the name and the count of each unreclaimed object, as they stand in the heap.
 fn add_counts(space: &mut Space)
     requires space { IsSpace space.old }
+    requires free { AvoidsFree (tables_of space.old) Object }
     requires empty { space.old.report.counts.items ≡ [] }
     requires room { GRANULES_IN_BLOCK * space.old.limits.blocks ≤ space.old.report.counts.room }
     ensures { space.new ≡ with_counts space.old (entries_below (tables_of space.old) (GRANULES_IN_BLOCK * space.old.limits.blocks)) }
 {
-    for at in 0..32 * space.limits.blocks {
-        add_word(space, at);
+    for block in 0..space.limits.blocks {
+        add_block(space, block);
     }
 }
 

@@ -1,8 +1,9 @@
--- All marks and grays are taken away, word by word.
-use Rattle.std.proofs.Common.{◌≡◌, ℕ, ◌+◌, ◌*◌, ◌/◌, ◌≤◌, refl, sym, ap, ◌∙◌, arith, lit<, Bool, true, false, cond, List, []}
-use Rattle.std.specs.Prelude.{◌==◌, if◌then◌else◌, nat_lt, slice_index, slice_index_or}
+-- All marks and grays are taken away, block by block, and in a block word by word.
+use Rattle.std.proofs.Common.{◌≡◌, ℕ, ◌+◌, ◌*◌, ◌/◌, ◌≤◌, refl, sym, ap, ◌∙◌, arith, lit<, Bool, true, false, cond, List, [], ◌≢◌, inl, inr, ◌⊎◌}
+use Rattle.std.specs.Prelude.{◌==◌, if◌then◌else◌, nat_lt, slice_index, slice_index_or, nat_le, ◌&&◌, IsTrue}
 use Rattle.std.proofs.Math.ListN.{get_or-eq_default}
-use Rattle.std.proofs.lemmas.Bool.Decides.{nat_tests}
+use Rattle.std.proofs.lemmas.Bool.{false_from_ne_true}
+use Rattle.std.proofs.lemmas.Bool.Decides.{nat_tests, eqb_tells}
 use Rattle.lxr_layout.specs.declared.TheConstants.{GRANULES_IN_BLOCK}
 use Rattle.lxr_layout.specs.declared.limits.Limits.{Limits}
 use Rattle.lxr_layout.specs.Spaces.{all_regions, region_begin, region_sizes}
@@ -11,6 +12,9 @@ use Rattle.lxr_image.specs.declared.space.Space.{Space}
 use Rattle.lxr_image.specs.Spaces.{IsSpace, Turns, tables_of}
 use Rattle.lxr_image.specs.Tables.{Tables, cut, tables_in}
 use Rattle.lxr_image.proofs.RegionLemmas.{length_region_table}
+use Rattle.lxr_blocks.specs.declared.states.BlockState.TheVariants.{Free}
+use Rattle.lxr_blocks.specs.States.{state_in, state_of}
+use Rattle.lxr_pause_trace.specs.Clearing.{MarksAvoidFree, without_marks_of}
 
 -- past the heap nothing is marked, and nothing is gray
 pub no_mark_past : (l : Limits) (ws : List ℕ) (k : ℕ) → (tables_in l ws).size ≡ region_begin l all_regions → GRANULES_IN_BLOCK * l.blocks ≤ k → (tables_in l ws).marks k ≡ false
@@ -40,8 +44,8 @@ with_clear t end = record t { marks = cleared_behind t.marks end; grays = cleare
 none_clear : (f : ℕ → Bool) (k : ℕ) → cleared_behind f 0 k ≡ f k
 none_clear f k = let e : nat_lt k 0 ≡ false = grind (arith, nat_tests) in ap (λ b. cond b false (f k)) e
 
-word_clear : (f : ℕ → Bool) (at k : ℕ) → (if k / 64 == at then false else cleared_behind f (64 * at) k) ≡ cleared_behind f (64 * (at + 1)) k
-word_clear f at k = grind (arith, nat_tests)
+block_clear : (f : ℕ → Bool) (b k : ℕ) → (if k / GRANULES_IN_BLOCK == b then false else cleared_behind f (GRANULES_IN_BLOCK * b) k) ≡ cleared_behind f (GRANULES_IN_BLOCK * (b + 1)) k
+block_clear f b k = grind (arith, nat_tests)
 
 all_clear : (f : ℕ → Bool) (end : ℕ) → ((k : ℕ) → end ≤ k → f k ≡ false) → (k : ℕ) → cleared_behind f end k ≡ false
 all_clear f end past k = elim (nat_lt k end) as (λ x. nat_lt k end ≡ x → cond x false (f k) ≡ false) [
@@ -52,14 +56,11 @@ all_clear f end past k = elim (nat_lt k end) as (λ x. nat_lt k end ≡ x → co
 pub clear_begin : (s : Space) → Turns s s (with_clear (tables_of s) 0)
 clear_begin s = record { tables = λ i. record (tables_of s) { marks = λ k. sym (none_clear (tables_of s).marks k) i; grays = λ k. sym (none_clear (tables_of s).grays k) i }; rest = refl }
 
-pub clear_more : (s a b c : Space) (at : ℕ) → Turns s a (with_clear (tables_of s) (64 * at))
-    → Turns a b (record (tables_of a) { marks = λ k. if k / 64 == at then false else (tables_of a).marks k })
-    → Turns b c (record (tables_of b) { grays = λ k. if k / 64 == at then false else (tables_of b).grays k }) → Turns s c (with_clear (tables_of s) (64 * (at + 1)))
-clear_more s a b c at before marks grays = record {
-  tables = grays.tables ∙ ap {A = Tables} (λ t. record t { grays = λ k. if k / 64 == at then false else t.grays k }) marks.tables
-      ∙ ap {A = Tables} (λ t. record t { marks = λ k. if k / 64 == at then false else t.marks k; grays = λ k. if k / 64 == at then false else t.grays k }) before.tables
-      ∙ (λ i. record (tables_of s) { marks = λ k. word_clear (tables_of s).marks at k i; grays = λ k. word_clear (tables_of s).grays at k i });
-  rest = grays.rest ∙ ap {A = Space} (λ z. record z { words = c.words }) marks.rest ∙ ap {A = Space} (λ z. record z { words = c.words }) before.rest;
+pub clear_more : (s a c : Space) (b : ℕ) → Turns s a (with_clear (tables_of s) (GRANULES_IN_BLOCK * b)) → Turns a c (without_marks_of (tables_of a) b) → Turns s c (with_clear (tables_of s) (GRANULES_IN_BLOCK * (b + 1)))
+clear_more s a c b before one = record {
+  tables = one.tables ∙ ap {A = Tables} (λ t. without_marks_of t b) before.tables
+      ∙ (λ i. record (tables_of s) { marks = λ k. block_clear (tables_of s).marks b k i; grays = λ k. block_clear (tables_of s).grays b k i });
+  rest = one.rest ∙ ap {A = Space} (λ z. record z { words = c.words }) before.rest;
 }
 
 pub clear_end : (s b : Space) (end : ℕ) → IsSpace s → end ≡ GRANULES_IN_BLOCK * s.limits.blocks → Turns s b (with_clear (tables_of s) end)
@@ -71,3 +72,69 @@ clear_end s b end space is turns = record {
   });
   rest = turns.rest;
 }
+
+-- ---- one block
+
+-- the bits from one on and below another are clear
+abbrev cleared_from : (ℕ → Bool) → ℕ → ℕ → ℕ → Bool
+cleared_from f from end k = if nat_le from k && nat_lt k end then false else f k
+
+-- the tables whose marks and grays are, from the first granule of a block on
+abbrev pub with_clear_from : Tables → ℕ → ℕ → Tables
+with_clear_from t b at = record t { marks = cleared_from t.marks (GRANULES_IN_BLOCK * b) (64 * at); grays = cleared_from t.grays (GRANULES_IN_BLOCK * b) (64 * at) }
+
+none_from : (f : ℕ → Bool) (b k : ℕ) → f k ≡ cleared_from f (GRANULES_IN_BLOCK * b) (64 * (32 * b)) k
+none_from f b k = grind (arith, nat_tests)
+
+word_from : (f : ℕ → Bool) (b at k : ℕ) → 32 * b ≤ at → (if k / 64 == at then false else cleared_from f (GRANULES_IN_BLOCK * b) (64 * at) k) ≡ cleared_from f (GRANULES_IN_BLOCK * b) (64 * (at + 1)) k
+word_from f b at k from = grind (arith, nat_tests)
+
+all_from : (f : ℕ → Bool) (b k : ℕ) → cleared_from f (GRANULES_IN_BLOCK * b) (64 * (32 * b + 32)) k ≡ (if k / GRANULES_IN_BLOCK == b then false else f k)
+all_from f b k = grind (arith, nat_tests)
+
+pub words_begin : (s : Space) (b : ℕ) → Turns s s (with_clear_from (tables_of s) b (32 * b))
+words_begin s b = record { tables = λ i. record (tables_of s) { marks = λ k. none_from (tables_of s).marks b k i; grays = λ k. none_from (tables_of s).grays b k i }; rest = refl }
+
+pub words_more : (s a m c : Space) (b at : ℕ) → 32 * b ≤ at → Turns s a (with_clear_from (tables_of s) b at)
+    → Turns a m (record (tables_of a) { marks = λ k. if k / 64 == at then false else (tables_of a).marks k })
+    → Turns m c (record (tables_of m) { grays = λ k. if k / 64 == at then false else (tables_of m).grays k }) → Turns s c (with_clear_from (tables_of s) b (at + 1))
+words_more s a m c b at from before marks grays = record {
+  tables = grays.tables ∙ ap {A = Tables} (λ t. record t { grays = λ k. if k / 64 == at then false else t.grays k }) marks.tables
+      ∙ ap {A = Tables} (λ t. record t { marks = λ k. if k / 64 == at then false else t.marks k; grays = λ k. if k / 64 == at then false else t.grays k }) before.tables
+      ∙ (λ i. record (tables_of s) { marks = λ k. word_from (tables_of s).marks b at k from i; grays = λ k. word_from (tables_of s).grays b at k from i });
+  rest = grays.rest ∙ ap {A = Space} (λ z. record z { words = c.words }) marks.rest ∙ ap {A = Space} (λ z. record z { words = c.words }) before.rest;
+}
+
+pub words_end : (s c : Space) (b at : ℕ) → at ≡ 32 * b + 32 → Turns s c (with_clear_from (tables_of s) b at) → Turns s c (without_marks_of (tables_of s) b)
+words_end s c b at end turns = record {
+  tables = turns.tables ∙ ap (with_clear_from (tables_of s) b) end ∙ (λ i. record (tables_of s) { marks = λ k. all_from (tables_of s).marks b k i; grays = λ k. all_from (tables_of s).grays b k i });
+  rest = turns.rest;
+}
+
+-- a block whose state is Free has neither marks nor grays
+pub clear_free : (s : Space) (b : ℕ) → MarksAvoidFree (tables_of s) → state_in (tables_of s) b ≡ Free → Turns s s (without_marks_of (tables_of s) b)
+clear_free s b avoid free = record {
+  tables = λ i. record (tables_of s) {
+    marks = λ k. none (tables_of s).marks k (λ h. avoid k (inl h)) i;
+    grays = λ k. none (tables_of s).grays k (λ h. avoid k (inr h)) i;
+  };
+  rest = refl;
+}
+  where
+    none : (f : ℕ → Bool) (k : ℕ) → (IsTrue (f k) → state_in (tables_of s) (k / GRANULES_IN_BLOCK) ≢ Free) → f k ≡ (if k / GRANULES_IN_BLOCK == b then false else f k)
+    none f k used = elim (eqb_tells (k / GRANULES_IN_BLOCK) b) [
+      | inl e ↦ false_from_ne_true (f k) (λ h. used h (ap (state_in (tables_of s)) e.1 ∙ free)) ∙ sym (ap (λ x. if x then false else f k) e.0)
+      | inr e ↦ sym (ap (λ x. if x then false else f k) e.0)
+    ]
+
+-- so it stays while bits are cleared
+pub marks_avoid_still : (a b : Space) (end : ℕ) → Turns a b (with_clear (tables_of a) end) → MarksAvoidFree (tables_of a) → MarksAvoidFree (tables_of b)
+marks_avoid_still a b end turns avoid k some free =
+    avoid k (elim some [
+      | inl h ↦ inl (was (tables_of a).marks (nat_lt k end) (sym (ap (λ t. t.marks k) turns.tables) ∙ h))
+      | inr h ↦ inr (was (tables_of a).grays (nat_lt k end) (sym (ap (λ t. t.grays k) turns.tables) ∙ h))
+    ]) (sym (ap (λ t. state_of (t.states (k / GRANULES_IN_BLOCK))) turns.tables) ∙ free)
+  where
+    was : (f : ℕ → Bool) (past : Bool) → IsTrue (if past then false else f k) → IsTrue (f k)
+    was f true h = absurd (let no : false ≡ true = h in cc)
+    was f false h = h

@@ -14,6 +14,7 @@ use Rattle.lxr_invariant.specs.Standing.{AreLogged, HasBits}
 use Rattle.lxr_invariant.specs.Lines.{HasBlocks}
 use Rattle.lxr_invariant.specs.Quiescent.{HoldsMoment}
 use Rattle.lxr_invariant.proofs.FrameLemmas.{AreAsMany, blocks_still, counts_still, decrements_still, imaged_left, marks_still, out_still, rest_left, unchosen_still}
+use Rattle.lxr_invariant.proofs.UnusedLemmas.{unused_still}
 use Rattle.lxr_pause_trace.proofs.EnteringLemmas.{with_found_of}
 
 -- bits with other marks and grays, which stand at objects
@@ -64,6 +65,7 @@ holds_remarked s after m at same tables marks grays is =
       marks = marks_still t u m.state.graph at m.unreclaimed counts is.marks;
       lines = out_still t u m.state.graph at m.made outs is.lines;
       unchosen = unchosen_still t u at m.made states is.unchosen;
+      unused = unused_still t u at m.unreclaimed m.unreclaimed states outs itself is.unused;
       blocks = subst (λ l. HasBlocks u l.blocks m.trace) (sym limits) (blocks_still t u s.limits.blocks m.trace states tracing is.blocks);
       rest = rest_left s after m at m.unreclaimed itself (ap (λ z. z.rest_next) same) (ap (λ z. z.rest_end) same) limits outs states is.rest;
       no_work = ap (λ z. z.work.items) same ∙ is.no_work;

@@ -29,6 +29,7 @@ use Rattle.lxr_invariant.proofs.PlaceLemmas.{granules_differ}
 use Rattle.lxr_pause_trace.specs.Marking.{IsLeft, IsTraceable, RefersAt}
 use Rattle.lxr_pause_trace.specs.Marking as placed
 use Rattle.lxr_pause_trace.specs.Tracing.{CanTrace}
+use Rattle.lxr_invariant.proofs.UnusedLemmas.{starts_used}
 
 -- where something is read by a header, a start bit stands
 start_of : (t : Tables) (p i q : ℕ) → field_at t p i ≡ Some q → (1 ≤ p) × IsTrue (t.starts (granule_of p))
@@ -115,6 +116,7 @@ module _ (s : Space) (m : Moment) (at : Name → ℕ) (can : CanTrace s m at) wh
         let v = refers_named u.0 q u.1 (subst (λ z. RefersAt t z q) (sym u.2) refers) in
         subst (λ z. IsTrue (t.starts (granule_of z))) v.2 (can.holds.bits.starts.each v.0 (refers_kept u.0 v.0 u.1 v.1));
     grays = can.holds.bits.grays;
+    used = starts_used s m at can.holds;
   }
 
   -- ---- what is left to mark

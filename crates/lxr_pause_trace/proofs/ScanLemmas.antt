@@ -1,5 +1,5 @@
 -- The worklist is emptied: an object is taken out, and one reference of it after another is found.
-use Rattle.std.proofs.Common.{◌≡◌, ◌≢◌, ℕ, ◌+◌, ◌-◌, ◌*◌, ◌^◌, ◌<◌, ◌≤◌, refl, sym, ap, subst, ◌∙◌, inl, inr, ◌⊎◌, arith, Bool, true, false, [], ◌∷◌, ◌++◌, IsTrue, length, length-append}
+use Rattle.std.proofs.Common.{◌≡◌, ◌≢◌, ℕ, ◌+◌, ◌-◌, ◌*◌, ◌^◌, ◌<◌, ◌≤◌, refl, sym, ap, subst, ◌∙◌, inl, inr, ◌⊎◌, arith, Bool, true, false, [], ◌∷◌, ◌++◌, IsTrue, length, length-append, ◌/◌}
 use Rattle.std.specs.Prelude.{not, ◌&&◌, Some}
 use Rattle.std.specs.List.{Contains}
 use Rattle.std.proofs.lemmas.Bool.Decides.{eqb_tells, leb_tells}
@@ -12,13 +12,15 @@ use Rattle.lxr_image.specs.declared.space.Space.{Space}
 use Rattle.lxr_image.specs.Spaces.{tables_of}
 use Rattle.lxr_image.specs.Reads.{field_at, granule_of}
 use Rattle.lxr_image_search.specs.declared.Wanted.TheVariants.{ToScan}
-use Rattle.lxr_image_search.specs.Search.{IsNextWanted, NoneWanted}
+use Rattle.lxr_image_search.specs.Search.{IsNextWanted, NoneWanted, AvoidsFree}
 use Rattle.lxr_invariant.proofs.EntryLemmas.{passing_one_more}
 use Rattle.lxr_pause_trace.specs.Marking.{Finds, IsDue, IsMarking, IsOver, IsScanning, IsSeen, IsWaiting, MarkingStage, WaitOnce, granules, slots_at, waiting_slots}
 use Rattle.lxr_pause_trace.proofs.DrawnLemmas.{drawn_fewer, not_before, once_before}
 use Rattle.lxr_pause_trace.proofs.LeftLemmas.{due_start, field_place, field_read, field_within, left_start, started_place}
 use Rattle.lxr_pause_trace.proofs.MarkingLemmas.{found_stage, is_found, marks_grow, still_waits}
 use Rattle.lxr_pause_trace.proofs.SlotLemmas.{waiting_pushed}
+use Rattle.std.proofs.lemmas.Bool.{and_parts}
+use Rattle.lxr_blocks.specs.States.{state_of}
 
 -- ---- what may be found
 
@@ -31,6 +33,17 @@ module _ (before s : Space) (end : ℕ) (pending : ℕ → ℕ → Type 0) (ahea
 
   pub due_place : (q : ℕ) → IsDue (tables_of before) q → (q ≤ granules s) × (q ≤ MOST_GRANULES)
   due_place q due = started_place s q stage.space due.placed (started_now (granule_of q) (due_start (tables_of before) before.limits.blocks stage.traceable q due))
+
+  -- what is gray stands outside blocks that are Free
+  pub grays_used : AvoidsFree (tables_of s) ToScan
+  grays_used k wanted free =
+      let gray = (and_parts ((tables_of s).grays k) (not ((tables_of s).marks k)) wanted).0 in
+      let due = stage.so_far.grays_due (k + 1) (omega arith) (ap (tables_of s).grays (next_granule k) ∙ gray) in
+      stage.traceable.used k (ap (tables_of before).starts (sym (next_granule k)) ∙ due_start (tables_of before) before.limits.blocks stage.traceable (k + 1) due)
+      (sym (ap (λ z. state_of (z.states (k / GRANULES_IN_BLOCK))) stage.tables) ∙ free)
+    where
+      next_granule : (k : ℕ) → granule_of (k + 1) ≡ k
+      next_granule k = omega arith
 
   -- where an object is unmarked the worklist has room
   pub due_room : (q : ℕ) → IsDue (tables_of before) q → (tables_of s).marks (granule_of q) ≡ false → length s.work.items < s.work.room

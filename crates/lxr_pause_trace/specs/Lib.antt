@@ -1,2 +1,3 @@
 pub mod Tracing
 pub mod Marking
+pub mod Clearing

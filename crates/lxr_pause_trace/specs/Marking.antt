@@ -1,5 +1,5 @@
 -- A trace by places: what is left to mark, and what holds while it is marked.
-use Rattle.std.specs.Prelude.{◌≡◌, ◌≢◌, ℕ, ◌+◌, ◌-◌, ◌*◌, ◌^◌, ◌<◌, ◌≤◌, ◌⊎◌, ⊤, not, Bool, true, false, Option, Some, None, List, [], ◌∷◌, IsTrue, length, slice_get, if◌then◌else◌}
+use Rattle.std.specs.Prelude.{◌≡◌, ◌≢◌, ℕ, ◌+◌, ◌-◌, ◌*◌, ◌/◌, ◌^◌, ◌<◌, ◌≤◌, ◌⊎◌, ⊤, not, Bool, true, false, Option, Some, None, List, [], ◌∷◌, IsTrue, length, slice_get, if◌then◌else◌}
 use Rattle.std.specs.List.{Contains}
 use Rattle.lxr_layout.specs.declared.TheConstants.{GRANULES_IN_BLOCK, REMEMBERED_CURSOR}
 use Rattle.lxr_layout.specs.declared.limits.Limits.{Limits}
@@ -12,6 +12,8 @@ use Rattle.lxr_image.specs.declared.space.Space.{Space}
 use Rattle.lxr_image.specs.Spaces.{IsSpace, tables_of}
 use Rattle.lxr_image.specs.Tables.{Tables, changed}
 use Rattle.lxr_image.specs.Reads.{StartsStandWhole, field_at, granule_of, header_at}
+use Rattle.lxr_blocks.specs.declared.states.BlockState.TheVariants.{Free}
+use Rattle.lxr_blocks.specs.States.{state_in}
 use Rattle.lxr_invariant.specs.Counting.{passing}
 use Rattle.lxr_invariant.specs.Lines.{NoneChosen, chosen_count}
 use Rattle.lxr_invariant.specs.Tracing.{HasOverflowed}
@@ -37,12 +39,13 @@ pub record IsDue (t : Tables) (q : ℕ) : Type 0 where
   pub placed : 1 ≤ q
   pub by : IsTrue (t.grays (granule_of q)) ⊎ ((p : ℕ) × IsLeft t p × RefersAt t p q)
 
--- what a trace reads: each object stands whole, each of its references is nil or holds an object's place, and what is gray is
--- an object
+-- what a trace reads: each object stands whole, and in no block whose state is Free, each of its references is nil or holds an object's
+-- place, and what is gray is an object
 pub record IsTraceable (t : Tables) (blocks : ℕ) : Type 0 where
   pub whole : StartsStandWhole t blocks
   pub closed : (p q : ℕ) → RefersAt t p q → IsTrue (t.starts (granule_of q))
   pub grays : (k : ℕ) → IsTrue (t.grays k) → IsTrue (t.starts k)
+  pub used : (k : ℕ) → IsTrue (t.starts k) → state_in t (k / GRANULES_IN_BLOCK) ≢ Free
 
 -- how many references an object has, by its header
 abbrev pub slots_in : Option Header → ℕ

@@ -3,19 +3,48 @@ ghost use Rattle.std.specs.Prelude.{◌≡◌, ℕ, ◌+◌, ◌<◌, false, len
 ghost use Rattle.lxr_layout.specs.declared.Name.{Name as NameOf};
 ghost use Rattle.lxr_image.specs.Spaces.{IsSpace, Turns, tables_of};
 ghost use Rattle.lxr_model.specs.Moments.{Moment};
+ghost use Rattle.lxr_pause_trace.specs.Clearing.{MarksAvoidFree, without_marks_of};
 ghost use Rattle.lxr_pause_trace.specs.Marking.{HoldPlaces, ShadesRegisters};
 ghost use Rattle.lxr_pause_trace.specs.Tracing.{BeginsTrace, CanTrace};
 
+use lxr_blocks::{BlockState, state};
 use lxr_image::Space;
 
-/// Takes all marks away and forgets all that was gray, a word of bits at a time.
-fn clear_bits(space: &mut Space)
-    requires { IsSpace space.old }
-    ensures { Turns space.old space.new (record (tables_of space.old) { marks = λ k. false; grays = λ k. false }) }
+/// Takes the marks of a block away and forgets what was gray in it, a word of bits at a time.
+fn clear_words(space: &mut Space, block: u32)
+    requires space { IsSpace space.old }
+    requires block { block < space.old.limits.blocks }
+    ensures { Turns space.old space.new (without_marks_of (tables_of space.old) block) }
 {
-    for at in 0..32 * space.limits.blocks {
+    for at in 32 * block..32 * block + 32 {
         space.clear_mark_word(at);
         space.clear_gray_word(at);
+    }
+}
+
+/// So for a block of any state. One whose state is Free has neither, and costs one read.
+fn clear_block(space: &mut Space, block: u32)
+    requires space { IsSpace space.old }
+    requires block { block < space.old.limits.blocks }
+    requires free { MarksAvoidFree (tables_of space.old) }
+    ensures { Turns space.old space.new (without_marks_of (tables_of space.old) block) }
+{
+    match state(space, block) {
+        BlockState::Free => {}
+        BlockState::Partly | BlockState::Whole | BlockState::Chosen | BlockState::World => {
+            clear_words(space, block);
+        }
+    }
+}
+
+/// Takes all marks away and forgets all that was gray.
+fn clear_bits(space: &mut Space)
+    requires space { IsSpace space.old }
+    requires free { MarksAvoidFree (tables_of space.old) }
+    ensures { Turns space.old space.new (record (tables_of space.old) { marks = λ k. false; grays = λ k. false }) }
+{
+    for block in 0..space.limits.blocks {
+        clear_block(space, block);
     }
 }
 

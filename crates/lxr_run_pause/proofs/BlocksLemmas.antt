@@ -1,15 +1,15 @@
 -- What the blocks are once some are chosen or released: block 0 alone is World, and no more than an eighth is Chosen.
-use Rattle.std.proofs.Common.{◌≡◌, ◌≢◌, ℕ, zero, suc, ◌+◌, ◌/◌, ◌<◌, ◌≤◌, refl, sym, ap, subst, ◌∙◌, inl, inr, arith, cond, true, false}
-use Rattle.std.specs.Prelude.{Option, Some, None}
+use Rattle.std.proofs.Common.{◌≡◌, ◌≢◌, ℕ, zero, suc, ◌+◌, ◌/◌, ◌<◌, ◌≤◌, refl, sym, ap, subst, ◌∙◌, inl, inr, arith, cond, true, false, ◌⊎◌}
+use Rattle.std.specs.Prelude.{Option, Some, None, ◌&&◌, if◌then◌else◌}
 use Rattle.lxr_layout.specs.declared.TheConstants.{REMEMBERED_CURSOR, TRACING_WORD}
 use Rattle.lxr_layout.specs.Spaces.{most_chosen}
 use Rattle.lxr_graph.specs.declared.report.Kind.{Kind}
 use Rattle.lxr_graph.specs.declared.report.Kind.TheVariants as kind
 use Rattle.lxr_image.specs.Tables.{Tables, changed}
-use Rattle.lxr_blocks.specs.declared.states.BlockState.TheVariants.{Chosen, World}
-use Rattle.lxr_blocks.specs.States.{KeepsState, is_fixed, state_in, state_of}
+use Rattle.lxr_blocks.specs.declared.states.BlockState.TheVariants.{Chosen, World, Free}
+use Rattle.lxr_blocks.specs.States.{KeepsState, is_fixed, state_in, state_of, state_by_lines, state_number}
 use Rattle.lxr_model.specs.Moments.{Trace}
-use Rattle.lxr_invariant.specs.Lines.{ChosenNeedTrace, HasBlocks, NoneChosen, tracing_word}
+use Rattle.lxr_invariant.specs.Lines.{ChosenNeedTrace, HasBlocks, NoneChosen, tracing_word, is_chosen}
 use Rattle.lxr_invariant.proofs.EntryLemmas.{changed_here, changed_other}
 use Rattle.lxr_evac_blocks.specs.Choosing.{AreChosen, is_sparse, sparse_before, with_choice}
 use Rattle.lxr_evac_blocks.specs.Releasing.{AreReleased, with_releases}
@@ -17,7 +17,9 @@ use Rattle.lxr_evac_blocks.proofs.ChosenLemmas.{choice_is_of_the_first}
 use Rattle.lxr_evac_blocks.proofs.ReleaseLemmas.{releases_leave_none}
 use Rattle.lxr_blocks.specs.Swept.{with_states_by_lines}
 use Rattle.lxr_run_pause.specs.Relocating.{ChoosesBlocks}
-use Rattle.lxr_run_pause.proofs.SweepLemmas.{as_many_chosen, by_lines_open, stays_chosen, swept_blocks, swept_states, was_chosen, which_state}
+use Rattle.lxr_run_pause.proofs.SweepLemmas.{as_many_chosen, by_lines_open, stays_chosen, swept_blocks, swept_states, was_chosen, which_state, swept_free}
+use Rattle.std.proofs.lemmas.Bool.Decides.{leb_tells}
+use Rattle.lxr_evac_blocks.proofs.TestLemmas.{not_below}
 
 -- ---- blocks that keep their states
 
@@ -97,6 +99,10 @@ module _ (t : Tables) (blocks : ℕ) where
       tracing = changed_here chosen_anew.cursors TRACING_WORD 1 TRACING_WORD refl;
     }
 
+    -- a block that is Free then was so, or is by its lines
+    pub begun_free : (b : ℕ) → state_in begun_anew b ≡ Free → (state_in t b ≡ Free) ⊎ (state_by_lines t b ≡ Free)
+    begun_free b free = swept_free t blocks b (sym (ap state_of (are_chosen.others b (λ c. let no : Free ≡ Chosen = sym free ∙ c in cc))) ∙ free)
+
     -- exactly the first sparse ones are Chosen
     pub begun_chosen : (before : Tables) → ChoosesBlocks kind.Begin before begun_anew blocks
     begun_chosen before b within =
@@ -126,6 +132,16 @@ module _ (t : Tables) (blocks : ℕ) where
       | inl w ↦ sym (ap state_of (are_released.others b (λ c. let e = sym w ∙ c in cc))) ∙ is
       | inr other ↦ sym (ap state_of (are_released.others b other.0)) ∙ is
     ]
+  ]
+
+  -- a block that is Free then was so, or is by its lines
+  pub released_free : (b : ℕ) → state_in released b ≡ Free → (state_in t b ≡ Free) ⊎ (state_by_lines t b ≡ Free)
+  released_free b free = elim (which_state (state_in t b)) [
+    | inl c ↦ elim (leb_tells blocks b) [
+      | inl past ↦ inl (sym (ap (λ x. state_of (if x && is_chosen (state_in t b) then state_number (state_by_lines t b) else t.states b)) (not_below b blocks past.1)) ∙ free)
+      | inr within ↦ inr (sym (are_released.by_lines b within.1 c) ∙ free)
+    ]
+    | inr q ↦ inl (sym (ap state_of (are_released.others b (elim q [ inl w ↦ (λ c. let no : World ≡ Chosen = sym w ∙ c in cc) | inr other ↦ other.0 ]))) ∙ free)
   ]
 
   released_world : (b : ℕ) → b < blocks → state_in t b ≢ World → state_in released b ≢ World

@@ -29,6 +29,10 @@ use Rattle.lxr_run_pause.specs.declared.Pace.{Pace}
 use Rattle.lxr_run_pause.specs.Deciding.{GraysLieInHeap, HasKind, TellsOfMarks, kind_of}
 use Rattle.lxr_run_pause.specs.Pausing.{CanPause}
 use Rattle.lxr_run_pause.specs.Settling.{SettlesCounts, TellsTheEnd}
+use Rattle.lxr_image_search.specs.declared.Wanted.TheVariants.{ToScan}
+use Rattle.lxr_image_search.specs.Search.{AvoidsFree}
+use Rattle.lxr_image_search.proofs.SearchLemmas.{avoids_by_starts}
+use Rattle.lxr_invariant.proofs.UnusedLemmas.{starts_used}
 
 -- ---- what can be decided
 
@@ -106,6 +110,10 @@ grays_in_heap s m at h k gray =
     let fits = there.2.whole.in_heap in
     let here = r.2 in
     omega (arith, fits, here)
+
+-- and outside blocks that are Free
+pub grays_used : (s : Space) (m : Moment) (at : Name → ℕ) → HoldsMoment s m at → AvoidsFree (tables_of s) ToScan
+grays_used s m at h = avoids_by_starts (tables_of s) ToScan (starts_used s m at h) h.bits.grays h.bits.dones
 
 -- a trace ends where one runs
 pub ends_running : (asked : Ask) (pace : Pace) (k : ℕ) (trace : Option Trace) (traced : Bool) (j : ℕ) → kind_of asked pace k trace traced ≡ kind.End j → (t : Trace) × (trace ≡ Some t)

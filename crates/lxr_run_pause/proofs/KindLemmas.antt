@@ -23,7 +23,7 @@ use Rattle.lxr_invariant.specs.AbstractState.{AbstractState}
 use Rattle.lxr_invariant.specs.Copied.{standing}
 use Rattle.lxr_invariant.specs.Counting.{IsUndecremented}
 use Rattle.lxr_invariant.specs.Keeping.{KeepsListsAndCounters}
-use Rattle.lxr_invariant.specs.Lines.{HasBlocks}
+use Rattle.lxr_invariant.specs.Lines.{HasBlocks, FreeAreUnused}
 use Rattle.lxr_invariant.specs.Quiescent.{HoldsMoment}
 use Rattle.lxr_invariant.specs.Tracing.{IsTracedBy, TraceHolds}
 use Rattle.lxr_invariant.proofs.EntryLemmas.{changed_other}
@@ -37,12 +37,13 @@ use Rattle.lxr_run_pause.specs.Settling.{Settles, SettlesCounts, counted}
 use Rattle.lxr_run_pause.specs.Tracing.{Begins, CanBegin, SetsTrace, drained, word_of_trace}
 use Rattle.lxr_run_pause.specs.Pausing.{BeginsTracing, CanPause, KeepsThroughPause, Traces}
 use Rattle.lxr_run_pause.specs.Relocating.{ChoosesBlocks}
-use Rattle.lxr_run_pause.proofs.BlocksLemmas.{begun_anew, begun_blocks, begun_chosen, begun_cursor, chosen_before, chosen_then, none_remembered}
+use Rattle.lxr_run_pause.proofs.BlocksLemmas.{begun_anew, begun_blocks, begun_chosen, begun_cursor, chosen_before, chosen_then, none_remembered, begun_free}
 use Rattle.lxr_run_pause.proofs.BuildingLemmas.{AreParts, KeepsThroughTracing, leads, now, report, settles_there, with_kind}
 use Rattle.lxr_run_pause.proofs.FrameLemmas.{IsReworded, holds_of_kind, holds_then, undecremented_then}
 use Rattle.lxr_run_pause.proofs.RememberedLemmas.{same_both}
 use Rattle.lxr_run_pause.proofs.TracedLemmas.{trace_still, traces_still}
 use Rattle.lxr_run_pause.proofs.TracingLemmas.{KeepsButMarks, kept_cursor, keeps_begun, settled_left}
+use Rattle.lxr_invariant.proofs.UnusedLemmas.{unused_by_lines}
 
 -- ---- small facts
 
@@ -322,7 +323,10 @@ module _ (s k : Space) (g : AbstractState) (can : CanPause s g) (at' : Name → 
 
     begin_holds : HoldsMoment x (record left { trace = Some fresh }) at'
     begin_holds = holds_then begun x began is_reworded left (Some fresh) at' refl (inl begin_rest)
-        (subst (λ t. HasBlocks t begun.limits.blocks (Some fresh)) (sym tables_are) (begun_blocks (tables_of begun) begun.limits.blocks blocks_begun fresh)) begins.begins.holds
+        (subst (λ t. HasBlocks t begun.limits.blocks (Some fresh)) (sym tables_are) (begun_blocks (tables_of begun) begun.limits.blocks blocks_begun fresh))
+        (subst (λ t. FreeAreUnused t at' left.unreclaimed) (sym tables_are)
+        (unused_by_lines (tables_of begun) (begun_anew (tables_of begun) begun.limits.blocks) at' left.unreclaimed refl (begun_free (tables_of begun) begun.limits.blocks blocks_begun) begun_undecremented.positive begins.begins.holds.unused))
+        begins.begins.holds
 
     begin_traced : TraceHolds x.limits (tables_of x) [] (at_moment (standing g at') (record left { trace = Some fresh })) fresh
     begin_traced =

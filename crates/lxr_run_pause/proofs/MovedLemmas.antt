@@ -32,7 +32,7 @@ use Rattle.lxr_model.proofs.ReachableLemmas.{dead_parts, promoted_made}
 use Rattle.lxr_model_counting.proofs.DistinctLemmas.{tested}
 use Rattle.lxr_invariant.specs.AbstractState.{AbstractState, members}
 use Rattle.lxr_invariant.specs.Copied.{CopiesLieApart, HasCopy, HasWord, StayForWantOfLines}
-use Rattle.lxr_invariant.specs.Lines.{HasBlocks, NoneChosen}
+use Rattle.lxr_invariant.specs.Lines.{HasBlocks, NoneChosen, FreeAreUnused}
 use Rattle.lxr_invariant.specs.Quiescent.{HoldsMoment}
 use Rattle.lxr_invariant.specs.Tracing.{HasOverflowed, IsInChosen, IsToBeMarked, IsUnmarked}
 use Rattle.lxr_invariant.specs.Tracing as to_mark
@@ -52,7 +52,7 @@ use Rattle.lxr_run_pause.specs.Tracing.{CanEnd, Ends, drained}
 use Rattle.lxr_run_pause.specs.Pausing.{CanPause, DrawsByKind, IsLetGo, KeepsThroughPause, SameRemembered, Traces, WasLeftToMark}
 use Rattle.lxr_run_pause.proofs.DrawingLemmas.{into_chosen}
 use Rattle.lxr_run_pause.specs.Relocating.{Evacuates, IsEvacuee, IsSnapshotOf, Relocates, rememberable_by}
-use Rattle.lxr_run_pause.proofs.BlocksLemmas.{blocks_set, chosen_alike, chosen_before, chosen_then, none_released, released_blocks, was_so}
+use Rattle.lxr_run_pause.proofs.BlocksLemmas.{blocks_set, chosen_alike, chosen_before, chosen_then, none_released, released_blocks, was_so, released_free}
 use Rattle.lxr_run_pause.proofs.BuildingLemmas.{AreParts, KeepsThroughTracing, kept_alive, leads, now, report, settles, stay_then, with_kind}
 use Rattle.lxr_run_pause.proofs.EvacuatingLemmas.{copy_from, copy_to, covers_at, field_word_of, first_granule_of, first_word_of, free_off, granule_of_word, one_of_two, word_at}
 use Rattle.lxr_invariant.proofs.ToldLemmas.{holds_told}
@@ -65,6 +65,7 @@ use Rattle.lxr_run_pause.proofs.TracingLemmas.{KeepsButMarks, can_trace, end_rem
 use Rattle.lxr_pause_trace.specs.Tracing.{CanTrace}
 use Rattle.lxr_pause_trace.proofs.NamedLemmas.{to_be_kept}
 use Rattle.lxr_pause_trace_laws.proofs.GranuleLemmas.{one_name}
+use Rattle.lxr_invariant.proofs.UnusedLemmas.{unused_by_lines}
 
 -- a snapshot of a trace is that of the trace that goes on
 snapshot_on : (m : Moment) (r : PauseReport) (trace : Option Trace) (running : Trace) (snapshot : List Name) → going_on m r trace ≡ Some running → IsSnapshotOf trace snapshot → IsSetOf snapshot (Reachable running.state)
@@ -516,6 +517,9 @@ module _ (s k : Space) (g : AbstractState) (can : CanPause s g) (at' : Name → 
       (subst (λ t. HasBlocks t ends.evacuated.limits.blocks None) (sym tables_ended)
       (blocks_set (with_releases te ends.evacuated.limits.blocks) ends.evacuated.limits.blocks 0 last.trace None refl (none_released te ends.evacuated.limits.blocks)
       (released_blocks te ends.evacuated.limits.blocks last.trace moves.holds.blocks)))
+      (subst (λ t. FreeAreUnused t to last.unreclaimed) (sym tables_ended)
+      (unused_by_lines te (record (with_releases te ends.evacuated.limits.blocks) { cursors = changed te.cursors TRACING_WORD 0 }) to last.unreclaimed refl (released_free te ends.evacuated.limits.blocks)
+      moves.undecremented.positive moves.holds.unused))
       tallied_holds
 
   -- where no block was Chosen, nothing was remembered

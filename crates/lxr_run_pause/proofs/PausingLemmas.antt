@@ -32,7 +32,7 @@ use Rattle.lxr_blocks.specs.Swept.{with_states_by_lines}
 use Rattle.lxr_invariant.specs.AbstractState.{AbstractState, paused}
 use Rattle.lxr_invariant.specs.Copied.{HasCopy}
 use Rattle.lxr_invariant.specs.Counting.{IsUndecremented}
-use Rattle.lxr_invariant.specs.Lines.{HasBlocks, HasStates, NoneChosen}
+use Rattle.lxr_invariant.specs.Lines.{HasBlocks, HasStates, NoneChosen, FreeAreUnused}
 use Rattle.lxr_invariant.specs.Tracing.{IsTracedBy}
 use Rattle.lxr_invariant.specs.Quiescent.{HasNumbers, HoldsMoment, IsQuiescent}
 use Rattle.lxr_invariant.proofs.BlockLemmas.{none_counted}
@@ -55,7 +55,8 @@ use Rattle.lxr_run_pause.proofs.FrameLemmas.{AgreesApartFromBlocks, holds_renumb
 use Rattle.lxr_run_pause.proofs.RelocatingLemmas.{evacuates_still, relocates_still}
 use Rattle.lxr_run_pause.proofs.RememberedLemmas.{same_both}
 use Rattle.lxr_run_pause.proofs.TracedLemmas.{traced_still, traces_still}
-use Rattle.lxr_run_pause.proofs.SweepLemmas.{lines_kept, swept_blocks, swept_past, swept_states, was_chosen}
+use Rattle.lxr_run_pause.proofs.SweepLemmas.{lines_kept, swept_blocks, swept_past, swept_states, was_chosen, swept_free}
+use Rattle.lxr_invariant.proofs.UnusedLemmas.{unused_by_lines}
 
 -- a remembered set that stays is left as a pause of its kind leaves it
 leaves_swept : (k : Kind) (t u v : Tables) (blocks : ℕ) → SameRemembered u v → LeavesRemembered k t u blocks → LeavesRemembered k t v blocks
@@ -104,7 +105,9 @@ module _ (s x : Space) (g : AbstractState) (asked : Ask) (pace : Pace) (can : Ca
   holds_swept : HoldsMoment swept leads at'
   holds_swept = holds_reworded x words x.trace leads leads.number leads.stuck leads.trace at' agree (λ n. refl) refl
       (rest_reworded x words x.trace agree (λ b e. was_chosen t x.limits.blocks b (subst (λ z. state_in z b ≡ Chosen) tables e)) settles.holds.rest.rest)
-      (subst (λ z. HasBlocks z x.limits.blocks leads.trace) (sym tables) (swept_blocks t x.limits.blocks leads.trace settles.holds.blocks)) settles.holds
+      (subst (λ z. HasBlocks z x.limits.blocks leads.trace) (sym tables) (swept_blocks t x.limits.blocks leads.trace settles.holds.blocks))
+      (subst (λ z. FreeAreUnused z at' leads.unreclaimed) (sym tables)
+      (unused_by_lines t (with_states_by_lines t x.limits.blocks) at' leads.unreclaimed refl (swept_free t x.limits.blocks) settles.undecremented.positive settles.holds.unused)) settles.holds
 
   swept_undecremented : IsUndecremented (tables_of swept) leads at'
   swept_undecremented = undecremented_reworded x words x.trace leads leads.number leads.stuck leads.trace at' agree (λ n. refl) settles.undecremented

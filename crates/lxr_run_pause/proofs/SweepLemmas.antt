@@ -96,6 +96,19 @@ module _ (t : Tables) (blocks : ℕ) where
     ]
   ]
 
+  -- a block that is Free then was so, or is by its lines
+  pub swept_free : (b : ℕ) → state_in swept b ≡ Free → (state_in t b ≡ Free) ⊎ (state_by_lines t b ≡ Free)
+  swept_free b is = elim (which_state (state_in t b)) [
+    | inl c ↦ absurd (let k = are_swept.chosen b c in cc)
+    | inr q ↦ elim q [
+      | inl w ↦ absurd (let k = are_swept.world b w in cc)
+      | inr other ↦ elim (leb_tells blocks b) [
+        | inl past ↦ inl (sym (ap state_of (are_swept.past b past.1)) ∙ is)
+        | inr within ↦ inr (sym (are_swept.lines b) ∙ sym (are_swept.by_lines b within.1 other.0 other.1) ∙ is)
+      ]
+    ]
+  ]
+
   pub swept_past : (b : ℕ) → blocks ≤ b → swept.states b ≡ t.states b
   swept_past b high = are_swept.past b high
 

@@ -21,7 +21,7 @@ use Rattle.lxr_model.proofs.ReachableLemmas.{dead_parts}
 use Rattle.lxr_model_counting.specs.Garbage.{IsGarbageOf}
 use Rattle.lxr_model_counting.proofs.DistinctLemmas.{tested}
 use Rattle.lxr_invariant.specs.AbstractState.{AbstractState, members}
-use Rattle.lxr_invariant.specs.Lines.{HasBlocks, NoneChosen}
+use Rattle.lxr_invariant.specs.Lines.{HasBlocks, NoneChosen, FreeAreUnused}
 use Rattle.lxr_invariant.specs.Quiescent.{HoldsMoment}
 use Rattle.lxr_invariant.specs.Tracing.{IsMarked}
 use Rattle.lxr_invariant.proofs.EntryLemmas.{changed_other}
@@ -224,6 +224,7 @@ module _ (s k : Space) (g : AbstractState) (can : CanPause s g) (at' : Name → 
   collect_holds : HoldsMoment x collect_lead at'
   collect_holds = holds_then cleared_there x None collect_reworded collect_last None at' refl (inl collect_rest)
       (subst (λ t. HasBlocks t cleared_there.limits.blocks None) (sym collects.sets.tables) (blocks_set (tables_of cleared_there) cleared_there.limits.blocks 0 collect_last.trace None refl unchosen_then collects.sweeps.holds.blocks))
+      (subst (λ t. FreeAreUnused t at' collect_last.unreclaimed) (sym collects.sets.tables) (record { objects = collects.sweeps.holds.unused.objects; outs = collects.sweeps.holds.unused.outs }))
       collects.sweeps.holds
 
   -- once blocks are released nothing is remembered any more

@@ -17,7 +17,7 @@ use Rattle.lxr_model.specs.Reachable.{Reachable}
 use Rattle.lxr_model_counting.specs.Garbage.{IsGarbageOf}
 use Rattle.lxr_invariant.specs.AbstractState.{AbstractState}
 use Rattle.lxr_invariant.specs.Counting.{IsUndecremented, passing}
-use Rattle.lxr_invariant.specs.Lines.{HasBlocks}
+use Rattle.lxr_invariant.specs.Lines.{HasBlocks, FreeAreUnused}
 use Rattle.lxr_invariant.specs.Quiescent.{HoldsMoment}
 use Rattle.lxr_invariant.specs.Settled.{IsSettled}
 use Rattle.lxr_invariant.specs.Tracing.{IsTracedBy, TraceHolds}
@@ -34,9 +34,10 @@ use Rattle.lxr_pause_trace.specs.Tracing.{BeginsTrace, CanFinishTrace, CanTrace,
 use Rattle.lxr_sweep_unmarked.specs.Sweeping.{CanSweep}
 use Rattle.lxr_run_pause.specs.Pausing.{KeepsObjects}
 use Rattle.lxr_run_pause.specs.Tracing.{CanDrain, CanEnd, drained}
-use Rattle.lxr_run_pause.proofs.BlocksLemmas.{released_blocks, was_so}
+use Rattle.lxr_run_pause.proofs.BlocksLemmas.{released_blocks, was_so, released_free}
 use Rattle.lxr_run_pause.proofs.FrameLemmas.{IsReworded, holds_then, rest_then}
 use Rattle.lxr_run_pause.proofs.RememberedLemmas.{changed_twice, remember_still, with_same}
+use Rattle.lxr_invariant.proofs.UnusedLemmas.{unused_by_lines}
 
 -- where nothing is done, nothing is asked of what is
 none_handled : (t : Tables) (m : Moment) (at : Name → ℕ) (trace : Option Trace) → IsUndecremented t m at → HandledAreTraced t m at trace
@@ -141,7 +142,10 @@ module _ (s : Space) (g : AbstractState) (can : CanDrain s g) where
       can_trace_released = record {
         holds = holds_then found released found.trace is_released left left.trace g.at can.settled.none_made
             (rest_then found released found.trace is_released (λ b e. was_so (tables_of found) found.limits.blocks b (subst (λ t. state_in t b ≡ Chosen) releases.tables e)) finishes.holds.rest.rest)
-            (subst (λ t. HasBlocks t found.limits.blocks left.trace) (sym releases.tables) (released_blocks (tables_of found) found.limits.blocks left.trace finishes.holds.blocks)) finishes.holds;
+            (subst (λ t. HasBlocks t found.limits.blocks left.trace) (sym releases.tables) (released_blocks (tables_of found) found.limits.blocks left.trace finishes.holds.blocks))
+            (subst (λ t. FreeAreUnused t g.at left.unreclaimed) (sym releases.tables)
+            (unused_by_lines (tables_of found) (with_releases (tables_of found) found.limits.blocks) g.at left.unreclaimed refl (released_free (tables_of found) found.limits.blocks) finishes.undecremented.positive finishes.holds.unused))
+            finishes.holds;
         settled = settled_left;
       }
 

@@ -21,8 +21,12 @@ use Rattle.lxr_run_pause.specs.Steps.{CanCountWhere, CountsWhere, HasDistinctNam
 use Rattle.lxr_run_pause.specs.Tracing.{HasTraced, MayTrace}
 use Rattle.lxr_run_pause.proofs.BuildingLemmas.{now}
 use Rattle.lxr_run_pause.proofs.AnyKindLemmas.{HasSettled, may_trace, settled_by_kind}
-use Rattle.lxr_run_pause.proofs.DecidingLemmas.{begins_where_none, ends_where_running, grays_in_heap, has_kind}
+use Rattle.lxr_run_pause.proofs.DecidingLemmas.{begins_where_none, ends_where_running, grays_in_heap, has_kind, grays_used}
 use Rattle.lxr_run_pause.proofs.PausingLemmas.{can_count_sorted, pauses}
+use Rattle.lxr_image_search.specs.declared.Wanted.TheVariants.{ToScan}
+use Rattle.lxr_image_search.specs.Search.{AvoidsFree}
+use Rattle.lxr_blocks.specs.States.{FreeBlocksAreFree}
+use Rattle.lxr_invariant.proofs.UnusedLemmas.{free_are_free}
 
 module _ (s k : Space) (g : AbstractState) (can : CanPause s g) (counts : (g : AbstractState) → CanPause s g → (at' : Name → ℕ) × (gone : List Name) × SettlesCounts s k g at' gone) where
   -- where objects stand once counting is done, and what died
@@ -40,6 +44,9 @@ module _ (s k : Space) (g : AbstractState) (can : CanPause s g) (counts : (g : A
 
   pub grays_lie : GraysLieInHeap k
   grays_lie = grays_in_heap k (counted g.moment gone k.report) counted_at settled.holds
+
+  pub grays_avoid : AvoidsFree (tables_of k) ToScan
+  grays_avoid = grays_used k (counted g.moment gone k.report) counted_at settled.holds
 
   module _ (asked : Ask) (pace : Pace) (is : Kind)
       (decides : (trace : Option Trace) (traced : Bool) → k.trace ≡ option_map (λ (trace : Trace). trace.began) trace → TellsOfMarks (tables_of k) trace traced → is ≡ kind_of asked pace k.report.number trace traced) where
@@ -65,6 +72,9 @@ module _ (s k : Space) (g : AbstractState) (can : CanPause s g) (counts : (g : A
 
       pub space_traced : IsSpace x
       space_traced = done.settles.holds.space
+
+      pub free_traced : FreeBlocksAreFree (tables_of x) x.limits.blocks
+      free_traced = free_are_free x (settled_by g.moment done.parts x.report) at' done.settles.holds
 
       module _ (swept : Space) (turns : Turns x swept (with_states_by_lines (tables_of x) x.limits.blocks)) where
         pub names_once : HasDistinctNames swept.report

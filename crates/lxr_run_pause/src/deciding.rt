@@ -2,6 +2,8 @@
 ghost use Rattle.std.specs.Prelude.{◌≡◌, ◌↔◌, Bool, Option, IsTrue};
 ghost use Rattle.std.specs.Option.{option_map};
 ghost use Rattle.lxr_image.specs.Spaces.{IsSpace, tables_of};
+ghost use Rattle.lxr_image_search.specs.Search.{AvoidsFree};
+ghost use Rattle.lxr_image_search.specs.declared.Wanted.TheVariants.{ToScan};
 ghost use Rattle.lxr_model.specs.Moments.{Trace};
 ghost use Rattle.lxr_pause_trace_laws.specs.Laws.{AllGrayAreMarked};
 ghost use Rattle.lxr_run_pause.specs.Deciding.{GraysLieInHeap, IsPace, TellsOfMarks, kind_along as is_along, kind_apart as is_apart, kind_of};
@@ -16,6 +18,7 @@ use lxr_image_search::{Wanted, next_wanted};
 fn all_marked(space: &Space) -> bool
     requires space { IsSpace space.now }
     requires heap { GraysLieInHeap space.now }
+    requires free { AvoidsFree (tables_of space.now) ToScan }
     ensures { IsTrue result ↔ AllGrayAreMarked (tables_of space.now) }
 {
     match next_wanted(space, Wanted::ToScan, 0) {
@@ -29,6 +32,7 @@ fn all_marked(space: &Space) -> bool
 fn kind_along(space: &Space, pace: Pace, began: u32) -> Kind
     requires space { IsSpace space.now }
     requires heap { GraysLieInHeap space.now }
+    requires free { AvoidsFree (tables_of space.now) ToScan }
     ensures { (trace : Trace) (traced : Bool) → trace.began ≡ began → (IsTrue traced ↔ AllGrayAreMarked (tables_of space.now)) → result ≡ is_along pace space.now.report.number trace traced }
 {
     let bound = u64::from(began) + u64::from(pace.within);
@@ -55,6 +59,7 @@ fn kind_apart(number: u32, pace: Pace) -> Kind
 pub(crate) fn decide_kind(space: &Space, ask: Ask, pace: Pace) -> Kind
     requires space { IsSpace space.now }
     requires heap { GraysLieInHeap space.now }
+    requires free { AvoidsFree (tables_of space.now) ToScan }
     requires pace { IsPace pace }
     ensures { (trace : Option Trace) (traced : Bool) → space.now.trace ≡ option_map (λ (trace : Trace). trace.began) trace → TellsOfMarks (tables_of space.now) trace traced
         → result ≡ kind_of ask pace space.now.report.number trace traced }

@@ -78,6 +78,7 @@ holds_without_rest s m at is = record {
   marks = is.marks;
   lines = is.lines;
   unchosen = is.unchosen;
+  unused = is.unused;
   blocks = is.blocks;
   rest = record { rest = inl refl; apart = λ n o k member covers. inr (omega arith) };
   no_work = is.no_work;

@@ -39,7 +39,7 @@ use Rattle.lxr_model_counting.proofs.FollowingLemmas.{call_follows}
 use Rattle.lxr_invariant.specs.AbstractState.{AbstractState, members}
 use Rattle.lxr_invariant.specs.Standing.{HasBits, entry_of}
 use Rattle.lxr_invariant.specs.Counting.{HasCounts, HasDecrements, IsUndecremented, undone, waiting_at}
-use Rattle.lxr_invariant.specs.Lines.{AvoidChosen, Covers, HasBlocks, HasMarks, HasStates, KeepLines, KeepsRest, LinesAreOut, OutsAreTaken}
+use Rattle.lxr_invariant.specs.Lines.{AvoidChosen, Covers, HasBlocks, HasMarks, HasStates, KeepLines, KeepsRest, LinesAreOut, OutsAreTaken, FreeAreUnused}
 use Rattle.lxr_invariant.specs.Tracing.{IsTracedBy}
 use Rattle.lxr_invariant.specs.Quiescent.{HoldsMoment, IsQuiescent}
 use Rattle.lxr_invariant.proofs.NameLemmas.{in_first, in_second, live_member}
@@ -254,6 +254,15 @@ module _ (space after : Space) (g : AbstractState) (thread dest : ℕ) (place : 
         (still_not (tables_of space) tables (granule_of (g.at q) / GRANULES_IN_BLOCK) Chosen refl (placed.states (granule_of (g.at q) / GRANULES_IN_BLOCK)) (is.safepoint.holds.unchosen q was))
   ]
 
+  -- blocks that are Free are unused still
+  unused_served : FreeAreUnused tables (places_then g thread p) g.moment.unreclaimed
+  unused_served =
+      let d = is.safepoint.holds in
+      record {
+        objects = λ q h free. d.unused.objects q h (placed.free (granule_of (g.at q) / GRANULES_IN_BLOCK) (ap (λ z. state_in tables (granule_of z / GRANULES_IN_BLOCK)) (sym (kept_at q h)) ∙ free)).0;
+        outs = λ line out free. let was = placed.free (line / LINES_IN_BLOCK) free in d.unused.outs line (was.1 line refl out) was.0;
+      }
+
   -- no decrementer has worked
   undecremented_served : IsUndecremented tables then (places_then g thread p)
   undecremented_served = record {
@@ -318,6 +327,7 @@ module _ (space after : Space) (g : AbstractState) (thread dest : ℕ) (place : 
         marks = subst (λ z. HasMarks z h to m.unreclaimed) (sym same) marks_served;
         lines = subst (λ z. LinesAreOut z h to then.made) (sym same) lines_out;
         unchosen = subst (λ z. AvoidChosen z to then.made) (sym same) made_unchosen;
+        unused = subst (λ z. FreeAreUnused z to m.unreclaimed) (sym same) unused_served;
         blocks = subst (λ z. HasBlocks z space.limits.blocks m.trace) (sym same) (blocks_kept (tables_of space) tables space.limits.blocks m.trace placed.states refl d.blocks);
         rest = rest_served;
         no_work = d.no_work;

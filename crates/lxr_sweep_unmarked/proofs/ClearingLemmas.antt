@@ -1,5 +1,5 @@
 -- Taking one unmarked object out takes out its name alone: what is left keeps its bits, marks and counts.
-use Rattle.std.proofs.Common.{◌≡◌, ◌≢◌, ℕ, ◌+◌, ◌*◌, ◌^◌, ◌<◌, refl, sym, ap, subst, ◌∙◌, inl, inr, arith, true, false, List, [], ◌∷◌, ◌++◌, IsTrue, length, length-append}
+use Rattle.std.proofs.Common.{◌≡◌, ◌≢◌, ℕ, ◌+◌, ◌*◌, ◌^◌, ◌<◌, refl, sym, ap, subst, ◌∙◌, inl, inr, arith, true, false, List, [], ◌∷◌, ◌++◌, IsTrue, length, length-append, ◌/◌}
 use Rattle.std.specs.Prelude.{Option, Some, map, not, reverse, slice_get}
 use Rattle.std.proofs.lemmas.List.{length-map, length-reverse, reverse-append}
 use Rattle.std.proofs.lemmas.Bool.{and_from, and_parts, not-true, not_from_false, or_cases, or_left, or_right}
@@ -20,7 +20,7 @@ use Rattle.lxr_image.specs.Spaces.{tables_of}
 use Rattle.lxr_image.specs.Reads.{granule_of}
 use Rattle.lxr_image.specs.Image.{place_word}
 use Rattle.lxr_image_search.specs.declared.Wanted.TheVariants.{Unmarked}
-use Rattle.lxr_image_search.specs.Search.{IsNextWanted, NoneWanted}
+use Rattle.lxr_image_search.specs.Search.{IsNextWanted, NoneWanted, AvoidsFree}
 use Rattle.lxr_model.specs.Moments.{Moment}
 use Rattle.lxr_model.specs.References.{references_from}
 use Rattle.lxr_model.proofs.ReachableLemmas.{dead_parts}
@@ -41,6 +41,7 @@ use Rattle.lxr_pause_decrements.proofs.LeftLemmas.{still_left}
 use Rattle.lxr_pause_decrements.proofs.WipeLemmas.{loses_more, loses_none}
 use Rattle.lxr_sweep_unmarked.specs.Clearing.{ClearingStage, IsClearing, TakesOut, UnmarkedAt, cleared_too, clearing, extended, with_swept, without_any}
 use Rattle.lxr_sweep_unmarked.specs.Sweeping.{CanSweep}
+use Rattle.lxr_blocks.specs.States.{state_in, state_of}
 
 -- ---- what the heap holds
 
@@ -68,6 +69,14 @@ ground_of s m at is settled =
 
 pub clearing_limits : (s : Space) (st : ClearingStage) → IsClearing s st → s.limits ≡ st.was.limits
 clearing_limits s st is = ap (λ z. z.limits) is.rest
+
+-- what isn't marked stands outside blocks that are Free
+pub clearing_used : (s : Space) (st : ClearingStage) → IsClearing s st → AvoidsFree (tables_of s) Unmarked
+clearing_used s st is k wanted free =
+    let start = (and_parts ((tables_of s).starts k) (not ((tables_of s).marks k)) wanted).0 in
+    let x = is.bits.starts.only k start in
+    is.can.holds.unused.objects x.0 (without_parts st.moment.unreclaimed st.swept x.0 x.1).0
+    (sym (ap (λ f. state_of (f (granule_of (st.at x.0) / GRANULES_IN_BLOCK))) is.stay.states) ∙ ap (λ z. state_in (tables_of s) (z / GRANULES_IN_BLOCK)) x.2 ∙ free)
 
 pub clearing_ground : (s : Space) (st : ClearingStage) → IsClearing s st → Ground (tables_of s).heap st.was.limits.blocks st.moment st.at
 clearing_ground s st is = subst (λ h. Ground h st.was.limits.blocks st.moment st.at) (sym is.stay.keeps.heap) (ground_of st.was st.moment st.at is.can.holds is.can.settled)

@@ -1,5 +1,5 @@
 -- Where all that is unmarked is out of the heap, what is left is at a stage of the decrements at which all references of what was swept wait.
-use Rattle.std.proofs.Common.{◌≡◌, ℕ, ◌+◌, ◌*◌, ◌≤◌, refl, sym, ap, subst, ◌∙◌, arith, List, [], ◌∷◌, ◌++◌, IsTrue, length, length-append}
+use Rattle.std.proofs.Common.{◌≡◌, ℕ, ◌+◌, ◌*◌, ◌≤◌, refl, sym, ap, subst, ◌∙◌, arith, List, [], ◌∷◌, ◌++◌, IsTrue, length, length-append, ◌/◌}
 use Rattle.std.specs.Prelude.{map, reverse}
 use Rattle.std.proofs.lemmas.List.{length-map, length-reverse, reverse-append}
 use Rattle.lxr_layout.specs.declared.TheConstants.{DECREMENT_COUNT, DECREMENT_CURSOR, GRANULES_IN_BLOCK, TRACING_WORD}
@@ -33,6 +33,8 @@ use Rattle.lxr_sweep_unmarked.specs.Releasing.{AllAreLeft, ReleaseStage, cascade
 use Rattle.lxr_sweep_unmarked.specs.Sweeping.{CanSweep}
 use Rattle.lxr_sweep_unmarked.proofs.ClearingLemmas.{append_nothing, clearing_ground, clearing_limits, field_there}
 use Rattle.lxr_sweep_unmarked.proofs.FollowLemmas.{SweptAre, left_closed}
+use Rattle.lxr_blocks.specs.States.{state_of}
+use Rattle.lxr_image.specs.Reads.{granule_of}
 
 -- ---- moments that differ in what is unreclaimed and stuck
 
@@ -173,6 +175,7 @@ module _ (s b : Space) (m : Moment) (at : Name → ℕ) (swept : List Name) (is 
     below = λ n in_n k. let c = count_same n in_n in let small = is.can.holds.counts.below n (in_all n in_n) k in omega (arith, c, small);
     bits = bits_then t m at left_names m.stuck (without left_names []) (subst (HasBits t m at) (same_left ∙ sym (without_none left_names)) is.bits);
     marks = subst (HasMarks t m.state.graph at) (same_left ∙ sym (without_none left_names)) is.marks;
+    unused = λ n h free. is.can.holds.unused.objects n (in_all n h) (sym (ap (λ f. state_of (f (granule_of (at n) / GRANULES_IN_BLOCK))) is.stay.states) ∙ free);
     lost_marks = loses_none t.marks at;
     tracing = ap (λ f. f TRACING_WORD) is.cursors ∙ is.can.holds.blocks.tracing;
     decrements =

@@ -40,6 +40,7 @@ use Rattle.lxr_sweep_unmarked.specs.Sweeping.{SweepsGrays, SweepsUnmarked, swept
 use Rattle.lxr_sweep_unmarked.proofs.ClearingLemmas.{ground_of}
 use Rattle.lxr_sweep_unmarked.proofs.FollowLemmas.{SweptAre, swept_follows}
 use Rattle.lxr_sweep_unmarked.proofs.ReleaseBeginLemmas.{bits_then, releasing, swept_are}
+use Rattle.lxr_invariant.proofs.UnusedLemmas.{unused_still}
 
 -- ---- bits, one change after another
 
@@ -243,6 +244,7 @@ module _ (s b c : Space) (m : Moment) (at : Name → ℕ) (swept : List Name) (i
         marks = subst (HasMarks u m.state.graph at) same_then done.stage.cascade.remains.marks;
         lines = out_still t u m.state.graph at m.made outs old.lines;
         unchosen = unchosen_still t u at m.made states old.unchosen;
+        unused = unused_still t u at m.unreclaimed vs states outs in_all old.unused;
         blocks = subst (λ l. HasBlocks u l.blocks m.trace) (sym limits) (blocks_still t u s.limits.blocks m.trace states (ap (λ f. f TRACING_WORD) cursors) old.blocks);
         rest = rest_stays;
         no_work = refl;

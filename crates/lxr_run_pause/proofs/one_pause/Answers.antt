@@ -1,4 +1,4 @@
-use Rattle.lxr_run_pause.proofs.WholeLemmas.{at', few_pauses, few_tallied, grays_lie, leads, may_count, names_once, pause_made, space_counted, space_traced, stands, traces_may}
+use Rattle.lxr_run_pause.proofs.WholeLemmas.{at', few_pauses, few_tallied, free_traced, grays_avoid, grays_lie, leads, may_count, names_once, pause_made, space_counted, space_traced, stands, traces_may}
 use Rattle.lxr_run_pause.proofs.one_pause.Goals as goal
 
 pub decide_kind-kind-requires-clause-space : goal.decide_kind-kind-requires-clause-space
@@ -7,15 +7,23 @@ decide_kind-kind-requires-clause-space c = space_counted c.args.space.now c.sett
 pub decide_kind-kind-requires-clause-heap : goal.decide_kind-kind-requires-clause-heap
 decide_kind-kind-requires-clause-heap c = grays_lie c.args.space.now c.settle_counts.new.space c.requires.space.0 c.requires.space.1 c.settle_counts.ensures
 
+pub decide_kind-kind-requires-clause-free : goal.decide_kind-kind-requires-clause-free
+decide_kind-kind-requires-clause-free c = grays_avoid c.args.space.now c.settle_counts.new.space c.requires.space.0 c.requires.space.1 c.settle_counts.ensures
+
 pub trace_by_kind-requires : goal.trace_by_kind-requires
 trace_by_kind-requires c = (
   stands c.args.space.now c.settle_counts.new.space c.requires.space.0 c.requires.space.1 c.settle_counts.ensures c.args.ask c.args.pace c.decide_kind-kind.result c.decide_kind-kind.ensures,
   traces_may c.args.space.now c.settle_counts.new.space c.requires.space.0 c.requires.space.1 c.settle_counts.ensures c.args.ask c.args.pace c.decide_kind-kind.result c.decide_kind-kind.ensures,
 )
 
-pub sweep_lines-requires : goal.sweep_lines-requires
-sweep_lines-requires c =
+pub sweep_lines-requires-clause-space : goal.sweep_lines-requires-clause-space
+sweep_lines-requires-clause-space c =
     space_traced c.args.space.now c.settle_counts.new.space c.requires.space.0 c.requires.space.1 c.settle_counts.ensures c.args.ask c.args.pace c.decide_kind-kind.result c.decide_kind-kind.ensures
+    c.trace_by_kind.new.space c.trace_by_kind.ensures
+
+pub sweep_lines-requires-clause-free : goal.sweep_lines-requires-clause-free
+sweep_lines-requires-clause-free c =
+    free_traced c.args.space.now c.settle_counts.new.space c.requires.space.0 c.requires.space.1 c.settle_counts.ensures c.args.ask c.args.pace c.decide_kind-kind.result c.decide_kind-kind.ensures
     c.trace_by_kind.new.space c.trace_by_kind.ensures
 
 pub sort_report-requires : goal.sort_report-requires

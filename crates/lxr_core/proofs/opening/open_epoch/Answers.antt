@@ -1,9 +1,11 @@
 use Rattle.std.proofs.Common.{rules, ◌∙◌, ◌<◌, ◌^◌, length, sym, ap, subst}
 use Rattle.std.specs.List.{All}
+use Rattle.lxr_image_search.specs.declared.Wanted.TheVariants.{ToScan}
+use Rattle.lxr_image_search.specs.Search.{AvoidsFree}
 use Rattle.lxr_mutator.specs.Mutators.{IsHeld}
 use Rattle.lxr_core.specs.Filling.{MayAllFill}
 use Rattle.lxr_core.specs.Starting.{HaveStarted}
-use Rattle.lxr_core.proofs.OpenedLemmas.{held_before, holds_at, may_all_fill, may_all_start, opened_at}
+use Rattle.lxr_core.proofs.OpenedLemmas.{grays_used, held_before, holds_at, may_all_fill, may_all_start, opened_at}
 use Rattle.lxr_core.proofs.opening.open_epoch.Goals as goal
 
 pub start_all-requires-clause-order : goal.start_all-requires-clause-order
@@ -16,6 +18,9 @@ start_all-requires-clause-held c =
 
 pub start_all-requires-clause-rest : goal.start_all-requires-clause-rest
 start_all-requires-clause-rest c = may_all_start c.requires.0 c.args.space.now c.args.actors.now c.requires.1
+
+pub fill_pockets-requires-clause-free : goal.fill_pockets-requires-clause-free
+fill_pockets-requires-clause-free c = subst (λ t. AvoidsFree t ToScan) (sym c.put_cursor.ensures.tables) (grays_used c.requires.0 c.args.space.now c.args.actors.now c.requires.1)
 
 pub fill_pockets-requires-clause-empty : goal.fill_pockets-requires-clause-empty
 fill_pockets-requires-clause-empty c =

@@ -1,9 +1,19 @@
 use Rattle.std.proofs.Common.{◌+◌, ◌*◌, ◌≤◌, ap, arith, subst, []}
 use Rattle.lxr_layout.specs.declared.TheConstants.{GRANULES_IN_BLOCK}
+use Rattle.lxr_image.specs.Spaces.{tables_of}
+use Rattle.lxr_image_search.specs.declared.Wanted.TheVariants.{Dropped}
 use Rattle.lxr_pause_decrements.specs.Cascade.{IsFinished, come_to, later}
 use Rattle.lxr_pause_decrements.proofs.SpaceLemmas.{keeps_both}
+use Rattle.lxr_pause_decrements.proofs.CascadeLemmas.{avoids_free}
 use Rattle.lxr_pause_decrements.proofs.DropLemmas.{dropped_next, dropped_then, emptied_on, finished}
 use Rattle.lxr_pause_decrements.proofs.finish.reclaim_all_dropped.Goals as goal
+
+pub next_wanted-requires : goal.next_wanted-requires
+next_wanted-requires c =
+    let s = c.loop-granule.space in
+    let x = c.loop-granule.invariant.stage c.requires.0 c.requires.1 in
+    let is = x.1.opening.stage in
+    record { space = is.space; free = avoids_free s.limits (tables_of s) s.report.dead _ Dropped is.cascade.remains }
 
 pub reclaim_dropped-requires : goal.reclaim_dropped-requires
 reclaim_dropped-requires c =

@@ -1,19 +1,28 @@
-use Rattle.std.proofs.Common.{◌*◌, arith, refl}
+use Rattle.std.proofs.Common.{◌*◌, ap, arith, refl}
+use Rattle.lxr_layout.specs.declared.TheConstants.{LINES_IN_BLOCK}
+use Rattle.lxr_image.specs.Spaces.{tables_of}
 use Rattle.lxr_image.proofs.SpaceLemmas.{still_space}
-use Rattle.lxr_pause_increments.proofs.StillLemmas.{outs_begin, outs_end, outs_more}
+use Rattle.lxr_pause_increments.specs.Clearing.{without_outs_of}
+use Rattle.lxr_pause_increments.proofs.StillLemmas.{outs_avoid_still, outs_begin, outs_end, outs_more}
 use Rattle.lxr_pause_increments.proofs.order.clear_outs.Goals as goal
 
-pub loop-word-init : goal.loop-word-init
-loop-word-init c = record { space = c.requires; turns = outs_begin c.args.space.now }
+pub loop-block-init : goal.loop-block-init
+loop-block-init c = record { space = c.requires.space; turns = outs_begin c.args.space.now }
 
-pub loop-word-preserved : goal.loop-word-preserved
-loop-word-preserved c = record {
-  space = still_space c.loop-word.space c.clear_out_word.new.self _ c.loop-word.invariant.space c.clear_out_word.ensures refl;
-  turns = outs_more c.args.space.now c.loop-word.space c.clear_out_word.new.self c.loop-word.word c.loop-word.invariant.turns c.clear_out_word.ensures;
+pub clear_block-requires : goal.clear_block-requires
+clear_block-requires c =
+    let is = c.loop-block.invariant in
+    let blocks = ap (λ s. s.limits.blocks) is.turns.rest in
+    record { space = is.space; block = omega (arith, blocks); free = outs_avoid_still c.args.space.now c.loop-block.space (LINES_IN_BLOCK * c.loop-block.block) is.turns c.requires.free }
+
+pub loop-block-preserved : goal.loop-block-preserved
+loop-block-preserved c = record {
+  space = still_space c.loop-block.space c.clear_block.new.space (without_outs_of (tables_of c.loop-block.space) c.loop-block.block) c.loop-block.invariant.space c.clear_block.ensures refl;
+  turns = outs_more c.args.space.now c.loop-block.space c.clear_block.new.space c.loop-block.block c.loop-block.invariant.turns c.clear_block.ensures;
 }
 
 pub returns : goal.returns
 returns c =
-    let t = c.loop-word-test.false in
-    let u = c.loop-word.auto.word-end in
-    outs_end c.args.space.now c.loop-word.space (64 * c.loop-word.word) c.requires (omega (arith, t, u)) c.loop-word.invariant.turns
+    let t = c.loop-block-test.false in
+    let u = c.loop-block.auto.block-end in
+    outs_end c.args.space.now c.loop-block.space (LINES_IN_BLOCK * c.loop-block.block) c.requires.space (omega (arith, t, u)) c.loop-block.invariant.turns

@@ -2,7 +2,7 @@ use Rattle.std.proofs.Common.{◌∙◌, subst, sym}
 use Rattle.lxr_pause_increments.specs.Accounted.{HasRaisedRoots}
 use Rattle.lxr_pause_increments.specs.Increments.{first_stage}
 use Rattle.lxr_pause_increments.proofs.FrameLemmas.{leaves_both}
-use Rattle.lxr_pause_increments.proofs.RaisedLemmas.{begun, ending, raises}
+use Rattle.lxr_pause_increments.proofs.RaisedLemmas.{begun, ending, outs_grayed, outs_used, raises}
 use Rattle.lxr_pause_increments.proofs.RootLemmas.{same_registers}
 use Rattle.lxr_pause_increments.proofs.SnapshotLemmas.{grayed_space, old_values_fit}
 use Rattle.lxr_pause_increments.proofs.order.increments.Goals as goal
@@ -35,7 +35,11 @@ clear_outs-requires c =
     let r = c.requires in
     let x = c.raise_entries.ensures.settles r.0 r.1 (first_stage r.1 c.args.space.now) (begun c.args.space.now r.0 r.1 r.2) in
     let y = c.raise_registers.ensures.settles r.0 r.1 x.0 x.2 in
-    grayed_space c.raise_registers.new.space c.gray_old_values.new.space c.gray_old_values.ensures y.2.settled.accounted.incrementing.space
+    record {
+      space = grayed_space c.raise_registers.new.space c.gray_old_values.new.space c.gray_old_values.ensures y.2.settled.accounted.incrementing.space;
+      free = outs_grayed c.raise_registers.new.space c.gray_old_values.new.space c.gray_old_values.ensures
+          (outs_used c.args.space.now c.raise_registers.new.space r.0 r.1 y.0 r.2 (y.1 ∙ x.1) y.2.settled.accounted.incrementing);
+    }
 
 pub returns : goal.returns
 returns c = λ m at can.

@@ -2,8 +2,12 @@ use Rattle.std.proofs.Common.{map, subst, sym}
 use Rattle.std.specs.List.Sorted.{IsPermutation}
 use Rattle.lxr_graph.specs.Distinct.{IsDistinct}
 use Rattle.lxr_image.specs.declared.space.Space.{Space}
+use Rattle.lxr_invariant.proofs.UnusedLemmas.{starts_used}
 use Rattle.lxr_pause_queue.proofs.ToldLemmas.{counts_unreclaimed, name_of, sorted_space, told_once}
 use Rattle.lxr_pause_queue.proofs.counting.count_unreclaimed.Goals as goal
+
+pub add_counts-requires-clause-free : goal.add_counts-requires-clause-free
+add_counts-requires-clause-free c = starts_used c.args.space.now c.requires.0 c.requires.1 c.requires.2.holds
 
 pub sort_by_name-requires : goal.sort_by_name-requires
 sort_by_name-requires c =

@@ -1,6 +1,13 @@
-use Rattle.std.proofs.Common.{◌∙◌, ap}
+use Rattle.std.proofs.Common.{◌∙◌, ap, inl, inr}
+use Rattle.lxr_invariant.proofs.UnusedLemmas.{starts_used}
 use Rattle.lxr_pause_trace.proofs.TraceLemmas.{registers_place, registers_placed, trace_begun}
 use Rattle.lxr_pause_trace.proofs.begin.begin_trace.Goals as goal
+
+pub clear_bits-requires : goal.clear_bits-requires
+clear_bits-requires c =
+    let holds = c.requires.2.holds in
+    let used = starts_used c.args.space.now c.requires.0 c.requires.1 holds in
+    record { space = holds.space; free = λ k some. used k (elim some [ inl mark ↦ holds.bits.marks k mark | inr gray ↦ holds.bits.grays k gray ]) }
 
 pub shade_registers-requires-clause-places : goal.shade_registers-requires-clause-places
 shade_registers-requires-clause-places c =

@@ -1,8 +1,14 @@
 use Rattle.std.proofs.Common.{◌+◌, ◌*◌, ◌≤◌, ◌∙◌, ap, arith, refl, subst}
 use Rattle.lxr_layout.specs.declared.TheConstants.{GRANULES_IN_BLOCK}
 use Rattle.lxr_pause_trace.specs.Marking.{granules}
-use Rattle.lxr_pause_trace.proofs.ScanLemmas.{due_room, ended_behind, ended_later, next_due}
+use Rattle.lxr_pause_trace.proofs.ScanLemmas.{due_room, ended_behind, ended_later, grays_used, next_due}
 use Rattle.lxr_pause_trace.proofs.finish.find_grays.Goals as goal
+
+pub next_wanted-requires : goal.next_wanted-requires
+next_wanted-requires c =
+    let before = c.requires.0 in
+    let stage = c.loop-granule.invariant.marking before c.requires.1 in
+    record { space = stage.space; free = grays_used before c.loop-granule.space _ _ _ stage }
 
 pub find-requires-clause-room : goal.find-requires-clause-room
 find-requires-clause-room c =

@@ -2,6 +2,7 @@ use Rattle.std.proofs.Common.{ap, subst, ◌∙◌}
 use Rattle.std.specs.Prelude.{Some}
 use Rattle.lxr_image.specs.declared.space.Space.{Space}
 use Rattle.lxr_run_pause.specs.Tracing.{SetsTrace, drained}
+use Rattle.lxr_invariant.proofs.UnusedLemmas.{free_are_free}
 use Rattle.lxr_run_pause.proofs.TracingLemmas.{can_finish, can_trace}
 use Rattle.lxr_run_pause.proofs.tracing.begin.Goals as goal
 
@@ -20,7 +21,8 @@ sweep_lines-requires c =
     let g = c.requires.0 in
     let can = c.requires.1.drains in
     let f = c.finish_decrements.ensures g.moment g.at (can_finish c.args.space.now g can) in
-    (c.begin_trace.ensures (drained g f.0) g.at (can_trace c.args.space.now g can c.finish_decrements.new.space f.0 f.1)).holds.space
+    let holds = (c.begin_trace.ensures (drained g f.0) g.at (can_trace c.args.space.now g can c.finish_decrements.new.space f.0 f.1)).holds in
+    record { space = holds.space; free = free_are_free c.begin_trace.new.space (drained g f.0) g.at holds }
 
 pub returns : goal.returns
 returns c g can =

@@ -4,14 +4,16 @@ use Rattle.lxr_image.specs.Spaces.{tables_of}
 use Rattle.lxr_image_search.specs.declared.Wanted.TheVariants.{Unmarked}
 use Rattle.lxr_image_search.specs.Search.{NoneWanted}
 use Rattle.lxr_sweep_unmarked.specs.Clearing.{clearing}
-use Rattle.lxr_sweep_unmarked.proofs.ClearingLemmas.{clearing_limits, first_clearing, found_on, unmarked_next}
+use Rattle.lxr_sweep_unmarked.proofs.ClearingLemmas.{clearing_limits, clearing_used, first_clearing, found_on, unmarked_next}
 use Rattle.lxr_sweep_unmarked.proofs.clearing.clear_all_unmarked.Goals as goal
 
 pub loop-granule-init : goal.loop-granule-init
 loop-granule-init c = record { stage = λ m at can. ([], first_clearing c.args.space.now m at can); within = omega arith }
 
 pub next_wanted-requires : goal.next_wanted-requires
-next_wanted-requires c = record { space = (c.loop-granule.invariant.stage c.requires.0 c.requires.1 c.requires.2).1.space }
+next_wanted-requires c =
+    let x = c.loop-granule.invariant.stage c.requires.0 c.requires.1 c.requires.2 in
+    record { space = x.1.space; free = clearing_used c.loop-granule.space _ x.1 }
 
 pub clear_unmarked-requires : goal.clear_unmarked-requires
 clear_unmarked-requires c =
