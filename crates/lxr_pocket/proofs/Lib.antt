@@ -1,3 +1,5 @@
 pub mod PocketLemmas
 pub mod WordLemmas
 pub mod IndexLemmas
+pub mod HelperLemmas
+pub mod HelperUnitLemmas

@@ -4,12 +4,18 @@
 //! told by words of the space, which are looked at one atomic step at a time.
 #![tactic(auto)]
 
+mod helper;
 mod laws;
+mod phases;
 mod pocket;
+mod states;
 mod words;
 
+pub use helper::Helper;
 pub use laws::spaces_have_indexes;
+pub use phases::{Phase, Unit};
 pub use pocket::{POCKET_ROOM, Pocket};
+pub use states::HelperState;
 pub use words::{
     bit_look, bit_setting, granule_of, has_bit, is_in_heap, references_in, referent_in,
 };
