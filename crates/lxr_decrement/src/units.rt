@@ -14,7 +14,8 @@ use lxr_layout::{
     DECREMENT_COUNT, DECREMENT_CURSOR, Place, Regions, STUCK, TRACING_WORD, field_word, word_of,
 };
 use lxr_pocket::{
-    HelperState, Phase, Unit, bit_look, bit_setting, granule_of, has_bit, references_in, referent_in,
+    HelperState, Phase, Unit, bit_look, bit_setting, granule_of, has_bit, references_in,
+    referent_in,
 };
 use lxr_tables::COUNTS_IN_WORD;
 
@@ -179,12 +180,15 @@ fn see_tracing(helper: &mut State, place: Place, refs: u16, word: u64)
     requires { IsIn helper.old.regions (DecrementerPhase.AsksTracing place refs) }
     ensures { helper.new ≡ after_in decrementer_work helper.old (DecrementerPhase.AsksTracing place refs) word }
 {
-    go_on_handling(helper, Handling::References {
-        place,
-        refs,
-        next: 0,
-        traced: word == 1,
-    });
+    go_on_handling(
+        helper,
+        Handling::References {
+            place,
+            refs,
+            next: 0,
+            traced: word == 1,
+        },
+    );
 }
 
 /// A reference or an entry is done with: the next reference comes, or the unit is through.

@@ -105,8 +105,12 @@ impl Unit<TraceEnd> for TracerPhase {
             }
             TracerPhase::ReadsShape(place) => see_header(helper, place, old),
             TracerPhase::Scans(scan) => see_reference(helper, scan, old),
-            TracerPhase::AsksReferent { scan, referent } => see_referent(helper, scan, referent, old),
-            TracerPhase::GraysReferent { scan, referent } => see_grayed(helper, scan, referent, old),
+            TracerPhase::AsksReferent { scan, referent } => see_referent(
+                helper, scan, referent, old,
+            ),
+            TracerPhase::GraysReferent { scan, referent } => see_grayed(
+                helper, scan, referent, old,
+            ),
             TracerPhase::AsksBlock { scan, referent } => see_block(helper, scan, referent, old),
             TracerPhase::ReadsReuse(scan) => see_reuse(helper, scan, old),
             TracerPhase::DrawsNumber { scan, counter } => see_draw(helper, scan, counter, old),
@@ -134,12 +138,15 @@ fn see_header(helper: &mut State, place: Place, word: u64)
     ensures { helper.new ≡ after_in tracer_work helper.old (TracerPhase.ReadsShape place) word }
 {
     let refs = references_in(&helper.regions, place, word);
-    go_on_scanning(helper, Scan {
-        place,
-        refs,
-        index: 0,
-        overflowed: false,
-    });
+    go_on_scanning(
+        helper,
+        Scan {
+            place,
+            refs,
+            index: 0,
+            overflowed: false,
+        },
+    );
 }
 
 /// The reference of a scan comes, or the unit is through where that one is behind the last.
@@ -163,10 +170,13 @@ fn go_behind(helper: &mut State, scan: Scan)
     requires { IsScan helper.old.regions scan }
     ensures { helper.new ≡ led tracer_work helper.old (scanned scan) }
 {
-    go_on_scanning(helper, Scan {
-        index: scan.index + 1,
-        ..scan
-    });
+    go_on_scanning(
+        helper,
+        Scan {
+            index: scan.index + 1,
+            ..scan
+        },
+    );
 }
 
 /// A reference was loaded: what it refers to is looked at.
@@ -244,9 +254,12 @@ fn see_draw(helper: &mut State, scan: Scan, counter: u32, number: u64)
             number,
         });
     } else {
-        go_behind(helper, Scan {
-            overflowed: true,
-            ..scan
-        });
+        go_behind(
+            helper,
+            Scan {
+                overflowed: true,
+                ..scan
+            },
+        );
     }
 }
