@@ -46,6 +46,20 @@ module _ {P E : Type 0} (w : Work P E) where
       let b = begun w h in
       led_regions (keeping w b (w.keeps b.phase word)) (w.leads b.regions b.phase word) ∙ (keeping_regions b (w.keeps b.phase word) ∙ begun_regions h)
 
+  -- ---- its phase, where a place is offered
+
+  -- what an offer leads to, and whether it is taken
+  abbrev offered_if : HelperState P E → Place → Bool → HelperState P E × Bool
+  offered_if h place taken = if taken then (record h { pocket = pushed h.pocket place }, true) else (h, false)
+
+  -- a place that is offered leaves the phase
+  offered_rests_by : (h : HelperState P E) (place : Place) (taken : Bool) → w.rests (offered_if h place taken).0.phase ≡ w.rests h.phase
+  offered_rests_by h place true = refl
+  offered_rests_by h place false = refl
+
+  pub offered_rests : (h : HelperState P E) (place : Place) → w.rests (offered w h place).0.phase ≡ w.rests h.phase
+  offered_rests h place = offered_rests_by h place (is_in_heap h.regions place.0 && has_room h.pocket)
+
   -- ---- its next step
 
   same_by : (act : Option Action) (finished : Bool) → IsSome (if finished then None else act) → (if finished then None else act) ≡ act
@@ -118,10 +132,6 @@ module _ {P E : Type 0} (w : Work P E) where
     none_finished h none = finished_is h (none_by (w.action h.regions (begun w h).phase) (is_finished w h) (begun_acts h) none)
 
     -- ---- offers
-
-    -- what an offer leads to, and whether it is taken
-    abbrev offered_if : HelperState P E → Place → Bool → HelperState P E × Bool
-    offered_if h place taken = if taken then (record h { pocket = pushed h.pocket place }, true) else (h, false)
 
     -- a pocket with a place isn't empty
     test_fails : (rests nothing : Bool) (places : List Place) (place : Place) → (rests && (nothing && nat_eq (length (places ++ place ∷ [])) 0)) ≡ false

@@ -3,3 +3,4 @@ pub mod WordLemmas
 pub mod IndexLemmas
 pub mod HelperLemmas
 pub mod HelperUnitLemmas
+pub mod DrainLemmas

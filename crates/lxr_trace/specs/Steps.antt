@@ -164,3 +164,7 @@ tracer_work = record {
 -- what a tracer means
 abbrev pub tracer_machine : Machine TracerState
 tracer_machine = helper_machine tracer_work
+
+-- a place is offered: it goes into the pocket, where it is one of the heap and there is room for it
+abbrev pub offered : TracerState → Place → TracerState × Bool
+offered t place = tracer_machine.offered t place
