@@ -1,7 +1,8 @@
 -- A helper's step is the access of what it is about to do: the word that it finds tells of the access's entry, and by that it goes where
 -- the tables lead. Hints change its pocket alone.
 use Rattle.std.proofs.Common.{◌≡◌, ◌≢◌, ℕ, ◌<◌, ◌≤◌, Bool, true, false, arith, refl, sym, subst, ap, ◌∙◌, List, length}
-use Rattle.std.specs.Prelude.{◌&&◌, if◌then◌else◌, IsSome, Option, Some, nat_eq, nat_lt, slice_get, slice_index}
+use Rattle.std.specs.Prelude.{◌&&◌, if◌then◌else◌, IsSome, Option, Some, None, nat_eq, nat_lt, slice_get, slice_index}
+use Rattle.lxr_layout.specs.declared.Place.{Place}
 use Rattle.lxr_layout.specs.declared.limits.Limits.{Limits}
 use Rattle.lxr_layout.specs.declared.limits.Regions.{Regions}
 use Rattle.lxr_layout.specs.Spaces.{regions_of}
@@ -9,17 +10,18 @@ use Rattle.lxr_image.specs.Tables.{tables_in}
 use Rattle.lxr_actor.specs.declared.Action.{Action}
 use Rattle.lxr_actor.specs.Run.{acted}
 use Rattle.lxr_pocket.specs.declared.states.HelperState.{HelperState}
-use Rattle.lxr_pocket.specs.Pockets.{has_room}
-use Rattle.lxr_pocket.specs.Words.{is_in_heap}
-use Rattle.lxr_pocket.specs.Helpers.{Work, action, after_in, begun, helper_machine}
+use Rattle.lxr_pocket.specs.Pockets.{has_room, last_of}
+use Rattle.lxr_pocket.specs.Words.{InHeap, is_in_heap}
+use Rattle.lxr_pocket.specs.Helpers.{Work, action, after_in, begun, helper_machine, in_phase, looks_on, spared}
 use Rattle.lxr_pocket.specs.HelperLaws.{IsLawful}
 use Rattle.lxr_pocket.proofs.HelperLemmas.{stay_so, unfinished}
+use Rattle.lxr_pocket.proofs.PocketLemmas.{last_holds}
 use Rattle.lxr_core_access.specs.declared.Access.{Access}
 use Rattle.lxr_core_access.specs.Accesses.{MayBeDone, Tells, action_of, done_to, table_entry_of}
 use Rattle.lxr_core_access.proofs.AccessLemmas.{access_done, regions_are}
 use Rattle.lxr_core_invariant.specs.EpochStates.{Beginning, EpochState, limits_of}
 use Rattle.lxr_core_invariant.specs.Epoch.{IsEpoch}
-use Rattle.lxr_core_sim_helpers.specs.HelperStepping.{HelperStepIs, HintsChangeNothing, IsHelperOf, ShowsHelper, shown_of}
+use Rattle.lxr_core_sim_helpers.specs.HelperStepping.{HelperStepIs, HelperStepsAreEvents, HintsChangeNothing, IsHelperOf, ShowsHelper, shown_of}
 
 -- an action is that of its option
 same_action : (a c : Action) → Some a ≡ Some c → a ≡ c
@@ -44,7 +46,7 @@ module _ {P E X : Type 0} (w : Work P E) (shown_in : P → X) where
         → access_in about ≡ Some access → Goes b s about after → May b s i access after)
         (may_be_done : (b : Beginning) (s : EpochState) (i : ℕ) (access : Access) (after : X) → IsEpoch b s → May b s i access after → MayBeDone (limits_of b) s.tables access) where
       -- a step goes where its phase leads
-      pub by_phase : (b : Beginning) (s : EpochState) (words : List ℕ) (i : ℕ) (h : HelperState P E) → ShowsHelper w shown_in shown May b s words i h → IsSome (action w h)
+      by_phase : (b : Beginning) (s : EpochState) (words : List ℕ) (i : ℕ) (h : HelperState P E) → ShowsHelper w shown_in shown May b s words i h → IsSome (action w h)
           → Attempts b (shown_of w shown_in h) (shown_of w shown_in (begun w h)) → Leads b s (begun w h) (begun w h).phase → HelperStepIs w shown_in shown May b s words i h
       by_phase b s words i h shows some attempts to =
           let l = limits_of b in
@@ -68,6 +70,40 @@ module _ {P E X : Type 0} (w : Work P E) (shown_in : P → X) where
               regions = stays.regions h old ∙ shows.helper.regions;
             });
           }
+
+      -- ---- what is tried
+
+      -- A unit begins with what is tried: a place of the heap, or what it turns to where the pocket has none.
+      module _ (Try : Beginning → X → Type 0) (begins : (b : Beginning) (x : X) → Try b x → Attempts b (shown_in w.resting) x) (goes_on : (b : Beginning) (x : X) → Attempts b x x)
+          (try_place : (b : Beginning) (r : Regions) (place : Place) → r ≡ regions_of (limits_of b) → InHeap r place → Try b (shown_in (w.question (Some place))))
+          (try_none : (b : Beginning) → Try b (shown_in (w.question None))) where
+        tried : (b : Beginning) (h : HelperState P E) (item : Option Place) → IsHelperOf w shown_in (limits_of b) h → last_of h.pocket.items ≡ item → Try b (shown_in (w.question item))
+        tried b h None is e = try_none b
+        tried b h (Some place) is e = try_place b h.regions place is.regions (last_holds (InHeap h.regions) h.pocket.items place is.sound.places e)
+
+        -- so a helper looks on
+        pub tries : (b : Beginning) (h : HelperState P E) → IsHelperOf w shown_in (limits_of b) h → Try b (shown_of w shown_in (looks_on w h))
+        tries b h is = tried b h (last_of h.pocket.items) is refl
+
+        -- Each step is an event where each phase leads so, and so does what a unit begins with.
+        module _ (first : (b : Beginning) (s : EpochState) (h : HelperState P E) (item : Option Place) → Leads b s (in_phase w (spared w h).0 (w.question item)) (w.question item))
+            (leads : (b : Beginning) (s : EpochState) (words : List ℕ) (i : ℕ) (h : HelperState P E) (p : P) → ShowsHelper w shown_in shown May b s words i (in_phase w h p) → w.rests p ≡ false
+            → Leads b s (in_phase w h p) p) where
+          each_by : (b : Beginning) (s : EpochState) (words : List ℕ) (i : ℕ) (h : HelperState P E) (c : Bool) → w.rests h.phase ≡ c → ShowsHelper w shown_in shown May b s words i h → IsSome (action w h)
+              → HelperStepIs w shown_in shown May b s words i h
+          each_by b s words i h true e shows some =
+              by_phase b s words i h shows some
+              (subst (λ c. Attempts b (shown_of w shown_in h) (shown_of w shown_in (if c then looks_on w h else h))) (sym e)
+              (subst (λ p. Attempts b (shown_in p) (shown_of w shown_in (looks_on w h))) (sym (law.one_rest h.phase e)) (begins b (shown_of w shown_in (looks_on w h)) (tries b h shows.helper))))
+              (subst (λ c. Leads b s (if c then looks_on w h else h) (if c then looks_on w h else h).phase) (sym e) (first b s h (last_of h.pocket.items)))
+          each_by b s words i h false e shows some =
+              by_phase b s words i h shows some
+              (subst (λ c. Attempts b (shown_of w shown_in h) (shown_of w shown_in (if c then looks_on w h else h))) (sym e) (goes_on b (shown_of w shown_in h)))
+              (subst (λ c. Leads b s (if c then looks_on w h else h) (if c then looks_on w h else h).phase) (sym e) (leads b s words i h h.phase shows e))
+
+          -- each step
+          pub each_step : HelperStepsAreEvents w shown_in shown May
+          each_step b s words i h shows some = each_by b s words i h (w.rests h.phase) refl shows some
 
   -- ---- hints
 

@@ -1,7 +1,8 @@
-//! Pockets of places, and what words of a space tell those who work from a pocket.
+//! Helpers, which work from a pocket of places, and what words of a space tell them.
 //!
-//! Decrementers and tracers each hold a pocket of places that may need work. These are hints: what is done about a place is
-//! told by words of the space, which are looked at one atomic step at a time.
+//! Decrementers and tracers are helpers: each holds a pocket of places that may need work. These are hints: what is done about
+//! a place is told by words of the space, which are looked at one atomic step at a time. What both share stands here once;
+//! what a kind of helpers does in a unit is told by its phases.
 #![tactic(auto)]
 
 mod helper;
