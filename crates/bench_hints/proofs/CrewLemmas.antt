@@ -11,14 +11,15 @@ use Rattle.lxr_actor.proofs.Runs.{run-keeps}
 use Rattle.lxr_barrier.proofs.ViewLemmas.{all_at, all_to}
 use Rattle.lxr_image.specs.Tables.{tables_in}
 use Rattle.lxr_mutator.specs.Mutating.{Mutating}
+use Rattle.lxr_pocket.proofs.HelperLemmas as lemma
 use Rattle.lxr_decrement.specs.Decrementing.{DecrementerState}
 use Rattle.lxr_decrement.specs.Decrementers as decrementers
-use Rattle.lxr_decrement.proofs.FinishLemmas as dec_finish
-use Rattle.lxr_decrement.proofs.StayLemmas as dec_stay
+use Rattle.lxr_decrement.specs.Steps.{decrementer_work}
+use Rattle.lxr_decrement.specs.Lawful.{decrementer_lawful}
 use Rattle.lxr_trace.specs.Tracing.{TracerState}
 use Rattle.lxr_trace.specs.Tracers as tracers
-use Rattle.lxr_trace.proofs.FinishLemmas as tra_finish
-use Rattle.lxr_trace.proofs.StayLemmas as tra_stay
+use Rattle.lxr_trace.specs.Steps.{tracer_work}
+use Rattle.lxr_trace.specs.Lawful.{tracer_lawful}
 use Rattle.lxr_core.specs.declared.actors.AnyActor.{AnyActor}
 use Rattle.lxr_core.specs.declared.actors.AnyActor.TheVariants as any
 use Rattle.lxr_core.specs.Actors.{AreInOrder, any_machine, mutators_in}
@@ -42,10 +43,10 @@ pub limits_are : AreLimits LIMITS
 limits_are = record { blocks = (omega arith, omega arith); threads = (omega arith, omega arith); log = (omega arith, omega arith); remember = (omega arith, omega arith) }
 
 pub for_death : (d : DecrementerState) → d ≡ decrementers.first LIMITS → IsFor job.Die (any.Decrementer d)
-for_death d is = subst (λ x. IsFor job.Die (any.Decrementer x)) (sym is) ((dec_stay.stay_so.first LIMITS limits_are, refl), refl)
+for_death d is = subst (λ x. IsFor job.Die (any.Decrementer x)) (sym is) (((lemma.stay_so decrementer_work decrementer_lawful).first LIMITS limits_are, refl), refl)
 
 pub for_trace : (t : TracerState) → t ≡ tracers.first LIMITS → IsFor job.Trace (any.Tracer t)
-for_trace t is = subst (λ x. IsFor job.Trace (any.Tracer x)) (sym is) ((tra_stay.stay_so.first LIMITS limits_are, refl), refl)
+for_trace t is = subst (λ x. IsFor job.Trace (any.Tracer x)) (sym is) (((lemma.stay_so tracer_work tracer_lawful).first LIMITS limits_are, refl), refl)
 
 -- ---- all of a job
 
@@ -67,8 +68,8 @@ helper_for job.Trace (any.Tracer t) is = is.0
 
 knows_end : (a : AnyActor) → IsHelperOf LIMITS a → KnowsEnd a
 knows_end (any.Mutator m) is none = absurd is
-knows_end (any.Decrementer d) is none = ap (λ o. is_some (option_map turn.Decrementer o)) (((dec_finish.finished_by_rule).finished d).0 none).found_nothing
-knows_end (any.Tracer t) is none = ap (λ o. is_some (option_map turn.Tracer o)) (((tra_finish.finished_by_rule).finished t).0 none).found_nothing
+knows_end (any.Decrementer d) is none = ap (λ o. is_some (option_map turn.Decrementer o)) (((lemma.finished_by_rule decrementer_work decrementer_lawful).finished d).0 none).found_nothing
+knows_end (any.Tracer t) is none = ap (λ o. is_some (option_map turn.Tracer o)) (((lemma.finished_by_rule tracer_work tracer_lawful).finished t).0 none).found_nothing
 
 pub are_resting : (j : Job) (actors : List AnyActor) → All (IsFor j) actors → AreResting actors
 are_resting j actors all i a at = rests_for j a (all_at (IsFor j) actors i a at all)

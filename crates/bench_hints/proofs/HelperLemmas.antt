@@ -10,6 +10,9 @@ use Rattle.lxr_layout.specs.Spaces.{region_begin, regions_of}
 use Rattle.lxr_base.specs.Roomy.{pushed}
 use Rattle.lxr_pocket.specs.Pockets.{has_room}
 use Rattle.lxr_pocket.specs.Words.{is_in_heap}
+use Rattle.lxr_pocket.specs.declared.states.HelperState.{HelperState}
+use Rattle.lxr_pocket.specs.Helpers as helper
+use Rattle.lxr_pocket.proofs.HelperLemmas as lemma
 use Rattle.lxr_actor.specs.declared.Action.{Action}
 use Rattle.lxr_actor.specs.declared.Core.{Core}
 use Rattle.lxr_actor.specs.declared.Event.{Event}
@@ -20,17 +23,17 @@ use Rattle.lxr_barrier.proofs.ViewLemmas.{all_at}
 use Rattle.lxr_decrement.specs.declared.phases.DecrementerPhase.{DecrementerPhase}
 use Rattle.lxr_decrement.specs.declared.phases.DecrementerPhase.TheVariants as dec
 use Rattle.lxr_decrement.specs.Decrementing.{DecrementerState}
-use Rattle.lxr_decrement.specs.Decrementers as decrementers
+use Rattle.lxr_decrement.specs.Phases as dec_phases
 use Rattle.lxr_decrement.specs.Steps as dec_steps
-use Rattle.lxr_decrement.proofs.FinishLemmas as dec_finish
-use Rattle.lxr_decrement.proofs.StayLemmas as dec_stay
+use Rattle.lxr_decrement.specs.Steps.{decrementer_work}
+use Rattle.lxr_decrement.specs.Lawful.{decrementer_lawful}
 use Rattle.lxr_trace.specs.declared.phases.TracerPhase.{TracerPhase}
 use Rattle.lxr_trace.specs.declared.phases.TracerPhase.TheVariants as tra
 use Rattle.lxr_trace.specs.Tracing.{TracerState}
-use Rattle.lxr_trace.specs.Tracers as tracers
+use Rattle.lxr_trace.specs.Phases as tra_phases
 use Rattle.lxr_trace.specs.Steps as tra_steps
-use Rattle.lxr_trace.proofs.FinishLemmas as tra_finish
-use Rattle.lxr_trace.proofs.StayLemmas as tra_stay
+use Rattle.lxr_trace.specs.Steps.{tracer_work}
+use Rattle.lxr_trace.specs.Lawful.{tracer_lawful}
 use Rattle.lxr_core.specs.declared.actors.AnyActor.{AnyActor}
 use Rattle.lxr_core.specs.declared.actors.AnyActor.TheVariants as any
 use Rattle.lxr_core.specs.Actors.{AreInOrder, any_machine}
@@ -43,7 +46,7 @@ word_is : (x act : Action) → Some x ≡ Some act → x.word ≡ act.word
 word_is x act e = let same : x ≡ act = cc in ap (λ (a : Action). a.word) same
 
 -- a step of a decrementer is on a word of its space
-dec_word : (l : Limits) (p : DecrementerPhase) (act : Action) → decrementers.IsIn (regions_of l) p → dec_steps.action_in (regions_of l) p ≡ Some act → act.word < region_begin l 15
+dec_word : (l : Limits) (p : DecrementerPhase) (act : Action) → dec_phases.IsIn (regions_of l) p → dec_steps.action_in (regions_of l) p ≡ Some act → act.word < region_begin l 15
 dec_word l dec.Resting act is e = absurd (cc)
 dec_word l (dec.AsksCount place) act is e = let w = word_is _ act e in let some = is.0 in let last = is.1 in omega arith
 dec_word l (dec.AsksStart place uncounted) act is e = let w = word_is _ act e in let some = is.0 in let last = is.1 in omega arith
@@ -60,7 +63,7 @@ dec_word l (dec.Draws count) act is e = let w = word_is _ act e in omega arith
 dec_word l (dec.ReadsEntry number) act is e = let w = word_is _ act e in let within = is in omega arith
 
 -- and so is one of a tracer
-tra_word : (l : Limits) (p : TracerPhase) (act : Action) → tracers.IsIn (regions_of l) p → tra_steps.action_in (regions_of l) p ≡ Some act → act.word < region_begin l 15
+tra_word : (l : Limits) (p : TracerPhase) (act : Action) → tra_phases.IsIn (regions_of l) p → tra_steps.action_in (regions_of l) p ≡ Some act → act.word < region_begin l 15
 tra_word l tra.Resting act is e = absurd (cc)
 tra_word l (tra.AsksGray place) act is e = let w = word_is _ act e in let some = is.0 in let last = is.1 in omega arith
 tra_word l (tra.AsksObject place gray) act is e = let w = word_is _ act e in let some = is.0 in let last = is.1 in omega arith
@@ -78,25 +81,16 @@ tra_word l tra.FindsNothing act is e = let w = word_is _ act e in omega arith
 some_is : (o : Option Action) (act : Action) → o ≡ Some act → IsSome o
 some_is o act e = ap is_some e
 
--- a unit that begins stays in its space
-dec_begun : (d : DecrementerState) (p : DecrementerPhase) → (dec_steps.begun_in d p).regions ≡ d.regions
-dec_begun d dec.Resting = refl
-dec_begun d p = refl
-
-tra_begun : (t : TracerState) (p : TracerPhase) → (tra_steps.begun_in t p).regions ≡ t.regions
-tra_begun t tra.Resting = refl
-tra_begun t p = refl
-
 helper_word : (l : Limits) (a : AnyActor) (act : Action) → IsHelperOf l a → any_machine.action a ≡ Some act → act.word < region_begin l 15
 helper_word l (any.Mutator m) act is e = absurd is
 helper_word l (any.Decrementer d) act (sound, space) e =
-    let begun = dec_stay.begun_stays d d.phase sound in
-    let acts : dec_steps.action_in d.regions (dec_steps.begun d).phase ≡ Some act = sym (dec_finish.unfinished d (some_is _ act e)) ∙ e in
-    dec_word l (dec_steps.begun d).phase act (subst (λ r. decrementers.IsIn r (dec_steps.begun d).phase) (dec_begun d d.phase ∙ space) begun.phase) (subst (λ r. dec_steps.action_in r (dec_steps.begun d).phase ≡ Some act) space acts)
+    let begun = lemma.begun_stays decrementer_work decrementer_lawful d sound in
+    let acts : dec_steps.action_in d.regions (helper.begun decrementer_work d).phase ≡ Some act = sym (lemma.unfinished decrementer_work d (some_is _ act e)) ∙ e in
+    dec_word l (helper.begun decrementer_work d).phase act (subst (λ r. dec_phases.IsIn r (helper.begun decrementer_work d).phase) (lemma.begun_regions decrementer_work d ∙ space) begun.phase) (subst (λ r. dec_steps.action_in r (helper.begun decrementer_work d).phase ≡ Some act) space acts)
 helper_word l (any.Tracer t) act (sound, space) e =
-    let begun = tra_stay.begun_stays t t.phase sound in
-    let acts : tra_steps.action_in t.regions (tra_steps.begun t).phase ≡ Some act = sym (tra_finish.unfinished t (some_is _ act e)) ∙ e in
-    tra_word l (tra_steps.begun t).phase act (subst (λ r. tracers.IsIn r (tra_steps.begun t).phase) (tra_begun t t.phase ∙ space) begun.phase) (subst (λ r. tra_steps.action_in r (tra_steps.begun t).phase ≡ Some act) space acts)
+    let begun = lemma.begun_stays tracer_work tracer_lawful t sound in
+    let acts : tra_steps.action_in t.regions (helper.begun tracer_work t).phase ≡ Some act = sym (lemma.unfinished tracer_work t (some_is _ act e)) ∙ e in
+    tra_word l (helper.begun tracer_work t).phase act (subst (λ r. tra_phases.IsIn r (helper.begun tracer_work t).phase) (lemma.begun_regions tracer_work t ∙ space) begun.phase) (subst (λ r. tra_steps.action_in r (helper.begun tracer_work t).phase ≡ Some act) space acts)
 
 -- ---- what events leave
 
@@ -104,13 +98,9 @@ helper_word l (any.Tracer t) act (sound, space) e =
 abbrev offered_if : {D : Type 0} → Bool → D → D → D × Bool
 offered_if b x y = if b then (x, true) else (y, false)
 
-dec_offered : (r : Regions) (b : Bool) (x y : DecrementerState) → x.regions ≡ r → y.regions ≡ r → (offered_if b x y).0.regions ≡ r
-dec_offered r true x y first second = first
-dec_offered r false x y first second = second
-
-tra_offered : (r : Regions) (b : Bool) (x y : TracerState) → x.regions ≡ r → y.regions ≡ r → (offered_if b x y).0.regions ≡ r
-tra_offered r true x y first second = first
-tra_offered r false x y first second = second
+offered_regions : {P E : Type 0} (r : Regions) (b : Bool) (x y : HelperState P E) → x.regions ≡ r → y.regions ≡ r → (offered_if b x y).0.regions ≡ r
+offered_regions r true x y first second = first
+offered_regions r false x y first second = second
 
 -- an event makes a helper of a helper, of the same kind
 pub record IsStill (l : Limits) (a b : AnyActor) : Type 0 where
@@ -119,8 +109,8 @@ pub record IsStill (l : Limits) (a b : AnyActor) : Type 0 where
 
 after_still : (l : Limits) (a : AnyActor) (old : ℕ) → IsHelperOf l a → IsStill l a (any_machine.after a old)
 after_still l (any.Mutator m) old is = absurd is
-after_still l (any.Decrementer d) old (sound, space) = record { helper = (dec_stay.stay_so.after d old sound, dec_stay.stay_so.regions d old ∙ space); kind = two_helpers d (dec_steps.after d old) }
-after_still l (any.Tracer t) old (sound, space) = record { helper = (tra_stay.stay_so.after t old sound, tra_stay.stay_so.regions t old ∙ space); kind = two_tracers t (tra_steps.after t old) }
+after_still l (any.Decrementer d) old (sound, space) = record { helper = ((lemma.stay_so decrementer_work decrementer_lawful).after d old sound, (lemma.stay_so decrementer_work decrementer_lawful).regions d old ∙ space); kind = two_helpers d (helper.after decrementer_work d old) }
+after_still l (any.Tracer t) old (sound, space) = record { helper = ((lemma.stay_so tracer_work tracer_lawful).after t old sound, (lemma.stay_so tracer_work tracer_lawful).regions t old ∙ space); kind = two_tracers t (helper.after tracer_work t old) }
 
 acted_still : (l : Limits) (words : List ℕ) (a : AnyActor) (o : Option Action) → IsHelperOf l a → IsStill l a (acted any_machine words a o).1
 acted_still l words (any.Mutator m) None is = absurd is
@@ -130,13 +120,13 @@ acted_still l words a (Some act) is = after_still l a (slice_index words act.wor
 
 pub given_still : (l : Limits) (a : AnyActor) (place : Place) → IsHelperOf l a → IsStill l a (any_machine.offered a place).0
 given_still l (any.Mutator m) place is = absurd is
-given_still l (any.Decrementer d) place (sound, space) = record { helper = (dec_stay.stay_so.offered d place sound, dec_offered (regions_of l) (is_in_heap d.regions place.0 && has_room d.pocket) (record d { pocket = pushed d.pocket place }) d space space); kind = two_helpers d _ }
-given_still l (any.Tracer t) place (sound, space) = record { helper = (tra_stay.stay_so.offered t place sound, tra_offered (regions_of l) (is_in_heap t.regions place.0 && has_room t.pocket) (record t { pocket = pushed t.pocket place }) t space space); kind = two_tracers t _ }
+given_still l (any.Decrementer d) place (sound, space) = record { helper = ((lemma.stay_so decrementer_work decrementer_lawful).offered d place sound, offered_regions (regions_of l) (is_in_heap d.regions place.0 && has_room d.pocket) (record d { pocket = pushed d.pocket place }) d space space); kind = two_helpers d _ }
+given_still l (any.Tracer t) place (sound, space) = record { helper = ((lemma.stay_so tracer_work tracer_lawful).offered t place sound, offered_regions (regions_of l) (is_in_heap t.regions place.0 && has_room t.pocket) (record t { pocket = pushed t.pocket place }) t space space); kind = two_tracers t _ }
 
 out_still : (l : Limits) (a : AnyActor) → IsHelperOf l a → IsStill l a (any_machine.spared a).0
 out_still l (any.Mutator m) is = absurd is
-out_still l (any.Decrementer d) (sound, space) = record { helper = (dec_stay.stay_so.spared d sound, space); kind = two_helpers d _ }
-out_still l (any.Tracer t) (sound, space) = record { helper = (tra_stay.stay_so.spared t sound, space); kind = two_tracers t _ }
+out_still l (any.Decrementer d) (sound, space) = record { helper = ((lemma.stay_so decrementer_work decrementer_lawful).spared d sound, space); kind = two_helpers d _ }
+out_still l (any.Tracer t) (sound, space) = record { helper = ((lemma.stay_so tracer_work tracer_lawful).spared t sound, space); kind = two_tracers t _ }
 
 change_still : (l : Limits) (e : Event) (words : List ℕ) (a : AnyActor) → IsHelperOf l a → IsStill l a (change any_machine e words a).1
 change_still l (Step n) words a is = acted_still l words a (any_machine.action a) is

@@ -134,7 +134,7 @@ shows_decrementer b execution cleared n d is at = record {
   size = is.size;
   tables = refl;
   shows = mapped decrementing_of (decrementers_in execution.core.actors) at.number d at.stands;
-  decrementer = is.decrementers at.number d at.stands;
+  helper = is.decrementers at.number d at.stands;
 }
 
 -- and a tracer among tracers
@@ -145,7 +145,7 @@ shows_tracer b execution cleared n d is at = record {
   size = is.size;
   tables = refl;
   shows = mapped tracing_of (tracers_in execution.core.actors) at.number d at.stands;
-  tracer = is.tracers at.number d at.stands;
+  helper = is.tracers at.number d at.stands;
 }
 
 -- ---- places offered and given up
@@ -295,7 +295,7 @@ module _ (b : Beginning) where
             order = put_order actors n (any.Decrementer d) (any.Decrementer d') there (two_helpers d d') is.order;
             mutators = subst (λ ms. (i : ℕ) (m : Mutating) → slice_get ms i ≡ Some m → IsMutatorOf (limits_of b) m) (sym stay) is.mutators;
             decrementers = subst (λ ds. (i : ℕ) (x : DecrementerState) → slice_get ds i ≡ Some x → IsDecrementerOf (limits_of b) x) (sym (at.put d'))
-                (each_set (IsDecrementerOf (limits_of b)) (decrementers_in actors) at.number d' by.decrementer is.decrementers);
+                (each_set (IsDecrementerOf (limits_of b)) (decrementers_in actors) at.number d' by.helper is.decrementers);
             tracers = subst (λ ts. (i : ℕ) (x : TracerState) → slice_get ts i ≡ Some x → IsTracerOf (limits_of b) x) (sym beside) is.tracers;
           },
         ),
@@ -328,7 +328,7 @@ module _ (b : Beginning) where
             mutators = subst (λ ms. (i : ℕ) (m : Mutating) → slice_get ms i ≡ Some m → IsMutatorOf (limits_of b) m) (sym stay) is.mutators;
             decrementers = subst (λ ds. (i : ℕ) (x : DecrementerState) → slice_get ds i ≡ Some x → IsDecrementerOf (limits_of b) x) (sym beside) is.decrementers;
             tracers = subst (λ ts. (i : ℕ) (x : TracerState) → slice_get ts i ≡ Some x → IsTracerOf (limits_of b) x) (sym (at.put d'))
-                (each_set (IsTracerOf (limits_of b)) (tracers_in actors) at.number d' by.tracer is.tracers);
+                (each_set (IsTracerOf (limits_of b)) (tracers_in actors) at.number d' by.helper is.tracers);
           },
         ),
         λ c. subst (λ (t : Tables). s.tables.cursors c ≤ t.cursors c) by.tables (cursors_dont_fall.tracers b s at.number by.access (tracing_of d') by.may c),

@@ -34,7 +34,7 @@ use Rattle.lxr_pocket.specs.Indexes.{HaveIndexes}
 use Rattle.lxr_pocket.specs.Words.{InHeap}
 use Rattle.lxr_trace.specs.declared.phases.TracerPhase.TheVariants as trace_phase
 use Rattle.lxr_trace.specs.Tracing.{TracerState}
-use Rattle.lxr_trace.specs.Tracers.{IsIn as IsTracerIn}
+use Rattle.lxr_trace.specs.Phases.{IsIn as IsTracerIn}
 use Rattle.lxr_trace.specs.Tracers.{again as trace_again}
 use Rattle.lxr_core_access.specs.Decrementers.{Decrementing}
 use Rattle.lxr_core_access.specs.Tracers.{Tracing}

@@ -3,16 +3,16 @@ use Rattle.std.proofs.Common.{◌≡◌, ℕ, Bool, true, false, refl, ap}
 use Rattle.std.specs.Prelude.{◌&&◌, nat_eq, if◌then◌else◌}
 use Rattle.lxr_layout.specs.declared.Place.{Place}
 use Rattle.lxr_pocket.specs.Words.{granule_of}
+use Rattle.lxr_pocket.specs.Helpers.{goes_to, tries_next}
 use Rattle.lxr_decrement.specs.declared.phases.DecrementerPhase.TheVariants as phase
 use Rattle.lxr_decrement.specs.Decrementing.{DecrementerState}
-use Rattle.lxr_decrement.specs.Steps.{in_phase, looks_on}
 use Rattle.lxr_core_access.specs.declared.TableEntry.TheVariants as table_entry
 use Rattle.lxr_core_access.specs.declared.Access.TheVariants as access
 use Rattle.lxr_core_access.specs.Decrementers.{Decrementing, DecrementerGoes, IsTry, AsksStart, Claims, ReadsHeader}
 use Rattle.lxr_core_access.specs.Decrementers as goes
 use Rattle.lxr_core_invariant.specs.EpochStates.{Beginning, EpochState, limits_of}
 use Rattle.lxr_core_sim_helpers.specs.DecrementerShowing.{decrementing_of}
-use Rattle.lxr_core_sim_helpers.proofs.DecrementerOutcomeLemmas.{Leads}
+use Rattle.lxr_core_sim_helpers.proofs.DecrementerOutcomeLemmas.{Leads, led, looks_on}
 
 -- it looks at the count
 pub asks_count : (b : Beginning) (s : EpochState) (d : DecrementerState) (place : Place) → Leads b s d (phase.AsksCount place)
@@ -28,7 +28,7 @@ asks_count b s d place = record {
 module _ (b : Beginning) (s : EpochState) (d : DecrementerState) (place : Place) (try : IsTry (limits_of b).blocks (decrementing_of (looks_on d))) where
   -- it has looked at the start bit, by whether the count was 0 and what the bit was
   abbrev started : Bool → Bool → Decrementing
-  started uncounted bit = decrementing_of (if uncounted && bit then in_phase d (phase.Claims place) else looks_on d)
+  started uncounted bit = decrementing_of (led d (if uncounted && bit then goes_to (phase.Claims place) else tries_next))
 
   started_goes : (uncounted bit : Bool) → s.tables.starts (granule_of place) ≡ bit → DecrementerGoes (limits_of b).blocks s.tables (AsksStart place.0 uncounted) (started uncounted bit)
   started_goes true true e = goes.started place.0 e
@@ -48,7 +48,7 @@ module _ (b : Beginning) (s : EpochState) (d : DecrementerState) (place : Place)
 
   -- it has claimed the object by its done bit, by what that was
   abbrev claimed : Bool → Decrementing
-  claimed bit = decrementing_of (if bit then looks_on d else in_phase d (phase.ReadsHeader place))
+  claimed bit = decrementing_of (led d (if bit then tries_next else goes_to (phase.ReadsHeader place)))
 
   claimed_goes : (bit : Bool) → s.tables.dones (granule_of place) ≡ bit → DecrementerGoes (limits_of b).blocks s.tables (goes.Claims place.0) (claimed bit)
   claimed_goes true e = goes.claimed_before place.0 (decrementing_of (looks_on d)) e try

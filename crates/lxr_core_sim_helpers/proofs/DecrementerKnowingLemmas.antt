@@ -32,25 +32,6 @@ use Rattle.lxr_core_inv_counts.proofs.KeepingLemmas.{decrementers_keep_counts}
 
 -- ---- places
 
--- both of two tests hold
-both : (c d : Bool) → c ≡ true → d ≡ true → (c && d) ≡ true
-both true d h k = k
-both false d h k = h
-
--- a place of the heap is told as one
-pub place_told : (l : Limits) (r : Regions) (place : ℕ) → r ≡ regions_of l → IsInHeap l.blocks place → referent_in r place ≡ Some (record { 0 = place })
-place_told l r place is low =
-    let some = low.0 in
-    let within = low.1 in
-    let counts : r.counts ≡ 4096 * l.blocks = ap (λ x. x.counts) is ∙ omega arith in
-    let first : nat_le 1 place ≡ true = grind (arith, some) in
-    let last : nat_le place (r.counts / 2) ≡ true = let h : place ≤ r.counts / 2 = omega (arith, counts, within) in grind (arith, h) in
-    ap (λ c. if c then Some (record { 0 = place }) else None) (both (nat_le 1 place) (nat_le place (r.counts / 2)) first last)
-
--- so is nil as none
-pub nil_told : (r : Regions) → referent_in r 0 ≡ None
-nil_told r = refl
-
 -- an unreclaimed name's object stands at a place of the heap, where its start bit is set
 pub record IsStarted (b : Beginning) (s : EpochState) (place : ℕ) : Type 0 where
   pub in_heap : IsInHeap (limits_of b).blocks place

@@ -7,11 +7,12 @@ use Rattle.lxr_layout.specs.declared.Place.{Place}
 use Rattle.lxr_layout.specs.Spaces.{regions_of}
 use Rattle.lxr_image.specs.Tables.{Tables}
 use Rattle.lxr_pocket.specs.Words.{referent_in}
+use Rattle.lxr_pocket.specs.Helpers.{ends, goes_to}
 use Rattle.lxr_decrement.specs.declared.phases.DecEnd.TheVariants.{Nothing}
 use Rattle.lxr_decrement.specs.declared.phases.DecrementerPhase.TheVariants as phase
 use Rattle.lxr_decrement.specs.Decrementing.{DecrementerState}
 use Rattle.lxr_decrement.specs.Words.{listed_in}
-use Rattle.lxr_decrement.specs.Steps.{compared, drawn, entered, in_phase, through}
+use Rattle.lxr_decrement.specs.Steps.{compared, drawn, entered}
 use Rattle.lxr_core_access.specs.declared.TableEntry.TheVariants as table_entry
 use Rattle.lxr_core_access.specs.declared.Access.TheVariants as access
 use Rattle.lxr_core_access.specs.Decrementers.{Decrementing, DecrementerGoes, AsksLowered, AsksNumber, Entry, ReadsEntry, Rests}
@@ -20,8 +21,10 @@ use Rattle.lxr_core_invariant.specs.EpochStates.{Beginning, EpochState, limits_o
 use Rattle.lxr_core_invariant.specs.Epoch.{IsEpoch}
 use Rattle.lxr_core_inv_counts.proofs.GroundLemmas.{ground_of}
 use Rattle.lxr_core_sim_helpers.specs.DecrementerShowing.{decrementing_of}
-use Rattle.lxr_core_sim_helpers.proofs.DecrementerOutcomeLemmas.{Leads, is_from, is_less}
-use Rattle.lxr_core_sim_helpers.proofs.DecrementerKnowingLemmas.{list_told, place_told, started_there}
+use Rattle.lxr_core_sim_helpers.proofs.HelperLemmas.{is_from, is_less}
+use Rattle.lxr_core_sim_helpers.proofs.HelperKnowingLemmas.{place_told}
+use Rattle.lxr_core_sim_helpers.proofs.DecrementerOutcomeLemmas.{Leads, led}
+use Rattle.lxr_core_sim_helpers.proofs.DecrementerKnowingLemmas.{list_told, started_there}
 
 -- it looks at the cursor of decrements
 pub asks_cursor : (b : Beginning) (s : EpochState) (d : DecrementerState) → Leads b s d phase.AsksCursor
@@ -46,7 +49,7 @@ compared_goes : (blocks : ℕ) (t : Tables) (cursor : ℕ) (more : Bool) → nat
 compared_goes blocks t cursor true e = goes.finds_some cursor (is_less cursor (t.cursors DECREMENT_COUNT) e)
 compared_goes blocks t cursor false e = goes.finds_none cursor (is_from cursor (t.cursors DECREMENT_COUNT) e)
 
-compared_shown : (d : DecrementerState) (count : ℕ) (more : Bool) → decrementing_of (if more then in_phase d (phase.Draws count) else through d Nothing) ≡ compared_next count more
+compared_shown : (d : DecrementerState) (count : ℕ) (more : Bool) → decrementing_of (led d (if more then goes_to (phase.Draws count) else ends Nothing)) ≡ compared_next count more
 compared_shown d count true = refl
 compared_shown d count false = refl
 
@@ -60,8 +63,8 @@ asks_number b s d cursor is regions =
       acts = λ r. refl;
       access_is = refl;
       goes = compared_goes (limits_of b).blocks s.tables cursor (nat_lt cursor count) refl;
-      leads = λ old told. ap (λ (word : ℕ). decrementing_of (compared d cursor (listed_in d.regions word))) told
-          ∙ ap (λ (listed : ℕ). decrementing_of (compared d cursor listed)) (list_told b s d.regions is regions)
+      leads = λ old told. ap (λ (word : ℕ). decrementing_of (led d (compared cursor (listed_in d.regions word)))) told
+          ∙ ap (λ (listed : ℕ). decrementing_of (led d (compared cursor listed))) (list_told b s d.regions is regions)
           ∙ compared_shown d count (nat_lt cursor count);
     }
 
@@ -75,7 +78,7 @@ drawn_goes : (blocks : ℕ) (t : Tables) (count : ℕ) (more : Bool) → nat_lt 
 drawn_goes blocks t count true e = goes.draws count (is_less (t.cursors DECREMENT_CURSOR) count e)
 drawn_goes blocks t count false e = goes.draws_none count (is_from (t.cursors DECREMENT_CURSOR) count e)
 
-drawn_shown : (d : DecrementerState) (number : ℕ) (more : Bool) → decrementing_of (if more then in_phase d (phase.ReadsEntry number) else through d Nothing) ≡ drawn_next number more
+drawn_shown : (d : DecrementerState) (number : ℕ) (more : Bool) → decrementing_of (led d (if more then goes_to (phase.ReadsEntry number) else ends Nothing)) ≡ drawn_next number more
 drawn_shown d number true = refl
 drawn_shown d number false = refl
 
@@ -89,7 +92,7 @@ draws b s d count =
       acts = λ r. refl;
       access_is = refl;
       goes = drawn_goes (limits_of b).blocks s.tables count (nat_lt cursor count) refl;
-      leads = λ old told. ap (λ (number : ℕ). decrementing_of (drawn d count number)) told ∙ drawn_shown d cursor (nat_lt cursor count);
+      leads = λ old told. ap (λ (number : ℕ). decrementing_of (led d (drawn count number))) told ∙ drawn_shown d cursor (nat_lt cursor count);
     }
 
 -- it reads the entry of a number that it has drawn
@@ -106,5 +109,5 @@ reads_entry b s d number is regions drawn =
       acts = λ r. refl;
       access_is = refl;
       goes = goes.reads_entry number;
-      leads = λ old told. ap (λ (w : ℕ). decrementing_of (entered d (referent_in d.regions w))) told ∙ ap (λ (r : Option Place). decrementing_of (entered d r)) there;
+      leads = λ old told. ap (λ (w : ℕ). decrementing_of (led d (entered (referent_in d.regions w)))) told ∙ ap (λ (r : Option Place). decrementing_of (led d (entered r))) there;
     }

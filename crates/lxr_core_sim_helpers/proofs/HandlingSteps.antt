@@ -14,7 +14,7 @@ use Rattle.lxr_pocket.specs.Words.{references_in, referent_in}
 use Rattle.lxr_decrement.specs.declared.phases.DecrementerPhase.TheVariants as phase
 use Rattle.lxr_decrement.specs.declared.phases.Handling.TheVariants as handled
 use Rattle.lxr_decrement.specs.Decrementing.{DecrementerState}
-use Rattle.lxr_decrement.specs.Steps.{handled, referred}
+use Rattle.lxr_decrement.specs.Steps.{referred}
 use Rattle.lxr_core_access.specs.declared.Access.{Access}
 use Rattle.lxr_core_access.specs.declared.TableEntry.TheVariants as table_entry
 use Rattle.lxr_core_access.specs.declared.Access.TheVariants as access
@@ -25,8 +25,10 @@ use Rattle.lxr_core_invariant.specs.Counted.{IsDoneAt, KnowsCounts, StandsAt}
 use Rattle.lxr_core_invariant.specs.Decremented.{MayDecrement}
 use Rattle.lxr_core_invariant.specs.Epoch.{IsEpoch}
 use Rattle.lxr_core_sim_helpers.specs.DecrementerShowing.{decrementing_of}
-use Rattle.lxr_core_sim_helpers.proofs.DecrementerOutcomeLemmas.{Leads, handled_shown, is_not_zero, is_zero}
-use Rattle.lxr_core_sim_helpers.proofs.DecrementerKnowingLemmas.{header_there, known_next, nil_told, place_told, started_there}
+use Rattle.lxr_core_sim_helpers.proofs.HelperLemmas.{is_not_zero, is_zero}
+use Rattle.lxr_core_sim_helpers.proofs.HelperKnowingLemmas.{nil_told, place_told}
+use Rattle.lxr_core_sim_helpers.proofs.DecrementerOutcomeLemmas.{Leads, handled_shown, led}
+use Rattle.lxr_core_sim_helpers.proofs.DecrementerKnowingLemmas.{header_there, known_next, started_there}
 
 -- it looks at the header of an object that is done
 pub reads_header : (b : Beginning) (s : EpochState) (d : DecrementerState) (place : Place) → IsEpoch b s → d.regions ≡ regions_of (limits_of b)
@@ -79,7 +81,7 @@ read_goes blocks t place refs index false some = goes.reads_untraced place refs 
 
 -- so does the machine, where it is told the place of the reference
 read_shown : (d : DecrementerState) (place : Place) (refs index : ℕ) (traced : Bool) (word : ℕ)
-    → decrementing_of (referred d place refs index traced (Some (record { 0 = word }))) ≡ read_next place.0 refs index traced word
+    → decrementing_of (led d (referred place refs index traced (Some (record { 0 = word })))) ≡ read_next place.0 refs index traced word
 read_shown d place refs index true word = refl
 read_shown d place refs index false word = refl
 
@@ -105,8 +107,8 @@ module _ (b : Beginning) (s : EpochState) (i : ℕ) (d : DecrementerState) (plac
     acts = λ r. refl;
     access_is = refl;
     goes = goes.reads_nil place.0 refs index traced nil;
-    leads = λ old told. ap (λ (w : ℕ). decrementing_of (referred d place refs index traced (referent_in d.regions w))) (told ∙ nil)
-        ∙ ap (λ (r : Option Place). decrementing_of (referred d place refs index traced r)) (nil_told d.regions)
+    leads = λ old told. ap (λ (w : ℕ). decrementing_of (led d (referred place refs index traced (referent_in d.regions w)))) (told ∙ nil)
+        ∙ ap (λ (r : Option Place). decrementing_of (led d (referred place refs index traced r))) (nil_told d.regions)
         ∙ handled_shown d (handled.References place refs (index + 1) traced);
   }
 
@@ -130,8 +132,8 @@ module _ (b : Beginning) (s : EpochState) (i : ℕ) (d : DecrementerState) (plac
         acts = λ r. refl;
         access_is = refl;
         goes = leads;
-        leads = λ old told. ap (λ (w : ℕ). decrementing_of (referred d place refs index traced (referent_in d.regions w))) told
-            ∙ ap (λ (r : Option Place). decrementing_of (referred d place refs index traced r)) there
+        leads = λ old told. ap (λ (w : ℕ). decrementing_of (led d (referred place refs index traced (referent_in d.regions w)))) told
+            ∙ ap (λ (r : Option Place). decrementing_of (led d (referred place refs index traced r))) there
             ∙ read_shown d place refs index traced word;
       }
 

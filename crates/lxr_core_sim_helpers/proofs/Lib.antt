@@ -1,3 +1,5 @@
+pub mod HelperLemmas
+pub mod HelperKnowingLemmas
 pub mod DecrementerOutcomeLemmas
 pub mod DecrementerKnowingLemmas
 pub mod DecrementerAskingSteps

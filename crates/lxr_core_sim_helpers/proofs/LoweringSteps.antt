@@ -5,18 +5,19 @@ use Rattle.lxr_layout.specs.declared.TheConstants.{STUCK}
 use Rattle.lxr_layout.specs.declared.Place.{Place}
 use Rattle.lxr_image.specs.Tables.{Tables}
 use Rattle.lxr_image.specs.Reads.{granule_of}
+use Rattle.lxr_pocket.specs.Helpers.{goes_to, keeping}
 use Rattle.lxr_decrement.specs.declared.phases.DecrementerPhase.TheVariants as phase
 use Rattle.lxr_decrement.specs.declared.phases.Handling as machine
 use Rattle.lxr_decrement.specs.Decrementing.{DecrementerState}
-use Rattle.lxr_decrement.specs.Words.{count_in}
-use Rattle.lxr_decrement.specs.Steps.{counted, handled, in_phase, lowered}
+use Rattle.lxr_decrement.specs.Steps.{counted, decrementer_work, handled, keeps_in}
 use Rattle.lxr_core_access.specs.declared.TableEntry.TheVariants as table_entry
 use Rattle.lxr_core_access.specs.declared.Access.TheVariants as access
 use Rattle.lxr_core_access.specs.Decrementers.{Decrementing, DecrementerGoes, handled_next}
 use Rattle.lxr_core_access.specs.Decrementers as goes
 use Rattle.lxr_core_invariant.specs.EpochStates.{Beginning, EpochState, limits_of}
 use Rattle.lxr_core_sim_helpers.specs.DecrementerShowing.{decrementing_of, handling_of}
-use Rattle.lxr_core_sim_helpers.proofs.DecrementerOutcomeLemmas.{Leads, handled_shown, is_not_zero, is_zero}
+use Rattle.lxr_core_sim_helpers.proofs.HelperLemmas.{is_not_zero, is_zero}
+use Rattle.lxr_core_sim_helpers.proofs.DecrementerOutcomeLemmas.{Leads, handled_shown, led}
 
 -- what it is about to do once it has looked at a count, by whether that is 0 or stuck
 abbrev asked_next : Place → machine.Handling → Bool → Decrementing
@@ -34,7 +35,7 @@ asked_goes blocks t referent handling false false z k =
 
 -- so does the machine
 asked_shown : (d : DecrementerState) (referent : Place) (handling : machine.Handling) (kept : Bool)
-    → decrementing_of (if kept then handled d handling else in_phase d (phase.Lowers referent handling)) ≡ asked_next referent handling kept
+    → decrementing_of (led d (if kept then handled handling else goes_to (phase.Lowers referent handling))) ≡ asked_next referent handling kept
 asked_shown d referent handling true = handled_shown d handling
 asked_shown d referent handling false = refl
 
@@ -49,7 +50,7 @@ module _ (b : Beginning) (s : EpochState) (d : DecrementerState) (referent : Pla
         acts = λ r. refl;
         access_is = refl;
         goes = asked_goes (limits_of b).blocks s.tables referent handling (nat_eq count 0) (nat_eq count STUCK) refl refl;
-        leads = λ old told. ap (λ (c : ℕ). decrementing_of (counted d referent handling c)) told ∙ asked_shown d referent handling (nat_eq count 0 || nat_eq count STUCK);
+        leads = λ old told. ap (λ (c : ℕ). decrementing_of (led d (counted referent handling c))) told ∙ asked_shown d referent handling (nat_eq count 0 || nat_eq count STUCK);
       }
 
   -- it lowers the count
@@ -60,5 +61,5 @@ module _ (b : Beginning) (s : EpochState) (d : DecrementerState) (referent : Pla
     acts = λ r. refl;
     access_is = refl;
     goes = goes.lowers referent.0 (handling_of handling);
-    leads = λ old told. handled_shown (lowered d referent (count_in referent old)) handling;
+    leads = λ old told. handled_shown (keeping decrementer_work d (keeps_in (phase.Lowers referent handling) old)) handling;
   }

@@ -9,11 +9,12 @@ use Rattle.lxr_layout.specs.Places.{field_word, first_word}
 use Rattle.lxr_layout.specs.Runs.{word_of_entry}
 use Rattle.lxr_image.specs.Reads.{granule_of}
 use Rattle.lxr_pocket.specs.Words.{has_bit, references_in, referent_in}
+use Rattle.lxr_pocket.specs.Helpers.{goes_to}
 use Rattle.lxr_trace.specs.declared.phases.Scan.{Scan}
 use Rattle.lxr_trace.specs.declared.phases.TracerPhase.TheVariants as phase
 use Rattle.lxr_trace.specs.Tracing.{TracerState}
 use Rattle.lxr_trace.specs.Words.{is_chosen}
-use Rattle.lxr_trace.specs.Steps.{drawn, in_phase, referred, scan_from_first, scanned}
+use Rattle.lxr_trace.specs.Steps.{drawn, referred, scan_from_first, scanned}
 use Rattle.lxr_invariant.proofs.BlockLemmas.{other_number}
 use Rattle.lxr_invariant.proofs.EntryLemmas.{equal_numbers}
 use Rattle.lxr_core_access.specs.declared.TableEntry.TheVariants as table_entry
@@ -26,8 +27,10 @@ use Rattle.lxr_core_invariant.specs.Traced.{IsScannedAt}
 use Rattle.lxr_core_invariant.specs.Epoch.{IsEpoch}
 use Rattle.lxr_core_inv_scans.proofs.GroundLemmas.{ground_of}
 use Rattle.lxr_core_sim_helpers.specs.TracerShowing.{tracing_of}
-use Rattle.lxr_core_sim_helpers.proofs.TracerOutcomeLemmas.{Leads, at_shown, is_below, is_not_below, is_not_zero, is_zero, scanned_shown}
-use Rattle.lxr_core_sim_helpers.proofs.TracerKnowingLemmas.{nil_told, place_told, references_are, room_is}
+use Rattle.lxr_core_sim_helpers.proofs.HelperLemmas.{is_from, is_less, is_not_zero, is_zero}
+use Rattle.lxr_core_sim_helpers.proofs.HelperKnowingLemmas.{nil_told, place_told}
+use Rattle.lxr_core_sim_helpers.proofs.TracerOutcomeLemmas.{Leads, at_shown, led, scanned_shown}
+use Rattle.lxr_core_sim_helpers.proofs.TracerKnowingLemmas.{references_are, room_is}
 
 -- it looks at the header of an object that it has marked
 pub reads_shape : (b : Beginning) (s : EpochState) (d : TracerState) (place : Place) → IsEpoch b s → d.regions ≡ regions_of (limits_of b)
@@ -61,8 +64,8 @@ module _ (b : Beginning) (s : EpochState) (d : TracerState) (scan : Scan) where
     acts = λ r. refl;
     access_is = refl;
     goes = goes.scans_nil scan.place.0 scan.refs scan.index nil;
-    leads = λ old told. ap (λ (w : ℕ). tracing_of (referred d scan (referent_in d.regions w))) (told ∙ nil)
-        ∙ ap (λ (r : Option Place). tracing_of (referred d scan r)) (nil_told d.regions)
+    leads = λ old told. ap (λ (w : ℕ). tracing_of (led d (referred scan (referent_in d.regions w)))) (told ∙ nil)
+        ∙ ap (λ (r : Option Place). tracing_of (led d (referred scan r))) (nil_told d.regions)
         ∙ scanned_shown d scan;
   }
 
@@ -74,8 +77,8 @@ module _ (b : Beginning) (s : EpochState) (d : TracerState) (scan : Scan) where
     acts = λ r. refl;
     access_is = refl;
     goes = goes.scans scan.place.0 scan.refs scan.index some;
-    leads = λ old told. ap (λ (w : ℕ). tracing_of (referred d scan (referent_in d.regions w))) told
-        ∙ ap (λ (r : Option Place). tracing_of (referred d scan r)) (place_told (limits_of b) d.regions word regions low);
+    leads = λ old told. ap (λ (w : ℕ). tracing_of (led d (referred scan (referent_in d.regions w)))) told
+        ∙ ap (λ (r : Option Place). tracing_of (led d (referred scan r))) (place_told (limits_of b) d.regions word regions low);
   }
 
   -- it reads a reference
@@ -105,7 +108,7 @@ module _ (b : Beginning) (s : EpochState) (d : TracerState) (scan : Scan) (refer
   found_goes true e = goes.finds_object scan.place.0 scan.refs scan.index referent.0 e
   found_goes false e = goes.finds_young scan.place.0 scan.refs scan.index referent.0 e
 
-  found_shown : (bit : Bool) → tracing_of (if bit then in_phase d (phase.GraysReferent scan referent) else scanned d scan) ≡ found_next bit
+  found_shown : (bit : Bool) → tracing_of (led d (if bit then goes_to (phase.GraysReferent scan referent) else scanned scan)) ≡ found_next bit
   found_shown true = refl
   found_shown false = scanned_shown d scan
 
@@ -143,7 +146,7 @@ module _ (b : Beginning) (s : EpochState) (d : TracerState) (scan : Scan) (refer
   block_goes true e = goes.is_chosen scan.place.0 scan.refs scan.index referent.0 (equal_numbers state 3 e)
   block_goes false e = goes.is_other scan.place.0 scan.refs scan.index referent.0 (other_number state 3 e)
 
-  block_shown : (chosen : Bool) → tracing_of (if chosen then in_phase d (phase.ReadsReuse scan) else scanned d scan) ≡ block_next chosen
+  block_shown : (chosen : Bool) → tracing_of (led d (if chosen then goes_to (phase.ReadsReuse scan) else scanned scan)) ≡ block_next chosen
   block_shown true = refl
   block_shown false = scanned_shown d scan
 
@@ -183,10 +186,10 @@ module _ (b : Beginning) (s : EpochState) (d : TracerState) (scan : Scan) where
 
   drawn_goes : (counter : ℕ) (room : Bool) → nat_lt number (limits_of b).remember ≡ room
       → TracerGoes (limits_of b).blocks (limits_of b).remember s.tables (DrawsNumber scan.place.0 scan.refs scan.index counter) (drawn_next counter room)
-  drawn_goes counter true e = goes.has_room scan.place.0 scan.refs scan.index counter (is_below number (limits_of b).remember e)
-  drawn_goes counter false e = goes.is_full scan.place.0 scan.refs scan.index counter (is_not_below number (limits_of b).remember e)
+  drawn_goes counter true e = goes.has_room scan.place.0 scan.refs scan.index counter (is_less number (limits_of b).remember e)
+  drawn_goes counter false e = goes.is_full scan.place.0 scan.refs scan.index counter (is_from number (limits_of b).remember e)
 
-  drawn_shown : (counter : ℕ) (room : Bool) → tracing_of (if room then in_phase d (phase.Enters scan counter number) else scanned d (record scan { overflowed = true })) ≡ drawn_next counter room
+  drawn_shown : (counter : ℕ) (room : Bool) → tracing_of (led d (if room then goes_to (phase.Enters scan counter number) else scanned (record scan { overflowed = true }))) ≡ drawn_next counter room
   drawn_shown counter true = refl
   drawn_shown counter false = scanned_shown d (record scan { overflowed = true })
 
@@ -198,8 +201,8 @@ module _ (b : Beginning) (s : EpochState) (d : TracerState) (scan : Scan) where
     acts = λ r. refl;
     access_is = refl;
     goes = drawn_goes counter (nat_lt number (limits_of b).remember) refl;
-    leads = λ old told. ap (λ w. tracing_of (drawn d scan counter w)) told
-        ∙ ap (λ room. tracing_of (if nat_lt number room then in_phase d (phase.Enters scan counter number) else scanned d (record scan { overflowed = true }))) (room_is (limits_of b) d.regions regions)
+    leads = λ old told. ap (λ w. tracing_of (led d (drawn d.regions scan counter w))) told
+        ∙ ap (λ room. tracing_of (led d (if nat_lt number room then goes_to (phase.Enters scan counter number) else scanned (record scan { overflowed = true })))) (room_is (limits_of b) d.regions regions)
         ∙ drawn_shown counter (nat_lt number (limits_of b).remember);
   }
 

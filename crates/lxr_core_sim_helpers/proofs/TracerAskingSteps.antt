@@ -4,16 +4,16 @@ use Rattle.std.specs.Prelude.{◌&&◌, if◌then◌else◌}
 use Rattle.lxr_layout.specs.declared.Place.{Place}
 use Rattle.lxr_layout.specs.declared.TheConstants.{TRACING_WORD}
 use Rattle.lxr_pocket.specs.Words.{granule_of}
+use Rattle.lxr_pocket.specs.Helpers.{goes_to, tries_next}
 use Rattle.lxr_trace.specs.declared.phases.TracerPhase.TheVariants as phase
 use Rattle.lxr_trace.specs.Tracing.{TracerState}
-use Rattle.lxr_trace.specs.Steps.{in_phase, looks_on}
 use Rattle.lxr_core_access.specs.declared.TableEntry.TheVariants as table_entry
 use Rattle.lxr_core_access.specs.declared.Access.TheVariants as access
 use Rattle.lxr_core_access.specs.Tracers.{Tracing, TracerGoes, IsTry, AsksObject, Rests}
 use Rattle.lxr_core_access.specs.Tracers as goes
 use Rattle.lxr_core_invariant.specs.EpochStates.{Beginning, EpochState, limits_of}
 use Rattle.lxr_core_sim_helpers.specs.TracerShowing.{tracing_of}
-use Rattle.lxr_core_sim_helpers.proofs.TracerOutcomeLemmas.{Leads}
+use Rattle.lxr_core_sim_helpers.proofs.TracerOutcomeLemmas.{Leads, led, looks_on}
 
 -- it looks at the gray bit
 pub asks_gray : (b : Beginning) (s : EpochState) (d : TracerState) (place : Place) → Leads b s d (phase.AsksGray place)
@@ -33,7 +33,7 @@ finds_nothing b s d = record { access = access.Look (table_entry.Cursor TRACING_
 module _ (b : Beginning) (s : EpochState) (d : TracerState) (place : Place) (try : IsTry (limits_of b).blocks (tracing_of (looks_on d))) where
   -- it has looked at the start bit, by whether the object was gray and what the bit was
   abbrev started : Bool → Bool → Tracing
-  started gray bit = tracing_of (if gray && bit then in_phase d (phase.Marks place) else looks_on d)
+  started gray bit = tracing_of (led d (if gray && bit then goes_to (phase.Marks place) else tries_next))
 
   started_goes : (gray bit : Bool) → s.tables.starts (granule_of place) ≡ bit → TracerGoes (limits_of b).blocks (limits_of b).remember s.tables (AsksObject place.0 gray) (started gray bit)
   started_goes true true e = goes.is_object place.0 e
@@ -53,7 +53,7 @@ module _ (b : Beginning) (s : EpochState) (d : TracerState) (place : Place) (try
 
   -- it has marked the object, by what its mark was
   abbrev marked : Bool → Tracing
-  marked bit = tracing_of (if bit then looks_on d else in_phase d (phase.ReadsShape place))
+  marked bit = tracing_of (led d (if bit then tries_next else goes_to (phase.ReadsShape place)))
 
   marked_goes : (bit : Bool) → s.tables.marks (granule_of place) ≡ bit → TracerGoes (limits_of b).blocks (limits_of b).remember s.tables (goes.Marks place.0) (marked bit)
   marked_goes true e = goes.marked_before place.0 (tracing_of (looks_on d)) e try

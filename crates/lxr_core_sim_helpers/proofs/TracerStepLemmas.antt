@@ -1,98 +1,87 @@
 -- Each step of a tracer in an epoch, by its phase; a unit begins with the step of what it tries first.
-use Rattle.std.proofs.Common.{◌≡◌, ℕ, ◌-◌, ◌*◌, arith, refl, subst, ap, ◌∙◌, List, length}
+use Rattle.std.proofs.Common.{◌≡◌, ℕ, ◌*◌, arith, ap, ◌∙◌, List, false}
 use Rattle.std.specs.Prelude.{IsSome, Option, Some, None, slice_get}
-use Rattle.std.specs.List.{All}
-use Rattle.std.proofs.lemmas.List.Elements.{All-get_or}
-use Rattle.std.proofs.lemmas.Option.{get_or_from_slice_get, slice_get_within}
 use Rattle.lxr_layout.specs.declared.Place.{Place}
-use Rattle.lxr_layout.specs.declared.limits.Limits.{Limits}
 use Rattle.lxr_layout.specs.declared.limits.Regions.{Regions}
 use Rattle.lxr_layout.specs.Spaces.{regions_of}
-use Rattle.lxr_pocket.specs.Pockets.{last_of, taken_from}
 use Rattle.lxr_pocket.specs.Words.{InHeap}
+use Rattle.lxr_pocket.specs.Helpers.{in_phase, spared}
 use Rattle.lxr_trace.specs.declared.phases.TracerPhase.{TracerPhase}
 use Rattle.lxr_trace.specs.declared.phases.TracerPhase.TheVariants as phase
-use Rattle.lxr_trace.specs.Tracing.{TracerState}
-use Rattle.lxr_trace.specs.Steps.{action, in_phase, looks_on, question}
-use Rattle.lxr_core_access.specs.Tracers.{Attempts, Tracing, IsTry, begins, goes_on}
+use Rattle.lxr_trace.specs.Tracing.{TracerState, rests_in}
+use Rattle.lxr_trace.specs.Steps.{question, tracer_work}
+use Rattle.lxr_trace.specs.Lawful.{tracer_lawful}
+use Rattle.lxr_core_access.specs.declared.Access.{Access}
+use Rattle.lxr_core_access.specs.Accesses.{MayBeDone}
+use Rattle.lxr_core_access.specs.Tracers.{Attempts, Tracing, IsTry, begins, goes_on, tracer_access}
 use Rattle.lxr_core_access.specs.Tracers as tracing
 use Rattle.lxr_core_invariant.specs.EpochStates.{Beginning, EpochState, limits_of}
-use Rattle.lxr_core_sim_helpers.specs.TracerShowing.{tracing_in, tracing_of}
-use Rattle.lxr_core_sim_helpers.specs.TracerStepping.{TracerStepIs, TracerStepsAreEvents, ShowsTracer}
-use Rattle.lxr_core_sim_helpers.proofs.TracerOutcomeLemmas.{Leads, by_phase}
+use Rattle.lxr_core_invariant.specs.Decremented.{MayTrace}
+use Rattle.lxr_core_invariant.specs.Epoch.{IsEpoch}
+use Rattle.lxr_core_inv_scans.proofs.KeepingLemmas.{tracers_are_sound}
+use Rattle.lxr_core_sim_helpers.specs.TracerShowing.{IsTracerOf, tracing_in, tracing_of}
+use Rattle.lxr_core_sim_helpers.specs.TracerStepping.{TracerStepsAreEvents, ShowsTracer}
+use Rattle.lxr_core_sim_helpers.proofs.HelperLemmas as lemma
+use Rattle.lxr_core_sim_helpers.proofs.TracerOutcomeLemmas.{Goes, Leads, looks_on}
 use Rattle.lxr_core_sim_helpers.proofs.TracerAskingSteps.{asks_gray, asks_object, finds_nothing, marks}
 use Rattle.lxr_core_sim_helpers.proofs.ScanningSteps.{asks_block, asks_referent, draws_number, enters, grays_referent, reads_reuse, reads_shape, scans}
 
 -- ---- what is tried
 
--- a place that a list has
-listed : (P : Place → Type 0) (places : List Place) (i : ℕ) (place : Place) → All P places → slice_get places i ≡ Some place → P place
-listed P places i place all there = subst P (get_or_from_slice_get places i place place there) (All-get_or P places i place (slice_get_within places i place there) all)
+-- an access may happen where it is that of what is attempted, and may be done then
+abbrev Tries : Beginning → Tracing → Tracing → Type 0
+Tries b before about = Attempts (limits_of b).blocks before about
 
--- what is tried is the pocket's last place, if it has one; with an empty pocket it finds nothing
-tried : (l : Limits) (r : Regions) (place : Option Place) → r ≡ regions_of l → ((p : Place) → place ≡ Some p → InHeap r p) → IsTry l.blocks (tracing_in (question place))
-tried l r None is known = tracing.nothing
-tried l r (Some place) is known =
-    let low = known place refl in
-    let counts : r.counts ≡ 4096 * l.blocks = ap (λ x. x.counts) is ∙ omega arith in
+may_happen : (b : Beginning) (s : EpochState) (i : ℕ) (access : Access) (before about after : Tracing) → slice_get s.tracers i ≡ Some before → Tries b before about
+    → tracer_access about ≡ Some access → Goes b s about after → MayTrace b s i access after
+may_happen b s i access before about after shows attempts is goes = record { before = before; shows = shows; steps = record { about = about; attempts = attempts; access_is = is; goes = goes } }
+
+may_be_done : (b : Beginning) (s : EpochState) (i : ℕ) (access : Access) (after : Tracing) → IsEpoch b s → MayTrace b s i access after → MayBeDone (limits_of b) s.tables access
+may_be_done b s i access after is may = (tracers_are_sound b s i access after is may).0.may
+
+-- what is tried is the pocket's last place, if it has one, and it finds nothing where the pocket is empty
+abbrev Try : Beginning → Tracing → Type 0
+Try b x = IsTry (limits_of b).blocks x
+
+try_place : (b : Beginning) (r : Regions) (place : Place) → r ≡ regions_of (limits_of b) → InHeap r place → Try b (tracing_in (question (Some place)))
+try_place b r place is low =
+    let counts : r.counts ≡ 4096 * (limits_of b).blocks = ap (λ x. x.counts) is ∙ omega arith in
     let last = low.1 in
     tracing.pocket place.0 low.0 (omega (arith, counts, last))
 
 -- so a tracer looks on
-tries : (l : Limits) (d : TracerState) → d.regions ≡ regions_of l → All (InHeap d.regions) d.pocket.items → IsTry l.blocks (tracing_of (looks_on d))
-tries l d is all = tried l d.regions (last_of d.pocket.items) is (λ p e. listed (InHeap d.regions) d.pocket.items (length d.pocket.items - 1) p all e)
+tries : (b : Beginning) (d : TracerState) → IsTracerOf (limits_of b) d → Try b (tracing_of (looks_on d))
+tries b d is = lemma.tries tracer_work tracing_in tracer_access Goes tracer_lawful (λ (x : EpochState). x.tracers) MayTrace Tries may_happen may_be_done Try (λ b x. begins x) (λ b x. goes_on x) try_place (λ b. tracing.nothing) b d is
 
 -- a unit begins with this
-first_tried : (b : Beginning) (s : EpochState) (d : TracerState) (place : Option Place) → Leads b s (record d { pocket = taken_from d.pocket; phase = question place }) (question place)
-first_tried b s d None = finds_nothing b s (record d { pocket = taken_from d.pocket; phase = phase.FindsNothing })
-first_tried b s d (Some place) = asks_gray b s (record d { pocket = taken_from d.pocket; phase = phase.AsksGray place }) place
+first_tried : (b : Beginning) (s : EpochState) (d : TracerState) (place : Option Place) → Leads b s (in_phase tracer_work (spared tracer_work d).0 (question place)) (question place)
+first_tried b s d None = finds_nothing b s (in_phase tracer_work (spared tracer_work d).0 phase.FindsNothing)
+first_tried b s d (Some place) = asks_gray b s (in_phase tracer_work (spared tracer_work d).0 (phase.AsksGray place)) place
 
 -- ---- each phase
 
--- a step in a phase
-step_in : (b : Beginning) (s : EpochState) (words : List ℕ) (i : ℕ) (d : TracerState) (p : TracerPhase) → ShowsTracer b s words i (in_phase d p)
-    → IsSome (action (in_phase d p)) → TracerStepIs b s words i (in_phase d p)
-step_in b s words i d phase.Resting shows some =
-    let e = in_phase d phase.Resting in
-    by_phase b s words i e shows some (begins _ (tries (limits_of b) e shows.tracer.regions shows.tracer.sound.places))
-    (first_tried b s e (last_of d.pocket.items))
-step_in b s words i d (phase.AsksGray place) shows some =
-    let e = in_phase d (phase.AsksGray place) in
-    by_phase b s words i e shows some (goes_on _) (asks_gray b s e place)
-step_in b s words i d (phase.AsksObject place gray) shows some =
-    let e = in_phase d (phase.AsksObject place gray) in
-    by_phase b s words i e shows some (goes_on _) (asks_object b s e place (tries (limits_of b) e shows.tracer.regions shows.tracer.sound.places) gray)
-step_in b s words i d (phase.Marks place) shows some =
-    let e = in_phase d (phase.Marks place) in
-    by_phase b s words i e shows some (goes_on _) (marks b s e place (tries (limits_of b) e shows.tracer.regions shows.tracer.sound.places))
-step_in b s words i d (phase.ReadsShape place) shows some =
-    let e = in_phase d (phase.ReadsShape place) in
-    by_phase b s words i e shows some (goes_on _) (reads_shape b s e place shows.epoch shows.tracer.regions (shows.epoch.scanned.knows i (tracing.ReadsShape place.0) shows.shows).0)
-step_in b s words i d (phase.Scans scan) shows some =
-    let e = in_phase d (phase.Scans scan) in
-    by_phase b s words i e shows some (goes_on _) (scans b s e scan shows.epoch shows.tracer.regions (shows.epoch.scanned.knows i (tracing_in (phase.Scans scan)) shows.shows))
-step_in b s words i d (phase.AsksReferent scan referent) shows some =
-    let e = in_phase d (phase.AsksReferent scan referent) in
-    by_phase b s words i e shows some (goes_on _) (asks_referent b s e scan referent)
-step_in b s words i d (phase.GraysReferent scan referent) shows some =
-    let e = in_phase d (phase.GraysReferent scan referent) in
-    by_phase b s words i e shows some (goes_on _) (grays_referent b s e scan referent)
-step_in b s words i d (phase.AsksBlock scan referent) shows some =
-    let e = in_phase d (phase.AsksBlock scan referent) in
-    by_phase b s words i e shows some (goes_on _) (asks_block b s e scan referent)
-step_in b s words i d (phase.ReadsReuse scan) shows some =
-    let e = in_phase d (phase.ReadsReuse scan) in
-    by_phase b s words i e shows some (goes_on _) (reads_reuse b s e scan)
-step_in b s words i d (phase.DrawsNumber scan counter) shows some =
-    let e = in_phase d (phase.DrawsNumber scan counter) in
-    by_phase b s words i e shows some (goes_on _) (draws_number b s e scan counter shows.tracer.regions)
-step_in b s words i d (phase.Enters scan counter number) shows some =
-    let e = in_phase d (phase.Enters scan counter number) in
-    by_phase b s words i e shows some (goes_on _) (enters b s e scan counter number)
-step_in b s words i d phase.FindsNothing shows some =
-    let e = in_phase d phase.FindsNothing in
-    by_phase b s words i e shows some (goes_on _) (finds_nothing b s e)
+-- a tracer in a phase
+abbrev on : TracerState → TracerPhase → TracerState
+on d p = in_phase tracer_work d p
+
+-- where its step leads
+leads : (b : Beginning) (s : EpochState) (words : List ℕ) (i : ℕ) (d : TracerState) (p : TracerPhase) → ShowsTracer b s words i (on d p) → rests_in p ≡ false → Leads b s (on d p) p
+leads b s words i d phase.Resting shows busy = absurd (cc)
+leads b s words i d (phase.AsksGray place) shows busy = asks_gray b s (on d (phase.AsksGray place)) place
+leads b s words i d (phase.AsksObject place gray) shows busy = asks_object b s (on d (phase.AsksObject place gray)) place (tries b (on d (phase.AsksObject place gray)) shows.helper) gray
+leads b s words i d (phase.Marks place) shows busy = marks b s (on d (phase.Marks place)) place (tries b (on d (phase.Marks place)) shows.helper)
+leads b s words i d (phase.ReadsShape place) shows busy = reads_shape b s (on d (phase.ReadsShape place)) place shows.epoch shows.helper.regions (shows.epoch.scanned.knows i (tracing.ReadsShape place.0) shows.shows).0
+leads b s words i d (phase.Scans scan) shows busy = scans b s (on d (phase.Scans scan)) scan shows.epoch shows.helper.regions (shows.epoch.scanned.knows i (tracing_in (phase.Scans scan)) shows.shows)
+leads b s words i d (phase.AsksReferent scan referent) shows busy = asks_referent b s (on d (phase.AsksReferent scan referent)) scan referent
+leads b s words i d (phase.GraysReferent scan referent) shows busy = grays_referent b s (on d (phase.GraysReferent scan referent)) scan referent
+leads b s words i d (phase.AsksBlock scan referent) shows busy = asks_block b s (on d (phase.AsksBlock scan referent)) scan referent
+leads b s words i d (phase.ReadsReuse scan) shows busy = reads_reuse b s (on d (phase.ReadsReuse scan)) scan
+leads b s words i d (phase.DrawsNumber scan counter) shows busy = draws_number b s (on d (phase.DrawsNumber scan counter)) scan counter shows.helper.regions
+leads b s words i d (phase.Enters scan counter number) shows busy = enters b s (on d (phase.Enters scan counter number)) scan counter number
+leads b s words i d phase.FindsNothing shows busy = finds_nothing b s (on d phase.FindsNothing)
 
 -- each step
 pub each_step : TracerStepsAreEvents
-each_step b s words i d shows some = step_in b s words i d d.phase shows some
+each_step b s words i d shows some =
+    lemma.each_step tracer_work tracing_in tracer_access Goes tracer_lawful (λ (x : EpochState). x.tracers) MayTrace Tries may_happen may_be_done Try (λ b x. begins x) (λ b x. goes_on x) try_place (λ b. tracing.nothing)
+    first_tried leads b s words i d shows some

@@ -1,14 +1,13 @@
 -- What a decrementer's machine shows of itself.
-use Rattle.std.specs.Prelude.{◌≡◌}
 use Rattle.lxr_layout.specs.declared.limits.Limits.{Limits}
-use Rattle.lxr_layout.specs.Spaces.{regions_of}
 use Rattle.lxr_decrement.specs.declared.phases.DecrementerPhase.{DecrementerPhase}
 use Rattle.lxr_decrement.specs.declared.phases.DecrementerPhase.TheVariants as phase
 use Rattle.lxr_decrement.specs.declared.phases.Handling as machine
 use Rattle.lxr_decrement.specs.declared.phases.Handling.TheVariants as handled
 use Rattle.lxr_decrement.specs.Decrementing.{DecrementerState}
-use Rattle.lxr_decrement.specs.Decrementers.{IsDecrementer}
+use Rattle.lxr_decrement.specs.Steps.{decrementer_work}
 use Rattle.lxr_core_access.specs.Decrementers.{Decrementing, Handling, Entry, References, Rests, AsksCount, AsksStart, Claims, ReadsHeader, AsksTracing, ReadsReference, MakesGray, AsksLowered, Lowers, AsksCursor, AsksNumber, Draws, ReadsEntry}
+use Rattle.lxr_core_sim_helpers.specs.HelperStepping as helper
 
 -- whose references it handles
 abbrev pub handling_of : machine.Handling → Handling
@@ -36,6 +35,5 @@ abbrev pub decrementing_of : DecrementerState → Decrementing
 decrementing_of d = decrementing_in d.phase
 
 -- a decrementer of a space of these limits
-pub record IsDecrementerOf (l : Limits) (d : DecrementerState) : Type 0 where
-  pub sound : IsDecrementer d
-  pub regions : d.regions ≡ regions_of l
+abbrev pub IsDecrementerOf : Limits → DecrementerState → Type 0
+IsDecrementerOf l d = helper.IsHelperOf decrementer_work decrementing_in l d

@@ -1,3 +1,4 @@
+pub mod HelperStepping
 pub mod DecrementerShowing
 pub mod DecrementerStepping
 pub mod TracerShowing

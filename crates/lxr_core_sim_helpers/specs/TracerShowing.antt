@@ -1,12 +1,11 @@
 -- What a tracer's machine shows of itself.
-use Rattle.std.specs.Prelude.{◌≡◌}
 use Rattle.lxr_layout.specs.declared.limits.Limits.{Limits}
-use Rattle.lxr_layout.specs.Spaces.{regions_of}
 use Rattle.lxr_trace.specs.declared.phases.TracerPhase.{TracerPhase}
 use Rattle.lxr_trace.specs.declared.phases.TracerPhase.TheVariants as phase
 use Rattle.lxr_trace.specs.Tracing.{TracerState}
-use Rattle.lxr_trace.specs.Tracers.{IsTracer}
+use Rattle.lxr_trace.specs.Steps.{tracer_work}
 use Rattle.lxr_core_access.specs.Tracers.{Tracing, Rests, AsksGray, AsksObject, Marks, ReadsShape, Scans, AsksReferent, GraysReferent, AsksBlock, ReadsReuse, DrawsNumber, Enters, FindsNothing}
+use Rattle.lxr_core_sim_helpers.specs.HelperStepping as helper
 
 -- what it is about to do, by its phase; whether the remembered set had no room is told by how the unit ends alone
 abbrev pub tracing_in : TracerPhase → Tracing
@@ -28,6 +27,5 @@ abbrev pub tracing_of : TracerState → Tracing
 tracing_of d = tracing_in d.phase
 
 -- a tracer of a space of these limits
-pub record IsTracerOf (l : Limits) (d : TracerState) : Type 0 where
-  pub sound : IsTracer d
-  pub regions : d.regions ≡ regions_of l
+abbrev pub IsTracerOf : Limits → TracerState → Type 0
+IsTracerOf l d = helper.IsHelperOf tracer_work tracing_in l d

@@ -6,12 +6,14 @@ use Rattle.lxr_layout.specs.declared.Place.{Place}
 use Rattle.lxr_layout.specs.declared.limits.Regions.{Regions}
 use Rattle.lxr_base.specs.Roomy.{Roomy, pushed}
 use Rattle.lxr_actor.specs.declared.Action.{Action}
-use Rattle.lxr_pocket.specs.Pockets.{last_of, without_last}
 use Rattle.lxr_pocket.specs.Words.{has_bit, references_in, referent_in}
 use Rattle.lxr_pocket.specs.Looks.{graying, header_look, reference_look, start_look, tracing_look}
-use Rattle.lxr_pocket.specs.Units.{Runs, Told, told}
-use Rattle.lxr_pocket.specs.Units as run
-use Rattle.lxr_pocket.proofs.PocketLemmas.{FromEnd, is_empty, has_last, from_end, last_pushed, without_pushed}
+use Rattle.lxr_pocket.specs.Pockets.{kept}
+use Rattle.lxr_pocket.specs.Units.{Told, told}
+use Rattle.lxr_pocket.specs.HelperUnits as whole_unit
+use Rattle.lxr_pocket.specs.Helpers.{Outcome, ends, goes_to, tries_next}
+use Rattle.lxr_pocket.specs.Helpers as helper
+use Rattle.lxr_pocket.proofs.HelperUnitLemmas as lemma
 use Rattle.lxr_decrement.specs.declared.phases.DecEnd.{DecEnd}
 use Rattle.lxr_decrement.specs.declared.phases.DecEnd.TheVariants.{Worked, Nothing}
 use Rattle.lxr_decrement.specs.declared.phases.Handling.{Handling}
@@ -19,21 +21,18 @@ use Rattle.lxr_decrement.specs.declared.phases.Handling.TheVariants.{Entry, Refe
 use Rattle.lxr_decrement.specs.declared.phases.DecrementerPhase.{DecrementerPhase}
 use Rattle.lxr_decrement.specs.declared.phases.DecrementerPhase.TheVariants as phase
 use Rattle.lxr_decrement.specs.Decrementing.{DecrementerState, rests_in}
-use Rattle.lxr_decrement.specs.Words.{count_in, listed_in}
-use Rattle.lxr_decrement.specs.Steps.{action, action_in, after, after_in, begun, begun_in, claim, count_look, cursor_look, decrementer_machine, drawing, entered, entry_look, handled, in_phase, looks_on, lowered, lowering, number_look, question, referred, through}
-use Rattle.lxr_decrement.specs.Units.{ClaimsObject, DoesUnit, FindsNoEntry, HandlesObject, LowersEntry, LowersFrom, LowersPlace, LowersReferent, NeedsNoWork}
+use Rattle.lxr_decrement.specs.Words.{count_in, is_uncounted, listed_in}
+use Rattle.lxr_decrement.specs.Steps.{action_in, claim, count_look, cursor_look, decrementer_work, drawing, entered, entry_look, handled, keeps_in, lowering, number_look, question, referred}
+use Rattle.lxr_decrement.specs.Units.{FindsNoEntry, HandlesObject, LowersEntry, LowersFrom, LowersPlace, LowersReferent, TurnsToList}
 use Rattle.lxr_decrement.specs.Units as unit
+use Rattle.lxr_decrement.specs.Lawful.{decrementer_lawful}
 use Rattle.lxr_decrement.specs.Laws.{UnitsEndByRules}
-use Rattle.lxr_decrement.proofs.StayLemmas.{begun_regions}
-use Rattle.lxr_decrement.proofs.FinishLemmas.{unfinished}
 
 -- ---- what is left of a unit
 
 -- the rest of a unit that began with this pocket ends by the rules
-record Finishes (r : Regions) (pocket : Roomy Place) (ts : List Told) (d' : DecrementerState) : Type 0 where
-  how : DecEnd
-  end : d'.end ≡ Some how
-  does : DoesUnit r pocket ts d'.pocket how
+abbrev Finishes : Regions → Roomy Place → List Told → DecrementerState → Type 0
+Finishes r pocket ts d' = lemma.Finishes decrementer_work count_look is_uncounted claim HandlesObject TurnsToList r pocket ts d'
 
 -- once a reference or an entry is done with, with this pocket
 abbrev Continues : Regions → Handling → Roomy Place → List Told → DecrementerState → Type 0
@@ -62,11 +61,11 @@ IsNext (References place refs next traced) = next ≤ refs
 abbrev Rest : DecrementerState → DecrementerPhase → List Told → DecrementerState → Type 0
 Rest d phase.Resting ts d' = (ts ≡ []) × (d' ≡ d)
 Rest d (phase.AsksCount place) ts d' = Finishes d.regions (pushed d.pocket place) ts d'
-Rest d (phase.AsksStart place uncounted) ts d' = (c : ℕ) → nat_eq (count_in place c) 0 ≡ uncounted → Finishes d.regions (pushed d.pocket place) (told (count_look d.regions place) c ∷ ts) d'
-Rest d (phase.Claims place) ts d' = (c s : ℕ) → count_in place c ≡ 0 → has_bit place s ≡ true
+Rest d (phase.AsksStart place uncounted) ts d' = (c : ℕ) → is_uncounted place c ≡ uncounted → Finishes d.regions (pushed d.pocket place) (told (count_look d.regions place) c ∷ ts) d'
+Rest d (phase.Claims place) ts d' = (c s : ℕ) → is_uncounted place c ≡ true → has_bit place s ≡ true
     → Finishes d.regions (pushed d.pocket place) (told (count_look d.regions place) c ∷ told (start_look d.regions place) s ∷ ts) d'
-Rest d (phase.ReadsHeader place) ts d' = Works d' (HandlesObject d.regions place d.pocket ts d'.pocket)
-Rest d (phase.AsksTracing place refs) ts d' = Works d' ((h : ℕ) → references_in d.regions place h ≡ refs → HandlesObject d.regions place d.pocket (told (header_look d.regions place) h ∷ ts) d'.pocket)
+Rest d (phase.ReadsHeader place) ts d' = Works d' (HandlesObject d.regions place d.pocket ts d'.pocket Worked)
+Rest d (phase.AsksTracing place refs) ts d' = Works d' ((h : ℕ) → references_in d.regions place h ≡ refs → HandlesObject d.regions place d.pocket (told (header_look d.regions place) h ∷ ts) d'.pocket Worked)
 Rest d (phase.ReadsReference place refs index traced) ts d' = index < refs → Works d' (LowersFrom d.regions place refs traced index d.pocket ts d'.pocket)
 Rest d (phase.MakesGray place refs index referent) ts d' = index < refs → Works d' ((word : ℕ) → referent_in d.regions word ≡ Some referent
     → LowersFrom d.regions place refs true index d.pocket (told (reference_look d.regions place index) word ∷ ts) d'.pocket)
@@ -80,61 +79,25 @@ Rest d (phase.Draws count) ts d' = d.pocket.items ≡ [] → (cursor word : ℕ)
 Rest d (phase.ReadsEntry number) ts d' = d.pocket.items ≡ [] → (cursor word : ℕ) → cursor < listed_in d.regions word → number < listed_in d.regions word
     → Finishes d.regions d.pocket (told (cursor_look d.regions) cursor ∷ told (number_look d.regions) word ∷ told (drawing d.regions) number ∷ ts) d'
 
+-- where a step leads, with what is kept
+abbrev led : DecrementerState → Outcome DecrementerPhase DecEnd → DecrementerState
+led d o = helper.led decrementer_work d o
+
+abbrev keeping : DecrementerState → Option Place → DecrementerState
+keeping d item = helper.keeping decrementer_work d item
+
+abbrev through : DecrementerState → DecEnd → DecrementerState
+through d how = helper.through decrementer_work d how
+
 -- what is left of a decrementer's unit
 abbrev RestOf : DecrementerState → List Told → DecrementerState → Type 0
 RestOf d ts d' = Rest d d.phase ts d'
-
--- ---- places of the pocket
-
--- a place that needs no work is given up before the rest
-gives_up : (r : Regions) (pocket : Roomy Place) (place : Place) (first others : List Told) (d' : DecrementerState) → NeedsNoWork r place first → Finishes r pocket others d'
-    → Finishes r (pushed pocket place) (first ++ others) d'
-gives_up r pocket place first others d' needs rest = record {
-  how = rest.how;
-  end = rest.end;
-  does = unit.gives_up pocket d'.pocket place first others rest.how needs rest.does;
-}
-
--- a unit that looks on does what a unit of its pocket does
-looks_by : (d : DecrementerState) (places : List Place) → FromEnd places → (ts : List Told) (d' : DecrementerState)
-    → Rest (record d { pocket = record d.pocket { items = without_last places }; phase = question (last_of places) }) (question (last_of places)) ts d'
-    → Finishes d.regions (record d.pocket { items = places }) ts d'
-looks_by d _ is_empty ts d' rest = rest refl
-looks_by d _ (has_last places place) ts d' rest =
-    let at : Rest (record d { pocket = record d.pocket { items = without_last (places ++ place ∷ []) }; phase = question (Some place) }) (question (Some place)) ts d' =
-    subst (λ item. Rest (record d { pocket = record d.pocket { items = without_last (places ++ place ∷ []) }; phase = question item }) (question item) ts d') (last_pushed places place) rest in
-    subst (λ (left : List Place). Finishes d.regions (pushed (record d.pocket { items = left }) place) ts d') (without_pushed places place) at
-
-looks_finish : (d : DecrementerState) (ts : List Told) (d' : DecrementerState) → RestOf (looks_on d) ts d' → Finishes d.regions d.pocket ts d'
-looks_finish d ts d' rest = looks_by d d.pocket.items (from_end d.pocket.items) ts d' rest
-
-start_by : (d : DecrementerState) (place : Place) (c s : ℕ) (ts : List Told) (d' : DecrementerState) → (a b : Bool) → nat_eq (count_in place c) 0 ≡ a → has_bit place s ≡ b
-    → RestOf (if a && b then in_phase d (phase.Claims place) else looks_on d) ts d'
-    → Finishes d.regions (pushed d.pocket place) (told (count_look d.regions place) c ∷ told (start_look d.regions place) s ∷ ts) d'
-start_by d place c s ts d' true true zero start rest = rest c s (grind arith) start
-start_by d place c s ts d' true false zero start rest =
-    gives_up d.regions d.pocket place (told (count_look d.regions place) c ∷ told (start_look d.regions place) s ∷ []) ts d' (unit.unstarted c s start) (looks_finish d ts d' rest)
-start_by d place c s ts d' false b some start rest =
-    gives_up d.regions d.pocket place (told (count_look d.regions place) c ∷ told (start_look d.regions place) s ∷ []) ts d' (unit.counted c s (grind arith)) (looks_finish d ts d' rest)
-
-claim_by : (d : DecrementerState) (place : Place) (c s b : ℕ) (ts : List Told) (d' : DecrementerState) → count_in place c ≡ 0 → has_bit place s ≡ true
-    → (was : Bool) → has_bit place b ≡ was → RestOf (if was then looks_on d else in_phase d (phase.ReadsHeader place)) ts d'
-    → Finishes d.regions (pushed d.pocket place) (told (count_look d.regions place) c ∷ told (start_look d.regions place) s ∷ told (claim d.regions place) b ∷ ts) d'
-claim_by d place c s b ts d' zero start true e rest =
-    gives_up d.regions d.pocket place (told (count_look d.regions place) c ∷ told (start_look d.regions place) s ∷ told (claim d.regions place) b ∷ []) ts d'
-    (unit.claimed_before c s b zero start e) (looks_finish d ts d' rest)
-claim_by d place c s b ts d' zero start false e rest = record {
-  how = Worked;
-  end = rest.0;
-  does = unit.handles d.pocket d'.pocket place (told (count_look d.regions place) c ∷ told (start_look d.regions place) s ∷ told (claim d.regions place) b ∷ []) ts
-      (unit.claims c s b zero start e) rest.1;
-}
 
 -- ---- references
 
 -- what continues once a reference or an entry is done with
 next_by : (d : DecrementerState) (place : Place) (refs next : ℕ) (traced : Bool) (ts : List Told) (d' : DecrementerState) → next ≤ refs → (b : Bool) → nat_lt next refs ≡ b
-    → RestOf (if b then in_phase d (phase.ReadsReference place refs next traced) else through d Worked) ts d'
+    → RestOf (led d (if b then goes_to (phase.ReadsReference place refs next traced) else ends Worked)) ts d'
     → Works d' (LowersFrom d.regions place refs traced next d.pocket ts d'.pocket)
 next_by d place refs next traced ts d' le true e rest = rest (grind arith)
 next_by d place refs next traced ts d' le false e rest =
@@ -146,7 +109,7 @@ next_by d place refs next traced ts d' le false e rest =
           (subst (λ n. LowersFrom d.regions place refs traced n d.pocket [] d.pocket) last whole)),
     )
 
-handled_rest : (d : DecrementerState) (handling : Handling) (ts : List Told) (d' : DecrementerState) → IsNext handling → RestOf (handled d handling) ts d'
+handled_rest : (d : DecrementerState) (handling : Handling) (ts : List Told) (d' : DecrementerState) → IsNext handling → RestOf (led d (handled handling)) ts d'
     → Works d' (Continues d.regions handling d.pocket ts d')
 handled_rest d Entry ts d' le rest = (ap (λ (x : DecrementerState). x.end) rest.1, (rest.0, ap (λ (x : DecrementerState). x.pocket) rest.1))
 handled_rest d (References place refs next traced) ts d' le rest = next_by d place refs next traced ts d' le (nat_lt next refs) refl rest
@@ -158,7 +121,7 @@ next_reference : (r : Regions) (place : Place) (refs index : ℕ) (traced : Bool
 next_reference r place refs index traced pocket between word first others d' lt lowers rest = unit.next index pocket between d'.pocket word first others lt lowers rest
 
 referred_by : (d : DecrementerState) (place : Place) (refs index : ℕ) (traced : Bool) (word : ℕ) (ts : List Told) (d' : DecrementerState) → index < refs
-    → (item : Option Place) → referent_in d.regions word ≡ item → RestOf (referred d place refs index traced item) ts d'
+    → (item : Option Place) → referent_in d.regions word ≡ item → RestOf (led d (referred place refs index traced item)) ts d'
     → Works d' (LowersFrom d.regions place refs traced index d.pocket (told (reference_look d.regions place index) word ∷ ts) d'.pocket)
 referred_by d place refs index traced word ts d' lt None e rest =
     let on = handled_rest d (References place refs (index + 1) traced) ts d' (omega arith) rest in
@@ -195,7 +158,7 @@ grayed d place refs index referent gray ts d' lt on word e =
 
 counted_by : (d : DecrementerState) (referent : Place) (handling : Handling) (c : ℕ) (ts : List Told) (d' : DecrementerState) → IsNext handling
     → (a b : Bool) → nat_eq (count_in referent c) 0 ≡ a → nat_eq (count_in referent c) STUCK ≡ b
-    → RestOf (if a || b then handled d handling else in_phase d (phase.Lowers referent handling)) ts d'
+    → RestOf (led d (if a || b then handled handling else goes_to (phase.Lowers referent handling))) ts d'
     → Works d' (LowersOn d.regions referent handling d.pocket (told (count_look d.regions referent) c ∷ ts) d')
 counted_by d referent handling c ts d' le true b e f rest =
     let on = handled_rest d handling ts d' le rest in (
@@ -225,45 +188,58 @@ counted_by d referent handling c ts d' le false false e f rest =
     let on = rest le in
     (on.0, on.1 c (grind arith) (grind arith))
 
+-- an object whose last reference is gone is put into the pocket
+kept_if : (d : DecrementerState) (referent : Place) (b : Bool) → (keeping d (if b then Some referent else None)).pocket ≡ (if b then kept d.pocket referent else d.pocket)
+kept_if d referent true = refl
+kept_if d referent false = refl
+
+kept_regions : (d : DecrementerState) (item : Option Place) → (keeping d item).regions ≡ d.regions
+kept_regions d None = refl
+kept_regions d (Some place) = refl
+
 lowers_rest : (d : DecrementerState) (referent : Place) (handling : Handling) (old : ℕ) (ts : List Told) (d' : DecrementerState) → IsNext handling
-    → RestOf (handled (lowered d referent (count_in referent old)) handling) ts d'
+    → RestOf (led (keeping d (keeps_in (phase.Lowers referent handling) old)) (handled handling)) ts d'
     → Works d' ((c : ℕ) → count_in referent c ≢ 0 → count_in referent c ≢ STUCK
     → LowersOn d.regions referent handling d.pocket (told (count_look d.regions referent) c ∷ told (lowering d.regions referent) old ∷ ts) d')
 lowers_rest d referent handling old ts d' le rest =
-    let low = lowered d referent (count_in referent old) in
-    let on = handled_rest low handling ts d' le rest in (
+    let last : Bool = nat_eq (count_in referent old) 1 in
+    let low = keeping d (keeps_in (phase.Lowers referent handling) old) in
+    let on = handled_rest low handling ts d' le rest in
+    let continues : Continues d.regions handling (if last then kept d.pocket referent else d.pocket) ts d' =
+    subst (λ left. Continues d.regions handling left ts d') (kept_if d referent last)
+    (subst (λ r. Continues r handling low.pocket ts d') (kept_regions d (keeps_in (phase.Lowers referent handling) old)) on.1) in (
       on.0,
       λ c some unstuck. record {
         first = told (count_look d.regions referent) c ∷ told (lowering d.regions referent) old ∷ [];
         others = ts;
-        between = low.pocket;
+        between = if last then kept d.pocket referent else d.pocket;
         split = refl;
         lowers = unit.lowers c old some unstuck;
-        continues = on.1;
+        continues = continues;
       },
     )
 
 -- ---- the list of decrements
 
 compared_by : (d : DecrementerState) (cursor word : ℕ) (ts : List Told) (d' : DecrementerState) → d.pocket.items ≡ [] → (b : Bool) → nat_lt cursor (listed_in d.regions word) ≡ b
-    → RestOf (if b then in_phase d (phase.Draws (listed_in d.regions word)) else through d Nothing) ts d'
+    → RestOf (led d (if b then goes_to (phase.Draws (listed_in d.regions word)) else ends Nothing)) ts d'
     → Finishes d.regions d.pocket (told (cursor_look d.regions) cursor ∷ told (number_look d.regions) word ∷ ts) d'
 compared_by d cursor word ts d' none true e rest = rest none cursor word refl (grind arith)
 compared_by d cursor word ts d' none false e rest =
     let found : FindsNoEntry d.regions (told (cursor_look d.regions) cursor ∷ told (number_look d.regions) word ∷ []) = unit.loaded cursor word (grind arith) in
     let whole : Finishes d.regions d.pocket (told (cursor_look d.regions) cursor ∷ told (number_look d.regions) word ∷ []) (through d Nothing) =
-    record { how = Nothing; end = refl; does = unit.finds_nothing d.pocket (told (cursor_look d.regions) cursor ∷ told (number_look d.regions) word ∷ []) none found } in
+    record { how = Nothing; end = refl; does = whole_unit.turns d.pocket d.pocket (told (cursor_look d.regions) cursor ∷ told (number_look d.regions) word ∷ []) Nothing none (unit.finds_nothing _ found) } in
     subst (λ (x : DecrementerState). Finishes d.regions d.pocket (told (cursor_look d.regions) cursor ∷ told (number_look d.regions) word ∷ ts) x) (sym rest.1)
     (subst (λ us. Finishes d.regions d.pocket (told (cursor_look d.regions) cursor ∷ told (number_look d.regions) word ∷ us) (through d Nothing)) (sym rest.0) whole)
 
 drawn_by : (d : DecrementerState) (cursor word number : ℕ) (ts : List Told) (d' : DecrementerState) → d.pocket.items ≡ [] → cursor < listed_in d.regions word
-    → (b : Bool) → nat_lt number (listed_in d.regions word) ≡ b → RestOf (if b then in_phase d (phase.ReadsEntry number) else through d Nothing) ts d'
+    → (b : Bool) → nat_lt number (listed_in d.regions word) ≡ b → RestOf (led d (if b then goes_to (phase.ReadsEntry number) else ends Nothing)) ts d'
     → Finishes d.regions d.pocket (told (cursor_look d.regions) cursor ∷ told (number_look d.regions) word ∷ told (drawing d.regions) number ∷ ts) d'
 drawn_by d cursor word number ts d' none lt true e rest = rest none cursor word lt (grind arith)
 drawn_by d cursor word number ts d' none lt false e rest =
     let steps = told (cursor_look d.regions) cursor ∷ told (number_look d.regions) word ∷ told (drawing d.regions) number ∷ [] in
     let found : FindsNoEntry d.regions steps = unit.drawn cursor word number lt (grind arith) in
-    let whole : Finishes d.regions d.pocket steps (through d Nothing) = record { how = Nothing; end = refl; does = unit.finds_nothing d.pocket steps none found } in
+    let whole : Finishes d.regions d.pocket steps (through d Nothing) = record { how = Nothing; end = refl; does = whole_unit.turns d.pocket d.pocket steps Nothing none (unit.finds_nothing steps found) } in
     subst (λ (x : DecrementerState). Finishes d.regions d.pocket (told (cursor_look d.regions) cursor ∷ told (number_look d.regions) word ∷ told (drawing d.regions) number ∷ ts) x) (sym rest.1)
     (subst (λ us. Finishes d.regions d.pocket (told (cursor_look d.regions) cursor ∷ told (number_look d.regions) word ∷ told (drawing d.regions) number ∷ us) (through d Nothing)) (sym rest.0) whole)
 
@@ -274,11 +250,11 @@ entry_lowered : (d : DecrementerState) (cursor word number entry : ℕ) (ts : Li
 entry_lowered d cursor word number entry ts d' none lt below end lowers = record {
   how = Worked;
   end = end;
-  does = unit.lowers_entry d.pocket d'.pocket _ none (unit.lowers_entry cursor word number entry ts d'.pocket lt below lowers);
+  does = whole_unit.turns d.pocket d'.pocket _ Worked none (unit.works _ d'.pocket (unit.lowers_entry cursor word number entry ts d'.pocket lt below lowers));
 }
 
 entered_by : (d : DecrementerState) (cursor word number entry : ℕ) (ts : List Told) (d' : DecrementerState) → d.pocket.items ≡ [] → cursor < listed_in d.regions word
-    → number < listed_in d.regions word → (item : Option Place) → referent_in d.regions entry ≡ item → RestOf (entered d item) ts d'
+    → number < listed_in d.regions word → (item : Option Place) → referent_in d.regions entry ≡ item → RestOf (led d (entered item)) ts d'
     → Finishes d.regions d.pocket (told (cursor_look d.regions) cursor ∷ told (number_look d.regions) word ∷ told (drawing d.regions) number ∷ told (entry_look d.regions number) entry ∷ ts) d'
 entered_by d cursor word number entry ts d' none lt below None e rest =
     let nothing : LowersReferent d.regions d.pocket None false [] d.pocket = unit.nil false in
@@ -300,19 +276,26 @@ entered_by d cursor word number entry ts d' none lt below (Some referent) e rest
 
 -- ---- steps
 
+-- a unit that begins with a place, or with none, makes a whole
+asked : (d : DecrementerState) (place : Place) (ts : List Told) (d' : DecrementerState) → Rest d (phase.AsksCount place) ts d' → Finishes d.regions (pushed d.pocket place) ts d'
+asked d place ts d' rest = rest
+
+turned : (d : DecrementerState) (ts : List Told) (d' : DecrementerState) → d.pocket.items ≡ [] → Rest d phase.AsksCursor ts d' → Finishes d.regions d.pocket ts d'
+turned d ts d' none rest = rest none
+
 -- the step of each phase, before what is left after it
 rest_before : (d : DecrementerState) (p : DecrementerPhase) (act : Action) (word : ℕ) (ts : List Told) (d' : DecrementerState) → action_in d.regions p ≡ Some act
-    → RestOf (after_in d p word) ts d' → Rest d p (told act word ∷ ts) d'
+    → RestOf (helper.after_in decrementer_work d p word) ts d' → Rest d p (told act word ∷ ts) d'
 rest_before d phase.Resting act word ts d' does rest = absurd (cc)
 rest_before d (phase.AsksCount place) act word ts d' does rest =
     let is : count_look d.regions place ≡ act = cc in
     subst (λ a. Rest d (phase.AsksCount place) (told a word ∷ ts) d') is (rest word refl)
 rest_before d (phase.AsksStart place uncounted) act word ts d' does rest =
     let is : start_look d.regions place ≡ act = cc in
-    subst (λ a. Rest d (phase.AsksStart place uncounted) (told a word ∷ ts) d') is (λ c count. start_by d place c word ts d' uncounted (has_bit place word) count refl rest)
+    subst (λ a. Rest d (phase.AsksStart place uncounted) (told a word ∷ ts) d') is (λ c count. lemma.start_by decrementer_work count_look is_uncounted claim HandlesObject TurnsToList Rest asked turned d place (phase.Claims place) c word ts d' uncounted (has_bit place word) count refl (λ zero start on. on c word zero start) rest)
 rest_before d (phase.Claims place) act word ts d' does rest =
     let is : claim d.regions place ≡ act = cc in
-    subst (λ a. Rest d (phase.Claims place) (told a word ∷ ts) d') is (λ c s zero start. claim_by d place c s word ts d' zero start (has_bit place word) refl rest)
+    subst (λ a. Rest d (phase.Claims place) (told a word ∷ ts) d') is (λ c s zero start. lemma.claim_by decrementer_work count_look is_uncounted claim HandlesObject TurnsToList Rest asked turned d place (phase.ReadsHeader place) c s word ts d' zero start (has_bit place word) refl (λ on. (Worked, on.0, on.1)) rest)
 rest_before d (phase.ReadsHeader place) act word ts d' does rest =
     let is : header_look d.regions place ≡ act = cc in
     subst (λ a. Rest d (phase.ReadsHeader place) (told a word ∷ ts) d') is (rest.0, rest.1 word refl)
@@ -346,7 +329,7 @@ rest_before d (phase.Draws count) act word ts d' does rest =
     let is : drawing d.regions ≡ act = cc in
     subst (λ a. Rest d (phase.Draws count) (told a word ∷ ts) d') is
     (λ none cursor w e lt. drawn_by d cursor w word ts d' none (subst (λ n. cursor < n) (sym e) lt) (nat_lt word (listed_in d.regions w)) refl
-    (subst (λ n. RestOf (if nat_lt word n then in_phase d (phase.ReadsEntry word) else through d Nothing) ts d') (sym e) rest))
+    (subst (λ n. RestOf (led d (if nat_lt word n then goes_to (phase.ReadsEntry word) else ends Nothing)) ts d') (sym e) rest))
 rest_before d (phase.ReadsEntry number) act word ts d' does rest =
     let is : entry_look d.regions number ≡ act = cc in
     subst (λ a. Rest d (phase.ReadsEntry number) (told a word ∷ ts) d') is
@@ -354,59 +337,7 @@ rest_before d (phase.ReadsEntry number) act word ts d' does rest =
 
 -- ---- runs
 
--- a decrementer that rests has nothing left
-rest_through : (d : DecrementerState) (p : DecrementerPhase) → rests_in p ≡ true → Rest d p [] d
-rest_through d phase.Resting e = (refl, refl)
-rest_through d (phase.AsksCount place) e = absurd (cc)
-rest_through d (phase.AsksStart place uncounted) e = absurd (cc)
-rest_through d (phase.Claims place) e = absurd (cc)
-rest_through d (phase.ReadsHeader place) e = absurd (cc)
-rest_through d (phase.AsksTracing place refs) e = absurd (cc)
-rest_through d (phase.ReadsReference place refs index traced) e = absurd (cc)
-rest_through d (phase.MakesGray place refs index referent) e = absurd (cc)
-rest_through d (phase.AsksLowered referent handling) e = absurd (cc)
-rest_through d (phase.Lowers referent handling) e = absurd (cc)
-rest_through d phase.AsksCursor e = absurd (cc)
-rest_through d (phase.AsksNumber cursor) e = absurd (cc)
-rest_through d (phase.Draws count) e = absurd (cc)
-rest_through d (phase.ReadsEntry number) e = absurd (cc)
-
--- a unit in progress has begun
-begun_by : (d : DecrementerState) (p : DecrementerPhase) → rests_in p ≡ false → begun_in d p ≡ d
-begun_by d phase.Resting e = absurd (cc)
-begun_by d p e = refl
-
--- its next step is that of the unit that it has begun
-begun_does : (d : DecrementerState) (act : Action) → action d ≡ Some act → action_in (begun d).regions (begun d).phase ≡ Some act
-begun_does d act does = ap (λ r. action_in r (begun d).phase) (begun_regions d d.phase) ∙ (sym (unfinished d (subst IsSome (sym does) refl)) ∙ does)
-
--- what a decrementer that has begun does from here on is the rest of its unit
-begun_rest : (d d' : DecrementerState) (ts : List Told) → Runs decrementer_machine d ts d' → RestOf (begun d) ts d'
-begun_rest d _ _ (run.ends _ act word does rests) =
-    rest_before (begun d) (begun d).phase act word [] (after d word) (begun_does d act does) (rest_through (after d word) (after d word).phase rests)
-begun_rest d d' _ (run.goes_on _ _ act word ts does busy runs) =
-    let on = begun_rest (after d word) d' ts runs in
-    rest_before (begun d) (begun d).phase act word ts d' (begun_does d act does) (subst (λ x. RestOf x ts d') (begun_by (after d word) (after d word).phase busy) on)
-
--- at rest that is the whole
-whole_by : (d d' : DecrementerState) (ts : List Told) (p : DecrementerPhase) → rests_in p ≡ true → RestOf (begun_in d p) ts d' → Finishes d.regions d.pocket ts d'
-whole_by d d' ts phase.Resting e rest = looks_finish d ts d' rest
-whole_by d d' ts (phase.AsksCount place) e rest = absurd (cc)
-whole_by d d' ts (phase.AsksStart place uncounted) e rest = absurd (cc)
-whole_by d d' ts (phase.Claims place) e rest = absurd (cc)
-whole_by d d' ts (phase.ReadsHeader place) e rest = absurd (cc)
-whole_by d d' ts (phase.AsksTracing place refs) e rest = absurd (cc)
-whole_by d d' ts (phase.ReadsReference place refs index traced) e rest = absurd (cc)
-whole_by d d' ts (phase.MakesGray place refs index referent) e rest = absurd (cc)
-whole_by d d' ts (phase.AsksLowered referent handling) e rest = absurd (cc)
-whole_by d d' ts (phase.Lowers referent handling) e rest = absurd (cc)
-whole_by d d' ts phase.AsksCursor e rest = absurd (cc)
-whole_by d d' ts (phase.AsksNumber cursor) e rest = absurd (cc)
-whole_by d d' ts (phase.Draws count) e rest = absurd (cc)
-whole_by d d' ts (phase.ReadsEntry number) e rest = absurd (cc)
-
 -- each unit ends by the rules
 pub end_by_rules : UnitsEndByRules
 end_by_rules d d' ts rests runs =
-    let whole = whole_by d d' ts d.phase rests (begun_rest d d' ts runs) in
-    record { how = whole.how; end = whole.end; does = whole.does }
+    lemma.end_by_rules decrementer_work count_look is_uncounted claim HandlesObject TurnsToList Rest asked turned decrementer_lawful rest_before (λ h. (refl, refl)) d d' ts rests runs

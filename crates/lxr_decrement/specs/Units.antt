@@ -3,30 +3,18 @@ use Rattle.std.specs.Prelude.{◌≡◌, ◌≢◌, ℕ, ◌+◌, ◌<◌, ◌�
 use Rattle.lxr_layout.specs.declared.TheConstants.{STUCK}
 use Rattle.lxr_layout.specs.declared.Place.{Place}
 use Rattle.lxr_layout.specs.declared.limits.Regions.{Regions}
-use Rattle.lxr_base.specs.Roomy.{Roomy, pushed}
+use Rattle.lxr_base.specs.Roomy.{Roomy}
 use Rattle.lxr_pocket.specs.Pockets.{kept}
-use Rattle.lxr_pocket.specs.Words.{has_bit, references_in, referent_in}
-use Rattle.lxr_pocket.specs.Looks.{graying, header_look, reference_look, start_look, tracing_look}
+use Rattle.lxr_pocket.specs.Words.{references_in, referent_in}
+use Rattle.lxr_pocket.specs.HelperUnits as helper
+use Rattle.lxr_pocket.specs.Looks.{graying, header_look, reference_look, tracing_look}
 use Rattle.lxr_pocket.specs.Units.{Told, told}
 use Rattle.lxr_decrement.specs.declared.phases.DecEnd.{DecEnd}
 use Rattle.lxr_decrement.specs.declared.phases.DecEnd.TheVariants.{Worked, Nothing}
-use Rattle.lxr_decrement.specs.Words.{count_in, listed_in}
+use Rattle.lxr_decrement.specs.Words.{count_in, is_uncounted, listed_in}
 use Rattle.lxr_decrement.specs.Steps.{claim, count_look, cursor_look, drawing, entry_look, lowering, number_look}
 
 module _ (r : Regions) where
-  -- The place needs no work: its count isn't 0, no unreclaimed object begins there, or the object was claimed before. Its count and its
-  -- start bit are both looked at in any case.
-  pub data NeedsNoWork (place : Place) : List Told → Type 0 where
-    counted : (c s : ℕ) → count_in place c ≢ 0 → NeedsNoWork place (told (count_look r place) c ∷ told (start_look r place) s ∷ [])
-    unstarted : (c s : ℕ) → has_bit place s ≡ false → NeedsNoWork place (told (count_look r place) c ∷ told (start_look r place) s ∷ [])
-    claimed_before : (c s b : ℕ) → count_in place c ≡ 0 → has_bit place s ≡ true → has_bit place b ≡ true
-        → NeedsNoWork place (told (count_look r place) c ∷ told (start_look r place) s ∷ told (claim r place) b ∷ [])
-
-  -- A dead object is at the place, and is claimed: its done bit was clear until then.
-  pub data ClaimsObject (place : Place) : List Told → Type 0 where
-    claims : (c s b : ℕ) → count_in place c ≡ 0 → has_bit place s ≡ true → has_bit place b ≡ false
-        → ClaimsObject place (told (count_look r place) c ∷ told (start_look r place) s ∷ told (claim r place) b ∷ [])
-
   -- The count of a place is lowered, unless it is 0 or stuck, and what became of the pocket.
   pub data LowersPlace (place : Place) (pocket : Roomy Place) : List Told → Roomy Place → Type 0 where
     is_zero : (c : ℕ) → count_in place c ≡ 0 → LowersPlace place pocket (told (count_look r place) c ∷ []) pocket
@@ -50,9 +38,9 @@ module _ (r : Regions) where
         → LowersFrom place refs traced index pocket (told (reference_look r place index) word ∷ (ts ++ us)) pocket'
 
   -- The object at a place is handled whole: its header and the tracing word are read, and each of its references is lowered.
-  pub data HandlesObject (place : Place) (pocket : Roomy Place) : List Told → Roomy Place → Type 0 where
+  pub data HandlesObject (place : Place) (pocket : Roomy Place) : List Told → Roomy Place → DecEnd → Type 0 where
     handles : (h t : ℕ) (ts : List Told) (pocket' : Roomy Place) → LowersFrom place (references_in r place h) (nat_eq t 1) 0 pocket ts pocket'
-        → HandlesObject place pocket (told (header_look r place) h ∷ told (tracing_look r) t ∷ ts) pocket'
+        → HandlesObject place pocket (told (header_look r place) h ∷ told (tracing_look r) t ∷ ts) pocket' Worked
 
   -- No entry of the list is left: the cursor was loaded, or a number drawn from it, that isn't below the list's length.
   pub data FindsNoEntry : List Told → Type 0 where
@@ -66,12 +54,12 @@ module _ (r : Regions) where
         → LowersReferent pocket (referent_in r entry) false ts pocket'
         → LowersEntry pocket (told (cursor_look r) cursor ∷ told (number_look r) count ∷ told (drawing r) number ∷ told (entry_look r number) entry ∷ ts) pocket'
 
-  -- A whole unit: the pocket before, the steps, the pocket after, and how the unit ended. Places of the pocket that need no work
-  -- are given up, the last one first. The first that needs work is handled whole; where none does, the unit turns to the list.
-  pub data DoesUnit : Roomy Place → List Told → Roomy Place → DecEnd → Type 0 where
-    gives_up : (pocket pocket' : Roomy Place) (place : Place) (ts us : List Told) (how : DecEnd) → NeedsNoWork place ts → DoesUnit pocket us pocket' how
-        → DoesUnit (pushed pocket place) (ts ++ us) pocket' how
-    handles : (pocket pocket' : Roomy Place) (place : Place) (ts us : List Told) → ClaimsObject place ts → HandlesObject place pocket us pocket'
-        → DoesUnit (pushed pocket place) (ts ++ us) pocket' Worked
-    lowers_entry : (pocket pocket' : Roomy Place) (ts : List Told) → pocket.items ≡ [] → LowersEntry pocket ts pocket' → DoesUnit pocket ts pocket' Worked
-    finds_nothing : (pocket : Roomy Place) (ts : List Told) → pocket.items ≡ [] → FindsNoEntry ts → DoesUnit pocket ts pocket Nothing
+  -- No place of the pocket needs work: the unit turns to the list.
+  pub data TurnsToList (pocket : Roomy Place) : List Told → Roomy Place → DecEnd → Type 0 where
+    works : (ts : List Told) (pocket' : Roomy Place) → LowersEntry pocket ts pocket' → TurnsToList pocket ts pocket' Worked
+    finds_nothing : (ts : List Told) → FindsNoEntry ts → TurnsToList pocket ts pocket Nothing
+
+  -- A whole unit: the pocket before, the steps, the pocket after, and how the unit ended. A dead object, whose count is 0, is claimed
+  -- by its done bit; the unit turns to the list only where no place of the pocket needs work.
+  abbrev pub DoesUnit : Roomy Place → List Told → Roomy Place → DecEnd → Type 0
+  DoesUnit = helper.DoesUnit count_look is_uncounted claim r HandlesObject TurnsToList

@@ -9,6 +9,8 @@
 mod decrementer;
 mod laws;
 mod phases;
+mod units;
+mod words;
 
 pub use decrementer::Decrementer;
 pub use laws::{

@@ -1,7 +1,6 @@
 -- A unit that has come to rest has told how it ended, since each step that leads to rest tells it.
 use Rattle.std.proofs.Common.{◌≡◌, ◌∙◌, ℕ, List, [], ◌∷◌, ◌++◌, ◌+◌, Bool, true, false, Option, Some, None, refl, sym, ap, subst}
 use Rattle.std.specs.Prelude.{◌&&◌, ◌||◌, IsSome, if◌then◌else◌, is_some, nat_eq, nat_lt, option_map, slice_index}
-use Rattle.lxr_layout.specs.declared.TheConstants.{STUCK}
 use Rattle.lxr_layout.specs.declared.Place.{Place}
 use Rattle.lxr_layout.specs.declared.Shape.{Shape}
 use Rattle.lxr_layout.specs.Objects.{header_of, word_count}
@@ -27,29 +26,16 @@ use Rattle.lxr_mutator.specs.declared.phases.MutatorPhase.TheVariants as phase
 use Rattle.lxr_mutator.specs.Operating.{dest_of, index_of, indexed_fields}
 use Rattle.lxr_mutator.specs.Mutating.{Mutating, nil, op_now, register, rests_in as mut_rests_in}
 use Rattle.lxr_mutator.specs.Steps as mutator
+use Rattle.lxr_pocket.specs.Helpers as helper
+use Rattle.lxr_pocket.proofs.HelperLemmas as lemma
 use Rattle.lxr_decrement.specs.declared.phases.DecEnd.{DecEnd}
-use Rattle.lxr_decrement.specs.declared.phases.DecEnd.TheVariants as dec_ends
-use Rattle.lxr_decrement.specs.declared.phases.Handling.{Handling}
-use Rattle.lxr_decrement.specs.declared.phases.Handling.TheVariants.{Entry, References}
-use Rattle.lxr_decrement.specs.declared.phases.DecrementerPhase.{DecrementerPhase}
-use Rattle.lxr_decrement.specs.declared.phases.DecrementerPhase.TheVariants as dec
-use Rattle.lxr_decrement.specs.Decrementing.{DecrementerState, rests_in as dec_rests_in}
-use Rattle.lxr_pocket.specs.Pockets.{has_room, last_of, taken_from}
-use Rattle.lxr_pocket.specs.Words.{has_bit, is_in_heap, references_in, referent_in}
-use Rattle.lxr_decrement.specs.Words.{count_in, listed_in}
-use Rattle.lxr_decrement.specs.Steps as decrementer
-use Rattle.lxr_decrement.proofs.NearerLemmas as dec_nearer
-use Rattle.lxr_decrement.proofs.FinishLemmas as dec_finish
-use Rattle.lxr_trace.specs.declared.phases.Scan.{Scan}
+use Rattle.lxr_decrement.specs.Decrementing.{DecrementerState}
+use Rattle.lxr_decrement.specs.Steps.{decrementer_work}
+use Rattle.lxr_decrement.specs.Lawful.{decrementer_lawful}
 use Rattle.lxr_trace.specs.declared.phases.TraceEnd.{TraceEnd}
-use Rattle.lxr_trace.specs.declared.phases.TraceEnd.TheVariants as trace_ends
-use Rattle.lxr_trace.specs.declared.phases.TracerPhase.{TracerPhase}
-use Rattle.lxr_trace.specs.declared.phases.TracerPhase.TheVariants as tra
-use Rattle.lxr_trace.specs.Tracing.{TracerState, rests_in as trace_rests_in}
-use Rattle.lxr_trace.specs.Words.{counter_in, is_chosen, line_of_field, remember_room}
-use Rattle.lxr_trace.specs.Steps as tracer
-use Rattle.lxr_trace.proofs.NearerLemmas as tra_nearer
-use Rattle.lxr_trace.proofs.FinishLemmas as tra_finish
+use Rattle.lxr_trace.specs.Tracing.{TracerState}
+use Rattle.lxr_trace.specs.Steps.{tracer_work}
+use Rattle.lxr_trace.specs.Lawful.{tracer_lawful}
 use Rattle.lxr_shared_passes.specs.Passing.{Passing, DoesStep, GoesOn, Turned}
 use Rattle.lxr_core.specs.declared.actors.AnyActor.{AnyActor}
 use Rattle.lxr_core.specs.declared.actors.AnyActor.TheVariants as any
@@ -183,120 +169,6 @@ mut_after_in m (phase.GivingUp why) old acts = ended m (mutator.end_by why)
 mut_after : (m : Mutating) (old : ℕ) → IsSome (mutator.action m) → MutTells (mutator.after m old)
 mut_after m old acts = either mut_rests mut_end (mutator.accepts_in m m.phase old) _ _ (mut_after_in m m.phase old acts) (done m reply.Bad)
 
--- ---- decrementers
-
-abbrev dec_rests : DecrementerState → Bool
-dec_rests d = dec_rests_in d.phase
-
-abbrev dec_end : DecrementerState → Option DecEnd
-dec_end d = d.end
-
-abbrev DecTells : DecrementerState → Type 0
-DecTells d = Tells dec_rests dec_end d
-
-dec_in : (d : DecrementerState) (p : DecrementerPhase) → dec_rests_in p ≡ false → DecTells (decrementer.in_phase d p)
-dec_in d p e = busy dec_rests dec_end (decrementer.in_phase d p) e
-
-dec_through : (d : DecrementerState) (how : DecEnd) → DecTells (decrementer.through d how)
-dec_through d how = through dec_rests dec_end (decrementer.through d how) refl
-
-handled : (d : DecrementerState) (handling : Handling) → DecTells (decrementer.handled d handling)
-handled d Entry = dec_through d dec_ends.Worked
-handled d (References place refs next traced) =
-    either dec_rests dec_end (nat_lt next refs) _ _ (dec_in d (dec.ReadsReference place refs next traced) refl) (dec_through d dec_ends.Worked)
-
-dec_question : (d : DecrementerState) (place : Option Place) → DecTells (decrementer.in_phase d (decrementer.question place))
-dec_question d None = dec_in d dec.AsksCursor refl
-dec_question d (Some place) = dec_in d (dec.AsksCount place) refl
-
-dec_looks_on : (d : DecrementerState) → DecTells (decrementer.looks_on d)
-dec_looks_on d = dec_question (record d { pocket = taken_from d.pocket }) (last_of d.pocket.items)
-
-entered : (d : DecrementerState) (place : Option Place) → DecTells (decrementer.entered d place)
-entered d None = handled d Entry
-entered d (Some referent) = dec_in d (dec.AsksLowered referent Entry) refl
-
-dec_referred : (d : DecrementerState) (place : Place) (refs index : ℕ) (traced : Bool) (referent : Option Place) → DecTells (decrementer.referred d place refs index traced referent)
-dec_referred d place refs index traced None = handled d (References place refs (index + 1) traced)
-dec_referred d place refs index false (Some referent) = dec_in d (dec.AsksLowered referent (References place refs (index + 1) false)) refl
-dec_referred d place refs index true (Some referent) = dec_in d (dec.MakesGray place refs index referent) refl
-
-dec_after_in : (d : DecrementerState) (p : DecrementerPhase) (word : ℕ) → dec_rests_in p ≡ false → DecTells (decrementer.after_in d p word)
-dec_after_in d dec.Resting word e = absurd (cc)
-dec_after_in d (dec.AsksCount place) word e = dec_in d (dec.AsksStart place (nat_eq (count_in place word) 0)) refl
-dec_after_in d (dec.AsksStart place uncounted) word e = either dec_rests dec_end (uncounted && has_bit place word) _ _ (dec_in d (dec.Claims place) refl) (dec_looks_on d)
-dec_after_in d (dec.Claims place) word e = either dec_rests dec_end (has_bit place word) _ _ (dec_looks_on d) (dec_in d (dec.ReadsHeader place) refl)
-dec_after_in d (dec.ReadsHeader place) word e = dec_in d (dec.AsksTracing place (references_in d.regions place word)) refl
-dec_after_in d (dec.AsksTracing place refs) word e = handled d (References place refs 0 (nat_eq word 1))
-dec_after_in d (dec.ReadsReference place refs index traced) word e = dec_referred d place refs index traced (referent_in d.regions word)
-dec_after_in d (dec.MakesGray place refs index referent) word e = dec_in d (dec.AsksLowered referent (References place refs (index + 1) true)) refl
-dec_after_in d (dec.AsksLowered referent handling) word e =
-    let count = count_in referent word in
-    either dec_rests dec_end (nat_eq count 0 || nat_eq count STUCK) _ _ (handled d handling) (dec_in d (dec.Lowers referent handling) refl)
-dec_after_in d (dec.Lowers referent handling) word e = handled (decrementer.lowered d referent (count_in referent word)) handling
-dec_after_in d dec.AsksCursor word e = dec_in d (dec.AsksNumber word) refl
-dec_after_in d (dec.AsksNumber cursor) word e =
-    let count = listed_in d.regions word in
-    either dec_rests dec_end (nat_lt cursor count) _ _ (dec_in d (dec.Draws count) refl) (dec_through d dec_ends.Nothing)
-dec_after_in d (dec.Draws count) word e = either dec_rests dec_end (nat_lt word count) _ _ (dec_in d (dec.ReadsEntry word) refl) (dec_through d dec_ends.Nothing)
-dec_after_in d (dec.ReadsEntry number) word e = entered d (referent_in d.regions word)
-
-dec_after : (d : DecrementerState) (word : ℕ) → DecTells (decrementer.after d word)
-dec_after d word = let b = decrementer.begun d in dec_after_in b b.phase word (dec_nearer.begun_busy d)
-
--- ---- tracers
-
-abbrev trace_rests : TracerState → Bool
-trace_rests t = trace_rests_in t.phase
-
-abbrev trace_end : TracerState → Option TraceEnd
-trace_end t = t.end
-
-abbrev TraceTells : TracerState → Type 0
-TraceTells t = Tells trace_rests trace_end t
-
-trace_in : (t : TracerState) (p : TracerPhase) → trace_rests_in p ≡ false → TraceTells (tracer.in_phase t p)
-trace_in t p e = busy trace_rests trace_end (tracer.in_phase t p) e
-
-trace_through : (t : TracerState) (how : TraceEnd) → TraceTells (tracer.through t how)
-trace_through t how = through trace_rests trace_end (tracer.through t how) refl
-
-trace_question : (t : TracerState) (place : Option Place) → TraceTells (tracer.in_phase t (tracer.question place))
-trace_question t None = trace_in t tra.FindsNothing refl
-trace_question t (Some place) = trace_in t (tra.AsksGray place) refl
-
-trace_looks_on : (t : TracerState) → TraceTells (tracer.looks_on t)
-trace_looks_on t = trace_question (record t { pocket = taken_from t.pocket }) (last_of t.pocket.items)
-
-at_reference : (t : TracerState) (scan : Scan) → TraceTells (tracer.at_reference t scan)
-at_reference t scan = either trace_rests trace_end (nat_lt scan.index scan.refs) _ _ (trace_in t (tra.Scans scan) refl) (trace_through t (tracer.end_of scan.overflowed))
-
-scanned : (t : TracerState) (scan : Scan) → TraceTells (tracer.scanned t scan)
-scanned t scan = at_reference t (record scan { index = scan.index + 1 })
-
-trace_referred : (t : TracerState) (scan : Scan) (referent : Option Place) → TraceTells (tracer.referred t scan referent)
-trace_referred t scan None = scanned t scan
-trace_referred t scan (Some referent) = trace_in t (tra.AsksReferent scan referent) refl
-
-trace_after_in : (t : TracerState) (p : TracerPhase) (word : ℕ) → trace_rests_in p ≡ false → TraceTells (tracer.after_in t p word)
-trace_after_in t tra.Resting word e = absurd (cc)
-trace_after_in t (tra.AsksGray place) word e = trace_in t (tra.AsksObject place (has_bit place word)) refl
-trace_after_in t (tra.AsksObject place gray) word e = either trace_rests trace_end (gray && has_bit place word) _ _ (trace_in t (tra.Marks place) refl) (trace_looks_on t)
-trace_after_in t (tra.Marks place) word e = either trace_rests trace_end (has_bit place word) _ _ (trace_looks_on t) (trace_in t (tra.ReadsShape place) refl)
-trace_after_in t (tra.ReadsShape place) word e = at_reference t (tracer.scan_from_first place (references_in t.regions place word))
-trace_after_in t (tra.Scans scan) word e = trace_referred t scan (referent_in t.regions word)
-trace_after_in t (tra.AsksReferent scan referent) word e = either trace_rests trace_end (has_bit referent word) _ _ (trace_in t (tra.GraysReferent scan referent) refl) (scanned t scan)
-trace_after_in t (tra.GraysReferent scan referent) word e = trace_in (tracer.grayed t referent (has_bit referent word)) (tra.AsksBlock scan referent) refl
-trace_after_in t (tra.AsksBlock scan referent) word e = either trace_rests trace_end (is_chosen word) _ _ (trace_in t (tra.ReadsReuse scan) refl) (scanned t scan)
-trace_after_in t (tra.ReadsReuse scan) word e = trace_in t (tra.DrawsNumber scan (counter_in word (line_of_field scan.place scan.index))) refl
-trace_after_in t (tra.DrawsNumber scan counter) word e =
-    either trace_rests trace_end (nat_lt word (remember_room t.regions)) _ _ (trace_in t (tra.Enters scan counter word) refl) (scanned t (record scan { overflowed = true }))
-trace_after_in t (tra.Enters scan counter number) word e = scanned t scan
-trace_after_in t tra.FindsNothing word e = trace_through t trace_ends.Nothing
-
-trace_after : (t : TracerState) (word : ℕ) → TraceTells (tracer.after t word)
-trace_after t word = let b = tracer.begun t in trace_after_in b b.phase word (tra_nearer.begun_busy t)
-
 -- ---- actors
 
 some_mapped : {X Y : Type 0} (f : X → Y) (o : Option X) → IsSome o → IsSome (option_map f o)
@@ -306,35 +178,26 @@ some_mapped f (Some x) some = refl
 -- a step that leads to rest tells how the unit ended
 after_tells : (a : AnyActor) (old : ℕ) → IsSome (any_machine.action a) → any_machine.rests (any_machine.after a old) ≡ true → IsSome (end_of (any_machine.after a old))
 after_tells (any.Mutator m) old acts rests = some_mapped turn.Mutator (mutator.after m old).end ((mut_after m old acts).told rests)
-after_tells (any.Decrementer d) old acts rests = some_mapped turn.Decrementer (decrementer.after d old).end ((dec_after d old).told rests)
-after_tells (any.Tracer t) old acts rests = some_mapped turn.Tracer (tracer.after t old).end ((trace_after t old).told rests)
+after_tells (any.Decrementer d) old acts rests = some_mapped turn.Decrementer (helper.after decrementer_work d old).end (lemma.after_tells decrementer_work decrementer_lawful d old rests)
+after_tells (any.Tracer t) old acts rests = some_mapped turn.Tracer (helper.after tracer_work t old).end (lemma.after_tells tracer_work tracer_lawful t old rests)
 
 pub dec_knows : (d : DecrementerState) → KnowsEnd (any.Decrementer d)
-dec_knows d none = ap (λ (e : Option DecEnd). is_some (option_map turn.Decrementer e)) (((dec_finish.finished_by_rule).finished d).0 none).found_nothing
+dec_knows d none = ap (λ (e : Option DecEnd). is_some (option_map turn.Decrementer e)) (((lemma.finished_by_rule decrementer_work decrementer_lawful).finished d).0 none).found_nothing
 
 pub trace_knows : (t : TracerState) → KnowsEnd (any.Tracer t)
-trace_knows t none = ap (λ (e : Option TraceEnd). is_some (option_map turn.Tracer e)) (((tra_finish.finished_by_rule).finished t).0 none).found_nothing
-
--- a place that is offered leaves the phase
-dec_offered : (d : DecrementerState) (taken : Bool) (place : Place) → dec_rests_in (if◌then◌else◌ {A = DecrementerState × Bool} taken (record d { pocket = pushed d.pocket place }, true) (d, false)).0.phase ≡ dec_rests_in d.phase
-dec_offered d true place = refl
-dec_offered d false place = refl
-
-trace_offered : (t : TracerState) (taken : Bool) (place : Place) → trace_rests_in (if◌then◌else◌ {A = TracerState × Bool} taken (record t { pocket = pushed t.pocket place }, true) (t, false)).0.phase ≡ trace_rests_in t.phase
-trace_offered t true place = refl
-trace_offered t false place = refl
+trace_knows t none = ap (λ (e : Option TraceEnd). is_some (option_map turn.Tracer e)) (((lemma.finished_by_rule tracer_work tracer_lawful).finished t).0 none).found_nothing
 
 -- a place is offered
 pub offered_between : (a : AnyActor) (place : Place) → IsBetweenUnits a → IsBetweenUnits (any_machine.offered a place).0
 offered_between (any.Mutator m) place is = is
-offered_between (any.Decrementer d) place is = record { rests = dec_offered d (is_in_heap d.regions place.0 && has_room d.pocket) place ∙ is.rests; ended = dec_knows (decrementer.offered d place).0 }
-offered_between (any.Tracer t) place is = record { rests = trace_offered t (is_in_heap t.regions place.0 && has_room t.pocket) place ∙ is.rests; ended = trace_knows (tracer.offered t place).0 }
+offered_between (any.Decrementer d) place is = record { rests = lemma.offered_rests decrementer_work d place ∙ is.rests; ended = dec_knows (helper.offered decrementer_work d place).0 }
+offered_between (any.Tracer t) place is = record { rests = lemma.offered_rests tracer_work t place ∙ is.rests; ended = trace_knows (helper.offered tracer_work t place).0 }
 
 -- one is given up
 pub spared_between : (a : AnyActor) → IsBetweenUnits a → IsBetweenUnits (any_machine.spared a).0
 spared_between (any.Mutator m) is = is
-spared_between (any.Decrementer d) is = record { rests = is.rests; ended = dec_knows (decrementer.spared d).0 }
-spared_between (any.Tracer t) is = record { rests = is.rests; ended = trace_knows (tracer.spared t).0 }
+spared_between (any.Decrementer d) is = record { rests = is.rests; ended = dec_knows (helper.spared decrementer_work d).0 }
+spared_between (any.Tracer t) is = record { rests = is.rests; ended = trace_knows (helper.spared tracer_work t).0 }
 
 -- ---- units
 

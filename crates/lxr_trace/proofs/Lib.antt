@@ -1,4 +1,2 @@
 pub mod StayLemmas
-pub mod NearerLemmas
-pub mod FinishLemmas
 pub mod UnitLemmas

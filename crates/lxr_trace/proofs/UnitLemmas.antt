@@ -5,12 +5,14 @@ use Rattle.lxr_layout.specs.declared.Place.{Place}
 use Rattle.lxr_layout.specs.declared.limits.Regions.{Regions}
 use Rattle.lxr_base.specs.Roomy.{Roomy, pushed}
 use Rattle.lxr_actor.specs.declared.Action.{Action}
-use Rattle.lxr_pocket.specs.Pockets.{kept, last_of, without_last}
 use Rattle.lxr_pocket.specs.Words.{has_bit, references_in, referent_in}
 use Rattle.lxr_pocket.specs.Looks.{graying, header_look, reference_look, start_look, tracing_look}
-use Rattle.lxr_pocket.specs.Units.{Runs, Told, told}
-use Rattle.lxr_pocket.specs.Units as run
-use Rattle.lxr_pocket.proofs.PocketLemmas.{FromEnd, is_empty, has_last, from_end, last_pushed, without_pushed}
+use Rattle.lxr_pocket.specs.Pockets.{kept}
+use Rattle.lxr_pocket.specs.Units.{Told, told}
+use Rattle.lxr_pocket.specs.HelperUnits as whole_unit
+use Rattle.lxr_pocket.specs.Helpers.{Outcome, ends, goes_to}
+use Rattle.lxr_pocket.specs.Helpers as helper
+use Rattle.lxr_pocket.proofs.HelperUnitLemmas as lemma
 use Rattle.lxr_trace.specs.declared.phases.Scan.{Scan}
 use Rattle.lxr_trace.specs.declared.phases.TraceEnd.{TraceEnd}
 use Rattle.lxr_trace.specs.declared.phases.TraceEnd.TheVariants.{Nothing}
@@ -18,25 +20,21 @@ use Rattle.lxr_trace.specs.declared.phases.TracerPhase.{TracerPhase}
 use Rattle.lxr_trace.specs.declared.phases.TracerPhase.TheVariants as phase
 use Rattle.lxr_trace.specs.Tracing.{TracerState, rests_in}
 use Rattle.lxr_trace.specs.Words.{counter_in, is_chosen, line_of_field, remember_room}
-use Rattle.lxr_trace.specs.Steps.{action, action_in, after, after_in, at_reference, begun, begun_in, drawing, end_of, entering, gray_look, in_phase, is_finished, looks_on, marking, question, referred, reuse_look, scan_from_first, scanned, state_look, through, tracer_machine}
-use Rattle.lxr_trace.specs.Units.{DoesUnit, LooksAtBlock, NeedsNoWork, RemembersField, ScansFrom, ScansObject, ScansReferent}
+use Rattle.lxr_trace.specs.Steps.{action_in, at_reference, drawing, end_of, entering, gray_look, keeps_in, marking, question, referred, reuse_look, scan_from_first, scanned, state_look, tracer_work}
+use Rattle.lxr_trace.specs.Units.{FindsNothing, LooksAtBlock, RemembersField, ScansFrom, ScansObject, ScansReferent}
 use Rattle.lxr_trace.specs.Units as unit
+use Rattle.lxr_trace.specs.Lawful.{tracer_lawful}
 use Rattle.lxr_trace.specs.Laws.{UnitsEndByRules}
-use Rattle.lxr_trace.proofs.StayLemmas.{begun_regions}
 
 -- ---- what is left of a unit
 
 -- the rest of a unit that began with this pocket ends by the rules
-record Finishes (r : Regions) (pocket : Roomy Place) (ts : List Told) (t' : TracerState) : Type 0 where
-  how : TraceEnd
-  end : t'.end ≡ Some how
-  does : DoesUnit r pocket ts t'.pocket how
+abbrev Finishes : Regions → Roomy Place → List Told → TracerState → Type 0
+Finishes r pocket ts t' = lemma.Finishes tracer_work gray_look has_bit marking ScansObject FindsNothing r pocket ts t'
 
 -- an object is scanned whole
-record ScansWhole (r : Regions) (place : Place) (pocket : Roomy Place) (ts : List Told) (t' : TracerState) : Type 0 where
-  past : Bool
-  end : t'.end ≡ Some (end_of past)
-  scans : ScansObject r place pocket ts t'.pocket past
+abbrev ScansWhole : Regions → Place → Roomy Place → List Told → TracerState → Type 0
+ScansWhole r place pocket ts t' = (how : TraceEnd) × (t'.end ≡ Some how) × ScansObject r place pocket ts t'.pocket how
 
 -- the references from that of a scan on are scanned
 record ScansOn (r : Regions) (scan : Scan) (pocket : Roomy Place) (ts : List Told) (t' : TracerState) : Type 0 where
@@ -84,61 +82,27 @@ Rest t (phase.Enters scan counter number) ts t' = IsWithin scan → (c : ℕ) �
     → GoesBehind t.regions scan t.pocket (Remembers t.regions scan (told (reuse_look t.regions scan.place scan.index) c ∷ told (drawing t.regions) number ∷ [])) ts t'
 Rest t phase.FindsNothing ts t' = t.pocket.items ≡ [] → Finishes t.regions t.pocket ts t'
 
+-- where a step leads, with what is kept
+abbrev led : TracerState → Outcome TracerPhase TraceEnd → TracerState
+led t o = helper.led tracer_work t o
+
+abbrev keeping : TracerState → Option Place → TracerState
+keeping t item = helper.keeping tracer_work t item
+
+abbrev through : TracerState → TraceEnd → TracerState
+through t how = helper.through tracer_work t how
+
 -- what is left of a tracer's unit
 abbrev RestOf : TracerState → List Told → TracerState → Type 0
 RestOf t ts t' = Rest t t.phase ts t'
 
--- ---- places of the pocket
-
--- a place that needs no work is given up before the rest
-gives_up : (r : Regions) (pocket : Roomy Place) (place : Place) (first others : List Told) (t' : TracerState) → NeedsNoWork r place first → Finishes r pocket others t'
-    → Finishes r (pushed pocket place) (first ++ others) t'
-gives_up r pocket place first others t' needs rest = record {
-  how = rest.how;
-  end = rest.end;
-  does = unit.gives_up pocket t'.pocket place first others rest.how needs rest.does;
-}
-
--- a unit that looks on does what a unit of its pocket does
-looks_by : (t : TracerState) (places : List Place) → FromEnd places → (ts : List Told) (t' : TracerState)
-    → Rest (record t { pocket = record t.pocket { items = without_last places }; phase = question (last_of places) }) (question (last_of places)) ts t'
-    → Finishes t.regions (record t.pocket { items = places }) ts t'
-looks_by t _ is_empty ts t' rest = rest refl
-looks_by t _ (has_last places place) ts t' rest =
-    let at : Rest (record t { pocket = record t.pocket { items = without_last (places ++ place ∷ []) }; phase = question (Some place) }) (question (Some place)) ts t' =
-    subst (λ item. Rest (record t { pocket = record t.pocket { items = without_last (places ++ place ∷ []) }; phase = question item }) (question item) ts t') (last_pushed places place) rest in
-    subst (λ (left : List Place). Finishes t.regions (pushed (record t.pocket { items = left }) place) ts t') (without_pushed places place) at
-
-looks_finish : (t : TracerState) (ts : List Told) (t' : TracerState) → RestOf (looks_on t) ts t' → Finishes t.regions t.pocket ts t'
-looks_finish t ts t' rest = looks_by t t.pocket.items (from_end t.pocket.items) ts t' rest
-
-object_by : (t : TracerState) (place : Place) (g s : ℕ) (ts : List Told) (t' : TracerState) → (a b : Bool) → has_bit place g ≡ a → has_bit place s ≡ b
-    → RestOf (if a && b then in_phase t (phase.Marks place) else looks_on t) ts t'
-    → Finishes t.regions (pushed t.pocket place) (told (gray_look t.regions place) g ∷ told (start_look t.regions place) s ∷ ts) t'
-object_by t place g s ts t' true true gray start rest = rest g s gray start
-object_by t place g s ts t' true false gray start rest =
-    gives_up t.regions t.pocket place (told (gray_look t.regions place) g ∷ told (start_look t.regions place) s ∷ []) ts t' (unit.unstarted g s start) (looks_finish t ts t' rest)
-object_by t place g s ts t' false b white start rest =
-    gives_up t.regions t.pocket place (told (gray_look t.regions place) g ∷ told (start_look t.regions place) s ∷ []) ts t' (unit.white g s white) (looks_finish t ts t' rest)
-
-mark_by : (t : TracerState) (place : Place) (g s m : ℕ) (ts : List Told) (t' : TracerState) → has_bit place g ≡ true → has_bit place s ≡ true
-    → (was : Bool) → has_bit place m ≡ was → RestOf (if was then looks_on t else in_phase t (phase.ReadsShape place)) ts t'
-    → Finishes t.regions (pushed t.pocket place) (told (gray_look t.regions place) g ∷ told (start_look t.regions place) s ∷ told (marking t.regions place) m ∷ ts) t'
-mark_by t place g s m ts t' gray start true e rest =
-    gives_up t.regions t.pocket place (told (gray_look t.regions place) g ∷ told (start_look t.regions place) s ∷ told (marking t.regions place) m ∷ []) ts t'
-    (unit.marked_before g s m gray start e) (looks_finish t ts t' rest)
-mark_by t place g s m ts t' gray start false e rest = record {
-  how = end_of rest.past;
-  end = rest.end;
-  does = unit.scans t.pocket t'.pocket place (told (gray_look t.regions place) g ∷ told (start_look t.regions place) s ∷ told (marking t.regions place) m ∷ []) ts rest.past
-      (unit.marks g s m gray start e) rest.scans;
-}
+-- ---- an empty pocket
 
 nothing_found : (t : TracerState) (word : ℕ) (ts : List Told) (t' : TracerState) → t.pocket.items ≡ [] → RestOf (through t Nothing) ts t'
     → Finishes t.regions t.pocket (told (tracing_look t.regions) word ∷ ts) t'
 nothing_found t word ts t' none rest =
     let whole : Finishes t.regions t.pocket (told (tracing_look t.regions) word ∷ []) (through t Nothing) =
-    record { how = Nothing; end = refl; does = unit.finds_nothing t.pocket word none } in
+    record { how = Nothing; end = refl; does = whole_unit.turns t.pocket t.pocket (told (tracing_look t.regions) word ∷ []) Nothing none (unit.finds_nothing word) } in
     subst (λ (x : TracerState). Finishes t.regions t.pocket (told (tracing_look t.regions) word ∷ ts) x) (sym rest.1)
     (subst (λ us. Finishes t.regions t.pocket (told (tracing_look t.regions) word ∷ us) (through t Nothing)) (sym rest.0) whole)
 
@@ -154,7 +118,7 @@ or_true false = refl
 
 -- the references from that of a scan on, or none where it is behind the last
 at_by : (t : TracerState) (scan : Scan) (ts : List Told) (t' : TracerState) → scan.index ≤ scan.refs → (b : Bool) → nat_lt scan.index scan.refs ≡ b
-    → RestOf (if b then in_phase t (phase.Scans scan) else through t (end_of scan.overflowed)) ts t' → ScansOn t.regions scan t.pocket ts t'
+    → RestOf (led t (if b then goes_to (phase.Scans scan) else ends (end_of scan.overflowed))) ts t' → ScansOn t.regions scan t.pocket ts t'
 at_by t scan ts t' le true e rest = rest (grind arith)
 at_by t scan ts t' le false e rest =
     let last : scan.refs ≡ scan.index = grind arith in
@@ -168,10 +132,10 @@ at_by t scan ts t' le false e rest =
           (subst (λ us. ScansFrom t.regions scan.place scan.refs scan.index t.pocket us t.pocket false) (sym rest.0) at);
     }
 
-at_rest : (t : TracerState) (scan : Scan) (ts : List Told) (t' : TracerState) → scan.index ≤ scan.refs → RestOf (at_reference t scan) ts t' → ScansOn t.regions scan t.pocket ts t'
+at_rest : (t : TracerState) (scan : Scan) (ts : List Told) (t' : TracerState) → scan.index ≤ scan.refs → RestOf (led t (at_reference scan)) ts t' → ScansOn t.regions scan t.pocket ts t'
 at_rest t scan ts t' le rest = at_by t scan ts t' le (nat_lt scan.index scan.refs) refl rest
 
-behind : (t : TracerState) (scan : Scan) (ts : List Told) (t' : TracerState) → IsWithin scan → RestOf (scanned t scan) ts t'
+behind : (t : TracerState) (scan : Scan) (ts : List Told) (t' : TracerState) → IsWithin scan → RestOf (led t (scanned scan)) ts t'
     → ScansOn t.regions (record scan { index = scan.index + 1 }) t.pocket ts t'
 behind t scan ts t' lt rest = at_rest t (record scan { index = scan.index + 1 }) ts t' (omega arith) rest
 
@@ -189,14 +153,14 @@ next_reference r scan pocket between word item first others here later t' lt e s
 
 -- steps that found that the set has room, or that nothing is to be remembered, come before the others
 stays_within : (t : TracerState) (scan : Scan) (Steps : List Told → Bool → Type 0) (first ts : List Told) (t' : TracerState) → IsWithin scan → Steps first false
-    → RestOf (scanned t scan) ts t' → GoesBehind t.regions scan t.pocket Steps (first ++ ts) t'
+    → RestOf (led t (scanned scan)) ts t' → GoesBehind t.regions scan t.pocket Steps (first ++ ts) t'
 stays_within t scan Steps first ts t' lt does rest =
     let on = behind t scan ts t' lt rest in
     record { first = first; others = ts; here = false; later = on.past; split = refl; does = does; end = on.end; scans = on.scans }
 
 -- and so do those that found that it has none
 goes_past : (t : TracerState) (scan : Scan) (Steps : List Told → Bool → Type 0) (first ts : List Told) (t' : TracerState) → IsWithin scan → Steps first true
-    → RestOf (scanned t (record scan { overflowed = true })) ts t' → GoesBehind t.regions scan t.pocket Steps (first ++ ts) t'
+    → RestOf (led t (scanned (record scan { overflowed = true }))) ts t' → GoesBehind t.regions scan t.pocket Steps (first ++ ts) t'
 goes_past t scan Steps first ts t' lt does rest =
     let on = behind t (record scan { overflowed = true }) ts t' lt rest in
     record {
@@ -225,14 +189,14 @@ step_before r scan pocket step Steps All ts t' makes rest = record {
 }
 
 referred_by : (t : TracerState) (scan : Scan) (word : ℕ) (ts : List Told) (t' : TracerState) → IsWithin scan → (item : Option Place) → referent_in t.regions word ≡ item
-    → RestOf (referred t scan item) ts t' → ScansOn t.regions scan t.pocket (told (reference_look t.regions scan.place scan.index) word ∷ ts) t'
+    → RestOf (led t (referred scan item)) ts t' → ScansOn t.regions scan t.pocket (told (reference_look t.regions scan.place scan.index) word ∷ ts) t'
 referred_by t scan word ts t' lt None e rest =
     let on = behind t scan ts t' lt rest in
     next_reference t.regions scan t.pocket t.pocket word None [] ts false on.past t' lt e unit.nil on.end on.scans
 referred_by t scan word ts t' lt (Some referent) e rest = rest lt word e
 
 referent_by : (t : TracerState) (scan : Scan) (referent : Place) (word s : ℕ) (ts : List Told) (t' : TracerState) → IsWithin scan → referent_in t.regions word ≡ Some referent
-    → (b : Bool) → has_bit referent s ≡ b → RestOf (if b then in_phase t (phase.GraysReferent scan referent) else scanned t scan) ts t'
+    → (b : Bool) → has_bit referent s ≡ b → RestOf (led t (if b then goes_to (phase.GraysReferent scan referent) else scanned scan)) ts t'
     → ScansOn t.regions scan t.pocket (told (reference_look t.regions scan.place scan.index) word ∷ told (start_look t.regions referent) s ∷ ts) t'
 referent_by t scan referent word s ts t' lt e true f rest = rest lt word s e f
 referent_by t scan referent word s ts t' lt e false f rest =
@@ -252,8 +216,25 @@ grayed_rest t scan referent word s g ts t' lt e start on =
     (told (start_look t.regions referent) s ∷ told (graying t.regions referent) g ∷ on.first) on.others on.here on.later t' lt e
     (unit.finds referent s g on.first on.here start on.does) on.end on.scans)
 
+-- a referent that wasn't gray before is put into the pocket
+kept_pocket : (t : TracerState) (referent : Place) (b : Bool) → (keeping t (if b then None else Some referent)).pocket ≡ (if b then t.pocket else kept t.pocket referent)
+kept_pocket t referent true = refl
+kept_pocket t referent false = refl
+
+kept_regions : (t : TracerState) (item : Option Place) → (keeping t item).regions ≡ t.regions
+kept_regions t None = refl
+kept_regions t (Some place) = refl
+
+kept_rest : (t : TracerState) (scan : Scan) (referent : Place) (g : ℕ) (ts : List Told) (t' : TracerState) → let k = keeping t (keeps_in (phase.GraysReferent scan referent) g) in
+    GoesBehind k.regions scan k.pocket (LooksAtBlock k.regions scan.place scan.index referent) ts t'
+    → GoesBehind t.regions scan (if has_bit referent g then t.pocket else kept t.pocket referent) (LooksAtBlock t.regions scan.place scan.index referent) ts t'
+kept_rest t scan referent g ts t' on =
+    let k = keeping t (keeps_in (phase.GraysReferent scan referent) g) in
+    subst (λ pocket. GoesBehind t.regions scan pocket (LooksAtBlock t.regions scan.place scan.index referent) ts t') (kept_pocket t referent (has_bit referent g))
+    (subst (λ r. GoesBehind r scan k.pocket (LooksAtBlock r scan.place scan.index referent) ts t') (kept_regions t (keeps_in (phase.GraysReferent scan referent) g)) on)
+
 block_by : (t : TracerState) (scan : Scan) (referent : Place) (b : ℕ) (ts : List Told) (t' : TracerState) → IsWithin scan → (c : Bool) → is_chosen b ≡ c
-    → RestOf (if c then in_phase t (phase.ReadsReuse scan) else scanned t scan) ts t'
+    → RestOf (led t (if c then goes_to (phase.ReadsReuse scan) else scanned scan)) ts t'
     → GoesBehind t.regions scan t.pocket (LooksAtBlock t.regions scan.place scan.index referent) (told (state_look t.regions referent) b ∷ ts) t'
 block_by t scan referent b ts t' lt true e rest =
     step_before t.regions scan t.pocket (told (state_look t.regions referent) b) (Remembers t.regions scan []) (LooksAtBlock t.regions scan.place scan.index referent) ts t'
@@ -263,7 +244,7 @@ block_by t scan referent b ts t' lt false e rest =
 
 drawn_by : (t : TracerState) (scan : Scan) (counter c number : ℕ) (ts : List Told) (t' : TracerState) → IsWithin scan
     → counter_in c (line_of_field scan.place scan.index) ≡ counter → (b : Bool) → nat_lt number (remember_room t.regions) ≡ b
-    → RestOf (if b then in_phase t (phase.Enters scan counter number) else scanned t (record scan { overflowed = true })) ts t'
+    → RestOf (led t (if b then goes_to (phase.Enters scan counter number) else scanned (record scan { overflowed = true }))) ts t'
     → GoesBehind t.regions scan t.pocket (Remembers t.regions scan (told (reuse_look t.regions scan.place scan.index) c ∷ [])) (told (drawing t.regions) number ∷ ts) t'
 drawn_by t scan counter c number ts t' lt e true f rest =
     step_before t.regions scan t.pocket (told (drawing t.regions) number)
@@ -274,7 +255,7 @@ drawn_by t scan counter c number ts t' lt e false f rest =
     (unit.is_past c number (grind arith)) rest
 
 entered_rest : (t : TracerState) (scan : Scan) (counter c number old : ℕ) (ts : List Told) (t' : TracerState) → IsWithin scan
-    → counter_in c (line_of_field scan.place scan.index) ≡ counter → number < remember_room t.regions → RestOf (scanned t scan) ts t'
+    → counter_in c (line_of_field scan.place scan.index) ≡ counter → number < remember_room t.regions → RestOf (led t (scanned scan)) ts t'
     → GoesBehind t.regions scan t.pocket (Remembers t.regions scan (told (reuse_look t.regions scan.place scan.index) c ∷ told (drawing t.regions) number ∷ []))
     (told (entering t.regions number counter scan.place scan.index) old ∷ ts) t'
 entered_rest t scan counter c number old ts t' lt e room rest =
@@ -285,24 +266,31 @@ entered_rest t scan counter c number old ts t' lt e room rest =
 
 -- ---- steps
 
+-- a unit that begins with a place, or with none, makes a whole
+asked : (t : TracerState) (place : Place) (ts : List Told) (t' : TracerState) → Rest t (phase.AsksGray place) ts t' → Finishes t.regions (pushed t.pocket place) ts t'
+asked t place ts t' rest = rest
+
+turned : (t : TracerState) (ts : List Told) (t' : TracerState) → t.pocket.items ≡ [] → Rest t phase.FindsNothing ts t' → Finishes t.regions t.pocket ts t'
+turned t ts t' none rest = rest none
+
 -- the step of each phase, before what is left after it
 rest_before : (t : TracerState) (p : TracerPhase) (act : Action) (word : ℕ) (ts : List Told) (t' : TracerState) → action_in t.regions p ≡ Some act
-    → RestOf (after_in t p word) ts t' → Rest t p (told act word ∷ ts) t'
+    → RestOf (helper.after_in tracer_work t p word) ts t' → Rest t p (told act word ∷ ts) t'
 rest_before t phase.Resting act word ts t' does rest = absurd (cc)
 rest_before t (phase.AsksGray place) act word ts t' does rest =
     let is : gray_look t.regions place ≡ act = cc in
     subst (λ a. Rest t (phase.AsksGray place) (told a word ∷ ts) t') is (rest word refl)
 rest_before t (phase.AsksObject place gray) act word ts t' does rest =
     let is : start_look t.regions place ≡ act = cc in
-    subst (λ a. Rest t (phase.AsksObject place gray) (told a word ∷ ts) t') is (λ g was. object_by t place g word ts t' gray (has_bit place word) was refl rest)
+    subst (λ a. Rest t (phase.AsksObject place gray) (told a word ∷ ts) t') is (λ g was. lemma.start_by tracer_work gray_look has_bit marking ScansObject FindsNothing Rest asked turned t place (phase.Marks place) g word ts t' gray (has_bit place word) was refl (λ gray start on. on g word gray start) rest)
 rest_before t (phase.Marks place) act word ts t' does rest =
     let is : marking t.regions place ≡ act = cc in
-    subst (λ a. Rest t (phase.Marks place) (told a word ∷ ts) t') is (λ g s gray start. mark_by t place g s word ts t' gray start (has_bit place word) refl rest)
+    subst (λ a. Rest t (phase.Marks place) (told a word ∷ ts) t') is (λ g s gray start. lemma.claim_by tracer_work gray_look has_bit marking ScansObject FindsNothing Rest asked turned t place (phase.ReadsShape place) g s word ts t' gray start (has_bit place word) refl (λ on. on) rest)
 rest_before t (phase.ReadsShape place) act word ts t' does rest =
     let is : header_look t.regions place ≡ act = cc in
     let on = at_rest t (scan_from_first place (references_in t.regions place word)) ts t' (omega arith) rest in
     let whole : ScansWhole t.regions place t.pocket (told (header_look t.regions place) word ∷ ts) t' =
-    record { past = on.past; end = on.end; scans = unit.scans word ts t'.pocket on.past on.scans } in
+    (end_of on.past, on.end, unit.scans word ts t'.pocket on.past on.scans) in
     subst (λ a. Rest t (phase.ReadsShape place) (told a word ∷ ts) t') is whole
 rest_before t (phase.Scans scan) act word ts t' does rest =
     let is : reference_look t.regions scan.place scan.index ≡ act = cc in
@@ -314,7 +302,7 @@ rest_before t (phase.AsksReferent scan referent) act word ts t' does rest =
 rest_before t (phase.GraysReferent scan referent) act word ts t' does rest =
     let is : graying t.regions referent ≡ act = cc in
     subst (λ a. Rest t (phase.GraysReferent scan referent) (told a word ∷ ts) t') is
-    (λ lt w s e start. grayed_rest t scan referent w s word ts t' lt e start (rest lt))
+    (λ lt w s e start. grayed_rest t scan referent w s word ts t' lt e start (kept_rest t scan referent word ts t' (rest lt)))
 rest_before t (phase.AsksBlock scan referent) act word ts t' does rest =
     let is : state_look t.regions referent ≡ act = cc in
     subst (λ a. Rest t (phase.AsksBlock scan referent) (told a word ∷ ts) t') is (λ lt. block_by t scan referent word ts t' lt (is_chosen word) refl rest)
@@ -338,50 +326,6 @@ rest_before t phase.FindsNothing act word ts t' does rest =
 
 -- ---- runs
 
--- a tracer that rests has nothing left
-rest_through : (t : TracerState) (p : TracerPhase) → rests_in p ≡ true → Rest t p [] t
-rest_through t phase.Resting e = (refl, refl)
-rest_through t (phase.AsksGray place) e = absurd (cc)
-rest_through t (phase.AsksObject place gray) e = absurd (cc)
-rest_through t (phase.Marks place) e = absurd (cc)
-rest_through t (phase.ReadsShape place) e = absurd (cc)
-rest_through t (phase.Scans scan) e = absurd (cc)
-rest_through t (phase.AsksReferent scan referent) e = absurd (cc)
-rest_through t (phase.GraysReferent scan referent) e = absurd (cc)
-rest_through t (phase.AsksBlock scan referent) e = absurd (cc)
-rest_through t (phase.ReadsReuse scan) e = absurd (cc)
-rest_through t (phase.DrawsNumber scan counter) e = absurd (cc)
-rest_through t (phase.Enters scan counter number) e = absurd (cc)
-rest_through t phase.FindsNothing e = absurd (cc)
-
--- a unit in progress has begun
-begun_by : (t : TracerState) (p : TracerPhase) → rests_in p ≡ false → begun_in t p ≡ t
-begun_by t phase.Resting e = absurd (cc)
-begun_by t p e = refl
-
--- its next step is that of the unit that it has begun
-does_by : (t : TracerState) (act : Action) (b : Bool) → (if b then None else action_in t.regions (begun t).phase) ≡ Some act → action_in t.regions (begun t).phase ≡ Some act
-does_by t act true e = absurd (cc)
-does_by t act false e = e
-
-begun_does : (t : TracerState) (act : Action) → action t ≡ Some act → action_in (begun t).regions (begun t).phase ≡ Some act
-begun_does t act does = ap (λ r. action_in r (begun t).phase) (begun_regions t t.phase) ∙ does_by t act (is_finished t) does
-
--- what a tracer that has begun does from here on is the rest of its unit
-begun_rest : (t t' : TracerState) (ts : List Told) → Runs tracer_machine t ts t' → RestOf (begun t) ts t'
-begun_rest t _ _ (run.ends _ act word does rests) =
-    rest_before (begun t) (begun t).phase act word [] (after t word) (begun_does t act does) (rest_through (after t word) (after t word).phase rests)
-begun_rest t t' _ (run.goes_on _ _ act word ts does busy runs) =
-    let on = begun_rest (after t word) t' ts runs in
-    rest_before (begun t) (begun t).phase act word ts t' (begun_does t act does) (subst (λ x. RestOf x ts t') (begun_by (after t word) (after t word).phase busy) on)
-
--- at rest that is the whole
-begun_at_rest : (t : TracerState) (p : TracerPhase) → rests_in p ≡ true → begun_in t p ≡ looks_on t
-begun_at_rest t phase.Resting e = refl
-begun_at_rest t p e = absurd (cc)
-
 -- each unit ends by the rules
 pub end_by_rules : UnitsEndByRules
-end_by_rules t t' ts rests runs =
-    let whole = looks_finish t ts t' (subst (λ x. RestOf x ts t') (begun_at_rest t t.phase rests) (begun_rest t t' ts runs)) in
-    record { how = whole.how; end = whole.end; does = whole.does }
+end_by_rules t t' ts rests runs = lemma.end_by_rules tracer_work gray_look has_bit marking ScansObject FindsNothing Rest asked turned tracer_lawful rest_before (λ h. (refl, refl)) t t' ts rests runs

@@ -2,9 +2,10 @@
 use Rattle.std.specs.Prelude.{◌≡◌, ℕ, ◌+◌, ◌<◌, ◌≤◌, Bool, true, false, ◌||◌, List, [], ◌∷◌, ◌++◌, Option, Some, None, if◌then◌else◌}
 use Rattle.lxr_layout.specs.declared.Place.{Place}
 use Rattle.lxr_layout.specs.declared.limits.Regions.{Regions}
-use Rattle.lxr_base.specs.Roomy.{Roomy, pushed}
+use Rattle.lxr_base.specs.Roomy.{Roomy}
 use Rattle.lxr_pocket.specs.Pockets.{kept}
 use Rattle.lxr_pocket.specs.Words.{has_bit, references_in, referent_in}
+use Rattle.lxr_pocket.specs.HelperUnits as helper
 use Rattle.lxr_pocket.specs.Looks.{graying, header_look, reference_look, start_look, tracing_look}
 use Rattle.lxr_pocket.specs.Units.{Told, told}
 use Rattle.lxr_trace.specs.declared.phases.TraceEnd.{TraceEnd}
@@ -13,19 +14,6 @@ use Rattle.lxr_trace.specs.Words.{counter_in, is_chosen, line_of_field, remember
 use Rattle.lxr_trace.specs.Steps.{drawing, end_of, entering, gray_look, marking, reuse_look, state_look}
 
 module _ (r : Regions) where
-  -- The place needs no work: it isn't gray, no unreclaimed object begins there, or the object was marked before. Its gray bit and its
-  -- start bit are both looked at in any case.
-  pub data NeedsNoWork (place : Place) : List Told → Type 0 where
-    white : (g s : ℕ) → has_bit place g ≡ false → NeedsNoWork place (told (gray_look r place) g ∷ told (start_look r place) s ∷ [])
-    unstarted : (g s : ℕ) → has_bit place s ≡ false → NeedsNoWork place (told (gray_look r place) g ∷ told (start_look r place) s ∷ [])
-    marked_before : (g s m : ℕ) → has_bit place g ≡ true → has_bit place s ≡ true → has_bit place m ≡ true
-        → NeedsNoWork place (told (gray_look r place) g ∷ told (start_look r place) s ∷ told (marking r place) m ∷ [])
-
-  -- A gray object is at the place, and is marked: its mark bit was clear until then.
-  pub data MarksObject (place : Place) : List Told → Type 0 where
-    marks : (g s m : ℕ) → has_bit place g ≡ true → has_bit place s ≡ true → has_bit place m ≡ false
-        → MarksObject place (told (gray_look r place) g ∷ told (start_look r place) s ∷ told (marking r place) m ∷ [])
-
   -- A number of the remembered set is drawn for a reference of the object at a place. Where it is below the set's room, the
   -- entry is stored, with the reuse counter of the reference's line; else the number is past the set.
   pub data RemembersField (place : Place) (index : ℕ) : List Told → Bool → Type 0 where
@@ -57,15 +45,15 @@ module _ (r : Regions) where
         → ScansFrom place refs index pocket (told (reference_look r place index) word ∷ (ts ++ us)) pocket' (here || later)
 
   -- The object at a place is scanned whole: its header is read, and each of its references is scanned.
-  pub data ScansObject (place : Place) (pocket : Roomy Place) : List Told → Roomy Place → Bool → Type 0 where
+  pub data ScansObject (place : Place) (pocket : Roomy Place) : List Told → Roomy Place → TraceEnd → Type 0 where
     scans : (h : ℕ) (ts : List Told) (pocket' : Roomy Place) (past : Bool) → ScansFrom place (references_in r place h) 0 pocket ts pocket' past
-        → ScansObject place pocket (told (header_look r place) h ∷ ts) pocket' past
+        → ScansObject place pocket (told (header_look r place) h ∷ ts) pocket' (end_of past)
 
-  -- A whole unit: the pocket before, the steps, the pocket after, and how the unit ended. Places of the pocket that need no work
-  -- are given up, the last one first. The first that needs work is scanned whole; where none does, the unit finds nothing.
-  pub data DoesUnit : Roomy Place → List Told → Roomy Place → TraceEnd → Type 0 where
-    gives_up : (pocket pocket' : Roomy Place) (place : Place) (ts us : List Told) (how : TraceEnd) → NeedsNoWork place ts → DoesUnit pocket us pocket' how
-        → DoesUnit (pushed pocket place) (ts ++ us) pocket' how
-    scans : (pocket pocket' : Roomy Place) (place : Place) (ts us : List Told) (past : Bool) → MarksObject place ts → ScansObject place pocket us pocket' past
-        → DoesUnit (pushed pocket place) (ts ++ us) pocket' (end_of past)
-    finds_nothing : (pocket : Roomy Place) (word : ℕ) → pocket.items ≡ [] → DoesUnit pocket (told (tracing_look r) word ∷ []) pocket Nothing
+  -- No place of the pocket needs work: the unit looks at the tracing word, and finds nothing.
+  pub data FindsNothing (pocket : Roomy Place) : List Told → Roomy Place → TraceEnd → Type 0 where
+    finds_nothing : (word : ℕ) → FindsNothing pocket (told (tracing_look r) word ∷ []) pocket Nothing
+
+  -- A whole unit: the pocket before, the steps, the pocket after, and how the unit ended. A gray object is claimed by its mark bit;
+  -- the unit finds nothing only where no place of the pocket needs work.
+  abbrev pub DoesUnit : Roomy Place → List Told → Roomy Place → TraceEnd → Type 0
+  DoesUnit = helper.DoesUnit gray_look has_bit marking r ScansObject FindsNothing

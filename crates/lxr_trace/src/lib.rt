@@ -9,6 +9,8 @@
 mod laws;
 mod phases;
 mod tracer;
+mod units;
+mod words;
 
 pub use laws::{tracers_finish_by_rule, tracers_stay_so, units_are_short, units_end_by_rules};
 pub use phases::{Scan, TraceEnd, TracerPhase};

@@ -8,7 +8,7 @@ use lxr_layout::{Place, Regions, WORDS_IN_LINE, field_word};
 
 /// The line of a reference of the object at a place, counted over the whole heap.
 #[inline(always)]
-pub(super) fn line_of_field(place: Place, index: u16) -> u32
+pub(crate) fn line_of_field(place: Place, index: u16) -> u32
     requires { IsPlace place }
     ensures { result ≡ line_of_field place index }
 {
@@ -17,7 +17,7 @@ pub(super) fn line_of_field(place: Place, index: u16) -> u32
 
 /// How often a line was handed out, by its word of the table of reuse counters.
 #[inline(always)]
-pub(super) fn counter_in(word: u64, line: u32) -> u32
+pub(crate) fn counter_in(word: u64, line: u32) -> u32
     ensures { result ≡ counter_in word line }
 {
     (word >> (32 * (line % 2)) & 0xffff_ffff) as u32
@@ -25,7 +25,7 @@ pub(super) fn counter_in(word: u64, line: u32) -> u32
 
 /// Whether a word of the table of states tells that the block is Chosen.
 #[inline(always)]
-pub(super) fn is_chosen(word: u64) -> bool
+pub(crate) fn is_chosen(word: u64) -> bool
     ensures { result ≡ is_chosen word }
 {
     word == BlockState::Chosen.number()
@@ -33,7 +33,7 @@ pub(super) fn is_chosen(word: u64) -> bool
 
 /// How many entries the remembered set has room for.
 #[inline(always)]
-pub(super) fn remember_room(regions: &Regions) -> u64
+pub(crate) fn remember_room(regions: &Regions) -> u64
     requires { regions.now.remembered ≤ regions.now.cursors }
     ensures { result ≡ remember_room regions.now }
 {

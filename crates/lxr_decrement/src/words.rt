@@ -10,7 +10,7 @@ use lxr_tables::COUNTS_IN_WORD;
 
 /// The lowest bit of the count of a granule in its word.
 #[inline(always)]
-pub(super) fn shift_of(granule: u32) -> u32
+pub(crate) fn shift_of(granule: u32) -> u32
     ensures shift { result ≡ COUNT_BITS * (granule % COUNTS_IN_WORD) }
     ensures within { result < 64 }
 {
@@ -19,7 +19,7 @@ pub(super) fn shift_of(granule: u32) -> u32
 
 /// The count at a place, in its word of the table of counts.
 #[inline(always)]
-pub(super) fn count_in(place: Place, word: u64) -> u64
+pub(crate) fn count_in(place: Place, word: u64) -> u64
     requires { 1 ≤ place.0 }
     ensures { result ≡ count_in place word }
 {
@@ -28,7 +28,7 @@ pub(super) fn count_in(place: Place, word: u64) -> u64
 
 /// How many decrements are listed, by the word that tells their number.
 #[inline(always)]
-pub(super) fn listed_in(regions: &Regions, word: u64) -> u64
+pub(crate) fn listed_in(regions: &Regions, word: u64) -> u64
     requires { regions.now.remembered < 2 ^ 32 }
     ensures { result ≡ listed_in regions.now word }
 {
