@@ -28,7 +28,7 @@ const LARGEST: Shape = Shape {
 const ROUNDS: u32 = 20;
 
 /// What is done in a heap.
-#[derive(Clone, Copy, PartialEq, Eq)]
+#[derive(Clone, Copy)]
 enum Work {
     /// Objects that fill a line are placed until there is no room.
     PlaceLine,
