@@ -1,4 +1,4 @@
-//! The steps of the program `bench_passes`, with no proof: the same machine of stages over plain atomic words.
+//! The steps that `bench_parts passes` times, with no proof: the same machine of stages over plain atomic words.
 
 use std::sync::atomic::{AtomicU64, Ordering::SeqCst};
 use std::thread;

@@ -1,4 +1,4 @@
-//! What `bench_print` prints, in plain Rust: digits by hand into a buffer that is written in large pieces.
+//! What `bench_parts print` prints, in plain Rust: digits by hand into a buffer that is written in large pieces.
 use std::io::{self, Write};
 
 fn push_number(text: &mut Vec<u8>, mut n: u64) {

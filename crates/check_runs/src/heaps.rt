@@ -1,9 +1,17 @@
-//! What stands in the heap and in the remembered set after a run, read off the words of the space.
+//! What stands in the heap and in the remembered set, read off the words of a space.
 use lxr_image::Space;
 use lxr_layout::{Header, Shape, unpack};
-use lxr_run::Seen;
 use lxr_tables::Words;
 use std::alloc::{AllocError, Global};
+
+/// The words of a block that stand before its start bits: those of the heap and the counts of its granules.
+const WORDS_BEFORE_STARTS: usize = 4096 + 64;
+
+/// Then come four tables with a bit for each granule, one with a bit for each word, and the reuse counters of two lines in a word.
+const WORDS_BEFORE_REUSE: usize = WORDS_BEFORE_STARTS + 4 * 32 + 64;
+
+/// Then come two words of bits for a block's lines, and its state, which is 0 where all of them are free.
+const WORDS_BEFORE_STATES: usize = WORDS_BEFORE_REUSE + 64 + 2;
 
 /// A word of a space, or 0 behind its end.
 pub fn word(space: &Space, at: usize) -> u64 {
@@ -14,10 +22,10 @@ pub fn word(space: &Space, at: usize) -> u64 {
     }
 }
 
-/// Whether an object begins at a granule: the start bits stand behind the heap and its counts.
+/// Whether an object begins at a granule.
 fn begins(space: &Space, granule: u32) -> bool {
     let blocks = space.limits.blocks as usize;
-    let bits = word(space, blocks * (4096 + 64) + granule as usize / 64);
+    let bits = word(space, blocks * WORDS_BEFORE_STARTS + granule as usize / 64);
     granule / 2048 < space.limits.blocks && bits >> (granule % 64) & 1 == 1
 }
 
@@ -73,7 +81,7 @@ fn write_heap(text: &mut String, space: &Space) -> Result<(), AllocError> {
 
 /// The objects of the first sixteen blocks of a heap.
 pub fn heap_of(alloc: Global, space: &Space) -> Result<String, AllocError> {
-    let mut text = String::from_str(alloc, "\n")?;
+    let mut text = String::new(alloc);
     write_heap(&mut text, space)?;
     Ok(text)
 }
@@ -88,10 +96,8 @@ fn entry(space: &Space, number: usize) -> u64 {
 /// How often the line was handed out in which a word of the heap stands: a word has the counters of two lines.
 fn reuse_of(space: &Space, at: usize) -> u64 {
     let line = at / 32;
-    let counters = word(
-        space,
-        space.limits.blocks as usize * (4096 + 64 + 4 * 32 + 64) + line / 2,
-    );
+    let blocks = space.limits.blocks as usize;
+    let counters = word(space, blocks * WORDS_BEFORE_REUSE + line / 2);
     counters >> (32 * (line % 2)) & 0xffff_ffff
 }
 
@@ -107,7 +113,7 @@ fn age_of(space: &Space, entry: u64, at: usize) -> &'static str {
 /// A line for each of the first eight entries of the remembered set: the place and the index of the reference, and whether its line has
 /// the entry's counter.
 pub fn entries_of(alloc: Global, space: &Space) -> Result<String, AllocError> {
-    let mut text = String::from_str(alloc, "\n")?;
+    let mut text = String::new(alloc);
     for number in 0..remembered(space).min(8) as usize {
         let entry = entry(space, number);
         let place = (entry >> 10 & 0x3f_ffff) as usize;
@@ -123,31 +129,8 @@ pub fn remembered(space: &Space) -> u64 {
     word(space, space.words.count().saturating_sub(16 - 7))
 }
 
-/// What a watch tells: whether it tells, and of each sight the pauses, the registers that hold something, the objects, and how many
-/// granules of the first block begin with the words that a text has behind its first.
-pub fn sights_of(alloc: Global, words: &str, watch: &Seen) -> Result<String, AllocError> {
-    let mut text = String::new(alloc);
-    write!(text, "{words}\ntold {}\n", watch.told())?;
-    let (_, wanted) = words.split_once(' ').unwrap_or(("", ""));
-    for sight in watch.sights() {
-        write_sight(&mut text, sight, wanted)?;
-    }
-    Ok(text)
-}
-
-fn write_sight(text: &mut String, sight: &Space, wanted: &str) -> Result<(), AllocError> {
-    write!(
-        text,
-        "pauses {}\nregisters {}\n",
-        sight.pauses,
-        held_in(sight)
-    )?;
-    write!(text, "granules {}\n", count_of(sight, wanted))?;
-    write_heap(text, sight)
-}
-
 /// How many registers of a space hold something.
-fn held_in(space: &Space) -> usize {
+pub fn held_in(space: &Space) -> usize {
     space
         .registers
         .as_slice()
@@ -156,23 +139,30 @@ fn held_in(space: &Space) -> usize {
         .count()
 }
 
-/// How many granules of the first block begin with the words that a text has.
-fn count_of(space: &Space, wanted: &str) -> u32 {
-    let mut found = 0_u32;
-    for granule in 0..2048_usize {
-        found = found.saturating_add(u32::from(stand_at(space, 2 * granule, wanted)));
+/// How many blocks of a space are free.
+pub fn free_blocks(space: &Space) -> u32 {
+    let blocks = space.limits.blocks as usize;
+    let first = blocks * WORDS_BEFORE_STATES;
+    let mut free = 0_u32;
+    for block in 0..blocks {
+        let state = word(space, first.saturating_add(block));
+        free = free.saturating_add(u32::from(state == 0));
     }
-    found
+    free
 }
 
-/// Whether the words that a text has stand in a space, one behind the other, from a word on.
-fn stand_at(space: &Space, first: usize, wanted: &str) -> bool {
-    let mut at = first;
-    for word_wanted in wanted.split(' ') {
-        if word_wanted.parse() != Ok(word(space, at)) {
-            return false;
-        }
-        at = at.saturating_add(1);
+/// The words of the first block that aren't 0, each behind its number.
+pub fn words_of(alloc: Global, space: &Space) -> Result<String, AllocError> {
+    let mut text = String::new(alloc);
+    for at in 0..4096_usize {
+        write_word(&mut text, at, word(space, at))?;
     }
-    true
+    Ok(text)
+}
+
+fn write_word(text: &mut String, at: usize, value: u64) -> Result<(), AllocError> {
+    if value == 0 {
+        return Ok(());
+    }
+    write!(text, "{at} {value}\n")
 }

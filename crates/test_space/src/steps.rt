@@ -51,11 +51,9 @@ pub enum End {
     RememberFull,
 }
 
-/// A machine that tells how its last unit ended, and begins an epoch.
+/// A machine that tells how its last unit ended.
 pub trait Unit: Actor {
     fn end(&self) -> End;
-
-    fn again(&mut self);
 }
 
 /// What a test does with a machine, or looks at, and what it must see.
@@ -67,16 +65,10 @@ pub enum Move {
     Finish(u32, End),
     /// Offers a place, and whether it is taken.
     Give(u32, bool),
-    /// Offers the places from one up to another, and all are taken.
-    Fill(u32, u32),
     /// Gives up a place: this one, or 0 for none.
     Spare(u32),
     /// Whether there is a step to do.
     HasStep(bool),
-    /// How the last unit ended.
-    Ended(End),
-    /// A new epoch begins.
-    Again,
     /// The word at an index is this.
     Word(u32, u64),
 }
@@ -130,16 +122,6 @@ fn finish<A: Actor>(rt: &impl Abort, words: &mut PlainWords, actor: &mut A) -> u
     0
 }
 
-/// Offers the places from one up to another. Whether all were taken.
-fn fill<A: Actor>(actor: &mut A, first: u32, end: u32) -> bool {
-    for place in first..end {
-        if !actor.offer(Place(place)) {
-            return false;
-        }
-    }
-    true
-}
-
 /// The place that a machine gives up, 0 if it has none.
 fn spare<A: Actor>(actor: &mut A) -> u32 {
     match actor.surplus() {
@@ -157,14 +139,8 @@ fn shows<A: Unit>(rt: &impl Abort, words: &mut PlainWords, actor: &mut A, next: 
         }
         Move::Finish(steps, end) => finish(rt, words, actor) == steps && actor.end() == end,
         Move::Give(place, taken) => actor.offer(Place(place)) == taken,
-        Move::Fill(first, end) => fill(actor, first, end),
         Move::Spare(place) => spare(actor) == place,
         Move::HasStep(has) => actor.next().is_some() == has,
-        Move::Ended(end) => actor.end() == end,
-        Move::Again => {
-            actor.again();
-            true
-        }
         Move::Word(at, value) => word(rt, words, at) == value,
     }
 }

@@ -2,7 +2,6 @@
 use Rattle.std.proofs.Common.{◌≡◌, ℕ, zero, suc, ◌+◌, ◌<◌, List, [], ◌∷◌, ◌++◌, length, map, take, get_or, All, ⊎_elim, inl, inr, refl, ap, ◌∙◌, arith}
 use Rattle.std.proofs.Math.Seq.{take-append_seam}
 use Rattle.lxr_actor.specs.Machine.{Machine}
-use Rattle.std.specs.Prelude.{Result, Ok, Err, IfOk}
 use Rattle.atomic_table.specs.Seated.{TableId}
 use Rattle.lxr_actor.specs.declared.Core.{Core}
 use Rattle.lxr_shared_passes.specs.Passing.{Passing, dealt, Turned}
@@ -32,8 +31,3 @@ dealt-epoch id core from (a ∷ rest) (suc k) d lt = dealt-epoch id core (suc fr
 -- a list that was lent whole comes back whole
 pub put_back : {X : Type 0} (n : ℕ) (xs ys : List X) → n ≡ length xs → take n (xs ++ ys) ≡ xs
 put_back n xs ys e = ap (λ (k : ℕ). take k (xs ++ ys)) e ∙ take-append_seam xs ys
-
--- what follows of a value follows of a result that has it
-pub if-ok-then : {T E : Type 0} (r : Result T E) (P Q : T → Type 0) → ((t : T) → P t → Q t) → IfOk r P → IfOk r Q
-if-ok-then (Ok t) P Q f p = f t p
-if-ok-then (Err e) P Q f p = p

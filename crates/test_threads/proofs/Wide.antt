@@ -1,15 +1,12 @@
--- The words that repeaters and tickets name are there in every core.
-use Rattle.std.proofs.Common.{◌≡◌, ℕ, ◌+◌, ◌<◌, ◌%◌, Bool, true, false, if◌then◌else◌, [], ◌∷◌, length, Option, Some, None, refl, ap, arith}
+-- The words that repeaters name are there in every core.
+use Rattle.std.proofs.Common.{◌≡◌, ℕ, ◌+◌, ◌<◌, Bool, true, false, if◌then◌else◌, [], ◌∷◌, length, Option, Some, None, refl, ap, arith}
 use Rattle.lxr_actor.specs.declared.Action.{Action}
 use Rattle.lxr_actor.specs.declared.Core.{Core}
 use Rattle.lxr_actor.specs.Machine.{Machine}
 use Rattle.lxr_actor.specs.Run.{AlwaysFits}
 use Rattle.lxr_actor.proofs.Runs.{run-lengths, always-fits}
 use Rattle.test_threads.specs.declared.repeater.Repeater.{Repeater}
-use Rattle.test_threads.specs.declared.tickets.Phase.{Phase}
-use Rattle.test_threads.specs.declared.tickets.Phase.TheVariants.{Draw, Write}
 use Rattle.test_threads.specs.Repeating.{repeating}
-use Rattle.test_threads.specs.Drawing.{Drawing, draws, drawing}
 
 -- words below a number that all next steps name
 pub wide-fits : {A : Type 0} (m : Machine A) (wide : ℕ) → ((a : A) (act : Action) → m.action a ≡ Some act → act.word < wide) → (core : Core A) → wide < length core.words + 1 → AlwaysFits m core
@@ -27,12 +24,5 @@ one-word : (b : Bool) (a act : Action) → a.word ≡ 0 → (if b then None else
 one-word true a act zero e = let h : 0 ≡ act.word = ap word_of e in omega arith
 one-word false a act zero e = let h : a.word ≡ act.word = ap word_of e in omega arith
 
-ticket-word : (d : Drawing) (p : Phase) (act : Action) → draws d p ≡ Some act → act.word < 65
-ticket-word d Draw act e = let h = one-word _ _ act refl e in omega arith
-ticket-word d (Write number) act e = let h : 1 + number % 64 ≡ act.word = ap word_of e in omega arith
-
 pub repeaters-fit : (core : Core Repeater) → 0 < length core.words → AlwaysFits repeating core
 repeaters-fit core h = wide-fits repeating 1 (λ a act is. one-word _ _ act refl is) core (omega arith)
-
-pub tickets-fit : (core : Core Drawing) → 64 < length core.words → AlwaysFits drawing core
-tickets-fit core h = wide-fits drawing 65 (λ a act is. ticket-word a a.phase act is) core (omega arith)

@@ -1,6 +1,5 @@
 -- A repeater as a machine.
-use Rattle.std.specs.Prelude.{◌-◌, ◌==◌, Bool, true, false, Option, Some, None, if◌then◌else◌}
-use Rattle.lxr_layout.specs.declared.Place.{Place}
+use Rattle.std.specs.Prelude.{◌-◌, ◌==◌, true, false, Option, Some, None, if◌then◌else◌}
 use Rattle.lxr_actor.specs.declared.Action.{Action}
 use Rattle.lxr_actor.specs.Machine.{Machine}
 use Rattle.test_threads.specs.declared.repeater.Repeater.{Repeater}
@@ -9,17 +8,12 @@ use Rattle.test_threads.specs.declared.repeater.Repeater.{Repeater}
 abbrev pub repeats : Repeater → Option Action
 repeats r = if r.todo == 0 then None else Some (record { kind = r.kind; word = 0; operand = r.operand })
 
--- an empty pocket takes the place
-abbrev pub pocketed : Repeater → Option Place → Place → Repeater × Bool
-pocketed r None place = (record r { pocket = Some place }, true)
-pocketed r (Some other) place = (r, false)
-
 abbrev pub repeating : Machine Repeater
 repeating = record {
   action = repeats;
   after = λ r old. record r { todo = r.todo - 1; found = old };
   rests = λ r. true;
   left = λ r. 1;
-  offered = λ r place. pocketed r r.pocket place;
-  spared = λ r. (record r { pocket = None }, r.pocket);
+  offered = λ r place. (r, false);
+  spared = λ r. (r, None);
 }

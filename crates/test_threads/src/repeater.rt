@@ -1,5 +1,5 @@
-//! An actor that does the same step on word 0 again and again, and has a pocket for one place.
-ghost use Rattle.std.specs.Prelude.{◌≡◌, Some, None};
+//! An actor that does the same step on word 0 again and again.
+ghost use Rattle.std.specs.Prelude.{◌≡◌};
 
 use lxr_actor::{Action, Actor, Kindred};
 use lxr_layout::Place;
@@ -12,20 +12,18 @@ pub struct Repeater {
     pub todo: u32,
     /// What the word was at the last step.
     pub found: u64,
-    pub pocket: Option<Place>,
 }
 
 impl Repeater {
-    /// A repeater with an empty pocket, before its first step.
+    /// A repeater before its first step.
     pub fn new(kind: Kindred, operand: u64, todo: u32) -> Repeater
-        ensures { result ≡ record { kind = kind; operand = operand; todo = todo; found = 0; pocket = None } }
+        ensures { result ≡ record { kind = kind; operand = operand; todo = todo; found = 0 } }
     {
         Repeater {
             kind,
             operand,
             todo,
             found: 0,
-            pocket: None,
         }
     }
 }
@@ -55,15 +53,11 @@ impl Actor for Repeater {
         true
     }
 
-    fn offer(&mut self, place: Place) -> bool {
-        if self.pocket.is_some() {
-            return false;
-        }
-        self.pocket = Some(place);
-        true
+    fn offer(&mut self, _place: Place) -> bool {
+        false
     }
 
     fn surplus(&mut self) -> Option<Place> {
-        self.pocket.take()
+        None
     }
 }

@@ -1,11 +1,8 @@
-//! Every kind of step, schedules with entries that are skipped, offers, hints, and passes in 2, 8 and 32 threads.
+//! Every kind of step on a table that threads share, hints, and passes in 2, 8 and 32 threads.
 ghost use Rattle.std.specs.Prelude.{◌≡◌, ◌<◌, length, IfOk};
 
-use crate::fitting::{
-    exchange_in_pockets, open_repeaters, replay_repeaters, run_repeaters, run_tickets,
-};
+use crate::fitting::run_repeaters;
 use crate::repeater::Repeater;
-use crate::tickets::Tickets;
 use lxr_actor::Kindred;
 use lxr_hints::hinters;
 use lxr_layout::Place;
@@ -61,32 +58,6 @@ fn every_kind_of_step(rt: HostRuntime) -> Result<(), Fail> {
         )?;
         assert!(rt; words.count() == 1 && words.get(0) == left);
         assert!(rt; actors.len() == 1 && actors[0].found == 6 && actors[0].todo == 0);
-        let mut words = words_from(rt.alloc(), 6, 1)?;
-        let mut actors = repeaters(rt.alloc(), 1, kind, 3, 1)?;
-        replay_repeaters(&mut words, actors.as_mut_slice(), &[0]);
-        assert!(rt; words.count() == 1 && words.get(0) == left);
-    }
-    Ok(())
-}
-
-#[test]
-fn entries_of_nobody_are_skipped(rt: HostRuntime) -> Result<(), Fail> {
-    let mut words = words_from(rt.alloc(), u64::MAX, 1)?;
-    let mut actors = repeaters(rt.alloc(), 2, Kindred::Add, 1, 2)?;
-    replay_repeaters(&mut words, actors.as_mut_slice(), &[7, 0, 1, 255, 0, 0, 2]);
-    assert!(rt; words.count() == 1 && words.get(0) == 2);
-    assert!(rt; actors.len() == 2 && actors[0].todo == 0 && actors[1].todo == 1);
-    Ok(())
-}
-
-#[test]
-fn offers_and_surplus(rt: HostRuntime) -> Result<(), Fail> {
-    let actors = repeaters(rt.alloc(), 2, Kindred::Add, 1, 1)?;
-    let (epoch, mut passes) = open_repeaters(rt.alloc(), words_from(rt.alloc(), 0, 1)?, actors)?;
-    exchange_in_pockets(&rt, &epoch, passes.as_mut_slice());
-    assert!(rt; passes.len() == 2);
-    for pass in &passes {
-        assert!(rt; pass.resting() && pass.actor().pocket == Some(Place(7)));
     }
     Ok(())
 }
@@ -125,33 +96,6 @@ fn sums_in_threads(rt: HostRuntime) -> Result<(), Fail> {
         let (words, actors) = run_repeaters(&rt, rt.alloc(), words, actors, threads, 1002)?;
         assert!(rt; words.count() == 1 && words.get(0) == 5 + 3 * 32 * 1000);
         assert!(rt; actors.len() == 32 && actors.iter().all(|actor| actor.todo == 0));
-    }
-    Ok(())
-}
-
-#[test]
-fn tickets_in_threads(rt: HostRuntime) -> Result<(), Fail> {
-    for threads in [2, 8, 32] {
-        let mut actors = Vec::new(rt.alloc());
-        for _ in 0..32 {
-            actors.push(Tickets::new(rt.alloc(), 2)?)?;
-        }
-        let words = words_from(rt.alloc(), 0, 65)?;
-        // Each gets two turns more than it has units.
-        let (words, actors) = run_tickets(&rt, rt.alloc(), words, actors, threads, 4)?;
-        assert!(rt; words.count() == 65 && words.get(0) == 64);
-        for k in 0..64_usize {
-            assert!(rt; words.get(1 + k) == k as u64);
-        }
-        let mut holders = [0_u32; 64];
-        for actor in &actors {
-            assert!(rt; actor.drawn().len() == 2);
-            for number in actor.drawn() {
-                assert!(rt; *number < 64);
-                holders[*number as usize] = holders[*number as usize].saturating_add(1);
-            }
-        }
-        assert!(rt; actors.len() == 32 && holders.iter().all(|count| *count == 1));
     }
     Ok(())
 }

@@ -7,5 +7,5 @@ use Rattle.test_space.proofs.graph.replies_of_operations.Goals as goal
 
 pub apply-requires-clause-op : goal.apply-requires-clause-op
 apply-requires-clause-op g c =
-    let below : c.loop-op.op-index < 23 = omega arith in
+    let below : c.loop-op.op-index < 4 = omega arith in
     search (All-from_recursion (λ (p : Op × Reply). IsWellFormed p.0), c.loop-op.invariant.formed, below)

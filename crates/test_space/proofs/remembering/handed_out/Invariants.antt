@@ -2,5 +2,5 @@ use Rattle.std.proofs.Common.{◌≡◌}
 use Rattle.lxr_image.specs.Spaces.{IsSpace}
 use Rattle.test_space.proofs.remembering.handed_out.Given as goal
 
-abbrev pub invariant-loop-line : goal.invariant-loop-line
-invariant-loop-line g l = record { space : IsSpace l.space; blocks : l.space.limits.blocks ≡ 1; room : l.space.limits.remember ≡ l.fn.room }
+abbrev pub invariant-loop : goal.invariant-loop
+invariant-loop g l = record { space : IsSpace l.space; blocks : l.space.limits.blocks ≡ 1 }

@@ -1,2 +1,0 @@
-pub mod HelperLemmas
-pub mod CrewLemmas
