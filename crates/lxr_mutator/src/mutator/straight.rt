@@ -11,8 +11,7 @@ ghost use Rattle.lxr_mutator.specs.Mutators.{IsBusy, IsMutator};
 
 use super::Mutator;
 use crate::phases::MutatorPhase;
-use lxr_actor::Actor;
-use lxr_actor::{Steps, do_unit, finish_unit};
+use lxr_actor::{Actor, Steps, do_unit, finish_unit};
 use lxr_layout::Place;
 
 impl Mutator {
