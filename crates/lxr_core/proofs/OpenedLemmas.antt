@@ -1,11 +1,11 @@
 -- An epoch that is opened: what its actors show, and that its invariant holds of the execution that begins.
-use Rattle.std.proofs.Common.{◌≡◌, ◌≢◌, ℕ, ◌+◌, ◌-◌, ◌*◌, ◌/◌, ◌%◌, ◌^◌, ◌<◌, ◌≤◌, refl, sym, ap, subst, ◌∙◌, inl, inr, arith, true, false, List, [], length}
-use Rattle.std.specs.Prelude.{All, Option, Some, None, map, slice_get, slice_index_or, take, drop}
+use Rattle.std.proofs.Common.{◌≡◌, ◌≢◌, ℕ, zero, suc, ◌+◌, ◌-◌, ◌*◌, ◌/◌, ◌%◌, ◌^◌, ◌<◌, ◌≤◌, refl, sym, ap, subst, ◌∙◌, inl, inr, arith, true, false, List, [], ◌∷◌, length}
+use Rattle.std.specs.Prelude.{All, Option, Some, None, ◌&&◌, if◌then◌else◌, map, not, slice_get, slice_index_or, take, drop}
 use Rattle.std.proofs.Math.ListN.{get_or-map}
 use Rattle.std.proofs.lemmas.List.{get_or-drop, get_or-take, length-drop, length-map, length-take-le}
 use Rattle.std.proofs.lemmas.List.Elements.{All-from_get_or}
 use Rattle.std.proofs.lemmas.Option.{slice_get-get_or, slice_get_past, slice_get_within}
-use Rattle.lxr_layout.specs.declared.TheConstants.{MOST_BLOCKS, MOST_GRANULES, PAUSE_WORD}
+use Rattle.lxr_layout.specs.declared.TheConstants.{GRANULES_IN_BLOCK, MOST_BLOCKS, MOST_GRANULES, PAUSE_WORD}
 use Rattle.lxr_layout.specs.declared.Name.{Name}
 use Rattle.lxr_layout.specs.declared.Place.{Place}
 use Rattle.lxr_layout.specs.declared.limits.Limits.{Limits}
@@ -19,6 +19,8 @@ use Rattle.lxr_image.specs.Image.{ArePlacesOf, IsImage, place_word}
 use Rattle.lxr_image.specs.Reads.{granule_of}
 use Rattle.lxr_image.specs.Spaces.{Turns, tables_of}
 use Rattle.lxr_image.specs.Tables.{Tables, changed, tables_in}
+use Rattle.lxr_image_search.specs.declared.Wanted.TheVariants.{ToScan}
+use Rattle.lxr_image_search.specs.Search.{is_wanted}
 use Rattle.lxr_model.specs.Moments.{Moment, moment}
 use Rattle.lxr_model_counting.specs.Following.{FollowsPause}
 use Rattle.lxr_invariant.specs.AbstractState.{AbstractState, members}
@@ -57,7 +59,7 @@ use Rattle.lxr_core.specs.Actors.{AreInOrder, decrementers_in, mutators_in, trac
 use Rattle.lxr_core.specs.Resting.{ActorsRestAfter, FitsThread, RestsAfter}
 use Rattle.lxr_core.specs.Starting.{HaveStarted, MayAllStart, registers_in, started_again}
 use Rattle.lxr_core.specs.Executions.{HoldsExecution, epoch_state_of}
-use Rattle.lxr_core.specs.Filling.{FillsPockets, HaveFilled, MayAllFill, MayFill, holding_places, unfilled}
+use Rattle.lxr_core.specs.Filling.{FillsPockets, HaveFilled, HoldInOrder, MayAllFill, MayFill, holding_places, places_of, unfilled}
 use Rattle.lxr_core.specs.Opening.{Begins, MayOpen, Opens, execution_at}
 use Rattle.lxr_core.proofs.AgainLemmas.{registers_held}
 use Rattle.lxr_core.proofs.MappedLemmas.{mapped, mapped_from}
@@ -501,6 +503,24 @@ pub holds_at : (b : Beginning) (before after : Space) (actors now : List AnyActo
 holds_at b before after actors now pauses few is opened =
     subst (λ s. s.pauses < 2 ^ 32 → Begins b s actors → Opens s after actors now → HoldsExecution b (execution_at b after now)) is.space_is (λ low. holds b after actors now low few) pauses is opened
 
+-- what is to be scanned is told by grays and marks alone
+places_like : (t u : Tables) (from count : ℕ) → u.grays ≡ t.grays → u.marks ≡ t.marks → places_of u from count ≡ places_of t from count
+places_like t u from zero grays marks = refl
+places_like t u from (suc count) grays marks =
+    let same : is_wanted u ToScan from ≡ is_wanted t ToScan from = ap (λ f. f from && not (u.marks from)) grays ∙ ap (λ f. t.grays from && not (f from)) marks in
+    ap (λ b. if b then record { 0 = from + 1 } ∷ places_of u (from + 1) count else places_of u (from + 1) count) same
+    ∙ ap (λ (ps : List Place). if is_wanted t ToScan from then record { 0 = from + 1 } ∷ ps else ps) (places_like t u (from + 1) count grays marks)
+
+-- so tracers that hold it in order do so still
+order_like : (t u : Tables) (blocks from to : ℕ) (tracers : List TracerState) → u.grays ≡ t.grays → u.marks ≡ t.marks → HoldInOrder u blocks from to tracers → HoldInOrder t blocks from to tracers
+order_like t u blocks from to [] grays marks is = is
+order_like t u blocks from to (d ∷ tracers) grays marks (next, holds, is) =
+    let same = places_like t u from (next - from) grays marks in (
+      next,
+      record { reached = holds.reached; places = holds.places ∙ same; few = subst (λ (ps : List Place). length ps ≤ 64) same holds.few; full = subst (λ (ps : List Place). length ps < 64 → next ≡ GRANULES_IN_BLOCK * blocks) same holds.full },
+      order_like t u blocks next to tracers grays marks is,
+    )
+
 -- marks and grays are what they were, so what is to be scanned is
 filled_before : (t u : Tables) (blocks : ℕ) (tracers : List TracerState) → u.grays ≡ t.grays → u.marks ≡ t.marks → FillsPockets u blocks tracers → FillsPockets t blocks tracers
 filled_before t u blocks tracers grays marks is = record {
@@ -511,6 +531,7 @@ filled_before t u blocks tracers grays marks is = record {
   once = is.once;
   all = λ i d there short place scan.
       is.all i d there short place (record { in_heap = scan.in_heap; gray = ap (λ f. f (granule_of place.0)) grays ∙ scan.gray; unmarked = ap (λ f. f (granule_of place.0)) marks ∙ scan.unmarked });
+  order = (is.order.0, order_like t u blocks 0 is.order.0 tracers grays marks is.order.1);
 }
 
 -- an actor that begins again has an empty pocket

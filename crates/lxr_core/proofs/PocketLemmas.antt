@@ -23,7 +23,7 @@ use Rattle.lxr_core_sim_helpers.specs.TracerShowing.{IsTracerOf}
 use Rattle.lxr_core.specs.declared.actors.AnyActor.{AnyActor}
 use Rattle.lxr_core.specs.declared.actors.AnyActor.TheVariants as any
 use Rattle.lxr_core.specs.Actors.{tracers_in}
-use Rattle.lxr_core.specs.Filling.{FillsActor, FillsPocket, FillsPockets, HaveFilled, IsToScan, MayAllFill, MayFill, holding_places, in_pockets, places_between, places_of, unfilled}
+use Rattle.lxr_core.specs.Filling.{FillsActor, FillsPocket, FillsPockets, HaveFilled, HoldInOrder, IsToScan, MayAllFill, MayFill, holding_places, in_pockets, places_between, places_of, unfilled}
 use Rattle.lxr_core.proofs.FillingLemmas.{between_next, between_up_to, between_more, each_place, place_at, place_once, place_stands}
 use Rattle.lxr_core.proofs.MappedLemmas.{mapped, set_itself}
 use Rattle.lxr_core.proofs.OrderLemmas.{tracers_of_both}
@@ -165,6 +165,12 @@ record Adds (t : Tables) (blocks from to : ℕ) (more : List TracerState) : Type
   places : in_pockets more ≡ places_between t from to
   few : (i : ℕ) (d : TracerState) → slice_get more i ≡ Some d → length d.pocket.items ≤ 64
   full : (i : ℕ) (d : TracerState) → slice_get more i ≡ Some d → length d.pocket.items < 64 → to ≡ GRANULES_IN_BLOCK * blocks
+  order : HoldInOrder t blocks from to more
+
+-- further ones that hold places in order go on where the others have stopped
+in_order_more : (t : Tables) (blocks from at to : ℕ) (first more : List TracerState) → HoldInOrder t blocks from at first → HoldInOrder t blocks at to more → HoldInOrder t blocks from to (first ++ more)
+in_order_more t blocks from at to [] more is further = subst (λ n. HoldInOrder t blocks n to more) is further
+in_order_more t blocks from at to (d ∷ first) more (next, holds, is) further = (next, holds, in_order_more t blocks next at to first more is further)
 
 -- none holds nothing
 adds_none : (t : Tables) (blocks from : ℕ) → from ≤ GRANULES_IN_BLOCK * blocks → Adds t blocks from from []
@@ -174,6 +180,7 @@ adds_none t blocks from within = record {
   places = sym (ap (places_of t from) (let e : from - from ≡ 0 = omega arith in e));
   few = λ i d there. absurd (cc);
   full = λ i d there less. absurd (cc);
+  order = refl;
 }
 
 -- one whose pocket was filled holds that
@@ -186,6 +193,7 @@ adds_one t blocks from to d e is =
       places = flat_map-cons (λ (x : TracerState). x.pocket.items) e [] ∙ append-nil e.pocket.items ∙ items;
       few = λ i x there. (let few = is.few in let same = length_of i x there items in omega (arith, few, same));
       full = λ i x there less. is.full (let same = length_of i x there items in omega (arith, less, same));
+      order = (to, record { reached = is.reached; places = items; few = is.few; full = is.full }, refl);
     }
   where
     length_of : (i : ℕ) (x : TracerState) → slice_get (e ∷ []) i ≡ Some x → e.pocket.items ≡ places_between t from to → length x.pocket.items ≡ length (places_between t from to)
@@ -208,7 +216,7 @@ filled t blocks from to (any.Tracer d) after within (e, is, fills) =
 
 -- at first none is filled
 pub none_filled : (t : Tables) (blocks : ℕ) (before : List AnyActor) → HaveFilled t blocks 0 before before 0
-none_filled t blocks before = record { within = omega arith; same = refl; others = λ i past. refl; places = refl; few = λ i d there. absurd (cc); full = λ i d there less. absurd (cc) }
+none_filled t blocks before = record { within = omega arith; same = refl; others = λ i past. refl; places = refl; few = λ i d there. absurd (cc); full = λ i d there less. absurd (cc); order = refl }
 
 -- of actors of which the first so many are filled
 module _ (t : Tables) (blocks from : ℕ) (before after : List AnyActor) (n : ℕ) (d : AnyActor) (is : HaveFilled t blocks from before after n) (less : n < length before) where
@@ -245,6 +253,7 @@ module _ (t : Tables) (blocks from : ℕ) (before after : List AnyActor) (n : �
           | inl p ↦ let end = is.full i e p short in omega (arith, end, reached, within)
           | inr p ↦ adds.full p.0 e p.1 short
         ];
+        order = subst (HoldInOrder t blocks 0 to) (sym all) (in_order_more t blocks 0 from to first more is.order adds.order);
       }
 
 -- once all are filled, so are the pockets
@@ -272,6 +281,7 @@ pockets_filled t blocks to before after is =
           let (k, is_there) = place_stands t 0 (to - 0) (granule_of place.0) (omega arith) below told in
           let same : granule_of place.0 + 1 ≡ place.0 = omega (arith, some) in
           (k, ap (λ z. slice_get z k) places ∙ is_there ∙ ap (λ (n : ℕ). Some (record { 0 = n })) same);
+      order = (to, subst (λ z. HoldInOrder t blocks 0 to (tracers_in z)) whole is.order);
     }
   where
     both_told : (gray mark : Bool) → IsTrue gray → mark ≡ false → IsTrue (gray && not mark)

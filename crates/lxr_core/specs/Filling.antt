@@ -25,6 +25,26 @@ pub record IsToScan (t : Tables) (blocks : ℕ) (place : Place) : Type 0 where
 abbrev pub in_pockets : List TracerState → List Place
 in_pockets tracers = flat_map (λ d. d.pocket.items) tracers
 
+-- the places of the next so many granules that have a gray object without a mark, in order
+abbrev pub places_of : Tables → ℕ → ℕ → List Place
+places_of t from zero = []
+places_of t from (suc count) = if is_wanted t ToScan from then record { 0 = from + 1 } ∷ places_of t (from + 1) count else places_of t (from + 1) count
+
+abbrev pub places_between : Tables → ℕ → ℕ → List Place
+places_between t from to = places_of t from (to - from)
+
+-- a tracer's pocket holds what stands from one granule up to another: it is full, or that is the heap's end
+pub record HoldsPlaces (t : Tables) (blocks from to : ℕ) (d : TracerState) : Type 0 where
+  pub reached : from ≤ to
+  pub places : d.pocket.items ≡ places_between t from to
+  pub few : length (places_between t from to) ≤ 64
+  pub full : length (places_between t from to) < 64 → to ≡ GRANULES_IN_BLOCK * blocks
+
+-- tracers hold what stands from one granule up to another in the order of granules: each from there on where the one before it has stopped
+abbrev pub HoldInOrder : Tables → ℕ → ℕ → ℕ → List TracerState → Type 0
+HoldInOrder t blocks from to [] = to ≡ from
+HoldInOrder t blocks from to (d ∷ tracers) = (next : ℕ) × HoldsPlaces t blocks from next d × HoldInOrder t blocks next to tracers
+
 -- The pockets are filled: each has room for 64 places, and one has fewer only where all that is to be scanned stands in some pocket.
 pub record FillsPockets (t : Tables) (blocks : ℕ) (tracers : List TracerState) : Type 0 where
   pub few : (i : ℕ) (d : TracerState) → slice_get tracers i ≡ Some d → length d.pocket.items ≤ 64
@@ -35,6 +55,8 @@ pub record FillsPockets (t : Tables) (blocks : ℕ) (tracers : List TracerState)
   -- where one isn't full, nothing is left over
   pub all : (i : ℕ) (d : TracerState) → slice_get tracers i ≡ Some d → length d.pocket.items < 64
       → (place : Place) → IsToScan t blocks place → (k : ℕ) × (slice_get (in_pockets tracers) k ≡ Some place)
+  -- they stand there in the order of granules, the first tracer's pocket is filled first, and the next one only where that is full
+  pub order : (to : ℕ) × HoldInOrder t blocks 0 to tracers
 
 -- a tracer whose pocket has these places
 abbrev pub holding_places : TracerState → List Place → TracerState
@@ -46,15 +68,7 @@ unfilled (any.Mutator m) = any.Mutator m
 unfilled (any.Decrementer d) = any.Decrementer d
 unfilled (any.Tracer d) = any.Tracer (holding_places d [])
 
--- ---- how they are filled: granules in order, the first tracer's pocket first
-
--- the places of the next so many granules that have a gray object without a mark, in order
-abbrev pub places_of : Tables → ℕ → ℕ → List Place
-places_of t from zero = []
-places_of t from (suc count) = if is_wanted t ToScan from then record { 0 = from + 1 } ∷ places_of t (from + 1) count else places_of t (from + 1) count
-
-abbrev pub places_between : Tables → ℕ → ℕ → List Place
-places_between t from to = places_of t from (to - from)
+-- ---- how they are filled
 
 -- a tracer's empty pocket was filled with what stands from one granule up to another; it is full, or that is the heap's end
 pub record FillsPocket (t : Tables) (blocks from to : ℕ) (before after : TracerState) : Type 0 where
@@ -85,3 +99,4 @@ pub record HaveFilled (t : Tables) (blocks to : ℕ) (before after : List AnyAct
   pub places : in_pockets (tracers_in (take count after)) ≡ places_between t 0 to
   pub few : (i : ℕ) (d : TracerState) → slice_get (tracers_in (take count after)) i ≡ Some d → length d.pocket.items ≤ 64
   pub full : (i : ℕ) (d : TracerState) → slice_get (tracers_in (take count after)) i ≡ Some d → length d.pocket.items < 64 → to ≡ GRANULES_IN_BLOCK * blocks
+  pub order : HoldInOrder t blocks 0 to (tracers_in (take count after))

@@ -1,2 +1,4 @@
 pub mod Lent
 pub mod Rules
+pub mod Tries
+pub mod Ways

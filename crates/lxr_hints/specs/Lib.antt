@@ -1,2 +1,5 @@
+pub mod Joined
+pub mod Journals
 pub mod Rules
-pub mod Sound
+pub mod Sharing
+pub mod Taking

@@ -1,65 +1,39 @@
 //! A hinter: a deque of hints, and the ways to those of the others.
-ghost use Rattle.std.specs.Prelude.{◌≡◌, ◌+◌, ◌<◌, List, [], ◌∷◌, ◌++◌, MatchOption, IfSome, All, cond, nat_lt};
+ghost use Rattle.std.specs.Prelude.{◌≡◌, ◌+◌, cond, nat_lt};
 ghost use Rattle.lxr_layout.specs.declared.Place.{Place};
-ghost use Rattle.lxr_hints.specs.Rules.{MayJoin, MayLeave};
-ghost use Rattle.lxr_hints.specs.Sound.{IsWay};
+ghost use Rattle.lxr_hints.specs.Taking.{IsPut, IsTaken, TriesEach};
 
-use crate::rule::{AnyPlace, HintRule, Ruled, Stealing};
-use crossbeam_deque::protocol::Free;
-use crossbeam_deque::{Pass, Stealer, Worker};
+use crate::deques::Deques;
+use crate::shared::Shared;
 use lxr_layout::Place;
-use std::alloc::Global;
 use std::marker::Model;
 
 /// How many places a hinter takes in between its making and its end. Its deque is made for so many.
 pub const HINTS: usize = 1024;
 
-pub(crate) type Deque<H> = Worker<Place, Global, (), Ruled<H>>;
-
-/// A way to the deque of another hinter.
+/// One worker's part in a set of hinters. Contracts see its deques, and how many pushes on it were answered true.
 #[derive(Drop)]
-pub(crate) struct Way<H: HintRule> {
-    pub(crate) stealer: Stealer<Place, Global, (), Ruled<H>>,
-    pub(crate) pass: Pass<Place, ()>,
-}
-
-impl<H: HintRule> Way<H> {
-    /// Makes one try.
-    fn steal(&mut self) -> Option<Place>
-        requires leaves { MayLeave H.holds H.taken }
-        requires way { IsWay self.old }
-        ensures way { IsWay self.new }
-        ensures place { IfSome result H.taken }
-    {
-        self.stealer
-            .steal_as::<Stealing<H>>(&mut self.pass)
-            .success()
-    }
-}
-
-/// One worker's part in a set of hinters. Contracts see how many pushes on it were answered true.
-#[derive(Drop)]
-pub struct Hinter<H: HintRule = AnyPlace> {
-    pub(crate) own: Deque<H>,
-    pub(crate) ways: Vec<Way<H>>,
+pub struct Hinter<D: Deques = Shared> {
+    pub(crate) deques: D,
     pub(crate) pushes: usize,
 }
 
-impl<H: HintRule> Model for Hinter<H> {
-    ghost use Rattle.std.specs.Prelude.{ℕ};
-    ghost use Rattle.lxr_hints.specs.Sound.{IsSound};
+impl<D: Deques> Model for Hinter<D> {
+    ghost use Rattle.std.specs.Prelude.{◌≤◌};
+    ghost use Rattle.lxr_hints.specs.Taking.{Hinting};
+    ghost use Rattle.lxr_hints.specs.declared.hinter.TheConstants.{HINTS};
 
-    ghost Value = { ℕ };
+    ghost Value = { Hinting D };
 
-    ghost view = { λ h. h.pushes };
+    ghost view = { λ h. record { deques = h.deques; pushes = h.pushes } };
 
-    ghost invariant = { IsSound };
+    ghost invariant = { λ h. D.holds h.deques × (D.pushed h.deques ≤ h.pushes) × (h.pushes ≤ HINTS) };
 }
 
-impl<H: HintRule> Hinter<H> {
+impl<D: Deques> Hinter<D> {
     /// Whether a push would be answered true.
     pub fn takes_in(&self) -> bool
-        ensures { result ≡ nat_lt self.now HINTS }
+        ensures { result ≡ nat_lt self.now.pushes HINTS }
     {
         self.pushes < HINTS
     }
@@ -67,43 +41,41 @@ impl<H: HintRule> Hinter<H> {
     /// Puts a place on its deque, for itself and the others to take. It answers false exactly where 1,024 pushes on this hinter
     /// were answered true already; the place is dropped then. It takes no memory.
     pub fn push(&mut self, place: Place) -> bool
-        requires { MayJoin H.holds place }
-        ensures answer { result ≡ nat_lt self.old HINTS }
-        ensures counted { self.new ≡ cond result (self.old + 1) self.old }
+        requires { D.joins place }
+        ensures answer { result ≡ nat_lt self.old.pushes HINTS }
+        ensures counted { self.new.pushes ≡ cond result (self.old.pushes + 1) self.old.pushes }
+        ensures put { IsPut D.put self.old.deques place result self.new.deques }
     {
         if self.pushes >= HINTS {
             return false;
         }
-        if self.own.push_as::<Free>(place).is_err() {
-            unreachable!()
-        }
+        self.deques.push(place);
         self.pushes += 1;
         true
     }
 
     /// Takes a place from its own deque, and where that is empty makes one try at each other.
     pub fn take(&mut self) -> Option<Place>
-        requires leaves { MayLeave H.holds H.taken }
-        requires empty { H.holds [] → H.found_empty }
-        ensures place { MatchOption result H.found_empty H.taken }
-        ensures pushes { self.new ≡ self.old }
+        ensures taken { IsTaken D.popped D.stolen (D.others self.old.deques) self.old.deques result self.new.deques }
+        ensures pushes { self.new.pushes ≡ self.old.pushes }
     {
-        match self.own.pop_as::<Ruled<H>>() {
-            Some(place) => Some(place),
-            None => steal(self.ways.as_mut_slice()),
+        let own = self.deques.pop();
+        if own.is_some() {
+            return own;
         }
+        steal(&mut self.deques)
     }
 }
 
-/// Tries each of these ways once, until one gives a place.
-fn steal<H: HintRule>(ways: &mut [Way<H>]) -> Option<Place>
-    requires leaves { MayLeave H.holds H.taken }
-    requires ways { All IsWay ways.old }
-    ensures ways { All IsWay ways.new }
-    ensures place { IfSome result H.taken }
+/// Tries each of the others once, until one gives a place.
+fn steal<D: Deques>(deques: &mut D) -> Option<Place>
+    requires holds { D.holds deques.old }
+    ensures tries { TriesEach D.stolen (D.others deques.old) deques.old result deques.new }
+    ensures holds { D.holds deques.new }
+    ensures pushed { D.pushed deques.new ≡ D.pushed deques.old }
 {
-    for number in 0..ways.len() {
-        let stolen = ways[number].steal();
+    for number in 0..deques.others() {
+        let stolen = deques.steal(number);
         if stolen.is_some() {
             return stolen;
         }

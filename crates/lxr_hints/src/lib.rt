@@ -6,10 +6,14 @@
 //! lost. Nothing is said of the order in which places are taken.
 #![tactic(auto)]
 
+mod deques;
 mod hinter;
 mod rule;
 mod set;
+mod shared;
 
+pub use deques::Deques;
 pub use hinter::{HINTS, Hinter};
-pub use rule::{AnyPlace, HintRule};
+pub use rule::{AnyPlace, HintRule, Journal};
 pub use set::{hinters, hinters_under};
+pub use shared::Shared;

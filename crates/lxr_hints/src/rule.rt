@@ -1,13 +1,14 @@
 //! What a caller can know of hints that others take too.
 //!
 //! A rule speaks of the places that a deque holds at any one moment. Calls are proved for every rule. So a place that is taken was
-//! pushed, since a rule may say that each place on a deque was; and where none is taken, the own deque was empty at a step of the
-//! call, since what a rule says of an empty deque is learned there alone.
+//! pushed, since a rule may say that each place on a deque was. Of a deque that was found empty a rule can tell nothing: what it says of no
+//! places holds at all times, or never. That a deque was looked at is told by what the call did there (`Deques`).
 ghost use Rattle.std.specs.Prelude.{List};
 ghost use Rattle.lxr_layout.specs.declared.Place.{Place};
 
 use crossbeam_deque::protocol::{Outcome, Protocol};
 use lxr_layout::Place;
+use std::collections::LinkedList;
 use std::marker::PhantomData;
 
 /// What holds of the places on a deque whenever it is looked at, and what is known from that.
@@ -17,9 +18,6 @@ pub trait HintRule {
 
     // Of a place that is taken.
     ghost taken: { Place → Type 0 };
-
-    // Where one's own deque was found empty.
-    ghost found_empty: { Type 0 };
 }
 
 /// The rule that asks nothing and tells nothing, for hints of a kind: whoever has hinters of two kinds can't mistake one for the other.
@@ -33,38 +31,47 @@ impl<K> HintRule for AnyPlace<K> {
     ghost holds = { λ places. ⊤ };
 
     ghost taken = { λ place. ⊤ };
-
-    ghost found_empty = { ⊤ };
 }
 
-/// The rule as the protocol of a deque, whose passes know nothing of their own, and what is learned where a place is taken.
+/// What a pass has done at its deque: the places that it put there, and those that it got. No value of it is made.
+pub struct Journal {
+    pub put: LinkedList<Place>,
+    pub got: LinkedList<Place>,
+}
+
+/// The rule as the protocol of a deque. Each pass keeps its journal, which only a push and a place that is taken add to.
 pub(crate) struct Ruled<H> {
     rule: PhantomData<H>,
 }
 
-impl<H: HintRule> Protocol<Place, ()> for Ruled<H> {
+impl<H: HintRule> Protocol<Place, Journal> for Ruled<H> {
+    ghost use Rattle.lxr_hints.specs.Journals.{no_entries};
+
     ghost holds = { λ places _. H.holds places };
 
-    ghost first = { tt };
+    ghost first = { no_entries };
 
-    ghost guest = { tt };
+    ghost guest = { no_entries };
 }
 
-impl<H: HintRule> Outcome<Place, ()> for Ruled<H> {
-    ghost use Rattle.std.specs.Prelude.{All};
+/// What a push tells: its place is put.
+pub(crate) struct Put;
 
-    ghost then = { λ _ places _. All H.taken places };
+impl Outcome<Place, Journal> for Put {
+    ghost use Rattle.std.specs.Prelude.{◌≡◌};
+    ghost use Rattle.lxr_hints.specs.Journals.{with_put};
 
-    ghost empty = { λ _. H.found_empty };
+    ghost then = { λ before places after. after ≡ with_put before places };
 }
 
-/// What is learned where a place is stolen. Where none is, nothing is learned: that deque isn't one's own.
-pub(crate) struct Stealing<H> {
+/// What a pop or a steal tells that gave a place: it is got, and the rule says something of it.
+pub(crate) struct Got<H> {
     rule: PhantomData<H>,
 }
 
-impl<H: HintRule> Outcome<Place, ()> for Stealing<H> {
-    ghost use Rattle.std.specs.Prelude.{All};
+impl<H: HintRule> Outcome<Place, Journal> for Got<H> {
+    ghost use Rattle.std.specs.Prelude.{◌≡◌, All};
+    ghost use Rattle.lxr_hints.specs.Journals.{with_got};
 
-    ghost then = { λ _ places _. All H.taken places };
+    ghost then = { λ before places after. (after ≡ with_got before places) × All H.taken places };
 }

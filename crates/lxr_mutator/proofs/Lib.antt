@@ -6,3 +6,5 @@ pub mod NearerLemmas
 pub mod LengthLemmas
 pub mod RuleLemmas
 pub mod StayLemmas
+pub mod StepLemmas
+pub mod UnitLemmas

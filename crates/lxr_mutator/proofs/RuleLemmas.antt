@@ -23,16 +23,20 @@ use Rattle.lxr_mutator.specs.declared.phases.Stop.TheVariants as stop
 use Rattle.lxr_mutator.specs.Operating.{dest_of, indexed_fields, index_of, shape_made}
 use Rattle.lxr_mutator.specs.Mutating.{Mutating, op_now, register}
 use Rattle.lxr_mutator.specs.Steps.{accepts_in, action_in, after_in, next_in, done_with, draws_for, finished, has_room, in_current, in_overflow, is_medium, reaching, shape_now, shape_told, started, stored, with_register}
-use Rattle.lxr_mutator.specs.Laws.{Finds, IsPastRuns, MutatorsGiveUpByRules}
+use Rattle.lxr_mutator.specs.Laws.{Finds, IsPastRuns, MutatorsDrawByRule, MutatorsGiveUpByRules}
 
--- the phases in which a unit gives up, or draws a block
+-- the phases in which a unit gives up, draws a block, or has drawn a number
 abbrev halts : MutatorPhase → Bool
 halts phase.DrawsBlock = true
+halts (phase.RunNumber number) = true
+halts (phase.BlockNumber number) = true
 halts (phase.GivingUp why) = true
 halts p = false
 
--- the phases in which it gives up
+-- the phases in which it gives up, or has drawn a number
 abbrev gives_up : MutatorPhase → Bool
+gives_up (phase.RunNumber number) = true
+gives_up (phase.BlockNumber number) = true
 gives_up (phase.GivingUp why) = true
 gives_up p = false
 
@@ -80,6 +84,8 @@ abbrev IsPlain : MutatorPhase → Type 0
 IsPlain phase.Ready = ⊥
 IsPlain phase.Finished = ⊥
 IsPlain (phase.Storing store) = ⊥
+IsPlain phase.DrawsRun = ⊥
+IsPlain phase.DrawsBlock = ⊥
 IsPlain (phase.RunNumber number) = ⊥
 IsPlain (phase.BlockNumber number) = ⊥
 IsPlain p = Unit {0}
@@ -94,10 +100,10 @@ plain_on m old (phase.Referent place) is = done_on halts refl refl (nat_le m.eve
 plain_on m old (phase.Datum base refs) is = done_on halts refl refl (nat_le m.every (m.since + 1))
 plain_on m old (phase.Putting base refs) is = done_on halts refl refl (nat_le m.every (m.since + 1))
 plain_on m old (phase.Storing store) is = absurd is
-plain_on m old phase.DrawsRun is = refl
+plain_on m old phase.DrawsRun is = absurd is
 plain_on m old (phase.RunNumber number) is = absurd is
 plain_on m old (phase.Run number) is = refl
-plain_on m old phase.DrawsBlock is = refl
+plain_on m old phase.DrawsBlock is = absurd is
 plain_on m old (phase.BlockNumber number) is = absurd is
 plain_on m old (phase.Block number) is = block_on m (shape_now m) (block_span old) (is_medium (shape_now m))
 plain_on m old (phase.Wiping place next) is = wiped_on place next (nat_lt (next + 1) (word_count (shape_now m)))
@@ -241,10 +247,10 @@ finds_in m old why (phase.Referent place) is h = absurd (clash halts _ _ h (plai
 finds_in m old why (phase.Datum base refs) is h = absurd (clash halts _ _ h (plain_on m old (phase.Datum base refs) tt) refl)
 finds_in m old why (phase.Putting base refs) is h = absurd (clash halts _ _ h (plain_on m old (phase.Putting base refs) tt) refl)
 finds_in m old why (phase.Storing s) is h = stored_full m old s (store_after s m.log old) (log_after s m.log old) (end_of (store_after s m.log old)) why is refl h
-finds_in m old why phase.DrawsRun is h = absurd (clash halts _ _ h (plain_on m old phase.DrawsRun tt) refl)
+finds_in m old why phase.DrawsRun is h = absurd (cc)
 finds_in m old why (phase.RunNumber number) is h = absurd (clash gives_up _ _ h (runs_on number (nat_lt number old)) refl)
 finds_in m old why (phase.Run number) is h = absurd (clash halts _ _ h (plain_on m old (phase.Run number) tt) refl)
-finds_in m old why phase.DrawsBlock is h = absurd (clash halts _ _ h (plain_on m old phase.DrawsBlock tt) refl)
+finds_in m old why phase.DrawsBlock is h = absurd (cc)
 finds_in m old why (phase.BlockNumber number) is h = blocks_past m old number why is (nat_lt number old) refl h
 finds_in m old why (phase.Block number) is h = absurd (clash halts _ _ h (plain_on m old (phase.Block number) tt) refl)
 finds_in m old why (phase.Wiping place next) is h = absurd (clash halts _ _ h (plain_on m old (phase.Wiping place next) tt) refl)
@@ -262,10 +268,10 @@ draws_in m old (phase.Referent place) is h = absurd (clash halts _ _ h (plain_on
 draws_in m old (phase.Datum base refs) is h = absurd (clash halts _ _ h (plain_on m old (phase.Datum base refs) tt) refl)
 draws_in m old (phase.Putting base refs) is h = absurd (clash halts _ _ h (plain_on m old (phase.Putting base refs) tt) refl)
 draws_in m old (phase.Storing s) is h = absurd (clash draws _ _ h (stored_draws m (store_after s m.log old) (log_after s m.log old) (end_of (store_after s m.log old))) refl)
-draws_in m old phase.DrawsRun is h = absurd (clash halts _ _ h (plain_on m old phase.DrawsRun tt) refl)
+draws_in m old phase.DrawsRun is h = absurd (cc)
 draws_in m old (phase.RunNumber number) is h = inl (runs_past m old number is (nat_lt number old) refl h)
 draws_in m old (phase.Run number) is h = absurd (clash halts _ _ h (plain_on m old (phase.Run number) tt) refl)
-draws_in m old phase.DrawsBlock is h = absurd (clash halts _ _ h (plain_on m old phase.DrawsBlock tt) refl)
+draws_in m old phase.DrawsBlock is h = absurd (cc)
 draws_in m old (phase.BlockNumber number) is h = absurd (clash draws _ _ h (blocks_on number (nat_lt number old)) refl)
 draws_in m old (phase.Block number) is h = absurd (clash halts _ _ h (plain_on m old (phase.Block number) tt) refl)
 draws_in m old (phase.Wiping place next) is h = absurd (clash halts _ _ h (plain_on m old (phase.Wiping place next) tt) refl)
@@ -289,4 +295,81 @@ give_up_by_rules m old = record {
   draws_block = λ h. draws_by m old (accepts_in m m.phase old) h;
   asks = λ why is. ap (action_in m) is;
   ends = λ why is. ap (λ p. (next_in m p old).end) is;
+}
+
+-- ---- numbers that were drawn
+
+-- the phases in which a number was drawn
+abbrev has_number : MutatorPhase → Bool
+has_number (phase.RunNumber number) = true
+has_number (phase.BlockNumber number) = true
+has_number p = false
+
+-- a store draws none
+stored_number : (m : Mutating) (s' : Storing) (log : Roomy LogEntry) (e : Option StoreEnd) → has_number (stored m s' log e).phase ≡ false
+stored_number m s' log None = refl
+stored_number m s' log (Some store_end.Stored) = done_on has_number refl refl (nat_le m.every (m.since + 1))
+stored_number m s' log (Some store_end.LogFull) = refl
+
+-- nor does the look at how many free blocks there are
+blocks_number : (number : ℕ) (b : Bool) → has_number (if b then phase.Block number else phase.GivingUp stop.NoRun) ≡ false
+blocks_number number true = refl
+blocks_number number false = refl
+
+-- by its phase: a number of a run is the one that was drawn
+run_number_in : (m : Mutating) (old number : ℕ) (p : MutatorPhase) → m.phase ≡ p → (after_in m p old).phase ≡ phase.RunNumber number → (m.phase ≡ phase.DrawsRun) × (number ≡ old)
+run_number_in m old number phase.Ready is h = absurd (clash gives_up _ _ h (ready_on m (nat_eq old 1)) refl)
+run_number_in m old number phase.Finished is h = absurd (cc)
+run_number_in m old number (phase.Base base) is h = absurd (clash halts _ _ h (plain_on m old (phase.Base base) tt) refl)
+run_number_in m old number (phase.Reference base) is h = absurd (clash halts _ _ h (plain_on m old (phase.Reference base) tt) refl)
+run_number_in m old number (phase.Referent place) is h = absurd (clash halts _ _ h (plain_on m old (phase.Referent place) tt) refl)
+run_number_in m old number (phase.Datum base refs) is h = absurd (clash halts _ _ h (plain_on m old (phase.Datum base refs) tt) refl)
+run_number_in m old number (phase.Putting base refs) is h = absurd (clash halts _ _ h (plain_on m old (phase.Putting base refs) tt) refl)
+run_number_in m old number (phase.Storing s) is h = absurd (clash has_number _ _ h (stored_number m (store_after s m.log old) (log_after s m.log old) (end_of (store_after s m.log old))) refl)
+run_number_in m old number phase.DrawsRun is h = (is, cc)
+run_number_in m old number (phase.RunNumber n) is h = absurd (clash gives_up _ _ h (runs_on n (nat_lt n old)) refl)
+run_number_in m old number (phase.Run n) is h = absurd (clash halts _ _ h (plain_on m old (phase.Run n) tt) refl)
+run_number_in m old number phase.DrawsBlock is h = absurd (cc)
+run_number_in m old number (phase.BlockNumber n) is h = absurd (clash has_number _ _ h (blocks_number n (nat_lt n old)) refl)
+run_number_in m old number (phase.Block n) is h = absurd (clash halts _ _ h (plain_on m old (phase.Block n) tt) refl)
+run_number_in m old number (phase.Wiping place next) is h = absurd (clash halts _ _ h (plain_on m old (phase.Wiping place next) tt) refl)
+run_number_in m old number (phase.Heading place) is h = absurd (clash halts _ _ h (plain_on m old (phase.Heading place) tt) refl)
+run_number_in m old number phase.Asking is h = absurd (clash halts _ _ h (plain_on m old phase.Asking tt) refl)
+run_number_in m old number (phase.GivingUp w) is h = absurd (clash halts _ _ h (plain_on m old (phase.GivingUp w) tt) refl)
+
+-- by its phase: a number of a free block is the one that was drawn
+block_number_in : (m : Mutating) (old number : ℕ) (p : MutatorPhase) → m.phase ≡ p → (after_in m p old).phase ≡ phase.BlockNumber number → (m.phase ≡ phase.DrawsBlock) × (number ≡ old)
+block_number_in m old number phase.Ready is h = absurd (clash gives_up _ _ h (ready_on m (nat_eq old 1)) refl)
+block_number_in m old number phase.Finished is h = absurd (cc)
+block_number_in m old number (phase.Base base) is h = absurd (clash halts _ _ h (plain_on m old (phase.Base base) tt) refl)
+block_number_in m old number (phase.Reference base) is h = absurd (clash halts _ _ h (plain_on m old (phase.Reference base) tt) refl)
+block_number_in m old number (phase.Referent place) is h = absurd (clash halts _ _ h (plain_on m old (phase.Referent place) tt) refl)
+block_number_in m old number (phase.Datum base refs) is h = absurd (clash halts _ _ h (plain_on m old (phase.Datum base refs) tt) refl)
+block_number_in m old number (phase.Putting base refs) is h = absurd (clash halts _ _ h (plain_on m old (phase.Putting base refs) tt) refl)
+block_number_in m old number (phase.Storing s) is h = absurd (clash has_number _ _ h (stored_number m (store_after s m.log old) (log_after s m.log old) (end_of (store_after s m.log old))) refl)
+block_number_in m old number phase.DrawsRun is h = absurd (cc)
+block_number_in m old number (phase.RunNumber n) is h = absurd (clash gives_up _ _ h (runs_on n (nat_lt n old)) refl)
+block_number_in m old number (phase.Run n) is h = absurd (clash halts _ _ h (plain_on m old (phase.Run n) tt) refl)
+block_number_in m old number phase.DrawsBlock is h = (is, cc)
+block_number_in m old number (phase.BlockNumber n) is h = absurd (clash has_number _ _ h (blocks_number n (nat_lt n old)) refl)
+block_number_in m old number (phase.Block n) is h = absurd (clash halts _ _ h (plain_on m old (phase.Block n) tt) refl)
+block_number_in m old number (phase.Wiping place next) is h = absurd (clash halts _ _ h (plain_on m old (phase.Wiping place next) tt) refl)
+block_number_in m old number (phase.Heading place) is h = absurd (clash halts _ _ h (plain_on m old (phase.Heading place) tt) refl)
+block_number_in m old number phase.Asking is h = absurd (clash halts _ _ h (plain_on m old phase.Asking tt) refl)
+block_number_in m old number (phase.GivingUp w) is h = absurd (clash halts _ _ h (plain_on m old (phase.GivingUp w) tt) refl)
+
+-- whether or not the word tells what the phase looks for
+pub run_number_by : (m : Mutating) (old number : ℕ) (b : Bool) → (if b then after_in m m.phase old else done_with m reply.Bad).phase ≡ phase.RunNumber number → (m.phase ≡ phase.DrawsRun) × (number ≡ old)
+run_number_by m old number true h = run_number_in m old number m.phase refl h
+run_number_by m old number false h = absurd (clash halts _ _ h (done_on halts refl refl (nat_le m.every (m.since + 1))) refl)
+
+pub block_number_by : (m : Mutating) (old number : ℕ) (b : Bool) → (if b then after_in m m.phase old else done_with m reply.Bad).phase ≡ phase.BlockNumber number → (m.phase ≡ phase.DrawsBlock) × (number ≡ old)
+block_number_by m old number true h = block_number_in m old number m.phase refl h
+block_number_by m old number false h = absurd (clash halts _ _ h (done_on halts refl refl (nat_le m.every (m.since + 1))) refl)
+
+-- each number is the one that was drawn in the step before
+pub draw_by_rule : MutatorsDrawByRule
+draw_by_rule m old = record {
+  run = λ number h. (let is = run_number_by m old number (accepts_in m m.phase old) h in (ap (action_in m) is.0, is.1));
+  block = λ number h. (let is = block_number_by m old number (accepts_in m m.phase old) h in (ap (action_in m) is.0, is.1));
 }

@@ -1,12 +1,16 @@
 -- How long units are, and when they give up. Each law is the contract of a function with an empty body.
-use Rattle.std.specs.Prelude.{◌≡◌, ℕ, ◌≤◌, ◌⊎◌, Some, IsSome, IsTrue}
+use Rattle.std.specs.Prelude.{◌≡◌, ◌≢◌, ℕ, ◌+◌, ◌≤◌, ◌⊎◌, false, Some, IsSome, IsTrue}
+use Rattle.lxr_layout.specs.declared.TheConstants.{FREE_BLOCK_CURSOR, RUN_CURSOR}
+use Rattle.lxr_graph.specs.declared.Op.TheVariants as op
+use Rattle.lxr_graph.specs.declared.Reply.{Reply}
 use Rattle.lxr_barrier.specs.declared.StoreEnd.TheVariants as store_end
 use Rattle.lxr_barrier.specs.Storing.{Storing, end_of, store_after}
+use Rattle.lxr_mutator.specs.declared.phases.MutEnd.TheVariants as ends
 use Rattle.lxr_mutator.specs.declared.phases.MutatorPhase.TheVariants as phase
 use Rattle.lxr_mutator.specs.declared.phases.Stop.{Stop}
 use Rattle.lxr_mutator.specs.declared.phases.Stop.TheVariants as stop
-use Rattle.lxr_mutator.specs.Mutating.{Mutating}
-use Rattle.lxr_mutator.specs.Steps.{action, after, end_by, is_medium, left_in, shape_now, storing}
+use Rattle.lxr_mutator.specs.Mutating.{Mutating, op_now, rests_in}
+use Rattle.lxr_mutator.specs.Steps.{action, after, done_with, drawing, end_by, ended, finished, is_medium, left_in, shape_now, storing}
 use Rattle.lxr_mutator.specs.Mutators.{IsMutator}
 
 -- a unit has at most 8,192 steps
@@ -41,6 +45,30 @@ pub record GivesUpByRules (m : Mutating) (old : ℕ) : Type 0 where
 -- it is so at each step
 abbrev pub MutatorsGiveUpByRules : Type 0
 MutatorsGiveUpByRules = (m : Mutating) (old : ℕ) → GivesUpByRules m old
+
+-- What a step does to the unit that it belongs to. It goes on with it, and then no operation is done; or it ends it: where the pause word was loaded
+-- as 1, where the thread's end is done, where a mutator that gave up has asked for a pause, or with an operation that is done. The
+-- operation that makes `every` of them in this epoch is the last in it (`done_with`). A finished mutator stands still.
+pub data StepsByRule (m : Mutating) (old : ℕ) : Mutating → Type 0 where
+  goes_on : (to : Mutating) → rests_in to.phase ≡ false → to.since ≡ m.since → to.every ≡ m.every → StepsByRule m old to
+  finds_asked : m.phase ≡ phase.Ready → old ≡ 1 → StepsByRule m old (finished m ends.Asked)
+  finds_end : m.phase ≡ phase.Ready → old ≢ 1 → op_now m ≡ op.End → StepsByRule m old (ended m)
+  gave_up : (why : Stop) → m.phase ≡ phase.GivingUp why → StepsByRule m old (finished m (end_by why))
+  does_one : (doing : Mutating) (r : Reply) → doing.since ≡ m.since → doing.every ≡ m.every → StepsByRule m old (done_with doing r)
+  stands_still : m.phase ≡ phase.Finished → StepsByRule m old m
+
+-- it is so with each step
+abbrev pub MutatorsStepByRule : Type 0
+MutatorsStepByRule = (m : Mutating) (old : ℕ) → StepsByRule m old (after m old)
+
+-- A number that is looked up in a table's count is the one that was drawn in the step before: from the cursor of runs, or of free blocks.
+pub record DrawsByRule (m : Mutating) (old : ℕ) : Type 0 where
+  pub run : (number : ℕ) → (after m old).phase ≡ phase.RunNumber number → (action m ≡ drawing (m.regions.cursors + RUN_CURSOR)) × (number ≡ old)
+  pub block : (number : ℕ) → (after m old).phase ≡ phase.BlockNumber number → (action m ≡ drawing (m.regions.cursors + FREE_BLOCK_CURSOR)) × (number ≡ old)
+
+-- it is so with each number
+abbrev pub MutatorsDrawByRule : Type 0
+MutatorsDrawByRule = (m : Mutating) (old : ℕ) → DrawsByRule m old
 
 -- what holds of a mutator holds of it after each step, whatever the word was
 abbrev pub MutatorsStaySo : Type 0

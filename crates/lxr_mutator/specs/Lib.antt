@@ -4,3 +4,4 @@ pub mod Steps
 pub mod Mutators
 pub mod Seen
 pub mod Laws
+pub mod Units

@@ -1,6 +1,7 @@
 //! What holds of every mutator. The functions do nothing: the contract of each is the law, and whoever calls one knows
 //! it.
-ghost use Rattle.lxr_mutator.specs.Laws.{MutatorsGiveUpByRules, MutatorsStaySo, UnitsAreShort};
+ghost use Rattle.lxr_mutator.specs.Laws.{MutatorsDrawByRule, MutatorsGiveUpByRules, MutatorsStaySo, MutatorsStepByRule, UnitsAreShort};
+ghost use Rattle.lxr_mutator.specs.Units.{UnitsEndByRules};
 
 /// A unit has at most 8,192 steps.
 pub fn units_are_short()
@@ -16,4 +17,23 @@ pub fn mutators_give_up_by_rules()
 /// A step leaves a mutator one, whatever it finds in its word.
 pub fn mutators_stay_so()
     ensures { MutatorsStaySo }
+{}
+
+/// A step goes on with its unit, and does no operation then, or ends it: as asked for a pause only where it loaded the pause word as 1, with the thread's
+/// end only where that is done, having given up only behind the step that asks for a pause, with its turns only where it did the
+/// last operation of them.
+pub fn mutators_step_by_rule()
+    ensures { MutatorsStepByRule }
+{}
+
+/// A number that is looked up in the count of runs, or of free blocks, was drawn from the cursor of these in the step before.
+pub fn mutators_draw_by_rule()
+    ensures { MutatorsDrawByRule }
+{}
+
+/// A unit ends as one that found no run only where a number that it drew was past the free blocks and, for an object of one line, another past the
+/// runs; for a full log only where its store found it full; as asked for a pause only where it loaded the pause word as 1; with its turns
+/// where it did the last operation of them; and as the thread's end where that is done.
+pub fn units_end_by_rules()
+    ensures { UnitsEndByRules }
 {}

@@ -10,6 +10,9 @@ mod mutator;
 mod operating;
 mod phases;
 
-pub use laws::{mutators_give_up_by_rules, mutators_stay_so, units_are_short};
+pub use laws::{
+    mutators_draw_by_rule, mutators_give_up_by_rules, mutators_stay_so, mutators_step_by_rule,
+    units_are_short, units_end_by_rules,
+};
 pub use mutator::Mutator;
 pub use phases::{MutEnd, MutTally, MutatorPhase, Stop, Waiting};

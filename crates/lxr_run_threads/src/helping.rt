@@ -13,7 +13,7 @@ ghost use Rattle.lxr_run_threads.specs.Working.{HasServed, IsPassOf, is_helper};
 use lxr_actor::Actor;
 use lxr_core::AnyActor;
 use lxr_decrement::Decrementer;
-use lxr_hints::{AnyPlace, Hinter, hinters_under};
+use lxr_hints::{AnyPlace, Hinter, Shared, hinters_under};
 use lxr_layout::Place;
 use lxr_shared::Pass;
 use lxr_shared_passes::Epoch;
@@ -48,7 +48,7 @@ impl Hints {
 /// Where a helper of this kind gives hints and finds those of its like.
 #[derive(Drop)]
 pub struct Exchange<K> {
-    hinter: Hinter<AnyPlace<K>>,
+    hinter: Hinter<Shared<AnyPlace<K>>>,
     /// How many rounds the helper still lets go by before it looks for a hint.
     wait: u32,
 }
@@ -58,13 +58,13 @@ impl<K> Model for Exchange<K> {
 
     ghost Value = { Exchanging };
 
-    ghost view = { λ e. record { pushes = e.hinter; wait = e.wait } };
+    ghost view = { λ e. record { pushes = e.hinter.pushes; wait = e.wait } };
 }
 
 impl<K> Exchange<K> {
     /// One whose helper looks for a hint as soon as it has nothing to do.
-    fn new(hinter: Hinter<AnyPlace<K>>) -> Exchange<K>
-        ensures { result ≡ record { pushes = hinter; wait = 0 } }
+    fn new(hinter: Hinter<Shared<AnyPlace<K>>>) -> Exchange<K>
+        ensures { result ≡ record { pushes = hinter.pushes; wait = 0 } }
     {
         Exchange { hinter, wait: 0 }
     }
