@@ -3,7 +3,7 @@
 use Rattle.std.specs.Prelude.{◌≡◌, ℕ, IsSome, Some, List, length, slice_get}
 use Rattle.lxr_layout.specs.declared.Place.{Place}
 use Rattle.lxr_layout.specs.declared.limits.Limits.{Limits}
-use Rattle.lxr_layout.specs.Spaces.{AreLimits, region_begin, regions_of}
+use Rattle.lxr_layout.specs.Spaces.{AreLimits, all_regions, region_begin, regions_of}
 use Rattle.lxr_image.specs.Tables.{tables_in}
 use Rattle.lxr_actor.specs.Machine.{Fits}
 use Rattle.lxr_actor.specs.Run.{stepped}
@@ -40,7 +40,7 @@ module _ {P E X : Type 0} (w : Work P E) (shown_in : P → X) where
     -- The words and helper i are those of an epoch state of the epoch.
     pub record ShowsHelper (b : Beginning) (s : EpochState) (words : List ℕ) (i : ℕ) (h : HelperState P E) : Type 0 where
       pub epoch : IsEpoch b s
-      pub size : length words ≡ region_begin (limits_of b) 15
+      pub size : length words ≡ region_begin (limits_of b) all_regions
       pub tables : s.tables ≡ tables_in (limits_of b) words
       pub shows : slice_get (shown s) i ≡ Some (shown_of h)
       pub helper : IsHelperOf (limits_of b) h
