@@ -1,10 +1,11 @@
 //! References that are remembered in sets with little room, and entries that become stale, worked out by hand.
 ghost use Rattle.std.specs.Prelude.{◌≡◌, ◌≤◌};
+ghost use Rattle.lxr_layout.specs.declared.TheConstants.{MOST_BLOCKS_REMEMBERED};
 ghost use Rattle.lxr_image.specs.Spaces.{IsSpace};
 
 use crate::spaces::{opened_within, same_words};
 use lxr_image::Space;
-use lxr_layout::{Limits, Place, REMEMBERED_CURSOR, entry_word};
+use lxr_layout::{Limits, MOST_BLOCKS_REMEMBERED, Place, REMEMBERED_CURSOR, entry_word};
 use lxr_remset::{Remembered, is_current, overflowed, remember};
 use std::alloc::Global;
 use std::process::Abort;
@@ -93,7 +94,8 @@ fn sets_are_filled_and_overflow(rt: HostRuntime) {
 
 /// Whether an entry with a reuse counter is current, of a reference in line 2.
 fn is_current_with(space: &Space, counter: u32) -> bool
-    requires { IsSpace space.now }
+    requires space { IsSpace space.now }
+    requires small { space.now.limits.blocks ≤ MOST_BLOCKS_REMEMBERED }
 {
     is_current(space, entry_word(counter, Place(33), 2))
 }
@@ -103,10 +105,12 @@ fn is_current_with(space: &Space, counter: u32) -> bool
 fn entries_become_stale(rt: HostRuntime) {
     assert!(rt; entry_word(4, Place(33), 2) == 17_179_902_978);
     let mut space = handed_out(&rt, rt.alloc(), 1);
+    assert!(rt; space.limits.blocks <= MOST_BLOCKS_REMEMBERED);
     for (counter, current) in [(3, false), (4, true), (5, false)] {
         assert!(rt; is_current_with(&space, counter) == current);
     }
     space.raise_reuse(2);
+    assert!(rt; space.limits.blocks <= MOST_BLOCKS_REMEMBERED);
     for (counter, current) in [(3, false), (4, false), (5, true)] {
         assert!(rt; is_current_with(&space, counter) == current);
     }
