@@ -194,7 +194,7 @@ legal_call terms h t o r counts is = call_counts terms.threads h t o r counts (m
 
     more_new : (dest : ℕ) (shape : Shape) (r : Reply) → Replies terms h t (op.New dest shape) r → CountsMore st t (state_after st t (op.New dest shape) r) r
     more_new dest shape reply.Full replies = unchanged st t st.registers reply.Full refl
-    more_new dest shape r replies = after_counts st t (op.New dest shape) r there replies.0
+    more_new dest shape r replies = after_counts st t (op.New dest shape) r there replies
 
     more : (o : Op) (r : Reply) → Replies terms h t o r → CountsMore st t (state_after st t o r) r
     more (op.New dest shape) r replies = more_new dest shape r replies

@@ -70,7 +70,7 @@ step-goes_on s t op.End more e = more refl
 
 -- so it is of each call of a run
 pub goes_on : (options : Options) (threads : ℕ) (h : List Item) (t : ℕ) (o : Op) → o ≢ op.End → Replies (run_terms options threads) h t o reply.Ended → ⊥
-goes_on options threads h t (op.New dest shape) more is = step-goes_on (moment threads h).state t (op.New dest shape) more is.0
+goes_on options threads h t (op.New dest shape) more is = step-goes_on (moment threads h).state t (op.New dest shape) more is
 goes_on options threads h t o more is = step-goes_on (moment threads h).state t o more is
 
 -- ---- the replies of a thread
