@@ -1,6 +1,4 @@
 //! The run.
-ghost use Rattle.lxr_layout.specs.Spaces.{AreLimits};
-
 use crate::asked::Asked;
 use crate::looking::{Looking, Meet};
 use lxr_image::Space;
@@ -14,16 +12,12 @@ use std::thread::Threads;
 use std::time::Instant;
 
 /// The limits of the spaces that a watch keeps: those of one thread and one block.
-fn limits() -> Limits
-    ensures { AreLimits result }
-{
-    Limits {
-        blocks: 1,
-        threads: 1,
-        log: 1024,
-        remember: 4096,
-    }
-}
+const LIMITS: Limits = Limits {
+    blocks: 1,
+    threads: 1,
+    log: 1024,
+    remember: 4096,
+};
 
 /// What a run left.
 #[derive(Drop)]
@@ -53,7 +47,7 @@ pub fn run<'a, R: Clock + Threads + Sync>(
         clock: rt,
         start,
         glances: Vec::new(alloc),
-        seen: Seen::new(alloc, limits(), sights)?,
+        seen: Seen::new(alloc, LIMITS, sights)?,
     };
     let mut space = Space::empty(alloc);
     let status = lxr(
