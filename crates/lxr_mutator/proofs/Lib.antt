@@ -8,3 +8,4 @@ pub mod RuleLemmas
 pub mod StayLemmas
 pub mod StepLemmas
 pub mod UnitLemmas
+pub mod CauseLemmas

@@ -1,6 +1,6 @@
 -- What each step does to the unit that it belongs to, case by case.
 use Rattle.std.proofs.Common.{◌≡◌, ◌≢◌, ℕ, ◌+◌, Bool, true, false, refl, sym, subst, Some, None, Option, inl, inr}
-use Rattle.std.specs.Prelude.{◌&&◌, nat_eq, nat_lt, if◌then◌else◌}
+use Rattle.std.specs.Prelude.{◌&&◌, nat_eq, nat_le, nat_lt, if◌then◌else◌}
 use Rattle.std.proofs.lemmas.Bool.Decides.{eqb_tells}
 use Rattle.lxr_layout.specs.Places.{place_in}
 use Rattle.lxr_layout.specs.declared.Place.{Place}
@@ -21,7 +21,7 @@ use Rattle.lxr_mutator.specs.declared.phases.MutatorPhase.{MutatorPhase}
 use Rattle.lxr_mutator.specs.declared.phases.MutatorPhase.TheVariants as phase
 use Rattle.lxr_mutator.specs.declared.phases.Stop.TheVariants as stop
 use Rattle.lxr_mutator.specs.Operating.{asked_reply, dest_of, indexed_fields, index_of}
-use Rattle.lxr_mutator.specs.Mutating.{Mutating, next_name, op_now, register}
+use Rattle.lxr_mutator.specs.Mutating.{Mutating, next_name, op_now, register, rests_in}
 use Rattle.lxr_mutator.specs.Steps.{accepts_in, after_in, done_with, draws_for, finished, has_room, in_current, in_overflow, is_medium, name_told, reaching, shape_now, shape_told, started, stored, with_register}
 use Rattle.lxr_mutator.specs.Laws.{MutatorsStepByRule, StepsByRule}
 use Rattle.lxr_mutator.specs.Laws.StepsByRule.{does_one, finds_asked, finds_end, gave_up, goes_on, stands_still}
@@ -147,3 +147,17 @@ steps_by m old false = does_one m reply.Bad refl refl
 -- so it is with each step
 pub step_by_rule : MutatorsStepByRule
 step_by_rule m old = steps_by m old (accepts_in m m.phase old)
+
+-- an operation that is done ends its unit
+pub done_rests : (b : Bool) → rests_in (if b then phase.Finished else phase.Ready) ≡ true
+done_rests true = refl
+done_rests false = refl
+
+-- where a step doesn't end the unit, no operation is done
+pub stays : (m : Mutating) (old : ℕ) (to : Mutating) → StepsByRule m old to → rests_in to.phase ≡ false → (to.since ≡ m.since) × (to.every ≡ m.every)
+stays m old to (goes_on y rests since every) on = (since, every)
+stays m old to (finds_asked ready is) on = absurd (cc)
+stays m old to (finds_end ready unasked is) on = absurd (cc)
+stays m old to (gave_up why is) on = absurd (cc)
+stays m old to (does_one doing r since every) on = let rest = done_rests (nat_le doing.every (doing.since + 1)) in absurd (cc)
+stays m old to (stands_still is) on = (refl, refl)

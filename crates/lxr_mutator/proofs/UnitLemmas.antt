@@ -13,7 +13,7 @@ use Rattle.lxr_mutator.specs.Laws.{IsLogFull, IsPastRuns, StepsByRule}
 use Rattle.lxr_mutator.specs.Laws.StepsByRule.{does_one, finds_asked, finds_end, gave_up, goes_on, stands_still}
 use Rattle.lxr_mutator.specs.Units.{EndsByRules, GoesOn, IsLogFullIn, IsPastBlocksIn, MayDrawBlock, UnitsEndByRules, led}
 use Rattle.lxr_mutator.proofs.RuleLemmas.{block_number_by, give_up_by_rules, run_number_by}
-use Rattle.lxr_mutator.proofs.StepLemmas.{step_by_rule}
+use Rattle.lxr_mutator.proofs.StepLemmas.{stays, step_by_rule}
 
 -- behind one more step
 led_more : (m : Mutating) (front : List ℕ) (old : ℕ) → led m (front ++ old ∷ []) ≡ after (led m front) old
@@ -102,20 +102,6 @@ module _ (m : Mutating) (front : List ℕ) (x : Mutating) (old : ℕ) (way : Way
   knows_more (phase.Heading place) is on = tt
   knows_more phase.Asking is on = tt
 
-  -- an operation that is done ends its unit
-  done_rests : (b : Bool) → rests_in (if b then phase.Finished else phase.Ready) ≡ true
-  done_rests true = refl
-  done_rests false = refl
-
-  -- where it doesn't rest, no operation is done
-  stays : (to : Mutating) → StepsByRule x old to → rests_in to.phase ≡ false → (to.since ≡ x.since) × (to.every ≡ x.every)
-  stays to (goes_on y rests since every) on = (since, every)
-  stays to (finds_asked ready is) on = absurd (cc)
-  stays to (finds_end ready unasked is) on = absurd (cc)
-  stays to (gave_up why is) on = absurd (cc)
-  stays to (does_one doing r since every) on = let rest = done_rests (nat_le doing.every (doing.since + 1)) in absurd (cc)
-  stays to (stands_still is) on = absurd (known phase.Finished is)
-
   -- an operation that is done is the last of its turns, or not
   done_ends : (to : Mutating) (how : Bool) → to.since ≡ x.since + 1 → (r : _) → to.end ≡ Some (if how then ends.Turns else ends.OpDone r) → ((how ≡ true) × (x.every ≤ to.since)) ⊎ ((how ≡ false) × (to.since < x.every))
       → EndsByRules m (front ++ old ∷ []) to
@@ -152,7 +138,7 @@ module _ (m : Mutating) (front : List ℕ) (x : Mutating) (old : ℕ) (way : Way
   -- the steps so far, with one more
   way_more : rests_in (after x old).phase ≡ false → Way m (front ++ old ∷ []) (after x old)
   way_more on =
-      let (since, every) = stays (after x old) (step_by_rule x old) on in
+      let (since, every) = stays x old (after x old) (step_by_rule x old) on in
       record {
         is = led_more m front old ∙ ap (λ (y : Mutating). after y old) way.is;
         since = since ∙ way.since;

@@ -74,3 +74,15 @@ pub record EndsByRules (m : Mutating) (olds : List ℕ) (to : Mutating) : Type 0
 -- where the thread's end is done.
 abbrev pub UnitsEndByRules : Type 0
 UnitsEndByRules = (m : Mutating) (olds : List ℕ) → IsUnit m olds → EndsByRules m olds (led m olds)
+
+-- where a unit's steps were so, it ended so
+pub record EndsWhere (m : Mutating) (olds : List ℕ) (to : Mutating) : Type 0 where
+  pub no_run : IsCause m olds to ends.NoRun → to.end ≡ Some ends.NoRun
+  pub log_full : IsCause m olds to ends.LogFull → to.end ≡ Some ends.LogFull
+  pub asked : IsCause m olds to ends.Asked → to.end ≡ Some ends.Asked
+  pub turns : IsCause m olds to ends.Turns → to.end ≡ Some ends.Turns
+  pub ended : IsCause m olds to ends.Ended → to.end ≡ Some ends.Ended
+
+-- the other direction: each cause has its end
+abbrev pub CausesEndUnits : Type 0
+CausesEndUnits = (m : Mutating) (olds : List ℕ) → IsUnit m olds → EndsWhere m olds (led m olds)

@@ -1,7 +1,7 @@
 //! What holds of every mutator. The functions do nothing: the contract of each is the law, and whoever calls one knows
 //! it.
 ghost use Rattle.lxr_mutator.specs.Laws.{MutatorsDrawByRule, MutatorsGiveUpByRules, MutatorsStaySo, MutatorsStepByRule, UnitsAreShort};
-ghost use Rattle.lxr_mutator.specs.Units.{UnitsEndByRules};
+ghost use Rattle.lxr_mutator.specs.Units.{CausesEndUnits, UnitsEndByRules};
 
 /// A unit has at most 8,192 steps.
 pub fn units_are_short()
@@ -36,4 +36,9 @@ pub fn mutators_draw_by_rule()
 /// where it did the last operation of them; and as the thread's end where that is done.
 pub fn units_end_by_rules()
     ensures { UnitsEndByRules }
+{}
+
+/// And the other way round: a unit whose steps were so ended so.
+pub fn causes_end_units()
+    ensures { CausesEndUnits }
 {}

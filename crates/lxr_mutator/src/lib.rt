@@ -11,8 +11,8 @@ mod operating;
 mod phases;
 
 pub use laws::{
-    mutators_draw_by_rule, mutators_give_up_by_rules, mutators_stay_so, mutators_step_by_rule,
-    units_are_short, units_end_by_rules,
+    causes_end_units, mutators_draw_by_rule, mutators_give_up_by_rules, mutators_stay_so,
+    mutators_step_by_rule, units_are_short, units_end_by_rules,
 };
 pub use mutator::Mutator;
 pub use phases::{MutEnd, MutTally, MutatorPhase, Stop, Waiting};
