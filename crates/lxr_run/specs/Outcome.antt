@@ -38,7 +38,8 @@ pub record IsDone {I O W : Type 0} (run : Run I O W) : Type 0 where
   pub sights : Sees (length script) history (run.watch.seen run.watch.before) (run.watch.seen run.watch.after)
   pub reachable : (n : Name) → IsTrue (has (moment (length script) history).unreclaimed n) ↔ Reachable (moment (length script) history).state n
 
--- A run that was cut off at a report: a front of what is told pause by pause of a history so far was written, and the space is left by it.
+-- A run that was cut off at a report: a prefix of what is told pause by pause of a history so far was written, the space is left by it, and the
+-- watch has seen its pauses.
 pub record IsCutOffEarly {I O W : Type 0} (run : Run I O W) : Type 0 where
   pub options : Options
   pub script : Script
@@ -47,8 +48,10 @@ pub record IsCutOffEarly {I O W : Type 0} (run : Run I O W) : Type 0 where
   pub so_far : IsHistorySoFar (script_terms options script) script history
   pub text_front : IsPartlyWritten run.output (told_text options history)
   pub space_left : IsLeftBy options (length script) history run.space
+  pub sights : Sees (length script) history (run.watch.seen run.watch.before) (run.watch.seen run.watch.after)
 
--- A run that was cut off at what it prints last: a front of the text of a whole history was written, and the space is left by it.
+-- A run that was cut off at what it prints last: a prefix of the text of a whole history was written, the space is left by it, and the watch
+-- has seen its pauses.
 pub record IsCutOffLate {I O W : Type 0} (run : Run I O W) : Type 0 where
   pub options : Options
   pub script : Script
@@ -57,11 +60,13 @@ pub record IsCutOffLate {I O W : Type 0} (run : Run I O W) : Type 0 where
   pub is_of : IsHistoryOf options script history
   pub text_front : IsPartlyWritten run.output (run_text options (length script) history run.space)
   pub space_left : IsLeftBy options (length script) history run.space
+  pub sights : Sees (length script) history (run.watch.seen run.watch.before) (run.watch.seen run.watch.after)
 
 abbrev pub IsCutOff : {I O W : Type 0} → Run I O W → Type 0
 IsCutOff run = IsCutOffEarly run ⊎ IsCutOffLate run
 
--- A run that lost its space, since no memory was left as an epoch was to begin: what is told of a history so far was written.
+-- A run that lost its space, since no memory was left as an epoch was to begin: what is told of a history so far was written, and the watch
+-- has seen its pauses.
 pub record IsLost {I O W : Type 0} (run : Run I O W) : Type 0 where
   pub options : Options
   pub script : Script
@@ -70,6 +75,7 @@ pub record IsLost {I O W : Type 0} (run : Run I O W) : Type 0 where
   pub so_far : IsHistorySoFar (script_terms options script) script history
   pub text : IsWritten run.output (told_text options history)
   pub gone : run.space.words ≡ []
+  pub sights : Sees (length script) history (run.watch.seen run.watch.before) (run.watch.seen run.watch.after)
 
 -- a run that ended before its first operation: nothing was written and seen, and there is no space
 pub record LeavesNothing {I O W : Type 0} (run : Run I O W) : Type 0 where
@@ -98,7 +104,7 @@ status_of refusal.ReadFault = status.ReadFault
 status_of refusal.Memory = status.Memory
 
 -- What the line of a refusal comes to: it is written, and the status is that of the refusal; or the stream failed or wanted memory behind
--- a front of it, and the status says that.
+-- a prefix of it, and the status says that.
 abbrev pub IsToldBy : {E : Type 0} → Refusal → Stream E → Status → Type 0
 IsToldBy why errors ended = ((ended ≡ status_of why) × IsWritten errors (refusal_text why))
     ⊎ ((ended ≡ status.WriteFault) × HasFailed errors × IsPartlyWritten errors (refusal_text why))
@@ -109,7 +115,7 @@ pub record IsTold {I O W E : Type 0} (why : Refusal) (run : Run I O W) (errors :
   pub refused : IsRefused why run
   pub line : IsWritten errors (refusal_text why)
 
--- a run was refused, and a front of its line is written
+-- a run was refused, and a prefix of its line is written
 pub record IsPartlyTold {I O W E : Type 0} (run : Run I O W) (errors : Stream E) : Type 0 where
   pub why : Refusal
   pub refused : IsRefused why run

@@ -236,17 +236,18 @@ module _ (task : Task) (before after : Space) (written : Option (List ℕ)) (see
       },
     )
 
-  -- or it was cut off at the report
-  pub cut_off_after : (written' : Option (List ℕ)) → AppendsFront written written' (told_report task.options.command task.options.counts report) → WasCutOff task after written'
-  cut_off_after written' printed = (
-    Pause report ∷ h,
-    record {
-      history = history;
-      text_front = subst (AppendsFront task.written written') (sym (told_pause task.options.command task.options.counts h report))
-          (AppendsFront-after task.written written written' (told_text task.options h) (told_report task.options.command task.options.counts report) come.text printed);
-      left = (abstract_state, record { stands = stands; between = pauses.between; limits = limits ∙ come.limits; tally = tally });
-    },
-  )
+    -- or it was cut off at the report
+    pub cut_off_after : (written' : Option (List ℕ)) → AppendsFront written written' (told_report task.options.command task.options.counts report) → WasCutOff task after written' seen'
+    cut_off_after written' printed = (
+      Pause report ∷ h,
+      record {
+        history = history;
+        text_front = subst (AppendsFront task.written written') (sym (told_pause task.options.command task.options.counts h report))
+            (AppendsFront-after task.written written written' (told_text task.options h) (told_report task.options.command task.options.counts report) come.text printed);
+        left = (abstract_state, record { stands = stands; between = pauses.between; limits = limits ∙ come.limits; tally = tally });
+        sights = (at', sights);
+      },
+    )
 
 -- ---- actors
 

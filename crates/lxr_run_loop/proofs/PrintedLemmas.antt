@@ -132,13 +132,14 @@ module _ (task : Task) (space : Space) (written written' : Option (List ℕ)) (s
   }
 
   -- one whose end was cut off
-  pub printed_front : AppendsFront written written' (last_by command (mutators_in actors) space sums) → IsPartlyPrinted task space written'
+  pub printed_front : AppendsFront written written' (last_by command (mutators_in actors) space sums) → IsPartlyPrinted task space written' seen
   printed_front text = record {
     history = h;
     run = run.history;
     text_front = subst (AppendsFront task.written written') whole_text
         (AppendsFront-after task.written written written' (told_text task.options h) (last_by command (mutators_in actors) space sums) run.text text);
     space_left = run.left;
+    sights = run.sights;
   }
 
 -- ---- results

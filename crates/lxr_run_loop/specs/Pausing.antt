@@ -35,6 +35,6 @@ GoesOnByPause asked options space written seen space' written' seen' =
     (task : Task) (h : List Item) (g : AbstractState) → HasComeToPause asked options task space written seen h g → IsPaused task space' written' seen' h asked
 
 -- it was cut off as the report of one was written
-abbrev pub IsCutOffByPause : Ask → Options → Space → Option (List ℕ) → Option (List Sight) → Space → Option (List ℕ) → Type 0
-IsCutOffByPause asked options space written seen space' written' =
-    (task : Task) (h : List Item) (g : AbstractState) → HasComeToPause asked options task space written seen h g → WasCutOff task space' written'
+abbrev pub IsCutOffByPause : Ask → Options → Space → Option (List ℕ) → Option (List Sight) → Space → Option (List ℕ) → Option (List Sight) → Type 0
+IsCutOffByPause asked options space written seen space' written' seen' =
+    (task : Task) (h : List Item) (g : AbstractState) → HasComeToPause asked options task space written seen h g → WasCutOff task space' written' seen'

@@ -50,9 +50,9 @@ IsComplete task space written seen actors course =
     (h : List Item) × HasRunTo task space written seen actors h × IsDrawn task h course.generator × (course.totals ≡ totals_of h)
 
 -- each run with these options that was under way so was stopped for this cause
-abbrev pub IsStoppedUnderWay : WriteError → Options → Space → Option (List ℕ) → Option (List Sight) → List AnyActor → Course → Space → Option (List ℕ) → Type 0
-IsStoppedUnderWay why options space written seen actors course space' written' =
-    (task : Task) → task.options ≡ options → IsUnderWay task space written seen actors course → WasStopped why task space' written'
+abbrev pub IsStoppedUnderWay : WriteError → Options → Space → Option (List ℕ) → Option (List Sight) → List AnyActor → Course → Space → Option (List ℕ) → Option (List Sight) → Type 0
+IsStoppedUnderWay why options space written seen actors course space' written' seen' =
+    (task : Task) → task.options ≡ options → IsUnderWay task space written seen actors course → WasStopped why task space' written' seen'
 
 -- ---- an epoch
 

@@ -44,7 +44,7 @@ pause-requires-clause-counts g c =
 pub returns-in_err-pause-clause-err : goal.returns-in_err-pause-clause-err
 returns-in_err-pause-clause-err g c = stopped_always c.from_residual.result (λ why task with_options (h, m, amid, drawn, reported).
     let made = c.in-Ok.ensures.ok task with_options (g.O.Sink.written c.args.output.now) (g.W.Watch.seen c.args.watch.now) h m amid in
-    cut_off_by why task c.pause.new.space (g.O.Sink.written c.pause.new.output) (c.in_err-pause.ensures.err task made.history made.abstract_state (pause_due task c.args.options with_options c.args.space.now c.make_epoch.new.space (g.O.Sink.written c.args.output.now) (g.W.Watch.seen c.args.watch.now) c.args.actors.now.items c.make_epoch.new.actors.items h m c.args.course.now.generator c.make_epoch.new.generator amid drawn made c.have_ended-ended.result c.shall_collect-collects.result c.ask_of.result (subst (λ actors. IsTrue c.have_ended-ended.result ↔ All NoneGoesOn actors) c.deref.ensures.value c.have_ended-ended.ensures) (subst (λ actors. c.shall_collect-collects.result ≡ (c.have_ended-ended.result || list_any actor_collected actors)) c.deref-2.ensures.value c.shall_collect-collects.ensures) c.ask_of.ensures)))
+    cut_off_by why task c.pause.new.space (g.O.Sink.written c.pause.new.output) (g.W.Watch.seen c.pause.new.watch) (c.in_err-pause.ensures.err task made.history made.abstract_state (pause_due task c.args.options with_options c.args.space.now c.make_epoch.new.space (g.O.Sink.written c.args.output.now) (g.W.Watch.seen c.args.watch.now) c.args.actors.now.items c.make_epoch.new.actors.items h m c.args.course.now.generator c.make_epoch.new.generator amid drawn made c.have_ended-ended.result c.shall_collect-collects.result c.ask_of.result (subst (λ actors. IsTrue c.have_ended-ended.result ↔ All NoneGoesOn actors) c.deref.ensures.value c.have_ended-ended.ensures) (subst (λ actors. c.shall_collect-collects.result ≡ (c.have_ended-ended.result || list_any actor_collected actors)) c.deref-2.ensures.value c.shall_collect-collects.ensures) c.ask_of.ensures)))
 
 pub returns-then-ended-clause-ok : goal.returns-then-ended-clause-ok
 returns-then-ended-clause-ok g c = λ task with_options (h, m, amid, drawn, reported).
@@ -72,7 +72,7 @@ returns-in_err-answer_waiting-clause-err g c = stopped_always c.from_residual-in
     let made = c.in-Ok.ensures.ok task with_options (g.O.Sink.written c.args.output.now) (g.W.Watch.seen c.args.watch.now) h m amid in
     let (report, m', paused) = c.in_ok-pause.ensures.ok task made.history made.abstract_state (pause_due task c.args.options with_options c.args.space.now c.make_epoch.new.space (g.O.Sink.written c.args.output.now) (g.W.Watch.seen c.args.watch.now) c.args.actors.now.items c.make_epoch.new.actors.items h m c.args.course.now.generator c.make_epoch.new.generator amid drawn made c.have_ended-ended.result c.shall_collect-collects.result c.ask_of.result (subst (λ actors. IsTrue c.have_ended-ended.result ↔ All NoneGoesOn actors) c.deref.ensures.value c.have_ended-ended.ensures) (subst (λ actors. c.shall_collect-collects.result ≡ (c.have_ended-ended.result || list_any actor_collected actors)) c.deref-2.ensures.value c.shall_collect-collects.ensures) c.ask_of.ensures) in
     let begins = begun task c.args.options with_options c.args.space.now c.make_epoch.new.space (g.O.Sink.written c.args.output.now) (g.W.Watch.seen c.args.watch.now) c.args.actors.now.items c.make_epoch.new.actors.items h m c.args.course.now.generator c.make_epoch.new.generator amid drawn made c.have_ended-ended.result c.shall_collect-collects.result c.ask_of.result (subst (λ actors. IsTrue c.have_ended-ended.result ↔ All NoneGoesOn actors) c.deref.ensures.value c.have_ended-ended.ensures) (subst (λ actors. c.shall_collect-collects.result ≡ (c.have_ended-ended.result || list_any actor_collected actors)) c.deref-2.ensures.value c.shall_collect-collects.ensures) c.ask_of.ensures c.pause.new.space (g.O.Sink.written c.pause.new.output) (g.W.Watch.seen c.pause.new.watch) report m' paused c.args.course.now.totals c.pause.new.totals reported.are c.pause.ensures.totals c.if-ended.false in
-    cut_off_by why task c.answer_waiting.new.space (g.O.Sink.written c.answer_waiting.new.output) (subst (λ (actors : List AnyActor). AllAreCutOff c.args.options c.pause.new.space (g.O.Sink.written c.pause.new.output) (g.W.Watch.seen c.pause.new.watch) c.shall_collect-collects.result (mutators_in actors) c.answer_waiting.new.space (g.O.Sink.written c.answer_waiting.new.output)) c.deref_mut.ensures.value c.in_err-answer_waiting.ensures.err task with_options (Pause report ∷ made.history) m' begins))
+    cut_off_by why task c.answer_waiting.new.space (g.O.Sink.written c.answer_waiting.new.output) (g.W.Watch.seen c.answer_waiting.new.watch) (subst (λ (actors : List AnyActor). AllAreCutOff c.args.options c.pause.new.space (g.O.Sink.written c.pause.new.output) (g.W.Watch.seen c.pause.new.watch) c.shall_collect-collects.result (mutators_in actors) c.answer_waiting.new.space (g.O.Sink.written c.answer_waiting.new.output) (g.W.Watch.seen c.answer_waiting.new.watch)) c.deref_mut.ensures.value c.in_err-answer_waiting.ensures.err task with_options (Pause report ∷ made.history) m' begins))
 
 pub list_for_epoch-requires : goal.list_for_epoch-requires
 list_for_epoch-requires g c =
