@@ -64,7 +64,7 @@ stopped_by run options script write_error.Fault asked failed (inr cut) =
 stopped_by run options script write_error.Memory asked failed (inl (inl (h, cut))) =
     inr (refl, inl (inl (record { options = options; script = script; history = h; asked = asked; so_far = cut.history; text_front = cut.text_front; space_left = cut.left; sights = cut.sights })))
 stopped_by run options script write_error.Memory asked failed (inl (inr (h, lost))) =
-    inr (refl, inr (record { options = options; script = script; history = h; asked = asked; so_far = lost.history; text = lost.text; gone = lost.gone; sights = lost.sights }))
+    inr (refl, inr (record { options = options; script = script; history = h; asked = asked; so_far = lost.history; text = lost.text; gone = lost.gone; evacuated = lost.evacuated; sights = lost.sights }))
 stopped_by run options script write_error.Memory asked failed (inr cut) =
     inr (refl, inl (inr (record { options = options; script = script; history = cut.history; asked = asked; is_of = cut.run; text_front = cut.text_front; space_left = cut.space_left; sights = cut.sights })))
 

@@ -12,6 +12,7 @@ use Rattle.lxr_words.specs.declared.WordFault.{WordFault}
 use Rattle.lxr_run_history.specs.Left.{IsLeftBy}
 use Rattle.lxr_run_history.specs.Run.{IsHistoryOf, script_terms}
 use Rattle.lxr_run_history.specs.Sights.{Sees}
+use Rattle.lxr_run_history.specs.Tally.{Evacuated, evacuated_in}
 use Rattle.lxr_run_history.specs.Texts.{run_text, told_text}
 use Rattle.lxr_run.specs.Lines.{refusal_text}
 use Rattle.lxr_run.specs.Runs.{IsUntouched, HasFailed, IsPartlyWritten, IsWritten, Run, Stream}
@@ -25,7 +26,8 @@ use Rattle.lxr_run.specs.declared.attempt.Stop.TheVariants as stop
 
 -- ---- what a run leaves
 
--- A run that is done: the text of one history of the script was written, the space is left by it, and the watch has seen its pauses.
+-- A run that is done: the text of one history of the script was written, the space is left by it, and the watch has seen its pauses. The tally
+-- of the space counts what all of them have moved out of Chosen blocks and kept there.
 -- What is left unreclaimed is exactly what can be reached.
 pub record IsDone {I O W : Type 0} (run : Run I O W) : Type 0 where
   pub options : Options
@@ -35,7 +37,7 @@ pub record IsDone {I O W : Type 0} (run : Run I O W) : Type 0 where
   pub is_of : IsHistoryOf options script history
   pub text : IsWritten run.output (run_text options (length script) history run.space)
   pub space_left : IsLeftBy options (length script) history run.space
-  pub sights : Sees (length script) history (run.watch.seen run.watch.before) (run.watch.seen run.watch.after)
+  pub sights : Sees (length script) history (run.watch.seen run.watch.before) (run.watch.seen run.watch.after) (evacuated_in run.space.tally)
   pub reachable : (n : Name) → IsTrue (has (moment (length script) history).unreclaimed n) ↔ Reachable (moment (length script) history).state n
 
 -- A run that was cut off at a report: a prefix of what is told pause by pause of a history so far was written, the space is left by it, and the
@@ -48,7 +50,7 @@ pub record IsCutOffEarly {I O W : Type 0} (run : Run I O W) : Type 0 where
   pub so_far : IsHistorySoFar (script_terms options script) script history
   pub text_front : IsPartlyWritten run.output (told_text options history)
   pub space_left : IsLeftBy options (length script) history run.space
-  pub sights : Sees (length script) history (run.watch.seen run.watch.before) (run.watch.seen run.watch.after)
+  pub sights : Sees (length script) history (run.watch.seen run.watch.before) (run.watch.seen run.watch.after) (evacuated_in run.space.tally)
 
 -- A run that was cut off at what it prints last: a prefix of the text of a whole history was written, the space is left by it, and the watch
 -- has seen its pauses.
@@ -60,7 +62,7 @@ pub record IsCutOffLate {I O W : Type 0} (run : Run I O W) : Type 0 where
   pub is_of : IsHistoryOf options script history
   pub text_front : IsPartlyWritten run.output (run_text options (length script) history run.space)
   pub space_left : IsLeftBy options (length script) history run.space
-  pub sights : Sees (length script) history (run.watch.seen run.watch.before) (run.watch.seen run.watch.after)
+  pub sights : Sees (length script) history (run.watch.seen run.watch.before) (run.watch.seen run.watch.after) (evacuated_in run.space.tally)
 
 abbrev pub IsCutOff : {I O W : Type 0} → Run I O W → Type 0
 IsCutOff run = IsCutOffEarly run ⊎ IsCutOffLate run
@@ -75,7 +77,8 @@ pub record IsLost {I O W : Type 0} (run : Run I O W) : Type 0 where
   pub so_far : IsHistorySoFar (script_terms options script) script history
   pub text : IsWritten run.output (told_text options history)
   pub gone : run.space.words ≡ []
-  pub sights : Sees (length script) history (run.watch.seen run.watch.before) (run.watch.seen run.watch.after)
+  pub evacuated : Evacuated
+  pub sights : Sees (length script) history (run.watch.seen run.watch.before) (run.watch.seen run.watch.after) evacuated
 
 -- a run that ended before its first operation: nothing was written and seen, and there is no space
 pub record LeavesNothing {I O W : Type 0} (run : Run I O W) : Type 0 where

@@ -33,7 +33,7 @@ use Rattle.lxr_words.specs.declared.Options.{Options}
 use Rattle.lxr_run_history.specs.Left.{IsLeftBy, StandsAfter, run_limits}
 use Rattle.lxr_run_history.specs.Run.{IsHistoryOf, script_terms}
 use Rattle.lxr_run_history.specs.Sights.{SamePlaces, Sees, SeesTo}
-use Rattle.lxr_run_history.specs.Tally.{HasNumbersOf}
+use Rattle.lxr_run_history.specs.Tally.{Evacuated, HasNumbersOf, evacuated_in}
 use Rattle.lxr_run_history.specs.Texts.{told_text}
 
 -- What a run begins with: its options and script, and what was written and seen before it, where it is told.
@@ -72,7 +72,7 @@ pub record HasCome (task : Task) (space : Space) (written : Option (List ℕ)) (
   pub evacuated : HasEvacuatedFew space
   pub text : Appends task.written written (told_text task.options h)
   pub places : Name → ℕ
-  pub sights : SeesTo (threads_of task) h task.seen seen places
+  pub sights : SeesTo (threads_of task) h task.seen seen places (evacuated_in space.tally)
   pub kept : SamePlaces g.moment.unreclaimed places g.at
 
 -- the numbers of a run are far from the ends of their types
@@ -221,7 +221,7 @@ pub record WasCutOffAt (task : Task) (space : Space) (written : Option (List ℕ
   pub history : IsHistorySoFar (terms_of task) task.script h
   pub text_front : AppendsFront task.written written (told_text task.options h)
   pub left : IsLeftBy task.options (threads_of task) h space
-  pub sights : Sees (threads_of task) h task.seen seen
+  pub sights : Sees (threads_of task) h task.seen seen (evacuated_in space.tally)
 
 abbrev pub WasCutOff : Task → Space → Option (List ℕ) → Option (List Sight) → Type 0
 WasCutOff task space written seen = (h : List Item) × WasCutOffAt task space written seen h
@@ -231,7 +231,8 @@ pub record WasLostAt (task : Task) (space : Space) (written : Option (List ℕ))
   pub history : IsHistorySoFar (terms_of task) task.script h
   pub text : Appends task.written written (told_text task.options h)
   pub gone : space.words ≡ []
-  pub sights : Sees (threads_of task) h task.seen seen
+  pub evacuated : Evacuated
+  pub sights : Sees (threads_of task) h task.seen seen evacuated
 
 abbrev pub WasLost : Task → Space → Option (List ℕ) → Option (List Sight) → Type 0
 WasLost task space written seen = (h : List Item) × WasLostAt task space written seen h
@@ -246,7 +247,7 @@ pub record HasRunTo (task : Task) (space : Space) (written : Option (List ℕ)) 
   pub history : IsHistoryOf task.options task.script h
   pub left : IsLeftBy task.options (threads_of task) h space
   pub text : Appends task.written written (told_text task.options h)
-  pub sights : Sees (threads_of task) h task.seen seen
+  pub sights : Sees (threads_of task) h task.seen seen (evacuated_in space.tally)
   pub actors_rest : HaveActors task h actors
 
 abbrev pub HasRun : Task → Space → Option (List ℕ) → Option (List Sight) → List AnyActor → Type 0

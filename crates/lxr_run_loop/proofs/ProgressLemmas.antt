@@ -21,6 +21,7 @@ use Rattle.lxr_core.specs.declared.actors.AnyActor.TheVariants as any
 use Rattle.lxr_core.specs.Actors.{mutators_in, script_of}
 use Rattle.lxr_run_history.specs.declared.totals.Totals.{Totals}
 use Rattle.lxr_run_history.specs.Sums.{totals_of, with_report}
+use Rattle.lxr_run_history.specs.Tally.{evacuated_in}
 use Rattle.lxr_run_invariant.specs.LoopInvariant.{HasMore, HasPaused, HasRunEpoch, HaveActors, HaveEnded, HaveMutators, IsBetweenEpochs, Task, WasCutOff, WasStopped, asked_by, done_of, left_of, terms_of}
 use Rattle.lxr_run_invariant.proofs.ActorLemmas.{are_within, done_and_left, ends_are_all, ends_are_fewer, steps_of}
 use Rattle.lxr_run_invariant.proofs.KindLemmas.{asked_right}
@@ -147,7 +148,7 @@ cut_off_by error.Memory task space written seen cut = inl cut
 -- a run between two epochs that lost its space had written its reports so far
 pub lost_at : (task : Task) (before after : Space) (written : Option (List ℕ)) (seen : Option (List Sight)) (actors : List AnyActor) (h : List Item) (g : AbstractState) → IsBetweenEpochs task before written seen actors h g
     → after.words ≡ [] → WasStopped error.Memory task after written seen
-lost_at task before after written seen actors h g amid gone = inr (h, record { history = amid.come.history; text = amid.come.text; gone = gone; sights = (amid.come.places, amid.come.sights) })
+lost_at task before after written seen actors h g amid gone = inr (h, record { history = amid.come.history; text = amid.come.text; gone = gone; evacuated = evacuated_in before.tally; sights = (amid.come.places, amid.come.sights) })
 
 -- ---- by whether all have ended
 

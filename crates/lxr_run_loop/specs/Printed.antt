@@ -11,6 +11,7 @@ use Rattle.lxr_run_history.specs.Left.{IsLeftBy}
 use Rattle.lxr_run_history.specs.Run.{IsHistoryOf}
 use Rattle.lxr_run_history.specs.Texts.{run_text}
 use Rattle.lxr_run_history.specs.Sights.{Sees}
+use Rattle.lxr_run_history.specs.Tally.{evacuated_in}
 use Rattle.lxr_text_stream.specs.declared.transfer.WriteError.{WriteError}
 use Rattle.lxr_run_invariant.specs.LoopInvariant.{Task, WasStopped, threads_of}
 use Rattle.lxr_run_loop.specs.declared.course.Course.{Course}
@@ -30,7 +31,7 @@ pub record IsPrinted (task : Task) (space : Space) (written : Option (List ℕ))
   pub drawn : IsDrawn task history last
   pub text : Appends task.written written (run_text task.options (threads_of task) history space)
   pub space_left : IsLeftBy task.options (threads_of task) history space
-  pub sights : Sees (threads_of task) history task.seen seen
+  pub sights : Sees (threads_of task) history task.seen seen (evacuated_in space.tally)
 
 -- a prefix of the text of a whole history was written
 pub record IsPartlyPrinted (task : Task) (space : Space) (written : Option (List ℕ)) (seen : Option (List Sight)) : Type 0 where
@@ -38,7 +39,7 @@ pub record IsPartlyPrinted (task : Task) (space : Space) (written : Option (List
   pub run : IsHistoryOf task.options task.script history
   pub text_front : AppendsFront task.written written (run_text task.options (threads_of task) history space)
   pub space_left : IsLeftBy task.options (threads_of task) history space
-  pub sights : Sees (threads_of task) history task.seen seen
+  pub sights : Sees (threads_of task) history task.seen seen (evacuated_in space.tally)
 
 -- the whole text of each such run was written
 abbrev pub AllArePrinted : Options → Space → Option (List ℕ) → List AnyActor → Totals → Option (List ℕ) → Type 0
