@@ -15,7 +15,7 @@ use Rattle.lxr_run_history.specs.Tally.{evacuated_in}
 use Rattle.lxr_text_stream.specs.declared.transfer.WriteError.{WriteError}
 use Rattle.lxr_run_invariant.specs.LoopInvariant.{Task, WasStopped, threads_of}
 use Rattle.lxr_run_loop.specs.declared.course.Course.{Course}
-use Rattle.lxr_run_loop.specs.Drawing.{IsDrawn}
+use Rattle.lxr_run_loop.specs.Drawing.{IsDrawnTo}
 use Rattle.lxr_run_loop.specs.Progress.{IsComplete}
 
 -- some run with these options is complete, and its reports have these totals
@@ -28,7 +28,7 @@ pub record IsPrinted (task : Task) (space : Space) (written : Option (List ℕ))
   pub history : List Item
   pub run : IsHistoryOf task.options task.script history
   pub last : Option ℕ
-  pub drawn : IsDrawn task history last
+  pub drawn : IsDrawnTo task history last space
   pub text : Appends task.written written (run_text task.options (threads_of task) history space)
   pub space_left : IsLeftBy task.options (threads_of task) history space
   pub sights : Sees (threads_of task) history task.seen seen (evacuated_in space.tally)
