@@ -56,21 +56,21 @@ replayed_by run options script asked printed = record {
 }
 
 pub stopped_by : {I O W : Type 0} (run : Run I O W) (options : Options) (script : Script) (why : WriteError) → WasAsked run.words run.input options script
-    → (why ≡ write_error.Fault → HasFailed run.output) → IsCutShort why (task_of run options script) run.space (run.output.bytes run.output.after) → HasStopped (stop_of_write why) run
+    → (why ≡ write_error.Fault → HasFailed run.output) → IsCutShort why (task_of run options script) run.space (run.output.bytes run.output.after) (run.watch.seen run.watch.after) → HasStopped (stop_of_write why) run
 stopped_by run options script write_error.Fault asked failed (inl (h, cut)) =
-    (failed refl, inl (record { options = options; script = script; history = h; asked = asked; so_far = cut.history; text_front = cut.text_front; space_left = cut.left }))
+    (failed refl, inl (record { options = options; script = script; history = h; asked = asked; so_far = cut.history; text_front = cut.text_front; space_left = cut.left; sights = cut.sights }))
 stopped_by run options script write_error.Fault asked failed (inr cut) =
-    (failed refl, inr (record { options = options; script = script; history = cut.history; asked = asked; is_of = cut.run; text_front = cut.text_front; space_left = cut.space_left }))
+    (failed refl, inr (record { options = options; script = script; history = cut.history; asked = asked; is_of = cut.run; text_front = cut.text_front; space_left = cut.space_left; sights = cut.sights }))
 stopped_by run options script write_error.Memory asked failed (inl (inl (h, cut))) =
-    inr (refl, inl (inl (record { options = options; script = script; history = h; asked = asked; so_far = cut.history; text_front = cut.text_front; space_left = cut.left })))
+    inr (refl, inl (inl (record { options = options; script = script; history = h; asked = asked; so_far = cut.history; text_front = cut.text_front; space_left = cut.left; sights = cut.sights })))
 stopped_by run options script write_error.Memory asked failed (inl (inr (h, lost))) =
-    inr (refl, inr (record { options = options; script = script; history = h; asked = asked; so_far = lost.history; text = lost.text; gone = lost.gone }))
+    inr (refl, inr (record { options = options; script = script; history = h; asked = asked; so_far = lost.history; text = lost.text; gone = lost.gone; evacuated = lost.evacuated; sights = lost.sights }))
 stopped_by run options script write_error.Memory asked failed (inr cut) =
-    inr (refl, inl (inr (record { options = options; script = script; history = cut.history; asked = asked; is_of = cut.run; text_front = cut.text_front; space_left = cut.space_left })))
+    inr (refl, inl (inr (record { options = options; script = script; history = cut.history; asked = asked; is_of = cut.run; text_front = cut.text_front; space_left = cut.space_left; sights = cut.sights })))
 
 -- the same of the answer that it leads to
 pub stopped_at : {I O W : Type 0} (run : Run I O W) (options : Options) (script : Script) (why : WriteError) (answer : Result (Unit {0}) Stop) → (IsErr answer × IsErrAnd answer (λ stop. stop ≡ stop_of_write why))
-    → WasAsked run.words run.input options script → (why ≡ write_error.Fault → HasFailed run.output) → IsCutShort why (task_of run options script) run.space (run.output.bytes run.output.after)
+    → WasAsked run.words run.input options script → (why ≡ write_error.Fault → HasFailed run.output) → IsCutShort why (task_of run options script) run.space (run.output.bytes run.output.after) (run.watch.seen run.watch.after)
     → IfErr answer (λ stop. HasStopped stop run)
 stopped_at run options script why answer known asked failed cut =
     if_err answer (λ stop. stop ≡ stop_of_write why) (λ stop. HasStopped stop run) known.1 (λ stop is. subst (λ z. HasStopped z run) (sym is) (stopped_by run options script why asked failed cut))

@@ -12,6 +12,7 @@ use Rattle.lxr_words.specs.declared.WordFault.{WordFault}
 use Rattle.lxr_run_history.specs.Left.{IsLeftBy}
 use Rattle.lxr_run_history.specs.Run.{IsHistoryOf, script_terms}
 use Rattle.lxr_run_history.specs.Sights.{Sees}
+use Rattle.lxr_run_history.specs.Tally.{Evacuated, evacuated_in}
 use Rattle.lxr_run_history.specs.Texts.{run_text, told_text}
 use Rattle.lxr_run.specs.Lines.{refusal_text}
 use Rattle.lxr_run.specs.Runs.{IsUntouched, HasFailed, IsPartlyWritten, IsWritten, Run, Stream}
@@ -25,7 +26,8 @@ use Rattle.lxr_run.specs.declared.attempt.Stop.TheVariants as stop
 
 -- ---- what a run leaves
 
--- A run that is done: the text of one history of the script was written, the space is left by it, and the watch has seen its pauses.
+-- A run that is done: the text of one history of the script was written, the space is left by it, and the watch has seen its pauses. The tally
+-- of the space counts what all of them have moved out of Chosen blocks and kept there.
 -- What is left unreclaimed is exactly what can be reached.
 pub record IsDone {I O W : Type 0} (run : Run I O W) : Type 0 where
   pub options : Options
@@ -35,10 +37,11 @@ pub record IsDone {I O W : Type 0} (run : Run I O W) : Type 0 where
   pub is_of : IsHistoryOf options script history
   pub text : IsWritten run.output (run_text options (length script) history run.space)
   pub space_left : IsLeftBy options (length script) history run.space
-  pub sights : Sees (length script) history (run.watch.seen run.watch.before) (run.watch.seen run.watch.after)
+  pub sights : Sees (length script) history (run.watch.seen run.watch.before) (run.watch.seen run.watch.after) (evacuated_in run.space.tally)
   pub reachable : (n : Name) → IsTrue (has (moment (length script) history).unreclaimed n) ↔ Reachable (moment (length script) history).state n
 
--- A run that was cut off at a report: a front of what is told pause by pause of a history so far was written, and the space is left by it.
+-- A run that was cut off at a report: a prefix of what is told pause by pause of a history so far was written, the space is left by it, and the
+-- watch has seen its pauses.
 pub record IsCutOffEarly {I O W : Type 0} (run : Run I O W) : Type 0 where
   pub options : Options
   pub script : Script
@@ -47,8 +50,10 @@ pub record IsCutOffEarly {I O W : Type 0} (run : Run I O W) : Type 0 where
   pub so_far : IsHistorySoFar (script_terms options script) script history
   pub text_front : IsPartlyWritten run.output (told_text options history)
   pub space_left : IsLeftBy options (length script) history run.space
+  pub sights : Sees (length script) history (run.watch.seen run.watch.before) (run.watch.seen run.watch.after) (evacuated_in run.space.tally)
 
--- A run that was cut off at what it prints last: a front of the text of a whole history was written, and the space is left by it.
+-- A run that was cut off at what it prints last: a prefix of the text of a whole history was written, the space is left by it, and the watch
+-- has seen its pauses.
 pub record IsCutOffLate {I O W : Type 0} (run : Run I O W) : Type 0 where
   pub options : Options
   pub script : Script
@@ -57,12 +62,14 @@ pub record IsCutOffLate {I O W : Type 0} (run : Run I O W) : Type 0 where
   pub is_of : IsHistoryOf options script history
   pub text_front : IsPartlyWritten run.output (run_text options (length script) history run.space)
   pub space_left : IsLeftBy options (length script) history run.space
+  pub sights : Sees (length script) history (run.watch.seen run.watch.before) (run.watch.seen run.watch.after) (evacuated_in run.space.tally)
 
 -- a run was cut off at a report, or at what it prints last
 abbrev pub IsCutOff : {I O W : Type 0} → Run I O W → Type 0
 IsCutOff run = IsCutOffEarly run ⊎ IsCutOffLate run
 
--- A run that lost its space, since no memory was left as an epoch was to begin: what is told of a history so far was written.
+-- A run that lost its space, since no memory was left as an epoch was to begin: what is told of a history so far was written, and the watch
+-- has seen its pauses.
 pub record IsLost {I O W : Type 0} (run : Run I O W) : Type 0 where
   pub options : Options
   pub script : Script
@@ -71,6 +78,8 @@ pub record IsLost {I O W : Type 0} (run : Run I O W) : Type 0 where
   pub so_far : IsHistorySoFar (script_terms options script) script history
   pub text : IsWritten run.output (told_text options history)
   pub gone : run.space.words ≡ []
+  pub evacuated : Evacuated
+  pub sights : Sees (length script) history (run.watch.seen run.watch.before) (run.watch.seen run.watch.after) evacuated
 
 -- a run that ended before its first operation: nothing was written and seen, and there is no space
 pub record LeavesNothing {I O W : Type 0} (run : Run I O W) : Type 0 where
@@ -99,7 +108,7 @@ status_of refusal.ReadFault = status.ReadFault
 status_of refusal.Memory = status.Memory
 
 -- What the line of a refusal comes to: it is written, and the status is that of the refusal; or the stream failed or wanted memory behind
--- a front of it, and the status says that.
+-- a prefix of it, and the status says that.
 abbrev pub IsToldBy : {E : Type 0} → Refusal → Stream E → Status → Type 0
 IsToldBy why errors ended = ((ended ≡ status_of why) × IsWritten errors (refusal_text why))
     ⊎ ((ended ≡ status.WriteFault) × HasFailed errors × IsPartlyWritten errors (refusal_text why))
@@ -110,7 +119,7 @@ pub record IsTold {I O W E : Type 0} (why : Refusal) (run : Run I O W) (errors :
   pub refused : IsRefused why run
   pub line : IsWritten errors (refusal_text why)
 
--- a run was refused, and a front of its line is written
+-- a run was refused, and a prefix of its line is written
 pub record IsPartlyTold {I O W E : Type 0} (run : Run I O W) (errors : Stream E) : Type 0 where
   pub why : Refusal
   pub refused : IsRefused why run

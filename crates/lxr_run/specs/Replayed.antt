@@ -6,7 +6,7 @@ use Rattle.lxr_words.specs.declared.Options.{Options}
 use Rattle.lxr_run_history.specs.Run.{IsHistoryOf}
 use Rattle.lxr_run_history.specs.Texts.{run_text}
 use Rattle.lxr_run_invariant.specs.LoopInvariant.{Task}
-use Rattle.lxr_run_loop.specs.Drawing.{IsDrawn}
+use Rattle.lxr_run_loop.specs.Drawing.{IsDrawnTo}
 use Rattle.lxr_run.specs.Runs.{IsWritten, Run}
 use Rattle.lxr_run.specs.Script.{WasAsked}
 
@@ -14,8 +14,8 @@ use Rattle.lxr_run.specs.Script.{WasAsked}
 abbrev pub task_of : {I O W : Type 0} → Run I O W → Options → Script → Task
 task_of run options script = record { options = options; script = script; written = run.output.bytes run.output.before; seen = run.watch.seen run.watch.before }
 
--- The history whose text was written is one that the epochs of the run and the pauses between them have made. With a replay the generator
--- that begins with its number has drawn who made each step, and has come to `last`.
+-- The history whose text was written is one that the epochs of the run and the pauses between them have made, from an opened space on to the
+-- one that the run leaves. With a replay the generator that begins with its number has drawn who made each step, and has come to `last`.
 pub record IsReplayed {I O W : Type 0} (run : Run I O W) : Type 0 where
   pub options : Options
   pub script : Script
@@ -24,4 +24,4 @@ pub record IsReplayed {I O W : Type 0} (run : Run I O W) : Type 0 where
   pub asked : WasAsked run.words run.input options script
   pub is_of : IsHistoryOf options script history
   pub text : IsWritten run.output (run_text options (length script) history run.space)
-  pub drawn : IsDrawn (task_of run options script) history last
+  pub drawn : IsDrawnTo (task_of run options script) history last run.space

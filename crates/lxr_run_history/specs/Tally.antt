@@ -22,6 +22,19 @@ tally_of threads (Call t o r ∷ h) = counted (tally_of threads h) r
 tally_of threads (Pause report ∷ h) = let before = tally_of threads h in
     record before { logs = before.logs + length (moment threads h).written; pauses = before.pauses + 1 }
 
--- a tally has the numbers of a history of so many threads; how many objects evacuation moved and kept is no number of a history
+-- A tally has the numbers of a history of so many threads. How many objects evacuation moved and kept is no number of a history: these two
+-- come from the places that objects stood at, and are told with the sights of its pauses.
 abbrev pub HasNumbersOf : ℕ → List Item → Tally → Type 0
 HasNumbersOf threads h tally = tally ≡ record (tally_of threads h) { moved = tally.moved; kept = tally.kept }
+
+-- how many objects pauses have moved out of Chosen blocks, and how many they have kept there
+pub record Evacuated : Type 0 where
+  pub moved : ℕ
+  pub kept : ℕ
+
+-- none yet; and those that a tally counts
+abbrev pub none_evacuated : Evacuated
+none_evacuated = record { moved = 0; kept = 0 }
+
+abbrev pub evacuated_in : Tally → Evacuated
+evacuated_in t = record { moved = t.moved; kept = t.kept }

@@ -32,9 +32,10 @@ use Rattle.lxr_core.specs.Executions.{Execution}
 use Rattle.lxr_core.proofs.ClosingLemmas.{given_script}
 use Rattle.lxr_run_history.specs.Left.{last_report}
 use Rattle.lxr_run_history.specs.Sums.{totals_of}
-use Rattle.lxr_run_history.specs.Tally.{HasNumbersOf, counted, tally_of}
+use Rattle.lxr_run_history.specs.Sights.{SeesTo}
+use Rattle.lxr_run_history.specs.Tally.{HasNumbersOf, counted, evacuated_in, tally_of}
 use Rattle.lxr_run_history.proofs.HistoryLemmas.{early_extends, history_extends, owes_extends, was_early}
-use Rattle.lxr_run_history.proofs.SightLemmas.{sees_epoch}
+use Rattle.lxr_run_history.proofs.SightLemmas.{same_evacuated, sees_epoch}
 use Rattle.lxr_run_history.proofs.TallyLemmas.{has_numbers, loads_are, news_are, stores_are}
 use Rattle.lxr_run_history.proofs.ThreadSums.{counted_in, one}
 use Rattle.lxr_run_invariant.specs.LoopInvariant.{HasCome, HasEvacuatedFew, HasMore, HasRunEpoch, HaveActors, HaveEnded, HaveMutators, IsBetweenEpochs, SomeWait, Task, done_of, task_limits, terms_of, threads_of}
@@ -200,8 +201,14 @@ module _ (task : Task) (space mid after : Space) (written : Option (List ℕ)) (
       )
 
   -- it evacuates nothing
+  moved_still : after.tally.moved ≡ space.tally.moved
+  moved_still = ap (λ (t : Tally). t.moved) closes.tally ∙ ap (λ (s : Space). s.tally.moved) mid_is
+
+  kept_still : after.tally.kept ≡ space.tally.kept
+  kept_still = ap (λ (t : Tally). t.kept) closes.tally ∙ ap (λ (s : Space). s.tally.kept) mid_is
+
   evacuated : HasEvacuatedFew after
-  evacuated = evacuated_still space after (ap (λ (t : Tally). t.moved) closes.tally ∙ ap (λ (s : Space). s.tally.moved) mid_is) (ap (λ (t : Tally). t.kept) closes.tally ∙ ap (λ (s : Space). s.tally.kept) mid_is)
+  evacuated = evacuated_still space after moved_still kept_still
       same_limits (ap (λ (s : Space). s.pauses) closes.rest ∙ ap (λ (s : Space). s.pauses) mid_is) amid.come.evacuated
 
   -- a member then was a member before
@@ -220,7 +227,8 @@ module _ (task : Task) (space mid after : Space) (written : Option (List ℕ)) (
     evacuated = evacuated;
     text = subst (Appends task.written written) (sym (told_extends task.options.command task.options.counts (threads_of task) task.options.every h execution.history extends)) amid.come.text;
     places = amid.come.places;
-    sights = sees_epoch (threads_of task) task.options.every h execution.history task.seen seen amid.come.places extends amid.come.sights;
+    sights = sees_epoch (threads_of task) task.options.every h execution.history task.seen seen amid.come.places (evacuated_in after.tally) extends
+        (subst (SeesTo (threads_of task) h task.seen seen amid.come.places) (sym (same_evacuated space.tally after.tally moved_still kept_still)) amid.come.sights);
     kept = λ n member. closes.unmoved n (in_first g.moment.unreclaimed g.moment.made n (still n member)) ∙ amid.come.kept n (still n member);
   }
 

@@ -20,6 +20,8 @@ use Rattle.lxr_core.specs.declared.actors.AnyActor.{AnyActor}
 use Rattle.lxr_core.specs.Actors.{decrementers_in, mutators_in, script_of, tracers_in}
 use Rattle.lxr_core.specs.Resting.{HelpersRest, RestsAfter}
 use Rattle.lxr_graph.specs.declared.Op.{Op}
+use Rattle.lxr_run_history.specs.Sights.{SeesTo}
+use Rattle.lxr_run_history.specs.Tally.{evacuated_in}
 use Rattle.lxr_run_history.proofs.SightLemmas.{sees_none}
 use Rattle.lxr_run_history.proofs.TallyLemmas.{has_numbers}
 use Rattle.lxr_run_invariant.proofs.ActorLemmas.{found}
@@ -96,7 +98,7 @@ between_opened task space g actors some opened are = record {
     evacuated = none_evacuated space (ap (λ (t : Tally). t.moved) opened.tally) (ap (λ (t : Tally). t.kept) opened.tally);
     text = subst (Appends task.written task.written) (sym (told_none task.options.command task.options.counts)) (Appends-nil task.written);
     places = opening_at;
-    sights = sees_none (threads_of task) task.seen;
+    sights = subst (SeesTo (threads_of task) [] task.seen task.seen opening_at) (sym (ap evacuated_in opened.tally)) (sees_none (threads_of task) task.seen);
     kept = λ n member. ap (λ f. f n) opened.at;
   };
   between = opened.between;

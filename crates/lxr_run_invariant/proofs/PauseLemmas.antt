@@ -6,7 +6,7 @@ use Rattle.lxr_layout.specs.declared.Name.{Name}
 use Rattle.lxr_layout.specs.declared.limits.Limits.{Limits}
 use Rattle.lxr_graph.specs.declared.report.Kind.TheVariants as kind
 use Rattle.lxr_graph.specs.History.{Item, Pause, PauseReport, report_of}
-use Rattle.lxr_graph.specs.Names.{has}
+use Rattle.lxr_graph.specs.Names.{IsSetOf, has}
 use Rattle.lxr_image.specs.declared.space.Space.{Space}
 use Rattle.lxr_image.specs.declared.space.Tally.{Tally}
 use Rattle.lxr_model.specs.Kinds.{MayStand}
@@ -31,8 +31,8 @@ use Rattle.lxr_core.specs.Actors.{mutators_in}
 use Rattle.lxr_core.specs.Resting.{RestsAfter}
 use Rattle.lxr_mutator.specs.Mutating.{Mutating}
 use Rattle.lxr_run_history.specs.Left.{StandsAfter}
-use Rattle.lxr_run_history.specs.Sights.{MayMove, SeesTo}
-use Rattle.lxr_run_history.specs.Tally.{HasNumbersOf}
+use Rattle.lxr_run_history.specs.Sights.{CountsEvacuated, MayMove, SeesTo}
+use Rattle.lxr_run_history.specs.Tally.{HasNumbersOf, evacuated_in}
 use Rattle.lxr_run_history.specs.Texts.{told_report, told_text}
 use Rattle.lxr_run_history.proofs.HistoryLemmas.{history_with_pause}
 use Rattle.lxr_run_history.proofs.SightLemmas.{sees_pause}
@@ -199,8 +199,34 @@ module _ (task : Task) (before after : Space) (written : Option (List ℕ)) (see
       by true e = let evacuee = ((pauses.evacuates.moved_are.members n).0 e).0 in inr (evacuee.ends, evacuee.chosen)
       by false e = inl (pauses.relocates.others n (unpromoted (has report.promoted n) refl) e)
 
+  -- what it moved out of Chosen blocks and what it kept there is counted
+  abbrev left : List Name
+  left = abstract_state.moment.unreclaimed
+
+  counted : CountsEvacuated report (sight_of (at_safepoint before)) (sight_of after) left g.at at'
+  counted = record {
+    moved = pauses.moved;
+    kept = pauses.kept;
+    moved_are = record {
+      in_order = pauses.evacuates.moved_are.in_order;
+      members = λ n. (
+        λ e. let (is, moved) = (pauses.evacuates.moved_are.members n).0 e in (is.stays, (is.ends, is.chosen), moved),
+        λ (stays, (ends, chosen), moved). (pauses.evacuates.moved_are.members n).1 (record { ends = ends; stays = stays; chosen = chosen }, moved),
+      );
+    };
+    kept_are = record {
+      in_order = pauses.evacuates.kept_are.in_order;
+      members = λ n. (
+        λ e. let (is, same) = (pauses.evacuates.kept_are.members n).0 e in (is.stays, (is.ends, is.chosen), same),
+        λ (stays, (ends, chosen), same). (pauses.evacuates.kept_are.members n).1 (record { ends = ends; stays = stays; chosen = chosen }, same),
+      );
+    };
+    moved_counted = ap (λ (t : Tally). t.moved) pauses.tally;
+    kept_counted = ap (λ (t : Tally). t.kept) pauses.tally;
+  }
+
   module _ (first : Looks seen amid (sight_of (at_safepoint before))) (second : Looks amid seen' (sight_of after)) where
-    sights : SeesTo (threads_of task) (Pause report ∷ h) task.seen seen' at'
+    sights : SeesTo (threads_of task) (Pause report ∷ h) task.seen seen' at' (evacuated_in after.tally)
     sights = sees_pause (threads_of task) h report task.seen seen amid seen' (sight_of (at_safepoint before)) (sight_of after) come.places at' come.sights first second (record {
       abstract_state = g;
       stands = come.stands;
@@ -211,6 +237,7 @@ module _ (task : Task) (before after : Space) (written : Option (List ℕ)) (see
       between = (after, refl, pauses.between);
       places_are = refl;
       unmoved = λ n was stays. unmoved n was;
+      evacuated = counted;
     })
 
     pub paused_after : (written' : Option (List ℕ)) → Appends written written' (told_report task.options.command task.options.counts report) → IsPaused task after written' seen' h asked
@@ -236,17 +263,18 @@ module _ (task : Task) (before after : Space) (written : Option (List ℕ)) (see
       },
     )
 
-  -- or it was cut off at the report
-  pub cut_off_after : (written' : Option (List ℕ)) → AppendsFront written written' (told_report task.options.command task.options.counts report) → WasCutOff task after written'
-  cut_off_after written' printed = (
-    Pause report ∷ h,
-    record {
-      history = history;
-      text_front = subst (AppendsFront task.written written') (sym (told_pause task.options.command task.options.counts h report))
-          (AppendsFront-after task.written written written' (told_text task.options h) (told_report task.options.command task.options.counts report) come.text printed);
-      left = (abstract_state, record { stands = stands; between = pauses.between; limits = limits ∙ come.limits; tally = tally });
-    },
-  )
+    -- or it was cut off at the report
+    pub cut_off_after : (written' : Option (List ℕ)) → AppendsFront written written' (told_report task.options.command task.options.counts report) → WasCutOff task after written' seen'
+    cut_off_after written' printed = (
+      Pause report ∷ h,
+      record {
+        history = history;
+        text_front = subst (AppendsFront task.written written') (sym (told_pause task.options.command task.options.counts h report))
+            (AppendsFront-after task.written written written' (told_text task.options h) (told_report task.options.command task.options.counts report) come.text printed);
+        left = (abstract_state, record { stands = stands; between = pauses.between; limits = limits ∙ come.limits; tally = tally });
+        sights = (at', sights);
+      },
+    )
 
 -- ---- actors
 

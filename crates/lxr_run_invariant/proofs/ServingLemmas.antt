@@ -43,10 +43,11 @@ use Rattle.lxr_core_sim_mutator.specs.Showing.{IsNew}
 use Rattle.lxr_core_sim_mutator.proofs.NamingLemmas.{named_after}
 use Rattle.lxr_core.specs.Resting.{RestsAfter}
 use Rattle.lxr_core.proofs.ScriptLemmas.{op_is_next}
-use Rattle.lxr_run_history.specs.Tally.{counted}
+use Rattle.lxr_run_history.specs.Sights.{SeesTo}
+use Rattle.lxr_run_history.specs.Tally.{counted, evacuated_in}
 use Rattle.lxr_run_history.proofs.HistoryLemmas.{MayBeCalled, history_with_call, replies_in}
 use Rattle.lxr_run_history.proofs.RoomLemmas.{is_waited_for, may_be_refused, room_cause}
-use Rattle.lxr_run_history.proofs.SightLemmas.{sees_call}
+use Rattle.lxr_run_history.proofs.SightLemmas.{same_evacuated, sees_call}
 use Rattle.lxr_run_history.proofs.TallyLemmas.{has_numbers}
 use Rattle.lxr_run_invariant.specs.LoopInvariant.{HasCome, IsCollectedSince, Task, task_limits, terms_of, threads_of}
 use Rattle.lxr_run_invariant.proofs.TellingLemmas.{told_call}
@@ -152,7 +153,8 @@ come_with_new task before after written seen t h g name dest shape place come ca
       (ap (λ (s : Space). s.pauses) serves.others) come.evacuated;
   text = subst (Appends task.written written) (sym (told_call task.options.command task.options.counts t (op.New dest shape) (reply.New name) h)) come.text;
   places = come.places;
-  sights = sees_call (threads_of task) h t (op.New dest shape) (reply.New name) task.seen seen come.places come.sights;
+  sights = sees_call (threads_of task) h t (op.New dest shape) (reply.New name) task.seen seen come.places (evacuated_in after.tally)
+      (subst (SeesTo (threads_of task) h task.seen seen come.places) (sym (same_evacuated before.tally after.tally (ap (λ (s : Space). s.tally.moved) serves.others) (ap (λ (s : Space). s.tally.kept) serves.others))) come.sights);
   kept = λ n member. placed_other g.at name n place.0 (free n member) ∙ come.kept n member;
 }
 
@@ -195,7 +197,7 @@ come_refused task space written seen t m h g dest shape may is full =
       evacuated = come.evacuated;
       text = subst (Appends task.written written) (sym (told_call task.options.command task.options.counts t (op.New dest shape) reply.Full h)) come.text;
       places = come.places;
-      sights = sees_call (threads_of task) h t (op.New dest shape) reply.Full task.seen seen come.places come.sights;
+      sights = sees_call (threads_of task) h t (op.New dest shape) reply.Full task.seen seen come.places (evacuated_in space.tally) come.sights;
       kept = come.kept;
     }
 

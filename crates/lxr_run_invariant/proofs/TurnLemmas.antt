@@ -33,7 +33,8 @@ use Rattle.lxr_run_pause.specs.declared.Ask.TheVariants as ask
 use Rattle.lxr_run_serve.specs.Serving.{KeepsHelpers, NewsWait}
 use Rattle.lxr_run_serve.proofs.FitLemmas.{set_each}
 use Rattle.lxr_run_serve.proofs.MutatorLemmas.{AnswersWith, answers_with, with_registers}
-use Rattle.lxr_run_history.specs.Tally.{HasNumbersOf}
+use Rattle.lxr_run_history.specs.Sights.{SeesTo}
+use Rattle.lxr_run_history.specs.Tally.{HasNumbersOf, evacuated_in}
 use Rattle.lxr_run_history.proofs.HistoryLemmas.{promise_kept, since_call, was_early}
 use Rattle.lxr_run_invariant.specs.LoopInvariant.{HasCome, HasMore, HasPaused, HasRunEpoch, HaveMutators, IsAskedRight, IsBetweenEpochs, IsCollectedSince, IsPauseDue, IsServing, OwesNone, OwesOne, SomeWait, Task, asked_by, done_of, task_limits, terms_of, threads_of}
 use Rattle.lxr_run_invariant.specs.Laws.{ListsAnew, RunsGoOn}
@@ -340,7 +341,7 @@ come_listed task before after written seen h g come lists = record {
   evacuated = evacuated_still before after (ap (λ (t : Tally). t.moved) lists.tally) (ap (λ (t : Tally). t.kept) lists.tally) lists.limits lists.pauses come.evacuated;
   text = come.text;
   places = come.places;
-  sights = come.sights;
+  sights = subst (SeesTo (threads_of task) h task.seen seen come.places) (sym (ap evacuated_in lists.tally)) come.sights;
   kept = come.kept;
 }
 

@@ -33,7 +33,7 @@ use Rattle.lxr_words.specs.declared.Options.{Options}
 use Rattle.lxr_run_history.specs.Left.{IsLeftBy, StandsAfter, run_limits}
 use Rattle.lxr_run_history.specs.Run.{IsHistoryOf, script_terms}
 use Rattle.lxr_run_history.specs.Sights.{SamePlaces, Sees, SeesTo}
-use Rattle.lxr_run_history.specs.Tally.{HasNumbersOf}
+use Rattle.lxr_run_history.specs.Tally.{Evacuated, HasNumbersOf, evacuated_in}
 use Rattle.lxr_run_history.specs.Texts.{told_text}
 
 -- What a run begins with: its options and script, and what was written and seen before it, where it is told.
@@ -75,7 +75,7 @@ pub record HasCome (task : Task) (space : Space) (written : Option (List ℕ)) (
   pub evacuated : HasEvacuatedFew space
   pub text : Appends task.written written (told_text task.options h)
   pub places : Name → ℕ
-  pub sights : SeesTo (threads_of task) h task.seen seen places
+  pub sights : SeesTo (threads_of task) h task.seen seen places (evacuated_in space.tally)
   pub kept : SamePlaces g.moment.unreclaimed places g.at
 
 -- the numbers of a run are far from the ends of their types
@@ -218,35 +218,39 @@ pub record IsServing (task : Task) (space : Space) (written : Option (List ℕ))
   -- something was done, or all wait that did
   pub progress : (done_of before < done_of mutators) ⊎ (mutators ≡ before)
 
--- a run that was cut off at a report: a front of the reports of a history so far was written, and the space is left by it
-pub record WasCutOffAt (task : Task) (space : Space) (written : Option (List ℕ)) (h : List Item) : Type 0 where
+-- A run that was cut off at a report: a prefix of the reports of a history so far was written, the space is left by it, and the watch has seen
+-- all its pauses.
+pub record WasCutOffAt (task : Task) (space : Space) (written : Option (List ℕ)) (seen : Option (List Sight)) (h : List Item) : Type 0 where
   pub history : IsHistorySoFar (terms_of task) task.script h
   pub text_front : AppendsFront task.written written (told_text task.options h)
   pub left : IsLeftBy task.options (threads_of task) h space
+  pub sights : Sees (threads_of task) h task.seen seen (evacuated_in space.tally)
 
-abbrev pub WasCutOff : Task → Space → Option (List ℕ) → Type 0
-WasCutOff task space written = (h : List Item) × WasCutOffAt task space written h
+abbrev pub WasCutOff : Task → Space → Option (List ℕ) → Option (List Sight) → Type 0
+WasCutOff task space written seen = (h : List Item) × WasCutOffAt task space written seen h
 
--- a run that lost its space, since no memory was left as an epoch was to begin: the reports so far were written
-pub record WasLostAt (task : Task) (space : Space) (written : Option (List ℕ)) (h : List Item) : Type 0 where
+-- a run that lost its space, since no memory was left as an epoch was to begin: the reports so far were written, and their pauses seen
+pub record WasLostAt (task : Task) (space : Space) (written : Option (List ℕ)) (seen : Option (List Sight)) (h : List Item) : Type 0 where
   pub history : IsHistorySoFar (terms_of task) task.script h
   pub text : Appends task.written written (told_text task.options h)
   pub gone : space.words ≡ []
+  pub evacuated : Evacuated
+  pub sights : Sees (threads_of task) h task.seen seen evacuated
 
-abbrev pub WasLost : Task → Space → Option (List ℕ) → Type 0
-WasLost task space written = (h : List Item) × WasLostAt task space written h
+abbrev pub WasLost : Task → Space → Option (List ℕ) → Option (List Sight) → Type 0
+WasLost task space written seen = (h : List Item) × WasLostAt task space written seen h
 
 -- a run that a fault of writing stopped was cut off; one that want of memory stopped was cut off, or lost its space
-abbrev pub WasStopped : WriteError → Task → Space → Option (List ℕ) → Type 0
-WasStopped error.Fault task space written = WasCutOff task space written
-WasStopped error.Memory task space written = WasCutOff task space written ⊎ WasLost task space written
+abbrev pub WasStopped : WriteError → Task → Space → Option (List ℕ) → Option (List Sight) → Type 0
+WasStopped error.Fault task space written seen = WasCutOff task space written seen
+WasStopped error.Memory task space written seen = WasCutOff task space written seen ⊎ WasLost task space written seen
 
 -- all operations and ends are done, and the last pause is made
 pub record HasRunTo (task : Task) (space : Space) (written : Option (List ℕ)) (seen : Option (List Sight)) (actors : List AnyActor) (h : List Item) : Type 0 where
   pub history : IsHistoryOf task.options task.script h
   pub left : IsLeftBy task.options (threads_of task) h space
   pub text : Appends task.written written (told_text task.options h)
-  pub sights : Sees (threads_of task) h task.seen seen
+  pub sights : Sees (threads_of task) h task.seen seen (evacuated_in space.tally)
   pub actors_rest : HaveActors task h actors
 
 abbrev pub HasRun : Task → Space → Option (List ℕ) → Option (List Sight) → List AnyActor → Type 0

@@ -181,8 +181,10 @@ module _ (task : Task) (space : Space) (written : Option (List ℕ)) (seen : Opt
             opened = opened;
             started = started;
             opens = opens;
-            events = on.events;
-            scheduled = on.scheduled;
+            gone = gone;
+            moved = moved;
+            on = on;
+            closes = closes;
             history = refl;
           };
           totals = totals;

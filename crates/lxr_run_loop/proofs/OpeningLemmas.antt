@@ -41,7 +41,8 @@ use Rattle.lxr_run_invariant.specs.LoopInvariant.{Task, task_limits, threads_of}
 use Rattle.lxr_run_invariant.proofs.OpeningLemmas.{between_opened}
 use Rattle.lxr_run_loop.specs.Courses.{AreTotals}
 use Rattle.lxr_run_loop.specs.Drawing.{at_opening}
-use Rattle.lxr_run_loop.specs.Opening.{AreMade, IsOpenedRun, MutatorsAreMade}
+use Rattle.lxr_run_loop.specs.Made.{AreMade, MutatorsAreMade}
+use Rattle.lxr_run_loop.specs.Opening.{IsOpenedRun}
 
 -- ---- a mutator as it is made
 
@@ -304,4 +305,4 @@ opened_run options script limits space actors same ranges is made opened between
       tracers = tracers_made limits options.every options.workers options.workers task.script actors made;
       few = ranges.workers.1;
     }) in
-    ([], opening_abstract_state limits.threads, between_epochs, at_opening, none_told space)
+    ([], opening_abstract_state limits.threads, between_epochs, at_opening space actors (subst (IsOpened space) of_task opened) (subst (λ l. AreMade l options.every options.workers options.workers task.script actors) of_task made), none_told space)

@@ -121,12 +121,12 @@ module _ (task : Task) (space : Space) (written written' : Option (List ℕ)) (s
       ∙ text_by_command task space written seen actors h run task.options.command
 
   -- a run whose end was printed
-  pub printed_whole : IsDrawn task h course.generator → Appends written written' (last_by command (mutators_in actors) space sums) → IsPrinted task space written' seen
+  pub printed_whole : IsDrawn task h course.generator space actors → Appends written written' (last_by command (mutators_in actors) space sums) → IsPrinted task space written' seen
   printed_whole drawn text = record {
     history = h;
     run = run.history;
     last = course.generator;
-    drawn = drawn;
+    drawn = (actors, drawn);
     text = subst (Appends task.written written') whole_text
         (Appends-append task.written written written' (told_text task.options h) (last_by command (mutators_in actors) space sums) run.text text);
     space_left = run.left;
@@ -134,13 +134,14 @@ module _ (task : Task) (space : Space) (written written' : Option (List ℕ)) (s
   }
 
   -- one whose end was cut off
-  pub printed_front : AppendsFront written written' (last_by command (mutators_in actors) space sums) → IsPartlyPrinted task space written'
+  pub printed_front : AppendsFront written written' (last_by command (mutators_in actors) space sums) → IsPartlyPrinted task space written' seen
   printed_front text = record {
     history = h;
     run = run.history;
     text_front = subst (AppendsFront task.written written') whole_text
         (AppendsFront-after task.written written written' (told_text task.options h) (last_by command (mutators_in actors) space sums) run.text text);
     space_left = run.left;
+    sights = run.sights;
   }
 
 -- ---- results

@@ -21,6 +21,7 @@ use Rattle.lxr_core.specs.declared.actors.AnyActor.TheVariants as any
 use Rattle.lxr_core.specs.Actors.{mutators_in, script_of}
 use Rattle.lxr_run_history.specs.declared.totals.Totals.{Totals}
 use Rattle.lxr_run_history.specs.Sums.{totals_of, with_report}
+use Rattle.lxr_run_history.specs.Tally.{evacuated_in}
 use Rattle.lxr_run_invariant.specs.LoopInvariant.{HasMore, HasPaused, HasRunEpoch, HaveActors, HaveEnded, HaveMutators, IsBetweenEpochs, Task, WasCutOff, WasStopped, asked_by, done_of, left_of, terms_of}
 use Rattle.lxr_run_invariant.proofs.ActorLemmas.{are_within, done_and_left, ends_are_all, ends_are_fewer, steps_of}
 use Rattle.lxr_run_invariant.proofs.KindLemmas.{asked_right}
@@ -140,14 +141,14 @@ told_at_err P (Ok x) holds each = tt
 told_at_err P (Err why) holds each = each why holds
 
 -- whatever stopped it where a report was written cut it off
-pub cut_off_by : (why : WriteError) (task : Task) (space : Space) (written : Option (List ℕ)) → WasCutOff task space written → WasStopped why task space written
-cut_off_by error.Fault task space written cut = cut
-cut_off_by error.Memory task space written cut = inl cut
+pub cut_off_by : (why : WriteError) (task : Task) (space : Space) (written : Option (List ℕ)) (seen : Option (List Sight)) → WasCutOff task space written seen → WasStopped why task space written seen
+cut_off_by error.Fault task space written seen cut = cut
+cut_off_by error.Memory task space written seen cut = inl cut
 
 -- a run between two epochs that lost its space had written its reports so far
 pub lost_at : (task : Task) (before after : Space) (written : Option (List ℕ)) (seen : Option (List Sight)) (actors : List AnyActor) (h : List Item) (g : AbstractState) → IsBetweenEpochs task before written seen actors h g
-    → after.words ≡ [] → WasStopped error.Memory task after written
-lost_at task before after written seen actors h g amid gone = inr (h, record { history = amid.come.history; text = amid.come.text; gone = gone })
+    → after.words ≡ [] → WasStopped error.Memory task after written seen
+lost_at task before after written seen actors h g amid gone = inr (h, record { history = amid.come.history; text = amid.come.text; gone = gone; evacuated = evacuated_in before.tally; sights = (amid.come.places, amid.come.sights) })
 
 -- ---- by whether all have ended
 

@@ -12,6 +12,8 @@ use Rattle.lxr_core.specs.Actors.{mutators_in}
 use Rattle.lxr_core.proofs.OrderLemmas.{lengths_add}
 use Rattle.lxr_run_pause.specs.declared.Ask.{Ask}
 use Rattle.lxr_run_pause.specs.declared.Ask.TheVariants as ask
+use Rattle.lxr_run_pause.specs.Pausing.{Pauses}
+use Rattle.lxr_run_serve.specs.Listing.{ListsAll}
 use Rattle.lxr_run_serve.specs.Serving.{KeepsHelpers}
 use Rattle.lxr_run_watch.specs.Sights.{Sight}
 use Rattle.lxr_words.specs.declared.Options.{Options}
@@ -21,20 +23,20 @@ use Rattle.lxr_run_invariant.specs.LoopInvariant.{FitsCounts, HasPaused, IsBetwe
 use Rattle.lxr_run_invariant.specs.Laws.{ListsAnew}
 use Rattle.lxr_run_invariant.proofs.ActorLemmas.{as_many, left_less}
 use Rattle.lxr_run_invariant.proofs.EndLemmas.{run_to}
-use Rattle.lxr_run_invariant.proofs.PauseLemmas.{counts_fit}
+use Rattle.lxr_run_invariant.proofs.PauseLemmas.{can_pause, counts_fit}
 use Rattle.lxr_run_invariant.proofs.TurnLemmas.{runs_go_on}
 use Rattle.lxr_run_loop.specs.Answering.{AnswersWaiting}
 use Rattle.lxr_run_loop.specs.Courses.{AreFew}
-use Rattle.lxr_run_loop.specs.Drawing.{IsDrawn, by_answers, by_epoch}
-use Rattle.lxr_run_loop.specs.Pausing.{HasComeToPause}
+use Rattle.lxr_run_loop.specs.Drawing.{IsDrawn, by_answers, by_epoch, by_listing}
+use Rattle.lxr_run_loop.specs.Pausing.{HasComeToPause, MakesPause, PausesBehind, with_logs_counted}
 use Rattle.lxr_run_loop.specs.Progress.{HasMadeEpoch, IsNearer, IsThere, NoneGoesOn, actor_collected}
 use Rattle.lxr_run_loop.specs.Serving.{BeginsServing}
 use Rattle.lxr_run_loop.proofs.ProgressLemmas.{asks_right, comes, has_more, have_all_ended, left_no_more, not_told, totals_paused}
-use Rattle.lxr_run_loop.proofs.ServeLemmas.{begins_serving, collects_right}
+use Rattle.lxr_run_loop.proofs.ServeLemmas.{begins_serving}
 
 -- of a run that has made an epoch, with what was found of its actors, and what its pause is asked for
 module _ (task : Task) (options : Options) (with_options : task.options ≡ options) (space after : Space) (written : Option (List ℕ)) (seen : Option (List Sight)) (before actors : List AnyActor) (h : List Item) (g : AbstractState)
-    (x x' : Option ℕ) (amid : IsBetweenEpochs task space written seen before h g) (drawn : IsDrawn task h x) (made : HasMadeEpoch task space after written seen before actors h x x')
+    (x x' : Option ℕ) (amid : IsBetweenEpochs task space written seen before h g) (drawn : IsDrawn task h x space before) (made : HasMadeEpoch task space after written seen before actors h x x')
     (ended collects : Bool) (asked : Ask) (means : IsTrue ended ↔ All NoneGoesOn actors) (shall : collects ≡ (ended || list_any actor_collected actors)) (is : asked ≡ asked_by collects) where
   -- its pause is asked right
   right : (asked ≡ ask.Collect) ↔ MustCollect (terms_of task) made.history
@@ -74,11 +76,28 @@ module _ (task : Task) (options : Options) (with_options : task.options ≡ opti
       let tracers = ap length keeps.tracers in
       omega arith
 
-  module _ (then : Space) (written' : Option (List ℕ)) (seen' : Option (List Sight)) (report : PauseReport) (g' : AbstractState) (paused : HasPaused task then written' seen' made.history asked report g')
+  module _ (then : Space) (written' : Option (List ℕ)) (seen' : Option (List Sight)) (report : PauseReport) (g' : AbstractState) (paused : HasPaused task then written' seen' made.history asked report g') (made_pause : MakesPause asked (pace_of options) after then)
       (totals totals' : Totals) (are : totals ≡ totals_of h) (told : totals' ≡ with_report totals (report_of then.report)) where
+    -- its report is that of the space then
+    report_is : report_of then.report ≡ report
+    report_is = paused.come.safepoint.numbers.report ∙ paused.come.stands.reported
+
+    -- it was made behind the history of the epoch
+    pauses_behind : PausesBehind task asked made.history after then
+    pauses_behind =
+        let can = can_pause task after written seen made.history made.abstract_state made.ran.come pause_fits in
+        let (at', pauses) = made_pause made.abstract_state can in
+        record {
+          abstract_state = made.abstract_state;
+          stands = made.ran.come.stands;
+          can = can;
+          places = at';
+          pauses = subst (λ o. Pauses (with_logs_counted after) then made.abstract_state at' asked (pace_of o)) (sym with_options) pauses;
+        }
+
     -- the history with it is drawn
-    drawn_on : IsDrawn task (Pause report ∷ made.history) x'
-    drawn_on = by_epoch h made.history x x' space before report drawn made.makes (collects_right task made.history asked report paused.collects right)
+    drawn_on : IsDrawn task (Pause report ∷ made.history) x' then actors
+    drawn_on = subst (λ r. IsDrawn task (Pause r ∷ made.history) x' then actors) report_is (by_epoch h made.history x x' space after then before actors asked drawn made.makes right pauses_behind)
 
     -- and the totals are those of the history with it
     pub totals_on : totals' ≡ totals_of (Pause report ∷ made.history)
@@ -104,17 +123,19 @@ module _ (task : Task) (options : Options) (with_options : task.options ≡ opti
     -- and once all are answered, and lists are made anew, the run is between epochs again
     pub goes_on : (e : ended ≡ false) → then.pauses ≡ after.pauses + 1 → (full again : Space) (written'' : Option (List ℕ)) (seen'' : Option (List Sight)) (answered : List AnyActor) (collected served : Bool) (k : List Item) (g'' : AbstractState)
         → IsServing task full written'' seen'' (mutators_in actors) then.pauses collected (mutators_in answered) (length (mutators_in answered)) served k g''
-        → AnswersWaiting (pace_of options) collects (mutators_in actors) then (Pause report ∷ made.history) (mutators_in answered) full k → KeepsHelpers actors answered → ListsAnew full again g''
+        → AnswersWaiting (pace_of options) collects (mutators_in actors) then (Pause report ∷ made.history) (mutators_in answered) full k → KeepsHelpers actors answered → ListsAnew full again g'' → ListsAll full again
         → (totals'' : Totals) → totals'' ≡ totals_of k → AreFew totals'' full.pauses → IsNearer task again written'' seen'' before answered (record { generator = x'; totals = totals'' })
-    goes_on e one full again written'' seen'' answered collected served k g'' serving answers keeps lists totals'' sums few =
+    goes_on e one full again written'' seen'' answered collected served k g'' serving answers keeps lists lists_all totals'' sums few =
         let anew = runs_go_on task after full again written written'' seen seen'' before actors answered then.pauses (length (mutators_in answered)) collected served made.history k made.abstract_state g'' made.ran one serving refl keeps lists in
         record {
           under_way = (
             k,
             g'',
             anew.amid,
-            by_answers (Pause report ∷ made.history) k x' g' collects (mutators_in actors) (mutators_in answered) then full written' seen' drawn_on (begun e)
-                (subst (λ o. AnswersWaiting (pace_of o) collects (mutators_in actors) then (Pause report ∷ made.history) (mutators_in answered) full k) (sym with_options) answers),
+            by_listing k x' full again answered
+                (by_answers (Pause report ∷ made.history) k x' g' collects then full actors answered written' seen' drawn_on (begun e)
+                (subst (λ o. AnswersWaiting (pace_of o) collects (mutators_in actors) then (Pause report ∷ made.history) (mutators_in answered) full k) (sym with_options) answers) keeps)
+                lists_all,
             record { are = sums; few = subst (AreFew totals'') (sym lists.pauses) few },
           );
           less = left_less task h k (mutators_in before) (mutators_in answered) amid.actors_rest.mutators anew.amid.actors_rest.mutators anew.more;

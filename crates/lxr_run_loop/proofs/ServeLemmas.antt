@@ -38,11 +38,6 @@ asked_by_it : (collected : Bool) → (asked_by collected ≡ ask.Collect) ↔ Is
 asked_by_it true = (λ e. refl, λ e. refl)
 asked_by_it false = (λ e. absurd (cc), λ e. absurd (cc))
 
--- so one that is asked to exactly where it must collects exactly there
-pub collects_right : (task : Task) (h : List Item) (asked : Ask) (report : PauseReport) → (report.kind ≡ kind.Collect) ↔ (asked ≡ ask.Collect) → (asked ≡ ask.Collect) ↔ MustCollect (terms_of task) h
-    → (report.kind ≡ kind.Collect) ↔ MustCollect (terms_of task) h
-collects_right task h asked report does right = (λ e. right.0 (does.0 e), λ must. does.1 (right.1 must))
-
 -- behind the pause of an epoch serving begins
 pub begins_serving : (task : Task) (space : Space) (written : Option (List ℕ)) (seen : Option (List Sight)) (mutators : List Mutating) (h : List Item) (asked : Ask) (collected : Bool) (report : PauseReport) (g : AbstractState)
     → HaveMutators task h mutators → NewsWait mutators → HasMore mutators → asked ≡ asked_by collected → (asked ≡ ask.Collect) ↔ MustCollect (terms_of task) h → HasPaused task space written seen h asked report g

@@ -1,8 +1,8 @@
--- That a run's history is the one that its epochs and pauses make; with a generator, the one that it draws.
+-- That a run's history is the one that its epochs and pauses make from one space; with a generator, the one that it draws.
 use Rattle.std.specs.Prelude.{◌≡◌, ◌↔◌, ℕ, ⊤, Bool, Option, Some, None, List, [], ◌∷◌, is_some, map, length, slice_get}
-use Rattle.lxr_graph.specs.declared.report.Kind.TheVariants as kind
-use Rattle.lxr_graph.specs.History.{Item, Pause, PauseReport}
+use Rattle.lxr_graph.specs.History.{Item, Pause, report_of}
 use Rattle.lxr_image.specs.declared.space.Space.{Space}
+use Rattle.lxr_image.specs.Opened.{IsOpened}
 use Rattle.lxr_model.specs.Kinds.{MustCollect}
 use Rattle.lxr_invariant.specs.AbstractState.{AbstractState}
 use Rattle.lxr_invariant.specs.Listed.{FreeBlocksAreListed}
@@ -13,13 +13,19 @@ use Rattle.lxr_actor.specs.Run.{core_of, run}
 use Rattle.lxr_core.specs.declared.actors.AnyActor.{AnyActor}
 use Rattle.lxr_mutator.specs.Mutating.{IsWaiting, Mutating}
 use Rattle.lxr_core.specs.Actors.{any_machine, decrementers_in, mutators_in, script_of, tracers_in}
-use Rattle.lxr_core.specs.Closing.{AreFinished, AreResting}
+use Rattle.lxr_core.specs.Closing.{AreFinished, AreResting, Closes}
 use Rattle.lxr_core.specs.Executions.{tell_all}
 use Rattle.lxr_core.specs.Opening.{Begins, Opens, execution_at}
+use Rattle.lxr_run_pause.specs.declared.Ask.{Ask}
+use Rattle.lxr_run_pause.specs.declared.Ask.TheVariants as ask
+use Rattle.lxr_run_serve.specs.Listing.{ListsAll}
+use Rattle.lxr_run_serve.specs.Serving.{KeepsHelpers}
 use Rattle.lxr_run_replay.specs.Replaying.{Replays}
-use Rattle.lxr_run_invariant.specs.LoopInvariant.{Task, pace_of, terms_of}
+use Rattle.lxr_run_invariant.specs.LoopInvariant.{Task, pace_of, task_limits, terms_of}
 use Rattle.lxr_run_invariant.specs.Laws.{beginning_of}
 use Rattle.lxr_run_watch.specs.Sights.{Sight}
+use Rattle.lxr_run_loop.specs.Made.{AreMade}
+use Rattle.lxr_run_loop.specs.Pausing.{PausesBehind}
 use Rattle.lxr_run_loop.specs.Answering.{AnswersWaiting}
 use Rattle.lxr_run_loop.specs.Serving.{BeginsServing}
 
@@ -42,9 +48,10 @@ pub record GoesOn (before after : Space) (actors actors' : List AnyActor) (x x' 
   pub rest : after ≡ record before { words = after.words }
 
 -- An epoch of this space and these actors, behind a history h, was made: all free blocks were listed and no `new` waited, the mutators have
--- the operations of the task, and there are as many decrementers as its options ask for, and as many tracers. From its opening on these events came, in this order, and have led to
--- the history h', and the generator from x to x'.
-pub record MakesEpoch (task : Task) (space : Space) (actors : List AnyActor) (h : List Item) (x : Option ℕ) (h' : List Item) (x' : Option ℕ) : Type 0 where
+-- the operations of the task, and there are as many decrementers as its options ask for, and as many tracers. It was opened, its actors went
+-- on, the generator from x to x', and it was closed. What came in it, in this order, has led to the history h', and to this space and these
+-- actors.
+pub record MakesEpoch (task : Task) (space : Space) (actors : List AnyActor) (h : List Item) (x : Option ℕ) (closed : Space) (actors' : List AnyActor) (h' : List Item) (x' : Option ℕ) : Type 0 where
   pub script : script_of (mutators_in actors) ≡ task.script
   pub workers : length (decrementers_in actors) ≡ task.options.workers
   pub tracers : length (tracers_in actors) ≡ task.options.workers
@@ -55,16 +62,27 @@ pub record MakesEpoch (task : Task) (space : Space) (actors : List AnyActor) (h 
   pub opened : Space
   pub started : List AnyActor
   pub opens : Opens space opened actors started
-  pub events : List Event
-  pub scheduled : IsScheduled (is_some opened.trace) x (core_of opened.words started) events x'
-  pub history : h' ≡ (tell_all (beginning_of task space h abstract_state) (execution_at (beginning_of task space h abstract_state) opened started) events).history
+  pub gone : Space
+  pub moved : List AnyActor
+  pub on : GoesOn opened gone started moved x x'
+  pub closes : Closes (beginning_of task space h abstract_state) (tell_all (beginning_of task space h abstract_state) (execution_at (beginning_of task space h abstract_state) opened started) on.events) gone closed actors'
+  pub history : h' ≡ (tell_all (beginning_of task space h abstract_state) (execution_at (beginning_of task space h abstract_state) opened started) on.events).history
 
 -- The history of a run, whose generator begins with the number that the options give, if they give one, and goes on from epoch to epoch:
--- behind this history it has come to x. One pause stands behind each epoch, which collects exactly where it must; it and the answers
--- behind it draw nothing.
-pub data IsDrawn (task : Task) : List Item → Option ℕ → Type 0 where
-  at_opening : IsDrawn task [] task.options.replay
-  by_epoch : (h h' : List Item) (x x' : Option ℕ) (space : Space) (actors : List AnyActor) (report : PauseReport) → IsDrawn task h x → MakesEpoch task space actors h x h' x'
-      → (report.kind ≡ kind.Collect) ↔ MustCollect (terms_of task) h' → IsDrawn task (Pause report ∷ h') x'
-  by_answers : (h h' : List Item) (x : Option ℕ) (g : AbstractState) (collected : Bool) (mutators mutators' : List Mutating) (space space' : Space) (written : Option (List ℕ)) (seen : Option (List Sight)) → IsDrawn task h x
-      → BeginsServing task space written seen collected mutators h g → AnswersWaiting (pace_of task.options) collected mutators space h mutators' space' h' → IsDrawn task h' x
+-- behind this history it has come to x, and the run to this space and these actors. It begins with an opened space and actors as they are
+-- made. One pause stands behind each epoch, which collects exactly where it must; what waits is answered behind it, with more pauses where
+-- room is wanted; then runs and free blocks are listed for the next epoch. Epochs alone draw from the generator, and what one of these
+-- steps leaves is what the next one begins with.
+pub data IsDrawn (task : Task) : List Item → Option ℕ → Space → List AnyActor → Type 0 where
+  at_opening : (space : Space) (actors : List AnyActor) → IsOpened space (task_limits task) → AreMade (task_limits task) task.options.every task.options.workers task.options.workers task.script actors
+      → IsDrawn task [] task.options.replay space actors
+  by_epoch : (h h' : List Item) (x x' : Option ℕ) (space closed paused : Space) (actors actors' : List AnyActor) (asked : Ask) → IsDrawn task h x space actors → MakesEpoch task space actors h x closed actors' h' x'
+      → (asked ≡ ask.Collect) ↔ MustCollect (terms_of task) h' → PausesBehind task asked h' closed paused → IsDrawn task (Pause (report_of paused.report) ∷ h') x' paused actors'
+  by_answers : (h h' : List Item) (x : Option ℕ) (g : AbstractState) (collected : Bool) (space space' : Space) (actors actors' : List AnyActor) (written : Option (List ℕ)) (seen : Option (List Sight)) → IsDrawn task h x space actors
+      → BeginsServing task space written seen collected (mutators_in actors) h g → AnswersWaiting (pace_of task.options) collected (mutators_in actors) space h (mutators_in actors') space' h' → KeepsHelpers actors actors'
+      → IsDrawn task h' x space' actors'
+  by_listing : (h : List Item) (x : Option ℕ) (space space' : Space) (actors : List AnyActor) → IsDrawn task h x space actors → ListsAll space space' → IsDrawn task h x space' actors
+
+-- so it has come to this space, whatever its actors are
+abbrev pub IsDrawnTo : Task → List Item → Option ℕ → Space → Type 0
+IsDrawnTo task h x space = (actors : List AnyActor) × IsDrawn task h x space actors

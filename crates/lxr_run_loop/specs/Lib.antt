@@ -1,4 +1,5 @@
 pub mod Courses
+pub mod Made
 pub mod Opening
 pub mod Pausing
 pub mod Answering

@@ -11,10 +11,11 @@ use Rattle.lxr_run_history.specs.Left.{IsLeftBy}
 use Rattle.lxr_run_history.specs.Run.{IsHistoryOf}
 use Rattle.lxr_run_history.specs.Texts.{run_text}
 use Rattle.lxr_run_history.specs.Sights.{Sees}
+use Rattle.lxr_run_history.specs.Tally.{evacuated_in}
 use Rattle.lxr_text_stream.specs.declared.transfer.WriteError.{WriteError}
 use Rattle.lxr_run_invariant.specs.LoopInvariant.{Task, WasStopped, threads_of}
 use Rattle.lxr_run_loop.specs.declared.course.Course.{Course}
-use Rattle.lxr_run_loop.specs.Drawing.{IsDrawn}
+use Rattle.lxr_run_loop.specs.Drawing.{IsDrawnTo}
 use Rattle.lxr_run_loop.specs.Progress.{IsComplete}
 
 -- some run with these options is complete, and its reports have these totals
@@ -27,28 +28,29 @@ pub record IsPrinted (task : Task) (space : Space) (written : Option (List ℕ))
   pub history : List Item
   pub run : IsHistoryOf task.options task.script history
   pub last : Option ℕ
-  pub drawn : IsDrawn task history last
+  pub drawn : IsDrawnTo task history last space
   pub text : Appends task.written written (run_text task.options (threads_of task) history space)
   pub space_left : IsLeftBy task.options (threads_of task) history space
-  pub sights : Sees (threads_of task) history task.seen seen
+  pub sights : Sees (threads_of task) history task.seen seen (evacuated_in space.tally)
 
--- a front of the text of a whole history was written
-pub record IsPartlyPrinted (task : Task) (space : Space) (written : Option (List ℕ)) : Type 0 where
+-- a prefix of the text of a whole history was written
+pub record IsPartlyPrinted (task : Task) (space : Space) (written : Option (List ℕ)) (seen : Option (List Sight)) : Type 0 where
   pub history : List Item
   pub run : IsHistoryOf task.options task.script history
   pub text_front : AppendsFront task.written written (run_text task.options (threads_of task) history space)
   pub space_left : IsLeftBy task.options (threads_of task) history space
+  pub sights : Sees (threads_of task) history task.seen seen (evacuated_in space.tally)
 
 -- the whole text of each such run was written
 abbrev pub AllArePrinted : Options → Space → Option (List ℕ) → List AnyActor → Totals → Option (List ℕ) → Type 0
 AllArePrinted options space written actors totals written' =
     (task : Task) → task.options ≡ options → (seen : Option (List Sight)) (course : Course) → course.totals ≡ totals → IsComplete task space written seen actors course → IsPrinted task space written' seen
 
--- a front of it was
+-- a prefix of it was
 abbrev pub AllArePartlyPrinted : Options → Space → Option (List ℕ) → List AnyActor → Totals → Option (List ℕ) → Type 0
 AllArePartlyPrinted options space written actors totals written' =
-    (task : Task) → task.options ≡ options → (seen : Option (List Sight)) (course : Course) → course.totals ≡ totals → IsComplete task space written seen actors course → IsPartlyPrinted task space written'
+    (task : Task) → task.options ≡ options → (seen : Option (List Sight)) (course : Course) → course.totals ≡ totals → IsComplete task space written seen actors course → IsPartlyPrinted task space written' seen
 
 -- the run was stopped for this cause: at a report, at an epoch, or at what it prints last
-abbrev pub IsCutShort : WriteError → Task → Space → Option (List ℕ) → Type 0
-IsCutShort why task space written = WasStopped why task space written ⊎ IsPartlyPrinted task space written
+abbrev pub IsCutShort : WriteError → Task → Space → Option (List ℕ) → Option (List Sight) → Type 0
+IsCutShort why task space written seen = WasStopped why task space written seen ⊎ IsPartlyPrinted task space written seen

@@ -38,7 +38,7 @@ actor_collected (any.Tracer d) = false
 -- the run is between two epochs, and has come so far in its course
 abbrev pub IsUnderWay : Task → Space → Option (List ℕ) → Option (List Sight) → List AnyActor → Course → Type 0
 IsUnderWay task space written seen actors course =
-    (h : List Item) × (g : AbstractState) × IsBetweenEpochs task space written seen actors h g × IsDrawn task h course.generator × AreTotals course.totals space h
+    (h : List Item) × (g : AbstractState) × IsBetweenEpochs task space written seen actors h g × IsDrawn task h course.generator space actors × AreTotals course.totals space h
 
 -- some run with these options is
 abbrev pub SomeIsUnderWay : Options → Space → Option (List ℕ) → Option (List Sight) → List AnyActor → Course → Type 0
@@ -47,12 +47,12 @@ SomeIsUnderWay options space written seen actors course = (task : Task) × (task
 -- all threads have ended, the last pause is made, and the run has come so far in its course
 abbrev pub IsComplete : Task → Space → Option (List ℕ) → Option (List Sight) → List AnyActor → Course → Type 0
 IsComplete task space written seen actors course =
-    (h : List Item) × HasRunTo task space written seen actors h × IsDrawn task h course.generator × (course.totals ≡ totals_of h)
+    (h : List Item) × HasRunTo task space written seen actors h × IsDrawn task h course.generator space actors × (course.totals ≡ totals_of h)
 
 -- each run with these options that was under way so was stopped for this cause
-abbrev pub IsStoppedUnderWay : WriteError → Options → Space → Option (List ℕ) → Option (List Sight) → List AnyActor → Course → Space → Option (List ℕ) → Type 0
-IsStoppedUnderWay why options space written seen actors course space' written' =
-    (task : Task) → task.options ≡ options → IsUnderWay task space written seen actors course → WasStopped why task space' written'
+abbrev pub IsStoppedUnderWay : WriteError → Options → Space → Option (List ℕ) → Option (List Sight) → List AnyActor → Course → Space → Option (List ℕ) → Option (List Sight) → Type 0
+IsStoppedUnderWay why options space written seen actors course space' written' seen' =
+    (task : Task) → task.options ≡ options → IsUnderWay task space written seen actors course → WasStopped why task space' written' seen'
 
 -- ---- an epoch
 
@@ -66,7 +66,7 @@ pub record HasMadeEpoch (task : Task) (space after : Space) (written : Option (L
   pub history : List Item
   pub abstract_state : AbstractState
   pub ran : HasRunEpoch task after written seen before actors history abstract_state
-  pub makes : MakesEpoch task space before h x history x'
+  pub makes : MakesEpoch task space before h x after actors history x'
   pub totals : totals_of history ≡ totals_of h
   pub pauses : after.pauses ≡ space.pauses
 

@@ -33,5 +33,5 @@ AllAreAnswered options space written seen collected mutators totals space' writt
     × AnswersWaiting (pace_of options) collected mutators space h mutators' space' h' × (totals ≡ totals_of h → totals' ≡ totals_of h')
 
 -- each such run was cut off
-abbrev pub AllAreCutOff : Options → Space → Option (List ℕ) → Option (List Sight) → Bool → List Mutating → Space → Option (List ℕ) → Type 0
-AllAreCutOff options space written seen collected mutators space' written' = (task : Task) → task.options ≡ options → (h : List Item) (g : AbstractState) → BeginsServing task space written seen collected mutators h g → WasCutOff task space' written'
+abbrev pub AllAreCutOff : Options → Space → Option (List ℕ) → Option (List Sight) → Bool → List Mutating → Space → Option (List ℕ) → Option (List Sight) → Type 0
+AllAreCutOff options space written seen collected mutators space' written' seen' = (task : Task) → task.options ≡ options → (h : List Item) (g : AbstractState) → BeginsServing task space written seen collected mutators h g → WasCutOff task space' written' seen'

@@ -51,7 +51,7 @@ pub fn run_and_print<R: Threads + Sync, G: Gate, W: Watch, O: Sink>(
     requires range { AreInRange options }
     requires opened { SomeIsUnderWay options space.old (O.written output.old) (W.seen watch.old) actors.items (opening_course options) }
     ensures done { OnOk result ((task : Task) → task.options ≡ options → IsUnderWay task space.old (O.written output.old) (W.seen watch.old) actors.items (opening_course options) → IsPrinted task space.new (O.written output.new) (W.seen watch.new)) }
-    ensures cut_short { IfErr result (λ why. (task : Task) → task.options ≡ options → IsUnderWay task space.old (O.written output.old) (W.seen watch.old) actors.items (opening_course options) → IsCutShort why task space.new (O.written output.new)) }
+    ensures cut_short { IfErr result (λ why. (task : Task) → task.options ≡ options → IsUnderWay task space.old (O.written output.old) (W.seen watch.old) actors.items (opening_course options) → IsCutShort why task space.new (O.written output.new) (W.seen watch.new)) }
     ensures cause { result ≡ Err WriteError.Fault → Rose (O.faults output.old) (O.faults output.new) }
 {
     let mut actors = actors;

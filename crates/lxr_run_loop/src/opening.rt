@@ -5,7 +5,8 @@ ghost use Rattle.lxr_text_script.specs.Limits.{IsScript};
 ghost use Rattle.lxr_text_script.specs.Reading.{lists_in};
 ghost use Rattle.lxr_words.specs.Ranges.{AreInRange};
 ghost use Rattle.lxr_run_watch.specs.Sights.{Sight};
-ghost use Rattle.lxr_run_loop.specs.Opening.{AreMade, IsOpenedRun};
+ghost use Rattle.lxr_run_loop.specs.Made.{AreMade};
+ghost use Rattle.lxr_run_loop.specs.Opening.{IsOpenedRun};
 
 use lxr_core::AnyActor;
 use lxr_decrement::Decrementer;

@@ -58,7 +58,7 @@ pub(crate) fn pause<W: Watch, O: Sink>(
     requires due { SomePauseIsDue ask options space.old (O.written output.old) (W.seen watch.old) }
     requires counts { FitsCounts space.old }
     ensures ok { OnOk result (GoesOnByPause ask options space.old (O.written output.old) (W.seen watch.old) space.new (O.written output.new) (W.seen watch.new)) }
-    ensures err { OnErr result (IsCutOffByPause ask options space.old (O.written output.old) (W.seen watch.old) space.new (O.written output.new)) }
+    ensures err { OnErr result (IsCutOffByPause ask options space.old (O.written output.old) (W.seen watch.old) space.new (O.written output.new) (W.seen watch.new)) }
     ensures made { MakesPause ask (pace_of options) space.old space.new }
     ensures tally { space.new.tally ≡ record space.old.tally { logs = space.old.tally.logs + length space.old.logged.items; pauses = space.old.tally.pauses + 1; moved = space.new.tally.moved; kept = space.new.tally.kept } }
     ensures totals { totals.new ≡ with_report totals.old (report_of space.new.report) }

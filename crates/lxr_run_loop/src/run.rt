@@ -165,7 +165,7 @@ fn make_round<R: Threads + Sync, G: Gate, W: Watch, O: Sink>(
     requires under_way { SomeIsUnderWay options space.old (O.written output.old) (W.seen watch.old) actors.old.items course.old }
     ensures ok { IfOk result (λ ended. (task : Task) → task.options ≡ options → IsUnderWay task space.old (O.written output.old) (W.seen watch.old) actors.old.items course.old
         → HasMadeRound task space.new (O.written output.new) (W.seen watch.new) actors.old.items actors.new.items course.new ended) }
-    ensures err { IfErr result (λ why. IsStoppedUnderWay why options space.old (O.written output.old) (W.seen watch.old) actors.old.items course.old space.new (O.written output.new)) }
+    ensures err { IfErr result (λ why. IsStoppedUnderWay why options space.old (O.written output.old) (W.seen watch.old) actors.old.items course.old space.new (O.written output.new) (W.seen watch.new)) }
     ensures faults { O.faults output.old ≤ O.faults output.new }
     ensures cause { result ≡ Err WriteError.Fault → Rose (O.faults output.old) (O.faults output.new) }
 {
@@ -208,7 +208,7 @@ pub(crate) fn run_threads<R: Threads + Sync, G: Gate, W: Watch, O: Sink>(
     requires under_way { SomeIsUnderWay options space.old (O.written output.old) (W.seen watch.old) actors.old.items course.old }
     ensures ok { OnOk result ((task : Task) → task.options ≡ options → IsUnderWay task space.old (O.written output.old) (W.seen watch.old) actors.old.items course.old
         → IsComplete task space.new (O.written output.new) (W.seen watch.new) actors.new.items course.new) }
-    ensures err { IfErr result (λ why. IsStoppedUnderWay why options space.old (O.written output.old) (W.seen watch.old) actors.old.items course.old space.new (O.written output.new)) }
+    ensures err { IfErr result (λ why. IsStoppedUnderWay why options space.old (O.written output.old) (W.seen watch.old) actors.old.items course.old space.new (O.written output.new) (W.seen watch.new)) }
     ensures faults { O.faults output.old ≤ O.faults output.new }
     ensures cause { result ≡ Err WriteError.Fault → Rose (O.faults output.old) (O.faults output.new) }
 {

@@ -36,7 +36,7 @@ pub(crate) fn answer_waiting<W: Watch, O: Sink>(
     ensures ok { OnOk result (AllAreAnswered options space.old (O.written output.old) (W.seen watch.old) collected (mutators_in actors.old) totals.old space.new (O.written output.new) (W.seen watch.new) (mutators_in actors.new) totals.new) }
     ensures totals { AreFew totals.new space.new.pauses }
     ensures helpers { OnOk result (KeepsHelpers actors.old actors.new) }
-    ensures err { OnErr result (AllAreCutOff options space.old (O.written output.old) (W.seen watch.old) collected (mutators_in actors.old) space.new (O.written output.new)) }
+    ensures err { OnErr result (AllAreCutOff options space.old (O.written output.old) (W.seen watch.old) collected (mutators_in actors.old) space.new (O.written output.new) (W.seen watch.new)) }
     ensures faults { O.faults output.old ≤ O.faults output.new }
     ensures cause { result ≡ Err WriteError.Fault → Rose (O.faults output.old) (O.faults output.new) }
 {

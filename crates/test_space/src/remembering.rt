@@ -41,8 +41,8 @@ fn is_current_with(space: &Space, counter: u32) -> bool
 /// An entry is current while its line has the counter that the entry has, and stale once the line is handed out again.
 #[test]
 fn entries_become_stale(rt: HostRuntime) {
-use lxr_layout::{Limits, MOST_BLOCKS_REMEMBERED, Place, entry_word};
-use lxr_remset::is_current;
+    let mut space = handed_out(&rt, rt.alloc());
+    assert!(rt; space.limits.blocks <= MOST_BLOCKS_REMEMBERED);
     for (counter, current) in [(3, false), (4, true), (5, false)] {
         assert!(rt; is_current_with(&space, counter) == current);
     }

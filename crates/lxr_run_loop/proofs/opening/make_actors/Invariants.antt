@@ -1,6 +1,6 @@
 use Rattle.std.proofs.Common.{◌+◌, ◌≤◌, vec_len, vec_capacity}
 use Rattle.lxr_text_script.specs.Reading.{lists_in}
-use Rattle.lxr_run_loop.specs.Opening.{AreMade}
+use Rattle.lxr_run_loop.specs.Made.{AreMade}
 use Rattle.lxr_run_loop.proofs.opening.make_actors.Given as goal
 
 abbrev pub invariant-loop : goal.invariant-loop

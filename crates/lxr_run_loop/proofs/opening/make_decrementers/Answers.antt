@@ -1,6 +1,6 @@
 use Rattle.std.proofs.Common.{◌≡◌, arith, refl, subst}
 use Rattle.lxr_text_script.specs.Reading.{lists_in}
-use Rattle.lxr_run_loop.specs.Opening.{AreMade}
+use Rattle.lxr_run_loop.specs.Made.{AreMade}
 use Rattle.lxr_run_loop.proofs.OpeningLemmas.{helper_pushed}
 use Rattle.lxr_run_loop.proofs.opening.make_decrementers.Goals as goal
 

@@ -2,7 +2,7 @@ use Rattle.std.proofs.Common.{◌≡◌, ◌+◌, ◌≤◌, List, ◌++◌, map
 use Rattle.std.specs.Vec.Iter.{into_iter_items, into_iter_len}
 use Rattle.lxr_graph.specs.declared.Op.{Op}
 use Rattle.lxr_base.specs.Roomy.{Roomy}
-use Rattle.lxr_run_loop.specs.Opening.{AreMade}
+use Rattle.lxr_run_loop.specs.Made.{AreMade}
 use Rattle.lxr_run_loop.proofs.opening.make_mutators.Given as goal
 
 abbrev pub invariant-loop-operations : goal.invariant-loop-operations

@@ -64,8 +64,10 @@ returns-clause-err g c = on_err_weaker c.tell.result
     (λ printed. λ task h abstract_state to.
     let can = can_pause task c.args.space.now (g.O.Sink.written c.args.output.now) (g.W.Watch.seen c.args.watch.now) h abstract_state to.come c.requires.counts in
     let (at', pauses) = paced c.args.ask c.pace_of.result c.args.options c.args.space.now c.one_pause.new.space c.len.result c.pace_of.ensures c.len.ensures c.one_pause.ensures abstract_state can in
+    let first : Looks (g.W.Watch.seen c.args.watch.now) (g.W.Watch.seen c.look.new.self) (sight_of (with_logs_counted c.args.space.now)) =
+    subst (λ n. Looks (g.W.Watch.seen c.args.watch.now) (g.W.Watch.seen c.look.new.self) (sight_of (safepoint_by c.args.space.now n))) c.len.ensures c.look.ensures in
     cut_off_after task c.args.space.now c.one_pause.new.space (g.O.Sink.written c.args.output.now) (g.W.Watch.seen c.args.watch.now) (g.W.Watch.seen c.look.new.self)
-    (g.W.Watch.seen c.look-2.new.self) h abstract_state to.come to.due c.args.ask to.right at' (subst (λ o. Pauses (with_logs_counted c.args.space.now) c.one_pause.new.space abstract_state at' c.args.ask (pace_of o)) (sym to.with_options) pauses)
+    (g.W.Watch.seen c.look-2.new.self) h abstract_state to.come to.due c.args.ask to.right at' (subst (λ o. Pauses (with_logs_counted c.args.space.now) c.one_pause.new.space abstract_state at' c.args.ask (pace_of o)) (sym to.with_options) pauses) first c.look-2.ensures
     (g.O.Sink.written c.tell.new.output) (subst (λ (o : Options). AppendsFront (g.O.Sink.written c.args.output.now) (g.O.Sink.written c.tell.new.output) (told_report o.command o.counts (report_of c.one_pause.new.space.report))) (sym to.with_options) printed))
     c.tell.ensures.err
 

@@ -44,13 +44,13 @@ pause-requires-clause-counts g c =
 pub returns-in_err-pause-clause-err : goal.returns-in_err-pause-clause-err
 returns-in_err-pause-clause-err g c = stopped_always c.from_residual.result (λ why task with_options (h, m, amid, drawn, reported).
     let made = c.in-Ok.ensures.ok task with_options (g.O.Sink.written c.args.output.now) (g.W.Watch.seen c.args.watch.now) h m amid in
-    cut_off_by why task c.pause.new.space (g.O.Sink.written c.pause.new.output) (c.in_err-pause.ensures.err task made.history made.abstract_state (pause_due task c.args.options with_options c.args.space.now c.make_epoch.new.space (g.O.Sink.written c.args.output.now) (g.W.Watch.seen c.args.watch.now) c.args.actors.now.items c.make_epoch.new.actors.items h m c.args.course.now.generator c.make_epoch.new.generator amid drawn made c.have_ended-ended.result c.shall_collect-collects.result c.ask_of.result (subst (λ actors. IsTrue c.have_ended-ended.result ↔ All NoneGoesOn actors) c.deref.ensures.value c.have_ended-ended.ensures) (subst (λ actors. c.shall_collect-collects.result ≡ (c.have_ended-ended.result || list_any actor_collected actors)) c.deref-2.ensures.value c.shall_collect-collects.ensures) c.ask_of.ensures)))
+    cut_off_by why task c.pause.new.space (g.O.Sink.written c.pause.new.output) (g.W.Watch.seen c.pause.new.watch) (c.in_err-pause.ensures.err task made.history made.abstract_state (pause_due task c.args.options with_options c.args.space.now c.make_epoch.new.space (g.O.Sink.written c.args.output.now) (g.W.Watch.seen c.args.watch.now) c.args.actors.now.items c.make_epoch.new.actors.items h m c.args.course.now.generator c.make_epoch.new.generator amid drawn made c.have_ended-ended.result c.shall_collect-collects.result c.ask_of.result (subst (λ actors. IsTrue c.have_ended-ended.result ↔ All NoneGoesOn actors) c.deref.ensures.value c.have_ended-ended.ensures) (subst (λ actors. c.shall_collect-collects.result ≡ (c.have_ended-ended.result || list_any actor_collected actors)) c.deref-2.ensures.value c.shall_collect-collects.ensures) c.ask_of.ensures)))
 
 pub returns-then-ended-clause-ok : goal.returns-then-ended-clause-ok
 returns-then-ended-clause-ok g c = λ task with_options (h, m, amid, drawn, reported).
     let made = c.in-Ok.ensures.ok task with_options (g.O.Sink.written c.args.output.now) (g.W.Watch.seen c.args.watch.now) h m amid in
     let (report, m', paused) = c.in_ok-pause.ensures.ok task made.history made.abstract_state (pause_due task c.args.options with_options c.args.space.now c.make_epoch.new.space (g.O.Sink.written c.args.output.now) (g.W.Watch.seen c.args.watch.now) c.args.actors.now.items c.make_epoch.new.actors.items h m c.args.course.now.generator c.make_epoch.new.generator amid drawn made c.have_ended-ended.result c.shall_collect-collects.result c.ask_of.result (subst (λ actors. IsTrue c.have_ended-ended.result ↔ All NoneGoesOn actors) c.deref.ensures.value c.have_ended-ended.ensures) (subst (λ actors. c.shall_collect-collects.result ≡ (c.have_ended-ended.result || list_any actor_collected actors)) c.deref-2.ensures.value c.shall_collect-collects.ensures) c.ask_of.ensures) in
-    all_done task c.args.options with_options c.args.space.now c.make_epoch.new.space (g.O.Sink.written c.args.output.now) (g.W.Watch.seen c.args.watch.now) c.args.actors.now.items c.make_epoch.new.actors.items h m c.args.course.now.generator c.make_epoch.new.generator amid drawn made c.have_ended-ended.result c.shall_collect-collects.result c.ask_of.result (subst (λ actors. IsTrue c.have_ended-ended.result ↔ All NoneGoesOn actors) c.deref.ensures.value c.have_ended-ended.ensures) (subst (λ actors. c.shall_collect-collects.result ≡ (c.have_ended-ended.result || list_any actor_collected actors)) c.deref-2.ensures.value c.shall_collect-collects.ensures) c.ask_of.ensures c.pause.new.space (g.O.Sink.written c.pause.new.output) (g.W.Watch.seen c.pause.new.watch) report m' paused c.args.course.now.totals c.pause.new.totals reported.are c.pause.ensures.totals c.if-ended.true
+    all_done task c.args.options with_options c.args.space.now c.make_epoch.new.space (g.O.Sink.written c.args.output.now) (g.W.Watch.seen c.args.watch.now) c.args.actors.now.items c.make_epoch.new.actors.items h m c.args.course.now.generator c.make_epoch.new.generator amid drawn made c.have_ended-ended.result c.shall_collect-collects.result c.ask_of.result (subst (λ actors. IsTrue c.have_ended-ended.result ↔ All NoneGoesOn actors) c.deref.ensures.value c.have_ended-ended.ensures) (subst (λ actors. c.shall_collect-collects.result ≡ (c.have_ended-ended.result || list_any actor_collected actors)) c.deref-2.ensures.value c.shall_collect-collects.ensures) c.ask_of.ensures c.pause.new.space (g.O.Sink.written c.pause.new.output) (g.W.Watch.seen c.pause.new.watch) report m' paused c.pause.ensures.made c.args.course.now.totals c.pause.new.totals reported.are c.pause.ensures.totals c.if-ended.true
 
 pub answer_waiting-requires-clause-serving : goal.answer_waiting-requires-clause-serving
 answer_waiting-requires-clause-serving g c =
@@ -58,7 +58,7 @@ answer_waiting-requires-clause-serving g c =
     let made = c.in-Ok.ensures.ok task with_options (g.O.Sink.written c.args.output.now) (g.W.Watch.seen c.args.watch.now) h m amid in
     let (report, m', paused) = c.in_ok-pause.ensures.ok task made.history made.abstract_state (pause_due task c.args.options with_options c.args.space.now c.make_epoch.new.space (g.O.Sink.written c.args.output.now) (g.W.Watch.seen c.args.watch.now) c.args.actors.now.items c.make_epoch.new.actors.items h m c.args.course.now.generator c.make_epoch.new.generator amid drawn made c.have_ended-ended.result c.shall_collect-collects.result c.ask_of.result (subst (λ actors. IsTrue c.have_ended-ended.result ↔ All NoneGoesOn actors) c.deref.ensures.value c.have_ended-ended.ensures) (subst (λ actors. c.shall_collect-collects.result ≡ (c.have_ended-ended.result || list_any actor_collected actors)) c.deref-2.ensures.value c.shall_collect-collects.ensures) c.ask_of.ensures) in
     subst (CanServeAll c.args.options c.pause.new.space (g.O.Sink.written c.pause.new.output) (g.W.Watch.seen c.pause.new.watch) c.shall_collect-collects.result) (sym c.deref_mut.ensures.value)
-    (task, with_options, Pause report ∷ made.history, m', begun task c.args.options with_options c.args.space.now c.make_epoch.new.space (g.O.Sink.written c.args.output.now) (g.W.Watch.seen c.args.watch.now) c.args.actors.now.items c.make_epoch.new.actors.items h m c.args.course.now.generator c.make_epoch.new.generator amid drawn made c.have_ended-ended.result c.shall_collect-collects.result c.ask_of.result (subst (λ actors. IsTrue c.have_ended-ended.result ↔ All NoneGoesOn actors) c.deref.ensures.value c.have_ended-ended.ensures) (subst (λ actors. c.shall_collect-collects.result ≡ (c.have_ended-ended.result || list_any actor_collected actors)) c.deref-2.ensures.value c.shall_collect-collects.ensures) c.ask_of.ensures c.pause.new.space (g.O.Sink.written c.pause.new.output) (g.W.Watch.seen c.pause.new.watch) report m' paused c.args.course.now.totals c.pause.new.totals reported.are c.pause.ensures.totals c.if-ended.false, made.ran.actors_rest.helpers)
+    (task, with_options, Pause report ∷ made.history, m', begun task c.args.options with_options c.args.space.now c.make_epoch.new.space (g.O.Sink.written c.args.output.now) (g.W.Watch.seen c.args.watch.now) c.args.actors.now.items c.make_epoch.new.actors.items h m c.args.course.now.generator c.make_epoch.new.generator amid drawn made c.have_ended-ended.result c.shall_collect-collects.result c.ask_of.result (subst (λ actors. IsTrue c.have_ended-ended.result ↔ All NoneGoesOn actors) c.deref.ensures.value c.have_ended-ended.ensures) (subst (λ actors. c.shall_collect-collects.result ≡ (c.have_ended-ended.result || list_any actor_collected actors)) c.deref-2.ensures.value c.shall_collect-collects.ensures) c.ask_of.ensures c.pause.new.space (g.O.Sink.written c.pause.new.output) (g.W.Watch.seen c.pause.new.watch) report m' paused c.pause.ensures.made c.args.course.now.totals c.pause.new.totals reported.are c.pause.ensures.totals c.if-ended.false, made.ran.actors_rest.helpers)
 
 pub answer_waiting-requires-clause-few : goal.answer_waiting-requires-clause-few
 answer_waiting-requires-clause-few g c =
@@ -71,15 +71,15 @@ pub returns-in_err-answer_waiting-clause-err : goal.returns-in_err-answer_waitin
 returns-in_err-answer_waiting-clause-err g c = stopped_always c.from_residual-in_err-answer_waiting.result (λ why task with_options (h, m, amid, drawn, reported).
     let made = c.in-Ok.ensures.ok task with_options (g.O.Sink.written c.args.output.now) (g.W.Watch.seen c.args.watch.now) h m amid in
     let (report, m', paused) = c.in_ok-pause.ensures.ok task made.history made.abstract_state (pause_due task c.args.options with_options c.args.space.now c.make_epoch.new.space (g.O.Sink.written c.args.output.now) (g.W.Watch.seen c.args.watch.now) c.args.actors.now.items c.make_epoch.new.actors.items h m c.args.course.now.generator c.make_epoch.new.generator amid drawn made c.have_ended-ended.result c.shall_collect-collects.result c.ask_of.result (subst (λ actors. IsTrue c.have_ended-ended.result ↔ All NoneGoesOn actors) c.deref.ensures.value c.have_ended-ended.ensures) (subst (λ actors. c.shall_collect-collects.result ≡ (c.have_ended-ended.result || list_any actor_collected actors)) c.deref-2.ensures.value c.shall_collect-collects.ensures) c.ask_of.ensures) in
-    let begins = begun task c.args.options with_options c.args.space.now c.make_epoch.new.space (g.O.Sink.written c.args.output.now) (g.W.Watch.seen c.args.watch.now) c.args.actors.now.items c.make_epoch.new.actors.items h m c.args.course.now.generator c.make_epoch.new.generator amid drawn made c.have_ended-ended.result c.shall_collect-collects.result c.ask_of.result (subst (λ actors. IsTrue c.have_ended-ended.result ↔ All NoneGoesOn actors) c.deref.ensures.value c.have_ended-ended.ensures) (subst (λ actors. c.shall_collect-collects.result ≡ (c.have_ended-ended.result || list_any actor_collected actors)) c.deref-2.ensures.value c.shall_collect-collects.ensures) c.ask_of.ensures c.pause.new.space (g.O.Sink.written c.pause.new.output) (g.W.Watch.seen c.pause.new.watch) report m' paused c.args.course.now.totals c.pause.new.totals reported.are c.pause.ensures.totals c.if-ended.false in
-    cut_off_by why task c.answer_waiting.new.space (g.O.Sink.written c.answer_waiting.new.output) (subst (λ (actors : List AnyActor). AllAreCutOff c.args.options c.pause.new.space (g.O.Sink.written c.pause.new.output) (g.W.Watch.seen c.pause.new.watch) c.shall_collect-collects.result (mutators_in actors) c.answer_waiting.new.space (g.O.Sink.written c.answer_waiting.new.output)) c.deref_mut.ensures.value c.in_err-answer_waiting.ensures.err task with_options (Pause report ∷ made.history) m' begins))
+    let begins = begun task c.args.options with_options c.args.space.now c.make_epoch.new.space (g.O.Sink.written c.args.output.now) (g.W.Watch.seen c.args.watch.now) c.args.actors.now.items c.make_epoch.new.actors.items h m c.args.course.now.generator c.make_epoch.new.generator amid drawn made c.have_ended-ended.result c.shall_collect-collects.result c.ask_of.result (subst (λ actors. IsTrue c.have_ended-ended.result ↔ All NoneGoesOn actors) c.deref.ensures.value c.have_ended-ended.ensures) (subst (λ actors. c.shall_collect-collects.result ≡ (c.have_ended-ended.result || list_any actor_collected actors)) c.deref-2.ensures.value c.shall_collect-collects.ensures) c.ask_of.ensures c.pause.new.space (g.O.Sink.written c.pause.new.output) (g.W.Watch.seen c.pause.new.watch) report m' paused c.pause.ensures.made c.args.course.now.totals c.pause.new.totals reported.are c.pause.ensures.totals c.if-ended.false in
+    cut_off_by why task c.answer_waiting.new.space (g.O.Sink.written c.answer_waiting.new.output) (g.W.Watch.seen c.answer_waiting.new.watch) (subst (λ (actors : List AnyActor). AllAreCutOff c.args.options c.pause.new.space (g.O.Sink.written c.pause.new.output) (g.W.Watch.seen c.pause.new.watch) c.shall_collect-collects.result (mutators_in actors) c.answer_waiting.new.space (g.O.Sink.written c.answer_waiting.new.output) (g.W.Watch.seen c.answer_waiting.new.watch)) c.deref_mut.ensures.value c.in_err-answer_waiting.ensures.err task with_options (Pause report ∷ made.history) m' begins))
 
 pub list_for_epoch-requires : goal.list_for_epoch-requires
 list_for_epoch-requires g c =
     let (task, with_options, (h, m, amid, drawn, reported)) = c.requires.under_way in
     let made = c.in-Ok.ensures.ok task with_options (g.O.Sink.written c.args.output.now) (g.W.Watch.seen c.args.watch.now) h m amid in
     let (report, m', paused) = c.in_ok-pause.ensures.ok task made.history made.abstract_state (pause_due task c.args.options with_options c.args.space.now c.make_epoch.new.space (g.O.Sink.written c.args.output.now) (g.W.Watch.seen c.args.watch.now) c.args.actors.now.items c.make_epoch.new.actors.items h m c.args.course.now.generator c.make_epoch.new.generator amid drawn made c.have_ended-ended.result c.shall_collect-collects.result c.ask_of.result (subst (λ actors. IsTrue c.have_ended-ended.result ↔ All NoneGoesOn actors) c.deref.ensures.value c.have_ended-ended.ensures) (subst (λ actors. c.shall_collect-collects.result ≡ (c.have_ended-ended.result || list_any actor_collected actors)) c.deref-2.ensures.value c.shall_collect-collects.ensures) c.ask_of.ensures) in
-    let begins = begun task c.args.options with_options c.args.space.now c.make_epoch.new.space (g.O.Sink.written c.args.output.now) (g.W.Watch.seen c.args.watch.now) c.args.actors.now.items c.make_epoch.new.actors.items h m c.args.course.now.generator c.make_epoch.new.generator amid drawn made c.have_ended-ended.result c.shall_collect-collects.result c.ask_of.result (subst (λ actors. IsTrue c.have_ended-ended.result ↔ All NoneGoesOn actors) c.deref.ensures.value c.have_ended-ended.ensures) (subst (λ actors. c.shall_collect-collects.result ≡ (c.have_ended-ended.result || list_any actor_collected actors)) c.deref-2.ensures.value c.shall_collect-collects.ensures) c.ask_of.ensures c.pause.new.space (g.O.Sink.written c.pause.new.output) (g.W.Watch.seen c.pause.new.watch) report m' paused c.args.course.now.totals c.pause.new.totals reported.are c.pause.ensures.totals c.if-ended.false in
+    let begins = begun task c.args.options with_options c.args.space.now c.make_epoch.new.space (g.O.Sink.written c.args.output.now) (g.W.Watch.seen c.args.watch.now) c.args.actors.now.items c.make_epoch.new.actors.items h m c.args.course.now.generator c.make_epoch.new.generator amid drawn made c.have_ended-ended.result c.shall_collect-collects.result c.ask_of.result (subst (λ actors. IsTrue c.have_ended-ended.result ↔ All NoneGoesOn actors) c.deref.ensures.value c.have_ended-ended.ensures) (subst (λ actors. c.shall_collect-collects.result ≡ (c.have_ended-ended.result || list_any actor_collected actors)) c.deref-2.ensures.value c.shall_collect-collects.ensures) c.ask_of.ensures c.pause.new.space (g.O.Sink.written c.pause.new.output) (g.W.Watch.seen c.pause.new.watch) report m' paused c.pause.ensures.made c.args.course.now.totals c.pause.new.totals reported.are c.pause.ensures.totals c.if-ended.false in
     let (collected, served, k, m'', serving, answers, sums) = subst (λ (actors : List AnyActor). AllAreAnswered c.args.options c.pause.new.space (g.O.Sink.written c.pause.new.output) (g.W.Watch.seen c.pause.new.watch) c.shall_collect-collects.result (mutators_in actors) c.pause.new.totals c.answer_waiting.new.space (g.O.Sink.written c.answer_waiting.new.output) (g.W.Watch.seen c.answer_waiting.new.watch) (mutators_in c.answer_waiting.new.actors) c.answer_waiting.new.totals) c.deref_mut.ensures.value c.in_ok-answer_waiting.ensures.ok task with_options (Pause report ∷ made.history) m' begins in
     (m'', serving.between)
 
@@ -87,14 +87,14 @@ pub returns-clause-ok : goal.returns-clause-ok
 returns-clause-ok g c = λ task with_options (h, m, amid, drawn, reported).
     let made = c.in-Ok.ensures.ok task with_options (g.O.Sink.written c.args.output.now) (g.W.Watch.seen c.args.watch.now) h m amid in
     let (report, m', paused) = c.in_ok-pause.ensures.ok task made.history made.abstract_state (pause_due task c.args.options with_options c.args.space.now c.make_epoch.new.space (g.O.Sink.written c.args.output.now) (g.W.Watch.seen c.args.watch.now) c.args.actors.now.items c.make_epoch.new.actors.items h m c.args.course.now.generator c.make_epoch.new.generator amid drawn made c.have_ended-ended.result c.shall_collect-collects.result c.ask_of.result (subst (λ actors. IsTrue c.have_ended-ended.result ↔ All NoneGoesOn actors) c.deref.ensures.value c.have_ended-ended.ensures) (subst (λ actors. c.shall_collect-collects.result ≡ (c.have_ended-ended.result || list_any actor_collected actors)) c.deref-2.ensures.value c.shall_collect-collects.ensures) c.ask_of.ensures) in
-    let begins = begun task c.args.options with_options c.args.space.now c.make_epoch.new.space (g.O.Sink.written c.args.output.now) (g.W.Watch.seen c.args.watch.now) c.args.actors.now.items c.make_epoch.new.actors.items h m c.args.course.now.generator c.make_epoch.new.generator amid drawn made c.have_ended-ended.result c.shall_collect-collects.result c.ask_of.result (subst (λ actors. IsTrue c.have_ended-ended.result ↔ All NoneGoesOn actors) c.deref.ensures.value c.have_ended-ended.ensures) (subst (λ actors. c.shall_collect-collects.result ≡ (c.have_ended-ended.result || list_any actor_collected actors)) c.deref-2.ensures.value c.shall_collect-collects.ensures) c.ask_of.ensures c.pause.new.space (g.O.Sink.written c.pause.new.output) (g.W.Watch.seen c.pause.new.watch) report m' paused c.args.course.now.totals c.pause.new.totals reported.are c.pause.ensures.totals c.if-ended.false in
+    let begins = begun task c.args.options with_options c.args.space.now c.make_epoch.new.space (g.O.Sink.written c.args.output.now) (g.W.Watch.seen c.args.watch.now) c.args.actors.now.items c.make_epoch.new.actors.items h m c.args.course.now.generator c.make_epoch.new.generator amid drawn made c.have_ended-ended.result c.shall_collect-collects.result c.ask_of.result (subst (λ actors. IsTrue c.have_ended-ended.result ↔ All NoneGoesOn actors) c.deref.ensures.value c.have_ended-ended.ensures) (subst (λ actors. c.shall_collect-collects.result ≡ (c.have_ended-ended.result || list_any actor_collected actors)) c.deref-2.ensures.value c.shall_collect-collects.ensures) c.ask_of.ensures c.pause.new.space (g.O.Sink.written c.pause.new.output) (g.W.Watch.seen c.pause.new.watch) report m' paused c.pause.ensures.made c.args.course.now.totals c.pause.new.totals reported.are c.pause.ensures.totals c.if-ended.false in
     let (collected, served, k, m'', serving, answers, sums) = subst (λ (actors : List AnyActor). AllAreAnswered c.args.options c.pause.new.space (g.O.Sink.written c.pause.new.output) (g.W.Watch.seen c.pause.new.watch) c.shall_collect-collects.result (mutators_in actors) c.pause.new.totals c.answer_waiting.new.space (g.O.Sink.written c.answer_waiting.new.output) (g.W.Watch.seen c.answer_waiting.new.watch) (mutators_in c.answer_waiting.new.actors) c.answer_waiting.new.totals) c.deref_mut.ensures.value c.in_ok-answer_waiting.ensures.ok task with_options (Pause report ∷ made.history) m' begins in
     let keeps = subst (λ actors. KeepsHelpers actors c.answer_waiting.new.actors) c.deref_mut.ensures.value c.in_ok-answer_waiting.ensures.helpers in
     let many = answered_many task c.args.options with_options c.args.space.now c.make_epoch.new.space (g.O.Sink.written c.args.output.now) (g.W.Watch.seen c.args.watch.now) c.args.actors.now.items c.make_epoch.new.actors.items h m c.args.course.now.generator c.make_epoch.new.generator amid drawn made c.have_ended-ended.result c.shall_collect-collects.result c.ask_of.result (subst (λ actors. IsTrue c.have_ended-ended.result ↔ All NoneGoesOn actors) c.deref.ensures.value c.have_ended-ended.ensures) (subst (λ actors. c.shall_collect-collects.result ≡ (c.have_ended-ended.result || list_any actor_collected actors)) c.deref-2.ensures.value c.shall_collect-collects.ensures) c.ask_of.ensures c.answer_waiting.new.space (g.O.Sink.written c.answer_waiting.new.output) (g.W.Watch.seen c.answer_waiting.new.watch) c.answer_waiting.new.actors c.pause.new.space.pauses (length (mutators_in c.answer_waiting.new.actors)) collected served k m'' serving keeps in
     let whole = with_items_is c.make_epoch.new.actors c.answer_waiting.new.actors (many ∙ ap length (sym c.deref_mut.ensures.value) ∙ c.deref_mut.ensures.len) in
     let course : Course = record { generator = c.make_epoch.new.generator; totals = c.answer_waiting.new.totals } in
     subst (λ answered. IsNearer task c.list_for_epoch.new.space (g.O.Sink.written c.answer_waiting.new.output) (g.W.Watch.seen c.answer_waiting.new.watch) c.args.actors.now.items answered course) (sym whole)
-    (goes_on task c.args.options with_options c.args.space.now c.make_epoch.new.space (g.O.Sink.written c.args.output.now) (g.W.Watch.seen c.args.watch.now) c.args.actors.now.items c.make_epoch.new.actors.items h m c.args.course.now.generator c.make_epoch.new.generator amid drawn made c.have_ended-ended.result c.shall_collect-collects.result c.ask_of.result (subst (λ actors. IsTrue c.have_ended-ended.result ↔ All NoneGoesOn actors) c.deref.ensures.value c.have_ended-ended.ensures) (subst (λ actors. c.shall_collect-collects.result ≡ (c.have_ended-ended.result || list_any actor_collected actors)) c.deref-2.ensures.value c.shall_collect-collects.ensures) c.ask_of.ensures c.pause.new.space (g.O.Sink.written c.pause.new.output) (g.W.Watch.seen c.pause.new.watch) report m' paused c.args.course.now.totals c.pause.new.totals reported.are c.pause.ensures.totals c.if-ended.false c.pause.ensures.pauses
+    (goes_on task c.args.options with_options c.args.space.now c.make_epoch.new.space (g.O.Sink.written c.args.output.now) (g.W.Watch.seen c.args.watch.now) c.args.actors.now.items c.make_epoch.new.actors.items h m c.args.course.now.generator c.make_epoch.new.generator amid drawn made c.have_ended-ended.result c.shall_collect-collects.result c.ask_of.result (subst (λ actors. IsTrue c.have_ended-ended.result ↔ All NoneGoesOn actors) c.deref.ensures.value c.have_ended-ended.ensures) (subst (λ actors. c.shall_collect-collects.result ≡ (c.have_ended-ended.result || list_any actor_collected actors)) c.deref-2.ensures.value c.shall_collect-collects.ensures) c.ask_of.ensures c.pause.new.space (g.O.Sink.written c.pause.new.output) (g.W.Watch.seen c.pause.new.watch) report m' paused c.pause.ensures.made c.args.course.now.totals c.pause.new.totals reported.are c.pause.ensures.totals c.if-ended.false c.pause.ensures.pauses
     c.answer_waiting.new.space c.list_for_epoch.new.space (g.O.Sink.written c.answer_waiting.new.output) (g.W.Watch.seen c.answer_waiting.new.watch) c.answer_waiting.new.actors collected served k m'' serving answers keeps
     (record {
       between = c.list_for_epoch.ensures.between m'' serving.between;
@@ -104,4 +104,5 @@ returns-clause-ok g c = λ task with_options (h, m, amid, drawn, reported).
       tally = ap (λ (s : Space). s.tally) c.list_for_epoch.ensures.lists.rest;
       pauses = ap (λ (s : Space). s.pauses) c.list_for_epoch.ensures.lists.rest;
     })
-    c.answer_waiting.new.totals (sums (totals_on task c.args.options with_options c.args.space.now c.make_epoch.new.space (g.O.Sink.written c.args.output.now) (g.W.Watch.seen c.args.watch.now) c.args.actors.now.items c.make_epoch.new.actors.items h m c.args.course.now.generator c.make_epoch.new.generator amid drawn made c.have_ended-ended.result c.shall_collect-collects.result c.ask_of.result (subst (λ actors. IsTrue c.have_ended-ended.result ↔ All NoneGoesOn actors) c.deref.ensures.value c.have_ended-ended.ensures) (subst (λ actors. c.shall_collect-collects.result ≡ (c.have_ended-ended.result || list_any actor_collected actors)) c.deref-2.ensures.value c.shall_collect-collects.ensures) c.ask_of.ensures c.pause.new.space (g.O.Sink.written c.pause.new.output) (g.W.Watch.seen c.pause.new.watch) report m' paused c.args.course.now.totals c.pause.new.totals reported.are c.pause.ensures.totals)) c.answer_waiting.ensures.totals)
+    c.list_for_epoch.ensures.lists
+    c.answer_waiting.new.totals (sums (totals_on task c.args.options with_options c.args.space.now c.make_epoch.new.space (g.O.Sink.written c.args.output.now) (g.W.Watch.seen c.args.watch.now) c.args.actors.now.items c.make_epoch.new.actors.items h m c.args.course.now.generator c.make_epoch.new.generator amid drawn made c.have_ended-ended.result c.shall_collect-collects.result c.ask_of.result (subst (λ actors. IsTrue c.have_ended-ended.result ↔ All NoneGoesOn actors) c.deref.ensures.value c.have_ended-ended.ensures) (subst (λ actors. c.shall_collect-collects.result ≡ (c.have_ended-ended.result || list_any actor_collected actors)) c.deref-2.ensures.value c.shall_collect-collects.ensures) c.ask_of.ensures c.pause.new.space (g.O.Sink.written c.pause.new.output) (g.W.Watch.seen c.pause.new.watch) report m' paused c.pause.ensures.made c.args.course.now.totals c.pause.new.totals reported.are c.pause.ensures.totals)) c.answer_waiting.ensures.totals)
