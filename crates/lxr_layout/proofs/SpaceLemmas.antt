@@ -1,11 +1,7 @@
--- How many blocks may be Chosen, and in which heaps.
+-- In which heaps a block may be Chosen.
 use Rattle.std.proofs.Common.{ℕ, ◌/◌, ◌≤◌, arith}
 use Rattle.lxr_layout.specs.declared.TheConstants.{MOST_BLOCKS_REMEMBERED}
 use Rattle.lxr_layout.specs.Spaces.{most_chosen}
-
--- an eighth of the blocks at most
-pub few_chosen : (blocks : ℕ) → most_chosen blocks ≤ blocks / 8
-few_chosen blocks = grind arith
 
 -- where a block may be Chosen, entries have room for the places of the heap
 pub chosen_in_small : (blocks : ℕ) → 1 ≤ most_chosen blocks → blocks ≤ MOST_BLOCKS_REMEMBERED
