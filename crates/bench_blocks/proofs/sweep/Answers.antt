@@ -1,4 +1,3 @@
-use Rattle.lxr_image.specs.Spaces.{tables_of}
 use Rattle.bench_blocks.proofs.StateLemmas.{swept_free}
 use Rattle.bench_blocks.proofs.sweep.Goals as goal
 
