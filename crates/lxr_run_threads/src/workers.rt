@@ -4,6 +4,7 @@ ghost use Rattle.std.specs.Thread.{IsSync};
 ghost use Rattle.lxr_actor.specs.Run.{one_if};
 ghost use Rattle.lxr_run_replay.specs.Replaying.{CanBeReplayed};
 ghost use Rattle.lxr_run_threads.specs.Dealing.{numbers_of};
+ghost use Rattle.lxr_run_threads.specs.Keeping.{KeepsOthers};
 ghost use Rattle.lxr_run_threads.specs.Working.{HasServed, IsDoneOf, IsPassOf, goes_on, is_finished, is_helper, work_in, work_of};
 
 use crate::dealing::Hand;
@@ -172,6 +173,7 @@ fn take_turn<G: Gate>(table: &Epoch<AnyActor>, pass: &mut Pass, hints: &mut Hint
     ensures number { pass.new.number ≡ pass.old.number }
     ensures done { result ≡ false → HasServed pass.new.actor }
     ensures nearer { work_of pass.new.actor + one_if result ≤ work_of pass.old.actor }
+    ensures others { KeepsOthers pass.old.actor hints.old hints.new }
 {
     match pass.actor() {
         AnyActor::Mutator(_) => let_mutate(table, pass, gate),
