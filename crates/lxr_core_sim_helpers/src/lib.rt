@@ -7,9 +7,9 @@
 
 mod tracers;
 
-pub use tracers::{first_is_tracer, tracer_hints_change_nothing, tracer_steps_are_events};
-
 ghost use Rattle.lxr_core_sim_helpers.specs.DecrementerStepping.{DecrementerStepsAreEvents, FirstIsDecrementer, HintsChangeNothing};
+
+pub use tracers::{first_is_tracer, tracer_hints_change_nothing, tracer_steps_are_events};
 
 /// Each step of a decrementer in an epoch fits, and is a step that may happen.
 pub fn decrementer_steps_are_events()

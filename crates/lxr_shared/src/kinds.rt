@@ -1,8 +1,7 @@
 //! How an actor of each kind does its units: a mutator straight through, a helper step by step.
 ghost use Rattle.std.specs.Prelude.{◌≡◌};
 
-use lxr_actor::Actor;
-use lxr_actor::{Steps, do_unit};
+use lxr_actor::{Actor, Steps, do_unit};
 use lxr_core::AnyActor;
 use lxr_decrement::Decrementer;
 use lxr_mutator::Mutator;
