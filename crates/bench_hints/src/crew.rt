@@ -6,8 +6,8 @@ ghost use Rattle.lxr_run_threads.specs.Working.{IsDoneOf, IsPassOf};
 
 use lxr_actor::Actor;
 use lxr_core::AnyActor;
-use lxr_run_replay::Open;
 use lxr_run_threads::{Hand, work};
+use lxr_run_watch::Open;
 use lxr_shared::Pass;
 use lxr_shared_passes::Epoch;
 use std::rt::Clock;

@@ -47,6 +47,8 @@ impl Meet {
 }
 
 impl Gate for Meet {
+    ghost passed = { λ _ _ _. Unit {0} };
+
     fn at(&self, thread: u8, _op: u32) {
         self.passes.fetch_add(1, Ordering::SeqCst);
         if thread == 1 && !self.gave_up() {

@@ -39,6 +39,8 @@ impl<'a, R: Clock> Times<'a, R> {
 }
 
 impl<'a, R: Clock + Sync> Gate for Times<'a, R> {
+    ghost passed = { λ _ _ _. Unit {0} };
+
     fn at(&self, _thread: u8, _op: u32) {
         let begun = self.first.load(Ordering::SeqCst) != 0;
         if begun && !self.each {
