@@ -12,6 +12,7 @@ use Rattle.lxr_layout.specs.Places.{first_word}
 use Rattle.lxr_graph.specs.Names.{has}
 use Rattle.lxr_graph.specs.State.{object_at, refs_of, shape_of}
 use Rattle.lxr_image.specs.declared.space.Space.{Space}
+use Rattle.lxr_image.specs.Reads.{slots_of}
 use Rattle.lxr_image.specs.Spaces.{tables_of}
 use Rattle.lxr_image.specs.Image.{place_word}
 use Rattle.lxr_model.specs.Moments.{Moment}
@@ -99,19 +100,10 @@ module _ (s : Space) (m : Moment) (st : EvacuationStage) (is : IsEvacuating s m 
   holder_place n p holder = let h = place_some s m st is n p holder.member (inr holder.stands) in (h.0, h.1, h.3)
 
   -- its header tells how many references it has
-  pub holder_slots : (n : Name) (p : ℕ) (u : Name) (shape : Shape) → IsHolder m st n p → header_of ((tables_of s).heap (first_word p)) ≡ AnObject u shape → shape.refs ≡ length (refs_of (object_at m.state.graph n))
-  holder_slots n p u shape holder told =
+  pub holder_slots : (n : Name) (p : ℕ) → IsHolder m st n p → slots_of (header_of ((tables_of s).heap (first_word p))) ≡ length (refs_of (object_at m.state.graph n))
+  holder_slots n p holder =
       let x = is.heap.stands n holder.member in
-      let e : AnObject u shape ≡ AnObject n (shape_of x.0) = sym told ∙ ap (λ z. header_of ((tables_of s).heap (first_word z))) holder.stands ∙ header_now s m st is n x.0 holder.member x.1 in
-      let same : shape ≡ shape_of x.0 = cc in
-      ap (λ z. z.refs) same ∙ sym (ap (λ z. length (refs_of z)) x.1)
-
-  -- it is never one that has moved
-  pub holder_stands : {A : Type 0} (n : Name) (p : ℕ) (q : Place) → IsHolder m st n p → header_of ((tables_of s).heap (first_word p)) ≡ Moved q → A
-  holder_stands n p q holder told =
-      let x = is.heap.stands n holder.member in
-      let e : Moved q ≡ AnObject n (shape_of x.0) = sym told ∙ ap (λ z. header_of ((tables_of s).heap (first_word z))) holder.stands ∙ header_now s m st is n x.0 holder.member x.1 in
-      absurd (cc)
+      ap slots_of (ap (λ z. header_of ((tables_of s).heap (first_word z))) holder.stands ∙ header_now s m st is n x.0 holder.member x.1) ∙ sym (ap (λ z. length (refs_of z)) x.1)
 
   -- what a reference of it holds is an unreclaimed object, or nil
   pub field_member : (n : Name) (i w : ℕ) → IsTrue (has m.unreclaimed n) → i < length (refs_of (object_at m.state.graph n))

@@ -13,7 +13,9 @@ ghost use Rattle.lxr_evac_moving.specs.Steps.{Clears, IsClearing, MayClear, clea
 
 use crate::chosen::next_chosen;
 use lxr_image::Space;
-use lxr_layout::{GRANULES_IN_LINE, Header, Place, Shape, unpack, word_of, words_of};
+use lxr_layout::{
+    GRANULES_IN_LINE, Header, Place, Shape, granule_of, place_at, unpack, word_of, words_of,
+};
 use lxr_pause_promote::object;
 
 /// Takes the marks of the further lines of an object of so many granules away.
@@ -47,7 +49,7 @@ fn clear_place(space: &mut Space, place: Place, shape: Shape)
     requires heap { granule_of place.0 + word_count shape / 2 ≤ GRANULES_IN_BLOCK * space.old.limits.blocks }
     ensures { Turns space.old space.new (with_cleared (tables_of space.old) place.0 shape) }
 {
-    let granule = place.0 - 1;
+    let granule = granule_of(place);
     space.clear_start(granule);
     space.clear_mark(granule);
     space.clear_gray(granule);
@@ -71,7 +73,7 @@ fn clear_moved(space: &mut Space, granule: u32)
 {
     if let Header::Moved(now) = unpack(space.heap_word(2 * granule)) {
         let (_, shape) = object(space, now);
-        clear_place(space, Place(granule + 1), shape);
+        clear_place(space, place_at(granule), shape);
     }
 }
 

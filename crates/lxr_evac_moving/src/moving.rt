@@ -12,7 +12,7 @@ ghost use Rattle.lxr_evac_moving.specs.Steps.{CanMove, MayMove, Moves, MovesAll,
 use crate::chosen::next_chosen;
 use crate::evacuating::Evacuated;
 use lxr_image::Space;
-use lxr_layout::{Place, word_of, words_of};
+use lxr_layout::{Place, granule_of, place_at, word_of, words_of};
 use lxr_pause_promote::{Shortage, log_references, mark_lines, object, young_evacuate_within};
 
 /// Marks the object at a granule where the one at another is marked.
@@ -48,7 +48,8 @@ fn take_over(space: &mut Space, old: Place, new: Place)
     ensures { (n : NameOf) (shape : ShapeOf) → StandsAt space.old new n shape → Turns space.old space.new (with_taken_over (tables_of space.old) old.0 new.0 shape) }
 {
     let (_, shape) = object(space, new);
-    let (from, to) = (old.0 - 1, new.0 - 1);
+    let from = granule_of(old);
+    let to = granule_of(new);
     space.set_start(to);
     take_mark(space, from, to);
     take_gray(space, from, to);
@@ -65,7 +66,7 @@ fn move_object(space: &mut Space, granule: u32, shortage: &mut Shortage) -> bool
     ensures moves { Moves space.old space.new granule result }
     ensures short { IsShortage space.new shortage.new }
 {
-    let place = Place(granule + 1);
+    let place = place_at(granule);
     match young_evacuate_within(space, place, shortage) {
         Some(copy) => {
             take_over(space, place, copy);

@@ -11,7 +11,9 @@ ghost use Rattle.lxr_evac_moving.specs.Stages.{EvacuationStage};
 ghost use Rattle.lxr_evac_moving.specs.Steps.{CanFix, FixesAll, FixesEntry, FixesFieldAt, Follows, HasHolder, HasSlots, MayFixEntry, MayFixField, MayFollow};
 
 use lxr_image::Space;
-use lxr_layout::{Header, Place, REMEMBERED_CURSOR, entry_of, field_word, unpack, word_of};
+use lxr_layout::{
+    Header, Place, REMEMBERED_CURSOR, entry_of, field_word, granule_of, unpack, word_of,
+};
 use lxr_remset::is_current;
 
 /// Where the object stands now that stands or stood at a place, by its header; nil stays nil.
@@ -33,10 +35,7 @@ fn reference_slots(space: &Space, place: Place) -> u16
     requires { HasHolder space.now place.0 }
     ensures { HasSlots space.now place.0 result }
 {
-    match unpack(space.heap_word(word_of(place))) {
-        Header::Object(_, shape) => shape.refs,
-        Header::Moved(_) => 0,
-    }
+    space.reference_slots(place)
 }
 
 /// Writes to a reference of the object at a place where what it holds stands now.
@@ -60,7 +59,7 @@ fn fix_entry(space: &mut Space, number: u32)
 {
     let entry = space.remembered_at(number);
     let (_, place, index) = entry_of(entry);
-    if !is_current(space, entry) || !space.has_start(place.0 - 1) {
+    if !is_current(space, entry) || !space.has_start(granule_of(place)) {
         return;
     }
     let holder = present_place(space, place);

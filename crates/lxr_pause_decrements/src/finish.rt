@@ -1,11 +1,11 @@
 //! Lowering counts, one after another, until nothing waits.
-ghost use Rattle.std.specs.Prelude.{◌≡◌, ℕ, ◌+◌, ◌-◌, ◌*◌, ◌<◌, ◌≤◌, List, MatchOption, length};
+ghost use Rattle.std.specs.Prelude.{◌≡◌, ℕ, ◌+◌, ◌*◌, ◌<◌, ◌≤◌, List, MatchOption, length};
 ghost use Rattle.lxr_layout.specs.declared.TheConstants.{DECREMENT_COUNT, DECREMENT_CURSOR, GRANULES_IN_BLOCK};
 ghost use Rattle.lxr_layout.specs.declared.Name.{Name as NameOf};
 ghost use Rattle.lxr_layout.specs.declared.Shape.{Shape as ShapeOf};
 ghost use Rattle.lxr_layout.specs.Places.{IsPlace};
 ghost use Rattle.lxr_base.specs.Roomy.{pushed};
-ghost use Rattle.lxr_image.specs.Reads.{is_tracing};
+ghost use Rattle.lxr_image.specs.Reads.{granule_of, is_tracing};
 ghost use Rattle.lxr_image.specs.Spaces.{IsSpace, Turns, tables_of};
 ghost use Rattle.lxr_model.specs.Moments.{Moment};
 ghost use Rattle.lxr_pause_decrements.specs.Finishing.{CanFinish, Finishes};
@@ -16,7 +16,7 @@ use crate::handled::reclaim_all_handled;
 use crate::reclaiming::reclaim;
 use lxr_image::{Places, Space};
 use lxr_image_search::{Wanted, next_wanted};
-use lxr_layout::{DECREMENT_COUNT, DECREMENT_CURSOR, Header, Place, unpack, word_of};
+use lxr_layout::{DECREMENT_COUNT, DECREMENT_CURSOR, Place, field_word, granule_of, place_at};
 use lxr_tables::Lowered;
 
 /// Lowers the count of the object at a place; a stuck count stays. With its last count the object is reclaimed, and what it
@@ -27,7 +27,7 @@ pub fn lower_place(space: &mut Space, place: Place)
     ensures to_do { to_do space.new ≡ to_do space.old }
     ensures keeps { Keeps space.old space.new }
 {
-    if let Lowered::Zero = space.lower_count(place.0 - 1) {
+    if let Lowered::Zero = space.lower_count(granule_of(place)) {
         reclaim(space, place);
     }
 }
@@ -39,10 +39,7 @@ pub fn reference_slots(space: &Space, place: Place) -> u16
     requires heap { place.0 ≤ GRANULES_IN_BLOCK * space.now.limits.blocks }
     ensures { (n : NameOf) (shape : ShapeOf) → IsHeader (tables_of space.now) place.0 n shape → result ≡ shape.refs }
 {
-    match unpack(space.heap_word(word_of(place))) {
-        Header::Object(_, shape) => shape.refs,
-        Header::Moved(_) => 0,
-    }
+    space.reference_slots(place)
 }
 
 /// Makes the object at a place gray, if a trace runs.
@@ -50,10 +47,10 @@ fn make_gray(space: &mut Space, place: Place, tracing: bool)
     requires space { IsSpace space.old }
     requires place { IsPlace place }
     requires heap { place.0 ≤ GRANULES_IN_BLOCK * space.old.limits.blocks }
-    ensures { Turns space.old space.new (record (tables_of space.old) { grays = grayed_if tracing (tables_of space.old).grays (place.0 - 1) }) }
+    ensures { Turns space.old space.new (record (tables_of space.old) { grays = grayed_if tracing (tables_of space.old).grays (granule_of place.0) }) }
 {
     if tracing {
-        space.set_gray(place.0 - 1);
+        space.set_gray(granule_of(place));
     }
 }
 
@@ -66,7 +63,7 @@ fn lower_field(space: &mut Space, place: Place, index: u16, tracing: bool)
     ensures to_do { to_do space.new ≡ to_do space.old }
     ensures keeps { Keeps space.old space.new }
 {
-    let word = space.heap_word(2 * (place.0 - 1) + 1 + u32::from(index));
+    let word = space.heap_word(field_word(place, index));
     if word != 0 {
         let held = Place(word as u32);
         make_gray(space, held, tracing);
@@ -152,7 +149,7 @@ fn reclaim_dropped(space: &mut Space, granule: u32)
     ensures drops { Drops space.old space.new granule }
     ensures keeps { Keeps space.old space.new }
 {
-    reclaim(space, Place(granule + 1));
+    reclaim(space, place_at(granule));
     drain(space, 0);
 }
 

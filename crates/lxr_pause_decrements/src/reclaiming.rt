@@ -5,13 +5,14 @@ ghost use Rattle.lxr_layout.specs.declared.Name.{Name as NameOf};
 ghost use Rattle.lxr_layout.specs.declared.Shape.{Shape as ShapeOf};
 ghost use Rattle.lxr_layout.specs.Objects.{FitsShape, word_count};
 ghost use Rattle.lxr_layout.specs.Places.{IsPlace};
+ghost use Rattle.lxr_image.specs.Reads.{granule_of};
 ghost use Rattle.lxr_image.specs.Spaces.{IsSpace, Turns, tables_of};
 ghost use Rattle.lxr_invariant.specs.Lines.{line_behind, next_line};
 ghost use Rattle.lxr_pause_decrements.specs.Cascade.{Buries, IsHeader, Reclaims, without_object};
 ghost use Rattle.lxr_pause_decrements.specs.Wipe.{cleared, wiped};
 
 use lxr_image::Space;
-use lxr_layout::{GRANULES_IN_LINE, Header, Place, Shape, unpack, word_of, words_of};
+use lxr_layout::{GRANULES_IN_LINE, Header, Place, Shape, granule_of, unpack, word_of, words_of};
 
 /// Clears the marks of the further lines of an object of so many granules.
 pub(crate) fn clear_line_marks(space: &mut Space, granule: u32, count: u32)
@@ -77,10 +78,10 @@ pub fn clear_object(space: &mut Space, place: Place, shape: Shape)
     requires space { IsSpace space.old }
     requires place { IsPlace place }
     requires shape { FitsShape shape }
-    requires heap { place.0 - 1 + word_count shape / 2 ≤ GRANULES_IN_BLOCK * space.old.limits.blocks }
+    requires heap { granule_of place.0 + word_count shape / 2 ≤ GRANULES_IN_BLOCK * space.old.limits.blocks }
     ensures { Turns space.old space.new (without_object (tables_of space.old) place.0 shape) }
 {
-    let granule = place.0 - 1;
+    let granule = granule_of(place);
     space.clear_start(granule);
     space.clear_mark(granule);
     space.clear_gray(granule);
@@ -92,7 +93,7 @@ pub fn clear_object(space: &mut Space, place: Place, shape: Shape)
 pub fn bury(space: &mut Space, place: Place)
     requires space { IsSpace space.old }
     requires place { IsPlace place }
-    requires header { (n : NameOf) × (shape : ShapeOf) × IsHeader (tables_of space.old) place.0 n shape × (place.0 - 1 + word_count shape / 2 ≤ GRANULES_IN_BLOCK * space.old.limits.blocks) }
+    requires header { (n : NameOf) × (shape : ShapeOf) × IsHeader (tables_of space.old) place.0 n shape × (granule_of place.0 + word_count shape / 2 ≤ GRANULES_IN_BLOCK * space.old.limits.blocks) }
     requires dead { length space.old.report.dead.items < space.old.report.dead.room }
     ensures { (n : NameOf) (shape : ShapeOf) → IsHeader (tables_of space.old) place.0 n shape → Buries space.old space.new place n shape }
 {
@@ -106,7 +107,7 @@ pub fn bury(space: &mut Space, place: Place)
 pub fn reclaim(space: &mut Space, place: Place)
     requires space { IsSpace space.old }
     requires place { IsPlace place }
-    requires header { (n : NameOf) × (shape : ShapeOf) × IsHeader (tables_of space.old) place.0 n shape × (place.0 - 1 + word_count shape / 2 ≤ GRANULES_IN_BLOCK * space.old.limits.blocks) }
+    requires header { (n : NameOf) × (shape : ShapeOf) × IsHeader (tables_of space.old) place.0 n shape × (granule_of place.0 + word_count shape / 2 ≤ GRANULES_IN_BLOCK * space.old.limits.blocks) }
     requires work { length space.old.work.items < space.old.work.room }
     requires dead { length space.old.report.dead.items < space.old.report.dead.room }
     ensures { (n : NameOf) (shape : ShapeOf) → IsHeader (tables_of space.old) place.0 n shape → Reclaims space.old space.new place n shape }

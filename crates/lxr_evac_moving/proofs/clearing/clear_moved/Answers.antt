@@ -23,14 +23,14 @@ clear_place-requires-clause-heap c =
     let r = c.requires in
     let told : header_of ((tables_of c.args.space.now).heap (2 * c.args.granule)) ≡ Moved c.in-Moved.now = sym (ap header_of c.heap_word.ensures) ∙ sym c.unpack.ensures ∙ c.in-Moved.is in
     let stands = stands_there c.args.space.now r.0 r.1 r.2 c.args.granule r.3 r.4 c.in-Moved.now told in
-    shape_within c.args.space.now r.0 r.1 r.2 c.args.granule r.3 r.4 c.object.result.1 (ap (λ z. z.1) (c.object.ensures _ _ stands))
+    rw c.place_at.ensures (shape_within c.args.space.now r.0 r.1 r.2 c.args.granule r.3 r.4 c.object.result.1 (ap (λ z. z.1) (c.object.ensures _ _ stands)))
 
 pub returns-in-Moved-clause-clears : goal.returns-in-Moved-clause-clears
 returns-in-Moved-clause-clears c = λ m st from is next.
     let told : header_of ((tables_of c.args.space.now).heap (2 * c.args.granule)) ≡ Moved c.in-Moved.now = sym (ap header_of c.heap_word.ensures) ∙ sym c.unpack.ensures ∙ c.in-Moved.is in
     let stands = stands_there c.args.space.now m st from c.args.granule is next c.in-Moved.now told in
     let same = ap (λ z. z.1) (c.object.ensures _ _ stands) in
-    clears_left c.args.space.now m st from c.args.granule is next c.clear_place.new.space c.in-Moved.now c.object.result.1 told same c.clear_place.ensures
+    clears_left c.args.space.now m st from c.args.granule is next c.clear_place.new.space c.in-Moved.now c.object.result.1 told same (rw c.place_at.ensures at c.clear_place.ensures)
 
 pub returns-in_default-clause-clears : goal.returns-in_default-clause-clears
 returns-in_default-clause-clears c = λ m st from is next.

@@ -39,9 +39,11 @@ returns c = λ n shape h.
     let e = c.object.ensures n shape h in
     let words : c.words_of.result ≡ word_count shape = c.words_of.ensures ∙ ap (λ z. word_count z.1) e in
     let t = tables_of c.take_gray.new.space in
-    let count = subst (λ z. Turns c.take_gray.new.space c.set_count.new.self (record t { counts = changed t.counts (granule_of c.args.new.0) z })) c.count-count.ensures.value c.set_count.ensures in
-    let marks = subst (λ z. Turns c.set_count.new.self c.mark_lines.new.space (with_marks (tables_of c.set_count.new.self) (granule_of c.args.new.0) (z / 2))) words c.mark_lines.ensures in
+    let from = c.granule_of-from.ensures in
+    let to = c.granule_of-to.ensures in
+    let count = subst (λ z. Turns c.take_gray.new.space c.set_count.new.self (record t { counts = changed t.counts (granule_of c.args.new.0) z })) (rw from at c.count-count.ensures.value) (rw to at c.set_count.ensures) in
+    let marks = subst (λ z. Turns c.set_count.new.self c.mark_lines.new.space (with_marks (tables_of c.set_count.new.self) (granule_of c.args.new.0) (z / 2))) words (rw to at c.mark_lines.ensures) in
     let first = subst (λ z. Turns c.mark_lines.new.space c.log_references.new.space (with_unlogged (tables_of c.mark_lines.new.space) (z + 1) (z + 1 + c.object.result.1.refs))) c.word_of.ensures c.log_references.ensures in
     let logs = subst (λ z. Turns c.mark_lines.new.space c.log_references.new.space (with_unlogged (tables_of c.mark_lines.new.space) (first_word c.args.new.0 + 1) (first_word c.args.new.0 + 1 + z.1.refs))) e first in
     taken_over_turns c.args.space.now c.set_start.new.self c.take_mark.new.space c.take_gray.new.space c.set_count.new.self c.mark_lines.new.space c.log_references.new.space c.args.old c.args.new shape
-    c.set_start.ensures c.take_mark.ensures c.take_gray.ensures count marks logs
+    (rw to at c.set_start.ensures) (rw from at (rw to at c.take_mark.ensures)) (rw from at (rw to at c.take_gray.ensures)) count marks logs

@@ -1,5 +1,9 @@
+use Rattle.std.proofs.Common.{arith}
 use Rattle.lxr_evac_moving.proofs.EntryLemmas.{all_entries_fixed, number_below, number_end}
 use Rattle.lxr_evac_moving.proofs.references.fix_references.Goals as goal
+
+pub loop-number-init : goal.loop-number-init
+loop-number-init c = λ m st can. record { evacuating = can.evacuating; uncleared = can.uncleared; fixed = λ n i member within told. let below = told.1 in absurd (omega (arith, below)) }
 
 pub fix_entry-requires : goal.fix_entry-requires
 fix_entry-requires c =

@@ -1,7 +1,10 @@
-use Rattle.std.proofs.Common.{◌∙◌, ap, arith}
+use Rattle.std.proofs.Common.{◌∙◌, ap, arith, refl}
 use Rattle.lxr_image.specs.declared.space.Space.{Space}
 use Rattle.lxr_evac_moving.proofs.RegisterLemmas.{all_now}
 use Rattle.lxr_evac_moving.proofs.registers.fix_deferred.Goals as goal
+
+pub loop-register-init : goal.loop-register-init
+loop-register-init c = record { fixes = λ m st is. (is, record { first = λ k p r below there held. absurd (omega (arith, below)) }); rest = refl }
 
 pub fix_deferred_register-requires : goal.fix_deferred_register-requires
 fix_deferred_register-requires c =
