@@ -9,7 +9,7 @@ ghost use Rattle.lxr_pause_trace.specs.Tracing.{CanFinishTrace, FinishesTrace};
 
 use lxr_image::Space;
 use lxr_image_search::{Wanted, next_wanted};
-use lxr_layout::{Header, Place, field_word, granule_of, place_at};
+use lxr_layout::{Place, field_word, granule_of, place_at};
 use lxr_remset::remember_chosen;
 
 /// Makes the object at a place gray and marks it. Where it was unmarked, it waits in the worklist.
@@ -28,15 +28,12 @@ fn find(space: &mut Space, place: Place)
     }
 }
 
-/// How many references the object at a place has.
+/// How many references the object at a place has, which is to be scanned.
 fn reference_slots(space: &Space, place: Place) -> u16
-    requires { IsSpace space.now }
+    requires { MayScan space.now place.0 }
     ensures { result ≡ slots_at (tables_of space.now) place.0 }
 {
-    match space.object(place) {
-        Some(Header::Object(_, shape)) => shape.refs,
-        _ => 0,
-    }
+    space.reference_slots(place)
 }
 
 /// Finds what one reference of an object holds, unless it is nil. Where that stands in a Chosen block, the reference is
