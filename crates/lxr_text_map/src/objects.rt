@@ -9,17 +9,17 @@ ghost use Rattle.lxr_text_map.specs.Map.{CanBeMapped, object_line, objects_text}
 
 use lxr_image::Space;
 use lxr_image_search::{Wanted, next_wanted};
-use lxr_layout::{GRANULES_IN_BLOCK, Header, Name, Shape, unpack};
+use lxr_layout::{GRANULES_IN_BLOCK, Header, Name, Place, Shape, place_at, unpack};
 use lxr_text_print::{LINE, PAGE, Page};
 use lxr_text_stream::{Sink, WriteError};
 
 /// Adds the line of an object at a place.
-fn push_object(page: &mut Page, place: u32, name: Name, shape: Shape)
+fn push_object(page: &mut Page, place: Place, name: Name, shape: Shape)
     requires { length page.old + LINE ≤ PAGE }
-    ensures { page.new ≡ page.old ++ object_line place (Header.Object name shape) }
+    ensures { page.new ≡ page.old ++ object_line place.0 (Header.Object name shape) }
 {
     page.push(b"object ");
-    page.number(place.into());
+    page.number(place.0.into());
     page.push(b" ");
     page.name(name);
     page.push(b" ");
@@ -38,7 +38,7 @@ fn push_granule(page: &mut Page, space: &Space, granule: u32)
     ensures { page.new ≡ page.old ++ object_line (granule + 1) (header_of ((tables_of space.now).heap (2 * granule))) }
 {
     match unpack(space.heap_word(2 * granule)) {
-        Header::Object(name, shape) => push_object(page, granule + 1, name, shape),
+        Header::Object(name, shape) => push_object(page, place_at(granule), name, shape),
         Header::Moved(_) => unreachable!(),
     }
 }
