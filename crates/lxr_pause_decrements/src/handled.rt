@@ -18,7 +18,10 @@ use crate::reclaiming::{clear_line_marks, clear_logs};
 use lxr_base::take_bit;
 use lxr_image::Space;
 use lxr_image_search::{Wanted, may_want};
-use lxr_layout::{Header, unpack, words_of};
+use lxr_layout::{GRANULES_IN_BLOCK, Header, unpack, words_of};
+
+/// How many words of bits a block has, a bit for each granule.
+const BIT_WORDS_IN_BLOCK: u32 = GRANULES_IN_BLOCK / 64;
 
 /// Reports the object that begins at a granule as dead.
 #[inline(always)]
@@ -55,8 +58,8 @@ fn report_block(space: &mut Space, block: u32)
     ensures reports { ReportsBlock space.old space.new block }
     ensures only { OnlyReports space.old space.new }
 {
-    for i in 0..32 {
-        report_word(space, 32 * block + i);
+    for i in 0..BIT_WORDS_IN_BLOCK {
+        report_word(space, BIT_WORDS_IN_BLOCK * block + i);
     }
 }
 
@@ -102,8 +105,8 @@ fn clear_block(space: &mut Space, block: u32)
     requires stand { HandledStand (tables_of space.old) space.old.limits.blocks (GRANULES_IN_BLOCK * block) (GRANULES_IN_BLOCK * (block + 1)) }
     ensures { Turns space.old space.new (reclaimed_words (tables_of space.old) (32 * block) 32) }
 {
-    for i in 0..32 {
-        clear_word(space, 32 * block + i);
+    for i in 0..BIT_WORDS_IN_BLOCK {
+        clear_word(space, BIT_WORDS_IN_BLOCK * block + i);
     }
 }
 
