@@ -90,7 +90,7 @@ fn report<R: Print>(
 }
 
 /// The nanoseconds since a start, or 0 where the clock fails.
-fn nanos_since<R: Clock>(rt: &R, start: Instant) -> u128 {
+pub fn nanos_since<R: Clock>(rt: &R, start: Instant) -> u128 {
     match start.elapsed(rt) {
         Ok(elapsed) => elapsed.as_nanos(),
         Err(_) => 0,

@@ -82,6 +82,8 @@ impl<'a, R: Clock> Meet<'a, R> {
 }
 
 impl<'a, R: Clock + Sync> Gate for Meet<'a, R> {
+    ghost passed = { λ _ _ _. Unit {0} };
+
     fn at(&self, thread: u8, _op: u32) {
         if self.first() == 0 {
             self.first

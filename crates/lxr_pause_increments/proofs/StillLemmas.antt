@@ -45,17 +45,6 @@ outs_more a b c k before one = record {
     step : (line : ℕ) → (if line / LINES_IN_BLOCK == k then false else out_behind (tables_of a).outs (LINES_IN_BLOCK * k) line) ≡ out_behind (tables_of a).outs (LINES_IN_BLOCK * (k + 1)) line
     step line = grind (arith, nat_tests)
 
--- two words have the bits of a block's lines
-pub outs_of_block : (a b c : Space) (k : ℕ) → Turns a b (record (tables_of a) { outs = λ line. if line / 64 == 2 * k then false else (tables_of a).outs line })
-    → Turns b c (record (tables_of b) { outs = λ line. if line / 64 == 2 * k + 1 then false else (tables_of b).outs line }) → Turns a c (without_outs_of (tables_of a) k)
-outs_of_block a b c k first second = record {
-  tables = second.tables ∙ ap {A = Tables} (λ t. record t { outs = λ line. if line / 64 == 2 * k + 1 then false else t.outs line }) first.tables ∙ (λ i. record (tables_of a) { outs = λ line. both line i });
-  rest = second.rest ∙ ap {A = Space} (λ s. record s { words = c.words }) first.rest;
-}
-  where
-    both : (line : ℕ) → (if line / 64 == 2 * k + 1 then false else (if line / 64 == 2 * k then false else (tables_of a).outs line)) ≡ (if line / LINES_IN_BLOCK == k then false else (tables_of a).outs line)
-    both line = grind (arith, nat_tests)
-
 -- a block whose state is Free has none
 pub outs_of_free : (s : Space) (k : ℕ) → OutsAvoidFree (tables_of s) → state_in (tables_of s) k ≡ Free → Turns s s (without_outs_of (tables_of s) k)
 outs_of_free s k avoid free = record { tables = λ i. record (tables_of s) { outs = λ line. none line i }; rest = refl }

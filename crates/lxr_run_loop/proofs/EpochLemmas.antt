@@ -1,36 +1,25 @@
 -- An epoch of a run: once it is opened its actors can go on, and once they have it is closed behind a history that has more calls alone.
-use Rattle.std.proofs.Common.{◌≡◌, ℕ, ◌<◌, refl, sym, ap, subst, ◌∙◌, arith, true, List, length, map}
-use Rattle.std.specs.Prelude.{Option, Some, slice_index_or}
+use Rattle.std.proofs.Common.{◌≡◌, ℕ, refl, sym, ap, subst, ◌∙◌, arith, List, length}
+use Rattle.std.specs.Prelude.{Option}
 use Rattle.std.proofs.lemmas.List.{length-map}
-use Rattle.std.proofs.lemmas.Option.{slice_get-get_or, slice_get_within}
-use Rattle.lxr_layout.specs.declared.Place.{Place}
-use Rattle.lxr_layout.specs.declared.limits.Limits.{Limits}
-use Rattle.lxr_layout.specs.Spaces.{all_regions, region_begin}
 use Rattle.lxr_graph.specs.History.{Item}
 use Rattle.lxr_image.specs.declared.space.Space.{Space}
 use Rattle.lxr_invariant.specs.AbstractState.{AbstractState}
 use Rattle.lxr_actor.specs.declared.Core.{Core}
 use Rattle.lxr_actor.specs.Run.{core_of}
 use Rattle.lxr_actor.proofs.Runs.{run-lengths}
-use Rattle.lxr_mutator.specs.declared.phases.MutEnd.{MutEnd}
-use Rattle.lxr_mutator.specs.declared.phases.MutEnd.TheVariants as ends
-use Rattle.lxr_mutator.specs.Mutating.{rests_in}
-use Rattle.lxr_mutator.specs.Mutators.{phase_again}
 use Rattle.lxr_core.specs.declared.actors.AnyActor.{AnyActor}
-use Rattle.lxr_core.specs.declared.actors.AnyActor.TheVariants as any
-use Rattle.lxr_core.specs.Actors.{any_machine, decrementers_in, mutators_in, script_of, tracers_in}
-use Rattle.lxr_core.specs.Closing.{AreFinished, AreResting, Closes, MayClose}
+use Rattle.lxr_core.specs.Actors.{any_machine, mutators_in, script_of, tracers_in}
+use Rattle.lxr_core.specs.Closing.{AreFinished, Closes, MayClose}
 use Rattle.lxr_core.specs.Collecting.{actor_given_up}
 use Rattle.lxr_core.specs.Executions.{Execution, HoldsExecution, tell_all}
 use Rattle.lxr_core.specs.Filling.{unfilled}
 use Rattle.lxr_core.specs.Opening.{Opens, execution_at}
-use Rattle.lxr_core.specs.Starting.{HaveStarted, registers_in, started_again}
-use Rattle.lxr_core.proofs.MappedLemmas.{mapped}
 use Rattle.lxr_core.proofs.OrderLemmas.{lengths_add}
 use Rattle.lxr_core.proofs.ScriptLemmas.{opened_script, script_runs}
-use Rattle.lxr_run_replay.proofs.ClosingLemmas.{can_be_replayed, may_close}
-use Rattle.lxr_shared.proofs.Openings.{opened_have_ends}
+use Rattle.lxr_run_replay.proofs.ClosingLemmas.{may_close}
 use Rattle.lxr_run_threads.specs.Running.{CanRun}
+use Rattle.lxr_run_threads.proofs.OpenedLemmas.{opened_can_run, started_helpers}
 use Rattle.lxr_run_watch.specs.Sights.{Sight}
 use Rattle.lxr_words.specs.declared.Options.{Options}
 use Rattle.lxr_words.specs.Ranges.{AreInRange}
@@ -42,43 +31,7 @@ use Rattle.lxr_run_invariant.proofs.PauseLemmas.{few_threads}
 use Rattle.lxr_run_loop.specs.Drawing.{GoesOn}
 use Rattle.lxr_run_loop.specs.Progress.{HasMadeEpoch}
 use Rattle.lxr_run_loop.proofs.ThreadLemmas.{as_many_helpers}
-use Rattle.lxr_run_loop.proofs.TracerLemmas.{started_tracers, tracers_run}
-
--- ---- the actors rest as an epoch opens
-
--- a mutator is ready for its next unit, or is through
-mutator_rests : (e : Option MutEnd) → rests_in (phase_again e) ≡ true
-mutator_rests (Some ends.Ended) = refl
-mutator_rests e = refl
-
--- an actor that begins again rests
-again_rests : (a : AnyActor) (registers : List Place) → any_machine.rests (started_again a registers) ≡ true
-again_rests (any.Mutator m) registers = mutator_rests m.end
-again_rests (any.Decrementer d) registers = refl
-again_rests (any.Tracer d) registers = refl
-
--- whatever its pocket was filled with
-filled_rests : (a : AnyActor) → any_machine.rests a ≡ any_machine.rests (unfilled a)
-filled_rests (any.Mutator m) = refl
-filled_rests (any.Decrementer d) = refl
-filled_rests (any.Tracer d) = refl
-
-started_rest : (places : List Place) (before after : List AnyActor) → HaveStarted places before (map unfilled after) (length before) → AreResting after
-started_rest places before after have i x at =
-    let many = have.as_many in
-    let as_many = length-map after unfilled in
-    let inside = slice_get_within after i x at in
-    let below : i < length before = omega arith in
-    let now = have.started i (slice_index_or before i x) (slice_get-get_or before i x below) below in
-    let same = some_same (unfilled x) (started_again (slice_index_or before i x) (registers_in places i)) (sym (mapped unfilled after i x at) ∙ now) in
-    filled_rests x ∙ ap any_machine.rests same ∙ again_rests (slice_index_or before i x) (registers_in places i)
-  where
-    some_same : (a b : AnyActor) → Some a ≡ Some b → a ≡ b
-    some_same a b e = cc
-
--- a space has words
-words_stand : (l : Limits) (n : ℕ) → n ≡ region_begin l all_regions → 0 < n
-words_stand l n is = omega arith
+use Rattle.lxr_run_loop.proofs.TracerLemmas.{tracers_run}
 
 -- ---- an epoch of a run
 
@@ -93,18 +46,11 @@ module _ (task : Task) (space : Space) (written : Option (List ℕ)) (seen : Opt
   started_script = opened_script space opened actors started opens ∙ amid.actors_rest.mutators.script
 
   same_tracers : length (tracers_in started) ≡ length (tracers_in actors)
-  same_tracers = started_tracers space.registers.items actors started opens.actors
-
-  same_helpers : length (decrementers_in started) ≡ length (decrementers_in actors)
-  same_helpers = as_many_helpers actors started task.script started_many same_tracers amid.actors_rest.mutators.script started_script
+  same_tracers = (started_helpers space.registers.items actors started opens.actors).tracers
 
   -- so the epoch can run
   pub can_run : (options : Options) → task.options ≡ options → AreInRange options → CanRun options opened started
-  can_run options with_options range = record {
-    words = words_stand space.limits (length opened.words) holds.1.size;
-    fits = can_be_replayed (beginning_of task space h g) (execution_at (beginning_of task space h g) opened started) holds;
-    resting = started_rest space.registers.items actors started opens.actors;
-    ends = opened_have_ends space opened actors started opens;
+  can_run options with_options range = opened_can_run options (beginning_of task space h g) space opened actors started (record {
     few =
         let all = lengths_add actors in
         let mutators = as_many task h (mutators_in actors) amid.actors_rest.mutators in
@@ -112,12 +58,11 @@ module _ (task : Task) (space : Space) (written : Option (List ℕ)) (seen : Opt
         let workers = amid.actors_rest.workers in
         let few = amid.actors_rest.few in
         let tracers = amid.actors_rest.tracers in
-        let same = started_many in
         omega arith;
     workers = range.workers;
-    decrementers = same_helpers ∙ amid.actors_rest.workers ∙ ap (λ (o : Options). o.workers) with_options;
-    tracers = same_tracers ∙ amid.actors_rest.tracers ∙ ap (λ (o : Options). o.workers) with_options;
-  }
+    decrementers = amid.actors_rest.workers ∙ ap (λ (o : Options). o.workers) with_options;
+    tracers = amid.actors_rest.tracers ∙ ap (λ (o : Options). o.workers) with_options;
+  }) opens holds
 
   module _ (gone : Space) (moved : List AnyActor) (x x' : Option ℕ) (on : GoesOn opened gone started moved x x') where
     -- what it has come to

@@ -1,8 +1,6 @@
--- Neither the opening of an epoch nor its steps change how many actors of each kind there are.
-use Rattle.std.proofs.Common.{◌≡◌, ℕ, zero, suc, refl, sym, ap, subst, ◌∙◌, arith, List, [], ◌∷◌, length, map}
+-- The steps of an epoch leave how many tracers there are.
+use Rattle.std.proofs.Common.{◌≡◌, ℕ, zero, suc, refl, ap, subst, ◌∙◌, List, [], ◌∷◌, length}
 use Rattle.std.specs.Prelude.{Option, Some, None, slice_get, slice_set}
-use Rattle.std.proofs.lemmas.Option.{slice_get_within}
-use Rattle.lxr_layout.specs.declared.Place.{Place}
 use Rattle.lxr_actor.specs.declared.Action.{Action}
 use Rattle.lxr_actor.specs.declared.Core.{Core}
 use Rattle.lxr_actor.specs.declared.Event.{Event}
@@ -11,9 +9,7 @@ use Rattle.lxr_actor.specs.Run.{acted, change, event, happened, of_event, run}
 use Rattle.lxr_core.specs.declared.actors.AnyActor.{AnyActor}
 use Rattle.lxr_core.specs.declared.actors.AnyActor.TheVariants as any
 use Rattle.lxr_core.specs.Actors.{any_machine, tracers_in}
-use Rattle.lxr_core.specs.Filling.{unfilled}
-use Rattle.lxr_core.specs.Starting.{HaveStarted, registers_in, started_again}
-use Rattle.lxr_core.proofs.OrderLemmas.{AreAlike, SameKind, two_helpers, two_mutators, two_tracers}
+use Rattle.lxr_core.proofs.OrderLemmas.{SameKind, two_helpers, two_mutators, two_tracers}
 
 -- ---- actors of the same kinds
 
@@ -23,17 +19,6 @@ one_more a x before after (two_mutators m y) rest = rest
 one_more a x before after (two_helpers d y) rest = rest
 one_more a x before after (two_tracers d y) rest = ap suc rest
 
--- where each has another of its kind in its place, there are as many tracers
-alike_tracers : (before after : List AnyActor) → AreAlike before after → length (tracers_in after) ≡ length (tracers_in before)
-alike_tracers [] [] are = refl
-alike_tracers [] (x ∷ after) are = let many = are.as_many in absurd (omega (arith, many))
-alike_tracers (a ∷ before) [] are = let many = are.as_many in absurd (omega (arith, many))
-alike_tracers (a ∷ before) (x ∷ after) are =
-    let (y, there, kind) = are.each 0 a refl in
-    let same : y ≡ x = cc in
-    one_more a x before after (subst (SameKind a) same kind)
-    (alike_tracers before after (record { as_many = let many = are.as_many in omega (arith, many); each = λ i b at. are.each (suc i) b at }))
-
 -- so there are where one is put in the place of one of its kind
 put_tracers : (actors : List AnyActor) (n : ℕ) (a x : AnyActor) → slice_get actors n ≡ Some a → SameKind a x → length (tracers_in (slice_set actors n x)) ≡ length (tracers_in actors)
 put_tracers [] n a x there kind = absurd (cc)
@@ -41,31 +26,6 @@ put_tracers (y ∷ actors) zero a x there kind = let same : a ≡ y = cc in one_
 put_tracers (any.Mutator m ∷ actors) (suc n) a x there kind = put_tracers actors n a x there kind
 put_tracers (any.Decrementer d ∷ actors) (suc n) a x there kind = put_tracers actors n a x there kind
 put_tracers (any.Tracer d ∷ actors) (suc n) a x there kind = ap suc (put_tracers actors n a x there kind)
-
--- ---- the opening
-
--- what pockets were filled with leaves how many tracers there are
-unfilled_tracers : (actors : List AnyActor) → length (tracers_in (map unfilled actors)) ≡ length (tracers_in actors)
-unfilled_tracers [] = refl
-unfilled_tracers (any.Mutator m ∷ actors) = unfilled_tracers actors
-unfilled_tracers (any.Decrementer d ∷ actors) = unfilled_tracers actors
-unfilled_tracers (any.Tracer d ∷ actors) = ap suc (unfilled_tracers actors)
-
--- one that begins again is of its kind
-again_kind : (a : AnyActor) (registers : List Place) → SameKind a (started_again a registers)
-again_kind (any.Mutator m) registers = two_mutators m _
-again_kind (any.Decrementer d) registers = two_helpers d _
-again_kind (any.Tracer d) registers = two_tracers d _
-
--- there are as many tracers once all have begun again, and their pockets are filled
-pub started_tracers : (places : List Place) (before after : List AnyActor) → HaveStarted places before (map unfilled after) (length before) → length (tracers_in after) ≡ length (tracers_in before)
-started_tracers places before after have =
-    sym (unfilled_tracers after)
-    ∙ alike_tracers before (map unfilled after)
-    (record {
-      as_many = have.as_many;
-      each = λ i a at. (started_again a (registers_in places i), have.started i a at (slice_get_within before i a at), again_kind a (registers_in places i));
-    })
 
 -- ---- the steps
 

@@ -9,8 +9,8 @@ use Rattle.lxr_actor.specs.declared.Core.{Core}
 use Rattle.lxr_actor.specs.declared.Event.TheVariants.{Step}
 use Rattle.lxr_actor.specs.Machine.{to_go}
 use Rattle.lxr_actor.specs.Run.{core_of, event, run, stepped}
-use Rattle.lxr_actor.proofs.Runs.{event-is, run-append, run-snoc, slice_get-set_other, slice_get-set_same}
-use Rattle.lxr_mutator.specs.Mutating.{Mutating, rests_in}
+use Rattle.lxr_actor.proofs.Runs.{event-is, run-append, slice_get-set_other, slice_get-set_same}
+use Rattle.lxr_mutator.specs.Mutating.{rests_in}
 use Rattle.lxr_core.specs.declared.actors.AnyActor.{AnyActor}
 use Rattle.lxr_core.specs.declared.actors.AnyActor.TheVariants as any
 use Rattle.lxr_core.specs.Actors.{AreInOrder, any_machine, mutators_in}

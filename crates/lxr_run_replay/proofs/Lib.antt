@@ -6,3 +6,4 @@ pub mod ReplayLemmas
 pub mod FinishLemmas
 pub mod ShiftLemmas
 pub mod ClosingLemmas
+pub mod GateLemmas

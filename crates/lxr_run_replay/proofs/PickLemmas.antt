@@ -1,7 +1,7 @@
 -- What the step of a picked actor does: a mutator has less work before it then, and a helper is picked only where the
 -- generator hasn't come to 0, since the first actor that may be drawn is a mutator.
-use Rattle.std.proofs.Common.{◌≡◌, ℕ, zero, suc, ◌+◌, ◌*◌, ◌%◌, ◌<◌, ◌≤◌, ◌^◌, Bool, true, false, IsTrue, ◌↔◌, List, [], ◌∷◌, ◌++◌, map, length, arith, refl, sym, subst, ap, ◌∙◌}
-use Rattle.std.specs.Prelude.{Option, Some, None, is_some, nat_eq, ◌||◌, if◌then◌else◌, slice_get, slice_index, slice_set}
+use Rattle.std.proofs.Common.{◌≡◌, ℕ, zero, suc, ◌+◌, ◌*◌, ◌%◌, ◌<◌, ◌≤◌, Bool, true, false, IsTrue, ◌↔◌, List, [], ◌∷◌, length, arith, refl, sym, subst, ap, ◌∙◌}
+use Rattle.std.specs.Prelude.{Option, Some, None, is_some, nat_eq, ◌||◌, slice_get, slice_index, slice_set}
 use Rattle.std.proofs.Math.ListN.{length-set}
 use Rattle.std.proofs.Math.Nat.{mul-le-mul_right}
 use Rattle.std.proofs.lemmas.Option.{slice_get_within}
@@ -10,7 +10,7 @@ use Rattle.lxr_base.proofs.Period.{steps_left, steps_left_falls, steps_left_few}
 use Rattle.lxr_actor.specs.declared.Action.{Action}
 use Rattle.lxr_actor.specs.declared.Core.{Core}
 use Rattle.lxr_actor.specs.declared.Event.TheVariants.{Step}
-use Rattle.lxr_actor.specs.Run.{acted, core_of, event, stepped}
+use Rattle.lxr_actor.specs.Run.{acted, core_of, event}
 use Rattle.lxr_actor.proofs.Runs.{event-is}
 use Rattle.lxr_mutator.specs.Mutating.{Mutating}
 use Rattle.lxr_mutator.specs.Mutators.{IsMutator}

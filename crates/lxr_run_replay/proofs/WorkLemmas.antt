@@ -25,7 +25,7 @@ use Rattle.lxr_mutator.specs.declared.phases.Stop.TheVariants as stop
 use Rattle.lxr_mutator.specs.Operating.{asked_reply, dest_of, indexed_fields, index_of}
 use Rattle.lxr_mutator.specs.Mutating.{Mutating, next_name, nil, op_now, register}
 use Rattle.lxr_mutator.specs.Mutators.{IsMutator, MayBeIn}
-use Rattle.lxr_mutator.specs.Steps.{accepts_in, action, action_in, after, after_in, based, done_with, draws_for, finished, has_room, in_current, in_overflow, is_medium, left_in, name_told, reaching, shape_now, shape_told, started, stored, with_register}
+use Rattle.lxr_mutator.specs.Steps.{accepts_in, action, action_in, after, after_in, based, done_with, draws_for, finished, has_room, in_current, in_overflow, is_medium, name_told, reaching, shape_now, shape_told, started, stored, with_register}
 use Rattle.lxr_alloc.specs.Spans.{block_span}
 use Rattle.lxr_mutator.proofs.NowLemmas.{few_words}
 use Rattle.lxr_run_replay.specs.Working.{units, work, work_in}

@@ -8,6 +8,7 @@ use Rattle.lxr_actor.specs.Run.{AlwaysFits, core_of, event, run}
 use Rattle.lxr_image.specs.declared.space.Space.{Space}
 use Rattle.lxr_mutator.specs.Mutating.{Mutating}
 use Rattle.lxr_mutator.specs.Mutators.{IsMutator}
+use Rattle.lxr_run_watch.specs.Gates.{IsLetPass}
 use Rattle.lxr_core_invariant.specs.EpochStates.{Beginning}
 use Rattle.lxr_core.specs.declared.actors.AnyActor.{AnyActor}
 use Rattle.lxr_core.specs.declared.actors.AnyActor.TheVariants as any
@@ -45,6 +46,10 @@ unfinished tracing actors = unfinished_from tracing 0 actors
 -- from 0, that is the draw modulo how many these are
 abbrev pub IsPicked : Bool → ℕ → List AnyActor → ℕ → Type 0
 IsPicked tracing x actors number = slice_get (unfinished tracing actors) (draw x % length (unfinished tracing actors)) ≡ Some number
+
+-- where the actor of this number is a mutator that is about to begin an operation, the gate has let that pass
+abbrev pub LetsPass : (ℕ → ℕ → Type 0) → List AnyActor → ℕ → Type 0
+LetsPass passed actors number = (m : Mutating) → slice_get actors number ≡ Some (any.Mutator m) → IsLetPass passed m
 
 -- the first actor that doesn't rest has this number
 pub record IsFirstBusy (actors : List AnyActor) (number : ℕ) : Type 0 where

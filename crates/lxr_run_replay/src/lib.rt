@@ -6,7 +6,6 @@
 //! and all actors at rest, and that its words and actors are those of the fold over the schedule that the generator picks.
 #![tactic(auto)]
 
-mod gates;
 mod numbers;
 mod replaying;
 
@@ -14,7 +13,6 @@ ghost use Rattle.lxr_core_invariant.specs.EpochStates.{Beginning};
 ghost use Rattle.lxr_core.specs.Executions.{HoldsExecution, Execution};
 ghost use Rattle.lxr_run_replay.specs.Replaying.{CanBeReplayed, SchedulesMayClose};
 
-pub use gates::{Gate, Open, pass_gate};
 pub use replaying::replay_epoch;
 
 /// The core of each execution of which the invariant of its epoch holds can be replayed.

@@ -2,31 +2,34 @@
 ghost use Rattle.std.specs.Prelude.{◌≡◌, ℕ, ◌+◌, ◌<◌, ◌≤◌, [], ◌∷◌, List, is_some, length, map};
 ghost use Rattle.lxr_base.specs.Draws.{step as stepped_on};
 ghost use Rattle.lxr_actor.specs.declared.Event.TheVariants.{Step};
+ghost use Rattle.lxr_mutator.specs.Mutating.{Mutating};
 ghost use Rattle.lxr_actor.specs.Machine.{Fits};
 ghost use Rattle.lxr_actor.specs.Run.{FitsAt, core_of, event, run, stepped};
 ghost use Rattle.lxr_core.specs.Actors.{any_machine, mutators_in};
 ghost use Rattle.lxr_core.specs.Closing.{AreFinished, AreResting};
-ghost use Rattle.lxr_run_replay.specs.Replaying.{CanBeReplayed, Draws, IsPicked, Replays, may_be_drawn, unfinished};
+ghost use Rattle.lxr_run_watch.specs.Gates.{HavePassed, IsLetPass};
+ghost use Rattle.lxr_run_replay.specs.Replaying.{CanBeReplayed, Draws, IsPicked, LetsPass, Replays, may_be_drawn, unfinished};
 ghost use Rattle.lxr_run_replay.specs.Finishing.{IsFinishing, RestBefore};
 
-use crate::gates::{Gate, pass_gate};
 use crate::numbers::{Unfinished, may_be_drawn};
 use lxr_actor::{Actor, step};
 use lxr_base::draw;
 use lxr_core::AnyActor;
 use lxr_image::Space;
+use lxr_run_watch::{Gate, pass_gate};
 use lxr_tables::PlainWords;
 
 /// Replays an epoch: while some mutator has a next action, a draw modulo how many actors have one picks one of these by its
 /// place among them, from 0, and it makes one atomic step. Tracers count among them only while a trace runs. Then each helper
-/// that doesn't rest finishes its unit, in order. Before a mutator that rests makes a step, the gate is called. What `x` holds
-/// afterwards is the generator's last number.
+/// that doesn't rest finishes its unit, in order. Before a mutator that rests makes a step, the gate is called; so mutators gain
+/// replies to operations alone that it has let pass. What `x` holds afterwards is the generator's last number.
 pub fn replay_epoch<G: Gate>(space: &mut Space, actors: &mut [AnyActor], x: &mut u64, gate: &G)
     requires few { length actors.old ≤ 32 }
     requires replayable { CanBeReplayed (core_of space.old.words actors.old) }
     ensures schedule { (schedule : List ℕ) × Replays (is_some space.old.trace) x.old (core_of space.old.words actors.old) schedule x.new × (core_of space.new.words actors.new ≡ run any_machine (core_of space.old.words actors.old) (map Step schedule)) }
     ensures finished { AreFinished (mutators_in actors.new) }
     ensures resting { AreResting actors.new }
+    ensures passed { HavePassed (G.passed gate.now) (mutators_in actors.old) (mutators_in actors.new) }
     ensures rest { space.new ≡ record space.old { words = space.new.words } }
 {
     let tracing = space.trace.is_some();
@@ -44,6 +47,7 @@ fn replay<G: Gate>(
     requires few { length actors.old ≤ 32 }
     requires replayable { CanBeReplayed (core_of words.old actors.old) }
     ensures schedule { (schedule : List ℕ) × Replays tracing x.old (core_of words.old actors.old) schedule x.new × (core_of words.new actors.new ≡ run any_machine (core_of words.old actors.old) (map Step schedule)) }
+    ensures passed { HavePassed (G.passed gate.now) (mutators_in actors.old) (mutators_in actors.new) }
     ensures finished { AreFinished (mutators_in actors.new) }
     ensures resting { AreResting actors.new }
 {
@@ -61,7 +65,8 @@ fn draw_steps<G: Gate>(
 )
     requires few { length actors.old ≤ 32 }
     requires replayable { CanBeReplayed (core_of words.old actors.old) }
-    ensures { (drawn : List ℕ) × Draws tracing x.old (core_of words.old actors.old) drawn x.new × (core_of words.new actors.new ≡ run any_machine (core_of words.old actors.old) (map Step drawn)) }
+    ensures passed { HavePassed (G.passed gate.now) (mutators_in actors.old) (mutators_in actors.new) }
+    ensures draws { (drawn : List ℕ) × Draws tracing x.old (core_of words.old actors.old) drawn x.new × (core_of words.new actors.new ≡ run any_machine (core_of words.old actors.old) (map Step drawn)) }
 {
     let mutators = mutators_among(actors);
     let mut numbers = Unfinished::of(actors, tracing);
@@ -106,7 +111,7 @@ fn turn<G: Gate>(
     requires fits { (number : ℕ) → FitsAt any_machine (core_of words.old actors.old) number }
     requires numbers { numbers.old ≡ unfinished tracing actors.old }
     requires some { 0 < length numbers.old }
-    ensures step { (number : ℕ) × IsPicked tracing x.new actors.old number × (core_of words.new actors.new ≡ event any_machine (core_of words.old actors.old) (Step number)) }
+    ensures step { (number : ℕ) × IsPicked tracing x.new actors.old number × (core_of words.new actors.new ≡ event any_machine (core_of words.old actors.old) (Step number)) × LetsPass (G.passed gate.now) actors.old number }
     ensures state { x.new ≡ stepped_on x.old }
     ensures numbers { numbers.new ≡ unfinished tracing actors.new }
 {
@@ -122,11 +127,24 @@ fn turn<G: Gate>(
 fn advance<G: Gate>(words: &mut PlainWords, actor: &mut AnyActor, tracing: bool, gate: &G) -> bool
     requires { Fits any_machine words.old actor.old }
     ensures done { (words.new, actor.new) ≡ stepped any_machine words.old actor.old }
+    ensures passed { (m : Mutating) → actor.old ≡ AnyActor.Mutator m → IsLetPass (G.passed gate.now) m }
     ensures goes_on { result ≡ may_be_drawn tracing actor.new }
 {
-    pass_gate(actor, gate);
+    call_gate(actor, gate);
     step(words, actor);
     may_be_drawn(actor, tracing)
+}
+
+/// Calls the gate where the next step of an actor is the first of an operation of its thread; a helper has none.
+#[inline(always)]
+fn call_gate<G: Gate>(actor: &AnyActor, gate: &G)
+    ensures { (m : Mutating) → actor.now ≡ AnyActor.Mutator m → IsLetPass (G.passed gate.now) m }
+{
+    match actor {
+        AnyActor::Mutator(mutator) => pass_gate(mutator, gate),
+        AnyActor::Decrementer(_) => {}
+        AnyActor::Tracer(_) => {}
+    }
 }
 
 /// Finishes the units that are in progress, in order of the actors.

@@ -2,15 +2,16 @@
 use Rattle.std.proofs.Common.{◌≡◌, ℕ, zero, suc, ◌+◌, ◌-◌, ◌%◌, ◌<◌, Bool, true, false, List, [], ◌∷◌, ◌++◌, map, length, arith, refl, sym, subst, ap, ◌∙◌, zero-add}
 use Rattle.std.specs.Prelude.{Some, All, nat_eq, nat_lt, if◌then◌else◌, slice_get, slice_index_or, slice_set}
 use Rattle.std.proofs.lemmas.Nat.{mod_below}
-use Rattle.std.proofs.lemmas.Option.{slice_get_read, slice_get_within}
+use Rattle.std.proofs.lemmas.Option.{slice_get-get_or, slice_get_read, slice_get_within}
 use Rattle.std.proofs.lemmas.List.{length-set}
 use mathlib.Core.List.{map-append}
 use Rattle.lxr_actor.proofs.Runs.{slice_get-set_other, slice_get-set_same}
+use Rattle.lxr_barrier.proofs.ViewLemmas.{all_at, all_to}
 use Rattle.lxr_core.specs.declared.actors.AnyActor.{AnyActor}
 use Rattle.lxr_shared_passes.specs.Passing.{Passing}
 use Rattle.lxr_run_threads.specs.declared.dealing.Dealing.{Dealing}
 use Rattle.lxr_run_threads.specs.declared.dealing.Hand.{Hand}
-use Rattle.lxr_run_threads.specs.Dealing.{AreDealt, OfEach, hand_of, numbers_from, numbers_of, worker_of}
+use Rattle.lxr_run_threads.specs.Dealing.{AreDealt, IsAmong, IsAmongHands, OfEach, hand_of, numbers_from, numbers_of, worker_of}
 
 -- there is such a worker
 worker_within : (d : Dealing) (number : ℕ) → 0 < d.workers → worker_of d number < d.workers
@@ -200,3 +201,20 @@ none_behind (h ∷ hands) last none is (suc i) hand at = none_behind hands last 
 pub none_more : (hands hands' : List Hand) (last : Hand) → hands' ≡ hands ++ last ∷ [] → ((i : ℕ) (hand : Hand) → slice_get hands i ≡ Some hand → hand.passes.items ≡ []) → last.passes.items ≡ []
     → (i : ℕ) (hand : Hand) → slice_get hands' i ≡ Some hand → hand.passes.items ≡ []
 none_more hands hands' last more none is i hand at = none_behind hands last none is i hand (ap (λ hs. slice_get hs i) (sym more) ∙ at)
+
+-- ---- whose passes they are
+
+-- each of these passes is among them
+pub all_among : (passes : List (Passing AnyActor)) → All (IsAmong passes) passes
+all_among passes k d within = (k, slice_get-get_or passes k d within)
+
+-- each of the workers' passes is among these
+pub hands_among : (hands : List Hand) → OfEach (IsAmongHands hands) hands
+hands_among hands worker hand at k d within = (worker, hand, at, (k, slice_get-get_or hand.passes.items k d within))
+
+-- what holds of all passes that were dealt holds of those of each worker; and back
+pub dealt_hold : (P : Passing AnyActor → Type 0) (passes : List (Passing AnyActor)) (hands : List Hand) → All P passes → OfEach (IsAmong passes) hands → OfEach P hands
+dealt_hold P passes hands all among worker hand at = all_to (IsAmong passes) P hand.passes.items (λ p (i, there). all_at P passes i p there all) (among worker hand at)
+
+pub gathered_hold : (P : Passing AnyActor → Type 0) (hands : List Hand) (passes : List (Passing AnyActor)) → OfEach P hands → All (IsAmongHands hands) passes → All P passes
+gathered_hold P hands passes each among = all_to (IsAmongHands hands) P passes (λ p (worker, hand, at, (i, there)). all_at P hand.passes.items i p there (each worker hand at)) among

@@ -124,7 +124,7 @@ tracers_helped (any.Tracer e ∷ actors) served zero d at =
 tracers_helped (any.Tracer e ∷ actors) served (suc i) d at = tracers_helped actors (λ j a there. served (suc j) a there) i d at
 
 -- an actor of passes is that of one of them
-actor_at : (passes : List (Passing AnyActor)) (i : ℕ) (a : AnyActor) → slice_get (map (λ (p : Passing AnyActor). p.actor) passes) i ≡ Some a → (p : Passing AnyActor) × (slice_get passes i ≡ Some p) × (p.actor ≡ a)
+pub actor_at : (passes : List (Passing AnyActor)) (i : ℕ) (a : AnyActor) → slice_get (map (λ (p : Passing AnyActor). p.actor) passes) i ≡ Some a → (p : Passing AnyActor) × (slice_get passes i ≡ Some p) × (p.actor ≡ a)
 actor_at [] i a at = absurd (cc)
 actor_at (p ∷ passes) zero a at = (p, refl, cc)
 actor_at (p ∷ passes) (suc i) a at = actor_at passes i a at

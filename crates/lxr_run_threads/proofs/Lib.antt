@@ -4,3 +4,5 @@ pub mod DealingLemmas
 pub mod WorkingLemmas
 pub mod RoundLemmas
 pub mod EpochLemmas
+mod GateLemmas
+pub mod OpenedLemmas

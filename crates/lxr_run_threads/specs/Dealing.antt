@@ -31,3 +31,10 @@ pub record AreDealt (d : Dealing) (numbers : List ℕ) (hands : List Hand) : Typ
 -- P holds of each pass of each worker
 abbrev pub OfEach : (Passing AnyActor → Type 0) → List Hand → Type 0
 OfEach P hands = (worker : ℕ) (hand : Hand) → slice_get hands worker ≡ Some hand → All P hand.passes.items
+
+-- a pass is one of these, or one of some worker
+abbrev pub IsAmong : List (Passing AnyActor) → Passing AnyActor → Type 0
+IsAmong passes p = (i : ℕ) × (slice_get passes i ≡ Some p)
+
+abbrev pub IsAmongHands : List Hand → Passing AnyActor → Type 0
+IsAmongHands hands p = (worker : ℕ) × (hand : Hand) × (slice_get hands worker ≡ Some hand) × IsAmong hand.passes.items p

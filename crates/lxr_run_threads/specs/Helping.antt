@@ -1,8 +1,11 @@
 -- How helpers share: what one gives behind its turn, and when one that has nothing to do looks for what others gave.
-use Rattle.std.specs.Prelude.{ℕ, ◌+◌, Bool, true, false, ◌&&◌, if◌then◌else◌, nat_lt, length}
+use Rattle.std.specs.Prelude.{ℕ, ◌≡◌, ◌+◌, ◌⊎◌, Bool, true, false, ◌&&◌, if◌then◌else◌, nat_lt, List, length, Option, Some, None}
+use Rattle.lxr_layout.specs.declared.Place.{Place}
+use Rattle.lxr_actor.specs.declared.Action.{Action}
 use Rattle.lxr_core.specs.declared.actors.AnyActor.{AnyActor}
 use Rattle.lxr_core.specs.declared.actors.AnyActor.TheVariants as any
 use Rattle.lxr_core.specs.Actors.{any_machine}
+use Rattle.lxr_shared_passes.specs.Passing.{Passing, Turned}
 use Rattle.lxr_hints.specs.declared.hinter.TheConstants.{HINTS}
 use Rattle.lxr_run_threads.specs.declared.helping.TheConstants.{ROUNDS_BETWEEN_LOOKS}
 
@@ -29,3 +32,18 @@ places_in (any.Tracer d) = length d.pocket.items
 -- A helper with more than one place gives up one of them, where that is taken in behind so many; else nothing changes.
 abbrev pub given : AnyActor → ℕ → AnyActor × ℕ
 given a pushes = if nat_lt 1 (places_in a) && takes_in pushes then ((any_machine.spared a).0, pushes + 1) else (a, pushes)
+
+-- A helper that has a further step takes nothing. One that has none is offered a place that some helper gave, and its exchange is asked again as soon as it has nothing
+-- to do; where there is no such place it stays as it is, and so many rounds go by before it asks again.
+abbrev pub TakesHint : Option Action → AnyActor → Exchanging → AnyActor → Exchanging → Type 0
+TakesHint (Some act) a e b f = (b ≡ a) × (f ≡ e)
+TakesHint None a e b f = (f.pushes ≡ e.pushes) × (((b ≡ a) × (f.wait ≡ wait_after false)) ⊎ ((place : Place) × (b ≡ (any_machine.offered a place).0) × (f.wait ≡ wait_after true)))
+
+-- A helper with its exchange takes a hint, then makes its turn, and gives one behind it.
+pub record Shares (p : Passing AnyActor) (e : Exchanging) (q : Passing AnyActor) (f : Exchanging) : Type 0 where
+  pub offered : Passing AnyActor
+  pub turned : Passing AnyActor
+  pub between : Exchanging
+  pub takes : TakesHint (any_machine.action p.actor) p.actor e offered.actor between
+  pub turns : (olds : List ℕ) × Turned any_machine offered olds turned
+  pub gives : (q.actor, f.pushes) ≡ given turned.actor between.pushes

@@ -2,3 +2,4 @@ pub mod Dealing
 pub mod Working
 pub mod Helping
 pub mod Running
+pub mod Keeping

@@ -7,9 +7,12 @@ use Rattle.lxr_decrement.specs.declared.phases.DecEnd.TheVariants as dec_end
 use Rattle.lxr_trace.specs.declared.phases.TraceEnd.TheVariants as trace_end
 use Rattle.lxr_decrement.specs.Decrementing.{DecrementerState}
 use Rattle.lxr_trace.specs.Tracing.{TracerState}
+use Rattle.lxr_core_invariant.specs.EpochStates.{Beginning}
 use Rattle.lxr_core.specs.declared.actors.AnyActor.{AnyActor}
 use Rattle.lxr_core.specs.Actors.{any_machine, decrementers_in, mutators_in, tracers_in}
 use Rattle.lxr_core.specs.Closing.{AreFinished, AreResting}
+use Rattle.lxr_core.specs.Executions.{HoldsExecution}
+use Rattle.lxr_core.specs.Opening.{Opens, execution_at}
 use Rattle.lxr_shared.specs.Ends.{HaveEnds}
 use Rattle.lxr_run_replay.specs.Replaying.{CanBeReplayed}
 use Rattle.lxr_words.specs.declared.Options.{Options}
@@ -46,3 +49,17 @@ pub record HasRun (space after : Space) (actors actors' : List AnyActor) : Type 
   pub ends : HelpersHaveEnds actors'
   pub offers : OffersAreWorkedOn actors'
   pub rest : after ≡ record space { words = after.words }
+
+-- ---- behind the opening of an epoch
+
+-- there are as many decrementers as the options have workers, and as many tracers, and not too many actors
+pub record HaveWorkers (options : Options) (actors : List AnyActor) : Type 0 where
+  pub few : length actors ≤ 32
+  pub workers : (1 ≤ options.workers) × (options.workers ≤ 8)
+  pub decrementers : length (decrementers_in actors) ≡ options.workers
+  pub tracers : length (tracers_in actors) ≡ options.workers
+
+-- where an epoch is opened, and its invariant holds from there on, it can run; so it can be replayed
+abbrev pub OpenedEpochsCanRun : Type 0
+OpenedEpochsCanRun = (options : Options) (b : Beginning) (space opened : Space) (actors started : List AnyActor) → HaveWorkers options actors
+    → Opens space opened actors started → HoldsExecution b (execution_at b opened started) → CanRun options opened started

@@ -1,14 +1,16 @@
 -- What workers do with their passes.
-use Rattle.std.specs.Prelude.{◌≡◌, ℕ, Bool, true, false, Option, None, Some, List, [], IsSome, is_none, is_some}
+use Rattle.std.specs.Prelude.{◌≡◌, ℕ, Bool, true, false, Option, None, Some, List, [], IsSome, is_none, is_some, slice_get}
 use Rattle.std.specs.List.{sum_by}
 use Rattle.lxr_layout.specs.declared.Place.{Place}
 use Rattle.lxr_decrement.specs.declared.phases.DecEnd.TheVariants as dec_end
 use Rattle.lxr_trace.specs.declared.phases.TraceEnd.TheVariants as trace_end
+use Rattle.lxr_mutator.specs.Mutating.{Mutating}
 use Rattle.lxr_core.specs.declared.actors.AnyActor.{AnyActor}
 use Rattle.lxr_core.specs.declared.actors.AnyActor.TheVariants as any
 use Rattle.lxr_core.specs.Actors.{any_machine}
 use Rattle.lxr_shared_passes.specs.Passing.{Opened, Passing}
 use Rattle.lxr_shared.specs.Sharing.{Sharing}
+use Rattle.lxr_run_watch.specs.Gates.{IsLetPassSince}
 use Rattle.lxr_run_replay.specs.Working.{work}
 
 -- the table of an epoch
@@ -20,6 +22,11 @@ pub record IsPassOf (table : Opened AnyActor) (pass : Passing AnyActor) : Type 0
   pub epoch_is : pass.epoch ≡ table.id
   pub opening_is : pass.opening ≡ table.opening
   pub rests : any_machine.rests pass.actor ≡ true
+
+-- Where the actor of a pass is a mutator, it has gained replies since the epoch was opened to operations alone that the gate let pass.
+abbrev pub HasPassed : (ℕ → ℕ → Type 0) → Passing AnyActor → Type 0
+HasPassed passed pass = (m : Mutating) → slice_get pass.opening.actors pass.number ≡ Some (any.Mutator m)
+    → (n : Mutating) × (pass.actor ≡ any.Mutator n) × IsLetPassSince passed m n
 
 -- its mutator has a further unit before it in this epoch; helpers don't count
 abbrev pub goes_on : AnyActor → Bool

@@ -5,7 +5,7 @@
 ghost use Rattle.std.specs.Prelude.{◌≡◌, ◌<◌, ◌≤◌, [], All, IfOk, OnOk, length, vec_len, vec_capacity};
 ghost use Rattle.lxr_shared_passes.specs.Passing.{Opened};
 ghost use Rattle.lxr_core.specs.declared.actors.AnyActor.{AnyActor};
-ghost use Rattle.lxr_run_threads.specs.Dealing.{AreDealt, OfEach, numbers_from, numbers_of, worker_of};
+ghost use Rattle.lxr_run_threads.specs.Dealing.{AreDealt, IsAmong, IsAmongHands, OfEach, numbers_from, numbers_of, worker_of};
 ghost use Rattle.lxr_run_threads.specs.Working.{IsDoneOf, IsPassOf};
 
 use crate::helping::Hints;
@@ -69,6 +69,7 @@ impl Dealing {
         requires order { numbers_of passes.old.items ≡ numbers_from 0 (vec_len passes.old) }
         ensures dealt { IfOk result (λ hands. AreDealt self (numbers_from 0 (vec_len passes.old)) hands.items) }
         ensures each { IfOk result (λ hands. (table : Opened AnyActor) → All (IsPassOf table) passes.old.items → OfEach (IsPassOf table) hands.items) }
+        ensures among { IfOk result (λ hands. OfEach (IsAmong passes.old.items) hands.items) }
         ensures emptied { OnOk result (passes.new.items ≡ []) }
         ensures room { OnOk result (vec_capacity passes.new ≡ vec_capacity passes.old) }
     {
@@ -87,6 +88,7 @@ impl Dealing {
         requires room { (passes.old.items ≡ []) × (count ≤ vec_capacity passes.old) }
         ensures order { numbers_of passes.new.items ≡ numbers_from 0 count }
         ensures each { (table : Opened AnyActor) → OfEach (IsDoneOf table) hands.old → All (IsDoneOf table) passes.new.items }
+        ensures among { All (IsAmongHands hands.old) passes.new.items }
     {
         for number in 0..count {
             let worker = self.worker_of(number);

@@ -5,9 +5,11 @@
 //!
 //! A helper with nothing to do costs a round next to nothing: it looks for a hint as soon as it runs out of work, and after a
 //! look in vain again only some rounds later.
-ghost use Rattle.std.specs.Prelude.{◌≡◌, ◌+◌, ◌-◌, ◌≤◌, IfOk, cond, is_some, min, nat_eq, true, vec_len};
+ghost use Rattle.std.specs.Prelude.{◌≡◌, ℕ, ◌+◌, ◌-◌, ◌≤◌, List, IfOk, cond, is_some, min, nat_eq, true, vec_len};
+ghost use Rattle.lxr_core.specs.Actors.{any_machine};
+ghost use Rattle.lxr_shared_passes.specs.Passing.{Turned};
 ghost use Rattle.lxr_run_replay.specs.Replaying.{CanBeReplayed};
-ghost use Rattle.lxr_run_threads.specs.Helping.{given, places_in, takes_in, wait_after};
+ghost use Rattle.lxr_run_threads.specs.Helping.{Shares, TakesHint, given, places_in, takes_in, wait_after};
 ghost use Rattle.lxr_run_threads.specs.Working.{HasServed, IsPassOf, is_helper};
 
 use lxr_actor::Actor;
@@ -159,6 +161,7 @@ fn help<K>(table: &Epoch<AnyActor>, pass: &mut Pass, exchange: &mut Exchange<K>)
     ensures number { pass.new.number ≡ pass.old.number }
     ensures helper { is_helper pass.new.actor ≡ true }
     ensures served { HasServed pass.new.actor }
+    ensures shares { Shares pass.old exchange.old pass.new exchange.new }
 {
     take_hint(table, pass, exchange);
     make_turn(table, pass);
@@ -174,6 +177,7 @@ fn make_turn(table: &Epoch<AnyActor>, pass: &mut Pass)
     ensures number { pass.new.number ≡ pass.old.number }
     ensures helper { is_helper pass.new.actor ≡ true }
     ensures served { HasServed pass.new.actor }
+    ensures turns { (olds : List ℕ) × Turned any_machine pass.old olds pass.new }
 {
     pass.turn_at(table);
 }
@@ -185,6 +189,7 @@ fn take_hint<K>(table: &Epoch<AnyActor>, pass: &mut Pass, exchange: &mut Exchang
     ensures pass { IsPassOf table.now pass.new }
     ensures number { pass.new.number ≡ pass.old.number }
     ensures helper { is_helper pass.new.actor ≡ true }
+    ensures takes { TakesHint (any_machine.action pass.old.actor) pass.old.actor exchange.old pass.new.actor exchange.new }
 {
     if pass.actor().next().is_some() {
         return;

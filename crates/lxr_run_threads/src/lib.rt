@@ -12,7 +12,9 @@
 #![tactic(auto)]
 
 ghost use Rattle.std.specs.Prelude.{IfOk};
-ghost use Rattle.lxr_run_threads.specs.Running.{CanRun, HasRun};
+ghost use Rattle.lxr_core.specs.Actors.{mutators_in};
+ghost use Rattle.lxr_run_watch.specs.Gates.{HavePassed};
+ghost use Rattle.lxr_run_threads.specs.Running.{CanRun, HasRun, OpenedEpochsCanRun};
 
 mod dealing;
 mod helping;
@@ -23,7 +25,7 @@ pub use dealing::{Dealing, Hand};
 pub use helping::{Hints, make_hints};
 use lxr_core::AnyActor;
 use lxr_image::Space;
-use lxr_run_replay::Gate;
+use lxr_run_watch::Gate;
 use lxr_shared::{close_shared, open_shared};
 use lxr_words::Options;
 use std::alloc::{AllocError, Global};
@@ -31,7 +33,8 @@ use std::thread::Threads;
 pub use workers::work;
 
 /// Runs an epoch, between its opening and its closing, on as many threads of the machine as there are workers. Where a thread
-/// can't be started its work is done by the caller. At a refusal the space and the actors are gone.
+/// can't be started its work is done by the caller. Mutators gain replies to operations alone that the gate has let pass. At a refusal
+/// the space and the actors are gone.
 pub fn run_epoch<R: Threads + Sync, G: Gate>(
     rt: &R,
     alloc: Global,
@@ -41,7 +44,8 @@ pub fn run_epoch<R: Threads + Sync, G: Gate>(
     gate: &G,
 ) -> Result<(Space, Vec<AnyActor>), AllocError>
     requires { CanRun options.now space actors.items }
-    ensures { IfOk result (λ r. HasRun space r.0 actors.items r.1.items) }
+    ensures run { IfOk result (λ r. HasRun space r.0 actors.items r.1.items) }
+    ensures passed { IfOk result (λ r. HavePassed (G.passed gate.now) (mutators_in actors.items) (mutators_in r.1.items)) }
 {
     let workers = usize::from(options.workers);
     let (epoch, mut passes) = open_shared(alloc, space, actors)?;
@@ -56,3 +60,8 @@ pub fn run_epoch<R: Threads + Sync, G: Gate>(
     dealing.gather(hands.as_mut_slice(), count, &mut passes);
     Ok(close_shared(epoch, passes))
 }
+
+/// An epoch that was opened, and whose actors have as many helpers of each kind as there are workers, can run, and so can be replayed.
+pub fn opened_epochs_can_run()
+    ensures { OpenedEpochsCanRun }
+{}

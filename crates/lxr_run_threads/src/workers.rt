@@ -2,15 +2,18 @@
 ghost use Rattle.std.specs.Prelude.{◌≡◌, ◌+◌, ◌≤◌, false, map, All};
 ghost use Rattle.std.specs.Thread.{IsSync};
 ghost use Rattle.lxr_actor.specs.Run.{one_if};
+ghost use Rattle.lxr_mutator.specs.Mutating.{Mutating};
 ghost use Rattle.lxr_run_replay.specs.Replaying.{CanBeReplayed};
 ghost use Rattle.lxr_run_threads.specs.Dealing.{numbers_of};
-ghost use Rattle.lxr_run_threads.specs.Working.{HasServed, IsDoneOf, IsPassOf, goes_on, is_finished, is_helper, work_in, work_of};
+ghost use Rattle.lxr_run_watch.specs.Gates.{IsLetPass};
+ghost use Rattle.lxr_run_threads.specs.Keeping.{KeepsOthers};
+ghost use Rattle.lxr_run_threads.specs.Working.{HasPassed, HasServed, IsDoneOf, IsPassOf, goes_on, is_finished, is_helper, work_in, work_of};
 
 use crate::dealing::Hand;
 use crate::helping::{Hints, let_help};
 use lxr_actor::Actor;
 use lxr_core::AnyActor;
-use lxr_run_replay::{Gate, pass_gate};
+use lxr_run_watch::{Gate, pass_gate};
 use lxr_shared::Pass;
 use lxr_shared_passes::Epoch;
 use std::thread;
@@ -33,6 +36,7 @@ pub fn let_work<R: Threads + Sync, G: Gate>(
     requires can { CanBeReplayed table.now.opening }
     requires passes { All (λ hand. All (IsPassOf table.now) hand.passes.items) hands.old }
     ensures passes { All (λ hand. All (IsDoneOf table.now) hand.passes.items) hands.new }
+    ensures passed { All (λ hand. All (HasPassed (G.passed gate.now)) hand.passes.items) hands.old → All (λ hand. All (HasPassed (G.passed gate.now)) hand.passes.items) hands.new }
     ensures numbers { map (λ hand. numbers_of hand.passes.items) hands.new ≡ map (λ hand. numbers_of hand.passes.items) hands.old }
 {
     let Some((hand, others)) = hands.split_first_mut() else {
@@ -59,6 +63,8 @@ fn let_both_work<R: Threads + Sync, G: Gate>(
     requires passes { All (λ hand. All (IsPassOf table.now) hand.passes.items) others.old }
     ensures pass { All (IsDoneOf table.now) hand.new.passes.items }
     ensures passes { All (λ hand. All (IsDoneOf table.now) hand.passes.items) others.new }
+    ensures passed { All (HasPassed (G.passed gate.now)) hand.old.passes.items → All (HasPassed (G.passed gate.now)) hand.new.passes.items }
+    ensures all_passed { All (λ hand. All (HasPassed (G.passed gate.now)) hand.passes.items) others.old → All (λ hand. All (HasPassed (G.passed gate.now)) hand.passes.items) others.new }
     ensures number { numbers_of hand.new.passes.items ≡ numbers_of hand.old.passes.items }
     ensures numbers { map (λ hand. numbers_of hand.passes.items) others.new ≡ map (λ hand. numbers_of hand.passes.items) others.old }
 {
@@ -66,21 +72,22 @@ fn let_both_work<R: Threads + Sync, G: Gate>(
         rt,
         &mut ||
             requires { CanBeReplayed table.now.opening × All (IsPassOf table.now) hand.now.passes.items }
-            ensures { All (IsDoneOf table.entry.now) hand.exit.now.passes.items × (numbers_of hand.exit.now.passes.items ≡ numbers_of hand.entry.now.passes.items) }
+            ensures { All (IsDoneOf table.entry.now) hand.exit.now.passes.items × (numbers_of hand.exit.now.passes.items ≡ numbers_of hand.entry.now.passes.items) × (All (HasPassed (G.passed gate.entry.now)) hand.entry.now.passes.items → All (HasPassed (G.passed gate.entry.now)) hand.exit.now.passes.items) }
         { work(table, &mut hand.passes, &mut hand.hints, gate) },
         &mut ||
             requires { IsSync R.row × CanBeReplayed table.now.opening × All (λ hand. All (IsPassOf table.now) hand.passes.items) others.now }
-            ensures { All (λ hand. All (IsDoneOf table.entry.now) hand.passes.items) others.exit.now × (map (λ hand. numbers_of hand.passes.items) others.exit.now ≡ map (λ hand. numbers_of hand.passes.items) others.entry.now) }
+            ensures { All (λ hand. All (IsDoneOf table.entry.now) hand.passes.items) others.exit.now × (map (λ hand. numbers_of hand.passes.items) others.exit.now ≡ map (λ hand. numbers_of hand.passes.items) others.entry.now) × (All (λ hand. All (HasPassed (G.passed gate.entry.now)) hand.passes.items) others.entry.now → All (λ hand. All (HasPassed (G.passed gate.entry.now)) hand.passes.items) others.exit.now) }
         { let_work(rt, table, others, gate) },
     );
 }
 
 /// Makes rounds with the passes of a worker, until no mutator among them goes on: one round, where there is none. Each pass has served
-/// then, and is still a pass of the table with the number that it had.
+/// then, and is still a pass of the table with the number that it had. Mutators gain replies to operations alone that the gate let pass.
 pub fn work<G: Gate>(table: &Epoch<AnyActor>, passes: &mut Vec<Pass>, hints: &mut Hints, gate: &G)
     requires can { CanBeReplayed table.now.opening }
     requires passes { All (IsPassOf table.now) passes.old.items }
     ensures done { All (IsDoneOf table.now) passes.new.items }
+    ensures passed { All (HasPassed (G.passed gate.now)) passes.old.items → All (HasPassed (G.passed gate.now)) passes.new.items }
     ensures numbers { numbers_of passes.new.items ≡ numbers_of passes.old.items }
 {
     let mut some_go_on = true;
@@ -99,6 +106,7 @@ fn let_mutators_go_on<G: Gate>(table: &Epoch<AnyActor>, passes: &mut [Pass], rou
     requires passes { All (IsPassOf table.now) passes.old }
     ensures passes { All (IsPassOf table.now) passes.new }
     ensures numbers { numbers_of passes.new ≡ numbers_of passes.old }
+    ensures passed { All (HasPassed (G.passed gate.now)) passes.old → All (HasPassed (G.passed gate.now)) passes.new }
     ensures nearer { work_in passes.new ≤ work_in passes.old }
 {
     for _ in 0..rounds {
@@ -113,6 +121,7 @@ fn let_mutators_turn<G: Gate>(table: &Epoch<AnyActor>, passes: &mut [Pass], gate
     requires passes { All (IsPassOf table.now) passes.old }
     ensures passes { All (IsPassOf table.now) passes.new }
     ensures numbers { numbers_of passes.new ≡ numbers_of passes.old }
+    ensures passed { All (HasPassed (G.passed gate.now)) passes.old → All (HasPassed (G.passed gate.now)) passes.new }
     ensures nearer { work_in passes.new ≤ work_in passes.old }
 {
     let mut left = passes.len();
@@ -129,6 +138,7 @@ fn take_mutator_turn<G: Gate>(table: &Epoch<AnyActor>, pass: &mut Pass, gate: &G
     requires pass { IsPassOf table.now pass.old }
     ensures pass { IsPassOf table.now pass.new }
     ensures number { pass.new.number ≡ pass.old.number }
+    ensures passed { HasPassed (G.passed gate.now) pass.old → HasPassed (G.passed gate.now) pass.new }
     ensures nearer { work_of pass.new.actor ≤ work_of pass.old.actor }
 {
     if let AnyActor::Mutator(_) = pass.actor() {
@@ -149,6 +159,7 @@ fn make_round<G: Gate>(
     ensures passes { All (IsPassOf table.now) passes.new }
     ensures numbers { numbers_of passes.new ≡ numbers_of passes.old }
     ensures done { result ≡ false → All (λ pass. HasServed pass.actor) passes.new }
+    ensures passed { All (HasPassed (G.passed gate.now)) passes.old → All (HasPassed (G.passed gate.now)) passes.new }
     ensures nearer { work_in passes.new + one_if result ≤ work_in passes.old }
 {
     let mut some_go_on = false;
@@ -171,7 +182,9 @@ fn take_turn<G: Gate>(table: &Epoch<AnyActor>, pass: &mut Pass, hints: &mut Hint
     ensures pass { IsPassOf table.now pass.new }
     ensures number { pass.new.number ≡ pass.old.number }
     ensures done { result ≡ false → HasServed pass.new.actor }
+    ensures passed { HasPassed (G.passed gate.now) pass.old → HasPassed (G.passed gate.now) pass.new }
     ensures nearer { work_of pass.new.actor + one_if result ≤ work_of pass.old.actor }
+    ensures others { KeepsOthers pass.old.actor hints.old hints.new }
 {
     match pass.actor() {
         AnyActor::Mutator(_) => let_mutate(table, pass, gate),
@@ -195,14 +208,27 @@ fn let_mutate<G: Gate>(table: &Epoch<AnyActor>, pass: &mut Pass, gate: &G) -> bo
     ensures pass { IsPassOf table.now pass.new }
     ensures number { pass.new.number ≡ pass.old.number }
     ensures done { result ≡ false → HasServed pass.new.actor }
+    ensures passed { HasPassed (G.passed gate.now) pass.old → HasPassed (G.passed gate.now) pass.new }
     ensures nearer { work_of pass.new.actor + one_if result ≤ work_of pass.old.actor }
 {
     if is_finished(pass.actor()) {
         return false;
     }
-    pass_gate(pass.actor(), gate);
+    call_gate(pass.actor(), gate);
     pass.turn_at(table);
     goes_on(pass.actor())
+}
+
+/// Calls the gate before the next operation of a mutator that rests; a helper has none.
+#[inline(always)]
+fn call_gate<G: Gate>(actor: &AnyActor, gate: &G)
+    ensures { (m : Mutating) → actor.now ≡ AnyActor.Mutator m → IsLetPass (G.passed gate.now) m }
+{
+    match actor {
+        AnyActor::Mutator(mutator) => pass_gate(mutator, gate),
+        AnyActor::Decrementer(_) => {}
+        AnyActor::Tracer(_) => {}
+    }
 }
 
 /// Whether the actor is a mutator with a further unit before it in this epoch.

@@ -1,3 +1,4 @@
 pub mod Sights
 pub mod Copies
 pub mod Spares
+pub mod Gates

@@ -1,4 +1,4 @@
-use Rattle.std.proofs.Common.{ap, arith, refl, subst, sym, ◌∙◌}
+use Rattle.std.proofs.Common.{ap, arith, refl, ◌∙◌}
 use Rattle.lxr_image.specs.Spaces.{tables_of}
 use Rattle.lxr_image.proofs.SpaceLemmas.{still_space}
 use Rattle.lxr_blocks.specs.States.{with_state_by_lines}

@@ -1,4 +1,3 @@
-use Rattle.lxr_image.specs.Spaces.{tables_of}
 use Rattle.bench_parts.proofs.StateLemmas.{swept_free}
 use Rattle.bench_parts.proofs.blocks.sweep.Goals as goal
 

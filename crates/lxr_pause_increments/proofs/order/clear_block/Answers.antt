@@ -1,5 +1,5 @@
 use Rattle.std.proofs.Common.{sym, ◌∙◌}
-use Rattle.lxr_pause_increments.proofs.StillLemmas.{outs_of_block, outs_of_free}
+use Rattle.lxr_pause_increments.proofs.StillLemmas.{outs_of_free}
 use Rattle.lxr_pause_increments.proofs.order.clear_block.Goals as goal
 
 pub returns-in-Free : goal.returns-in-Free

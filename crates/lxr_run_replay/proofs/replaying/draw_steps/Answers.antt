@@ -1,10 +1,11 @@
-use Rattle.std.proofs.Common.{◌≡◌, ◌∙◌, [], length, sym, ap}
+use Rattle.std.proofs.Common.{◌≡◌, ◌∙◌, [], length, sym, subst, ap}
 use Rattle.std.proofs.lemmas.Option.{slice_get_within}
 use Rattle.lxr_actor.specs.declared.Core.{Core}
 use Rattle.lxr_actor.specs.Run.{core_of}
 use Rattle.lxr_core.specs.declared.actors.AnyActor.{AnyActor}
 use Rattle.lxr_core.specs.Actors.{mutators_in}
 use Rattle.lxr_run_replay.specs.Replaying.{some_act}
+use Rattle.lxr_run_replay.proofs.GateLemmas.{AreLetPass, have_passed, let_pass_none, let_pass_step}
 use Rattle.lxr_run_replay.proofs.PickLemmas.{as_many_mutators, begins_with_mutator, picked_actor, test_tells, turn_nearer}
 use Rattle.lxr_run_replay.proofs.ReplayLemmas.{all_drawn, begins, can_under_way, fits_next, goes_on, turn_under_way}
 use Rattle.lxr_run_replay.proofs.replaying.draw_steps.Goals as goal
@@ -26,7 +27,7 @@ loop-numbers-smaller g c =
     (turn_under_way c.args.tracing _ _ _ _ (core_of c.loop-numbers.words c.loop-numbers.actors) s.0 c.requires.replayable c.loop-numbers.invariant.under_way some c.turn.ensures.state s.1) c.turn.ensures.state s.2
 
 pub loop-numbers-init : goal.loop-numbers-init
-loop-numbers-init g c = record { under_way = begins c.args.tracing _ _; numbers = c.of-numbers.ensures; mutators = c.mutators_among-mutators.ensures }
+loop-numbers-init g c = record { under_way = begins c.args.tracing _ _; numbers = c.of-numbers.ensures; mutators = c.mutators_among-mutators.ensures; let_pass = let_pass_none (g.G.Gate.passed c.args.gate.now) (mutators_in c.args.actors.now) }
 
 pub loop-numbers-preserved : goal.loop-numbers-preserved
 loop-numbers-preserved g c =
@@ -40,10 +41,15 @@ loop-numbers-preserved g c =
       under_way = goes_on c.args.tracing _ _ _ _ _ _ s.0 c.loop-numbers.invariant.under_way some c.turn.ensures.state s.1 s.2;
       numbers = c.turn.ensures.numbers;
       mutators = c.loop-numbers.invariant.mutators ∙ sym as_many;
+      let_pass = subst (AreLetPass (g.G.Gate.passed c.args.gate.now) (mutators_in c.args.actors.now)) (sym (ap (λ (d : Core AnyActor). mutators_in d.actors) s.2))
+          (let_pass_step (g.G.Gate.passed c.args.gate.now) (mutators_in c.args.actors.now) (core_of c.loop-numbers.words c.loop-numbers.actors) s.0 p.actor order p.at s.3 c.loop-numbers.invariant.let_pass);
     }
 
-pub returns : goal.returns
-returns g c =
+pub returns-clause-passed : goal.returns-clause-passed
+returns-clause-passed g c = have_passed (g.G.Gate.passed c.args.gate.now) (mutators_in c.args.actors.now) (mutators_in c.loop-numbers.actors) c.loop-numbers.invariant.let_pass
+
+pub returns-clause-draws : goal.returns-clause-draws
+returns-clause-draws g c =
     let u = c.loop-numbers.invariant.under_way in
     let order = (can_under_way c.args.tracing _ _ _ (core_of c.loop-numbers.words c.loop-numbers.actors) c.requires.replayable u).order [] in
     let told = test_tells c.args.tracing c.loop-numbers.actors c.loop-numbers.numbers c.mutators_among-mutators.result c.begin_below.result order c.loop-numbers.invariant.numbers c.loop-numbers.invariant.mutators c.begin_below.ensures in

@@ -1,5 +1,5 @@
 use Rattle.std.proofs.Common.{◌≡◌, ◌<◌, ◌∙◌, arith, false, length, refl, sym, ap, subst}
-use Rattle.std.specs.Prelude.{IsSome, Some, slice_get}
+use Rattle.std.specs.Prelude.{IsSome}
 use Rattle.std.proofs.lemmas.Option.{slice_get_read}
 use Rattle.lxr_actor.specs.Machine.{Fits, to_go}
 use Rattle.lxr_actor.specs.Run.{core_of, stepped}

@@ -1,4 +1,3 @@
-use Rattle.std.proofs.Common.{◌≡◌}
 use Rattle.std.specs.Prelude.{slice_get}
 use Rattle.lxr_actor.specs.Run.{core_of}
 use Rattle.lxr_run_replay.specs.Finishing.{IsFinishing, RestBefore}

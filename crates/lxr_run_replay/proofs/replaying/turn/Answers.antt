@@ -3,7 +3,9 @@ use Rattle.std.proofs.lemmas.Option.{slice_get_read}
 use Rattle.lxr_actor.specs.Machine.{Fits}
 use Rattle.lxr_actor.specs.Run.{stepped}
 use Rattle.lxr_core.specs.declared.actors.AnyActor.{AnyActor}
+use Rattle.lxr_core.specs.declared.actors.AnyActor.TheVariants as any
 use Rattle.lxr_core.specs.Actors.{any_machine}
+use Rattle.lxr_run_replay.proofs.FinishLemmas.{same_actor}
 use Rattle.lxr_run_replay.proofs.TurnLemmas.{after_turn, left_out, left_so, picked_there, picked_within}
 use Rattle.lxr_run_replay.proofs.replaying.turn.Goals as goal
 
@@ -28,6 +30,7 @@ returns-then-not-advance-clause-step g c =
       picked,
       after_turn c.args.words.now c.args.actors.now c.from-number.result c.index-actors-number.result c.advance.new.words c.advance.new.actor at
           (c.advance.ensures.done ∙ ap (stepped any_machine c.args.words.now) (sym c.index-actors-number.is)),
+      λ m there. c.advance.ensures.passed m (sym c.index-actors-number.is ∙ same_actor c.args.actors.now c.from-number.result c.index-actors-number.result (any.Mutator m) at there),
     )
 
 pub returns-else-not-advance-clause-step : goal.returns-else-not-advance-clause-step
@@ -39,6 +42,7 @@ returns-else-not-advance-clause-step g c =
       picked,
       after_turn c.args.words.now c.args.actors.now c.from-number.result c.index-actors-number.result c.advance.new.words c.advance.new.actor at
           (c.advance.ensures.done ∙ ap (stepped any_machine c.args.words.now) (sym c.index-actors-number.is)),
+      λ m there. c.advance.ensures.passed m (sym c.index-actors-number.is ∙ same_actor c.args.actors.now c.from-number.result c.index-actors-number.result (any.Mutator m) at there),
     )
 
 pub returns-then-not-advance-clause-numbers : goal.returns-then-not-advance-clause-numbers

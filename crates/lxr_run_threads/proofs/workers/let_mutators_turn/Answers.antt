@@ -1,6 +1,7 @@
 use Rattle.std.proofs.Common.{◌-◌, ◌<◌, length, arith}
 use Rattle.std.proofs.lemmas.List.{length-set}
 use Rattle.std.proofs.lemmas.Option.{slice_get-get_or}
+use Rattle.lxr_run_threads.specs.Working.{HasPassed}
 use Rattle.lxr_run_threads.proofs.RoundLemmas.{one_turn}
 use Rattle.lxr_run_threads.proofs.workers.let_mutators_turn.Goals as goal
 
@@ -14,6 +15,6 @@ loop-left-preserved g c =
     let turned = c.take_mutator_turn.new.pass in
     record {
       few = let many = length-set passes (left - 1) turned in omega arith;
-      turns = one_turn c.args.table.now c.args.passes.now passes (left - 1) _ turned c.loop-left.invariant.turns (slice_get-get_or passes (left - 1) _ below)
-          c.take_mutator_turn.ensures.pass c.take_mutator_turn.ensures.number c.take_mutator_turn.ensures.nearer;
+      turns = one_turn c.args.table.now (HasPassed (g.G.Gate.passed c.args.gate.now)) c.args.passes.now passes (left - 1) _ turned c.loop-left.invariant.turns (slice_get-get_or passes (left - 1) _ below)
+          c.take_mutator_turn.ensures.pass c.take_mutator_turn.ensures.number c.take_mutator_turn.ensures.nearer c.take_mutator_turn.ensures.passed;
     }

@@ -1,9 +1,9 @@
 use Rattle.std.proofs.Common.{◌≡◌, suc, ◌+◌, ◌-◌, ◌<◌, ◌++◌, [], ◌∷◌, Some, All, arith, refl, sym, subst, ap, ◌∙◌, slice_get, slice_set, le_refl}
 use Rattle.std.proofs.lemmas.List.Elements.{All-pop, All-push}
 use mathlib.Core.List.{map-append}
-use Rattle.lxr_run_threads.specs.Dealing.{AreDealt, numbers_from, numbers_of, worker_of}
+use Rattle.lxr_run_threads.specs.Dealing.{AreDealt, IsAmong, numbers_from, numbers_of, worker_of}
 use Rattle.lxr_run_threads.specs.Working.{IsPassOf}
-use Rattle.lxr_run_threads.proofs.DealingLemmas.{dealt_more, last_number, none_of_any, nothing_dealt, numbers_at, of_each_set, worker_at}
+use Rattle.lxr_run_threads.proofs.DealingLemmas.{all_among, dealt_more, last_number, none_of_any, nothing_dealt, numbers_at, of_each_set, worker_at}
 use Rattle.lxr_run_threads.proofs.dealing.Dealing.deal.Goals as goal
 
 pub loop-pass-init : goal.loop-pass-init
@@ -13,6 +13,7 @@ loop-pass-init c = record {
   dealt = nothing_dealt c.args.self _ c.in_ok-hands.hands.items c.in_ok-hands.ensures;
   room = refl;
   each = λ epoch each. (each, none_of_any c.args.self (IsPassOf epoch) c.in_ok-hands.hands.items c.in_ok-hands.ensures);
+  among = (all_among c.args.passes.now.items, none_of_any c.args.self (IsAmong c.args.passes.now.items) c.in_ok-hands.hands.items c.in_ok-hands.ensures);
 }
 
 pub loop-pass-preserved : goal.loop-pass-preserved
@@ -45,5 +46,13 @@ loop-pass-preserved c =
             rest,
             of_each_set (IsPassOf epoch) hands worker hand (record hand { passes = c.push.new.self }) of_hands at
                 (subst (All (IsPassOf epoch)) (sym pushed) (All-push (IsPassOf epoch) hand.passes.items pass (of_hands worker hand at) of_last)),
+          );
+      among =
+          let all = c.args.passes.now.items in
+          let (of_passes, of_hands) = before.among in
+          let (rest, of_last) = All-pop (IsAmong all) c.loop-pass.passes.items c.pop.new.self.items (Some pass) c.in-Some.ensures.items of_passes in (
+            rest,
+            of_each_set (IsAmong all) hands worker hand (record hand { passes = c.push.new.self }) of_hands at
+                (subst (All (IsAmong all)) (sym pushed) (All-push (IsAmong all) hand.passes.items pass (of_hands worker hand at) of_last)),
           );
     }

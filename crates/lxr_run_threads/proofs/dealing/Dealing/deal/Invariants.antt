@@ -1,7 +1,7 @@
 use Rattle.std.proofs.Common.{◌≡◌, ◌-◌, ◌≤◌, All, vec_len, vec_capacity}
 use Rattle.lxr_core.specs.declared.actors.AnyActor.{AnyActor}
 use Rattle.lxr_shared_passes.specs.Passing.{Opened}
-use Rattle.lxr_run_threads.specs.Dealing.{AreDealt, OfEach, numbers_from, numbers_of}
+use Rattle.lxr_run_threads.specs.Dealing.{AreDealt, IsAmong, OfEach, numbers_from, numbers_of}
 use Rattle.lxr_run_threads.specs.Working.{IsPassOf}
 use Rattle.lxr_run_threads.proofs.dealing.Dealing.deal.Given as goal
 
@@ -12,6 +12,7 @@ invariant-loop-pass l = record {
   dealt : AreDealt l.self (numbers_from (vec_len l.passes) (vec_len l.fn.passes - vec_len l.passes)) l.hands.items;
   room : vec_capacity l.passes ≡ vec_capacity l.fn.passes;
   each : (table : Opened AnyActor) → All (IsPassOf table) l.fn.passes.items → All (IsPassOf table) l.passes.items × OfEach (IsPassOf table) l.hands.items;
+  among : All (IsAmong l.fn.passes.items) l.passes.items × OfEach (IsAmong l.fn.passes.items) l.hands.items;
 }
 
 abbrev pub decreases-loop-pass : goal.decreases-loop-pass

@@ -1,9 +1,9 @@
-use Rattle.std.proofs.Common.{◌≡◌, ◌+◌, ◌<◌, ◌++◌, [], ◌∷◌, Some, All, arith, sym, subst, ap, ◌∙◌, length, slice_get, slice_index_or}
-use Rattle.std.proofs.lemmas.List.Elements.{All-pop, All-push}
+use Rattle.std.proofs.Common.{◌≡◌, ◌+◌, ◌-◌, ◌<◌, ◌++◌, [], ◌∷◌, Some, All, arith, sym, subst, ap, ◌∙◌, length, slice_get, slice_index_or}
+use Rattle.std.proofs.lemmas.List.Elements.{All-nil, All-pop, All-push}
 use Rattle.lxr_run_threads.specs.declared.dealing.Hand.{Hand}
-use Rattle.lxr_run_threads.specs.Dealing.{AreDealt, numbers_of}
+use Rattle.lxr_run_threads.specs.Dealing.{AreDealt, IsAmongHands, numbers_from, numbers_of}
 use Rattle.lxr_run_threads.specs.Working.{IsDoneOf}
-use Rattle.lxr_run_threads.proofs.DealingLemmas.{next_number, numbers_at, of_each_set, some_left, taken, worker_at}
+use Rattle.lxr_run_threads.proofs.DealingLemmas.{hands_among, next_number, numbers_at, of_each_set, some_left, taken, worker_at}
 use Rattle.lxr_run_threads.proofs.dealing.Dealing.gather.Goals as goal
 
 pub unreachable-requires : goal.unreachable-requires
@@ -20,6 +20,20 @@ unreachable-requires c =
     let many = (slice_index_or hands worker hand).passes.ok in
     let (none, none') = c.in_default.ensures.cases in
     absurd (omega arith)
+
+pub loop-number-init : goal.loop-number-init
+loop-number-init c =
+    let all : c.args.count ≡ c.args.count - 0 = omega arith in
+    let ok = c.args.passes.now.ok in
+    let none = ap length c.requires.room.0 in
+    record {
+      dealt = subst (λ n. AreDealt c.args.self (numbers_from 0 n) c.args.hands.now) all c.requires.dealt;
+      order = ap numbers_of c.requires.room.0;
+      many = omega arith;
+      room = c.requires.room.1;
+      each = λ table of_each. (of_each, subst (All (IsDoneOf table)) (sym c.requires.room.0) (All-nil (IsDoneOf table)));
+      among = (hands_among c.args.hands.now, subst (All (IsAmongHands c.args.hands.now)) (sym c.requires.room.0) (All-nil (IsAmongHands c.args.hands.now)));
+    }
 
 pub loop-number-preserved : goal.loop-number-preserved
 loop-number-preserved c =
@@ -47,7 +61,17 @@ loop-number-preserved c =
             of_each_set (IsDoneOf epoch) hands worker hand (hand') of_hands at rest,
             subst (All (IsDoneOf epoch)) (sym c.push_reserved.ensures.items) (All-push (IsDoneOf epoch) c.loop-number.passes.items pass of_passes last),
           );
+      among =
+          let all = c.args.hands.now in
+          let (of_hands, of_passes) = before.among in
+          let (rest, last) = All-pop (IsAmongHands all) hand.passes.items c.pop.new.self.items (Some pass) popped (of_hands worker hand at) in (
+            of_each_set (IsAmongHands all) hands worker hand (hand') of_hands at rest,
+            subst (All (IsAmongHands all)) (sym c.push_reserved.ensures.items) (All-push (IsAmongHands all) c.loop-number.passes.items pass of_passes last),
+          );
     }
 
 pub returns-clause-each : goal.returns-clause-each
 returns-clause-each c epoch each = (c.loop-number.invariant.each epoch each).1
+
+pub returns-clause-among : goal.returns-clause-among
+returns-clause-among c = c.loop-number.invariant.among.1

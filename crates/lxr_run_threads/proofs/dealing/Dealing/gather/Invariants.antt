@@ -1,7 +1,7 @@
 use Rattle.std.proofs.Common.{◌≡◌, ◌-◌, ◌≤◌, All, vec_len, vec_capacity}
 use Rattle.lxr_core.specs.declared.actors.AnyActor.{AnyActor}
 use Rattle.lxr_shared_passes.specs.Passing.{Opened}
-use Rattle.lxr_run_threads.specs.Dealing.{AreDealt, OfEach, numbers_from, numbers_of}
+use Rattle.lxr_run_threads.specs.Dealing.{AreDealt, IsAmongHands, OfEach, numbers_from, numbers_of}
 use Rattle.lxr_run_threads.specs.Working.{IsDoneOf}
 use Rattle.lxr_run_threads.proofs.dealing.Dealing.gather.Given as goal
 
@@ -12,4 +12,5 @@ invariant-loop-number l = record {
   many : vec_len l.passes ≡ l.number;
   room : l.count ≤ vec_capacity l.passes;
   each : (table : Opened AnyActor) → OfEach (IsDoneOf table) l.fn.hands → OfEach (IsDoneOf table) l.hands × All (IsDoneOf table) l.passes.items;
+  among : OfEach (IsAmongHands l.fn.hands) l.hands × All (IsAmongHands l.fn.hands) l.passes.items;
 }
