@@ -30,6 +30,7 @@ abbrev pub places_of : Tables → ℕ → ℕ → List Place
 places_of t from zero = []
 places_of t from (suc count) = if is_wanted t ToScan from then record { 0 = from + 1 } ∷ places_of t (from + 1) count else places_of t (from + 1) count
 
+-- the places that are to be scanned from one granule up to another, in order
 abbrev pub places_between : Tables → ℕ → ℕ → List Place
 places_between t from to = places_of t from (to - from)
 

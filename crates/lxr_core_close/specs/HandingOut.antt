@@ -32,20 +32,19 @@ pub record IsInBlocks (listed : Tables) (below n : ℕ) : Type 0 where
 abbrev pub IsDrawnLine : Tables → ℕ → ℕ → ℕ → ℕ → Type 0
 IsDrawnLine listed blocks runs frees n = IsInRuns listed blocks runs n ⊎ IsInBlocks listed frees n
 
--- One of these lines was handed out, from tables t to tables u: it is out, and its reuse counter is higher by one. Each
--- other line is as it was.
+-- One of these lines was handed out, from tables t to tables u: it is out, and its reuse counter is higher by one.
 pub record IsHandedOut (lines : ℕ → Type 0) (t u : Tables) (n : ℕ) : Type 0 where
   pub drawn : lines n
   pub out : IsTrue (u.outs n)
   pub reuse : u.reuse n ≡ (t.reuse n + 1) % 2 ^ 32
 
+-- a line that is none of these is as it was
 pub record IsLeft (lines : ℕ → Type 0) (t u : Tables) (n : ℕ) : Type 0 where
   pub undrawn : ¬ lines n
   pub out : u.outs n ≡ t.outs n
   pub reuse : u.reuse n ≡ t.reuse n
 
--- A block that has one of these lines, and is neither Chosen nor World, has the state of the lines that are left of it.
--- Each other block has the state that it had.
+-- a block that has one of these lines, and is neither Chosen nor World, has the state of the lines that are left of it
 pub record IsBlockChanged (lines : ℕ → Type 0) (t u : Tables) (b : ℕ) : Type 0 where
   pub line : ℕ
   pub drawn : lines line
@@ -53,6 +52,7 @@ pub record IsBlockChanged (lines : ℕ → Type 0) (t u : Tables) (b : ℕ) : Ty
   pub loose : is_fixed (state_in t b) ≡ false
   pub state : u.states b ≡ state_number (state_by_lines u b)
 
+-- a block that is Chosen or World, or has none of these lines, has the state that it had
 pub record IsBlockLeft (lines : ℕ → Type 0) (t u : Tables) (b : ℕ) : Type 0 where
   pub why : (is_fixed (state_in t b) ≡ true) ⊎ ((n : ℕ) → n / LINES_IN_BLOCK ≡ b → ¬ lines n)
   pub state : u.states b ≡ t.states b

@@ -31,6 +31,7 @@ decrementing_in (phase.AsksNumber cursor) = AsksNumber cursor
 decrementing_in (phase.Draws count) = Draws count
 decrementing_in (phase.ReadsEntry number) = ReadsEntry number
 
+-- what a decrementer is about to do
 abbrev pub decrementing_of : DecrementerState → Decrementing
 decrementing_of d = decrementing_in d.phase
 

@@ -23,6 +23,7 @@ tracing_in (phase.DrawsNumber scan counter) = DrawsNumber scan.place.0 scan.refs
 tracing_in (phase.Enters scan counter number) = Enters scan.place.0 scan.refs scan.index counter number
 tracing_in phase.FindsNothing = FindsNothing
 
+-- what a tracer is about to do
 abbrev pub tracing_of : TracerState → Tracing
 tracing_of d = tracing_in d.phase
 

@@ -42,12 +42,15 @@ lowering r place = record {
 abbrev pub cursor_look : Regions → Action
 cursor_look r = load (r.cursors + DECREMENT_CURSOR)
 
+-- how many decrements wait in the list is looked at
 abbrev pub number_look : Regions → Action
 number_look r = load (r.cursors + DECREMENT_COUNT)
 
+-- a number of the list of decrements is drawn
 abbrev pub drawing : Regions → Action
 drawing r = record { kind = Add; word = r.cursors + DECREMENT_CURSOR; operand = 1 }
 
+-- the entry of this number is looked at
 abbrev pub entry_look : Regions → ℕ → Action
 entry_look r number = load (r.decs + number)
 

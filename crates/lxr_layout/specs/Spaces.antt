@@ -15,49 +15,65 @@ pub record AreLimits (l : Limits) : Type 0 where
 abbrev pub most_chosen : ℕ → ℕ
 most_chosen blocks = if nat_le blocks MOST_BLOCKS_REMEMBERED then (blocks / 8) else 0
 
--- the number of each region, in their order
+-- ---- the number of each region, in their order
+
+-- the words of the heap
 abbrev pub heap_region : ℕ
 heap_region = 0
 
+-- reference counts and line marks
 abbrev pub counts_region : ℕ
 counts_region = 1
 
+-- start bits
 abbrev pub starts_region : ℕ
 starts_region = 2
 
+-- mark bits
 abbrev pub marks_region : ℕ
 marks_region = 3
 
+-- gray bits
 abbrev pub grays_region : ℕ
 grays_region = 4
 
+-- done bits
 abbrev pub dones_region : ℕ
 dones_region = 5
 
+-- unlogged bits
 abbrev pub unlogged_region : ℕ
 unlogged_region = 6
 
+-- reuse counters of lines
 abbrev pub reuse_region : ℕ
 reuse_region = 7
 
+-- out bits of lines
 abbrev pub outs_region : ℕ
 outs_region = 8
 
+-- states of blocks
 abbrev pub states_region : ℕ
 states_region = 9
 
+-- listed runs of free lines
 abbrev pub runs_region : ℕ
 runs_region = 10
 
+-- listed free blocks
 abbrev pub frees_region : ℕ
 frees_region = 11
 
+-- the list of decrements
 abbrev pub decs_region : ℕ
 decs_region = 12
 
+-- the remembered set
 abbrev pub remembered_region : ℕ
 remembered_region = 13
 
+-- cursors
 abbrev pub cursors_region : ℕ
 cursors_region = 14
 

@@ -12,7 +12,7 @@ ghost use Rattle.lxr_pause_increments.specs.Increments.{RaisingLeaves, left};
 ghost use Rattle.lxr_pause_increments.specs.Steps.{FindsPlace, MayRaise, RaisesCount, RaisesName};
 
 use lxr_image::Space;
-use lxr_layout::{Header, Name, Place, STUCK, unpack, word_of};
+use lxr_layout::{Header, Name, Place, STUCK, granule_of, unpack, word_of};
 use lxr_pause_promote::{Shortage, object, promote_within};
 
 /// Raises the count of the object that stands or stood at a place. Where it reaches its largest value it is reported as stuck; a
@@ -38,7 +38,7 @@ fn settle(space: &mut Space, place: Place, shortage: &mut Shortage) -> Place
     ensures finds { FindsPlace space.old space.new place.0 result }
     ensures short { IsShortage space.new shortage.new }
 {
-    if space.has_start(place.0 - 1) {
+    if space.has_start(granule_of(place)) {
         place
     } else {
         match unpack(space.heap_word(word_of(place))) {
@@ -69,7 +69,7 @@ fn raise_at(space: &mut Space, place: Place)
     requires room { IsTrue (fills ((tables_of space.old).counts (granule_of place.0))) → length space.old.report.stuck.items < space.old.report.stuck.room }
     ensures { RaisesCount space.old space.new place }
 {
-    let raised = space.raise_count(place.0 - 1);
+    let raised = space.raise_count(granule_of(place));
     if raised.old != STUCK && raised.now == STUCK {
         report_stuck(space, place);
     }

@@ -18,7 +18,7 @@ use crate::remembering::remember_held;
 use crate::tracing::gray_old_values;
 use lxr_blocks::{BlockState, state};
 use lxr_image::Space;
-use lxr_layout::{Header, Place, field_word, unpack, word_of};
+use lxr_layout::{Place, field_word};
 use lxr_pause_promote::Shortage;
 
 /// Raises the object at the place that a word tells, and answers the word of the place where it stands now; 0 is nil, which
@@ -76,10 +76,7 @@ fn reference_slots(space: &Space, place: Place) -> u16
     requires { HasHolder space.now place.0 }
     ensures { HasSlots space.now place.0 result }
 {
-    match unpack(space.heap_word(word_of(place))) {
-        Header::Object(_, shape) => shape.refs,
-        Header::Moved(_) => 0,
-    }
+    space.reference_slots(place)
 }
 
 /// Raises what each reference of a promoted object holds.

@@ -10,7 +10,7 @@ ghost use Rattle.lxr_image.specs.Spaces.{IsSpace, Turns, tables_of};
 ghost use Rattle.lxr_pause_increments.specs.Traced.{OldValuesFit, with_gray, with_grays, with_old_grays};
 
 use lxr_image::Space;
-use lxr_layout::Place;
+use lxr_layout::{Place, granule_of};
 
 /// Makes the object at a place gray, unless the place is nil.
 fn gray_place(space: &mut Space, place: Place)
@@ -19,7 +19,7 @@ fn gray_place(space: &mut Space, place: Place)
     ensures { Turns space.old space.new (with_gray (tables_of space.old) place.0) }
 {
     if place.0 != 0 {
-        space.set_gray(place.0 - 1);
+        space.set_gray(granule_of(place));
     }
 }
 

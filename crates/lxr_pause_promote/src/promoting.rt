@@ -11,7 +11,7 @@ ghost use Rattle.lxr_pause_promote.specs.Shortages.{IsShortage};
 use crate::copying::{object, young_evacuate_within};
 use crate::shortage::Shortage;
 use lxr_image::Space;
-use lxr_layout::{GRANULES_IN_LINE, Place, STUCK, word_of, words_of};
+use lxr_layout::{GRANULES_IN_LINE, Place, STUCK, granule_of, word_of, words_of};
 
 /// Copies the new object at a place where there is room for it, and promotes it where it then is: from now on it begins there,
 /// its references are to be logged, and each further line that it reaches into is marked. While a trace runs, the object is
@@ -49,7 +49,7 @@ fn promote_here(space: &mut Space, place: Place) -> Place
     ensures limits { space.new.limits ≡ space.old.limits }
 {
     let (_, shape) = object(space, place);
-    let granule = place.0 - 1;
+    let granule = granule_of(place);
     space.set_start(granule);
     mark_promoted(space, granule);
     mark_lines(space, granule, words_of(shape) / 2);

@@ -16,6 +16,7 @@ load word = record { kind = Load; word = word; operand = 0 }
 abbrev pub bit_look : ℕ → Place → Action
 bit_look table place = load (table + granule_of place / 64)
 
+-- the bit of the object at a place is set in a table
 abbrev pub bit_setting : ℕ → Place → Action
 bit_setting table place = record { kind = Or; word = table + granule_of place / 64; operand = 2 ^ (granule_of place % 64) }
 
@@ -27,6 +28,7 @@ start_look r place = bit_look r.starts place
 abbrev pub header_look : Regions → Place → Action
 header_look r place = load (r.heap + first_word place.0)
 
+-- a reference of the object at a place is looked at
 abbrev pub reference_look : Regions → Place → ℕ → Action
 reference_look r place index = load (r.heap + field_word place.0 index)
 

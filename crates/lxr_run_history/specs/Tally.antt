@@ -36,5 +36,6 @@ pub record Evacuated : Type 0 where
 abbrev pub none_evacuated : Evacuated
 none_evacuated = record { moved = 0; kept = 0 }
 
+-- what a tally says of it
 abbrev pub evacuated_in : Tally → Evacuated
 evacuated_in t = record { moved = t.moved; kept = t.kept }

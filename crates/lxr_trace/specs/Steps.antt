@@ -26,6 +26,7 @@ use Rattle.lxr_trace.specs.Words.{counter_in, is_chosen, line_of_field, remember
 abbrev pub gray_look : Regions → Place → Action
 gray_look r place = bit_look r.grays place
 
+-- the object at a place is marked
 abbrev pub marking : Regions → Place → Action
 marking r place = bit_setting r.marks place
 
@@ -41,6 +42,7 @@ reuse_look r place index = load (r.reuse + line_of_field place index / 2)
 abbrev pub drawing : Regions → Action
 drawing r = record { kind = Add; word = r.cursors + REMEMBERED_CURSOR; operand = 1 }
 
+-- the entry of this number is written: the counter of its line, and the reference
 abbrev pub entering : Regions → ℕ → ℕ → Place → ℕ → Action
 entering r number counter place index = record { kind = Store; word = r.remembered + number; operand = word_of_entry counter place index }
 

@@ -31,7 +31,8 @@ pub returns-clause-promotes : goal.returns-clause-promotes
 returns-clause-promotes c = λ n shape h.
     let e = c.object.ensures n shape h in
     let words : c.words_of.result ≡ word_count shape = c.words_of.ensures ∙ ap (λ z. word_count z.1) e in
-    let marks = subst (λ z. Turns c.mark_promoted.new.space c.mark_lines.new.space (with_marks (tables_of c.mark_promoted.new.space) (granule_of c.args.place.0) (z / 2))) words c.mark_lines.ensures in
+    let granule = c.granule_of-granule.ensures in
+    let marks = subst (λ z. Turns c.mark_promoted.new.space c.mark_lines.new.space (with_marks (tables_of c.mark_promoted.new.space) (granule_of c.args.place.0) (z / 2))) words (rw granule at c.mark_lines.ensures) in
     let first = subst (λ z. Turns c.mark_lines.new.space c.log_references.new.space (with_unlogged (tables_of c.mark_lines.new.space) (z + 1) (z + 1 + c.object.result.1.refs))) c.word_of.ensures c.log_references.ensures in
     let logs = subst (λ z. Turns c.mark_lines.new.space c.log_references.new.space (with_unlogged (tables_of c.mark_lines.new.space) (first_word c.args.place.0 + 1) (first_word c.args.place.0 + 1 + z.1.refs))) e first in
-    promoted_turns c.args.space.now c.set_start.new.self c.mark_promoted.new.space c.mark_lines.new.space c.log_references.new.space c.args.place shape c.set_start.ensures c.mark_promoted.ensures marks logs
+    promoted_turns c.args.space.now c.set_start.new.self c.mark_promoted.new.space c.mark_lines.new.space c.log_references.new.space c.args.place shape (rw granule at c.set_start.ensures) (rw granule at c.mark_promoted.ensures) marks logs
