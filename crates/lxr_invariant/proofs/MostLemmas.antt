@@ -1,12 +1,7 @@
--- How many references a trace may have remembered: what a pause adds at most, in a heap that chooses blocks and in the largest one, and the
--- sum over the pauses so far.
-use Rattle.std.proofs.Common.{◌≡◌, ℕ, ◌+◌, ◌*◌, ◌^◌, ◌≤◌, arith, mul-le-mul_left, mul-le-mul_right}
-use Rattle.lxr_layout.specs.declared.TheConstants.{MOST_BLOCKS, MOST_BLOCKS_REMEMBERED, MOST_WORDS}
+-- How many references a trace may have remembered: what a pause adds at most in the largest heap, and the sum over the pauses so far.
+use Rattle.std.proofs.Common.{◌≡◌, ℕ, ◌+◌, ◌*◌, ◌≤◌, arith, mul-le-mul_left, mul-le-mul_right}
+use Rattle.lxr_layout.specs.declared.TheConstants.{MOST_BLOCKS, MOST_WORDS}
 use Rattle.lxr_invariant.specs.Tracing.{most_remembered}
-
--- in a heap that may choose blocks
-pub most_chosen_heap : (blocks : ℕ) → blocks ≤ MOST_BLOCKS_REMEMBERED → most_remembered blocks ≤ 2 ^ 23
-most_chosen_heap blocks small = omega (arith, small)
 
 -- in any heap
 pub most_any_heap : (blocks : ℕ) → blocks ≤ MOST_BLOCKS → most_remembered blocks ≤ 2 * MOST_WORDS
