@@ -1,6 +1,6 @@
 -- What is reclaimed by counting hides nothing from a trace: it is dead, so it is no garbage of the trace and isn't stored to, and what it
 -- referred to is gray now.
-use Rattle.std.proofs.Common.{◌≡◌, ℕ, ◌/◌, ◌<◌, refl, sym, ap, subst, ◌∙◌, inl, inr, ◌⊎◌, arith, false, List, IsTrue, ◌≢◌}
+use Rattle.std.proofs.Common.{◌≡◌, ℕ, ◌+◌, ◌*◌, ◌/◌, ◌<◌, ◌≤◌, refl, sym, ap, subst, ◌∙◌, inl, inr, ◌⊎◌, arith, false, List, IsTrue, ◌≢◌}
 use Rattle.std.specs.Prelude.{Some}
 use Rattle.std.proofs.lemmas.Bool.{false_from_ne_true}
 use Rattle.lxr_layout.specs.declared.Name.{Name}
