@@ -3,7 +3,7 @@
 use Rattle.std.proofs.Common.{◌≡◌, ℕ, ◌+◌, ◌*◌, ◌/◌, ◌^◌, ◌-◌, ◌<◌, ◌≤◌, refl, sym, ap, subst, ◌∙◌, inl, inr, ◌⊎◌, arith, Bool, true, false, List, length}
 use Rattle.std.specs.Prelude.{Option, Some, None, IsTrue}
 use Rattle.std.proofs.lemmas.Option.{slice_get_within}
-use Rattle.lxr_layout.specs.declared.TheConstants.{GRANULES_IN_BLOCK, GRANULES_IN_LINE, MOST_WORDS, REMEMBERED_CURSOR, WORDS_IN_LINE}
+use Rattle.lxr_layout.specs.declared.TheConstants.{GRANULES_IN_BLOCK, GRANULES_IN_LINE, REMEMBERED_CURSOR, WORDS_IN_LINE}
 use Rattle.lxr_layout.specs.declared.limits.Limits.{Limits}
 use Rattle.lxr_layout.specs.declared.LogEntry.{LogEntry}
 use Rattle.lxr_layout.specs.declared.Name.{Name}
@@ -20,7 +20,7 @@ use Rattle.lxr_model.specs.Moments.{Moment, Trace, rememberable}
 use Rattle.lxr_invariant.specs.AbstractState.{members}
 use Rattle.lxr_invariant.specs.Lines.{Covers}
 use Rattle.lxr_invariant.specs.Standing.{word_of_field}
-use Rattle.lxr_invariant.specs.Tracing.{HandledAreGray, HasOverflowed, IsCovered, IsEntryWord, IsInChosen, IsRemembered, IsRememberedSoFar, IsScanned, IsToBeScanned, IsTracedBy, MarksStayInside, SnapshotIsCovered, StaysGarbage, TraceHolds, unscanned_slots}
+use Rattle.lxr_invariant.specs.Tracing.{HandledAreGray, HasOverflowed, IsCovered, IsEntryWord, IsInChosen, IsRemembered, IsRememberedSoFar, IsScanned, IsToBeScanned, IsTracedBy, MarksStayInside, SnapshotIsCovered, StaysGarbage, TraceHolds, most_remembered, unscanned_slots}
 use Rattle.lxr_invariant.proofs.NameLemmas.{in_first}
 use Rattle.lxr_core_invariant.specs.EpochStates.{Beginning, EpochState, limits_of, moment_of, opening_tables}
 use Rattle.lxr_core_invariant.specs.Logged.{logs_of}
@@ -148,7 +148,7 @@ module _ (b : Beginning) (s : EpochState) (u : Tables) (is : IsEpoch b s) (closi
         inside = subst (λ z. MarksStayInside z m s.at trace) (sym rest) (inside_later s.tables u.outs u.reuse u.states m s.at entries trace (closing.inside trace runs));
         handled = subst (λ z. HandledAreGray z m s.at) (sym rest) covers.handled;
         remembered = remembered_later (limits_of b) s.tables u (limits_of b).blocks m s.at trace rest is.image.placed.image reuse states began.snapshot (closing.remembered trace began.snapshot runs began.reachable);
-        few = subst (λ z. rememberable trace began.snapshot ≤ 2 * MOST_WORDS * (z + 1)) (sym one.number) began.few;
+        few = subst (λ z. rememberable trace began.snapshot ≤ most_remembered (limits_of b).blocks * (z + 1)) (sym one.number) began.few;
       }
 
   traced_so_far : (trace : Option Trace) → m.trace ≡ trace → IsTracedBy (limits_of b) u entries (closed_state b s) trace

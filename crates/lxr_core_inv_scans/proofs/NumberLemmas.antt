@@ -3,11 +3,12 @@
 use Rattle.std.proofs.Common.{◌≡◌, ℕ, ◌+◌, ◌*◌, ◌^◌, ◌<◌, ◌≤◌, arith}
 use Rattle.std.specs.Prelude.{⊤, Option, Some, None, slice_get}
 use Rattle.lxr_layout.specs.declared.limits.Limits.{Limits}
-use Rattle.lxr_layout.specs.declared.TheConstants.{MOST_WORDS, REMEMBERED_CURSOR}
+use Rattle.lxr_layout.specs.declared.TheConstants.{MOST_BLOCKS, MOST_WORDS, REMEMBERED_CURSOR}
 use Rattle.lxr_image.specs.Tables.{Tables}
 use Rattle.lxr_model.specs.Moments.{Trace, rememberable}
 use Rattle.lxr_invariant.specs.Lines.{ChosenNeedTrace}
-use Rattle.lxr_invariant.specs.Tracing.{IsTracedBy, unscanned_slots}
+use Rattle.lxr_invariant.specs.Tracing.{IsTracedBy, most_remembered, unscanned_slots}
+use Rattle.lxr_invariant.proofs.MostLemmas.{most_any_heap, parts_larger}
 use Rattle.lxr_core_access.specs.Tracers.{Attempts, Tracing, begins, goes_on, pocket, nothing, DrawsNumber, Enters}
 use Rattle.lxr_core_invariant.specs.EpochStates.{Beginning, EpochState, limits_of, opening_tables}
 use Rattle.lxr_core_invariant.specs.Remembered.{AreIdle, AreRememberedWhile, undrawn}
@@ -20,16 +21,19 @@ MayRemember l t (Enters place refs index counter number) = number < l.remember
 MayRemember l t _ = ⊤
 
 -- a cursor that is no further than what may be remembered stays a word
-cursor_far : (cursor unscanned undrawn most pauses number : ℕ) → cursor + unscanned + undrawn ≤ most → most ≤ 2 * MOST_WORDS * (number + 1) → pauses ≡ number → pauses < 2 ^ 32 → cursor + 1 < 2 ^ 64
-cursor_far cursor unscanned undrawn most pauses number bound few same short = omega arith
+cursor_far : (blocks cursor unscanned undrawn most pauses number : ℕ) → blocks ≤ MOST_BLOCKS → cursor + unscanned + undrawn ≤ most → most ≤ most_remembered blocks * (number + 1) → pauses ≡ number → pauses < 2 ^ 32
+    → cursor + 1 < 2 ^ 64
+cursor_far blocks cursor unscanned undrawn most pauses number small bound few same short =
+    let far = parts_larger (most_remembered blocks) (2 * MOST_WORDS) most number few (most_any_heap blocks small) in
+    omega (arith, bound, far, same, short)
 
 module _ (b : Beginning) (s : EpochState) (is : IsEpoch b s) where
   -- while a trace runs
   number_while : (trace : Trace) → IsTracedBy (limits_of b) (opening_tables b) b.space.logged.items b.abstract_state (Some trace) → AreRememberedWhile b s (Some trace)
       → s.tables.cursors REMEMBERED_CURSOR + 1 < 2 ^ 64
   number_while trace began remembered =
-      cursor_far (s.tables.cursors REMEMBERED_CURSOR) (unscanned_slots s.tables b.abstract_state.moment b.abstract_state.at began.snapshot) (undrawn b.abstract_state.moment b.abstract_state.at s.tracers)
-      (rememberable trace began.snapshot) b.space.pauses b.abstract_state.moment.number (remembered.bound began.snapshot began.reachable) began.few is.begins.between.safepoint.numbers.pauses is.remembered.few_pauses
+      cursor_far (limits_of b).blocks (s.tables.cursors REMEMBERED_CURSOR) (unscanned_slots s.tables b.abstract_state.moment b.abstract_state.at began.snapshot) (undrawn b.abstract_state.moment b.abstract_state.at s.tracers)
+      (rememberable trace began.snapshot) b.space.pauses b.abstract_state.moment.number is.begins.between.safepoint.holds.space.limits.blocks.1 (remembered.bound began.snapshot began.reachable) began.few is.begins.between.safepoint.numbers.pauses is.remembered.few_pauses
 
   -- where a tracer is about to draw, a trace runs
   far_by : (o : Option Trace) → ChosenNeedTrace (opening_tables b) (limits_of b).blocks o → IsTracedBy (limits_of b) (opening_tables b) b.space.logged.items b.abstract_state o → AreRememberedWhile b s o

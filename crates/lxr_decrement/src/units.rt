@@ -11,11 +11,11 @@ use crate::phases::{DecEnd, DecrementerPhase, Handling};
 use crate::words::{count_in, listed_in, shift_of};
 use lxr_actor::{Action, Kindred};
 use lxr_layout::{
-    DECREMENT_COUNT, DECREMENT_CURSOR, Place, Regions, STUCK, TRACING_WORD, field_word, word_of,
+    DECREMENT_COUNT, DECREMENT_CURSOR, Place, Regions, STUCK, TRACING_WORD, field_word, granule_of,
+    word_of,
 };
 use lxr_pocket::{
-    HelperState, Phase, Unit, bit_look, bit_setting, granule_of, has_bit, references_in,
-    referent_in,
+    HelperState, Phase, Unit, bit_look, bit_setting, has_bit, references_in, referent_in,
 };
 use lxr_tables::COUNTS_IN_WORD;
 

@@ -4,8 +4,7 @@ ghost use Rattle.lxr_layout.specs.declared.TheConstants.{COUNT_BITS};
 ghost use Rattle.lxr_tables.specs.declared.counts.TheConstants.{COUNTS_IN_WORD};
 ghost use Rattle.lxr_decrement.specs.Words.{count_in, listed_in};
 
-use lxr_layout::{COUNT_BITS, Place, Regions, STUCK};
-use lxr_pocket::granule_of;
+use lxr_layout::{COUNT_BITS, Place, Regions, STUCK, granule_of};
 use lxr_tables::COUNTS_IN_WORD;
 
 /// The lowest bit of the count of a granule in its word.

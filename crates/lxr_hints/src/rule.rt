@@ -1,8 +1,8 @@
 //! What a caller can know of hints that others take too.
 //!
 //! A rule speaks of the places that a deque holds at any one moment. Calls are proved for every rule. So a place that is taken was
-//! pushed, since a rule may say that each place on a deque was. Of a deque that was found empty a rule can tell nothing: what it says of no
-//! places holds at all times, or never. That a deque was looked at is told by what the call did there (`Deques`).
+//! pushed, since a rule may say that each place on a deque was. Where the own deque was found empty, the rule held of no places: a body that is
+//! proved for every rule knows that from a look at a deque alone. That a deque was looked at is told by what the call did there (`Deques`).
 ghost use Rattle.std.specs.Prelude.{List};
 ghost use Rattle.lxr_layout.specs.declared.Place.{Place};
 
@@ -64,7 +64,7 @@ impl Outcome<Place, Journal> for Put {
     ghost then = { λ before places after. after ≡ with_put before places };
 }
 
-/// What a pop or a steal tells that gave a place: it is got, and the rule says something of it.
+/// What a steal tells that gave a place: it is got, and the rule says something of it.
 pub(crate) struct Got<H> {
     rule: PhantomData<H>,
 }
@@ -74,4 +74,18 @@ impl<H: HintRule> Outcome<Place, Journal> for Got<H> {
     ghost use Rattle.lxr_hints.specs.Journals.{with_got};
 
     ghost then = { λ before places after. (after ≡ with_got before places) × All H.taken places };
+}
+
+/// What a pop tells: of a place that it gave what a steal tells, and where the deque was found empty, that the rule held of no places.
+pub(crate) struct Popped<H> {
+    rule: PhantomData<H>,
+}
+
+impl<H: HintRule> Outcome<Place, Journal> for Popped<H> {
+    ghost use Rattle.std.specs.Prelude.{◌≡◌, [], All};
+    ghost use Rattle.lxr_hints.specs.Journals.{with_got};
+
+    ghost then = { λ before places after. (after ≡ with_got before places) × All H.taken places };
+
+    ghost empty = { λ _. H.holds [] };
 }

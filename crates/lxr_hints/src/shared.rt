@@ -6,7 +6,7 @@ ghost use Rattle.lxr_hints.specs.Rules.{MayLeave};
 ghost use Rattle.lxr_hints.specs.Sharing.{IsWay, way_deque, HasStolen};
 
 use crate::deques::Deques;
-use crate::rule::{AnyPlace, Got, HintRule, Journal, Put, Ruled};
+use crate::rule::{AnyPlace, Got, HintRule, Journal, Popped, Put, Ruled};
 use crossbeam_deque::{Pass, Stealer, Worker};
 use lxr_layout::Place;
 use std::alloc::{AllocError, Global};
@@ -66,7 +66,7 @@ impl<H: HintRule> Deques for Shared<H> {
 
     ghost put = { HasPut };
 
-    ghost popped = { HasPopped H.taken };
+    ghost popped = { HasPopped H.holds H.taken };
 
     ghost stolen = { HasStolenAt H.taken };
 
@@ -81,7 +81,7 @@ impl<H: HintRule> Deques for Shared<H> {
     }
 
     fn pop(&mut self) -> Option<Place> {
-        self.own.pop_as::<Got<H>>()
+        self.own.pop_as::<Popped<H>>()
     }
 
     fn steal(&mut self, number: usize) -> Option<Place> {

@@ -9,6 +9,7 @@ pub mod MemberLemmas
 pub mod KeepingLemmas
 pub mod InsideLemmas
 pub mod ScanLemmas
+pub mod MostLemmas
 pub mod CopiedLemmas
 pub mod LandingLemmas
 pub mod UnusedLemmas

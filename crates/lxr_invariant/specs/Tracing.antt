@@ -2,7 +2,7 @@
 -- one that is done as handled.
 use Rattle.std.specs.Prelude.{◌≡◌, ℕ, ◌+◌, ◌*◌, ◌/◌, ◌^◌, ◌<◌, ◌≤◌, ◌⊎◌, ◌&&◌, ⊤, not, Bool, false, Option, Some, None, List, IsTrue, filter, slice_get}
 use Rattle.lxr_invariant.specs.Standing.{word_of_field}
-use Rattle.lxr_layout.specs.declared.TheConstants.{GRANULES_IN_BLOCK, MOST_BLOCKS_REMEMBERED, MOST_WORDS, REMEMBERED_CURSOR, WORDS_IN_BLOCK, WORDS_IN_LINE}
+use Rattle.lxr_layout.specs.declared.TheConstants.{GRANULES_IN_BLOCK, MOST_BLOCKS_REMEMBERED, REMEMBERED_CURSOR, WORDS_IN_BLOCK, WORDS_IN_LINE}
 use Rattle.lxr_layout.specs.declared.limits.Limits.{Limits}
 use Rattle.lxr_layout.specs.declared.Name.{Name}
 use Rattle.lxr_layout.specs.declared.LogEntry.{LogEntry}
@@ -140,6 +140,11 @@ pub record IsRememberedSoFar (l : Limits) (t : Tables) (m : Moment) (at : Name �
   -- all references that are still to be scanned may be remembered too, and then these are still no more than may be
   pub bound : t.cursors REMEMBERED_CURSOR + unscanned_slots t m at snapshot ≤ rememberable trace snapshot
 
+-- how many references a pause adds at most to those that may be remembered: those of all objects that fit into the heap, or those of what it
+-- promotes and the stored ones, of which 16 threads log 65,536 each
+abbrev pub most_remembered : ℕ → ℕ
+most_remembered blocks = WORDS_IN_BLOCK * blocks + 2 ^ 20
+
 -- all of this, for the trace that runs and the names of its snapshot
 pub record TraceHolds (l : Limits) (t : Tables) (entries : List LogEntry) (g : AbstractState) (trace : Trace) : Type 0 where
   pub snapshot : List Name
@@ -148,7 +153,8 @@ pub record TraceHolds (l : Limits) (t : Tables) (entries : List LogEntry) (g : A
   pub inside : MarksStayInside t g.moment g.at trace
   pub handled : HandledAreGray t g.moment g.at
   pub remembered : IsRememberedSoFar l t g.moment g.at trace snapshot
-  pub few : rememberable trace snapshot ≤ 2 * MOST_WORDS * (g.moment.number + 1)
+  -- no more than each pause so far may have added
+  pub few : rememberable trace snapshot ≤ most_remembered l.blocks * (g.moment.number + 1)
 
 -- nothing is asked where none runs
 abbrev pub IsTracedBy : Limits → Tables → List LogEntry → AbstractState → Option Trace → Type 0

@@ -12,13 +12,17 @@ ghost use Rattle.lxr_base.specs.Roomy.{pushed};
 ghost use Rattle.lxr_image.specs.Spaces.{IsSpace, Turns, tables_of};
 ghost use Rattle.lxr_pause_decrements.specs.Cascade.{IsHeader, Keeps, with_lists};
 ghost use Rattle.lxr_pause_decrements.specs.Handled.{HandledStand, MayReport, OnlyReports, ReportsBlock, ReportsWord, reclaimed_from, reclaimed_words, without_reach};
+ghost use Rattle.lxr_pause_decrements.specs.declared.handled.TheConstants.{BIT_WORDS_IN_BLOCK};
 ghost use Rattle.lxr_pause_decrements.specs.Steps.{MayReclaimAllHandled, ReclaimsAllHandled, ReclaimsSomeHandled};
 
 use crate::reclaiming::{clear_line_marks, clear_logs};
 use lxr_base::take_bit;
 use lxr_image::Space;
 use lxr_image_search::{Wanted, may_want};
-use lxr_layout::{Header, unpack, words_of};
+use lxr_layout::{GRANULES_IN_BLOCK, Header, unpack, words_of};
+
+/// How many words of bits a block has, a bit for each granule.
+const BIT_WORDS_IN_BLOCK: u32 = GRANULES_IN_BLOCK / 64;
 
 /// Reports the object that begins at a granule as dead.
 #[inline(always)]
@@ -37,7 +41,7 @@ fn report_dead(space: &mut Space, granule: u32)
 /// Reports the handled objects that begin at 64 granules in a row.
 #[inline(always)]
 fn report_word(space: &mut Space, at: u32)
-    requires at { at < 32 * space.old.limits.blocks }
+    requires at { at < BIT_WORDS_IN_BLOCK * space.old.limits.blocks }
     requires stage { MayReport space.old (64 * at) }
     ensures reports { ReportsWord space.old space.new at }
     ensures only { OnlyReports space.old space.new }
@@ -55,8 +59,8 @@ fn report_block(space: &mut Space, block: u32)
     ensures reports { ReportsBlock space.old space.new block }
     ensures only { OnlyReports space.old space.new }
 {
-    for i in 0..32 {
-        report_word(space, 32 * block + i);
+    for i in 0..BIT_WORDS_IN_BLOCK {
+        report_word(space, BIT_WORDS_IN_BLOCK * block + i);
     }
 }
 
@@ -77,7 +81,7 @@ fn clear_reach(space: &mut Space, granule: u32)
 #[inline(always)]
 fn clear_word(space: &mut Space, at: u32)
     requires space { IsSpace space.old }
-    requires at { at < 32 * space.old.limits.blocks }
+    requires at { at < BIT_WORDS_IN_BLOCK * space.old.limits.blocks }
     requires stand { HandledStand (tables_of space.old) space.old.limits.blocks (64 * at) (64 * at + 64) }
     ensures { Turns space.old space.new (reclaimed_from (tables_of space.old) (64 * at) 64) }
 {
@@ -100,10 +104,10 @@ fn clear_block(space: &mut Space, block: u32)
     requires space { IsSpace space.old }
     requires block { block < space.old.limits.blocks }
     requires stand { HandledStand (tables_of space.old) space.old.limits.blocks (GRANULES_IN_BLOCK * block) (GRANULES_IN_BLOCK * (block + 1)) }
-    ensures { Turns space.old space.new (reclaimed_words (tables_of space.old) (32 * block) 32) }
+    ensures { Turns space.old space.new (reclaimed_words (tables_of space.old) (BIT_WORDS_IN_BLOCK * block) BIT_WORDS_IN_BLOCK) }
 {
-    for i in 0..32 {
-        clear_word(space, 32 * block + i);
+    for i in 0..BIT_WORDS_IN_BLOCK {
+        clear_word(space, BIT_WORDS_IN_BLOCK * block + i);
     }
 }
 

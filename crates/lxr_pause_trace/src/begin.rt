@@ -9,6 +9,7 @@ ghost use Rattle.lxr_pause_trace.specs.Tracing.{BeginsTrace, CanTrace};
 
 use lxr_blocks::{BlockState, state};
 use lxr_image::Space;
+use lxr_layout::granule_of;
 
 /// Takes the marks of a block away and forgets what was gray in it, a word of bits at a time.
 fn clear_words(space: &mut Space, block: u32)
@@ -56,7 +57,7 @@ fn shade_registers(space: &mut Space)
 {
     for register in 0..space.registers.len() {
         match space.registers.get(register) {
-            Some(place) if place.0 != 0 => space.set_gray(place.0 - 1),
+            Some(place) if place.0 != 0 => space.set_gray(granule_of(place)),
             _ => {}
         }
     }

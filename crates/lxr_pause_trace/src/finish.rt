@@ -9,7 +9,7 @@ ghost use Rattle.lxr_pause_trace.specs.Tracing.{CanFinishTrace, FinishesTrace};
 
 use lxr_image::Space;
 use lxr_image_search::{Wanted, next_wanted};
-use lxr_layout::{Header, Place, field_word};
+use lxr_layout::{Place, field_word, granule_of, place_at};
 use lxr_remset::remember_chosen;
 
 /// Makes the object at a place gray and marks it. Where it was unmarked, it waits in the worklist.
@@ -20,7 +20,7 @@ fn find(space: &mut Space, place: Place)
     requires room { (tables_of space.old).marks (granule_of place.0) ≡ false → length space.old.work.items < space.old.work.room }
     ensures { Finds space.old space.new place }
 {
-    let granule = place.0 - 1;
+    let granule = granule_of(place);
     space.set_gray(granule);
     if !space.has_mark(granule) {
         space.set_mark(granule);
@@ -28,15 +28,12 @@ fn find(space: &mut Space, place: Place)
     }
 }
 
-/// How many references the object at a place has.
+/// How many references the object at a place has, which is to be scanned.
 fn reference_slots(space: &Space, place: Place) -> u16
-    requires { IsSpace space.now }
+    requires { MayScan space.now place.0 }
     ensures { result ≡ slots_at (tables_of space.now) place.0 }
 {
-    match space.object(place) {
-        Some(Header::Object(_, shape)) => shape.refs,
-        _ => 0,
-    }
+    space.reference_slots(place)
 }
 
 /// Finds what one reference of an object holds, unless it is nil. Where that stands in a Chosen block, the reference is
@@ -83,7 +80,7 @@ fn find_grays(space: &mut Space)
 {
     let mut from = 0;
     while let Some(granule) = next_wanted(space, Wanted::ToScan, from) {
-        find(space, Place(granule + 1));
+        find(space, place_at(granule));
         from = granule + 1;
     }
 }

@@ -7,7 +7,7 @@ use Rattle.std.proofs.lemmas.Bool.{and_from, and_parts}
 use Rattle.std.proofs.lemmas.List.Kept.{IsStrictlySortedBy-filter}
 use Rattle.std.proofs.lemmas.Map.Views.{any-filter_same}
 use Rattle.lxr_layout.specs.declared.Name.{Name}
-use Rattle.lxr_layout.specs.declared.TheConstants.{MOST_WORDS, REMEMBERED_CURSOR}
+use Rattle.lxr_layout.specs.declared.TheConstants.{REMEMBERED_CURSOR}
 use Rattle.lxr_graph.specs.Names.{AreInOrder, IsSetOf, has, name_order, same_name}
 use Rattle.lxr_graph.specs.State.{State, object_at, world_name}
 use Rattle.lxr_graph.specs.History.{PauseReport}
@@ -26,9 +26,10 @@ use Rattle.lxr_model_counting.proofs.DistinctLemmas.{in_order_distinct}
 use Rattle.lxr_model_counting.proofs.LeavingLemmas.{garbage_referred}
 use Rattle.lxr_invariant.specs.Counting.{IsUndecremented}
 use Rattle.lxr_invariant.specs.Settled.{IsSettled}
-use Rattle.lxr_invariant.specs.Tracing.{IsCovered, IsInSnapshot, IsRememberedSoFar, IsRoot, MarksStayInside, SnapshotIsCovered, StaysGarbage, TraceHolds, is_unscanned}
+use Rattle.lxr_invariant.specs.Tracing.{IsCovered, IsInSnapshot, IsRememberedSoFar, IsRoot, MarksStayInside, SnapshotIsCovered, StaysGarbage, TraceHolds, is_unscanned, most_remembered}
 use Rattle.lxr_invariant.proofs.NameLemmas.{in_first}
 use Rattle.lxr_invariant.proofs.ScanLemmas.{slots_within}
+use Rattle.lxr_invariant.proofs.MostLemmas.{parts_later}
 use Rattle.lxr_pause_trace.specs.Tracing.{BeginsTrace}
 use Rattle.lxr_pause_trace_laws.specs.Laws.{BeginningTraces, fresh_trace}
 use Rattle.lxr_pause_trace_laws.proofs.EndLemmas.{live_now, root_reachable}
@@ -157,12 +158,12 @@ module _ (before after : Space) (states entries cursors : ℕ → ℕ) (m : Mome
   }
 
   -- the references of the snapshot's objects are at most the heap's words
-  few : rememberable trace listed.names ≤ 2 * MOST_WORDS * (m.number + 1)
+  few : rememberable trace listed.names ≤ most_remembered after.limits.blocks * (m.number + 1)
   few =
       let within : (x : Name) → IsTrue (has listed.names x) → IsTrue (has _ x) = λ x h. in_first m.unreclaimed m.made x (stands x ((listed.are.members x).0 h)) in
       let fit = references_fit (tables_of after) after.limits.blocks at m.state.graph _ begins.holds.image.image listed.names (in_order_distinct listed.names listed.are.in_order) within in
-      let blocks = begins.holds.space.limits.blocks.1 in
-      omega (arith, fit, blocks)
+      let first : rememberable trace listed.names ≤ most_remembered after.limits.blocks * (0 + 1) = omega (arith, fit) in
+      parts_later (most_remembered after.limits.blocks) (rememberable trace listed.names) 0 m.number first (omega arith)
 
   begun : TraceHolds after.limits u [] (record { moment = m; at = at; reported = reported }) trace
   begun = record {

@@ -9,7 +9,7 @@ use Rattle.std.proofs.lemmas.Nat.{mul-le}
 use Rattle.std.proofs.lemmas.List.Sorted.{length_permutation}
 use Rattle.std.proofs.lemmas.Option.{slice_get_within}
 use Rattle.lxr_layout.specs.declared.Name.{Name}
-use Rattle.lxr_layout.specs.declared.TheConstants.{GRANULES_IN_BLOCK, MOST_WORDS, REMEMBERED_CURSOR}
+use Rattle.lxr_layout.specs.declared.TheConstants.{GRANULES_IN_BLOCK, REMEMBERED_CURSOR, WORDS_IN_BLOCK}
 use Rattle.lxr_graph.specs.Names.{has}
 use Rattle.lxr_graph.specs.State.{object_at, refs_of, world_name}
 use Rattle.lxr_graph.proofs.NameSets.{not_both, union_cases, union_left, union_right}
@@ -30,9 +30,10 @@ use Rattle.lxr_invariant.specs.AbstractState.{AbstractState}
 use Rattle.lxr_invariant.specs.Quiescent.{HoldsMoment}
 use Rattle.lxr_invariant.specs.Raised.{with_promoted}
 use Rattle.lxr_invariant.specs.Standing.{entry_of, word_of_field}
-use Rattle.lxr_invariant.specs.Tracing.{HasOverflowed, IsCovered, IsGray, IsInChosen, IsInSnapshot, IsMarked, IsOldValue, IsRemembered, IsRememberedSoFar, IsScanned, IsToBeScanned, IsYounger, MarksStayInside, SnapshotIsCovered, StaysGarbage, TraceHolds}
+use Rattle.lxr_invariant.specs.Tracing.{HasOverflowed, IsCovered, IsGray, IsInChosen, IsInSnapshot, IsMarked, IsOldValue, IsRemembered, IsRememberedSoFar, IsScanned, IsToBeScanned, IsYounger, MarksStayInside, SnapshotIsCovered, StaysGarbage, TraceHolds, most_remembered}
 use Rattle.lxr_invariant.proofs.InsideLemmas.{inside_unless_garbage}
 use Rattle.lxr_invariant.proofs.ScanLemmas.{fewer_later, slots}
+use Rattle.lxr_invariant.proofs.MostLemmas.{part_more}
 use Rattle.lxr_pause_increments.specs.Raising.{Raises, RaisesGrays, RaisesMarks}
 use Rattle.lxr_pause_queue.specs.Queueing.{Queues}
 use Rattle.lxr_pause_trace_laws.specs.Laws.{CountingKeepsTrace, KeepsObjectsOf, settled_next, with_slots}
@@ -303,12 +304,11 @@ module _ (found raised queued : Space) (g : AbstractState) (at' : Name → ℕ) 
         omega (arith, bound, same, drawn, fewer, more);
   }
 
-  -- no more references are promoted than the largest heap has words, and at most 2 ^ 20 were stored to
-  few_promoted : reference_slots m.state.graph promoted ≤ MOST_WORDS
+  -- no more references are promoted than the heap has words, and at most 2 ^ 20 were stored to
+  few_promoted : reference_slots m.state.graph promoted ≤ WORDS_IN_BLOCK * raised.limits.blocks
   few_promoted =
       let fit = references_fit (tables_of raised) raised.limits.blocks at' m.state.graph all raises.raised.image promoted raises.raised.raised.promoted_once (λ x p. union_left promoted m.unreclaimed x p) in
-      let blocks = raises.raised.space.limits.blocks.1 in
-      omega (arith, fit, blocks)
+      omega (arith, fit)
 
   few_written : length m.written ≤ 2 ^ 20
   few_written =
@@ -318,8 +318,14 @@ module _ (found raised queued : Space) (g : AbstractState) (at' : Name → ℕ) 
       let product : found.limits.threads * found.limits.log ≤ 16 * 65536 = mul-le found.limits.threads found.limits.log 16 65536 holds.space.limits.threads.1 holds.space.limits.log.1 in
       omega (arith, same, mapped, few, product)
 
-  few : rememberable goes_on is.snapshot ≤ 2 * MOST_WORDS * (now.number + 1)
-  few = let before = is.few in let p = few_promoted in let w = few_written in omega (arith, before, p, w)
+  few : rememberable goes_on is.snapshot ≤ most_remembered found.limits.blocks * (now.number + 1)
+  few =
+      let p = few_promoted in
+      let w = few_written in
+      let same : raised.limits.blocks ≡ found.limits.blocks = ap (λ z. z.limits.blocks) raises.space in
+      let adds : reference_slots m.state.graph promoted + length m.written ≤ most_remembered found.limits.blocks = omega (arith, p, w, same) in
+      let next = part_more (most_remembered found.limits.blocks) (rememberable trace is.snapshot) (reference_slots m.state.graph promoted + length m.written) m.number is.few adds in
+      omega (arith, more, next)
 
   holds_on : TraceHolds queued.limits u [] (record g { moment = now; at = at' }) goes_on
   holds_on = record {
@@ -329,7 +335,7 @@ module _ (found raised queued : Space) (g : AbstractState) (at' : Name → ℕ) 
     inside = stay_inside;
     handled = λ x n k done f. not_both (u.dones (granule_of (at' x))) done (queues.undecremented.none_done (granule_of (at' x)));
     remembered = subst (λ l. IsRememberedSoFar l u now at' goes_on is.snapshot) (sym limits) remembered;
-    few = few;
+    few = subst (λ l. rememberable goes_on is.snapshot ≤ most_remembered l.blocks * (now.number + 1)) (sym limits) few;
   }
 
 pub counting_keeps : CountingKeepsTrace

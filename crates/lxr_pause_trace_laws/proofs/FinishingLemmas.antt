@@ -1,6 +1,6 @@
 -- What is reclaimed by counting hides nothing from a trace: it is dead, so it is no garbage of the trace and isn't stored to, and what it
 -- referred to is gray now.
-use Rattle.std.proofs.Common.{◌≡◌, ℕ, ◌/◌, ◌<◌, refl, sym, ap, subst, ◌∙◌, inl, inr, ◌⊎◌, arith, false, List, IsTrue, ◌≢◌}
+use Rattle.std.proofs.Common.{◌≡◌, ℕ, ◌+◌, ◌*◌, ◌/◌, ◌<◌, ◌≤◌, refl, sym, ap, subst, ◌∙◌, inl, inr, ◌⊎◌, arith, false, List, IsTrue, ◌≢◌}
 use Rattle.std.specs.Prelude.{Some}
 use Rattle.std.proofs.lemmas.Bool.{false_from_ne_true}
 use Rattle.lxr_layout.specs.declared.Name.{Name}
@@ -13,7 +13,7 @@ use Rattle.lxr_image.specs.Tables.{Tables}
 use Rattle.lxr_image.specs.Spaces.{tables_of}
 use Rattle.lxr_image.specs.Reads.{granule_of}
 use Rattle.lxr_blocks.specs.States.{state_of}
-use Rattle.lxr_model.specs.Moments.{Moment, Trace}
+use Rattle.lxr_model.specs.Moments.{Moment, Trace, rememberable}
 use Rattle.lxr_model.specs.Reachable.{Refers}
 use Rattle.lxr_model.proofs.ReachableLemmas.{dead_apart, dead_parts}
 use Rattle.lxr_model_counting.specs.Distinct.{has_field}
@@ -22,7 +22,7 @@ use Rattle.lxr_model_counting.proofs.DistinctLemmas.{tested}
 use Rattle.lxr_invariant.specs.AbstractState.{AbstractState, leaving}
 use Rattle.lxr_invariant.specs.Quiescent.{HoldsMoment}
 use Rattle.lxr_invariant.specs.Standing.{IsUnwritten}
-use Rattle.lxr_invariant.specs.Tracing.{IsCovered, IsInSnapshot, IsOldValue, IsRememberedSoFar, IsScanned, IsToBeScanned, MarksStayInside, SnapshotIsCovered, StaysGarbage, TraceHolds}
+use Rattle.lxr_invariant.specs.Tracing.{IsCovered, IsInSnapshot, IsOldValue, IsRememberedSoFar, IsScanned, IsToBeScanned, MarksStayInside, SnapshotIsCovered, StaysGarbage, TraceHolds, most_remembered}
 use Rattle.lxr_invariant.proofs.InsideLemmas.{garbage_not_dead, inside_unless_garbage, referred_inside}
 use Rattle.lxr_invariant.proofs.NameLemmas.{in_first}
 use Rattle.lxr_invariant.proofs.ScanLemmas.{fewer_later}
@@ -185,7 +185,7 @@ module _ (before after : Space) (g : AbstractState) (trace : Trace) (gone : List
     inside = stay_inside;
     handled = λ x n k done f. not_both (u.dones (granule_of (at x))) done (finishes.undecremented.none_done (granule_of (at x)));
     remembered = subst (λ z. IsRememberedSoFar z.limits u now at trace is.snapshot) (sym finishes.space) remembered;
-    few = is.few;
+    few = subst (λ z. rememberable trace is.snapshot ≤ most_remembered z.limits.blocks * (now.number + 1)) (sym finishes.space) is.few;
   }
 
 pub finishing_keeps : FinishingKeepsTrace

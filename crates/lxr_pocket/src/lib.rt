@@ -17,6 +17,4 @@ pub use laws::spaces_have_indexes;
 pub use phases::{Phase, Unit};
 pub use pocket::{POCKET_ROOM, Pocket};
 pub use states::HelperState;
-pub use words::{
-    bit_look, bit_setting, granule_of, has_bit, is_in_heap, references_in, referent_in,
-};
+pub use words::{bit_look, bit_setting, has_bit, is_in_heap, references_in, referent_in};

@@ -5,16 +5,7 @@ ghost use Rattle.lxr_pocket.specs.Looks.{bit_look, bit_setting};
 ghost use Rattle.lxr_pocket.specs.Words.{InHeap, IsObject, granule_of, has_bit, is_in_heap, references_in, referent_in};
 
 use lxr_actor::{Action, Kindred};
-use lxr_layout::{Header, Place, Regions, unpack, word_of, words_of};
-
-/// The granule of a place, counted over the whole heap.
-#[inline(always)]
-pub fn granule_of(place: Place) -> u32
-    requires { 1 ≤ place.0 }
-    ensures { result ≡ granule_of place }
-{
-    place.0 - 1
-}
+use lxr_layout::{Header, Place, Regions, granule_of, unpack, word_of, words_of};
 
 /// Whether a number is that of a place of the heap.
 #[inline(always)]

@@ -1,4 +1,4 @@
--- What a pause does to a run: its history has the pause, and a front of its report or all of it was written.
+-- What a pause does to a run: its history has the pause, and a prefix of its report or all of it was written.
 use Rattle.std.proofs.Common.{◌≡◌, ℕ, ◌+◌, ◌*◌, ◌^◌, ◌<◌, ◌≤◌, ◌↔◌, ◌⊎◌, refl, sym, ap, subst, ◌∙◌, inl, inr, arith, List, ◌∷◌, length, Bool, true, false, IsTrue}
 use Rattle.std.specs.Prelude.{Option, None, Some, slice_get}
 use Rattle.lxr_layout.specs.declared.TheConstants.{GRANULES_IN_BLOCK}

@@ -36,7 +36,7 @@ one_more_printed u v w actors n a below is before text =
     subst (λ (z : List AnyActor). Appends u w (text_in z)) (sym (one_more actors n a below is))
     (subst (Appends u w) (sym (actors_of_both (take n actors) (a ∷ []))) (Appends-append u v w (text_in (take n actors)) (text_in (a ∷ [])) before text))
 
--- a front of one more is a front of all
+-- a prefix of one more is a prefix of all
 pub front_printed : (u v w : Option (List ℕ)) (actors : List AnyActor) (n : ℕ) (a : AnyActor) → n < length actors → a ≡ get_or actors n a → Appends u v (text_in (take n actors))
     → AppendsFront v w (text_in (a ∷ [])) → AppendsFront u w (text_in actors)
 front_printed u v w actors n a below is before text =

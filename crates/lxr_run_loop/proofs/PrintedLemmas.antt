@@ -38,7 +38,6 @@ use Rattle.lxr_run_loop.specs.Printed.{IsPartlyPrinted, IsPrinted}
 use Rattle.lxr_run_loop.specs.Printing.{CanBePrinted, IsPrintable, mutator_text, mutators_text}
 use Rattle.lxr_run_loop.specs.Progress.{IsComplete}
 use Rattle.lxr_run_loop.proofs.SummingLemmas.{last_collects}
-use Rattle.lxr_invariant.proofs.UnusedLemmas.{starts_used}
 
 -- ---- the text of a run
 
@@ -92,7 +91,6 @@ mappable task space written seen actors course (h, run, drawn, totals) =
     record {
       space = holds.space;
       starts = starts_stand_whole (tables_of space) space.limits.blocks g.at g.moment.state.graph g.moment.unreclaimed (members g.moment) holds.image.image holds.bits.starts (in_first g.moment.unreclaimed g.moment.made);
-      used = starts_used space g.moment g.at holds;
       none_chosen = none_chosen (threads_of task) h space g (last_collects task.options task.script h run.history) left.between left.stands.moment;
     }
 

@@ -29,7 +29,7 @@ fn pace_of(options: Options) -> Pace
 }
 
 /// Prints what is told of a pause by the command: its report, with counts where the options want them; `load` tells nothing. After an
-/// error a front of the text is written.
+/// error a prefix of the text is written.
 fn tell<O: Sink>(report: &Report, options: &Options, output: &mut O) -> Result<(), WriteError>
     ensures ok { OnOk result (Appends (O.written output.old) (O.written output.new) (told_report options.now.command options.now.counts (report_of report.now))) }
     ensures err { OnErr result (AppendsFront (O.written output.old) (O.written output.new) (told_report options.now.command options.now.counts (report_of report.now))) }

@@ -36,7 +36,7 @@ fn print_actor<O: Sink>(actor: &AnyActor, output: &mut O) -> Result<(), WriteErr
     }
 }
 
-/// Prints the replies of each thread, in order. After an error a front of their text is written.
+/// Prints the replies of each thread, in order. After an error a prefix of their text is written.
 fn print_threads<O: Sink>(actors: &[AnyActor], output: &mut O) -> Result<(), WriteError>
     requires { CanBePrinted actors.now }
     ensures ok { OnOk result (Appends (O.written output.old) (O.written output.new) (mutators_text (mutators_in actors.now))) }
@@ -125,7 +125,7 @@ fn sums(space: &Space, actors: &[AnyActor], totals: &Totals) -> Sums
     }
 }
 
-/// Prints the replies of all threads, and then the heap. After an error a front of these is written.
+/// Prints the replies of all threads, and then the heap. After an error a prefix of these is written.
 fn print_heap_too<O: Sink>(
     space: &Space,
     actors: &[AnyActor],

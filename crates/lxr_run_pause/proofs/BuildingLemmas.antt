@@ -76,7 +76,7 @@ module _ (s k : Space) (g : AbstractState) (can : CanPause s g) (at' : Name → 
     settled = record { same = refl; none_made = refl; none_written = refl };
     undecremented = counts.undecremented;
     traced = counts.traced;
-    remembers = can_remember k.limits (tables_of k) [] now now.moment.trace
+    remembers = can_remember k.limits (tables_of k) [] now now.moment.trace counts.holds.space.limits.blocks.1
         (let few = can.counted.0 in let same = can.safepoint.numbers.pauses in omega (arith, few, same)) counts.traced;
     objects = objects_on m (report_of k.report) now.moment can.safepoint.holds.follows refl m.trace can.objects;
     no_logs = counts.no_logs;

@@ -1,19 +1,20 @@
 -- What steps of a pause keep of lists where they remember references: all but the remembered set.
-use Rattle.std.proofs.Common.{◌≡◌, ◌≢◌, ℕ, ◌+◌, ◌/◌, ◌^◌, ◌<◌, ◌≤◌, refl, sym, ap, subst, ◌∙◌, inl, inr, ◌⊎◌, arith, List}
+use Rattle.std.proofs.Common.{◌≡◌, ◌≢◌, ℕ, ◌+◌, ◌*◌, ◌/◌, ◌^◌, ◌<◌, ◌≤◌, refl, sym, ap, subst, ◌∙◌, inl, inr, ◌⊎◌, arith, List}
 use Rattle.std.specs.Prelude.{Option, Some, None}
 use Rattle.std.proofs.lemmas.Bool.Decides.{eqb_tells}
 use Rattle.lxr_layout.specs.declared.limits.Limits.{Limits}
 use Rattle.lxr_layout.specs.declared.Name.{Name}
 use Rattle.lxr_layout.specs.declared.LogEntry.{LogEntry}
-use Rattle.lxr_layout.specs.declared.TheConstants.{DECREMENT_COUNT, DECREMENT_CURSOR, REMEMBERED_CURSOR, WORDS_IN_LINE}
+use Rattle.lxr_layout.specs.declared.TheConstants.{DECREMENT_COUNT, DECREMENT_CURSOR, MOST_BLOCKS, MOST_WORDS, REMEMBERED_CURSOR, WORDS_IN_LINE}
 use Rattle.lxr_layout.specs.Runs.{word_of_entry}
 use Rattle.lxr_image.specs.Tables.{Tables, changed}
-use Rattle.lxr_model.specs.Moments.{Trace}
+use Rattle.lxr_model.specs.Moments.{Trace, rememberable}
 use Rattle.lxr_invariant.specs.AbstractState.{AbstractState}
 use Rattle.lxr_invariant.specs.Keeping.{KeepsLists, KeepsListsAndCounters}
 use Rattle.lxr_invariant.specs.Standing.{place_of, word_of_field}
-use Rattle.lxr_invariant.specs.Tracing.{HasOverflowed, IsEntryWord, IsRemembered, IsTracedBy}
+use Rattle.lxr_invariant.specs.Tracing.{HasOverflowed, IsEntryWord, IsRemembered, IsTracedBy, most_remembered}
 use Rattle.lxr_invariant.proofs.EntryLemmas.{changed_here, changed_other}
+use Rattle.lxr_invariant.proofs.MostLemmas.{most_any_heap, parts_larger}
 use Rattle.lxr_remset.specs.Remembering.{AreEntries, CanRemember, with_remembered_of}
 use Rattle.lxr_run_pause.specs.Pausing.{SameRemembered}
 
@@ -80,11 +81,12 @@ same_told t u (entries, cursor) = record { entries = entries; cursor = cursor }
 -- ---- what may be remembered
 
 -- while a trace goes on, what it has remembered is bounded by the number of pauses
-pub can_remember : (l : Limits) (t : Tables) (entries : List LogEntry) (g : AbstractState) (trace : Option Trace) → g.moment.number + 1 ≤ 2 ^ 32 → IsTracedBy l t entries g trace → CanRemember trace t
-can_remember l t entries g None few is = tt
-can_remember l t entries g (Some trace) few is =
+pub can_remember : (l : Limits) (t : Tables) (entries : List LogEntry) (g : AbstractState) (trace : Option Trace) → l.blocks ≤ MOST_BLOCKS → g.moment.number + 1 ≤ 2 ^ 32 → IsTracedBy l t entries g trace
+    → CanRemember trace t
+can_remember l t entries g None small few is = tt
+can_remember l t entries g (Some trace) small few is =
     let bound = is.remembered.bound in
-    let most = is.few in
+    let most = parts_larger (most_remembered l.blocks) (2 * MOST_WORDS) (rememberable trace is.snapshot) g.moment.number is.few (most_any_heap l.blocks small) in
     omega (arith, bound, most, few)
 
 -- ---- a remembered set that stays

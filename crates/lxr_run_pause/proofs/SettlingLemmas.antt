@@ -108,7 +108,7 @@ module _ (s began : Space) (g : AbstractState) (can : CanPause s g) (begins : be
       none_stuck = ap (λ (x : Space). x.report.stuck.items) finish.space ∙ ap (λ (x : Space). x.report.stuck.items) begins;
       remembers = remember_still (tables_of s) (tables_of finished) m.trace
           (finish.keeps.cursors REMEMBERED_CURSOR (λ e. cc) (λ e. cc) ∙ ap (λ (x : Space). (tables_of x).cursors REMEMBERED_CURSOR) begins)
-          (can_remember s.limits (tables_of s) s.logged.items g m.trace (few_paused s g can) can.safepoint.traced);
+          (can_remember s.limits (tables_of s) s.logged.items g m.trace can.safepoint.holds.space.limits.blocks.1 (few_paused s g can) can.safepoint.traced);
     }
 
     module _ (raised : Space) (raises : (m : Moment) (at : Name → ℕ) → CanRaise finished m at → (at' : Name → ℕ) × Raises finished raised m at at') where

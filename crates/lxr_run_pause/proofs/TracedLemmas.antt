@@ -16,10 +16,11 @@ use Rattle.lxr_image.specs.Spaces.{tables_of}
 use Rattle.lxr_image.specs.Reads.{granule_of}
 use Rattle.lxr_blocks.specs.declared.states.BlockState.TheVariants.{Chosen}
 use Rattle.lxr_blocks.specs.States.{state_in}
-use Rattle.lxr_model.specs.Moments.{Moment, Trace}
+use Rattle.lxr_model.specs.Moments.{Moment, Trace, rememberable}
 use Rattle.lxr_invariant.specs.AbstractState.{AbstractState}
-use Rattle.lxr_invariant.specs.Tracing.{HasOverflowed, IsRemembered, IsRememberedSoFar, IsTracedBy, MarksStayInside, SnapshotIsCovered, TraceHolds}
+use Rattle.lxr_invariant.specs.Tracing.{HasOverflowed, IsRemembered, IsRememberedSoFar, IsTracedBy, MarksStayInside, SnapshotIsCovered, TraceHolds, most_remembered}
 use Rattle.lxr_invariant.proofs.ScanLemmas.{fewer_later}
+use Rattle.lxr_invariant.proofs.MostLemmas.{parts_later}
 use Rattle.lxr_pause_decrements.proofs.WipeLemmas.{loses_same}
 use Rattle.lxr_pause_decrements.specs.Wipe.{LosesBits}
 use Rattle.lxr_run_pause.specs.Pausing.{Traces}
@@ -88,7 +89,7 @@ module _ (l : Limits) (t : Tables) (states cursors : ℕ → ℕ) (entries : Lis
       inside = inside;
       handled = is.handled;
       remembered = remembered;
-      few = let few = is.few in omega (arith, few, later);
+      few = parts_later (most_remembered l.blocks) (rememberable trace is.snapshot) g.moment.number number is.few later;
     }
 
   pub traced_still : (trace : Option Trace) → IsTracedBy l t entries g trace → IsTracedBy l u entries abstract_then trace

@@ -33,13 +33,13 @@ places_in (any.Tracer d) = length d.pocket.items
 abbrev pub given : AnyActor → ℕ → AnyActor × ℕ
 given a pushes = if nat_lt 1 (places_in a) && takes_in pushes then ((any_machine.spared a).0, pushes + 1) else (a, pushes)
 
--- A helper that has a further step takes nothing. One that has none is offered a place that some helper gave, and its exchange is asked again as soon as it has nothing
--- to do; where there is no such place it stays as it is, and so many rounds go by before it asks again.
+-- A helper that has a further step takes nothing. One that has none is offered some place, and its exchange is asked again as soon as it has nothing to do; or it stays
+-- as it is, and so many rounds go by before it asks again. Which place it is offered isn't said, nor that it is one that a helper gave.
 abbrev pub TakesHint : Option Action → AnyActor → Exchanging → AnyActor → Exchanging → Type 0
 TakesHint (Some act) a e b f = (b ≡ a) × (f ≡ e)
 TakesHint None a e b f = (f.pushes ≡ e.pushes) × (((b ≡ a) × (f.wait ≡ wait_after false)) ⊎ ((place : Place) × (b ≡ (any_machine.offered a place).0) × (f.wait ≡ wait_after true)))
 
--- A helper with its exchange takes a hint, then makes its turn, and gives one behind it.
+-- A helper with its exchange is offered some place where it has no further step, then makes its turn, and gives up a place behind it.
 pub record Shares (p : Passing AnyActor) (e : Exchanging) (q : Passing AnyActor) (f : Exchanging) : Type 0 where
   pub offered : Passing AnyActor
   pub turned : Passing AnyActor

@@ -85,7 +85,7 @@ impl<K> Exchange<K> {
         false
     }
 
-    /// Takes a place that some helper has given, if it finds one; else the next look is some rounds away.
+    /// Takes a place that some helper has given, if it finds one; else the next look is some rounds away. Which place it answers no clause says.
     fn take(&mut self) -> Option<Place>
         ensures wait { self.new.wait ≡ wait_after (is_some result) }
         ensures pushes { self.new.pushes ≡ self.old.pushes }
@@ -152,7 +152,8 @@ pub fn let_help<K>(table: &Epoch<AnyActor>, pass: &mut Pass, exchange: &mut Exch
 }
 
 /// A turn of a helper with what it shares. Before it, a helper that has found nothing is offered a place that some helper has spared, so that no
-/// epoch ends with an offer that was taken and not worked on; after it, a helper that has more than one place spares one.
+/// epoch ends with an offer that was taken and not worked on; after it, a helper that has more than one place spares one. That the place which is
+/// offered is one that was taken as a hint no clause says.
 fn help<K>(table: &Epoch<AnyActor>, pass: &mut Pass, exchange: &mut Exchange<K>)
     requires can { CanBeReplayed table.now.opening }
     requires pass { IsPassOf table.now pass.old }
@@ -182,7 +183,7 @@ fn make_turn(table: &Epoch<AnyActor>, pass: &mut Pass)
     pass.turn_at(table);
 }
 
-/// Offers a helper that has no further step a place that was spared, if there is one.
+/// Offers a helper that has no further step a place that was spared, if there is one. No clause says that the place which is offered is the one that was taken.
 fn take_hint<K>(table: &Epoch<AnyActor>, pass: &mut Pass, exchange: &mut Exchange<K>)
     requires pass { IsPassOf table.now pass.old }
     requires helper { is_helper pass.old.actor ≡ true }

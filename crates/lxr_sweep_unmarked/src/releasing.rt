@@ -7,7 +7,7 @@ ghost use Rattle.lxr_pause_decrements.specs.Cascade.{Keeps};
 ghost use Rattle.lxr_sweep_unmarked.specs.Releasing.{LowersLeft, MayLowerLeft, MayReleaseAll, MayReleaseSwept, ReleasesAll, ReleasesSwept};
 
 use lxr_image::Space;
-use lxr_layout::Place;
+use lxr_layout::{Place, field_word, granule_of};
 use lxr_pause_decrements::{drain, lower_place, reference_slots};
 
 /// Whether an object begins at a place; none does at nil.
@@ -16,7 +16,7 @@ fn begins(space: &Space, place: Place) -> bool
     requires heap { place.0 ≤ GRANULES_IN_BLOCK * space.now.limits.blocks }
     ensures { IsTrue result ↔ ((1 ≤ place.0) × IsTrue ((tables_of space.now).starts (granule_of place.0))) }
 {
-    place.0 != 0 && space.has_start(place.0 - 1)
+    place.0 != 0 && space.has_start(granule_of(place))
 }
 
 /// Lowers what one reference of a swept object holds, unless it is nil or swept too.
@@ -25,7 +25,7 @@ fn lower_left(space: &mut Space, place: Place, index: u16)
     ensures reaches { LowersLeft space.old space.new place.0 index }
     ensures keeps { Keeps space.old space.new }
 {
-    let word = space.heap_word(2 * (place.0 - 1) + 1 + u32::from(index));
+    let word = space.heap_word(field_word(place, index));
     let held = Place(word as u32);
     if begins(space, held) {
         lower_place(space, held);

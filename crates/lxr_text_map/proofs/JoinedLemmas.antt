@@ -9,7 +9,7 @@ use Rattle.lxr_text_stream.specs.Streams.{AppendsFront}
 use Rattle.lxr_text_print.specs.Pages.{Moves}
 use Rattle.lxr_text_print.proofs.PageLemmas.{AppendsFront-moved, AppendsFront-part, Moves-none, Moves-push, Moves-then}
 
--- the first pieces are a front of more of them
+-- the first pieces are a prefix of more of them
 pub joined_front : (f : ℕ → List ℕ) (i n : ℕ) → i ≤ n → (rest : List ℕ) × (joined f n ≡ joined f i ++ rest)
 unfolding joined
 joined_front f i zero within = let same : 0 ≡ i = omega arith in ([], ap (joined f) same ∙ sym (append-nil (joined f i)))

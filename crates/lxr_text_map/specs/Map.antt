@@ -1,5 +1,5 @@
 -- The text of a heap: a line for each block, and then a line for each object, in order of places.
-use Rattle.std.specs.Prelude.{ℕ, ◌+◌, ◌*◌, List, [], ◌∷◌, ◌++◌, codes, decimal, if◌then◌else◌, ◌≢◌, ◌/◌, IsTrue}
+use Rattle.std.specs.Prelude.{ℕ, ◌+◌, ◌*◌, List, [], ◌∷◌, ◌++◌, codes, decimal, if◌then◌else◌}
 use Rattle.lxr_layout.specs.declared.Header.{Header}
 use Rattle.lxr_layout.specs.declared.Header.TheVariants.{Object, Moved}
 use Rattle.lxr_layout.specs.declared.TheConstants.{GRANULES_IN_BLOCK}
@@ -53,10 +53,8 @@ objects_text t granules = joined (granule_text t) granules
 abbrev pub map_text : Space → List ℕ
 map_text s = blocks_text (tables_of s) s.limits.blocks ++ objects_text (tables_of s) (GRANULES_IN_BLOCK * s.limits.blocks)
 
--- a heap that can be printed: each start bit stands at the header of an object that lies whole in one block, which isn't Free by its state,
--- and no block is Chosen
+-- a heap that can be printed: each start bit stands at the header of an object that lies whole in one block, and no block is Chosen
 pub record CanBeMapped (s : Space) : Type 0 where
   pub space : IsSpace s
   pub starts : StartsStandWhole (tables_of s) s.limits.blocks
-  pub used : (k : ℕ) → IsTrue ((tables_of s).starts k) → state_in (tables_of s) (k / GRANULES_IN_BLOCK) ≢ Free
   pub none_chosen : NoneChosen (tables_of s) s.limits.blocks

@@ -15,7 +15,7 @@ use lxr_text_print::Page;
 use lxr_text_stream::{Sink, WriteError};
 
 /// Prints a heap: a line for each block, and then a line for each object, in order of places. It takes no memory, and looks
-/// at the start bits of 64 granules at once. After an error a front of the text is written.
+/// at the start bits of 64 granules at once. After an error a prefix of the text is written.
 pub fn print_map<O: Sink>(space: &Space, output: &mut O) -> Result<(), WriteError>
     requires { CanBeMapped space.now }
     ensures ok { OnOk result (Appends (O.written output.old) (O.written output.new) (map_text space.now)) }

@@ -28,7 +28,7 @@ Moves-push {u} {v} {t} {p} more a = record {
 pub Appends-moved : {u v w : Option (List ℕ)} {t p : List ℕ} → Moves u v t p → Appends v w p → Appends u w t
 Appends-moved {u} {v} {w} {t} {p} a b = rw a.in_order (Appends-append u v w a.sent p a.written b)
 
--- a front of what waited was written
+-- a prefix of what waited was written
 pub AppendsFront-moved : {u v w : Option (List ℕ)} {t p : List ℕ} → Moves u v t p → AppendsFront v w p → AppendsFront u w t
 AppendsFront-moved {u} {v} {w} {t} {p} a b = rw a.in_order (AppendsFront-after u v w a.sent p a.written b)
 
@@ -40,7 +40,7 @@ Moves-behind more a b = Moves-then (Moves-push more a) b
 pub AppendsFront-behind : {u v w : Option (List ℕ)} {t p : List ℕ} (more : List ℕ) → Moves u v t p → AppendsFront v w (p ++ more) → AppendsFront u w (t ++ more)
 AppendsFront-behind more a b = AppendsFront-moved (Moves-push more a) b
 
--- a front of a part of the text is a front of the text
+-- a prefix of a part of the text is a prefix of the text
 pub AppendsFront-part : (u w : Option (List ℕ)) (page part rest text : List ℕ) → text ≡ part ++ rest → AppendsFront u w (page ++ part) → AppendsFront u w (page ++ text)
 AppendsFront-part u w page part rest text e a = rw (e, ← append_assoc page part rest) (AppendsFront-before u w (page ++ part) rest a)
 

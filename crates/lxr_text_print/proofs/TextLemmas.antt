@@ -78,7 +78,7 @@ abbrev pub with_pieces : List ℕ → List (List ℕ) → List ℕ
 with_pieces t [] = t
 with_pieces t (x ∷ xs) = with_pieces (t ++ x) xs
 
--- a front of a text is a front of the text with more pieces
+-- a prefix of a text is a prefix of the text with more pieces
 pub AppendsFront-pieces : (u w : Option (List ℕ)) (t : List ℕ) (xs : List (List ℕ)) → AppendsFront u w t → AppendsFront u w (with_pieces t xs)
 AppendsFront-pieces u w t [] a = a
 AppendsFront-pieces u w t (x ∷ xs) a = AppendsFront-pieces u w (t ++ x) xs (AppendsFront-before u w t x a)

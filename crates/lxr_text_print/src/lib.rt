@@ -1,5 +1,5 @@
 //! The printed texts: the replies of a thread, the report of a pause, the summary of a run. Each is defined byte for
-//! byte in `specs/`, and written to a sink in large pieces. After an error a front of the text is written.
+//! byte in `specs/`, and written to a sink in large pieces. After an error a prefix of the text is written.
 //!
 //! A [`Page`] holds such a piece while it grows; other crates print their texts through it as well.
 #![tactic(auto)]

@@ -8,7 +8,7 @@ use lxr_graph::{Op, Operations, Replies, Reply};
 use lxr_text_stream::{Sink, WriteError};
 
 /// Prints a thread's replies, each after the word of its operation. A reply behind the last operation isn't printed.
-/// After an error a front of the text is written.
+/// After an error a prefix of the text is written.
 pub fn print_replies<O: Sink>(
     thread: u8,
     operations: &Operations,

@@ -24,7 +24,7 @@ pub struct Sums {
     pub live: u64,
 }
 
-/// Prints a summary. After an error a front of the text is written.
+/// Prints a summary. After an error a prefix of the text is written.
 pub fn print_summary<O: Sink>(sums: &Sums, output: &mut O) -> Result<(), WriteError>
     ensures ok { OnOk result (Appends (O.written output.old) (O.written output.new) (summary_text sums.now)) }
     ensures err { OnErr result (AppendsFront (O.written output.old) (O.written output.new) (summary_text sums.now)) }

@@ -39,11 +39,11 @@ slice_tail xs at = take_all (length xs - at) (drop at xs) (omega (arith, length-
 pub take_drop : (xs : List ℕ) (at n : ℕ) → drop at xs ≡ take n (drop at xs) ++ drop (at + n) xs
 take_drop xs at n = chunk-drop at n xs
 
--- a whole piece and then a front of the next are a front of both
+-- a whole piece and then a prefix of the next are a prefix of both
 pub AppendsFront-after : (u v w : Option (List ℕ)) (a b : List ℕ) → Appends u v a → AppendsFront v w b → AppendsFront u w (a ++ b)
 AppendsFront-after u v w a b p q = (length a + q.0, rw (take-append-add a b q.0) (Appends-append u v w a (take q.0 b) p q.1))
 
--- a front of a piece is a front of the piece and what follows it
+-- a prefix of a piece is a prefix of the piece and what follows it
 pub AppendsFront-before : (u w : Option (List ℕ)) (a b : List ℕ) → AppendsFront u w a → AppendsFront u w (a ++ b)
 AppendsFront-before u w a b q =
     elim (cases_lt q.0 (length a)) [

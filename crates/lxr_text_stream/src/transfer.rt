@@ -34,7 +34,7 @@ impl From<AllocError> for ReadError {
     }
 }
 
-/// Puts all of the bytes into a sink. After an error the sink has taken a front of them.
+/// Puts all of the bytes into a sink. After an error the sink has taken a prefix of them.
 pub fn put_all<O: Sink>(output: &mut O, bytes: &[u8]) -> Result<(), WriteError>
     ensures ok { OnOk result (Appends (O.written output.old) (O.written output.new) bytes.now) }
     ensures err { OnErr result (AppendsFront (O.written output.old) (O.written output.new) bytes.now) }

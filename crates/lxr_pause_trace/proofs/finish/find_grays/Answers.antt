@@ -14,13 +14,13 @@ pub find-requires-clause-room : goal.find-requires-clause-room
 find-requires-clause-room c =
     let before = c.requires.0 in
     let stage = c.loop-granule.invariant.marking before c.requires.1 in
-    due_room before c.loop-granule.space _ _ _ stage (c.in-Some.granule + 1) (next_due before c.loop-granule.space c.loop-granule.from _ c.in-Some.granule stage c.in-Some.ensures.next)
+    rw c.place_at.ensures (due_room before c.loop-granule.space _ _ _ stage (c.in-Some.granule + 1) (next_due before c.loop-granule.space c.loop-granule.from _ c.in-Some.granule stage c.in-Some.ensures.next))
 
 pub loop-granule-preserved : goal.loop-granule-preserved
 loop-granule-preserved c =
     let next = c.in-Some.ensures.next in
     record {
-      marking = λ before is. ended_behind before c.loop-granule.space c.find.new.space c.loop-granule.from _ c.in-Some.granule (c.loop-granule.invariant.marking before is) next refl c.find.ensures;
+      marking = λ before is. ended_behind before c.loop-granule.space c.find.new.space c.loop-granule.from _ c.in-Some.granule (c.loop-granule.invariant.marking before is) next refl (rw c.place_at.ensures at c.find.ensures);
       limits = ap (λ s. s.limits) c.find.ensures.rest ∙ c.loop-granule.invariant.limits;
       within = subst (λ l. c.in-Some.granule + 1 ≤ GRANULES_IN_BLOCK * l.blocks) c.loop-granule.invariant.limits (let inside = next.within in omega (arith, inside));
     }

@@ -14,9 +14,6 @@ loop-granule-init g c = record {
   faults = omega arith;
 }
 
-pub next_wanted-requires : goal.next_wanted-requires
-next_wanted-requires g c = record { space = c.requires.space; free = c.requires.used }
-
 pub returns-in_err-make_room-clause-err : goal.returns-in_err-make_room-clause-err
 returns-in_err-make_room-clause-err g c =
     let s = c.args.space.now in

@@ -9,4 +9,5 @@ returns-clause-stolen g c = record {
   behind = c.steal.new.self;
   is = refl;
   stolen = c.steal.ensures.stolen;
+  own = refl;
 }
