@@ -18,7 +18,7 @@ def build():
 
 def script(*threads):
     """The script of these threads, each a list of lines."""
-    lines = ["lxr 1", f"threads {len(threads)}"]
+    lines = ["lxr 2", f"threads {len(threads)}"]
     for number, operations in enumerate(threads, 1):
         lines += [f"thread {number}", *operations, "end"]
     return ("\n".join(lines) + "\n").encode()

@@ -1,7 +1,8 @@
 //! The same masks of free lines in plain Rust, over the same tables in one list of words, to compare times with. Nothing of it
 //! is proved.
 use std::arch::x86_64::{
-    __m128i, _mm_cmpeq_epi32, _mm_loadu_si128, _mm_movemask_epi8, _mm_packs_epi16, _mm_packs_epi32, _mm_setzero_si128,
+    __m128i, _mm_and_si128, _mm_castps_si128, _mm_castsi128_ps, _mm_cmpeq_epi32, _mm_loadu_si128, _mm_movemask_epi8, _mm_packs_epi16,
+    _mm_packs_epi32, _mm_setzero_si128, _mm_shuffle_ps,
 };
 use std::time::Instant;
 
@@ -15,7 +16,7 @@ struct Space {
 }
 
 const COUNTS: usize = 4096 * BLOCKS;
-const STARTS: usize = COUNTS + 64 * BLOCKS;
+const STARTS: usize = COUNTS + 128 * BLOCKS;
 const REUSE: usize = STARTS + 4 * 32 * BLOCKS + 64 * BLOCKS;
 const OUTS: usize = REUSE + 64 * BLOCKS;
 const STATES: usize = OUTS + 2 * BLOCKS;
@@ -30,15 +31,21 @@ const WHOLE: u64 = 2;
 const CHOSEN: u64 = 3;
 const WORLD: u64 = 4;
 
-/// Which of the sixteen 32-bit halves of eight words are 0.
-fn zero_halves(words: &[u64; 8]) -> u16 {
+/// Which of sixteen words are 0.
+fn zero_words(words: &[u64; 16]) -> u16 {
     // SAFETY: each processor of this architecture has these instructions, and the loads stay within the words.
     unsafe {
         let zero = _mm_setzero_si128();
         let pairs = words.as_ptr().cast::<__m128i>();
-        let zeros = |at: usize| _mm_cmpeq_epi32(_mm_loadu_si128(pairs.add(at)), zero);
-        let low = _mm_packs_epi32(zeros(0), zeros(1));
-        let high = _mm_packs_epi32(zeros(2), zeros(3));
+        let halves = |at: usize| _mm_castsi128_ps(_mm_cmpeq_epi32(_mm_loadu_si128(pairs.add(at)), zero));
+        // A word is 0 where its low half is and its high half is.
+        let four = |at: usize| {
+            let low = _mm_castps_si128(_mm_shuffle_ps::<0x88>(halves(at), halves(at + 1)));
+            let high = _mm_castps_si128(_mm_shuffle_ps::<0xdd>(halves(at), halves(at + 1)));
+            _mm_and_si128(low, high)
+        };
+        let low = _mm_packs_epi32(four(0), four(2));
+        let high = _mm_packs_epi32(four(4), four(6));
         _mm_movemask_epi8(_mm_packs_epi16(low, high)) as u16
     }
 }
@@ -49,7 +56,7 @@ impl Space {
         let mut words = vec![0; TOTAL];
         words.iter_mut().for_each(|word| *word = std::hint::black_box(0));
         for line in 0..3 {
-            words[COUNTS + line / 2] |= 3 << (32 * (line % 2));
+            words[COUNTS + line] |= 15;
         }
         words[STATES] = WORLD;
         if every > 0 {
@@ -61,10 +68,10 @@ impl Space {
     }
 
     fn free_mask(&self, block: usize) -> u128 {
-        let counts = &self.words[COUNTS + 64 * block..COUNTS + 64 * (block + 1)];
+        let counts = &self.words[COUNTS + 128 * block..COUNTS + 128 * (block + 1)];
         let mut uncounted = 0_u128;
-        for (at, words) in counts.chunks_exact(8).enumerate() {
-            uncounted |= u128::from(zero_halves(words.try_into().unwrap())) << (16 * at);
+        for (at, words) in counts.chunks_exact(16).enumerate() {
+            uncounted |= u128::from(zero_words(words.try_into().unwrap())) << (16 * at);
         }
         let low = self.words[OUTS + 2 * block];
         let high = self.words[OUTS + 2 * block + 1];

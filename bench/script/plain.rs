@@ -9,6 +9,8 @@ enum Op {
     Store(u8, u16, u8),
     Put(u8, u16, u64),
     Get(u8, u16),
+    Swap(u8, u8, u16, u8),
+    Add(u8, u16, u64),
     Move(u8, u8),
     Nil(u8),
     Same(u8, u8),
@@ -32,13 +34,15 @@ fn register(word: &str) -> Option<u8> {
     number(word.strip_prefix('r')?).filter(|n| *n <= 15).map(|n| n as u8)
 }
 
-fn operation(words: &[&str]) -> Option<Op> {
+fn operation(version: u8, words: &[&str]) -> Option<Op> {
     Some(match words {
         ["new", a, b, c] => Op::New(register(a)?, size(b)?, size(c)?),
         ["load", a, b, c] => Op::Load(register(a)?, register(b)?, size(c)?),
         ["store", a, b, c] => Op::Store(register(a)?, size(b)?, register(c)?),
         ["put", a, b, c] => Op::Put(register(a)?, size(b)?, number(c)?),
         ["get", a, b] => Op::Get(register(a)?, size(b)?),
+        ["swap", a, b, c, d] if version == 2 => Op::Swap(register(a)?, register(b)?, size(c)?, register(d)?),
+        ["add", a, b, c] if version == 2 => Op::Add(register(a)?, size(b)?, number(c)?),
         ["move", a, b] => Op::Move(register(a)?, register(b)?),
         ["nil", a] => Op::Nil(register(a)?),
         ["same", a, b] => Op::Same(register(a)?, register(b)?),
@@ -53,9 +57,11 @@ fn read(text: &str) -> Option<Vec<Vec<Op>>> {
         .lines()
         .map(|line| line.split([' ', '\t']).filter(|word| !word.is_empty()).collect::<Vec<_>>())
         .filter(|words| words.first().is_some_and(|word| !word.starts_with('#')));
-    if lines.next()? != ["lxr", "1"] {
-        return None;
-    }
+    let version = match lines.next()?.as_slice() {
+        ["lxr", "1"] => 1,
+        ["lxr", "2"] => 2,
+        _ => return None,
+    };
     let count = match lines.next()?.as_slice() {
         ["threads", n] => number(n).filter(|n| (1..=16).contains(n))?,
         _ => return None,
@@ -72,7 +78,7 @@ fn read(text: &str) -> Option<Vec<Vec<Op>>> {
             if words == ["end"] {
                 break;
             }
-            operations.push(operation(&words)?);
+            operations.push(operation(version, &words)?);
         }
         threads.push(operations);
     }

@@ -1,11 +1,11 @@
 //! What stands in the heap and in the remembered set, read off the words of a space.
 use lxr_image::Space;
-use lxr_layout::{Header, Shape, unpack};
+use lxr_layout::{COUNT_WORDS_IN_BLOCK, Header, Shape, unpack};
 use lxr_tables::Words;
 use std::alloc::{AllocError, Global};
 
 /// The words of a block that stand before its start bits: those of the heap and the counts of its granules.
-const WORDS_BEFORE_STARTS: usize = 4096 + 64;
+const WORDS_BEFORE_STARTS: usize = 4096 + COUNT_WORDS_IN_BLOCK as usize;
 
 /// Then come four tables with a bit for each granule, one with a bit for each word, and the reuse counters of two lines in a word.
 const WORDS_BEFORE_REUSE: usize = WORDS_BEFORE_STARTS + 4 * 32 + 64;

@@ -2,6 +2,7 @@
 use Rattle.std.specs.Prelude.{ℕ, ◌+◌, ◌-◌, ◌*◌, ◌/◌, ◌<◌, ◌≤◌}
 use Rattle.lxr_layout.specs.declared.TheConstants.{GRANULES_IN_BLOCK, GRANULES_IN_LINE, LINES_IN_BLOCK, MOST_BLOCKS}
 use Rattle.lxr_layout.specs.Objects.{word_count, line_count}
+use Rattle.lxr_layout.specs.Places.{place_at}
 use Rattle.lxr_layout.specs.declared.Place.{Place}
 use Rattle.lxr_layout.specs.declared.Shape.{Shape}
 use Rattle.lxr_layout.specs.declared.runs.Run.{Run}
@@ -25,7 +26,7 @@ FitsSpan s shape = granule_count shape ≤ rest_of s
 
 -- where the span begins
 abbrev pub front_of : Span → Place
-front_of s = record { 0 = s.next + 1 }
+front_of s = place_at s.next
 
 -- what is left once an object was taken from the front
 abbrev pub taken_from : Span → Shape → Span

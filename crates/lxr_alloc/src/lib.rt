@@ -11,7 +11,9 @@ ghost use Rattle.lxr_layout.specs.declared.TheConstants.{MOST_BLOCKS};
 ghost use Rattle.lxr_layout.specs.Objects.{FitsShape, line_count};
 ghost use Rattle.lxr_alloc.specs.Spans.{FitsSpan, IsInBlock, IsMedium, block_span, empty_span, front_of, granule_count, rest_of, run_span, taken_from};
 
-use lxr_layout::{GRANULES_IN_BLOCK, GRANULES_IN_LINE, Place, Run, Shape, lines_of, words_of};
+use lxr_layout::{
+    GRANULES_IN_BLOCK, GRANULES_IN_LINE, Place, Run, Shape, lines_of, place_at, words_of,
+};
 
 /// Granules in a row that one mutator may fill, from `next` up to `end`, which is not among them.
 #[derive(Clone, Copy, Debug, PartialEq, Eq)]
@@ -63,7 +65,7 @@ impl Span {
         if self.end.saturating_sub(self.next) < granules {
             return None;
         }
-        let place = Place(self.next + 1);
+        let place = place_at(self.next);
         self.next += granules;
         Some(place)
     }

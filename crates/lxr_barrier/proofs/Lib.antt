@@ -4,3 +4,4 @@ pub mod UnloggedLemmas
 pub mod StorerLemmas
 pub mod ScheduleLemmas
 pub mod OwnLemmas
+pub mod EndLemmas

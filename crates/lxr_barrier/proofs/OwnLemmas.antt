@@ -16,20 +16,27 @@ use Rattle.lxr_actor.specs.declared.Event.{Event}
 use Rattle.lxr_actor.specs.declared.Event.TheVariants.{Step, Give, Out}
 use Rattle.lxr_actor.specs.Run.{acted, stepped, of_event, change, happened, event, run}
 use Rattle.lxr_actor.proofs.Runs.{run-lengths, run-keeps, slice_get-set_same, slice_get-set_other}
+use Rattle.lxr_barrier.specs.declared.machines.LastStep.{LastStep}
+use Rattle.lxr_barrier.specs.declared.machines.LastStep.TheVariants as last_step
 use Rattle.lxr_barrier.specs.declared.machines.StorePhase.{StorePhase}
 use Rattle.lxr_barrier.specs.declared.machines.StorePhase.TheVariants.{Begun, Unlogged, Loaded, Logged, Ended}
-use Rattle.lxr_barrier.specs.declared.machines.StoreEnd.TheVariants.{Stored}
-use Rattle.lxr_barrier.specs.Storing.{Storing, IsPastBarrier, bit_number, entry_of, next_action, phase_after, reference_word, target}
+use Rattle.lxr_barrier.specs.declared.machines.StoreEnd.{StoreEnd}
+use Rattle.lxr_barrier.specs.Storing.{Storing, IsPastBarrier, bit_number, entry_of, last_end, next_action, phase_after, reference_word, target}
 use Rattle.lxr_barrier.specs.Storers.{Logging, storer_after, storer_machine}
 use Rattle.lxr_barrier.specs.Unlogged.{ChangesOnlyBehindBarrier, HasBits, IsStoreIn, KeepOwnLogs, KeepsOwnLog, unlogged_bit}
 use Rattle.lxr_barrier.proofs.BitLemmas.{bit_there, word_before, bit_behind}
 use Rattle.lxr_barrier.proofs.ViewLemmas.{all_at, all_unset}
-use Rattle.lxr_barrier.proofs.StorerLemmas.{change_same, same_bits, same_store_in}
+use Rattle.lxr_barrier.proofs.StorerLemmas.{change_same, last_change, same_bits, same_store_in}
+
+-- its last step leaves it past the barrier
+ends_past : (last : LastStep) (old : ℕ) → IsPastBarrier (Ended (last_end last old))
+ends_past last_step.Store old = tt
+ends_past last_step.Swap old = tt
 
 -- a log once its store is told what its word was
-module _ (s : Logging) (u : ℕ) (place : Place) (index : ℕ) (value : Place) (log : Roomy LogEntry) where
+module _ (s : Logging) (u : ℕ) (place : Place) (index : ℕ) (value : Place) (last : LastStep) (log : Roomy LogEntry) where
   abbrev storing : StorePhase → Storing
-  storing p = record { unlogged = u; place = place; index = index; value = value; phase = p }
+  storing p = record { unlogged = u; place = place; index = index; value = value; last = last; phase = p }
 
   abbrev logging : StorePhase → Logging
   logging p = record { store = storing p; log = log }
@@ -51,14 +58,14 @@ module _ (s : Logging) (u : ℕ) (place : Place) (index : ℕ) (value : Place) (
       record { store = moves_on (Loaded old) Logged h; log = inr (tt, (old, more)) }
   clears old false h = quiet_on (Loaded old) Logged (λ past. past) h
 
-  ends : KeepsOwnLog s (logging Logged) → KeepsOwnLog s (logging (Ended Stored))
-  ends h = record { store = moves_on Logged (Ended Stored) h; log = elim h.log [ inl e ↦ inl e | inr (past, more) ↦ inr (tt, more) ] }
+  ends : (how : StoreEnd) → IsPastBarrier (Ended how) → KeepsOwnLog s (logging Logged) → KeepsOwnLog s (logging (Ended how))
+  ends how behind h = record { store = moves_on Logged (Ended how) h; log = elim h.log [ inl e ↦ inl e | inr (past, more) ↦ inr (behind, more) ] }
 
   told : (p : StorePhase) (old : ℕ) → KeepsOwnLog s (logging p) → KeepsOwnLog s (storer_after (logging p) old)
   told Begun old h = quiet_on Begun (phase_after (storing Begun) log old Begun) (λ past. past) h
   told Unlogged old h = quiet_on Unlogged _ (λ past. past) h
   told (Loaded first) old h = clears first (is_set old (bit_number (storing (Loaded first)))) h
-  told Logged old h = ends h
+  told Logged old h = ends (last_end last old) (ends_past last old) h
   told (Ended how) old h = h
 
 change_keeps_log : (s t : Logging) (e : Event) (words : List ℕ) → KeepsOwnLog s t → KeepsOwnLog s (change storer_machine e words t).1
@@ -66,7 +73,7 @@ change_keeps_log s t (Step n) words h = acted_keeps_log (next_action t.store)
   where
     acted_keeps_log : (o : Option Action) → KeepsOwnLog s (acted storer_machine words t o).1
     acted_keeps_log None = h
-    acted_keeps_log (Some act) = told s t.store.unlogged t.store.place t.store.index t.store.value t.log t.store.phase (slice_index words act.word) h
+    acted_keeps_log (Some act) = told s t.store.unlogged t.store.place t.store.index t.store.value t.store.last t.log t.store.phase (slice_index words act.word) h
 change_keeps_log s t (Give n p) words h = h
 change_keeps_log s t (Out n) words h = h
 
@@ -96,13 +103,13 @@ pub schedule_keeps_logs : (core : Core Logging) (schedule : List Event) → Keep
 schedule_keeps_logs core schedule = run-keeps storer_machine (λ (c : Core Logging). KeepOwnLogs core.actors c.actors) (logs_kept core.actors) core schedule (own_log core.actors)
 
 -- a step leaves a heap word and its bit if its store has another reference or isn't past the barrier then
-module _ (r : Regions) (words : List ℕ) (has : HasBits r words) (place : Place) (index : ℕ) (value : Place) (log : Roomy LogEntry) (heap : reference_word place index < r.counts)
+module _ (r : Regions) (words : List ℕ) (has : HasBits r words) (place : Place) (index : ℕ) (value : Place) (last : LastStep) (log : Roomy LogEntry) (heap : reference_word place index < r.counts)
     (at : ℕ) (lt : at < r.counts) where
   abbrev w : ℕ
   w = reference_word place index
 
   abbrev storer : StorePhase → Logging
-  storer p = record { store = record { unlogged = r.unlogged; place = place; index = index; value = value; phase = p }; log = log }
+  storer p = record { store = record { unlogged = r.unlogged; place = place; index = index; value = value; last = last; phase = p }; log = log }
 
   abbrev IsLeft : List ℕ → Type 0
   IsLeft words' = (slice_index words' at ≡ slice_index words at) × (unlogged_bit r words' at ≡ unlogged_bit r words at)
@@ -117,7 +124,8 @@ module _ (r : Regions) (words : List ℕ) (has : HasBits r words) (place : Place
   step_leaves Begun yet = loaded (r.unlogged + w / 64)
   step_leaves Unlogged yet = loaded w
   step_leaves (Loaded old) yet = let room = has.exist w heap in (word_before words r.unlogged w room at (before at lt), bit_there words r.unlogged w room at (has.exist at lt) (λ e. yet (sym e) tt))
-  step_leaves Logged yet = (get_or-set_other words w at value.0 0 (λ e. yet (sym e) tt), bit_behind words r.unlogged w value.0 at (before w heap) (has.exist at lt))
+  step_leaves Logged yet = subst (λ (x : ℕ). IsLeft (slice_set words w x)) (sym (last_change last (slice_index words w) value.0))
+      (get_or-set_other words w at value.0 0 (λ e. yet (sym e) (ends_past last (slice_index words w))), bit_behind words r.unlogged w value.0 at (before w heap) (has.exist at lt))
   step_leaves (Ended how) yet = (refl, refl)
 
 -- who is past the barrier stays so
@@ -125,7 +133,7 @@ past_after : (s : Storing) (log : Roomy LogEntry) (old : ℕ) (p : StorePhase) �
 past_after s log old Begun past = absurd past
 past_after s log old Unlogged past = absurd past
 past_after s log old (Loaded first) past = absurd past
-past_after s log old Logged past = tt
+past_after s log old Logged past = ends_past s.last old
 past_after s log old (Ended how) past = past
 
 change_past : (t : Logging) (e : Event) (words : List ℕ) → IsPastBarrier t.store.phase → IsPastBarrier (change storer_machine e words t).1.store.phase
@@ -151,7 +159,7 @@ module _ (r : Regions) (start : List ℕ) where
       let t : Logging = record s { store = record s.store { unlogged = u } } in
       (target t.store ≡ at → ¬ IsPastBarrier (stepped storer_machine words t).1.store.phase)
       → (slice_index (stepped storer_machine words t).0 at ≡ slice_index words at) × (unlogged_bit r (stepped storer_machine words t).0 at ≡ unlogged_bit r words at) in
-      subst Leaves (sym is.bits) (step_leaves r words has s.store.place s.store.index s.store.value s.log is.heap at lt s.store.phase) yet
+      subst Leaves (sym is.bits) (step_leaves r words has s.store.place s.store.index s.store.value s.store.last s.log is.heap at lt s.store.phase) yet
   change_leaves words has s is (Give n p) at lt yet = (refl, refl)
   change_leaves words has s is (Out n) at lt yet = (refl, refl)
 

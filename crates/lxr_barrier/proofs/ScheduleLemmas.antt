@@ -18,12 +18,15 @@ use Rattle.lxr_base.specs.Roomy.{Roomy, pushed}
 use Rattle.lxr_actor.specs.declared.Core.{Core}
 use Rattle.lxr_actor.specs.declared.Event.{Event}
 use Rattle.lxr_actor.specs.declared.Event.TheVariants.{Step, Give, Out}
+use Rattle.lxr_actor.specs.Change.{changed}
 use Rattle.lxr_actor.specs.Run.{stepped, of_event, change, happened, event, run}
 use Rattle.lxr_actor.proofs.Runs.{run-lengths, run-keeps}
+use Rattle.lxr_barrier.specs.declared.machines.LastStep.{LastStep}
+use Rattle.lxr_barrier.specs.declared.machines.LastStep.TheVariants as last_step
 use Rattle.lxr_barrier.specs.declared.machines.StorePhase.{StorePhase}
 use Rattle.lxr_barrier.specs.declared.machines.StorePhase.TheVariants.{Begun, Unlogged, Loaded, Logged, Ended}
 use Rattle.lxr_barrier.specs.declared.machines.StoreEnd.TheVariants.{LogFull}
-use Rattle.lxr_barrier.specs.Storing.{Storing, entry_of, is_full, reference_word}
+use Rattle.lxr_barrier.specs.Storing.{Storing, entry_of, is_full, last_end, last_kind, reference_word}
 use Rattle.lxr_barrier.specs.Storers.{Logging, storer_machine}
 use Rattle.lxr_barrier.specs.Unlogged.{HasBits, IsBeginning, IsStoreIn, StoreView, UnloggedBitsAndLogs, entries_for, entry_word, loaded_by, ready_for, store_view, unlogged_bit}
 use Rattle.lxr_barrier.proofs.BitLemmas.{bit_read, cleared_words, bit_here, bit_there, word_before, bit_behind}
@@ -38,7 +41,7 @@ clear_bit : (word n : ℕ) → is_set word n ≡ false → bit_at word n ≡ 0
 clear_bit word n e = let b = bit_at-lt word n in grind arith
 
 module _ (r : Regions) (opening words : List ℕ) (has : HasBits r words) (views : List StoreView) (i : ℕ)
-    (place : Place) (index : ℕ) (value : Place) (log : Roomy LogEntry) (heap : reference_word place index < r.counts) where
+    (place : Place) (index : ℕ) (value : Place) (last : LastStep) (log : Roomy LogEntry) (heap : reference_word place index < r.counts) where
   abbrev w : ℕ
   w = reference_word place index
 
@@ -49,7 +52,7 @@ module _ (r : Regions) (opening words : List ℕ) (has : HasBits r words) (views
   room = has.exist w heap
 
   abbrev storing : StorePhase → Storing
-  storing p = record { unlogged = r.unlogged; place = place; index = index; value = value; phase = p }
+  storing p = record { unlogged = r.unlogged; place = place; index = index; value = value; last = last; phase = p }
 
   abbrev logging : StorePhase → Logging
   logging p = record { store = storing p; log = log }
@@ -102,11 +105,17 @@ module _ (r : Regions) (opening words : List ℕ) (has : HasBits r words) (views
   clear old true e at h = first_clear r opening words views h i _ at _ w heap clears (entry_of (storing (Loaded old)) old) refl refl (bit ∙ set_bit bits (w % 64) e)
   clear old false e at h = late_clear r opening words views h i _ at _ w heap clears (bit ∙ clear_bit bits (w % 64) e)
 
+  -- both kinds of last step leave the value in the word, and show nothing more of themselves
+  ends : (l : LastStep) → slice_get views i ≡ Some (store_view (logging Logged)) → UnloggedBitsAndLogs r opening words views
+      → UnloggedBitsAndLogs r opening (slice_set words w (changed (last_kind l) (slice_index words w) value.0)) (set views i (store_view (logging (Ended (last_end l (slice_index words w))))))
+  ends last_step.Store at h = stored r opening words views h i _ at _ w stores refl
+  ends last_step.Swap at h = stored r opening words views h i _ at _ w stores refl
+
   step_at : (p : StorePhase) → Keeps p
   step_at Begun at h = loads (r.unlogged + w / 64) _ (look (is_set bits (w % 64)) (is_full log) refl at h)
   step_at Unlogged at h = loads w _ (quiet r opening words views h i _ at (Some (entry_of (storing Unlogged) (place_in (slice_index words w)))) None (one_loaded r opening words _ (λ set. first_value h set.1)) (none_ready r opening words))
   step_at (Loaded old) at h = clear old (is_set bits (w % 64)) refl at h
-  step_at Logged at h = stored r opening words views h i _ at _ w stores refl
+  step_at Logged at h = ends last at h
   step_at (Ended how) at h = subst (UnloggedBitsAndLogs r opening words) (sym (set_itself views i _ at)) h
 
 -- the same of a store whose bits are those of the regions
@@ -118,7 +127,7 @@ step_keeps r opening words has views i s is =
     let t : Logging = record s { store = record s.store { unlogged = u } } in
     slice_get views i ≡ Some (store_view t) → UnloggedBitsAndLogs r opening words views
     → UnloggedBitsAndLogs r opening (stepped storer_machine words t).0 (set views i (store_view (stepped storer_machine words t).1)) in
-    subst Keeps (sym is.bits) (step_at r opening words has views i s.store.place s.store.index s.store.value s.log is.heap s.store.phase)
+    subst Keeps (sym is.bits) (step_at r opening words has views i s.store.place s.store.index s.store.value s.store.last s.log is.heap s.store.phase)
 
 -- unlogged bits and logs hold in a core whose stores are those of the regions
 pub record HoldsIn (r : Regions) (opening : List ℕ) (core : Core Logging) : Type 0 where

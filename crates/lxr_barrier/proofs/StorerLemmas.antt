@@ -6,18 +6,26 @@ use Rattle.std.proofs.lemmas.List.Elements.{All-set}
 use Rattle.lxr_tables.specs.Entries.{all_but}
 use Rattle.lxr_layout.specs.declared.limits.Regions.{Regions}
 use Rattle.lxr_actor.specs.declared.Action.{Action}
-use Rattle.lxr_actor.specs.declared.Kindred.TheVariants.{Load, Store, And}
+use Rattle.lxr_actor.specs.declared.Kindred.TheVariants.{Load, And}
 use Rattle.lxr_actor.specs.declared.Core.{Core}
 use Rattle.lxr_actor.specs.declared.Event.{Event}
 use Rattle.lxr_actor.specs.declared.Event.TheVariants.{Step, Give, Out}
+use Rattle.lxr_actor.specs.Change.{changed}
 use Rattle.lxr_actor.specs.Run.{acted, of_event, change, happened, event, FitsAt, AlwaysFits}
 use Rattle.lxr_actor.proofs.Runs.{run-lengths, always-fits}
+use Rattle.lxr_barrier.specs.declared.machines.LastStep.{LastStep}
+use Rattle.lxr_barrier.specs.declared.machines.LastStep.TheVariants as last_step
 use Rattle.lxr_barrier.specs.declared.machines.StorePhase.{StorePhase}
 use Rattle.lxr_barrier.specs.declared.machines.StorePhase.TheVariants.{Begun, Unlogged, Loaded, Logged, Ended}
-use Rattle.lxr_barrier.specs.Storing.{Storing, action_in, next_action, bit_number, bit_word, target}
+use Rattle.lxr_barrier.specs.Storing.{Storing, action_in, last_kind, next_action, bit_number, bit_word, target}
 use Rattle.lxr_barrier.specs.Storers.{Logging, storer_machine}
 use Rattle.lxr_barrier.specs.Unlogged.{HasBits, IsStoreIn}
 use Rattle.lxr_barrier.proofs.ViewLemmas.{all_at}
+
+-- both kinds of last step leave the value in the word
+pub last_change : (last : LastStep) (old value : ℕ) → changed (last_kind last) old value ≡ value
+last_change last_step.Store old value = refl
+last_change last_step.Swap old value = refl
 
 -- no step moves a store to another reference
 pub record IsSameStore (s t : Storing) : Type 0 where
@@ -56,7 +64,7 @@ word_exists : (words : List ℕ) (s : Storing) (p : StorePhase) → bit_word s <
 word_exists words s Begun b t act e = subst (λ (a : Action). a.word < length words) (let q : record { kind = Load; word = bit_word s; operand = 0 } ≡ act = cc in q) b
 word_exists words s Unlogged b t act e = subst (λ (a : Action). a.word < length words) (let q : record { kind = Load; word = target s; operand = 0 } ≡ act = cc in q) t
 word_exists words s (Loaded old) b t act e = subst (λ (a : Action). a.word < length words) (let q : record { kind = And; word = bit_word s; operand = all_but (bit_number s) } ≡ act = cc in q) b
-word_exists words s Logged b t act e = subst (λ (a : Action). a.word < length words) (let q : record { kind = Store; word = target s; operand = s.value.0 } ≡ act = cc in q) t
+word_exists words s Logged b t act e = subst (λ (a : Action). a.word < length words) (let q : record { kind = last_kind s.last; word = target s; operand = s.value.0 } ≡ act = cc in q) t
 word_exists words s (Ended how) b t act e = absurd (cc)
 
 fits_at : (core : Core Logging) (number : ℕ) → AllHaveWords core → FitsAt storer_machine core number

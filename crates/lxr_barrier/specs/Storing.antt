@@ -1,6 +1,5 @@
 -- One store of a reference behind the barrier: what its machine knows, and its single steps.
-use Rattle.std.specs.Prelude.{ℕ, ◌+◌, ◌-◌, ◌/◌, ◌%◌, ◌^◌, Bool, nat_eq, nat_le, if◌then◌else◌, Option, Some, None, length}
-use Rattle.std.specs.Int.{bit_at}
+use Rattle.std.specs.Prelude.{ℕ, ◌+◌, ◌/◌, ◌%◌, Bool, true, false, nat_le, if◌then◌else◌, Option, Some, None, length}
 use Rattle.lxr_tables.specs.Entries.{all_but, is_set}
 use Rattle.lxr_layout.specs.Places.{field_word, place_in}
 use Rattle.lxr_layout.specs.declared.Place.{Place}
@@ -8,28 +7,36 @@ use Rattle.lxr_layout.specs.declared.limits.Regions.{Regions}
 use Rattle.lxr_layout.specs.declared.runs.LogEntry.{LogEntry}
 use Rattle.lxr_base.specs.Roomy.{Roomy, pushed}
 use Rattle.lxr_actor.specs.declared.Action.{Action}
-use Rattle.lxr_actor.specs.declared.Kindred.TheVariants.{Load, Store, And}
+use Rattle.lxr_actor.specs.declared.Kindred.{Kindred}
+use Rattle.lxr_actor.specs.declared.Kindred.TheVariants as kind
+use Rattle.lxr_barrier.specs.declared.machines.LastStep.{LastStep}
+use Rattle.lxr_barrier.specs.declared.machines.LastStep.TheVariants as last_step
 use Rattle.lxr_barrier.specs.declared.machines.StorePhase.{StorePhase}
 use Rattle.lxr_barrier.specs.declared.machines.StorePhase.TheVariants.{Begun, Unlogged, Loaded, Logged, Ended}
 use Rattle.lxr_barrier.specs.declared.machines.StoreEnd.{StoreEnd}
-use Rattle.lxr_barrier.specs.declared.machines.StoreEnd.TheVariants.{Stored, LogFull}
+use Rattle.lxr_barrier.specs.declared.machines.StoreEnd.TheVariants.{Stored, Swapped, LogFull}
 
 -- the heap word of a reference: references stand behind their object's header
 abbrev pub reference_word : Place → ℕ → ℕ
 reference_word place index = field_word place.0 index
 
 -- a store of a reference: where the unlogged bits begin, the object and which of its references, what is stored,
--- and how far it is
+-- what its last step does, and how far it is
 pub record Storing : Type 0 where
   pub unlogged : ℕ
   pub place : Place
   pub index : ℕ
   pub value : Place
+  pub last : LastStep
   pub phase : StorePhase
 
 -- the store that has taken no step
 abbrev pub begun : Regions → Place → ℕ → Place → Storing
-begun r place index value = record { unlogged = r.unlogged; place = place; index = index; value = value; phase = Begun }
+begun r place index value = record { unlogged = r.unlogged; place = place; index = index; value = value; last = last_step.Store; phase = Begun }
+
+-- the same, but its last step swaps
+abbrev pub begun_swap : Regions → Place → ℕ → Place → Storing
+begun_swap r place index value = record (begun r place index value) { last = last_step.Swap }
 
 -- the word that is stored to
 abbrev pub target : Storing → ℕ
@@ -54,19 +61,30 @@ IsPastBarrier Unlogged = ⊥
 IsPastBarrier (Loaded old) = ⊥
 IsPastBarrier Logged = Unit {0}
 IsPastBarrier (Ended Stored) = Unit {0}
+IsPastBarrier (Ended (Swapped old)) = Unit {0}
 IsPastBarrier (Ended LogFull) = ⊥
 
--- the next step: look at the bit; load the reference; clear the bit; store
+-- the kind of its last step
+abbrev pub last_kind : LastStep → Kindred
+last_kind last_step.Store = kind.Store
+last_kind last_step.Swap = kind.Swap
+
+-- the next step: look at the bit; load the reference; clear the bit; store or swap
 abbrev pub action_in : Storing → StorePhase → Option Action
-action_in s Begun = Some (record { kind = Load; word = bit_word s; operand = 0 })
-action_in s Unlogged = Some (record { kind = Load; word = target s; operand = 0 })
-action_in s (Loaded old) = Some (record { kind = And; word = bit_word s; operand = all_but (bit_number s) })
-action_in s Logged = Some (record { kind = Store; word = target s; operand = s.value.0 })
+action_in s Begun = Some (record { kind = kind.Load; word = bit_word s; operand = 0 })
+action_in s Unlogged = Some (record { kind = kind.Load; word = target s; operand = 0 })
+action_in s (Loaded old) = Some (record { kind = kind.And; word = bit_word s; operand = all_but (bit_number s) })
+action_in s Logged = Some (record { kind = last_kind s.last; word = target s; operand = s.value.0 })
 action_in s (Ended how) = None
 
 -- its next action, if it is not through
 abbrev pub next_action : Storing → Option Action
 next_action s = action_in s s.phase
+
+-- how it ends with its last step, which found this word: a swap keeps the reference that was there
+abbrev pub last_end : LastStep → ℕ → StoreEnd
+last_end last_step.Store old = Stored
+last_end last_step.Swap old = Swapped (place_in old)
 
 -- how far it is once it is told what the word was: a clear bit leaves the store alone to be done, and a set one
 -- needs room in the log
@@ -74,7 +92,7 @@ abbrev pub phase_after : Storing → Roomy LogEntry → ℕ → StorePhase → S
 phase_after s log old Begun = if is_set old (bit_number s) then (if is_full log then Ended LogFull else Unlogged) else Logged
 phase_after s log old Unlogged = Loaded (place_in old)
 phase_after s log old (Loaded first) = Logged
-phase_after s log old Logged = Ended Stored
+phase_after s log old Logged = Ended (last_end s.last old)
 phase_after s log old (Ended how) = Ended how
 
 -- the store once it is told what the word was
@@ -108,3 +126,34 @@ end_in (Ended how) = Some how
 -- how it ended, if it is through
 abbrev pub end_of : Storing → Option StoreEnd
 end_of s = end_in s.phase
+
+-- the reference that its swap found, once that is made
+abbrev pub old_in : StorePhase → Option Place
+old_in Begun = None
+old_in Unlogged = None
+old_in (Loaded old) = None
+old_in Logged = None
+old_in (Ended Stored) = None
+old_in (Ended (Swapped old)) = Some old
+old_in (Ended LogFull) = None
+
+-- the reference that its swap found, if that is made
+abbrev pub old_of : Storing → Option Place
+old_of s = old_in s.phase
+
+-- what the last step does is a swap
+abbrev pub is_swap : LastStep → Bool
+is_swap last_step.Store = false
+is_swap last_step.Swap = true
+
+-- the next step is the last one, and a swap
+abbrev pub swaps_in : LastStep → StorePhase → Bool
+swaps_in last Begun = false
+swaps_in last Unlogged = false
+swaps_in last (Loaded old) = false
+swaps_in last Logged = is_swap last
+swaps_in last (Ended how) = false
+
+-- its next step is its swap
+abbrev pub swaps_next : Storing → Bool
+swaps_next s = swaps_in s.last s.phase

@@ -1,5 +1,5 @@
 //! The store machine: one store of a reference, one atomic step at a time.
-ghost use Rattle.std.specs.Prelude.{◌≡◌, ◌<◌, ◌≤◌, ◌/◌, ◌+◌, ◌^◌, ◌↔◌, IsSome, IsTrue, Some, if◌then◌else◌, length};
+ghost use Rattle.std.specs.Prelude.{◌≡◌, ◌<◌, ◌≤◌, ◌/◌, ◌+◌, ◌^◌, ◌↔◌, IsSome, IsTrue, None, Some, if◌then◌else◌, length};
 ghost use Rattle.std.specs.Option.{ForSome};
 ghost use Rattle.lxr_tables.specs.Entries.{all_but, is_set};
 ghost use Rattle.lxr_layout.specs.Places.{IsPlace, place_in};
@@ -7,7 +7,7 @@ ghost use Rattle.lxr_layout.specs.declared.Place.{Place};
 ghost use Rattle.lxr_actor.specs.declared.Kindred.TheVariants.{And};
 ghost use Rattle.lxr_barrier.specs.declared.machines.StorePhase.TheVariants.{Begun};
 ghost use Rattle.lxr_barrier.specs.declared.machines.StoreEnd.TheVariants.{LogFull};
-ghost use Rattle.lxr_barrier.specs.Storing.{begun, bit_number, bit_word, end_of, entry_of, log_after, next_action, reference_word, store_after, target};
+ghost use Rattle.lxr_barrier.specs.Storing.{begun, begun_swap, bit_number, bit_word, end_of, entry_of, last_end, last_kind, log_after, next_action, old_of, reference_word, store_after, swaps_next, target};
 ghost use Rattle.lxr_barrier.specs.Storers.{rests_in};
 
 use crate::logs::Log;
@@ -15,11 +15,22 @@ use lxr_actor::{Action, Kindred};
 use lxr_layout::{LogEntry, Place, Regions, field_word};
 use std::marker::Model;
 
+/// What the last step of a store does, behind the barrier.
+#[derive(Clone, Copy, Debug, PartialEq, Eq)]
+pub enum LastStep {
+    /// It stores the reference.
+    Store,
+    /// It stores the reference and tells the one that was there, in one atomic step.
+    Swap,
+}
+
 /// How a store ended.
 #[derive(Clone, Copy, Debug, PartialEq, Eq)]
 pub enum StoreEnd {
     /// The reference is stored.
     Stored,
+    /// The reference is stored, and took the place of this one.
+    Swapped { old: Place },
     /// The reference's bit was set and the log had no room: nothing was changed.
     LogFull,
 }
@@ -33,7 +44,7 @@ pub enum StorePhase {
     Unlogged,
     /// It clears the bit next, and records the loaded reference if it is the first to do so.
     Loaded { old: Place },
-    /// The bit is clear: it stores next.
+    /// The bit is clear: it stores, or swaps, next.
     Logged,
     /// It is through.
     Ended(StoreEnd),
@@ -47,6 +58,7 @@ pub struct StoreMachine {
     place: Place,
     index: u16,
     value: Place,
+    last: LastStep,
     phase: StorePhase,
 }
 
@@ -57,7 +69,7 @@ impl Model for StoreMachine {
 
     ghost Value = { Storing };
 
-    ghost view = { λ m. record { unlogged = m.unlogged; place = m.place; index = m.index; value = m.value; phase = m.phase } };
+    ghost view = { λ m. record { unlogged = m.unlogged; place = m.place; index = m.index; value = m.value; last = m.last; phase = m.phase } };
 
     ghost invariant = { λ m. IsPlace m.place × (m.index < 2 ^ 16) × (m.unlogged + reference_word m.place m.index / 64 < 2 ^ 32) };
 }
@@ -76,7 +88,21 @@ impl StoreMachine {
             place,
             index,
             value,
+            last: LastStep::Store,
             phase: StorePhase::Begun,
+        }
+    }
+
+    /// The same with a last step that swaps: the reference that was there is told as `old`.
+    pub fn swapping(regions: Regions, place: Place, index: u16, value: Place) -> StoreMachine
+        requires regions { regions.unlogged + regions.counts / 64 < 2 ^ 32 }
+        requires place { IsPlace place }
+        requires reference { reference_word place index < regions.counts }
+        ensures { result ≡ begun_swap regions place index value }
+    {
+        StoreMachine {
+            last: LastStep::Swap,
+            ..StoreMachine::new(regions, place, index, value)
         }
     }
 
@@ -94,7 +120,11 @@ impl StoreMachine {
                 word: self.bit_word(),
                 operand: !(1_u64 << (self.target() % 64)),
             }),
-            StorePhase::Logged => Some(Action::store(self.target(), u64::from(self.value.0))),
+            StorePhase::Logged => Some(Action {
+                kind: last_kind(self.last),
+                word: self.target(),
+                operand: u64::from(self.value.0),
+            }),
             StorePhase::Ended(_) => None,
         }
     }
@@ -107,22 +137,22 @@ impl StoreMachine {
         requires room { ForSome (next_action self.old) (λ act. act.kind ≡ And → length log.old.items < log.old.room) }
         ensures machine { self.new ≡ store_after self.old log.old old }
         ensures log { log.new ≡ log_after self.old log.old old }
+        // It tells an old reference exactly where this step was its swap: the one that the step found.
+        ensures swapped { old_of self.new ≡ (if swaps_next self.old then Some (place_in old) else None) }
         // A store ends for want of room exactly where its bit was loaded as set and the log was full.
         ensures full { (end_of self.new ≡ Some LogFull) ↔ ((self.old.phase ≡ Begun) × IsTrue (is_set old (bit_number self.old)) × (log.old.room ≤ length log.old.items)) }
     {
         let was_set = old >> (self.target() % 64) & 1 == 1;
         self.phase = match self.phase {
             StorePhase::Begun => after_look(was_set, log.is_full()),
-            StorePhase::Unlogged => StorePhase::Loaded {
-                old: Place((old & 0xffff_ffff) as u32),
-            },
+            StorePhase::Unlogged => StorePhase::Loaded { old: place_in(old) },
             StorePhase::Loaded { old: first } => {
                 if was_set {
                     log.push(self.entry(first));
                 }
                 StorePhase::Logged
             }
-            StorePhase::Logged => StorePhase::Ended(StoreEnd::Stored),
+            StorePhase::Logged => StorePhase::Ended(last_end(self.last, old)),
             StorePhase::Ended(end) => StorePhase::Ended(end),
         };
     }
@@ -133,6 +163,16 @@ impl StoreMachine {
     {
         match self.phase {
             StorePhase::Ended(end) => Some(end),
+            _ => None,
+        }
+    }
+
+    /// The reference that was there before: some exactly once a swap is made.
+    pub fn old(&self) -> Option<Place>
+        ensures { result ≡ old_of self.now }
+    {
+        match self.phase {
+            StorePhase::Ended(StoreEnd::Swapped { old }) => Some(old),
             _ => None,
         }
     }
@@ -183,4 +223,34 @@ fn after_look(was_set: bool, is_full: bool) -> StorePhase
         (true, false) => StorePhase::Unlogged,
         (true, true) => StorePhase::Ended(StoreEnd::LogFull),
     }
+}
+
+/// The kind of a store's last step.
+#[inline(always)]
+fn last_kind(last: LastStep) -> Kindred
+    ensures { result ≡ last_kind last }
+{
+    match last {
+        LastStep::Store => Kindred::Store,
+        LastStep::Swap => Kindred::Swap,
+    }
+}
+
+/// How a store ends with its last step, which found this word.
+#[inline(always)]
+fn last_end(last: LastStep, old: u64) -> StoreEnd
+    ensures { result ≡ last_end last old }
+{
+    match last {
+        LastStep::Store => StoreEnd::Stored,
+        LastStep::Swap => StoreEnd::Swapped { old: place_in(old) },
+    }
+}
+
+/// The place that a word tells.
+#[inline(always)]
+fn place_in(word: u64) -> Place
+    ensures { result ≡ place_in word }
+{
+    Place((word & 0xffff_ffff) as u32)
 }

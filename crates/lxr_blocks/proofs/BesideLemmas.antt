@@ -2,6 +2,7 @@
 use Rattle.std.proofs.Common.{◌≡◌, ◌≢◌, ℕ, ◌+◌, ◌-◌, ◌*◌, ◌/◌, ◌%◌, ◌^◌, ◌<◌, ◌≤◌, refl, sym, ap, subst, ◌∙◌, inl, inr, ◌⊎◌, arith, Bool, cond, true, false, nat_eq}
 use Rattle.std.specs.Prelude.{◌↔◌, ◌&&◌, IsTrue, not}
 use Rattle.std.proofs.lemmas.Bool.Decides.{leb_tells, nat_tests}
+use Rattle.lxr_layout.specs.Places.{place_at}
 use Rattle.lxr_layout.specs.declared.TheConstants.{GRANULES_IN_BLOCK, GRANULES_IN_LINE, LINES_IN_BLOCK}
 use Rattle.lxr_layout.specs.declared.runs.Run.{Run}
 use Rattle.lxr_layout.specs.declared.Name.{Name}
@@ -19,7 +20,7 @@ use Rattle.lxr_blocks.specs.Lines.{IsFreeRun, is_free}
 use Rattle.lxr_blocks.specs.Listing.{TurnsWithRest}
 use Rattle.lxr_blocks.specs.Handing.{first_line, handed_out, is_between}
 use Rattle.lxr_blocks.specs.States.{KeepsFree, KeepsState, is_fixed, state_in, state_of}
-use Rattle.lxr_blocks.specs.Placing.{HasRest, IsPlaced, IsPlacedInRest, IsPlacedOn, IsRest, first_granule, granule_count, place_at, with_object}
+use Rattle.lxr_blocks.specs.Placing.{HasRest, IsPlaced, IsPlacedInRest, IsPlacedOn, IsRest, first_granule, granule_count, with_object}
 use Rattle.lxr_blocks.specs.Kept.{IsAmong, IsKeptGranule, IsOpenGranule, KeepsGranules, IsPlacedBeside, PlacedIsBeside}
 use Rattle.lxr_blocks.proofs.HandedLemmas.{between, handing_keeps_free, handing_keeps_states, out_before, outside, run_out, still_out}
 use Rattle.lxr_blocks.proofs.KeptLemmas.{free_line_is_told, out_keeps, still_taken}

@@ -1,9 +1,9 @@
 -- Runs that are found one after another are the runs of a block, and what is written entry after entry is a list.
 use Rattle.std.proofs.Common.{◌≡◌, ℕ, zero, suc, ◌+◌, ◌-◌, ◌*◌, ◌<◌, ◌≤◌, refl, sym, ap, subst, ◌∙◌, inl, inr, ◌⊎◌, arith, add-one, Bool, true, false, List, [], ◌∷◌, ◌++◌, length, length-append, zero-add}
-use Rattle.std.proofs.lemmas.List.{append-nil, map-append}
+use Rattle.std.proofs.lemmas.List.{append-nil, append_assoc, map-append}
 use Rattle.std.proofs.Math.ListN.{get_or-append}
 use Rattle.std.proofs.Math.Seq.{get_or-append_right}
-use Rattle.std.specs.Prelude.{◌&&◌, map, nat_le, nat_lt, not, slice_index, if◌then◌else◌}
+use Rattle.std.specs.Prelude.{◌≢◌, ◌&&◌, map, nat_le, nat_lt, not, slice_index, if◌then◌else◌}
 use Rattle.std.proofs.lemmas.Bool.Decides.{eqb_tells, leb_tells, nat_tests}
 use Rattle.lxr_layout.specs.declared.TheConstants.{FREE_BLOCK_COUNT, FREE_BLOCK_CURSOR, LINES_IN_BLOCK, RUN_COUNT, RUN_CURSOR}
 use Rattle.lxr_layout.specs.declared.runs.Run.{Run}
@@ -12,8 +12,11 @@ use Rattle.lxr_image.specs.declared.space.Space.{Space}
 use Rattle.lxr_image.specs.Tables.{Tables, changed}
 use Rattle.lxr_image.specs.Spaces.{Turns, tables_of}
 use Rattle.lxr_image.proofs.SpaceLemmas.{same_limits, turns_then}
+use Rattle.lxr_blocks.specs.declared.states.BlockState.{BlockState}
+use Rattle.lxr_blocks.specs.declared.states.BlockState.TheVariants.{Free, Partly, Whole, Chosen, World}
+use Rattle.lxr_blocks.specs.States.{AreFreeBlocks, state_in}
 use Rattle.lxr_blocks.specs.Lines.{IsFirstLine, IsNextRun, begins_run, free_from, runs_below}
-use Rattle.lxr_blocks.specs.Listing.{block_frees, block_runs, joined, listed_frees, listed_runs, with_frees, with_lists, with_runs, written}
+use Rattle.lxr_blocks.specs.Listing.{block_frees, block_runs, joined, listed_frees, listed_runs, lists_block, lists_runs, numbers_from, run_words, with_frees, with_lists, with_runs, written}
 
 -- ---- runs of a block
 
@@ -228,6 +231,75 @@ pub joined_none : (f : ℕ → List ℕ) → joined f 0 ≡ []
 unfolding joined
 joined_none f = refl
 
+-- ---- blocks of which nothing is listed, or the number
+
+-- where the blocks from one on have none, more of them have no more
+joined_same : (f : ℕ → List ℕ) (from many : ℕ) → ((b : ℕ) → from ≤ b → b < from + many → f b ≡ []) → joined f (from + many) ≡ joined f from
+joined_same f from zero none = ap (joined f) (let z : from + 0 ≡ from = omega arith in z)
+joined_same f from (suc many) none =
+    ap (joined f) (let z : from + suc many ≡ from + many + 1 = omega arith in z)
+    ∙ sym (joined_more f (from + many))
+    ∙ ap (λ x. joined f (from + many) ++ x) (none (from + many) (omega arith) (omega arith))
+    ∙ append-nil (joined f (from + many))
+    ∙ joined_same f from many (λ b h below. none b h (omega (arith, below)))
+
+-- where each of them has its number, they have their numbers
+joined_numbers : (f : ℕ → List ℕ) (from many : ℕ) → ((b : ℕ) → from ≤ b → b < from + many → f b ≡ b ∷ []) → joined f from ++ numbers_from from many ≡ joined f (from + many)
+unfolding numbers_from
+joined_numbers f from zero each = append-nil (joined f from) ∙ ap (joined f) (let z : from ≡ from + 0 = omega arith in z)
+joined_numbers f from (suc many) each =
+    sym (append_assoc (joined f from) (numbers_from from many) ((from + many) ∷ []))
+    ∙ ap (λ x. x ++ ((from + many) ∷ [])) (joined_numbers f from many (λ b h below. each b h (omega (arith, below))))
+    ∙ ap (λ x. joined f (from + many) ++ x) (sym (each (from + many) (omega arith) (omega arith)))
+    ∙ joined_more f (from + many)
+    ∙ ap (joined f) (let z : from + many + 1 ≡ from + suc many = omega arith in z)
+
+pub length_numbers : (from many : ℕ) → length (numbers_from from many) ≡ many
+unfolding numbers_from
+length_numbers from zero = refl
+length_numbers from (suc many) = let more = length-append (numbers_from from many) ((from + many) ∷ []) in let before = length_numbers from many in omega arith
+
+no_numbers : (from : ℕ) → numbers_from from 0 ≡ []
+unfolding numbers_from
+no_numbers from = refl
+
+pub numbers_more : (from many : ℕ) → numbers_from from many ++ ((from + many) ∷ []) ≡ numbers_from from (many + 1)
+unfolding numbers_from
+numbers_more from many = rw add-one refl
+
+-- a Free block lists its number and no runs
+free_lists_none : (t : Tables) (b : ℕ) → state_in t b ≡ Free → block_runs t b ≡ []
+free_lists_none t b free = ap (λ s. if lists_runs s then (run_words t b) else []) free
+
+free_lists_itself : (t : Tables) (b : ℕ) → state_in t b ≡ Free → block_frees t b ≡ b ∷ []
+free_lists_itself t b free = ap (λ s. if lists_block s then (b ∷ []) else []) free
+
+-- another lists no number
+used_lists_none : (t : Tables) (b : ℕ) → state_in t b ≢ Free → block_frees t b ≡ []
+used_lists_none t b used = ap (λ x. if x then (b ∷ []) else []) (another (state_in t b) used)
+  where
+    another : (s : BlockState) → s ≢ Free → lists_block s ≡ false
+    another Free n = absurd (n refl)
+    another Partly n = refl
+    another Whole n = refl
+    another Chosen n = refl
+    another World n = refl
+
+-- over Free blocks no run is listed, and each number
+pub runs_over_free : (t : Tables) (from end : ℕ) → from ≤ end → AreFreeBlocks t from end → joined (block_runs t) end ≡ joined (block_runs t) from
+runs_over_free t from end order free =
+    let place : from + (end - from) ≡ end = omega arith in
+    ap (joined (block_runs t)) (sym place) ∙ joined_same (block_runs t) from (end - from) (λ b h below. free_lists_none t b (free b h (omega (arith, below))))
+
+pub frees_over_free : (t : Tables) (from end : ℕ) → from ≤ end → AreFreeBlocks t from end → joined (block_frees t) from ++ numbers_from from (end - from) ≡ joined (block_frees t) end
+frees_over_free t from end order free =
+    let place : from + (end - from) ≡ end = omega arith in
+    joined_numbers (block_frees t) from (end - from) (λ b h below. free_lists_itself t b (free b h (omega (arith, below)))) ∙ ap (joined (block_frees t)) place
+
+-- and behind them none of a block that isn't Free
+pub frees_past_used : (t : Tables) (block : ℕ) → state_in t block ≢ Free → joined (block_frees t) block ≡ joined (block_frees t) (block + 1)
+frees_past_used t block used = sym (append-nil (joined (block_frees t) block)) ∙ ap (λ x. joined (block_frees t) block ++ x) (sym (used_lists_none t block used)) ∙ joined_more (block_frees t) block
+
 -- ---- spaces
 
 -- the count of what is listed
@@ -238,14 +310,14 @@ count_more f b n m is more = more ∙ ap (λ x. x + length (f b)) is ∙ sym (le
 behind : (f : ℕ → ℕ) (at n : ℕ) (xs ys zs : List ℕ) → n ≡ at + length xs → xs ++ ys ≡ zs → written (written f at xs) n ys ≡ written f at zs
 behind f at n xs ys zs is both = ap (λ k. written (written f at xs) k ys) is ∙ written_more f at xs ys ∙ ap (written f at) both
 
-pub frees_more : (a b c : Space) (block n : ℕ) → Turns a b (with_frees (tables_of a) 0 (joined (block_frees (tables_of a)) block)) → n ≡ length (joined (block_frees (tables_of a)) block)
-    → Turns b c (with_frees (tables_of b) n (block_frees (tables_of b) block)) → Turns a c (with_frees (tables_of a) 0 (joined (block_frees (tables_of a)) (block + 1)))
-frees_more a b c block n first is second =
-    let t : Tables = tables_of a in let f : ℕ → List ℕ = block_frees t in
+-- numbers that are written behind a list of them
+pub frees_more : (a b c : Space) (n : ℕ) (xs ys zs : List ℕ) → Turns a b (with_frees (tables_of a) 0 xs) → n ≡ length xs → xs ++ ys ≡ zs → Turns b c (with_frees (tables_of b) n ys) → Turns a c (with_frees (tables_of a) 0 zs)
+frees_more a b c n xs ys zs first is both second =
+    let t : Tables = tables_of a in
     subst (Turns a c)
-    (ap (λ u. with_frees u n (block_frees u block)) first.tables
-    ∙ ap (λ x. record t { frees = x }) (behind t.frees 0 n (joined f block) (f block) (joined f (block + 1)) (is ∙ sym (zero-add (length (joined f block)))) (joined_more f block)))
-    (turns_then a b c (with_frees t 0 (joined f block)) (with_frees (tables_of b) n (block_frees (tables_of b) block)) first second)
+    (ap (λ u. with_frees u n ys) first.tables
+    ∙ ap (λ x. record t { frees = x }) (behind t.frees 0 n xs ys zs (is ∙ sym (zero-add (length xs))) both))
+    (turns_then a b c (with_frees t 0 xs) (with_frees (tables_of b) n ys) first second)
 
 pub runs_more : (a b c : Space) (block n : ℕ) → Turns a b (with_runs (tables_of a) 0 (joined (block_runs (tables_of a)) block)) → n ≡ length (joined (block_runs (tables_of a)) block)
     → Turns b c (with_runs (tables_of b) n (block_runs (tables_of b) block)) → Turns a c (with_runs (tables_of a) 0 (joined (block_runs (tables_of a)) (block + 1)))
@@ -266,6 +338,22 @@ frees_none a = record {
 pub runs_none : (a : Space) (at : ℕ) (xs : List ℕ) → xs ≡ [] → Turns a a (with_runs (tables_of a) at xs)
 runs_none a at xs none = record {
   tables = ap (λ x. record (tables_of a) { runs = x }) (written_none (tables_of a).runs at ∙ ap (written (tables_of a).runs at) (sym none));
+  rest = refl;
+}
+
+-- one number more is listed
+pub free_more : (a b c : Space) (at n x : ℕ) (xs zs : List ℕ) → Turns a b (with_frees (tables_of a) at xs) → n ≡ at + length xs → xs ++ (x ∷ []) ≡ zs
+    → Turns b c (record (tables_of b) { frees = changed (tables_of b).frees n x }) → Turns a c (with_frees (tables_of a) at zs)
+free_more a b c at n x xs zs first is both second =
+    let t : Tables = tables_of a in let f : Tables → Tables = λ u. record u { frees = changed u.frees n x } in
+    subst (Turns a c)
+    (ap f first.tables
+    ∙ ap (λ g. record t { frees = g }) (written_one (written t.frees at xs) n x ∙ behind t.frees at n xs (x ∷ []) zs is both))
+    (turns_then a b c (with_frees t at xs) (record (tables_of b) { frees = changed (tables_of b).frees n x }) first second)
+
+pub numbers_none : (a : Space) (at from : ℕ) → Turns a a (with_frees (tables_of a) at (numbers_from from 0))
+numbers_none a at from = record {
+  tables = ap (λ x. record (tables_of a) { frees = x }) (written_none (tables_of a).frees at ∙ ap (written (tables_of a).frees at) (sym (no_numbers from)));
   rest = refl;
 }
 

@@ -1,14 +1,14 @@
 -- Blocks swept one after another are swept all.
 use Rattle.std.proofs.Common.{◌≡◌, ◌≢◌, ℕ, ◌+◌, ◌<◌, ◌≤◌, refl, sym, ap, subst, ◌∙◌, inl, inr, arith, Bool, true, false}
 use Rattle.std.specs.Prelude.{◌==◌, nat_eq, nat_lt, not, ◌&&◌, if◌then◌else◌}
-use Rattle.std.proofs.lemmas.Bool.Decides.{eqb_tells, nat_tests}
+use Rattle.std.proofs.lemmas.Bool.Decides.{eqb_tells, leb_tells, nat_tests}
 use Rattle.lxr_image.specs.declared.space.Space.{Space}
 use Rattle.lxr_image.specs.Tables.{Tables, changed}
 use Rattle.lxr_image.specs.Spaces.{Turns, tables_of}
 use Rattle.lxr_image.proofs.SpaceLemmas.{turns_then}
 use Rattle.lxr_blocks.specs.declared.states.BlockState.{BlockState}
 use Rattle.lxr_blocks.specs.declared.states.BlockState.TheVariants.{Free, Partly, Whole, Chosen, World}
-use Rattle.lxr_blocks.specs.States.{FreeIsFree, is_fixed, state_by_lines, state_in, state_number, state_of, with_state_by_lines}
+use Rattle.lxr_blocks.specs.States.{AreFreeBlocks, FreeIsFree, is_fixed, state_by_lines, state_in, state_number, state_of, with_state_by_lines}
 use Rattle.lxr_blocks.specs.Swept.{SweptIsByLines, with_states_by_lines}
 
 -- the state of a block, where a test says whether it is renewed
@@ -66,8 +66,8 @@ more_swept a b c block first second =
     (ap (λ u. with_state_by_lines u block) first.tables ∙ one_more (tables_of a) block)
     (turns_then a b c (with_states_by_lines (tables_of a) block) (with_state_by_lines (tables_of b) block) first second)
 
--- a block that is Free by its lines keeps its number, which is that of Free
-zero_of_free : (n : ℕ) → state_of n ≡ Free → n ≡ 0
+-- the number of Free
+pub zero_of_free : (n : ℕ) → state_of n ≡ Free → n ≡ 0
 zero_of_free n is = elim (eqb_tells n 0) [
   | inl z ↦ z.1
   | inr z ↦ absurd (other (n == 1) (n == 2) (n == 3) (sym (ap (λ b. if b then Free else (if n == 1 then Partly else (if n == 2 then Whole else (if n == 3 then Chosen else World)))) z.0) ∙ is))
@@ -79,21 +79,28 @@ zero_of_free n is = elim (eqb_tells n 0) [
     other false false true is = cc
     other false false false is = cc
 
-same_at : (f : ℕ → ℕ) (b n i : ℕ) → f b ≡ n → f i ≡ changed f b n i
-same_at f b n i is = elim (eqb_tells i b) [
-  | inl e ↦ ap f e.1 ∙ is ∙ sym (ap (λ x. if x then n else f i) e.0)
-  | inr e ↦ sym (ap (λ x. if x then n else f i) e.0)
+-- ---- blocks that are Free
+
+free_at : (t : Tables) (b c i : ℕ) → b ≤ c → ((k : ℕ) → b ≤ k → k < c → (state_in t k ≡ Free) × (state_by_lines t k ≡ Free)) → (with_states_by_lines t b).states i ≡ (with_states_by_lines t c).states i
+free_at t b c i order free = elim (leb_tells b i) [
+  | inl k ↦ elim (leb_tells c i) [
+    | inl m ↦ ap (λ x. chosen_state t i (x && not (is_fixed (state_in t i)))) (not_below i b k.1 ∙ sym (not_below i c m.1))
+    | inr m ↦
+        let is = free i k.1 m.1 in
+        ap (λ x. chosen_state t i (x && not (is_fixed (state_in t i)))) (not_below i b k.1)
+        ∙ zero_of_free (t.states i) is.0 ∙ sym (ap state_number is.1)
+        ∙ sym (ap (λ x. chosen_state t i (x && not (is_fixed (state_in t i)))) (below i c m.1) ∙ ap (λ s. chosen_state t i (not (is_fixed s))) is.0)
+  ]
+  | inr k ↦ let less = k.1 in
+      ap (λ x. chosen_state t i (x && not (is_fixed (state_in t i)))) (below i b k.1 ∙ sym (below i c (omega arith)))
 ]
 
-pub free_stays : (t : Tables) (b : ℕ) → state_in t b ≡ Free → FreeIsFree t b → t ≡ with_state_by_lines t b
-free_stays t b is free =
-    let new : t.states b ≡ state_number (state_by_lines t b) = zero_of_free (t.states b) is ∙ sym (ap state_number (free is)) in
-    ap (λ f. record t { states = f }) (λ j i. same_at t.states b (state_number (state_by_lines t b)) i new j)
-    ∙ sym (ap (λ s. record t { states = if is_fixed s then t.states else (changed t.states b (state_number (state_by_lines t b))) }) is)
-
--- where the blocks before one are swept, it is Free only if it is so by its lines
-pub free_next : (t u : Tables) (b : ℕ) → u ≡ with_states_by_lines t b → FreeIsFree t b → FreeIsFree u b
-free_next t u b same free = subst (λ x. FreeIsFree x b) (sym same) (λ is. free (sym (state_before t b) ∙ is))
+-- blocks that are Free and have only free lines needn't be swept
+pub free_passed : (t u : Tables) (b c : ℕ) → u ≡ with_states_by_lines t b → b ≤ c → AreFreeBlocks u b c → ((k : ℕ) → k < c → FreeIsFree t k) → u ≡ with_states_by_lines t c
+free_passed t u b c is order free sound =
+    let was : (k : ℕ) → b ≤ k → k < c → state_in t k ≡ Free = λ k from within.
+    sym (ap (λ x. state_of (chosen_state t k (x && not (is_fixed (state_in t k))))) (not_below k b from)) ∙ sym (ap (λ x. state_in x k) is) ∙ free k from within in
+    is ∙ ap (λ f. record t { states = f }) (λ j i. free_at t b c i order (λ k from within. (was k from within, sound k within (was k from within))) j)
 
 -- ---- what a sweep means
 

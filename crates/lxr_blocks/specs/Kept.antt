@@ -18,7 +18,7 @@ use Rattle.lxr_blocks.specs.States.{KeepsFree, KeepsState, state_in}
 -- a free line: it isn't handed out, and each count on it is 0
 pub record IsFreeLine (t : Tables) (n : ℕ) : Type 0 where
   pub in_hand : t.outs n ≡ false
-  pub uncounted : (k : ℕ) → k < 16 → t.counts (GRANULES_IN_LINE * n + k) ≡ 0
+  pub uncounted : (k : ℕ) → k < GRANULES_IN_LINE → t.counts (GRANULES_IN_LINE * n + k) ≡ 0
 
 -- the test of a line tells which lines are free
 abbrev pub FreeLineIsTold : Type 0

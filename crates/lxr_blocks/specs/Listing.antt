@@ -43,6 +43,11 @@ block_runs t b = if lists_runs (state_in t b) then (run_words t b) else []
 abbrev pub block_frees : Tables → ℕ → List ℕ
 block_frees t b = if lists_block (state_in t b) then (b ∷ []) else []
 
+-- so many numbers in a row, from one on
+unfoldable pub numbers_from : ℕ → ℕ → List ℕ
+numbers_from from zero = []
+numbers_from from (suc many) = numbers_from from many ++ ((from + many) ∷ [])
+
 -- the words of all listed runs, in order of blocks and lines
 abbrev pub listed_runs : Tables → ℕ → List ℕ
 listed_runs t blocks = joined (block_runs t) blocks

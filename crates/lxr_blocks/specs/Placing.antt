@@ -5,6 +5,7 @@ use Rattle.lxr_layout.specs.declared.runs.Run.{Run}
 use Rattle.lxr_layout.specs.declared.Name.{Name}
 use Rattle.lxr_layout.specs.declared.Place.{Place}
 use Rattle.lxr_layout.specs.declared.Shape.{Shape}
+use Rattle.lxr_layout.specs.Places.{place_at}
 use Rattle.lxr_layout.specs.Objects.{header_word, line_count, word_count}
 use Rattle.lxr_image.specs.declared.space.Space.{Space}
 use Rattle.lxr_image.specs.Tables.{Tables}
@@ -21,10 +22,6 @@ granule_count s = word_count s / 2
 -- the first granule of a run, counted over the whole heap
 abbrev pub first_granule : Run → ℕ
 first_granule r = GRANULES_IN_LINE * first_line r
-
--- the place of a granule
-abbrev pub place_at : ℕ → Place
-place_at g = record { 0 = g + 1 }
 
 -- a new object at a granule: its header word, and zeros in all its other words
 abbrev pub with_object : Tables → ℕ → Name → Shape → Tables

@@ -1,5 +1,5 @@
 -- States of blocks, as numbers and by their free lines.
-use Rattle.std.specs.Prelude.{◌≡◌, ◌≢◌, ℕ, ◌/◌, ◌<◌, ◌==◌, ◌⊎◌, IsTrue, Bool, true, false, if◌then◌else◌}
+use Rattle.std.specs.Prelude.{◌≡◌, ◌≢◌, ℕ, ◌/◌, ◌<◌, ◌≤◌, ◌==◌, ◌⊎◌, IsTrue, Bool, true, false, if◌then◌else◌}
 use Rattle.lxr_image.specs.Opened.{world_state}
 use Rattle.lxr_layout.specs.declared.TheConstants.{LINES_IN_BLOCK}
 use Rattle.lxr_layout.specs.declared.runs.Run.{Run}
@@ -35,6 +35,17 @@ is_fixed Partly = false
 is_fixed Whole = false
 is_fixed Chosen = true
 is_fixed World = true
+
+-- the blocks from one on and below another are all Free
+abbrev pub AreFreeBlocks : Tables → ℕ → ℕ → Type 0
+AreFreeBlocks t from end = (b : ℕ) → from ≤ b → b < end → state_in t b ≡ Free
+
+-- the first block from one on that isn't Free is another, which is below the end
+pub record IsNextInUse (t : Tables) (from end block : ℕ) : Type 0 where
+  pub reached : from ≤ block
+  pub within : block < end
+  pub used : state_in t block ≢ Free
+  pub passed : AreFreeBlocks t from block
 
 -- a block has the number of the state that it had, or neither that state nor its own is Chosen or World
 abbrev pub KeepsState : Tables → Tables → ℕ → Type 0

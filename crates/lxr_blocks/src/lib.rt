@@ -7,6 +7,7 @@
 #![tactic(auto)]
 
 mod handing;
+mod in_use;
 mod laws;
 mod listing;
 mod masks;
@@ -16,6 +17,7 @@ mod sweeping;
 mod zeros;
 
 pub use handing::hand_out;
+pub use in_use::next_in_use;
 pub use laws::{free_line_is_told, kept_line_is_taken, placed_is_beside};
 pub use listing::list_runs;
 pub use masks::free_mask;

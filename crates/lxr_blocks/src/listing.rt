@@ -1,9 +1,10 @@
 //! Listing the free lines and the free blocks, for threads to draw from.
-ghost use Rattle.std.specs.Prelude.{◌≡◌, ◌+◌, ◌*◌, ◌<◌, ◌≤◌, length};
+ghost use Rattle.std.specs.Prelude.{◌≡◌, ◌+◌, ◌-◌, ◌*◌, ◌<◌, ◌≤◌, length};
 ghost use Rattle.lxr_image.specs.Spaces.{IsSpace, Turns, tables_of};
 ghost use Rattle.lxr_blocks.specs.Lines.{free_in, runs_below};
-ghost use Rattle.lxr_blocks.specs.Listing.{TurnsWithRest, block_frees, block_runs, listed_frees, listed_runs, run_words, with_frees, with_lists, with_runs};
+ghost use Rattle.lxr_blocks.specs.Listing.{TurnsWithRest, block_runs, listed_frees, listed_runs, numbers_from, run_words, with_frees, with_lists, with_runs};
 
+use crate::in_use::next_in_use;
 use crate::masks::{edges_of, free_mask, next_run};
 use crate::states::{BlockState, state};
 use lxr_image::Space;
@@ -45,22 +46,20 @@ fn list_block(space: &mut Space, block: u32, first: u32) -> u32
     }
 }
 
-/// Writes the number of a block that is Free.
-fn list_free(space: &mut Space, block: u32, first: u32) -> u32
+/// Writes the numbers of blocks in a row that are Free to the table of free blocks from an index on, and answers the index behind them.
+fn list_between(space: &mut Space, from: u32, end: u32, first: u32) -> u32
     requires space { IsSpace space.old }
-    requires block { block < space.old.limits.blocks }
-    requires first { first ≤ block }
-    ensures frees { Turns space.old space.new (with_frees (tables_of space.old) first (block_frees (tables_of space.old) block)) }
-    ensures count { result ≡ first + length (block_frees (tables_of space.old) block) }
-    ensures room { result ≤ block + 1 }
+    requires blocks { (from ≤ end) × (end ≤ space.old.limits.blocks) }
+    requires first { first ≤ from }
+    ensures frees { Turns space.old space.new (with_frees (tables_of space.old) first (numbers_from from (end - from))) }
+    ensures count { result ≡ first + (end - from) }
 {
-    match state(space, block) {
-        BlockState::Free => {
-            space.put_free(first, u64::from(block));
-            first + 1
-        }
-        _ => first,
+    let mut at = first;
+    for block in from..end {
+        space.put_free(at, u64::from(block));
+        at += 1;
     }
+    at
 }
 
 /// Writes the runs of all blocks, and answers how many there are.
@@ -70,8 +69,10 @@ fn list_all_runs(space: &mut Space) -> u32
     ensures count { result ≡ length (listed_runs (tables_of space.old) space.old.limits.blocks) }
 {
     let mut count = 0;
-    for block in 0..space.limits.blocks {
+    let mut at = 0;
+    while let Some(block) = next_in_use(space, at) {
         count = list_block(space, block, count);
+        at = block + 1;
     }
     count
 }
@@ -83,10 +84,12 @@ fn list_all_frees(space: &mut Space) -> u32
     ensures count { result ≡ length (listed_frees (tables_of space.old) space.old.limits.blocks) }
 {
     let mut count = 0;
-    for block in 0..space.limits.blocks {
-        count = list_free(space, block, count);
+    let mut at = 0;
+    while let Some(block) = next_in_use(space, at) {
+        count = list_between(space, at, block, count);
+        at = block + 1;
     }
-    count
+    list_between(space, at, space.limits.blocks, count)
 }
 
 /// Lists the runs of all Partly and World blocks, and all Free blocks, in order, and answers how many runs there

@@ -10,7 +10,7 @@ ghost use Rattle.std.specs.Int.{bit_at, trailing_zeros, w128};
 use lxr_image::Space;
 use lxr_layout::{LINES_IN_BLOCK, Run};
 
-/// The free lines of a block: bit i is set exactly where line i is free. It reads the 64 words of the block's counts and
+/// The free lines of a block: bit i is set exactly where line i is free. It reads the words of the block's counts and
 /// the two words of its out bits, each once.
 #[inline(always)]
 pub fn free_mask(space: &Space, block: u32) -> u128

@@ -3,12 +3,13 @@ ghost use Rattle.std.specs.Prelude.{◌≡◌, ◌≢◌, ℕ, ◌+◌, ◌*◌,
 ghost use Rattle.lxr_layout.specs.declared.TheConstants.{GRANULES_IN_BLOCK, GRANULES_IN_LINE, LINES_IN_BLOCK};
 ghost use Rattle.lxr_layout.specs.declared.runs.Run.{Run};
 ghost use Rattle.lxr_layout.specs.Objects.{FitsShape, line_count, word_count};
+ghost use Rattle.lxr_layout.specs.Places.{place_at};
 ghost use Rattle.lxr_image.specs.Spaces.{IsSpace, Turns, tables_of};
 ghost use Rattle.lxr_blocks.specs.Lines.{IsFreeRun, free_in};
 ghost use Rattle.lxr_blocks.specs.Listing.{TurnsWithRest};
 ghost use Rattle.lxr_blocks.specs.Handing.{handed_out};
 ghost use Rattle.lxr_blocks.specs.Masks.{IsMask};
-ghost use Rattle.lxr_blocks.specs.Placing.{IsFirstFit, IsFull, IsPlaced, IsRest, first_granule, granule_count, place_at, search_begin, with_object};
+ghost use Rattle.lxr_blocks.specs.Placing.{IsFirstFit, IsFull, IsPlaced, IsRest, first_granule, granule_count, search_begin, with_object};
 ghost use Rattle.lxr_blocks.specs.States.{IsOpenRun};
 
 use crate::handing::hand_out_of;
@@ -17,7 +18,7 @@ use crate::states::{BlockState, state};
 use lxr_image::Space;
 use lxr_layout::{
     GRANULES_IN_BLOCK, GRANULES_IN_LINE, LINES_IN_BLOCK, Name, Place, Run, Shape, lines_of, pack,
-    words_of,
+    place_at, words_of,
 };
 
 /// Free lines in a row, and all the free lines of their block.
@@ -136,7 +137,7 @@ fn place_in_rest(space: &mut Space, name: Name, shape: Shape) -> Place
     let granule = space.rest_next;
     write_object(space, granule, name, shape);
     space.rest_next = granule + words_of(shape) / 2;
-    Place(granule + 1)
+    place_at(granule)
 }
 
 /// Hands out a run of free lines, which become the rest.

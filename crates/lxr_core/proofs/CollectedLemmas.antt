@@ -13,7 +13,7 @@ use Rattle.lxr_graph.specs.declared.Reply.{Reply}
 use Rattle.lxr_graph.specs.declared.Reply.TheVariants as reply
 use Rattle.lxr_graph.specs.History.{Call, Item, calls_of, replies_of}
 use Rattle.lxr_graph.specs.State.{State, object_at, refs_of, values_of, register_at}
-use Rattle.lxr_graph.specs.Step.{get_from, got, load_from, loaded, put_at, put_to, step, store_to, stored}
+use Rattle.lxr_graph.specs.Step.{add_to, added, get_from, got, load_from, loaded, put_at, put_to, step, store_to, stored, swap_in, swapped}
 use Rattle.lxr_invariant.proofs.EntryLemmas.{equal_numbers, same_number}
 use Rattle.lxr_model.specs.Belongs.{asks_for_pause, calls_since_pause, has_asked}
 use Rattle.lxr_model.specs.Kinds.{collect_called}
@@ -87,6 +87,22 @@ get_replies s i (Some n) = by_found (slice_get (values_of (object_at s.graph n))
     by_found None = refl
     by_found (Some v) = refl
 
+swap_replies : (s : State) (t dest i : ℕ) (v b : Option Name) → is_collected (Some (swap_in s t dest i v b).1) ≡ false
+swap_replies s t dest i v None = refl
+swap_replies s t dest i v (Some n) = by_found (slice_get (refs_of (object_at s.graph n)) i)
+  where
+    by_found : (o : Option (Option Name)) → is_collected (Some (swapped s t dest n i v o).1) ≡ false
+    by_found None = refl
+    by_found (Some old) = refl
+
+add_replies : (s : State) (i v : ℕ) (b : Option Name) → is_collected (Some (add_to s i v b).1) ≡ false
+add_replies s i v None = refl
+add_replies s i v (Some n) = by_found (slice_get (values_of (object_at s.graph n)) i)
+  where
+    by_found : (o : Option ℕ) → is_collected (Some (added s n i v o).1) ≡ false
+    by_found None = refl
+    by_found (Some old) = refl
+
 -- a call of `collect`
 abbrev is_collect : Op → Bool
 is_collect op.Collect = true
@@ -98,6 +114,8 @@ replied_so s t (op.Load dest base index) = load_replies s t dest index (register
 replied_so s t (op.Store base index source) = store_replies s index (register_at s t source) (register_at s t base)
 replied_so s t (op.Put base index value) = put_replies s index value (register_at s t base)
 replied_so s t (op.Get base index) = get_replies s index (register_at s t base)
+replied_so s t (op.Swap dest base index source) = swap_replies s t dest index (register_at s t source) (register_at s t base)
+replied_so s t (op.Add base index value) = add_replies s index value (register_at s t base)
 replied_so s t (op.Move dest source) = refl
 replied_so s t (op.Nil dest) = refl
 replied_so s t (op.Same left right) = refl
@@ -113,6 +131,8 @@ the_collect (op.Load dest base index) e = absurd (cc)
 the_collect (op.Store base index source) e = absurd (cc)
 the_collect (op.Put base index value) e = absurd (cc)
 the_collect (op.Get base index) e = absurd (cc)
+the_collect (op.Swap dest base index source) e = absurd (cc)
+the_collect (op.Add base index value) e = absurd (cc)
 the_collect (op.Move dest source) e = absurd (cc)
 the_collect (op.Nil dest) e = absurd (cc)
 the_collect (op.Same left right) e = absurd (cc)
@@ -126,6 +146,8 @@ call_tells t (op.Load dest base index) r h = refl
 call_tells t (op.Store base index source) r h = refl
 call_tells t (op.Put base index value) r h = refl
 call_tells t (op.Get base index) r h = refl
+call_tells t (op.Swap dest base index source) r h = refl
+call_tells t (op.Add base index value) r h = refl
 call_tells t (op.Move dest source) r h = refl
 call_tells t (op.Nil dest) r h = refl
 call_tells t (op.Same left right) r h = refl

@@ -87,12 +87,14 @@ helpers_show b s i v (event.LoadsReference o dest place index) = record { decrem
 helpers_show b s i v (event.TellsName o n) = record { decrementers = refl; tracers = refl }
 helpers_show b s i v (event.GetsValue o place refs index) = record { decrementers = refl; tracers = refl }
 helpers_show b s i v (event.PutsValue o place refs index value) = record { decrementers = refl; tracers = refl }
+helpers_show b s i v (event.AddsValue o place refs index value) = record { decrementers = refl; tracers = refl }
 helpers_show b s i v (event.SeesClear place index) = record { decrementers = refl; tracers = refl }
 helpers_show b s i v (event.SeesFull place index) = record { decrementers = refl; tracers = refl }
 helpers_show b s i v (event.LoadsOld place index) = record { decrementers = refl; tracers = refl }
 helpers_show b s i v (event.ClearsFirst e n) = record { decrementers = refl; tracers = refl }
 helpers_show b s i v (event.ClearsLate e) = record { decrementers = refl; tracers = refl }
 helpers_show b s i v (event.StoresReference o place index value) = record { decrementers = refl; tracers = refl }
+helpers_show b s i v (event.SwapsReference o dest place index value) = record { decrementers = refl; tracers = refl }
 helpers_show b s i v event.DrawsRun = record { decrementers = refl; tracers = refl }
 helpers_show b s i v event.MissesRun = record { decrementers = refl; tracers = refl }
 helpers_show b s i v (event.SeesRun number) = record { decrementers = refl; tracers = refl }

@@ -4,15 +4,12 @@ use Rattle.std.proofs.Common.{◌≡◌, ℕ, zero, suc, ◌+◌, ◌-◌, ◌<�
 use Rattle.std.specs.Prelude.{Some, IsTrue, if◌then◌else◌, slice_get}
 use Rattle.std.proofs.lemmas.Bool.Decides.{leb_tells}
 use Rattle.std.proofs.lemmas.List.{append-nil}
+use Rattle.lxr_layout.specs.Places.{place_at}
 use Rattle.lxr_layout.specs.declared.Place.{Place}
 use Rattle.lxr_image.specs.Tables.{Tables}
 use Rattle.lxr_image_search.specs.declared.Wanted.TheVariants.{ToScan}
 use Rattle.lxr_image_search.specs.Search.{IsNextWanted, NoneWanted, is_wanted}
 use Rattle.lxr_core.specs.Filling.{places_between, places_of}
-
--- the place of a granule
-abbrev pub place_at : ℕ → Place
-place_at k = record { 0 = k + 1 }
 
 -- ---- places of so many granules
 

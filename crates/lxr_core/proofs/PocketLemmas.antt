@@ -7,6 +7,7 @@ use Rattle.std.proofs.lemmas.List.{append-nil, length-map, map-set, take_all, ta
 use Rattle.std.proofs.lemmas.Grind.{flat_map-append}
 use Rattle.std.proofs.lemmas.List.Concat.{flat_map-cons}
 use Rattle.std.proofs.lemmas.Option.{slice_get-get_or}
+use Rattle.lxr_layout.specs.Places.{place_at}
 use Rattle.lxr_layout.specs.declared.TheConstants.{GRANULES_IN_BLOCK}
 use Rattle.lxr_layout.specs.declared.Place.{Place}
 use Rattle.lxr_layout.specs.declared.limits.Limits.{Limits}
@@ -24,7 +25,7 @@ use Rattle.lxr_core.specs.declared.actors.AnyActor.{AnyActor}
 use Rattle.lxr_core.specs.declared.actors.AnyActor.TheVariants as any
 use Rattle.lxr_core.specs.Actors.{tracers_in}
 use Rattle.lxr_core.specs.Filling.{FillsActor, FillsPocket, FillsPockets, HaveFilled, HoldInOrder, IsToScan, MayAllFill, MayFill, holding_places, in_pockets, places_between, places_of, unfilled}
-use Rattle.lxr_core.proofs.FillingLemmas.{between_next, between_up_to, between_more, each_place, place_at, place_once, place_stands}
+use Rattle.lxr_core.proofs.FillingLemmas.{between_next, between_up_to, between_more, each_place, place_once, place_stands}
 use Rattle.lxr_core.proofs.MappedLemmas.{mapped, set_itself}
 use Rattle.lxr_core.proofs.OrderLemmas.{tracers_of_both}
 

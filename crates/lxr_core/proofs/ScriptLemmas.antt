@@ -23,7 +23,7 @@ use Rattle.lxr_mutator.specs.declared.phases.MutatorPhase.{MutatorPhase}
 use Rattle.lxr_mutator.specs.declared.phases.MutatorPhase.TheVariants as phase
 use Rattle.lxr_mutator.specs.Mutating.{Mutating, op_now, register}
 use Rattle.lxr_mutator.specs.Operating.{indexed_fields, index_of}
-use Rattle.lxr_mutator.specs.Steps.{accepts_in, after_in, based, has_room, is_medium, mutator_machine, placed, started, stored}
+use Rattle.lxr_mutator.specs.Steps.{accepts_in, after_in, based, has_room, is_medium, loaded, mutator_machine, placed, started, stored}
 use Rattle.lxr_mutator.specs.Mutators.{again}
 use Rattle.lxr_decrement.specs.Decrementing.{DecrementerState}
 use Rattle.lxr_decrement.specs.Decrementers.{again as empty_again}
@@ -139,6 +139,8 @@ started_keeps m (op.Load dest base index) = based_keeps m (register m base)
 started_keeps m (op.Store base index source) = based_keeps m (register m base)
 started_keeps m (op.Put base index value) = based_keeps m (register m base)
 started_keeps m (op.Get base index) = based_keeps m (register m base)
+started_keeps m (op.Swap dest base index source) = based_keeps m (register m base)
+started_keeps m (op.Add base index value) = based_keeps m (register m base)
 started_keeps m (op.Move dest source) = refl
 started_keeps m (op.Nil dest) = refl
 started_keeps m (op.Same left right) = refl
@@ -146,19 +148,24 @@ started_keeps m op.Pause = refl
 started_keeps m op.Collect = refl
 started_keeps m op.End = refl
 
+loaded_keeps : (m : Mutating) (place : Place) → Keeps m (loaded m place)
+loaded_keeps m place = either_keeps (nat_eq place.0 0) m _ _ refl refl
+
 stored_keeps : (m : Mutating) (s : Storing) (log : Roomy LogEntry) (e : Option StoreEnd) → Keeps m (stored m s log e)
 stored_keeps m s log None = refl
 stored_keeps m s log (Some store_end.Stored) = refl
+stored_keeps m s log (Some (store_end.Swapped old)) = loaded_keeps (record m { log = log }) old
 stored_keeps m s log (Some store_end.LogFull) = refl
 
 after_keeps : (m : Mutating) (p : MutatorPhase) (old : ℕ) → Keeps m (after_in m p old)
 after_keeps m phase.Ready old = either_keeps (nat_eq old 1) m _ _ refl (started_keeps m (op_now m))
 after_keeps m phase.Finished old = refl
 after_keeps m (phase.Base base) old = either_keeps (nat_lt (index_of (op_now m)) (indexed_fields (op_now m) _)) m _ _ refl refl
-after_keeps m (phase.Reference base) old = either_keeps (nat_eq (place_in old).0 0) m _ _ refl refl
+after_keeps m (phase.Reference base) old = loaded_keeps m (place_in old)
 after_keeps m (phase.Referent place) old = refl
 after_keeps m (phase.Datum base refs) old = refl
 after_keeps m (phase.Putting base refs) old = refl
+after_keeps m (phase.Adding base refs) old = refl
 after_keeps m (phase.Storing s) old = stored_keeps m (store_after s m.log old) (log_after s m.log old) (end_of (store_after s m.log old))
 after_keeps m phase.DrawsRun old = refl
 after_keeps m (phase.RunNumber number) old = refl

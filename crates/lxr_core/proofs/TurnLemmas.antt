@@ -1,5 +1,5 @@
 -- The turn of an actor: a step of an actor of any kind is one of the machine of its kind, and one that makes no step changes nothing.
-use Rattle.std.proofs.Common.{◌≡◌, ℕ, ◌+◌, refl, ap, ◌∙◌, arith, false, List, ◌∷◌, [], length, nat_eq}
+use Rattle.std.proofs.Common.{◌≡◌, ℕ, ◌+◌, refl, ap, ◌∙◌, arith, true, false, List, ◌∷◌, [], length, nat_eq}
 use Rattle.std.specs.Prelude.{Option, Some, None, slice_get, slice_set, if◌then◌else◌}
 use Rattle.lxr_layout.specs.declared.Name.{Name}
 use Rattle.lxr_graph.specs.History.{Item, Call}
@@ -8,6 +8,9 @@ use Rattle.lxr_actor.specs.declared.Action.{Action}
 use Rattle.lxr_actor.specs.declared.Event.TheVariants.{Step}
 use Rattle.lxr_actor.specs.Run.{acted, core_of, happened, stepped}
 use Rattle.lxr_invariant.proofs.EntryLemmas.{unlike_number}
+use Rattle.lxr_barrier.specs.declared.machines.StorePhase.{StorePhase}
+use Rattle.lxr_barrier.specs.declared.machines.StorePhase.TheVariants as store_phase
+use Rattle.lxr_barrier.specs.Storing.{Storing, swaps_in}
 use Rattle.lxr_mutator.specs.declared.phases.MutatorPhase.{MutatorPhase}
 use Rattle.lxr_mutator.specs.declared.phases.MutatorPhase.TheVariants as phase
 use Rattle.lxr_mutator.specs.Mutating.{Mutating, op_now}
@@ -97,10 +100,20 @@ tell_tracer b execution n d there =
 longer : (n : ℕ) → nat_eq n (n + 1) ≡ false
 longer n = unlike_number n (n + 1) (λ e. omega (arith, e))
 
+-- a store that is through doesn't swap
+none_swaps : (m : Mutating) (store : Storing) (p : StorePhase) → action_in m (phase.Storing (record store { phase = p })) ≡ None
+    → (if swaps_in store.last p then true else nat_eq (length m.replies.items) (length m.replies.items + 1)) ≡ false
+none_swaps m store (store_phase.Ended how) e = longer (length m.replies.items)
+none_swaps m store store_phase.Begun e = cc
+none_swaps m store store_phase.Unlogged e = cc
+none_swaps m store (store_phase.Loaded old) e = cc
+none_swaps m store store_phase.Logged e = cc
+
 -- nothing comes to stand in the history, and no object is placed
 none_stands : (m : Mutating) (p : MutatorPhase) → action_in m p ≡ None → stands_in p m m ≡ false
 none_stands m (phase.Reference base) e = cc
 none_stands m (phase.Referent place) e = refl
+none_stands m (phase.Storing store) e = none_swaps m store store.phase e
 none_stands m p e = longer (length m.replies.items)
 
 -- no object is placed

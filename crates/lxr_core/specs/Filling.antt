@@ -4,6 +4,7 @@ use Rattle.std.specs.List.{flat_map}
 use Rattle.lxr_layout.specs.declared.TheConstants.{GRANULES_IN_BLOCK}
 use Rattle.lxr_layout.specs.declared.Place.{Place}
 use Rattle.lxr_layout.specs.declared.limits.Limits.{Limits}
+use Rattle.lxr_layout.specs.Places.{place_at}
 use Rattle.lxr_image.specs.Tables.{Tables}
 use Rattle.lxr_image.specs.Reads.{granule_of}
 use Rattle.lxr_image_search.specs.declared.Wanted.TheVariants.{ToScan}
@@ -28,7 +29,7 @@ in_pockets tracers = flat_map (λ d. d.pocket.items) tracers
 -- the places of the next so many granules that have a gray object without a mark, in order
 abbrev pub places_of : Tables → ℕ → ℕ → List Place
 places_of t from zero = []
-places_of t from (suc count) = if is_wanted t ToScan from then record { 0 = from + 1 } ∷ places_of t (from + 1) count else places_of t (from + 1) count
+places_of t from (suc count) = if is_wanted t ToScan from then place_at from ∷ places_of t (from + 1) count else places_of t (from + 1) count
 
 -- the places that are to be scanned from one granule up to another, in order
 abbrev pub places_between : Tables → ℕ → ℕ → List Place

@@ -11,7 +11,7 @@ use crate::actors::AnyActor;
 use lxr_actor::Actor;
 use lxr_image::Space;
 use lxr_image_search::{Wanted, next_wanted};
-use lxr_layout::{GRANULES_IN_BLOCK, Place};
+use lxr_layout::{GRANULES_IN_BLOCK, place_at};
 use lxr_trace::Tracer;
 
 /// Offers an empty pocket the places of gray objects that are not marked, those from a granule on, until it is full. It
@@ -26,7 +26,7 @@ pub(crate) fn fill_pocket(tracer: &mut Tracer, space: &Space, from: u32) -> u32
 {
     let mut next = from;
     while let Some(granule) = next_wanted(space, Wanted::ToScan, next) {
-        if !tracer.offer(Place(granule + 1)) {
+        if !tracer.offer(place_at(granule)) {
             return granule;
         }
         next = granule + 1;

@@ -7,7 +7,8 @@ use Rattle.std.proofs.lemmas.List.Sums.{sum_by_more_le}
 use Rattle.std.proofs.lemmas.Nat.{mul-le}
 use Rattle.std.proofs.lemmas.Bool.Decides.{eqb_tells}
 use Rattle.std.proofs.lemmas.List.{get_or-set_other, get_or-set_same, set-get_or}
-use Rattle.lxr_layout.specs.declared.TheConstants.{GRANULES_IN_BLOCK, STUCK, WORDS_IN_BLOCK}
+use Rattle.lxr_layout.specs.declared.TheConstants.{COUNT_BITS, GRANULES_IN_BLOCK, STUCK, WORDS_IN_BLOCK}
+use Rattle.lxr_tables.specs.declared.counts.TheConstants.{COUNTS_IN_WORD}
 use Rattle.lxr_layout.specs.declared.limits.Limits.{Limits}
 use Rattle.lxr_layout.specs.declared.limits.Regions.{Regions}
 use Rattle.lxr_layout.specs.Spaces.{AreLimits, all_regions, region_begin, region_sizes, regions_of}
@@ -19,7 +20,7 @@ use Rattle.lxr_image.proofs.RegionLemmas.{cut_written, length_region, length_reg
 use Rattle.lxr_core_access.specs.declared.TableEntry.{TableEntry}
 use Rattle.lxr_core_access.specs.declared.TableEntry.TheVariants.{Heap, Count, Start, Mark, Gray, Done, Unlogged, Reuse, Out, State, Run, Free, Decrement, Remembered, Cursor}
 use Rattle.lxr_core_access.specs.declared.Access.{Access}
-use Rattle.lxr_core_access.specs.declared.Access.TheVariants.{Look, PutHeap, ClearUnlogged, SetMark, SetGray, SetDone, LowerCount, Draw, PutCursor, PutRemembered}
+use Rattle.lxr_core_access.specs.declared.Access.TheVariants.{Look, PutHeap, SwapHeap, AddHeap, ClearUnlogged, SetMark, SetGray, SetDone, LowerCount, Draw, PutCursor, PutRemembered}
 use Rattle.lxr_core_access.specs.Accesses.{AreRegions, IsTableEntry, MayBeDone, Tells, action_of, done_to, table_entry_of, table_entry_word}
 use Rattle.lxr_core_access.specs.Laws.{DoesAccess, acted_words}
 use Rattle.lxr_core_access.proofs.WordLemmas.{IsSetIn, cleared_in, lowered_in, set_in, table-set_at}
@@ -110,7 +111,7 @@ regions_are l r is = record {
 -- the word of an entry is one of the words of the space
 pub table_entry_below : (l : Limits) (r : Regions) → AreRegions l r → (s : TableEntry) → IsTableEntry l s → table_entry_word r s < region_begin l all_regions
 table_entry_below l r are (Heap at) h = below l 0 r.heap at (lit< tt) are.heap h
-table_entry_below l r are (Count granule) h = below l 1 r.counts (granule / 32) (lit< tt) are.counts (omega arith)
+table_entry_below l r are (Count granule) h = below l 1 r.counts (granule / COUNTS_IN_WORD) (lit< tt) are.counts (omega arith)
 table_entry_below l r are (Start granule) h = below l 2 r.starts (granule / 64) (lit< tt) are.starts (omega arith)
 table_entry_below l r are (Mark granule) h = below l 3 r.marks (granule / 64) (lit< tt) are.marks (omega arith)
 table_entry_below l r are (Gray granule) h = below l 4 r.grays (granule / 64) (lit< tt) are.grays (omega arith)
@@ -147,7 +148,7 @@ module _ (l : Limits) (r : Regions) (ws : List ℕ) (are : AreRegions l r) (size
   pub table_entry_told : (s : TableEntry) → IsTableEntry l s → Tells (tables_in l ws) s (slice_index ws (table_entry_word r s))
   unfolding tables_in
   table_entry_told (Heap at) h = word_told l ws size 0 r.heap (lit< tt) are.heap at h
-  table_entry_told (Count granule) h = entry_told l ws size 1 r.counts (lit< tt) are.counts 2 32 granule (lit< tt) (omega arith) (omega arith)
+  table_entry_told (Count granule) h = entry_told l ws size 1 r.counts (lit< tt) are.counts COUNT_BITS COUNTS_IN_WORD granule (lit< tt) (omega arith) (omega arith)
   table_entry_told (Start granule) h = bit_told l ws size 2 r.starts (lit< tt) are.starts granule (omega arith)
   table_entry_told (Mark granule) h = bit_told l ws size 3 r.marks (lit< tt) are.marks granule (omega arith)
   table_entry_told (Gray granule) h = bit_told l ws size 4 r.grays (lit< tt) are.grays granule (omega arith)
@@ -199,6 +200,16 @@ module _ (l : Limits) (r : Regions) (ws : List ℕ) (are : AreRegions l r) (size
   -- a word of the heap is written
   pub put_heap_done : (at value : ℕ) → at < WORDS_IN_BLOCK * l.blocks → DoesAccess l ws (action_of r (PutHeap at value)) (PutHeap at value)
   put_heap_done at value h = done_by (PutHeap at value) h (heap_put at value h)
+
+  -- one is swapped
+  pub swap_heap_done : (at value : ℕ) → at < WORDS_IN_BLOCK * l.blocks → DoesAccess l ws (action_of r (SwapHeap at value)) (SwapHeap at value)
+  swap_heap_done at value h = done_by (SwapHeap at value) h (heap_put at value h)
+
+  -- one is added to
+  pub add_heap_done : (at value : ℕ) → at < WORDS_IN_BLOCK * l.blocks → DoesAccess l ws (action_of r (AddHeap at value)) (AddHeap at value)
+  add_heap_done at value h =
+      let told = table_entry_told (Heap at) h in
+      done_by (AddHeap at value) h (ap (λ x. tables_in l (slice_set ws (r.heap + at) ((x + value) % 2 ^ 64))) told ∙ heap_put at (((tables_in l ws).heap at + value) % 2 ^ 64) h)
 
   -- a remembered entry is written
   pub put_remembered_done : (at word : ℕ) → at < l.remember → DoesAccess l ws (action_of r (PutRemembered at word)) (PutRemembered at word)
@@ -272,29 +283,31 @@ module _ (l : Limits) (r : Regions) (ws : List ℕ) (are : AreRegions l r) (size
   set_done_done granule h = done_by (SetDone granule) h (done_put granule h)
 
   -- one count changes
-  count_put : (granule v e : ℕ) → granule < GRANULES_IN_BLOCK * l.blocks → IsSetIn 2 32 (slice_index ws (r.counts + granule / 32)) v (granule % 32) e
-      → tables_in l (slice_set ws (r.counts + granule / 32) v) ≡ record (tables_in l ws) { counts = changed (tables_in l ws).counts granule e }
+  count_put : (granule v e : ℕ) → granule < GRANULES_IN_BLOCK * l.blocks → IsSetIn COUNT_BITS COUNTS_IN_WORD (slice_index ws (r.counts + granule / COUNTS_IN_WORD)) v (granule % COUNTS_IN_WORD) e
+      → tables_in l (slice_set ws (r.counts + granule / COUNTS_IN_WORD) v) ≡ record (tables_in l ws) { counts = changed (tables_in l ws).counts granule e }
   unfolding tables_in
   count_put granule v e h set =
-      let len = length_region_table 2 32 (region_sizes l) ws 1 (lit< tt) (omega arith) in
-      let put = table_put l ws size 1 r.counts (lit< tt) are.counts 2 32 granule v e (lit< tt) (omega arith) set in
-      region_put l ws size 1 r.counts (lit< tt) are.counts (granule / 32) v (omega arith)
-      ∙ (λ j. record (tables_from (length ws) (cut (region_sizes l) ws)) { counts = λ i. entry (λ x. x) (table 2 32 (region l ws 1)) (table 2 32 (slice_set (region l ws 1) (granule / 32) v)) granule e put (omega arith) i j })
+      let len = length_region_table COUNT_BITS COUNTS_IN_WORD (region_sizes l) ws 1 (lit< tt) (omega arith) in
+      let put = table_put l ws size 1 r.counts (lit< tt) are.counts COUNT_BITS COUNTS_IN_WORD granule v e (lit< tt) (omega arith) set in
+      region_put l ws size 1 r.counts (lit< tt) are.counts (granule / COUNTS_IN_WORD) v (omega arith)
+      ∙ (λ j. record (tables_from (length ws) (cut (region_sizes l) ws)) { counts = λ i. entry (λ x. x) (table COUNT_BITS COUNTS_IN_WORD (region l ws 1)) (table COUNT_BITS COUNTS_IN_WORD (slice_set (region l ws 1) (granule / COUNTS_IN_WORD) v)) granule e put (omega arith) i j })
 
   -- a count that is neither 0 nor stuck is lowered
   pub lower_count_done : (granule : ℕ) → granule < GRANULES_IN_BLOCK * l.blocks → (tables_in l ws).counts granule ≢ 0 → (tables_in l ws).counts granule ≢ STUCK
       → DoesAccess l ws (action_of r (LowerCount granule)) (LowerCount granule)
   lower_count_done granule h some free =
-      let old : ℕ = slice_index ws (r.counts + granule / 32) in
+      let old : ℕ = slice_index ws (r.counts + granule / COUNTS_IN_WORD) in
       let count : ℕ = (tables_in l ws).counts granule in
       let most = count_fits l ws granule in
       let is = table_entry_told (Count granule) h in
-      done_by (LowerCount granule) h (count_put granule ((old + (2 ^ 64 - 2 ^ (2 * (granule % 32)))) % 2 ^ 64) (count - 1) h (lowered_in old (granule % 32) count (omega arith) most is some free))
+      done_by (LowerCount granule) h (count_put granule ((old + (2 ^ 64 - 2 ^ (COUNT_BITS * (granule % COUNTS_IN_WORD)))) % 2 ^ 64) (count - 1) h (lowered_in old (granule % COUNTS_IN_WORD) count (omega arith) most is some free))
 
   -- each access that may be done is done by its action
   pub access_done : (d : Access) → MayBeDone l (tables_in l ws) d → DoesAccess l ws (action_of r d) d
   access_done (Look s) may = look_done s may.table_entry
   access_done (PutHeap at value) may = put_heap_done at value may.table_entry
+  access_done (SwapHeap at value) may = swap_heap_done at value may.table_entry
+  access_done (AddHeap at value) may = add_heap_done at value may.table_entry
   access_done (ClearUnlogged at) may = clear_unlogged_done at may.table_entry
   access_done (SetMark granule) may = set_mark_done granule may.table_entry
   access_done (SetGray granule) may = set_gray_done granule may.table_entry

@@ -9,7 +9,8 @@ use Rattle.std.proofs.lemmas.List.{set-append_left, set-append_right}
 use Rattle.std.proofs.lemmas.Bool.Decides.{eqb_tells}
 use mathlib.Core.Bool.{not}
 use mir.Val.{bool_byte}
-use Rattle.lxr_layout.specs.declared.TheConstants.{STUCK}
+use Rattle.lxr_layout.specs.declared.TheConstants.{COUNT_BITS, STUCK}
+use Rattle.lxr_tables.specs.declared.counts.TheConstants.{COUNTS_IN_WORD}
 use Rattle.lxr_tables.specs.Counts.{lowered_count}
 use Rattle.lxr_tables.specs.Entries.{all_but, entries, table}
 use Rattle.lxr_tables.proofs.EntryLemmas.{IsWritten, entries-written, entry_at, length-entries}
@@ -97,14 +98,16 @@ low_entry : (b n k w : ℕ) → 64 ≡ b * n → k < n → w % 2 ^ 64 / 2 ^ (b *
 low_entry b n k w whole h = sym (entry_at b n (w % 2 ^ 64) k h) ∙ ap (λ x. slice_index x k) (entries-low b n 64 w whole) ∙ entry_at b n w k h
 
 -- a count that is neither 0 nor stuck is lowered by its unit
-pub lowered_in : (w k c : ℕ) → k < 32 → c ≤ STUCK → w / 2 ^ (2 * k) % 4 ≡ c → c ≢ 0 → c ≢ STUCK → IsSetIn 2 32 w ((w + (2 ^ 64 - 2 ^ (2 * k))) % 2 ^ 64) k (c - 1)
+pub lowered_in : (w k c : ℕ) → k < COUNTS_IN_WORD → c ≤ STUCK → w / 2 ^ (COUNT_BITS * k) % 2 ^ COUNT_BITS ≡ c → c ≢ 0 → c ≢ STUCK
+    → IsSetIn COUNT_BITS COUNTS_IN_WORD w ((w + (2 ^ 64 - 2 ^ (COUNT_BITS * k))) % 2 ^ 64) k (c - 1)
 lowered_in w k c h most told some free =
-    let is : c ≡ w % 2 ^ 64 / 2 ^ (2 * k) % 4 = sym (low_entry 2 32 k w refl h ∙ told) in
+    let s : ℕ = COUNT_BITS * k in
+    let is : c ≡ w % 2 ^ 64 / 2 ^ s % 2 ^ COUNT_BITS = sym (low_entry COUNT_BITS COUNTS_IN_WORD k w refl h ∙ told) in
     let one = falls_by_one c free in
-    let unit : 1 * 2 ^ (2 * k) % 2 ^ 64 ≡ 2 ^ (2 * k) = one_shl (2 * k) 64 (omega arith) in
-    let there : 2 ^ (2 * k) ≤ w % 2 ^ 64 = subst (λ x. x ≤ w % 2 ^ 64) unit (lower_fits (w % 2 ^ 64) (2 * k) c 1 (omega arith) is some one.0) in
-    low_set 2 32 w ((w + (2 ^ 64 - 2 ^ (2 * k))) % 2 ^ 64) k (c - 1) refl h (omega arith)
-    (subst (λ x. IsWritten 2 (w % 2 ^ 64) x k (c - 1)) (sym (wrapped w (2 ^ (2 * k)) there))
-    (subst (λ x. IsWritten 2 (w % 2 ^ 64) (w % 2 ^ 64 - 2 ^ (2 * k)) k x) one.1
-    (subst (λ x. IsWritten 2 (w % 2 ^ 64) (w % 2 ^ 64 - x) k (lowered_count c)) unit
-    (lower_written (w % 2 ^ 64) k (2 * k) c 1 refl h is some one.0))))
+    let unit : 1 * 2 ^ s % 2 ^ 64 ≡ 2 ^ s = one_shl s 64 (omega arith) in
+    let there : 2 ^ s ≤ w % 2 ^ 64 = subst (λ x. x ≤ w % 2 ^ 64) unit (lower_fits (w % 2 ^ 64) s c 1 (omega arith) is some one.0) in
+    low_set COUNT_BITS COUNTS_IN_WORD w ((w + (2 ^ 64 - 2 ^ s)) % 2 ^ 64) k (c - 1) refl h (omega arith)
+    (subst (λ x. IsWritten COUNT_BITS (w % 2 ^ 64) x k (c - 1)) (sym (wrapped w (2 ^ s) there))
+    (subst (λ x. IsWritten COUNT_BITS (w % 2 ^ 64) (w % 2 ^ 64 - 2 ^ s) k x) one.1
+    (subst (λ x. IsWritten COUNT_BITS (w % 2 ^ 64) (w % 2 ^ 64 - x) k (lowered_count c)) unit
+    (lower_written (w % 2 ^ 64) k s c 1 refl h is some one.0))))

@@ -14,7 +14,7 @@ use Rattle.lxr_actor.specs.declared.Kindred.TheVariants as kind
 use Rattle.lxr_core_access.specs.declared.TableEntry.{TableEntry}
 use Rattle.lxr_core_access.specs.declared.TableEntry.TheVariants.{Heap, Count, Start, Mark, Gray, Done, Unlogged, Reuse, Out, State, Run, Free, Decrement, Remembered, Cursor}
 use Rattle.lxr_core_access.specs.declared.Access.{Access}
-use Rattle.lxr_core_access.specs.declared.Access.TheVariants.{Look, PutHeap, ClearUnlogged, SetMark, SetGray, SetDone, LowerCount, Draw, PutCursor, PutRemembered}
+use Rattle.lxr_core_access.specs.declared.Access.TheVariants.{Look, PutHeap, SwapHeap, AddHeap, ClearUnlogged, SetMark, SetGray, SetDone, LowerCount, Draw, PutCursor, PutRemembered}
 
 -- the regions of a space of these limits
 pub record AreRegions (l : Limits) (r : Regions) : Type 0 where
@@ -92,6 +92,8 @@ Tells t (Cursor number) word = word ≡ t.cursors number
 abbrev pub table_entry_of : Access → TableEntry
 table_entry_of (Look table_entry) = table_entry
 table_entry_of (PutHeap at value) = Heap at
+table_entry_of (SwapHeap at value) = Heap at
+table_entry_of (AddHeap at value) = Heap at
 table_entry_of (ClearUnlogged at) = Unlogged at
 table_entry_of (SetMark granule) = Mark granule
 table_entry_of (SetGray granule) = Gray granule
@@ -105,6 +107,8 @@ table_entry_of (PutRemembered at word) = Remembered at
 abbrev pub kind_of : Access → Kindred
 kind_of (Look table_entry) = kind.Load
 kind_of (PutHeap at value) = kind.Store
+kind_of (SwapHeap at value) = kind.Swap
+kind_of (AddHeap at value) = kind.Add
 kind_of (ClearUnlogged at) = kind.And
 kind_of (SetMark granule) = kind.Or
 kind_of (SetGray granule) = kind.Or
@@ -117,6 +121,8 @@ kind_of (PutRemembered at word) = kind.Store
 abbrev pub operand_of : Access → ℕ
 operand_of (Look table_entry) = 0
 operand_of (PutHeap at value) = value
+operand_of (SwapHeap at value) = value
+operand_of (AddHeap at value) = value
 operand_of (ClearUnlogged at) = all_but (at % 64)
 operand_of (SetMark granule) = 2 ^ (granule % 64)
 operand_of (SetGray granule) = 2 ^ (granule % 64)
@@ -135,6 +141,8 @@ action_of r d = record { kind = kind_of d; word = table_entry_word r (table_entr
 abbrev pub MayChange : Tables → Access → Type 0
 MayChange t (Look table_entry) = Unit {0}
 MayChange t (PutHeap at value) = Unit {0}
+MayChange t (SwapHeap at value) = Unit {0}
+MayChange t (AddHeap at value) = Unit {0}
 MayChange t (ClearUnlogged at) = Unit {0}
 MayChange t (SetMark granule) = Unit {0}
 MayChange t (SetGray granule) = Unit {0}
@@ -153,6 +161,8 @@ pub record MayBeDone (l : Limits) (t : Tables) (d : Access) : Type 0 where
 abbrev pub done_to : Tables → Access → Tables
 done_to t (Look table_entry) = t
 done_to t (PutHeap at value) = record t { heap = changed t.heap at value }
+done_to t (SwapHeap at value) = record t { heap = changed t.heap at value }
+done_to t (AddHeap at value) = record t { heap = changed t.heap at ((t.heap at + value) % 2 ^ 64) }
 done_to t (ClearUnlogged at) = record t { unlogged = changed t.unlogged at false }
 done_to t (SetMark granule) = record t { marks = changed t.marks granule true }
 done_to t (SetGray granule) = record t { grays = changed t.grays granule true }

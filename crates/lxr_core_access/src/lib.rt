@@ -7,11 +7,14 @@
 #![tactic(auto)]
 
 ghost use Rattle.std.specs.Prelude.{◌≡◌, ◌*◌, ◌%◌, ◌^◌, ◌<◌};
+ghost use Rattle.lxr_layout.specs.declared.TheConstants.{COUNT_BITS};
+ghost use Rattle.lxr_tables.specs.declared.counts.TheConstants.{COUNTS_IN_WORD};
 ghost use Rattle.lxr_core_access.specs.Accesses.{action_of, table_entry_of, table_entry_word};
 ghost use Rattle.lxr_core_access.specs.Laws.{AccessesAreDone};
 
 use lxr_actor::{Action, Kindred};
-use lxr_layout::Regions;
+use lxr_layout::{COUNT_BITS, Regions};
+use lxr_tables::COUNTS_IN_WORD;
 
 /// An entry of a table, by its index there.
 #[derive(Clone, Copy, Debug, PartialEq, Eq)]
@@ -28,7 +31,7 @@ pub enum TableEntry {
     Gray(u32),
     /// Whether the dead object at a granule is claimed for handling.
     Done(u32),
-    /// Whether the reference at a heap word hasn't been stored to since the last pause.
+    /// Whether the reference at a heap word hasn't been written since the last pause.
     Unlogged(u32),
     /// How often a line was handed out.
     Reuse(u32),
@@ -57,7 +60,7 @@ impl TableEntry {
     {
         match self {
             TableEntry::Heap(at) => regions.heap + at,
-            TableEntry::Count(granule) => regions.counts + granule / 32,
+            TableEntry::Count(granule) => regions.counts + granule / COUNTS_IN_WORD as u32,
             TableEntry::Start(granule) => regions.starts + granule / 64,
             TableEntry::Mark(granule) => regions.marks + granule / 64,
             TableEntry::Gray(granule) => regions.grays + granule / 64,
@@ -82,7 +85,11 @@ pub enum Access {
     Look(TableEntry),
     /// Writes a word of the heap.
     PutHeap { at: u32, value: u64 },
-    /// The next store to the heap word isn't logged.
+    /// Writes a word of the heap, and finds what it had.
+    SwapHeap { at: u32, value: u64 },
+    /// Adds to a word of the heap, modulo 2^64, and finds what it had.
+    AddHeap { at: u32, value: u64 },
+    /// The next write of the heap word isn't logged.
     ClearUnlogged { at: u32 },
     /// Marks the object at the granule.
     SetMark { granule: u32 },
@@ -109,6 +116,8 @@ impl Access {
         match self {
             Access::Look(table_entry) => table_entry,
             Access::PutHeap { at, value: _ } => TableEntry::Heap(at),
+            Access::SwapHeap { at, value: _ } => TableEntry::Heap(at),
+            Access::AddHeap { at, value: _ } => TableEntry::Heap(at),
             Access::ClearUnlogged { at } => TableEntry::Unlogged(at),
             Access::SetMark { granule } => TableEntry::Mark(granule),
             Access::SetGray { granule } => TableEntry::Gray(granule),
@@ -129,6 +138,8 @@ impl Access {
         let (kind, operand) = match self {
             Access::Look(_) => (Kindred::Load, 0),
             Access::PutHeap { at: _, value } => (Kindred::Store, value),
+            Access::SwapHeap { at: _, value } => (Kindred::Swap, value),
+            Access::AddHeap { at: _, value } => (Kindred::Add, value),
             Access::ClearUnlogged { at } => (Kindred::And, !bit_of(at)),
             Access::SetMark { granule } => (Kindred::Or, bit_of(granule)),
             Access::SetGray { granule } => (Kindred::Or, bit_of(granule)),
@@ -158,9 +169,9 @@ fn bit_of(index: u32) -> u64
 /// One unit of the count of a granule in its word.
 #[inline(always)]
 fn unit_of(granule: u32) -> u64
-    ensures { result ≡ 2 ^ (2 * (granule % 32)) }
+    ensures { result ≡ 2 ^ (COUNT_BITS * (granule % COUNTS_IN_WORD)) }
 {
-    1_u64 << (2 * (granule % 32))
+    1_u64 << (COUNT_BITS * (granule % COUNTS_IN_WORD as u32))
 }
 
 /// The action of an access does to the words what the access does to the tables, and finds in its word what the table

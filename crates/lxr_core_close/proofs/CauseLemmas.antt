@@ -5,7 +5,7 @@ use Rattle.std.proofs.lemmas.Option.{get_or_from_slice_get, slice_get-map}
 use Rattle.lxr_layout.specs.Spaces.{most_chosen}
 use Rattle.lxr_graph.specs.declared.Op.TheVariants as op
 use Rattle.lxr_graph.specs.History.{calls_of}
-use Rattle.lxr_model.specs.Belongs.{IsCauseOf, calls_since_pause, is_new, is_store, next_operation}
+use Rattle.lxr_model.specs.Belongs.{IsCauseOf, calls_since_pause, is_new, next_operation, writes_reference}
 use Rattle.lxr_model.specs.Moments.{moment}
 use Rattle.lxr_model.specs.Terms.{Terms}
 use Rattle.lxr_layout.specs.Spaces.{most_chosen}
@@ -52,7 +52,7 @@ cause_of b s terms i v taken is whole through closing are shown (inr (inr (inr e
     let log = are.log in
     let at : moment terms.threads s.history ≡ moment_of b s = ap (λ z. moment z s.history) are.threads in
     inr (inr (inr (
-      ap is_store (next ∙ entry.0.3),
+      ap writes_reference next ∙ entry.0,
       subst (λ m. terms.log ≤ length m.written) (sym at) (omega (arith, few, room, full, log)),
     )))
 

@@ -63,7 +63,7 @@ DrawnWasFree = (b : Beginning) (s : EpochState) (space : Space) (line : ℕ) →
 abbrev pub DrawnMayBeHandedOut : Type 0
 DrawnMayBeHandedOut = (b : Beginning) (s : EpochState) (now : Space) → IsEpoch b s → HasCollected b s now → MayHandOut b.space now
 
--- Once it is, the epoch is closed, where bits and logs are those of the references that were stored to, counts those of a
+-- Once it is, the epoch is closed, where bits and logs are those of the references that were written, counts those of a
 -- safepoint, and the trace that runs is covered.
 abbrev pub ClosingReachesSafepoint : Type 0
 ClosingReachesSafepoint = (b : Beginning) (s : EpochState) (now after : Space) → IsEpoch b s → HasClosingLogs b s → HasClosingCounts b s → HasClosingTrace b s

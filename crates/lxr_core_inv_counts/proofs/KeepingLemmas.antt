@@ -45,8 +45,10 @@ quiet b s u is counts dones decs cursor number =
 -- each event of a mutator leaves what counts are made of
 event_counted : (b : Beginning) (s : EpochState) (i : ℕ) (v : ThreadState) (e : Event) → AreCountedIn b s → AreCountedIn b (happen b s i v e)
 event_counted b s i v (event.PutsValue o place refs index value) is = quiet b s _ is refl refl refl refl refl
+event_counted b s i v (event.AddsValue o place refs index value) is = quiet b s _ is refl refl refl refl refl
 event_counted b s i v (event.ClearsFirst e n) is = quiet b s _ is refl refl refl refl refl
 event_counted b s i v (event.StoresReference o place index value) is = quiet b s _ is refl refl refl refl refl
+event_counted b s i v (event.SwapsReference o dest place index value) is = quiet b s _ is refl refl refl refl refl
 event_counted b s i v event.DrawsRun is = quiet b s _ is refl refl refl refl refl
 event_counted b s i v event.DrawsBlock is = quiet b s _ is refl refl refl refl refl
 event_counted b s i v (event.Wipes place shape wiped) is = quiet b s _ is refl refl refl refl refl

@@ -8,7 +8,7 @@ use Rattle.lxr_graph.specs.declared.Op.TheVariants as op
 use Rattle.lxr_graph.specs.declared.Reply.{Reply}
 use Rattle.lxr_graph.specs.declared.Reply.TheVariants as reply
 use Rattle.lxr_graph.specs.State.{register_at, with_register}
-use Rattle.lxr_graph.specs.Step.{IsWellFormed, cleared}
+use Rattle.lxr_graph.specs.Step.{IsWellFormed, cleared, step}
 use Rattle.lxr_image.specs.Tables.{Tables}
 use Rattle.lxr_model.specs.Moments.{Moment}
 use Rattle.lxr_invariant.proofs.EntryLemmas.{equal_numbers}
@@ -18,7 +18,7 @@ use Rattle.lxr_core_invariant.proofs.HeldLemmas.{in_register}
 use Rattle.lxr_core_invariant.proofs.TellingLemmas.{same_by_place}
 use Rattle.lxr_core_invariant.proofs.ShowingLemmas.{op_formed}
 use Rattle.lxr_core_invariant.proofs.ActingLemmas.{Acts, base_nil}
-use Rattle.lxr_core_inv_history.proofs.ReplyStepLemmas.{get_bad, load_bad, put_bad, store_bad}
+use Rattle.lxr_core_invariant.proofs.ReplyStepLemmas.{add_bad, get_bad, load_bad, put_bad, store_bad, swap_bad}
 use Rattle.lxr_core_inv_history.proofs.RegisterLemmas.{cleared_holds, set_holds}
 use Rattle.lxr_core_inv_history.proofs.AnswerLemmas.{Answers, answers_as, answers_by, answers_still, same_answer}
 
@@ -29,6 +29,13 @@ bad_tells v base r registers e = elim (nat_eq (held v base).0 0) as (λ b. nat_e
       | true ↦ λ q f. let same = same_answer reply.Bad r v.registers registers f in (equal_numbers (held v base).0 0 q, same.0, same.1)
       | false ↦ λ q f. absurd (cc)
     ] refl e
+
+-- so is an operation that the model answers so where its base register holds nothing
+bad_answers : (t : Tables) (blocks : ℕ) (at : Name → ℕ) (m : Moment) (v : ThreadState) (o : Op) (r : Reply) (base : ℕ) (registers : List Place) → Acts t blocks at m v → base < 16 → bad_at v base ≡ Some (r, registers)
+    → (register_at m.state v.thread base ≡ None → step m.state v.thread o ≡ (m.state, reply.Bad)) → Answers at m v o r registers
+bad_answers t blocks at m v o r base registers known small e bad_step =
+    let bad = bad_tells v base r registers e in
+    answers_as at m v o reply.Bad r v.registers registers bad.1 bad.2 (answers_still t blocks at m v o reply.Bad m.state known (bad_step (base_nil t blocks at m v base known small bad.0)) refl)
 
 -- a register that is set to what another holds
 set_answers : (t : Tables) (blocks : ℕ) (at : Name → ℕ) (m : Moment) (v : ThreadState) (dest source : ℕ) → Acts t blocks at m v → dest < 16 → source < 16
@@ -63,21 +70,17 @@ answers : (t : Tables) (blocks : ℕ) (at : Name → ℕ) (m : Moment) (v : Thre
     → Answers at m v o r registers
 answers t blocks at m v (op.New dest shape) r registers known formed e = absurd (cc)
 answers t blocks at m v (op.Load dest base i) r registers known formed e =
-    let bad = bad_tells v base r registers e in
-    answers_as at m v (op.Load dest base i) reply.Bad r v.registers registers bad.1 bad.2
-    (answers_still t blocks at m v (op.Load dest base i) reply.Bad m.state known (load_bad m.state v.thread dest base i (base_nil t blocks at m v base known formed.1 bad.0)) refl)
+    bad_answers t blocks at m v (op.Load dest base i) r base registers known formed.1 e (load_bad m.state v.thread dest base i)
 answers t blocks at m v (op.Store base i source) r registers known formed e =
-    let bad = bad_tells v base r registers e in
-    answers_as at m v (op.Store base i source) reply.Bad r v.registers registers bad.1 bad.2
-    (answers_still t blocks at m v (op.Store base i source) reply.Bad m.state known (store_bad m.state v.thread base i source (base_nil t blocks at m v base known formed.0 bad.0)) refl)
+    bad_answers t blocks at m v (op.Store base i source) r base registers known formed.0 e (store_bad m.state v.thread base i source)
 answers t blocks at m v (op.Put base i value) r registers known formed e =
-    let bad = bad_tells v base r registers e in
-    answers_as at m v (op.Put base i value) reply.Bad r v.registers registers bad.1 bad.2
-    (answers_still t blocks at m v (op.Put base i value) reply.Bad m.state known (put_bad m.state v.thread base i value (base_nil t blocks at m v base known formed bad.0)) refl)
+    bad_answers t blocks at m v (op.Put base i value) r base registers known formed e (put_bad m.state v.thread base i value)
 answers t blocks at m v (op.Get base i) r registers known formed e =
-    let bad = bad_tells v base r registers e in
-    answers_as at m v (op.Get base i) reply.Bad r v.registers registers bad.1 bad.2
-    (answers_still t blocks at m v (op.Get base i) reply.Bad m.state known (get_bad m.state v.thread base i (base_nil t blocks at m v base known formed bad.0)) refl)
+    bad_answers t blocks at m v (op.Get base i) r base registers known formed e (get_bad m.state v.thread base i)
+answers t blocks at m v (op.Swap dest base i source) r registers known formed e =
+    bad_answers t blocks at m v (op.Swap dest base i source) r base registers known formed.1 e (swap_bad m.state v.thread dest base i source)
+answers t blocks at m v (op.Add base i value) r registers known formed e =
+    bad_answers t blocks at m v (op.Add base i value) r base registers known formed e (add_bad m.state v.thread base i value)
 answers t blocks at m v (op.Move dest source) r registers known formed e =
     let same = same_answer reply.Moved r (slice_set v.registers dest (held v source)) registers e in
     answers_as at m v (op.Move dest source) reply.Moved r (slice_set v.registers dest (held v source)) registers same.0 same.1 (set_answers t blocks at m v dest source known formed.0 formed.1)

@@ -88,6 +88,22 @@ busy_resting b s v has is unasked =
 some_same : (a b : Op) → Some a ≡ Some b → a ≡ b
 some_same a b e = cc
 
+-- the end alone ends
+pub ends_by : (o : Op) → is_end o ≡ true → o ≡ op.End
+ends_by op.End e = refl
+ends_by (op.New dest shape) e = absurd (cc)
+ends_by (op.Load dest base index) e = absurd (cc)
+ends_by (op.Store base index source) e = absurd (cc)
+ends_by (op.Put base index value) e = absurd (cc)
+ends_by (op.Get base index) e = absurd (cc)
+ends_by (op.Swap dest base index source) e = absurd (cc)
+ends_by (op.Add base index value) e = absurd (cc)
+ends_by (op.Move dest source) e = absurd (cc)
+ends_by (op.Nil dest) e = absurd (cc)
+ends_by (op.Same left right) e = absurd (cc)
+ends_by op.Pause e = absurd (cc)
+ends_by op.Collect e = absurd (cc)
+
 -- the operation of a thread that is its end stands behind all others
 pub end_is_last : (os : List Op) (k : ℕ) → All (λ o. o ≢ op.End) os → slice_get (all_of os) k ≡ Some op.End → k ≡ length os
 end_is_last [] zero endless e = refl

@@ -1,6 +1,6 @@
 -- How many ends stand in a history: the sum over threads, each of which has at most one.
 use Rattle.std.proofs.Common.{◌≡◌, ◌≢◌, ℕ, zero, suc, ◌+◌, ◌-◌, ◌<◌, ◌≤◌, refl, sym, ap, subst, ◌∙◌, inl, inr, ◌⊎◌, arith, List, [], ◌∷◌, ◌++◌, length, take}
-use Rattle.std.specs.Prelude.{Some, slice_get, All, if◌then◌else◌}
+use Rattle.std.specs.Prelude.{Option, Some, None, IsTrue, true, false, slice_get, All, if◌then◌else◌}
 use Rattle.std.proofs.lemmas.List.Elements.{All-head, All-tail}
 use Rattle.std.proofs.lemmas.Option.{slice_get_within}
 use Rattle.lxr_graph.specs.declared.Op.{Op}
@@ -8,16 +8,17 @@ use Rattle.lxr_graph.specs.declared.Op.TheVariants as op
 use Rattle.lxr_graph.specs.declared.Reply.{Reply}
 use Rattle.lxr_graph.specs.History.{Call, Item, Pause, calls_of}
 use Rattle.lxr_invariant.proofs.EntryLemmas.{same_number, unlike_number}
+use Rattle.lxr_model.specs.Belongs.{writes_reference}
 use Rattle.lxr_model.specs.Kinds.{ends}
 use Rattle.lxr_model.specs.Legal.{IsLegalSoFar}
 use Rattle.lxr_model.specs.Terms.{Terms}
-use Rattle.lxr_core_invariant.specs.ThreadStates.{Reason, ThreadState, all_of, is_end, Through}
+use Rattle.lxr_core_invariant.specs.ThreadStates.{Reason, ThreadState, all_of, is_end, op_now, Through}
 use Rattle.lxr_core_invariant.specs.ThreadStates as why
 use Rattle.lxr_core_invariant.specs.EpochStates.{Beginning, Extends, EpochState, called, limits_of, same}
 use Rattle.lxr_core_invariant.specs.Called.{IsWithinTurn}
 use Rattle.lxr_core_invariant.specs.Epoch.{IsEpoch}
 use Rattle.lxr_core_invariant.specs.Through.{EndsAreCounted}
-use Rattle.lxr_core_inv_history.proofs.BusyLemmas.{others_before_end}
+use Rattle.lxr_core_inv_history.proofs.BusyLemmas.{ends_by, others_before_end}
 use Rattle.lxr_core_inv_history.proofs.ThroughLemmas.{through_calls}
 
 -- ---- sums over numbers
@@ -119,6 +120,8 @@ no_end (op.Load dest base index) other = refl
 no_end (op.Store base index source) other = refl
 no_end (op.Put base index value) other = refl
 no_end (op.Get base index) other = refl
+no_end (op.Swap dest base index source) other = refl
+no_end (op.Add base index value) other = refl
 no_end (op.Move dest source) other = refl
 no_end (op.Nil dest) other = refl
 no_end (op.Same left right) other = refl
@@ -190,6 +193,8 @@ ends_call t (op.Load dest base index) r h = omega arith
 ends_call t (op.Store base index source) r h = omega arith
 ends_call t (op.Put base index value) r h = omega arith
 ends_call t (op.Get base index) r h = omega arith
+ends_call t (op.Swap dest base index source) r h = omega arith
+ends_call t (op.Add base index value) r h = omega arith
 ends_call t (op.Move dest source) r h = omega arith
 ends_call t (op.Nil dest) r h = omega arith
 ends_call t (op.Same left right) r h = omega arith
@@ -217,13 +222,24 @@ ends_are_sum threads (Call t o r ∷ h) of =
 
 -- ---- who has ended
 
+-- no operation that writes a reference is the end
+no_writer_ends : (o : Op) → IsTrue (writes_reference (Some o)) → is_end o ≡ false
+no_writer_ends o writes = elim (is_end o) as (λ c. is_end o ≡ c → c ≡ false) [
+  | true ↦ λ q. let no : IsTrue (writes_reference (Some op.End)) = subst (λ z. IsTrue (writes_reference (Some z))) (ends_by o q) writes in absurd (cc)
+  | false ↦ λ q. refl
+] refl
+
+-- so who writes one has its end to come
+writer_before_end : (v : ThreadState) (now : Option Op) → op_now v ≡ now → IsTrue (writes_reference now) → length v.replies < length v.operations
+writer_before_end v None is writes = absurd (cc)
+writer_before_end v (Some o) is writes = others_before_end v.operations (length v.replies) o is (no_writer_ends o writes)
+
 -- one who is through has done its end, or has it to come
 ended_or_not : (s : EpochState) (v : ThreadState) (reason : Reason) → IsWithinTurn s v (Through reason)
     → ((reason ≡ why.Ended) × (length v.replies ≡ length v.operations + 1)) ⊎ (length v.replies ≤ length v.operations)
 ended_or_not s v why.NoRun on = let k = others_before_end v.operations (length v.replies) (op.New on.2.0.1.0 on.2.0.0) on.2.0.1.1 refl in inr (omega (arith, k))
 ended_or_not s v why.LogFull on =
-    let store = on.2.0 in
-    let k = others_before_end v.operations (length v.replies) (op.Store store.0 store.1 store.2) store.3 refl in inr (omega (arith, k))
+    let k = writer_before_end v (op_now v) refl on.2.0 in inr (omega (arith, k))
 ended_or_not s v why.Asked on = inr on.2.1
 ended_or_not s v why.Turns on = inr on.2.1
 ended_or_not s v why.Ended on = inl (refl, on.2)

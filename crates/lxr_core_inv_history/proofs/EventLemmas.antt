@@ -15,7 +15,7 @@ use Rattle.lxr_graph.specs.declared.Reply.TheVariants as reply
 use Rattle.lxr_graph.specs.History.{Call, calls_of, replies_of}
 use Rattle.lxr_graph.specs.Names.{has, same_name}
 use Rattle.lxr_graph.specs.State.{Object, State, next_name, object_at, refs_of, register_at}
-use Rattle.lxr_graph.specs.Step.{IsReply, load_from, loaded}
+use Rattle.lxr_graph.specs.Step.{IsReply, load_from, loaded, swap_in, swapped}
 use Rattle.lxr_graph.proofs.NameSets.{not_both, same_names}
 use Rattle.lxr_graph.proofs.RowLemmas.{next_none}
 use Rattle.lxr_image.specs.Image.{IsImage, place_word}
@@ -33,7 +33,7 @@ use Rattle.lxr_core_invariant.specs.ThreadStates.{Plain, AtReference, AtValue, C
 use Rattle.lxr_core_invariant.specs.ThreadStates.{Rests, Works, Names, Through}
 use Rattle.lxr_core_invariant.specs.ThreadStates as why
 use Rattle.lxr_core_invariant.specs.EpochStates.{Beginning, EpochState, limits_of, moment_of}
-use Rattle.lxr_core_invariant.specs.Events.{Current, Does, Event, TellsObject, at_once, base_of, done_with, making, source_for, span_from, value_word}
+use Rattle.lxr_core_invariant.specs.Events.{Current, Does, Event, TellsObject, at_once, base_of, done_with, found_reply, making, source_for, span_from, takes_reference, value_word}
 use Rattle.lxr_core_invariant.specs.Events as event
 use Rattle.lxr_core_invariant.specs.Happening.{May, MayBegin, asked_by, entry_with, happen, with_block, with_call, with_run}
 use Rattle.lxr_core_invariant.specs.Called.{AreReplies, IsWithinTurn, HasCalled, HasReason, IsToTell, IsWant, SetsPauseWord, uncounted, waiting_in}
@@ -165,6 +165,8 @@ at_once_asks v (op.Load dest base index) p e = refl
 at_once_asks v (op.Store base index source) p e = refl
 at_once_asks v (op.Put base index value) p e = refl
 at_once_asks v (op.Get base index) p e = refl
+at_once_asks v (op.Swap dest base index source) p e = refl
+at_once_asks v (op.Add base index value) p e = refl
 at_once_asks v (op.Move dest source) p e = refl
 at_once_asks v (op.Nil dest) p e = refl
 at_once_asks v (op.Same left right) p e = refl
@@ -179,49 +181,82 @@ based_asks (op.Load dest base index) p e = refl
 based_asks (op.Store base index source) p e = refl
 based_asks (op.Put base index value) p e = refl
 based_asks (op.Get base index) p e = refl
+based_asks (op.Swap dest base index source) p e = refl
+based_asks (op.Add base index value) p e = refl
 based_asks (op.Move dest source) p e = refl
 based_asks (op.Nil dest) p e = refl
 based_asks (op.Same left right) p e = refl
 based_asks op.End p e = refl
 
--- ---- a load
+-- ---- a load or a swap
 
--- what a load loads is a member
-loaded_by : (m : Moment) (t dest index : ℕ) (v found : Option Name) → FollowsPause m → IsHeld m found → (load_from m.state t dest index found).1 ≡ reply.Loaded v → IsHeld m v
-loaded_by m t dest index v None follows member e = absurd (cc)
-loaded_by m t dest index v (Some u) follows member e = of_object (object_at m.state.graph u) refl e
+-- what is found at an index of what a base register holds
+abbrev found_at : State → ℕ → Option Name → Option (Option Name)
+found_at s index None = None
+found_at s index (Some u) = slice_get (refs_of (object_at s.graph u)) index
+
+-- it is nil or a member
+found_held : (m : Moment) (index : ℕ) (v base : Option Name) → FollowsPause m → IsHeld m base → found_at m.state index base ≡ Some v → IsHeld m v
+found_held m index v None follows member e = absurd (cc)
+found_held m index v (Some u) follows member e = of_object (object_at m.state.graph u) refl e
   where
-    of_reference : (o : Object) (r : Option (Option Name)) → object_at m.state.graph u ≡ Some o → slice_get o.refs index ≡ r → (loaded m.state t dest r).1 ≡ reply.Loaded v → IsHeld m v
-    of_reference o None there read e = absurd (cc)
-    of_reference o (Some w) there read e = let same : w ≡ v = cc in subst (IsHeld m) same (reference_held m u o index w follows member there read)
-
-    of_object : (o : Option Object) → object_at m.state.graph u ≡ o → (loaded m.state t dest (slice_get (refs_of o) index)).1 ≡ reply.Loaded v → IsHeld m v
+    of_object : (o : Option Object) → object_at m.state.graph u ≡ o → slice_get (refs_of o) index ≡ Some v → IsHeld m v
     of_object None there e = absurd (cc)
-    of_object (Some o) there e = of_reference o (slice_get o.refs index) there refl e
+    of_object (Some o) there e = reference_held m u o index v follows member there e
 
--- so it is of the load itself
-loaded_member : (m : Moment) (t dest base index : ℕ) (v : Option Name) → FollowsPause m → IsReply m.state t (op.Load dest base index) (reply.Loaded v) → IsHeld m v
-loaded_member m t dest base index v follows e = loaded_by m t dest index v (register_at m.state t base) follows (in_register m t base follows) e
+-- a load replies by it
+load_finds : (s : State) (t dest index : ℕ) (v base : Option Name) → (load_from s t dest index base).1 ≡ reply.Loaded v → found_at s index base ≡ Some v
+load_finds s t dest index v None e = absurd (cc)
+load_finds s t dest index v (Some u) e = by (slice_get (refs_of (object_at s.graph u)) index) e
+  where
+    by : (found : Option (Option Name)) → (loaded s t dest found).1 ≡ reply.Loaded v → found ≡ Some v
+    by None e = absurd (cc)
+    by (Some w) e = cc
 
--- the thread state of a mutator whose load stands in the history and whose reply is yet to tell a name
+-- and so does a swap
+swap_finds : (s : State) (t dest index : ℕ) (held v base : Option Name) → (swap_in s t dest index held base).1 ≡ reply.Swapped v → found_at s index base ≡ Some v
+swap_finds s t dest index held v None e = absurd (cc)
+swap_finds s t dest index held v (Some u) e = by (slice_get (refs_of (object_at s.graph u)) index) e
+  where
+    by : (found : Option (Option Name)) → (swapped s t dest u index held found).1 ≡ reply.Swapped v → found ≡ Some v
+    by None e = absurd (cc)
+    by (Some w) e = cc
+
+-- what either takes is nil or a member
+taken_held : (m : Moment) (t : ℕ) (o : Op) (v : Option Name) → FollowsPause m → IsTrue (takes_reference o) → IsReply m.state t o (found_reply o v) → IsHeld m v
+taken_held m t (op.Load dest base index) v follows takes e =
+    let held : Option Name = register_at m.state t base in found_held m index v held follows (in_register m t base follows) (load_finds m.state t dest index v held e)
+taken_held m t (op.Swap dest base index source) v follows takes e =
+    let held : Option Name = register_at m.state t base in
+    found_held m index v held follows (in_register m t base follows) (swap_finds m.state t dest index (register_at m.state t source) v held e)
+taken_held m t other v follows takes e = absurd (cc)
+
+-- neither asks for a pause, nor is it the end
+taking_goes_on : (o : Op) → IsTrue (takes_reference o) → (asks_for_pause o ≡ false) × (is_end o ≡ false)
+taking_goes_on (op.Load dest base index) takes = (refl, refl)
+taking_goes_on (op.Swap dest base index source) takes = (refl, refl)
+taking_goes_on other takes = absurd (cc)
+
+-- the thread state of a mutator whose load or swap stands in the history and whose reply is yet to tell a name
 abbrev pub naming : ThreadState → ℕ → Place → ThreadState
 naming v dest p = record v { registers = slice_set v.registers dest p; stage = Names p.0 }
 
--- a load that found an object stands, and its reply waits
-loads_name : (b : Beginning) (s after : EpochState) (i : ℕ) (v : ThreadState) (dest base index : ℕ) (p : Place) (n : Name) → IsEpoch b s → slice_get s.thread_states i ≡ Some v → IsBusy b s v
-    → Does v (op.Load dest base index) → RepliesAs b s v (op.Load dest base index) (reply.Loaded (Some n)) → p.0 ≡ s.at n
-    → after.history ≡ with_call b s v (op.Load dest base index) → after.thread_states ≡ slice_set s.thread_states i (naming v dest p) → after.at ≡ s.at → after.tables.cursors ≡ s.tables.cursors → HasHistory b after
-loads_name b s after i v dest base index p n is shown busy does replies place history thread_states at cursors =
-    let o : Op = op.Load dest base index in
-    let r : Reply = reply.Loaded (Some n) in
+-- one that found an object stands, and its reply waits
+takes_name : (b : Beginning) (s after : EpochState) (i : ℕ) (v : ThreadState) (o : Op) (dest : ℕ) (p : Place) (n : Name) → IsEpoch b s → slice_get s.thread_states i ≡ Some v → IsBusy b s v
+    → Does v o → IsTrue (takes_reference o) → RepliesAs b s v o (found_reply o (Some n)) → p.0 ≡ s.at n
+    → after.history ≡ with_call b s v o → after.thread_states ≡ slice_set s.thread_states i (naming v dest p) → after.at ≡ s.at → after.tables.cursors ≡ s.tables.cursors → HasHistory b after
+takes_name b s after i v o dest p n is shown busy does takes replies place history thread_states at cursors =
+    let r : Reply = found_reply o (Some n) in
     let known = is.called.each i v shown in
     let here : after.history ≡ Call v.thread o r ∷ s.history = history ∙ ap (λ z. Call v.thread o z ∷ s.history) replies in
     let stood = has_stood b s after v o r busy does here in
-    let member : IsTrue (has (members (moment_of b s)) n) = loaded_member (moment_of b s) v.thread dest base index (Some n) is.lives replies in
+    let goes_on = taking_goes_on o takes in
+    let asked : has_asked v.thread after.history ≡ false = stood.asked ∙ goes_on.0 in
+    let member : IsTrue (has (members (moment_of b s)) n) = taken_held (moment_of b s) v.thread o (Some n) is.lives takes replies in
     let since = stood.since in
     let counted = busy.counted in
     let short = busy.short in
-    let beside = beside_nothing b s after o (λ m is_member. ap (λ f. f m) at) cursors refl in
+    let beside = beside_nothing b s after o (λ m is_member. ap (λ f. f m) at) cursors goes_on.0 in
     stands_history b s after i v (naming v dest p) o is shown busy does history thread_states refl beside (λ keeps. let stays = keeps.members n member in record {
       formed = known.formed;
       endless = known.endless;
@@ -229,29 +264,29 @@ loads_name b s after i v dest base index p n is shown busy does replies place hi
       every = known.every;
       before = known.before;
       calls = stood.calls;
-      replies = record { name = n; member = stays.0; stands = place ∙ sym stays.1; loads = (dest, base, index, does); reply = stood.replies };
+      replies = record { name = n; member = stays.0; stands = place ∙ sym stays.1; now = o; does = does; takes = takes; reply = stood.replies };
       counted = omega (arith, since, counted);
       short = omega (arith, since, short);
-      asked = λ k. absurd (let no : has_asked v.thread after.history ≡ false = stood.asked in cc);
-      within_turn = (busy.turn, others_before_end v.operations (length v.replies) o does refl, stood.asked);
+      asked = λ k. absurd (cc);
+      within_turn = (busy.turn, others_before_end v.operations (length v.replies) o does goes_on.1, asked);
     })
 
--- a load stands, by what it found
-loads : (b : Beginning) (s after : EpochState) (i : ℕ) (v : ThreadState) (dest base index : ℕ) (p : Place) (found : Option Name) (nil : Bool) → IsEpoch b s → slice_get s.thread_states i ≡ Some v → IsBusy b s v
-    → Does v (op.Load dest base index) → RepliesAs b s v (op.Load dest base index) (reply.Loaded found) → p.0 ≡ place_word s.at found → nat_eq p.0 0 ≡ nil
-    → after.history ≡ with_call b s v (op.Load dest base index)
-    → after.thread_states ≡ slice_set s.thread_states i (if nil then (done_with (record v { registers = slice_set v.registers dest p }) (op.Load dest base index) (reply.Loaded None)) else (naming v dest p))
+-- it stands, by what it found
+takes_found : (b : Beginning) (s after : EpochState) (i : ℕ) (v : ThreadState) (o : Op) (dest : ℕ) (p : Place) (found : Option Name) (nil : Bool) → IsEpoch b s → slice_get s.thread_states i ≡ Some v → IsBusy b s v
+    → Does v o → IsTrue (takes_reference o) → RepliesAs b s v o (found_reply o found) → p.0 ≡ place_word s.at found → nat_eq p.0 0 ≡ nil
+    → after.history ≡ with_call b s v o
+    → after.thread_states ≡ slice_set s.thread_states i (if nil then (done_with (record v { registers = slice_set v.registers dest p }) o (found_reply o None)) else (naming v dest p))
     → after.at ≡ s.at → after.tables.cursors ≡ s.tables.cursors → HasHistory b after
-loads b s after i v dest base index p None true is shown busy does replies place is_nil history thread_states at cursors =
-    done_history b s after i v (slice_set v.registers dest p) (op.Load dest base index) (reply.Loaded None) is shown busy does replies history thread_states
-    (beside_nothing b s after (op.Load dest base index) (λ m is_member. ap (λ f. f m) at) cursors refl)
-loads b s after i v dest base index p None false is shown busy does replies place is_nil history thread_states at cursors =
+takes_found b s after i v o dest p None true is shown busy does takes replies place is_nil history thread_states at cursors =
+    done_history b s after i v (slice_set v.registers dest p) o (found_reply o None) is shown busy does replies history thread_states
+    (beside_nothing b s after o (λ m is_member. ap (λ f. f m) at) cursors (taking_goes_on o takes).0)
+takes_found b s after i v o dest p None false is shown busy does takes replies place is_nil history thread_states at cursors =
     absurd (not_both (nat_eq p.0 0) (same_number p.0 0 place) is_nil)
-loads b s after i v dest base index p (Some n) true is shown busy does replies place is_nil history thread_states at cursors =
-    let member : IsTrue (has (members (moment_of b s)) n) = loaded_member (moment_of b s) v.thread dest base index (Some n) is.lives replies in
+takes_found b s after i v o dest p (Some n) true is shown busy does takes replies place is_nil history thread_states at cursors =
+    let member : IsTrue (has (members (moment_of b s)) n) = taken_held (moment_of b s) v.thread o (Some n) is.lives takes replies in
     absurd (placed_there s.tables (limits_of b).blocks s.at (moment_of b s).state.graph (members (moment_of b s)) n is.image.placed.image member (sym place ∙ equal_numbers p.0 0 is_nil))
-loads b s after i v dest base index p (Some n) false is shown busy does replies place is_nil history thread_states at cursors =
-    loads_name b s after i v dest base index p n is shown busy does replies place history thread_states at cursors
+takes_found b s after i v o dest p (Some n) false is shown busy does takes replies place is_nil history thread_states at cursors =
+    takes_name b s after i v o dest p n is shown busy does takes replies place history thread_states at cursors
 
 -- the reply tells the name
 tells : (b : Beginning) (s : EpochState) (i : ℕ) (v : ThreadState) (o : Op) (n : Name) (place : ℕ) (shape : Shape) → IsEpoch b s → slice_get s.thread_states i ≡ Some v → v.stage ≡ Names place → Does v o
@@ -264,25 +299,26 @@ tells b s i v o n place shape is shown stage does told =
     let there = is.image.placed.image.stands tell.name tell.member in
     let name : n ≡ tell.name =
     (told_is s.tables (limits_of b).blocks s.at (moment_of b s).state.graph (members (moment_of b s)) tell.name n there.0 shape place is.image.placed.image tell.member there.1 tell.stands told).0 in
-    let loads_o : o ≡ op.Load tell.loads.0 tell.loads.1 tell.loads.2 = let e : Some o ≡ Some (op.Load tell.loads.0 tell.loads.1 tell.loads.2) = sym does ∙ tell.loads.3 in cc in
-    let no_end : is_end o ≡ false = ap is_end loads_o in
+    let now : tell.now ≡ o = let e : Some tell.now ≡ Some o = sym tell.does ∙ does in cc in
+    let no_end : is_end o ≡ false = (taking_goes_on o (subst (λ z. IsTrue (takes_reference z)) now tell.takes)).1 in
+    let reply_is : found_reply tell.now (Some tell.name) ≡ found_reply o (Some n) = ap (λ z. found_reply z (Some tell.name)) now ∙ ap (λ z. found_reply o (Some z)) (sym name) in
     let quiet = quiet_still s after refl refl refl in
-    quiet_history b s after i v (done_with v o (reply.Loaded (Some n))) is shown quiet refl refl (subst (λ z. SetsPauseWord s v z → IsTrue (has_asked v.thread s.history)) (sym stage) (λ k. k)) (λ set. inl set)
-    (λ same. told_called b s after v o n (is_end o) (nat_eq (v.since + 1) v.every) has
+    quiet_history b s after i v (done_with v o (found_reply o (Some n))) is shown quiet refl refl (subst (λ z. SetsPauseWord s v z → IsTrue (has_asked v.thread s.history)) (sym stage) (λ k. k)) (λ set. inl set)
+    (λ same. told_called b s after v (found_reply o (Some n)) (is_end o) (nat_eq (v.since + 1) v.every) has
     (subst (λ z. calls_of v.thread s.history ≡ take (length v.replies + waiting_in z) (all_of v.operations)) stage has.calls)
-    (tell.reply ∙ ap (λ z. v.replies ++ reply.Loaded (Some z) ∷ []) (sym name))
+    (tell.reply ∙ ap (λ z. v.replies ++ z ∷ []) reply_is)
     (subst (λ z. v.since + waiting_in z + calls_since_pause v.thread b.history ≤ calls_since_pause v.thread s.history) stage has.counted)
     (subst (λ z. calls_since_pause v.thread s.history ≤ v.since + waiting_in z + calls_since_pause v.thread b.history + uncounted z) stage has.short)
     on has.asked no_end refl)
   where
-    told_called : (b : Beginning) (s after : EpochState) (v : ThreadState) (o : Op) (n : Name) (ended last : Bool) → HasCalled b s v
-        → calls_of v.thread after.history ≡ take (length v.replies + 1) (all_of v.operations) → replies_of v.thread after.history ≡ v.replies ++ reply.Loaded (Some n) ∷ []
+    told_called : (b : Beginning) (s after : EpochState) (v : ThreadState) (r : Reply) (ended last : Bool) → HasCalled b s v
+        → calls_of v.thread after.history ≡ take (length v.replies + 1) (all_of v.operations) → replies_of v.thread after.history ≡ v.replies ++ r ∷ []
         → v.since + 1 + calls_since_pause v.thread b.history ≤ calls_since_pause v.thread after.history → calls_since_pause v.thread after.history ≤ v.since + 1 + calls_since_pause v.thread b.history + 0
         → (v.since < v.every) × (length v.replies < length v.operations) × (has_asked v.thread after.history ≡ false) → (IsTrue (has_asked v.thread after.history) → after.tables.cursors PAUSE_WORD ≡ 1) → ended ≡ false → nat_eq (v.since + 1) v.every ≡ last
-        → HasCalled b after (done_by v v.registers (reply.Loaded (Some n)) ended last)
-    told_called b s after v o n true last has calls replies counted short on asked ended is_last = absurd (cc)
-    told_called b s after v o n false true has calls replies counted short on asked ended is_last =
-        let longer : length (v.replies ++ reply.Loaded (Some n) ∷ []) ≡ length v.replies + 1 = length-append v.replies (reply.Loaded (Some n) ∷ []) in
+        → HasCalled b after (done_by v v.registers r ended last)
+    told_called b s after v r true last has calls replies counted short on asked ended is_last = absurd (cc)
+    told_called b s after v r false true has calls replies counted short on asked ended is_last =
+        let longer : length (v.replies ++ r ∷ []) ≡ length v.replies + 1 = length-append v.replies (r ∷ []) in
         let full = equal_numbers (v.since + 1) v.every is_last in
         record {
           formed = has.formed;
@@ -297,8 +333,8 @@ tells b s i v o n place shape is shown stage does told =
           asked = asked;
           within_turn = (omega (arith, on.0), omega (arith, longer, on.1), (full, omega (arith, longer, on.1)));
         }
-    told_called b s after v o n false false has calls replies counted short on asked ended is_last =
-        let longer : length (v.replies ++ reply.Loaded (Some n) ∷ []) ≡ length v.replies + 1 = length-append v.replies (reply.Loaded (Some n) ∷ []) in
+    told_called b s after v r false false has calls replies counted short on asked ended is_last =
+        let longer : length (v.replies ++ r ∷ []) ≡ length v.replies + 1 = length-append v.replies (r ∷ []) in
         let more : v.since + 1 ≢ v.every = λ e. not_both (nat_eq (v.since + 1) v.every) (same_number (v.since + 1) v.every e) is_last in
         record {
           formed = has.formed;
@@ -366,11 +402,9 @@ history_kept b s i v (event.FindsNone o) is shown may answers =
     (beside_nothing b s after o (λ n member. refl) refl (based_asks o (on.base, may.index) (ap base_of same ∙ on.named)))
 history_kept b s i v (event.LoadsReference o dest place index) is shown may answers =
     let busy = in_work b s i v (AtReference place index) is shown may.stage in
-    let base : ℕ = may.loads.0 in
     let p : Place = place_in (s.tables.heap (field_word place index)) in
-    subst (λ z. HasHistory b (happen b s i v (event.LoadsReference z dest place index))) (sym may.loads.1)
-    (loads b s (happen b s i v (event.LoadsReference (op.Load dest base index) dest place index)) i v dest base index p answers.loaded (nat_eq p.0 0) is shown busy
-    (may.does ∙ ap Some may.loads.1) (subst (λ z. RepliesAs b s v z (reply.Loaded answers.loaded)) may.loads.1 answers.replies) answers.place_is refl refl refl refl refl)
+    takes_found b s (happen b s i v (event.LoadsReference o dest place index)) i v o dest p answers.found (nat_eq p.0 0) is shown busy may.does (ap takes_reference may.loads.1) answers.replies answers.place_is
+    refl refl refl refl refl
 history_kept b s i v (event.TellsName o n) is shown may answers = tells b s i v o n may.place may.shape is shown may.stage may.does may.told
 history_kept b s i v (event.GetsValue o place refs index) is shown may answers =
     let busy = in_work b s i v (AtValue place refs index) is shown may.stage in
@@ -381,6 +415,11 @@ history_kept b s i v (event.PutsValue o place refs index value) is shown may ans
     let busy = in_work b s i v (AtValue place refs index) is shown may.stage in
     let after : EpochState = happen b s i v (event.PutsValue o place refs index value) in
     done_history b s after i v v.registers o reply.Put is shown busy may.does answers refl refl (beside_nothing b s after o (λ n member. refl) refl (ap asks_for_pause may.puts.1))
+history_kept b s i v (event.AddsValue o place refs index value) is shown may answers =
+    let busy = in_work b s i v (AtValue place refs index) is shown may.stage in
+    let after : EpochState = happen b s i v (event.AddsValue o place refs index value) in
+    done_history b s after i v v.registers o (reply.Added (s.tables.heap (value_word place refs index))) is shown busy may.does answers refl refl
+    (beside_nothing b s after o (λ n member. refl) refl (ap asks_for_pause may.adds.1))
 history_kept b s i v (event.SeesClear place index) is shown may answers =
     let busy = in_work b s i v (AtReference place index) is shown may.stage in
     still b s (happen b s i v (event.SeesClear place index)) i v v.log v.spans (Stores place index) is shown busy refl refl refl refl (busy.turn, busy.left, busy.unasked)
@@ -400,6 +439,11 @@ history_kept b s i v (event.StoresReference o place index value) is shown may an
     let busy = in_work b s i v (Stores place index) is shown may.stage in
     let after : EpochState = happen b s i v (event.StoresReference o place index value) in
     done_history b s after i v v.registers o reply.Stored is shown busy may.does answers refl refl (beside_nothing b s after o (λ n member. refl) refl (ap asks_for_pause may.stores))
+history_kept b s i v (event.SwapsReference o dest place index value) is shown may answers =
+    let busy = in_work b s i v (Stores place index) is shown may.stage in
+    let p : Place = place_in (s.tables.heap (field_word place index)) in
+    takes_found b s (happen b s i v (event.SwapsReference o dest place index value)) i v o dest p answers.found (nat_eq p.0 0) is shown busy may.does (ap takes_reference may.swaps) answers.replies answers.place_is
+    refl refl refl refl refl
 history_kept b s i v event.DrawsRun is shown may answers =
     let busy = in_work b s i v Plain is shown may.stage in
     works_history b s (happen b s i v event.DrawsRun) i v v.log v.spans (DrewRun (s.tables.cursors RUN_CURSOR)) is shown busy
@@ -460,6 +504,8 @@ history_kept b s i v (event.Asks o r) is shown may answers =
     asked_asks (op.Store base index source) r e = absurd (cc)
     asked_asks (op.Put base index value) r e = absurd (cc)
     asked_asks (op.Get base index) r e = absurd (cc)
+    asked_asks (op.Swap dest base index source) r e = absurd (cc)
+    asked_asks (op.Add base index value) r e = absurd (cc)
     asked_asks (op.Move dest source) r e = absurd (cc)
     asked_asks (op.Nil dest) r e = absurd (cc)
     asked_asks (op.Same left right) r e = absurd (cc)

@@ -34,7 +34,7 @@ reason_kept b s after v why.Ended keeps has = has
 replies_kept : (b : Beginning) (s after : EpochState) (v : ThreadState) (stage : Stage) → Keeps b s after → SaySame v.thread s.history after.history → AreReplies b s v stage → AreReplies b after v stage
 replies_kept b s after v (Names place) keeps same tells =
     let stays = keeps.members tells.name tells.member in
-    record { name = tells.name; member = stays.0; stands = tells.stands ∙ sym stays.1; loads = tells.loads; reply = same.replies ∙ tells.reply }
+    record { name = tells.name; member = stays.0; stands = tells.stands ∙ sym stays.1; now = tells.now; does = tells.does; takes = tells.takes; reply = same.replies ∙ tells.reply }
 replies_kept b s after v Rests keeps same replies = same.replies ∙ replies
 replies_kept b s after v (Works intent) keeps same replies = same.replies ∙ replies
 replies_kept b s after v (Through reason) keeps same replies = same.replies ∙ replies

@@ -15,7 +15,7 @@ use Rattle.lxr_image.specs.ImageLaws.{placed}
 use Rattle.lxr_invariant.specs.AbstractState.{members}
 use Rattle.lxr_core_invariant.specs.ThreadStates.{Names, ThreadState}
 use Rattle.lxr_core_invariant.specs.EpochStates.{Beginning, EpochState, limits_of, moment_of}
-use Rattle.lxr_core_invariant.specs.Events.{Does, done_with}
+use Rattle.lxr_core_invariant.specs.Events.{Does, done_with, found_reply}
 use Rattle.lxr_core_invariant.specs.Events as event
 use Rattle.lxr_core_invariant.specs.Happening.{at_stage, loaded_with}
 use Rattle.lxr_core_invariant.specs.Imaged.{HoldsRegisters}
@@ -26,8 +26,9 @@ use Rattle.lxr_core_invariant.proofs.ObjectLemmas.{state_after_step}
 use Rattle.lxr_core_invariant.proofs.ActingLemmas.{acts}
 use Rattle.lxr_core_inv_history.proofs.RegisterLemmas.{holds_by, step_other}
 use Rattle.lxr_core_inv_history.proofs.AnswerLemmas.{Answers}
+use Rattle.lxr_core_inv_history.proofs.ObjectLemmas.{Takes}
 use Rattle.lxr_core_inv_history.proofs.MakingLemmas.{holds_at, members_stay}
-use Rattle.lxr_core_inv_history.proofs.ReplyLemmas.{asks, done_at_once, found_none, gets_value, loads_reference, makes_object, puts_value, stores_reference}
+use Rattle.lxr_core_inv_history.proofs.ReplyLemmas.{adds_value, asks, done_at_once, found_none, gets_value, loads_reference, makes_object, puts_value, stores_reference, swaps_reference}
 
 -- where the history stays, so does what registers hold
 quiet : (b : Beginning) (s : EpochState) (i : ℕ) (v w : ThreadState) → IsEpoch b s → slice_get s.thread_states i ≡ Some v → w.registers ≡ v.registers → w.thread ≡ v.thread
@@ -69,15 +70,23 @@ stood b s i v w o r registers to is shown does stay answers same thread j u now 
       | inr q ↦ others_stay b s i v o to is shown does stay j u q.0 q.1
     ])
 
--- a load that has a name to tell has set its register already
+-- a load or a swap that has a name to tell has set its register already
 loaded_registers : (v : ThreadState) (o : Op) (dest : ℕ) (p : Place) → (loaded_with v o dest p).registers ≡ slice_set v.registers dest p
-loaded_registers v o dest p = elim (nat_eq p.0 0) as (λ b. (cond b (done_with (record v { registers = slice_set v.registers dest p }) o (reply.Loaded None))
+loaded_registers v o dest p = elim (nat_eq p.0 0) as (λ b. (cond b (done_with (record v { registers = slice_set v.registers dest p }) o (found_reply o None))
     (at_stage (record v { registers = slice_set v.registers dest p }) (Names p.0))).registers ≡ slice_set v.registers dest p) [ true ↦ refl | false ↦ refl ]
 
 -- and is of the same thread
 loaded_thread : (v : ThreadState) (o : Op) (dest : ℕ) (p : Place) → (loaded_with v o dest p).thread ≡ v.thread
-loaded_thread v o dest p = elim (nat_eq p.0 0) as (λ b. (cond b (done_with (record v { registers = slice_set v.registers dest p }) o (reply.Loaded None))
+loaded_thread v o dest p = elim (nat_eq p.0 0) as (λ b. (cond b (done_with (record v { registers = slice_set v.registers dest p }) o (found_reply o None))
     (at_stage (record v { registers = slice_set v.registers dest p }) (Names p.0))).thread ≡ v.thread) [ true ↦ refl | false ↦ refl ]
+
+-- what is taken into a register is what the model takes
+taken : (b : Beginning) (s : EpochState) (i : ℕ) (v : ThreadState) (o : Op) (dest place index : ℕ) → IsEpoch b s → slice_get s.thread_states i ≡ Some v → Does v o → Takes s.tables s.at (moment_of b s) v o dest place index
+    → (j : ℕ) (u : ThreadState) → slice_get (slice_set s.thread_states i (loaded_with v o dest (place_in (s.tables.heap (field_word place index))))) j ≡ Some u
+    → HoldsRegisters (state_after (moment_of b s).state v.thread o (step (moment_of b s).state v.thread o).1) s.at u
+taken b s i v o dest place index is shown does takes j u now =
+    let p : Place = place_in (s.tables.heap (field_word place index)) in
+    stood b s i v (loaded_with v o dest p) o (found_reply o takes.found) (slice_set v.registers dest p) s.at is shown does (λ n member. refl) takes.answers (loaded_registers v o dest p) (loaded_thread v o dest p) j u now
 
 -- every event leaves mutators with the registers of the model
 pub registers_are_kept : RegistersAreKept
@@ -93,14 +102,14 @@ registers_are_kept b s i v (event.FindsValue place refs index) is shown may j u 
 registers_are_kept b s i v (event.FindsNone o) is shown may j u now =
     stood b s i v (done_with v o reply.Range) o reply.Range v.registers s.at is shown may.reads.does (λ n member. refl) (found_none b s i v o is shown may) refl refl j u now
 registers_are_kept b s i v (event.LoadsReference o dest place index) is shown may j u now =
-    let p : Place = place_in (s.tables.heap (field_word place index)) in
-    let loads = loads_reference b s i v o dest place index is shown may in
-    stood b s i v (loaded_with v o dest p) o (reply.Loaded loads.loaded) (slice_set v.registers dest p) s.at is shown may.does (λ n member. refl) loads.answers (loaded_registers v o dest p) (loaded_thread v o dest p) j u now
+    taken b s i v o dest place index is shown may.does (loads_reference b s i v o dest place index is shown may) j u now
 registers_are_kept b s i v (event.TellsName o n) is shown may j u now = quiet b s i v _ is shown refl refl j u now
 registers_are_kept b s i v (event.GetsValue o place refs index) is shown may j u now =
     stood b s i v _ o _ v.registers s.at is shown may.does (λ n member. refl) (gets_value b s i v o place refs index is shown may) refl refl j u now
 registers_are_kept b s i v (event.PutsValue o place refs index value) is shown may j u now =
     stood b s i v (done_with v o reply.Put) o reply.Put v.registers s.at is shown may.does (λ n member. refl) (puts_value b s i v o place refs index value is shown may) refl refl j u now
+registers_are_kept b s i v (event.AddsValue o place refs index value) is shown may j u now =
+    stood b s i v _ o _ v.registers s.at is shown may.does (λ n member. refl) (adds_value b s i v o place refs index value is shown may) refl refl j u now
 registers_are_kept b s i v (event.SeesClear place index) is shown may j u now = quiet b s i v _ is shown refl refl j u now
 registers_are_kept b s i v (event.SeesFull place index) is shown may j u now = quiet b s i v _ is shown refl refl j u now
 registers_are_kept b s i v (event.LoadsOld place index) is shown may j u now = quiet b s i v _ is shown refl refl j u now
@@ -108,6 +117,8 @@ registers_are_kept b s i v (event.ClearsFirst e n) is shown may j u now = quiet 
 registers_are_kept b s i v (event.ClearsLate e) is shown may j u now = quiet b s i v _ is shown refl refl j u now
 registers_are_kept b s i v (event.StoresReference o place index value) is shown may j u now =
     stood b s i v (done_with v o reply.Stored) o reply.Stored v.registers s.at is shown may.does (λ n member. refl) (stores_reference b s i v o place index value is shown may) refl refl j u now
+registers_are_kept b s i v (event.SwapsReference o dest place index value) is shown may j u now =
+    taken b s i v o dest place index is shown may.does (swaps_reference b s i v o dest place index value is shown may) j u now
 registers_are_kept b s i v event.DrawsRun is shown may j u now = quiet b s i v _ is shown refl refl j u now
 registers_are_kept b s i v event.MissesRun is shown may j u now = quiet b s i v _ is shown refl refl j u now
 registers_are_kept b s i v (event.SeesRun number) is shown may j u now = quiet b s i v _ is shown refl refl j u now

@@ -7,7 +7,6 @@ pub mod ThroughLemmas
 pub mod EndLemmas
 pub mod ProgressLemmas
 pub mod LeftLemmas
-mod ReplyStepLemmas
 mod RegisterLemmas
 mod AnswerLemmas
 mod AtOnceLemmas

@@ -9,7 +9,7 @@ use Rattle.lxr_layout.specs.declared.Place.{Place}
 use Rattle.lxr_graph.specs.declared.Op.{Op}
 use Rattle.lxr_graph.specs.declared.Op.TheVariants as op
 use Rattle.lxr_graph.specs.State.{State, object_at, refs_of, values_of, register_at, register_index, with_register}
-use Rattle.lxr_graph.specs.Step.{IsWellFormed, cleared, get_from, load_from, loaded, put_at, put_to, step, store_to, stored}
+use Rattle.lxr_graph.specs.Step.{IsWellFormed, add_to, added, cleared, get_from, load_from, loaded, put_at, put_to, step, store_to, stored, swap_in, swapped}
 use Rattle.lxr_image.specs.Image.{place_word}
 use Rattle.lxr_core_invariant.specs.ThreadStates.{ThreadState, nil}
 use Rattle.lxr_core_invariant.specs.Imaged.{HoldsRegisters}
@@ -104,6 +104,16 @@ store_registers : (s : State) (i : ℕ) (v base : Option Name) → (store_to s i
 store_registers s i v None = refl
 store_registers s i v (Some n) = stored_registers s n i v (slice_get (refs_of (object_at s.graph n)) i)
 
+-- a swap sets a register of its own thread
+swapped_other : (s : State) (t u dest : ℕ) (n : Name) (i q : ℕ) (v : Option Name) (found : Option (Option Name)) → 1 ≤ t → 1 ≤ u → t ≢ u → dest < 16 → q < 16 → register_at (swapped s t dest n i v found).0 u q ≡ register_at s u q
+swapped_other s t u dest n i q v None ht hu ne hd hq = refl
+swapped_other s t u dest n i q v (Some old) ht hu ne hd hq = set_other s t u dest q old ht hu ne hd hq
+
+-- or none
+swap_other : (s : State) (t u dest i q : ℕ) (v base : Option Name) → 1 ≤ t → 1 ≤ u → t ≢ u → dest < 16 → q < 16 → register_at (swap_in s t dest i v base).0 u q ≡ register_at s u q
+swap_other s t u dest i q v None ht hu ne hd hq = refl
+swap_other s t u dest i q v (Some n) ht hu ne hd hq = swapped_other s t u dest n i q v (slice_get (refs_of (object_at s.graph n)) i) ht hu ne hd hq
+
 -- a put changes no register
 put_at_registers : (s : State) (n : Name) (i v : ℕ) (found : Option ℕ) → (put_at s n i v found).0.registers ≡ s.registers
 put_at_registers s n i v None = refl
@@ -113,6 +123,16 @@ put_at_registers s n i v (Some old) = refl
 put_registers : (s : State) (i v : ℕ) (base : Option Name) → (put_to s i v base).0.registers ≡ s.registers
 put_registers s i v None = refl
 put_registers s i v (Some n) = put_at_registers s n i v (slice_get (values_of (object_at s.graph n)) i)
+
+-- nor does an add
+added_registers : (s : State) (n : Name) (i v : ℕ) (found : Option ℕ) → (added s n i v found).0.registers ≡ s.registers
+added_registers s n i v None = refl
+added_registers s n i v (Some old) = refl
+
+-- whatever its base
+add_registers : (s : State) (i v : ℕ) (base : Option Name) → (add_to s i v base).0.registers ≡ s.registers
+add_registers s i v None = refl
+add_registers s i v (Some n) = added_registers s n i v (slice_get (values_of (object_at s.graph n)) i)
 
 -- nor does a get
 get_registers : (s : State) (i : ℕ) (base : Option Name) → (get_from s i base).0.registers ≡ s.registers
@@ -126,6 +146,8 @@ step_other s t u q rows (op.Load dest base i) formed ht hu ne row hq e = load_ot
 step_other s t u q rows (op.Store base i source) formed ht hu ne row hq e = ap (λ z. get_or z (register_index u q) None) (store_registers s i (register_at s t source) (register_at s t base))
 step_other s t u q rows (op.Put base i v) formed ht hu ne row hq e = ap (λ z. get_or z (register_index u q) None) (put_registers s i v (register_at s t base))
 step_other s t u q rows (op.Get base i) formed ht hu ne row hq e = ap (λ z. get_or z (register_index u q) None) (get_registers s i (register_at s t base))
+step_other s t u q rows (op.Swap dest base i source) formed ht hu ne row hq e = swap_other s t u dest i q (register_at s t source) (register_at s t base) ht hu ne formed.0 hq
+step_other s t u q rows (op.Add base i v) formed ht hu ne row hq e = ap (λ z. get_or z (register_index u q) None) (add_registers s i v (register_at s t base))
 step_other s t u q rows (op.Move dest source) formed ht hu ne row hq e = set_other s t u dest q (register_at s t source) ht hu ne formed.0 hq
 step_other s t u q rows (op.Nil dest) formed ht hu ne row hq e = set_other s t u dest q None ht hu ne formed hq
 step_other s t u q rows (op.Same left right) formed ht hu ne row hq e = refl

@@ -16,7 +16,7 @@ use Rattle.lxr_core_invariant.specs.ThreadStates.{AtReference, AtValue, Stage, S
 use Rattle.lxr_core_invariant.specs.EpochStates.{Beginning, EpochState, limits_of, moment_of}
 use Rattle.lxr_core_invariant.specs.Events.{Does, value_word}
 use Rattle.lxr_core_invariant.specs.Events as event
-use Rattle.lxr_core_invariant.specs.Happening.{MayAsk, MayDoAtOnce, MayFindNone, MayGet, MayLoad, MayMake, MayPut, MayStore, asked_by}
+use Rattle.lxr_core_invariant.specs.Happening.{MayAdd, MayAsk, MayDoAtOnce, MayFindNone, MayGet, MayLoad, MayMake, MayPut, MayStore, MaySwap, asked_by}
 use Rattle.lxr_core_invariant.specs.Imaged.{Knows}
 use Rattle.lxr_core_invariant.specs.Epoch.{IsEpoch}
 use Rattle.lxr_core_invariant.specs.Laws.{RepliesAreSteps}
@@ -24,7 +24,7 @@ use Rattle.lxr_core_invariant.proofs.ShowingLemmas.{op_formed}
 use Rattle.lxr_core_invariant.proofs.ActingLemmas.{Acts, acts}
 use Rattle.lxr_core_inv_history.proofs.AnswerLemmas.{Answers, answers_still}
 use Rattle.lxr_core_inv_history.proofs.AtOnceLemmas.{at_once_answers}
-use Rattle.lxr_core_inv_history.proofs.ObjectLemmas.{Loads, get_answers, load_answers, put_answers, range_answers, store_answers}
+use Rattle.lxr_core_inv_history.proofs.ObjectLemmas.{Takes, add_answers, get_answers, load_answers, put_answers, range_answers, store_answers, swap_answers}
 use Rattle.lxr_core_inv_history.proofs.MakingLemmas.{new_answers}
 
 -- what a mutator knows where it is in its work
@@ -42,10 +42,10 @@ found_none b s i v o is shown may = range_answers s.tables (limits_of b).blocks 
 
 -- it loads a reference
 pub loads_reference : (b : Beginning) (s : EpochState) (i : ℕ) (v : ThreadState) (o : Op) (dest place index : ℕ) → IsEpoch b s → slice_get s.thread_states i ≡ Some v → MayLoad v o dest place index
-    → Loads s.tables s.at (moment_of b s) v o dest place index
+    → Takes s.tables s.at (moment_of b s) v o dest place index
 loads_reference b s i v o dest place index is shown may =
     let e = may.loads.1 in
-    subst (λ z. Loads s.tables s.at (moment_of b s) v z dest place index) (sym e)
+    subst (λ z. Takes s.tables s.at (moment_of b s) v z dest place index) (sym e)
     (load_answers s.tables (limits_of b).blocks s.at (moment_of b s) v dest may.loads.0 place index (acts b s i v is shown) (subst (Does v) e may.does)
     (knows_at b s i v (Works (AtReference place index)) is shown may.stage))
 
@@ -67,6 +67,15 @@ puts_value b s i v o place refs index value is shown may =
     (put_answers s.tables (limits_of b).blocks s.at (moment_of b s) v may.puts.0 place refs index value (acts b s i v is shown) (subst (Does v) e may.does)
     (knows_at b s i v (Works (AtValue place refs index)) is shown may.stage))
 
+-- it adds to a data word
+pub adds_value : (b : Beginning) (s : EpochState) (i : ℕ) (v : ThreadState) (o : Op) (place refs index value : ℕ) → IsEpoch b s → slice_get s.thread_states i ≡ Some v → MayAdd v o place refs index value
+    → Answers s.at (moment_of b s) v o (reply.Added (s.tables.heap (value_word place refs index))) v.registers
+adds_value b s i v o place refs index value is shown may =
+    let e = may.adds.1 in
+    subst (λ z. Answers s.at (moment_of b s) v z (reply.Added (s.tables.heap (value_word place refs index))) v.registers) (sym e)
+    (add_answers s.tables (limits_of b).blocks s.at (moment_of b s) v may.adds.0 place refs index value (acts b s i v is shown) (subst (Does v) e may.does)
+    (knows_at b s i v (Works (AtValue place refs index)) is shown may.stage))
+
 -- it stores to a reference
 pub stores_reference : (b : Beginning) (s : EpochState) (i : ℕ) (v : ThreadState) (o : Op) (place index value : ℕ) → IsEpoch b s → slice_get s.thread_states i ≡ Some v → MayStore v o place index value
     → Answers s.at (moment_of b s) v o reply.Stored v.registers
@@ -74,6 +83,15 @@ stores_reference b s i v o place index value is shown may =
     let e = may.stores in
     subst (λ z. Answers s.at (moment_of b s) v z reply.Stored v.registers) (sym e)
     (store_answers s.tables (limits_of b).blocks s.at (moment_of b s) v may.base place index may.source (acts b s i v is shown) (subst (Does v) e may.does)
+    (knows_at b s i v (Works (Stores place index)) is shown may.stage))
+
+-- it swaps a reference
+pub swaps_reference : (b : Beginning) (s : EpochState) (i : ℕ) (v : ThreadState) (o : Op) (dest place index value : ℕ) → IsEpoch b s → slice_get s.thread_states i ≡ Some v → MaySwap v o dest place index value
+    → Takes s.tables s.at (moment_of b s) v o dest place index
+swaps_reference b s i v o dest place index value is shown may =
+    let e = may.swaps in
+    subst (λ z. Takes s.tables s.at (moment_of b s) v z dest place index) (sym e)
+    (swap_answers s.tables (limits_of b).blocks s.at (moment_of b s) v dest may.base place index may.source (acts b s i v is shown) (subst (Does v) e may.does)
     (knows_at b s i v (Works (Stores place index)) is shown may.stage))
 
 -- it makes an object, which is placed as the next of its thread
@@ -92,6 +110,8 @@ asked_answers t blocks at m v (op.Load dest base i) r known e = absurd (cc)
 asked_answers t blocks at m v (op.Store base i source) r known e = absurd (cc)
 asked_answers t blocks at m v (op.Put base i value) r known e = absurd (cc)
 asked_answers t blocks at m v (op.Get base i) r known e = absurd (cc)
+asked_answers t blocks at m v (op.Swap dest base i source) r known e = absurd (cc)
+asked_answers t blocks at m v (op.Add base i value) r known e = absurd (cc)
 asked_answers t blocks at m v (op.Move dest source) r known e = absurd (cc)
 asked_answers t blocks at m v (op.Nil dest) r known e = absurd (cc)
 asked_answers t blocks at m v (op.Same left right) r known e = absurd (cc)
@@ -115,16 +135,19 @@ replies_are_steps b s i v (event.FindsReference place index) is shown may = tt
 replies_are_steps b s i v (event.FindsValue place refs index) is shown may = tt
 replies_are_steps b s i v (event.FindsNone o) is shown may = (found_none b s i v o is shown may).reply
 replies_are_steps b s i v (event.LoadsReference o dest place index) is shown may =
-    let loads = loads_reference b s i v o dest place index is shown may in record { loaded = loads.loaded; replies = loads.answers.reply; place_is = loads.place_is }
+    let takes = loads_reference b s i v o dest place index is shown may in record { found = takes.found; replies = takes.answers.reply; place_is = takes.place_is }
 replies_are_steps b s i v (event.TellsName o n) is shown may = tt
 replies_are_steps b s i v (event.GetsValue o place refs index) is shown may = (gets_value b s i v o place refs index is shown may).reply
 replies_are_steps b s i v (event.PutsValue o place refs index value) is shown may = (puts_value b s i v o place refs index value is shown may).reply
+replies_are_steps b s i v (event.AddsValue o place refs index value) is shown may = (adds_value b s i v o place refs index value is shown may).reply
 replies_are_steps b s i v (event.SeesClear place index) is shown may = tt
 replies_are_steps b s i v (event.SeesFull place index) is shown may = tt
 replies_are_steps b s i v (event.LoadsOld place index) is shown may = tt
 replies_are_steps b s i v (event.ClearsFirst e n) is shown may = tt
 replies_are_steps b s i v (event.ClearsLate e) is shown may = tt
 replies_are_steps b s i v (event.StoresReference o place index value) is shown may = (stores_reference b s i v o place index value is shown may).reply
+replies_are_steps b s i v (event.SwapsReference o dest place index value) is shown may =
+    let takes = swaps_reference b s i v o dest place index value is shown may in record { found = takes.found; replies = takes.answers.reply; place_is = takes.place_is }
 replies_are_steps b s i v event.DrawsRun is shown may = tt
 replies_are_steps b s i v event.MissesRun is shown may = tt
 replies_are_steps b s i v (event.SeesRun number) is shown may = tt

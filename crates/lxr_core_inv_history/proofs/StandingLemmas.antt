@@ -8,7 +8,6 @@ use Rattle.lxr_layout.specs.declared.Name.{Name}
 use Rattle.lxr_layout.specs.declared.Place.{Place}
 use Rattle.lxr_base.specs.Roomy.{Roomy}
 use Rattle.lxr_graph.specs.declared.Op.{Op}
-use Rattle.lxr_graph.specs.declared.Op.TheVariants as op
 use Rattle.lxr_graph.specs.declared.Reply.{Reply}
 use Rattle.lxr_graph.specs.History.{Call, Item, calls_of, replies_of}
 use Rattle.lxr_graph.specs.Names.{has}
@@ -34,7 +33,7 @@ use Rattle.lxr_core_invariant.specs.Laws.{HasHistory, RepliesAs}
 use Rattle.lxr_core_invariant.proofs.ActingLemmas.{acts}
 use Rattle.lxr_core_invariant.proofs.ShowingLemmas.{op_formed}
 use Rattle.lxr_core_inv_history.proofs.CallLemmas.{SaySame, members_stay, other_call, own_asked, own_calls, own_replies, own_since, says_same, steps_reply, take_next}
-use Rattle.lxr_core_inv_history.proofs.BusyLemmas.{IsBusy, end_is_last, others_before_end}
+use Rattle.lxr_core_inv_history.proofs.BusyLemmas.{IsBusy, end_is_last, ends_by, others_before_end}
 use Rattle.lxr_core_inv_history.proofs.KeepLemmas.{Keeps, all_called, asking_sets}
 
 -- ---- the history goes on
@@ -134,19 +133,6 @@ done_called b s after v registers o r true last has busy does stood asks is_ende
       asked = λ k. asks (sym stood.asked ∙ k);
       within_turn = (omega (arith, turn), omega (arith, longer, end), longer ∙ ap (λ z. z + 1) end);
     }
-  where
-    ends_by : (o : Op) → is_end o ≡ true → o ≡ op.End
-    ends_by op.End e = refl
-    ends_by (op.New dest shape) e = absurd (cc)
-    ends_by (op.Load dest base index) e = absurd (cc)
-    ends_by (op.Store base index source) e = absurd (cc)
-    ends_by (op.Put base index value) e = absurd (cc)
-    ends_by (op.Get base index) e = absurd (cc)
-    ends_by (op.Move dest source) e = absurd (cc)
-    ends_by (op.Nil dest) e = absurd (cc)
-    ends_by (op.Same left right) e = absurd (cc)
-    ends_by op.Pause e = absurd (cc)
-    ends_by op.Collect e = absurd (cc)
 done_called b s after v registers o r false true has busy does stood asks is_ended is_last =
     let longer : length (v.replies ++ r ∷ []) ≡ length v.replies + 1 = length-append v.replies (r ∷ []) in
     let since = stood.since in

@@ -1,12 +1,13 @@
 -- Where all mutators rest: what the history has of each thread. Where all are through: the cause of the pause.
 use Rattle.std.proofs.Common.{◌≡◌, ℕ, zero, suc, refl, sym, ap, subst, ◌∙◌, inl, inr, ◌⊎◌, arith, List, [], ◌∷◌, length, take}
-use Rattle.std.specs.Prelude.{Option, Some, slice_get}
+use Rattle.std.specs.Prelude.{Option, Some, None, IsTrue, slice_get}
 use Rattle.std.proofs.lemmas.List.{length-take-le}
 use Rattle.std.proofs.lemmas.Option.{slice_get_within}
 use Rattle.lxr_graph.specs.declared.Op.{Op}
 use Rattle.lxr_graph.specs.declared.Op.TheVariants as op
 use Rattle.lxr_graph.specs.History.{replies_of}
-use Rattle.lxr_core_invariant.specs.ThreadStates.{Reason, Stage, ThreadState, all_of, Rests, Works, Names, Through}
+use Rattle.lxr_model.specs.Belongs.{writes_reference}
+use Rattle.lxr_core_invariant.specs.ThreadStates.{Reason, Stage, ThreadState, all_of, op_now, Rests, Works, Names, Through}
 use Rattle.lxr_core_invariant.specs.ThreadStates as why
 use Rattle.lxr_core_invariant.specs.EpochStates.{Beginning, EpochState}
 use Rattle.lxr_core_invariant.specs.Events.{Does}
@@ -58,6 +59,11 @@ next_is s v o told does =
     let within = slice_get_within (all_of v.operations) (length v.replies) o does in
     ap (slice_get (all_of v.operations)) (ap length told.calls ∙ length-take-le (length v.replies) (all_of v.operations) (omega (arith, within))) ∙ does
 
+-- so it is where that writes a reference
+writer_is_next : (s : EpochState) (v : ThreadState) (now : Option Op) → IsAsHistory s v → op_now v ≡ now → IsTrue (writes_reference now) → IsTrue (writes_reference (next_by s v))
+writer_is_next s v None told is writes = absurd (cc)
+writer_is_next s v (Some o) told is writes = subst (λ z. IsTrue (writes_reference z)) (sym (next_is s v o told is)) writes
+
 -- a mutator that is a cause
 causes : (b : Beginning) (s : EpochState) (i : ℕ) (v : ThreadState) → IsEpoch b s → slice_get s.thread_states i ≡ Some v → CausesPause b s v → HasCause b s
 causes b s i v is shown cause = record { number = i; thread_state = v; shows = shown; thread = thread_within b s i v is.called shown; causes = cause }
@@ -73,11 +79,7 @@ no_run_causes b s i v is shown stage =
 log_full_causes : (b : Beginning) (s : EpochState) (i : ℕ) (v : ThreadState) → IsEpoch b s → slice_get s.thread_states i ≡ Some v → v.stage ≡ Through why.LogFull → HasCause b s
 log_full_causes b s i v is shown stage =
     let on : IsWithinTurn s v (Through why.LogFull) = subst (IsWithinTurn s v) stage (is.called.each i v shown).within_turn in
-    let store = on.2.0 in
-    causes b s i v is shown (inr (inr (inr (
-      (store.0, store.1, store.2, next_is s v (op.Store store.0 store.1 store.2) (through_calls b s i v why.LogFull is shown stage) store.3),
-      on.2.1,
-    ))))
+    causes b s i v is shown (inr (inr (inr (writer_is_next s v (op_now v) (through_calls b s i v why.LogFull is shown stage) refl on.2.0, on.2.1))))
 
 -- one who had its turn is a cause
 turn_causes : (b : Beginning) (s : EpochState) (i : ℕ) (v : ThreadState) → IsEpoch b s → slice_get s.thread_states i ≡ Some v → v.stage ≡ Through why.Turns → HasCause b s

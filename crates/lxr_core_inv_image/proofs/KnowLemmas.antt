@@ -5,7 +5,6 @@ use Rattle.lxr_layout.specs.declared.Name.{Name}
 use Rattle.lxr_layout.specs.declared.Place.{Place}
 use Rattle.lxr_layout.specs.declared.Shape.{Shape}
 use Rattle.lxr_graph.specs.declared.Op.{Op}
-use Rattle.lxr_graph.specs.declared.Reply.TheVariants as reply
 use Rattle.lxr_graph.specs.Names.{has}
 use Rattle.lxr_graph.specs.State.{Object, object_at, shape_of, world_name}
 use Rattle.lxr_image.specs.Tables.{Tables}
@@ -15,7 +14,7 @@ use Rattle.lxr_invariant.specs.AbstractState.{members}
 use Rattle.lxr_core_invariant.specs.ThreadStates.{Intent, Stage, ThreadState, is_end, nil, op_now, Plain, AtReference, AtValue, Clears, Stores, DrewRun, HasRun, NeedsBlock, DrewBlock, HasBlock, Makes, GivesUp, Rests, Works, Names, Through}
 use Rattle.lxr_core_invariant.specs.ThreadStates as why
 use Rattle.lxr_core_invariant.specs.EpochStates.{Beginning, EpochState, limits_of, moment_of}
-use Rattle.lxr_core_invariant.specs.Events.{WorksOn, done_with, stage_after}
+use Rattle.lxr_core_invariant.specs.Events.{WorksOn, done_with, found_reply, stage_after}
 use Rattle.lxr_core_invariant.specs.Happening.{at_stage, loaded_with}
 use Rattle.lxr_core_invariant.specs.Imaged.{IsPlacedIn, IsReferenceAt, IsValueAt, IsWipedTo, Knows}
 use Rattle.lxr_core_invariant.proofs.ShowingLemmas.{shown_cases}
@@ -106,11 +105,11 @@ either_thread_state : (P : ThreadState → Type 0) (b : Bool) (x y : ThreadState
 either_thread_state P true x y hx hy = hx
 either_thread_state P false x y hx hy = hy
 
--- nor has one that has loaded
+-- nor has one that has taken a reference
 pub knows_loaded : (t : Tables) (m : Moment) (at : Name → ℕ) (v : ThreadState) (o : Op) (dest : ℕ) (p : Place) → Knows t m at (loaded_with v o dest p) (loaded_with v o dest p).stage
 knows_loaded t m at v o dest p =
     let held : ThreadState = record v { registers = slice_set v.registers dest p } in
-    let done : ThreadState = done_with held o (reply.Loaded None) in
+    let done : ThreadState = done_with held o (found_reply o None) in
     either_thread_state (λ w. Knows t m at w w.stage) (nat_eq p.0 0) done (at_stage held (Names p.0)) (knows_done t m at done held o) tt
 
 -- ---- what an event keeps

@@ -16,7 +16,7 @@ use Rattle.lxr_invariant.specs.AbstractState.{members}
 use Rattle.lxr_core_invariant.specs.ThreadStates.{Intent, ThreadState, held, op_now, Plain, AtReference, AtValue, Clears, Stores, DrewRun, HasRun, NeedsBlock, DrewBlock, HasBlock, Makes, GivesUp, Rests, Works, Names, Through}
 use Rattle.lxr_core_invariant.specs.ThreadStates as why
 use Rattle.lxr_core_invariant.specs.EpochStates.{Beginning, EpochState, limits_of, moment_of}
-use Rattle.lxr_core_invariant.specs.Events.{Source, at_once, bad_at, done_with, making, source_for, Current, value_word}
+use Rattle.lxr_core_invariant.specs.Events.{Source, at_once, bad_at, done_with, found_reply, making, source_for, Current, value_word}
 use Rattle.lxr_core_invariant.specs.Events as event
 use Rattle.lxr_core_invariant.specs.Happening.{MayFindReference, MayFindValue, asked_by, at_stage, entry_with, happen, intends, loaded_with, with_block, with_cursor, with_logged, with_run}
 use Rattle.lxr_core_invariant.specs.Imaged.{IsPlacedIn, IsWipedTo, Knows, KnowsReference, KnowsValue}
@@ -26,7 +26,7 @@ use Rattle.lxr_core_invariant.proofs.TellingLemmas.{told_is}
 use Rattle.lxr_core_invariant.proofs.ActingLemmas.{acts, base_held}
 use Rattle.lxr_core_inv_image.proofs.KnowLemmas.{knows_done, knows_loaded, works_as}
 use Rattle.lxr_core_inv_image.proofs.StayLemmas.{call_placed, leaves_objects, quiet_placed}
-use Rattle.lxr_core_inv_image.proofs.WriteLemmas.{put_placed, store_placed}
+use Rattle.lxr_core_inv_image.proofs.WriteLemmas.{add_placed, put_placed, store_placed, swap_placed}
 use Rattle.lxr_core_inv_image.proofs.MakeLemmas.{make_placed, wipe_placed}
 
 -- ---- what is learned
@@ -95,6 +95,8 @@ at_once_leaves v (op.Load dest base index) = bad_leaves v base
 at_once_leaves v (op.Store base index source) = bad_leaves v base
 at_once_leaves v (op.Put base index value) = bad_leaves v base
 at_once_leaves v (op.Get base index) = bad_leaves v base
+at_once_leaves v (op.Swap dest base index source) = bad_leaves v base
+at_once_leaves v (op.Add base index value) = bad_leaves v base
 at_once_leaves v (op.Move dest source) = refl
 at_once_leaves v (op.Nil dest) = refl
 at_once_leaves v (op.Same left right) = refl
@@ -136,10 +138,10 @@ placed_is_kept replies b s i v (event.FindsNone o) is shown may =
     (λ u m at. knows_done u m at (done_with v o reply.Range) v o)
 placed_is_kept replies b s i v (event.LoadsReference o dest place index) is shown may =
     let p : Place = place_in (s.tables.heap (field_word place index)) in
-    call_placed b s i v (loaded_with v o dest p) o s.tables is shown refl (ap leaves_objects (replies b s i v (event.LoadsReference o dest place index) is shown may).replies)
-    (λ u m at. knows_loaded u m at v o dest p)
+    let takes = replies b s i v (event.LoadsReference o dest place index) is shown may in
+    call_placed b s i v (loaded_with v o dest p) o s.tables is shown refl (ap leaves_objects takes.replies ∙ ap (λ z. leaves_objects (found_reply z takes.found)) may.loads.1) (λ u m at. knows_loaded u m at v o dest p)
 placed_is_kept replies b s i v (event.TellsName o n) is shown may =
-    let w : ThreadState = done_with v o (reply.Loaded (Some n)) in
+    let w : ThreadState = done_with v o (found_reply o (Some n)) in
     quiet_placed b s i v w s.tables s.cleared is shown refl (knows_done s.tables (moment_of b s) s.at w v o)
 placed_is_kept replies b s i v (event.GetsValue o place refs index) is shown may =
     let w : ThreadState = done_with v o (reply.Got (s.tables.heap (value_word place refs index))) in
@@ -147,6 +149,9 @@ placed_is_kept replies b s i v (event.GetsValue o place refs index) is shown may
 placed_is_kept replies b s i v (event.PutsValue o place refs index value) is shown may =
     subst (λ z. IsPlacedIn b (happen b s i v (event.PutsValue z place refs index value))) (sym may.puts.1)
     (put_placed b s i v may.puts.0 place refs index value is shown may.stage (may.does ∙ ap Some may.puts.1))
+placed_is_kept replies b s i v (event.AddsValue o place refs index value) is shown may =
+    subst (λ z. IsPlacedIn b (happen b s i v (event.AddsValue z place refs index value))) (sym may.adds.1)
+    (add_placed b s i v may.adds.0 place refs index value is shown may.stage (may.does ∙ ap Some may.adds.1))
 placed_is_kept replies b s i v (event.SeesClear place index) is shown may =
     let w : ThreadState = intends v (Stores place index) in
     quiet_placed b s i v w s.tables s.cleared is shown refl (known_as b s i v w (AtReference place index) place index is shown may.stage (λ k. k) refl refl)
@@ -165,6 +170,10 @@ placed_is_kept replies b s i v (event.StoresReference o place index value) is sh
     subst (λ z. IsPlacedIn b (happen b s i v (event.StoresReference z place index value))) (sym may.stores)
     (subst (λ z. IsPlacedIn b (happen b s i v (event.StoresReference (op.Store may.base index may.source) place index z))) (sym may.value_is)
     (store_placed b s i v may.base may.source place index is shown may.stage (may.does ∙ ap Some may.stores)))
+placed_is_kept replies b s i v (event.SwapsReference o dest place index value) is shown may =
+    subst (λ z. IsPlacedIn b (happen b s i v (event.SwapsReference z dest place index value))) (sym may.swaps)
+    (subst (λ z. IsPlacedIn b (happen b s i v (event.SwapsReference (op.Swap dest may.base index may.source) dest place index z))) (sym may.value_is)
+    (swap_placed b s i v dest may.base may.source place index is shown may.stage (may.does ∙ ap Some may.swaps)))
 placed_is_kept replies b s i v event.DrawsRun is shown may =
     quiet_placed b s i v (intends v (DrewRun (s.tables.cursors RUN_CURSOR))) (with_cursor s.tables RUN_CURSOR (s.tables.cursors RUN_CURSOR + 1)) s.cleared is shown refl tt
 placed_is_kept replies b s i v event.MissesRun is shown may = quiet_placed b s i v (intends v NeedsBlock) s.tables s.cleared is shown refl tt

@@ -11,7 +11,7 @@ use Rattle.lxr_graph.specs.declared.Reply.TheVariants as reply
 use Rattle.lxr_graph.specs.History.{Item}
 use Rattle.lxr_graph.specs.Names.{has}
 use Rattle.lxr_graph.specs.State.{State, object_at, register_at, refs_of, values_of, world_name}
-use Rattle.lxr_graph.specs.Step.{get_from, got, load_from, loaded, put_at, put_to, step, store_to, stored}
+use Rattle.lxr_graph.specs.Step.{add_to, added, get_from, got, load_from, loaded, put_at, put_to, step, store_to, stored, swap_in, swapped}
 use Rattle.lxr_image.specs.Tables.{Tables}
 use Rattle.lxr_image.specs.Image.{IsImage}
 use Rattle.lxr_model.specs.Moments.{Field, Moment, after_call, made_after, moment}
@@ -25,6 +25,7 @@ use Rattle.lxr_core_invariant.specs.EpochStates.{Beginning, Extends, EpochState,
 use Rattle.lxr_core_invariant.specs.Epoch.{IsEpoch}
 use Rattle.lxr_core_invariant.specs.Imaged.{IsPlacedIn, Knows}
 use Rattle.lxr_core_invariant.specs.Happening.{stands}
+use Rattle.lxr_core_invariant.proofs.ObjectLemmas.{state_after_step}
 use Rattle.lxr_core_inv_image.proofs.KnowLemmas.{KeepsMembers, KeepsWiped, all_kept, knows_on, still_placed}
 
 -- ---- what was a member is one
@@ -75,7 +76,9 @@ quiet_placed b s i v w t cleared is shown heap knows =
 abbrev pub leaves_objects : Reply → Bool
 leaves_objects (reply.New n) = false
 leaves_objects reply.Stored = false
+leaves_objects (reply.Swapped old) = false
 leaves_objects reply.Put = false
+leaves_objects (reply.Added old) = false
 leaves_objects _ = true
 
 -- no reply both changed an object and changed none
@@ -107,6 +110,16 @@ stores_leave : (s : State) (i : ℕ) (v base : Option Name) → leaves_objects (
 stores_leave s i v None e = record { graph = refl; made = λ ns. refl }
 stores_leave s i v (Some n) e = store_leaves s n i v (slice_get (refs_of (object_at s.graph n)) i) e
 
+-- a swap at a base changes none unless it replies `swapped`
+swapped_leaves : (s : State) (t dest : ℕ) (n : Name) (i : ℕ) (v : Option Name) (found : Option (Option Name)) → leaves_objects (swapped s t dest n i v found).1 ≡ true → LeavesObjects s (swapped s t dest n i v found)
+swapped_leaves s t dest n i v None e = record { graph = refl; made = λ ns. refl }
+swapped_leaves s t dest n i v (Some old) e = no_leave e
+
+-- nor does any swap
+swaps_leave : (s : State) (t dest i : ℕ) (v base : Option Name) → leaves_objects (swap_in s t dest i v base).1 ≡ true → LeavesObjects s (swap_in s t dest i v base)
+swaps_leave s t dest i v None e = record { graph = refl; made = λ ns. refl }
+swaps_leave s t dest i v (Some n) e = swapped_leaves s t dest n i v (slice_get (refs_of (object_at s.graph n)) i) e
+
 -- a put to a base changes none unless it replies `put`
 put_leaves : (s : State) (n : Name) (i v : ℕ) (found : Option ℕ) → leaves_objects (put_at s n i v found).1 ≡ true → LeavesObjects s (put_at s n i v found)
 put_leaves s n i v None e = record { graph = refl; made = λ ns. refl }
@@ -116,6 +129,16 @@ put_leaves s n i v (Some old) e = no_leave e
 puts_leave : (s : State) (i v : ℕ) (base : Option Name) → leaves_objects (put_to s i v base).1 ≡ true → LeavesObjects s (put_to s i v base)
 puts_leave s i v None e = record { graph = refl; made = λ ns. refl }
 puts_leave s i v (Some n) e = put_leaves s n i v (slice_get (values_of (object_at s.graph n)) i) e
+
+-- an add to a base changes none unless it replies `added`
+added_leaves : (s : State) (n : Name) (i v : ℕ) (found : Option ℕ) → leaves_objects (added s n i v found).1 ≡ true → LeavesObjects s (added s n i v found)
+added_leaves s n i v None e = record { graph = refl; made = λ ns. refl }
+added_leaves s n i v (Some old) e = no_leave e
+
+-- nor does any add
+adds_leave : (s : State) (i v : ℕ) (base : Option Name) → leaves_objects (add_to s i v base).1 ≡ true → LeavesObjects s (add_to s i v base)
+adds_leave s i v None e = record { graph = refl; made = λ ns. refl }
+adds_leave s i v (Some n) e = added_leaves s n i v (slice_get (values_of (object_at s.graph n)) i) e
 
 -- a get from a base changes none
 got_leaves : (s : State) (found : Option ℕ) → LeavesObjects s (s, got found)
@@ -134,6 +157,8 @@ step_leaves s t (op.Load dest base i) e = loads_leave s t dest i (register_at s 
 step_leaves s t (op.Store base i source) e = stores_leave s i (register_at s t source) (register_at s t base) e
 step_leaves s t (op.Put base i v) e = puts_leave s i v (register_at s t base) e
 step_leaves s t (op.Get base i) e = gets_leave s i (register_at s t base)
+step_leaves s t (op.Swap dest base i source) e = swaps_leave s t dest i (register_at s t source) (register_at s t base) e
+step_leaves s t (op.Add base i v) e = adds_leave s i v (register_at s t base) e
 step_leaves s t (op.Move dest source) e = record { graph = refl; made = λ ns. refl }
 step_leaves s t (op.Nil dest) e = record { graph = refl; made = λ ns. refl }
 step_leaves s t (op.Same left right) e = record { graph = refl; made = λ ns. refl }
@@ -147,17 +172,7 @@ next_moment m t o = after_call m t o (step m.state t o).1
 
 -- its state is that of the step
 pub next_state : (m : Moment) (t : ℕ) (o : Op) → (next_moment m t o).state ≡ (step m.state t o).0
-next_state m t (op.New dest shape) = refl
-next_state m t (op.Load dest base i) = refl
-next_state m t (op.Store base i source) = refl
-next_state m t (op.Put base i v) = refl
-next_state m t (op.Get base i) = refl
-next_state m t (op.Move dest source) = refl
-next_state m t (op.Nil dest) = refl
-next_state m t (op.Same left right) = refl
-next_state m t op.Pause = refl
-next_state m t op.Collect = refl
-next_state m t op.End = refl
+next_state m t o = state_after_step m.state t o
 
 -- members keep objects of their shapes where the graph stays
 graph_kept : (m k : Moment) (at : Name → ℕ) → k.state.graph ≡ m.state.graph → members k ≡ members m → KeepsMembers m k at at

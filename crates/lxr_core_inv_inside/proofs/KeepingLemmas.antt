@@ -81,8 +81,12 @@ event_inside b s i v (event.GetsValue o place refs index) is shown =
     call_inside b s (happen b s i v (event.GetsValue o place refs index)) i v o is shown (record { bits = record { marks = refl; grays = refl; dones = refl }; history = refl; at = λ n h. refl; tracers = refl })
 event_inside b s i v (event.PutsValue o place refs index value) is shown =
     call_inside b s (happen b s i v (event.PutsValue o place refs index value)) i v o is shown (record { bits = record { marks = refl; grays = refl; dones = refl }; history = refl; at = λ n h. refl; tracers = refl })
+event_inside b s i v (event.AddsValue o place refs index value) is shown =
+    call_inside b s (happen b s i v (event.AddsValue o place refs index value)) i v o is shown (record { bits = record { marks = refl; grays = refl; dones = refl }; history = refl; at = λ n h. refl; tracers = refl })
 event_inside b s i v (event.StoresReference o place index value) is shown =
     call_inside b s (happen b s i v (event.StoresReference o place index value)) i v o is shown (record { bits = record { marks = refl; grays = refl; dones = refl }; history = refl; at = λ n h. refl; tracers = refl })
+event_inside b s i v (event.SwapsReference o dest place index value) is shown =
+    call_inside b s (happen b s i v (event.SwapsReference o dest place index value)) i v o is shown (record { bits = record { marks = refl; grays = refl; dones = refl }; history = refl; at = λ n h. refl; tracers = refl })
 event_inside b s i v (event.MakesObject o dest place shape) is shown =
     call_inside b s (happen b s i v (event.MakesObject o dest place shape)) i v o is shown
     (record { bits = record { marks = refl; grays = refl; dones = refl }; history = refl; at = next_elsewhere (moment_of b s) s.at v.thread place is.lives; tracers = refl })

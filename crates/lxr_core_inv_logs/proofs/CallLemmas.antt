@@ -1,5 +1,5 @@
 -- What a call leaves to bits and logs: the moment after it has the unreclaimed objects in the shapes that they had, and what
--- is stored to changes by a store alone.
+-- is written changes by a store and a swap alone.
 use Rattle.std.proofs.Common.{◌≡◌, ℕ, ◌+◌, ◌-◌, ◌*◌, ◌<◌, ◌≤◌, refl, sym, ap, subst, ◌∙◌, arith, Bool, true, false, cond, List, length, nat_eq}
 use Rattle.std.specs.Prelude.{Some, None, ⊤, IsTrue}
 use Rattle.lxr_layout.specs.declared.Name.{Name}
@@ -46,37 +46,41 @@ places_keep m at t p follows n member = elim (same_name n (next_name m.state.gra
   | false ↦ λ k. refl
 ] refl
 
--- ---- what is stored to
+-- ---- what is written
 
--- a reply other than that of a store
-abbrev pub IsUnstored : Reply → Type 0
-IsUnstored reply.Stored = ⊥
-IsUnstored _ = ⊤
+-- a reply other than that of a store and a swap
+abbrev pub WritesNone : Reply → Type 0
+WritesNone reply.Stored = ⊥
+WritesNone (reply.Swapped old) = ⊥
+WritesNone _ = ⊤
 
 -- such a reply writes no reference
-pub unstored_writes : (m : Moment) (t : ℕ) (o : Op) (r : Reply) → IsUnstored r → written_after m t o r ≡ m.written
-unstored_writes m t (op.Store base index source) reply.Stored h = absurd h
-unstored_writes m t o r h = refl
+pub none_written : (m : Moment) (t : ℕ) (o : Op) (r : Reply) → WritesNone r → written_after m t o r ≡ m.written
+none_written m t (op.Store base index source) reply.Stored h = absurd h
+none_written m t (op.Swap dest base index source) (reply.Swapped old) h = absurd h
+none_written m t o r h = refl
 
 -- an equal reply is no other
-told_unstored : (p q : Reply × List Place) → IsUnstored p.0 → Some p ≡ Some q → IsUnstored q.0
-told_unstored p q h e = let same : p ≡ q = cc in subst IsUnstored (ap (λ (z : Reply × List Place). z.0) same) h
+told_none : (p q : Reply × List Place) → WritesNone p.0 → Some p ≡ Some q → WritesNone q.0
+told_none p q h e = let same : p ≡ q = cc in subst WritesNone (ap (λ (z : Reply × List Place). z.0) same) h
 
 -- a nil base is refused
-bad_unstored : (b : Bool) (xs : List Place) (q : Reply × List Place) → cond b (Some (reply.Bad, xs)) None ≡ Some q → IsUnstored q.0
-bad_unstored true xs q e = told_unstored (reply.Bad, xs) q tt e
-bad_unstored false xs q e = absurd (cc)
+bad_none : (b : Bool) (xs : List Place) (q : Reply × List Place) → cond b (Some (reply.Bad, xs)) None ≡ Some q → WritesNone q.0
+bad_none true xs q e = told_none (reply.Bad, xs) q tt e
+bad_none false xs q e = absurd (cc)
 
--- what is done at once is no store to a reference
-pub at_once_unstored : (v : ThreadState) (o : Op) (r : Reply) (registers : List Place) → at_once v o ≡ Some (r, registers) → IsUnstored r
-at_once_unstored v (op.New dest shape) r registers e = absurd (cc)
-at_once_unstored v (op.Load dest base index) r registers e = bad_unstored (nat_eq (held v base).0 0) v.registers (r, registers) e
-at_once_unstored v (op.Store base index source) r registers e = bad_unstored (nat_eq (held v base).0 0) v.registers (r, registers) e
-at_once_unstored v (op.Put base index value) r registers e = bad_unstored (nat_eq (held v base).0 0) v.registers (r, registers) e
-at_once_unstored v (op.Get base index) r registers e = bad_unstored (nat_eq (held v base).0 0) v.registers (r, registers) e
-at_once_unstored v (op.Move dest source) r registers e = told_unstored (reply.Moved, _) (r, registers) tt e
-at_once_unstored v (op.Nil dest) r registers e = told_unstored (reply.Cleared, _) (r, registers) tt e
-at_once_unstored v (op.Same left right) r registers e = told_unstored (reply.Same _, _) (r, registers) tt e
-at_once_unstored v op.Pause r registers e = absurd (cc)
-at_once_unstored v op.Collect r registers e = absurd (cc)
-at_once_unstored v op.End r registers e = told_unstored (reply.Ended, _) (r, registers) tt e
+-- what is done at once writes no reference
+pub at_once_none : (v : ThreadState) (o : Op) (r : Reply) (registers : List Place) → at_once v o ≡ Some (r, registers) → WritesNone r
+at_once_none v (op.New dest shape) r registers e = absurd (cc)
+at_once_none v (op.Load dest base index) r registers e = bad_none (nat_eq (held v base).0 0) v.registers (r, registers) e
+at_once_none v (op.Store base index source) r registers e = bad_none (nat_eq (held v base).0 0) v.registers (r, registers) e
+at_once_none v (op.Put base index value) r registers e = bad_none (nat_eq (held v base).0 0) v.registers (r, registers) e
+at_once_none v (op.Get base index) r registers e = bad_none (nat_eq (held v base).0 0) v.registers (r, registers) e
+at_once_none v (op.Swap dest base index source) r registers e = bad_none (nat_eq (held v base).0 0) v.registers (r, registers) e
+at_once_none v (op.Add base index value) r registers e = bad_none (nat_eq (held v base).0 0) v.registers (r, registers) e
+at_once_none v (op.Move dest source) r registers e = told_none (reply.Moved, _) (r, registers) tt e
+at_once_none v (op.Nil dest) r registers e = told_none (reply.Cleared, _) (r, registers) tt e
+at_once_none v (op.Same left right) r registers e = told_none (reply.Same _, _) (r, registers) tt e
+at_once_none v op.Pause r registers e = absurd (cc)
+at_once_none v op.Collect r registers e = absurd (cc)
+at_once_none v op.End r registers e = told_none (reply.Ended, _) (r, registers) tt e

@@ -1,5 +1,5 @@
 -- Each event keeps bits and logs.
-use Rattle.std.proofs.Common.{◌≡◌, ℕ, ◌+◌, refl, sym, ap, subst, ◌∙◌, inl, inr, Bool, true, false, List, nat_eq}
+use Rattle.std.proofs.Common.{◌≡◌, ℕ, ◌+◌, ◌%◌, ◌^◌, refl, sym, ap, subst, ◌∙◌, inl, inr, Bool, true, false, List, nat_eq}
 use Rattle.std.specs.Prelude.{Some, None, IsTrue, slice_get, slice_set, if◌then◌else◌}
 use Rattle.lxr_layout.specs.declared.TheConstants.{FREE_BLOCK_CURSOR, PAUSE_WORD, RUN_CURSOR}
 use Rattle.lxr_layout.specs.declared.LogEntry.{LogEntry}
@@ -23,18 +23,18 @@ use Rattle.lxr_model_counting.proofs.DistinctLemmas.{tested}
 use Rattle.lxr_core_invariant.specs.ThreadStates.{Intent, Reason, Stage, ThreadState, held, is_end, Plain, AtReference, AtValue, Clears, Stores, DrewRun, HasRun, NeedsBlock, DrewBlock, HasBlock, Makes, GivesUp, Rests, Works, Names, Through}
 use Rattle.lxr_core_invariant.specs.ThreadStates as why
 use Rattle.lxr_core_invariant.specs.EpochStates.{Beginning, EpochState, limits_of, moment_of}
-use Rattle.lxr_core_invariant.specs.Events.{Event, done_with, stage_after, value_word}
+use Rattle.lxr_core_invariant.specs.Events.{Does, Event, done_with, found_reply, stage_after, value_word}
 use Rattle.lxr_core_invariant.specs.Events as event
-use Rattle.lxr_core_invariant.specs.Happening.{asked_by, at_stage, entry_with, happen, intends, loaded_with, shows, stands, with_cursor, MayClearFirst, MayLoadOld, MayStore}
+use Rattle.lxr_core_invariant.specs.Happening.{asked_by, at_stage, entry_with, happen, intends, loaded_with, shows, stands, with_cursor, MayClearFirst, MayLoadOld}
 use Rattle.lxr_core_invariant.specs.Imaged.{IsReferenceAt, Knows, KnowsReference}
 use Rattle.lxr_core_invariant.specs.Logged.{AreBitsAndLogs, MayRecord}
 use Rattle.lxr_core_invariant.specs.Epoch.{IsEpoch}
 use Rattle.lxr_core_invariant.specs.Laws.{BitsAndLogsAreKept, RepliesAreSteps}
 use Rattle.lxr_core_invariant.proofs.ActingLemmas.{acts}
-use Rattle.lxr_core_inv_logs.proofs.CallLemmas.{IsUnstored, at_once_unstored, places_keep, step_keeps_refs, unstored_writes}
+use Rattle.lxr_core_inv_logs.proofs.CallLemmas.{WritesNone, at_once_none, places_keep, step_keeps_refs, none_written}
 use Rattle.lxr_core_inv_logs.proofs.FirstLemmas.{first_keeps_logs}
 use Rattle.lxr_core_inv_logs.proofs.ReferenceLemmas.{clear_is_cleared, old_is_read}
-use Rattle.lxr_core_inv_logs.proofs.StoreLemmas.{IsQuiet, quiet_clears, store_turns}
+use Rattle.lxr_core_inv_logs.proofs.StoreLemmas.{IsQuiet, IsWrite, quiet_clears, store_writes, swap_writes, write_turns}
 use Rattle.lxr_core_inv_logs.proofs.TurnLemmas.{HasLogs, KeepsBits, KeepsUnreclaimed, Turns, logs_for, logs_from, turns_keep_logs}
 
 -- ---- what an epoch says of one mutator
@@ -99,13 +99,13 @@ call_keeps b s i v w o u to is there same places turns =
     (turns_keep_logs s.tables u m (state_after m.state v.thread o r) (made_after m.made r) s.at to s.cleared (written_after m v.thread o r) s.thread_states (limits_of b).log i v w is.lives same
     (record { places = places; refs = step_keeps_refs m v.thread o is.lives known.thread known.row }) turns there (logs_from b s is.logged))
 
--- an operation with another reply than that of a store
+-- an operation with another reply than that of a store or a swap
 quiet_call : (b : Beginning) (s : EpochState) (i : ℕ) (v w : ThreadState) (o : Op) (r : Reply) (u : Tables) (to : Name → ℕ) → IsEpoch b s → slice_get s.thread_states i ≡ Some v → KeepsBits s.tables u
-    → ((n : Name) → IsTrue (has (moment_of b s).unreclaimed n) → to n ≡ s.at n) → (step (moment_of b s).state v.thread o).1 ≡ r → IsUnstored r → IsQuiet v.stage → IsQuiet w.stage → w.log ≡ v.log
+    → ((n : Name) → IsTrue (has (moment_of b s).unreclaimed n) → to n ≡ s.at n) → (step (moment_of b s).state v.thread o).1 ≡ r → WritesNone r → IsQuiet v.stage → IsQuiet w.stage → w.log ≡ v.log
     → AreBitsAndLogs b (record (stands b s i v o w u) { at = to })
-quiet_call b s i v w o r u to is there same places replied unstored before after log =
+quiet_call b s i v w o r u to is there same places replied none before after log =
     let m : Moment = moment_of b s in
-    let written = ap (written_after m v.thread o) replied ∙ unstored_writes m v.thread o r unstored in
+    let written = ap (written_after m v.thread o) replied ∙ none_written m v.thread o r none in
     call_keeps b s i v w o u to is there same places (quiet_turns b s v w (written_after m v.thread o (step m.state v.thread o).1) (logs_from b s is.logged) written before after log)
 
 -- ---- how a unit ends
@@ -130,19 +130,21 @@ either_log : (nil : Bool) (x y v : ThreadState) → x.log ≡ v.log → y.log �
 either_log true x y v h k = h
 either_log false x y v h k = k
 
--- who asks for a pause does no store
-asked_unstored : (o : Op) (r : Reply) → asked_by o ≡ Some r → IsUnstored r
-asked_unstored op.Pause r e = let same : reply.Paused ≡ r = cc in subst IsUnstored same tt
-asked_unstored op.Collect r e = let same : reply.Collected ≡ r = cc in subst IsUnstored same tt
-asked_unstored (op.New dest shape) r e = absurd (cc)
-asked_unstored (op.Load dest base index) r e = absurd (cc)
-asked_unstored (op.Store base index source) r e = absurd (cc)
-asked_unstored (op.Put base index value) r e = absurd (cc)
-asked_unstored (op.Get base index) r e = absurd (cc)
-asked_unstored (op.Move dest source) r e = absurd (cc)
-asked_unstored (op.Nil dest) r e = absurd (cc)
-asked_unstored (op.Same left right) r e = absurd (cc)
-asked_unstored op.End r e = absurd (cc)
+-- who asks for a pause writes nothing
+asked_none : (o : Op) (r : Reply) → asked_by o ≡ Some r → WritesNone r
+asked_none op.Pause r e = let same : reply.Paused ≡ r = cc in subst WritesNone same tt
+asked_none op.Collect r e = let same : reply.Collected ≡ r = cc in subst WritesNone same tt
+asked_none (op.New dest shape) r e = absurd (cc)
+asked_none (op.Load dest base index) r e = absurd (cc)
+asked_none (op.Store base index source) r e = absurd (cc)
+asked_none (op.Put base index value) r e = absurd (cc)
+asked_none (op.Get base index) r e = absurd (cc)
+asked_none (op.Swap dest base index source) r e = absurd (cc)
+asked_none (op.Add base index value) r e = absurd (cc)
+asked_none (op.Move dest source) r e = absurd (cc)
+asked_none (op.Nil dest) r e = absurd (cc)
+asked_none (op.Same left right) r e = absurd (cc)
+asked_none op.End r e = absurd (cc)
 
 -- ---- a mutator that is about to store, or to clear
 
@@ -225,17 +227,31 @@ clears_first b s i v e n is there may =
       room = may.clear.room;
     }) there (logs_from b s is.logged))
 
--- it stores
-stores_reference : (b : Beginning) (s : EpochState) (i : ℕ) (v : ThreadState) (o : Op) (place index value : ℕ) → RepliesAreSteps → IsEpoch b s → slice_get s.thread_states i ≡ Some v → MayStore v o place index value
-    → AreBitsAndLogs b (happen b s i v (event.StoresReference o place index value))
-stores_reference b s i v o place index value replies is there may =
+-- it stores or swaps
+writes_reference : (b : Beginning) (s : EpochState) (i : ℕ) (v w : ThreadState) (o : Op) (place index value base k : ℕ) → IsEpoch b s → slice_get s.thread_states i ≡ Some v → v.stage ≡ Works (Stores place index)
+    → Does v o → IsWrite o (step (moment_of b s).state v.thread o).1 base k → IsQuiet w.stage → w.log ≡ v.log
+    → AreBitsAndLogs b (stands b s i v o w (with_heap s.tables (field_word place index) value))
+writes_reference b s i v w o place index value base k is there stage does write quiet log =
     let m : Moment = moment_of b s in
     let r : Reply = (step m.state v.thread o).1 in
-    let w : ThreadState = done_with v o reply.Stored in
-    let knows : KnowsReference m s.at v place index = known b s i v (Works (Stores place index)) is there may.stage in
+    let knows : KnowsReference m s.at v place index = known b s i v (Works (Stores place index)) is there stage in
     call_keeps b s i v w o (with_heap s.tables (field_word place index) value) s.at is there (same_bits s.tables _ s.tables.cursors) (λ n h. refl)
-    (store_turns s.tables (limits_of b).blocks m s.at s.cleared s.thread_states (limits_of b).log i v w place index o r may.base index may.source (acts b s i v is there)
-    knows may.does may.stores (replies b s i v (event.StoresReference o place index value) is there may) may.stage there (logs_from b s is.logged) (after_quiet v o) refl)
+    (write_turns s.tables (limits_of b).blocks m s.at s.cleared s.thread_states (limits_of b).log i v w place index o r base k (acts b s i v is there) knows does write stage there
+    (logs_from b s is.logged) quiet log)
+
+-- ---- a reference is taken into a register
+
+-- a mutator that took a reference has nothing to record or store, whether it found nil or a name
+taken_quiet : (v : ThreadState) (o : Op) (dest : ℕ) (p : Place) → IsQuiet (loaded_with v o dest p).stage
+taken_quiet v o dest p =
+    let held_view : ThreadState = record v { registers = slice_set v.registers dest p } in
+    either_quiet (nat_eq p.0 0) (done_with held_view o (found_reply o None)) (at_stage held_view (Names p.0)) (after_quiet held_view o) tt
+
+-- and its log is as it was
+taken_log : (v : ThreadState) (o : Op) (dest : ℕ) (p : Place) → (loaded_with v o dest p).log ≡ v.log
+taken_log v o dest p =
+    let held_view : ThreadState = record v { registers = slice_set v.registers dest p } in
+    either_log (nat_eq p.0 0) (done_with held_view o (found_reply o None)) (at_stage held_view (Names p.0)) v refl refl
 
 -- ---- all events
 
@@ -251,7 +267,7 @@ events_keep replies b s i v (event.Bumps from shape) is there may =
     quiet_keeps b s i v _ s.tables is there (same_bits s.tables s.tables.heap s.tables.cursors) (in_quiet v Rests may.begin.stage tt) tt refl
 events_keep replies b s i v (event.DoesAtOnce o r registers) is there may =
     quiet_call b s i v (done_with (record v { registers = registers }) o r) o r s.tables s.at is there (same_bits s.tables s.tables.heap s.tables.cursors) (λ n h. refl)
-    (replies b s i v (event.DoesAtOnce o r registers) is there may) (at_once_unstored v o r registers may.replies) (in_quiet v Rests may.begin.stage tt) (after_quiet v o) refl
+    (replies b s i v (event.DoesAtOnce o r registers) is there may) (at_once_none v o r registers may.replies) (in_quiet v Rests may.begin.stage tt) (after_quiet v o) refl
 events_keep replies b s i v (event.FindsReference place index) is there may =
     quiet_keeps b s i v (intends v (AtReference place index)) s.tables is there (same_bits s.tables s.tables.heap s.tables.cursors) (in_quiet v (Works Plain) may.reads.stage tt) tt refl
 events_keep replies b s i v (event.FindsValue place refs index) is there may =
@@ -261,15 +277,12 @@ events_keep replies b s i v (event.FindsNone o) is there may =
     (replies b s i v (event.FindsNone o) is there may) tt (in_quiet v (Works Plain) may.reads.stage tt) (after_quiet v o) refl
 events_keep replies b s i v (event.LoadsReference o dest place index) is there may =
     let p : Place = place_in (s.tables.heap (field_word place index)) in
-    let held_view : ThreadState = record v { registers = slice_set v.registers dest p } in
-    let nil : ThreadState = done_with held_view o (reply.Loaded None) in
-    let named : ThreadState = at_stage held_view (Names p.0) in
-    let loads = replies b s i v (event.LoadsReference o dest place index) is there may in
-    quiet_call b s i v (loaded_with v o dest p) o (reply.Loaded loads.loaded) s.tables s.at is there (same_bits s.tables s.tables.heap s.tables.cursors) (λ n h. refl)
-    loads.replies tt (in_quiet v (Works (AtReference place index)) may.stage tt)
-    (either_quiet (nat_eq p.0 0) nil named (after_quiet held_view o) tt) (either_log (nat_eq p.0 0) nil named v refl refl)
+    let takes = replies b s i v (event.LoadsReference o dest place index) is there may in
+    quiet_call b s i v (loaded_with v o dest p) o (found_reply o takes.found) s.tables s.at is there (same_bits s.tables s.tables.heap s.tables.cursors) (λ n h. refl)
+    takes.replies (subst (λ z. WritesNone (found_reply z takes.found)) (sym may.loads.1) tt) (in_quiet v (Works (AtReference place index)) may.stage tt)
+    (taken_quiet v o dest p) (taken_log v o dest p)
 events_keep replies b s i v (event.TellsName o n) is there may =
-    quiet_keeps b s i v (done_with v o (reply.Loaded (Some n))) s.tables is there (same_bits s.tables s.tables.heap s.tables.cursors) (in_quiet v (Names may.place) may.stage tt) (after_quiet v o) refl
+    quiet_keeps b s i v (done_with v o (found_reply o (Some n))) s.tables is there (same_bits s.tables s.tables.heap s.tables.cursors) (in_quiet v (Names may.place) may.stage tt) (after_quiet v o) refl
 events_keep replies b s i v (event.GetsValue o place refs index) is there may =
     let r : Reply = reply.Got (s.tables.heap (value_word place refs index)) in
     quiet_call b s i v (done_with v o r) o r s.tables s.at is there (same_bits s.tables s.tables.heap s.tables.cursors) (λ n h. refl)
@@ -277,6 +290,11 @@ events_keep replies b s i v (event.GetsValue o place refs index) is there may =
 events_keep replies b s i v (event.PutsValue o place refs index value) is there may =
     quiet_call b s i v (done_with v o reply.Put) o reply.Put (with_heap s.tables (value_word place refs index) value) s.at is there (same_bits s.tables _ s.tables.cursors) (λ n h. refl)
     (replies b s i v (event.PutsValue o place refs index value) is there may) tt (in_quiet v (Works (AtValue place refs index)) may.stage tt) (after_quiet v o) refl
+events_keep replies b s i v (event.AddsValue o place refs index value) is there may =
+    let at : ℕ = value_word place refs index in
+    let r : Reply = reply.Added (s.tables.heap at) in
+    quiet_call b s i v (done_with v o r) o r (with_heap s.tables at ((s.tables.heap at + value) % 2 ^ 64)) s.at is there (same_bits s.tables _ s.tables.cursors) (λ n h. refl)
+    (replies b s i v (event.AddsValue o place refs index value) is there may) tt (in_quiet v (Works (AtValue place refs index)) may.stage tt) (after_quiet v o) refl
 events_keep replies b s i v (event.SeesClear place index) is there may =
     let knows : KnowsReference (moment_of b s) s.at v place index = known b s i v (Works (AtReference place index)) is there may.stage in
     sees_clear b s i v place index is there knows.stands may.clear (λ n k stage. quiet_clears v.stage (Stores (s.at n) k) (in_quiet v (Works (AtReference place index)) may.stage tt) stage (λ z. z))
@@ -287,7 +305,15 @@ events_keep replies b s i v (event.ClearsFirst e n) is there may = clears_first 
 events_keep replies b s i v (event.ClearsLate e) is there may =
     let knows : KnowsReference (moment_of b s) s.at v e.place.0 e.index = known b s i v (Works (Clears e)) is there may.stage in
     sees_clear b s i v e.place.0 e.index is there knows.stands may.unlogged (λ n k stage. clear_no_store e (s.at n) k (sym may.stage ∙ stage))
-events_keep replies b s i v (event.StoresReference o place index value) is there may = stores_reference b s i v o place index value replies is there may
+events_keep replies b s i v (event.StoresReference o place index value) is there may =
+    let replied = replies b s i v (event.StoresReference o place index value) is there may in
+    writes_reference b s i v (done_with v o reply.Stored) o place index value may.base index is there may.stage may.does (store_writes o (step (moment_of b s).state v.thread o).1 may.base index may.source may.stores replied) (after_quiet v o) refl
+events_keep replies b s i v (event.SwapsReference o dest place index value) is there may =
+    let p : Place = place_in (s.tables.heap (field_word place index)) in
+    let takes = replies b s i v (event.SwapsReference o dest place index value) is there may in
+    let replied = takes.replies ∙ ap (λ z. found_reply z takes.found) may.swaps in
+    writes_reference b s i v (loaded_with v o dest p) o place index value may.base index is there may.stage may.does
+    (swap_writes o (step (moment_of b s).state v.thread o).1 dest may.base index may.source takes.found may.swaps replied) (taken_quiet v o dest p) (taken_log v o dest p)
 events_keep replies b s i v event.DrawsRun is there may =
     quiet_keeps b s i v (intends v (DrewRun (s.tables.cursors RUN_CURSOR))) (with_cursor s.tables RUN_CURSOR (s.tables.cursors RUN_CURSOR + 1)) is there (same_bits s.tables s.tables.heap _) (in_quiet v (Works Plain) may.stage tt) tt refl
 events_keep replies b s i v event.MissesRun is there may =
@@ -316,6 +342,6 @@ events_keep replies b s i v (event.MakesObject o dest place shape) is there may 
     (in_quiet v (Works (Makes place shape may.wiped)) may.stage tt) (after_quiet held_view o) refl
 events_keep replies b s i v (event.Asks o r) is there may =
     quiet_call b s i v (done_with v o r) o r (with_cursor s.tables PAUSE_WORD 1) s.at is there (same_bits s.tables s.tables.heap _) (λ n h. refl)
-    (replies b s i v (event.Asks o r) is there may) (asked_unstored o r may.asks) (in_quiet v (Works Plain) may.stage tt) (after_quiet v o) refl
+    (replies b s i v (event.Asks o r) is there may) (asked_none o r may.asks) (in_quiet v (Works Plain) may.stage tt) (after_quiet v o) refl
 events_keep replies b s i v (event.Leaves reason) is there may =
     quiet_keeps b s i v (at_stage v (Through reason)) (with_cursor s.tables PAUSE_WORD 1) is there (same_bits s.tables s.tables.heap _) (in_quiet v (Works (GivesUp reason)) may tt) tt refl

@@ -1,6 +1,6 @@
--- What the store to a reference does once its bit is clear: the reference was stored to, and its mutator no longer is about to.
-use Rattle.std.proofs.Common.{◌≡◌, ℕ, sym, ap, subst, ◌∙◌, inl, inr, List}
-use Rattle.std.specs.Prelude.{Some, IsTrue, slice_get}
+-- What a store to a reference, or a swap, does once its bit is clear: the reference is written, and its mutator no longer is about to write it.
+use Rattle.std.proofs.Common.{◌≡◌, ℕ, refl, sym, ap, subst, ◌∙◌, inl, inr, List}
+use Rattle.std.specs.Prelude.{Option, Some, IsTrue, slice_get}
 use Rattle.lxr_layout.specs.declared.Name.{Name}
 use Rattle.lxr_graph.specs.declared.Op.{Op}
 use Rattle.lxr_graph.specs.declared.Op.TheVariants as op
@@ -22,7 +22,7 @@ use Rattle.lxr_core_inv_logs.proofs.TurnLemmas.{HasLogs, Turns}
 
 -- ---- stages
 
--- a mutator that intends this neither has an entry to record nor is about to store
+-- a mutator that intends this neither has an entry to record nor is about to store or swap
 abbrev pub IsQuietBy : Intent → Type 0
 IsQuietBy (Clears e) = ⊥
 IsQuietBy (Stores place index) = ⊥
@@ -37,35 +37,41 @@ IsQuiet _ = Unit {0}
 pub quiet_clears : {P : Type 0} (stage : Stage) (intent : Intent) → IsQuiet stage → stage ≡ Works intent → (IsQuietBy intent → ⊥) → P
 quiet_clears stage intent quiet same not = absurd (not (subst IsQuiet same quiet))
 
--- ---- what it writes
+-- ---- what is written
 
--- a store that replied ok writes the reference of what its base register holds
-writes_told : (s : State) (t : ℕ) (o : Op) (r : Reply) (base index source : ℕ) (n : Name) (i : ℕ) → o ≡ op.Store base index source → r ≡ reply.Stored → WritesField s t o r n i
-    → (register_at s t base ≡ Some n) × (index ≡ i)
-writes_told s t o r base index source n i e f = subst (λ (z : Op × Reply). WritesField s t z.0 z.1 n i → (register_at s t base ≡ Some n) × (index ≡ i)) (λ j. (sym e j, sym f j)) (λ h. h)
+-- an operation that replied so wrote this reference of what its base register holds, and no other
+pub record IsWrite (o : Op) (r : Reply) (base index : ℕ) : Type 0 where
+  pub named : base_of o ≡ Some (base, index)
+  pub told : (s : State) (t : ℕ) (n : Name) (i : ℕ) → WritesField s t o r n i → (register_at s t base ≡ Some n) × (index ≡ i)
+  pub writes : (s : State) (t : ℕ) (n : Name) (i : ℕ) → register_at s t base ≡ Some n → index ≡ i → WritesField s t o r n i
 
--- and this reference it writes
-writes_this : (s : State) (t : ℕ) (o : Op) (r : Reply) (base index source : ℕ) (n : Name) (i : ℕ) → o ≡ op.Store base index source → r ≡ reply.Stored → register_at s t base ≡ Some n → index ≡ i
-    → WritesField s t o r n i
-writes_this s t o r base index source n i e f h k = subst (λ (z : Op × Reply). WritesField s t z.0 z.1 n i) (λ j. (sym e j, sym f j)) (h, k)
+-- a store that replied ok
+pub store_writes : (o : Op) (r : Reply) (base index source : ℕ) → o ≡ op.Store base index source → r ≡ reply.Stored → IsWrite o r base index
+store_writes o r base index source e f =
+    subst (λ (z : Op × Reply). IsWrite z.0 z.1 base index) (λ j. (sym e j, sym f j)) (record { named = refl; told = λ s t n i w. w; writes = λ s t n i h k. (h, k) })
+
+-- a swap that replied with what it found
+pub swap_writes : (o : Op) (r : Reply) (dest base index source : ℕ) (found : Option Name) → o ≡ op.Swap dest base index source → r ≡ reply.Swapped found → IsWrite o r base index
+swap_writes o r dest base index source found e f =
+    subst (λ (z : Op × Reply). IsWrite z.0 z.1 base index) (λ j. (sym e j, sym f j)) (record { named = refl; told = λ s t n i w. w; writes = λ s t n i h k. (h, k) })
 
 -- ---- what it turns to
 
--- what was about to be stored to is stored to
-pub store_turns : (t : Tables) (blocks : ℕ) (m : Moment) (at : Name → ℕ) (cleared : List Field) (thread_states : List ThreadState) (room i : ℕ) (v w : ThreadState) (place index : ℕ) (o : Op) (r : Reply) (base k source : ℕ)
-    → Acts t blocks at m v → KnowsReference m at v place index → Does v o → o ≡ op.Store base k source → r ≡ reply.Stored → v.stage ≡ Works (Stores place index) → slice_get thread_states i ≡ Some v
+-- what was about to be written is written
+pub write_turns : (t : Tables) (blocks : ℕ) (m : Moment) (at : Name → ℕ) (cleared : List Field) (thread_states : List ThreadState) (room i : ℕ) (v w : ThreadState) (place index : ℕ) (o : Op) (r : Reply) (base k : ℕ)
+    → Acts t blocks at m v → KnowsReference m at v place index → Does v o → IsWrite o r base k → v.stage ≡ Works (Stores place index) → slice_get thread_states i ≡ Some v
     → HasLogs t m at cleared thread_states room → IsQuiet w.stage → w.log ≡ v.log → Turns m at cleared (written_after m v.thread o r) v w
-store_turns t blocks m at cleared thread_states room i v w place index o r base k source acts knows does stores replied stage there is quiet log =
+write_turns t blocks m at cleared thread_states room i v w place index o r base k acts knows does write stage there is quiet log =
     let own = base_held t blocks at m v o place index acts does knows.on in
     let n : Name = own.name in
-    let named = same_pair base k own.base index (ap base_of (sym stores) ∙ own.named) in
+    let named = same_pair base k own.base index (sym write.named ∙ own.named) in
     let holds : register_at m.state v.thread base ≡ Some n = ap (register_at m.state v.thread) named.0 ∙ own.holds in
     record {
       log = log;
       were_cleared = λ q j h. elim (written_split m v.thread o r q j h) [
         | inl old ↦ is.written q j old
         | inr new ↦
-            let told = writes_told m.state v.thread o r base k source q j stores replied new.1 in
+            let told = write.told m.state v.thread q j new.1 in
             let both : Some n ≡ Some q = sym holds ∙ told.0 in
             let same : n ≡ q = cc in
             subst (λ z. IsTrue (has_field cleared (q, z))) (sym named.1 ∙ told.1) (is.thread_states_tell.stores i v place index q there stage new.0 (own.stands ∙ ap at same))
@@ -78,7 +84,7 @@ store_turns t blocks m at cleared thread_states room i v w place index o r base 
           let place_is : place ≡ at q = cc in
           let index_is : index ≡ j = cc in
           let same : n ≡ q = one_place t blocks at m.state.graph (members m) n q acts.image own.member (in_first m.unreclaimed m.made q kept) (sym own.stands ∙ place_is) in
-          written_there m v.thread o r q j kept (writes_this m.state v.thread o r base k source q j stores replied (holds ∙ ap Some same) (named.1 ∙ index_is));
+          written_there m v.thread o r q j kept (write.writes m.state v.thread q j (holds ∙ ap Some same) (named.1 ∙ index_is));
       clears = λ e now. quiet_clears w.stage (Clears e) quiet now (λ h. h);
       stores = λ p j q now member here. quiet_clears w.stage (Stores p j) quiet now (λ h. h);
     }

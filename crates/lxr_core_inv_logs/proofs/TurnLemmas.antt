@@ -92,8 +92,7 @@ pub record KeepsUnreclaimed (m : Moment) (st : State) (at to : Name → ℕ) : T
   pub places : (n : Name) → IsTrue (has m.unreclaimed n) → to n ≡ at n
   pub refs : (n : Name) → IsTrue (has m.unreclaimed n) → length (refs_of (object_at st.graph n)) ≡ length (refs_of (object_at m.state.graph n))
 
--- What one mutator turns to, without clearing a bit: what is stored to is cleared, and what it was about to store to was
--- stored to.
+-- What one mutator turns to, without clearing a bit: what is written is cleared, and what it was about to write was written.
 pub record Turns (m : Moment) (at : Name → ℕ) (cleared ws : List Field) (v w : ThreadState) : Type 0 where
   pub log : w.log ≡ v.log
   pub were_cleared : (n : Name) (i : ℕ) → IsTrue (has_field ws (n, i)) → IsTrue (has_field cleared (n, i))

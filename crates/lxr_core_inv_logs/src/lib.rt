@@ -16,7 +16,7 @@ pub fn bits_and_logs_are_left()
     ensures { BitsAndLogsAreLeft }
 {}
 
-/// Where all mutators rest, bits and logs are those of the references that were stored to.
+/// Where all mutators rest, bits and logs are those of the references that were written.
 pub fn closing_logs()
     ensures { ClosingLogs }
 {}

@@ -8,7 +8,7 @@ use Rattle.lxr_graph.specs.declared.Reply.TheVariants as reply
 use Rattle.lxr_graph.specs.History.{Call}
 use Rattle.lxr_graph.specs.Names.{has}
 use Rattle.lxr_graph.specs.State.{Object, State, object_at, refs_of, values_of, register_at}
-use Rattle.lxr_graph.specs.Step.{get_from, got, load_from, loaded, put_at, put_to, step, store_to, stored}
+use Rattle.lxr_graph.specs.Step.{add_to, added, get_from, got, load_from, loaded, put_at, put_to, step, store_to, stored, swap_in, swapped}
 use Rattle.lxr_image.specs.Tables.{Tables}
 use Rattle.lxr_image.specs.Image.{granules_of}
 use Rattle.lxr_model.specs.Moments.{Field, Moment, after_call}
@@ -52,6 +52,16 @@ store_none : (s : State) (i : ℕ) (v base : Option Name) (n : Name) → (store_
 store_none s i v None n e = cc
 store_none s i v (Some b) n e = stored_none s b i v (slice_get (refs_of (object_at s.graph b)) i) n e
 
+-- a swap replies no new name, by what it found
+swapped_none : (s : State) (t dest : ℕ) (b : Name) (i : ℕ) (v : Option Name) (found : Option (Option Name)) (n : Name) → (swapped s t dest b i v found).1 ≡ reply.New n → ⊥
+swapped_none s t dest b i v None n e = cc
+swapped_none s t dest b i v (Some old) n e = cc
+
+-- nor by what its base register holds
+swap_none : (s : State) (t dest i : ℕ) (v base : Option Name) (n : Name) → (swap_in s t dest i v base).1 ≡ reply.New n → ⊥
+swap_none s t dest i v None n e = cc
+swap_none s t dest i v (Some b) n e = swapped_none s t dest b i v (slice_get (refs_of (object_at s.graph b)) i) n e
+
 -- a put replies no new name, by what it found
 put_found_none : (s : State) (b : Name) (i v : ℕ) (found : Option ℕ) (n : Name) → (put_at s b i v found).1 ≡ reply.New n → ⊥
 put_found_none s b i v None n e = cc
@@ -61,6 +71,16 @@ put_found_none s b i v (Some old) n e = cc
 put_none : (s : State) (i v : ℕ) (base : Option Name) (n : Name) → (put_to s i v base).1 ≡ reply.New n → ⊥
 put_none s i v None n e = cc
 put_none s i v (Some b) n e = put_found_none s b i v (slice_get (values_of (object_at s.graph b)) i) n e
+
+-- an add replies no new name, by what it found
+added_none : (s : State) (b : Name) (i v : ℕ) (found : Option ℕ) (n : Name) → (added s b i v found).1 ≡ reply.New n → ⊥
+added_none s b i v None n e = cc
+added_none s b i v (Some old) n e = cc
+
+-- nor by what its base register holds
+add_none : (s : State) (i v : ℕ) (base : Option Name) (n : Name) → (add_to s i v base).1 ≡ reply.New n → ⊥
+add_none s i v None n e = cc
+add_none s i v (Some b) n e = added_none s b i v (slice_get (values_of (object_at s.graph b)) i) n e
 
 -- a get replies no new name, by what it found
 got_none : (found : Option ℕ) (n : Name) → got found ≡ reply.New n → ⊥
@@ -79,6 +99,8 @@ makes_none s t (op.Load dest base index) n other e = load_none s t dest index (r
 makes_none s t (op.Store base index source) n other e = store_none s index (register_at s t source) (register_at s t base) n e
 makes_none s t (op.Put base index value) n other e = put_none s index value (register_at s t base) n e
 makes_none s t (op.Get base index) n other e = get_none s index (register_at s t base) n e
+makes_none s t (op.Swap dest base index source) n other e = swap_none s t dest index (register_at s t source) (register_at s t base) n e
+makes_none s t (op.Add base index value) n other e = add_none s index value (register_at s t base) n e
 makes_none s t (op.Move dest source) n other e = cc
 makes_none s t (op.Nil dest) n other e = cc
 makes_none s t (op.Same left right) n other e = cc

@@ -3,7 +3,6 @@ use Rattle.std.proofs.Common.{◌≡◌, ◌≢◌, ℕ, ◌+◌, ◌*◌, ◌<�
 use Rattle.std.specs.Prelude.{Some, slice_get, slice_set}
 use Rattle.std.proofs.lemmas.List.{length-append}
 use Rattle.std.proofs.lemmas.Bool.Decides.{eqb_tells}
-use Rattle.lxr_layout.specs.Places.{field_word, place_in}
 use Rattle.lxr_layout.specs.declared.TheConstants.{FREE_BLOCK_COUNT, FREE_BLOCK_CURSOR, GRANULES_IN_BLOCK, LINES_IN_BLOCK, PAUSE_WORD, RUN_COUNT, RUN_CURSOR}
 use Rattle.lxr_layout.specs.declared.Place.{Place}
 use Rattle.lxr_layout.specs.declared.Shape.{Shape}
@@ -22,7 +21,7 @@ use Rattle.lxr_core_invariant.specs.ThreadStates.{Stage, ThreadState, Plain, Dre
 use Rattle.lxr_core_invariant.specs.EpochStates.{Beginning, EpochState, limits_of, opening_tables}
 use Rattle.lxr_core_invariant.specs.Events.{Current, Does, Event, Source, WorksOn, at_once, base_of, done_with, making, source_for, span_from, with_span}
 use Rattle.lxr_core_invariant.specs.Events as event
-use Rattle.lxr_core_invariant.specs.Happening.{DoesNew, MayBump, MayMake, MayTakeBlock, MayTakeRun, asked_by, happen, intends, shows, stands, with_block, with_cursor, with_run}
+use Rattle.lxr_core_invariant.specs.Happening.{DoesNew, MayBump, MayMake, MayTakeBlock, MayTakeRun, asked_by, happen, intends, loaded_with, shows, stands, with_block, with_cursor, with_run}
 use Rattle.lxr_core_invariant.specs.Drawn.{Drawers, HasDrawn, HasGranule, InHand, InSpan, IsDrawnMemory, IsHandOf, IsOfHand, IsOfMaking, MakesIn, MakesInBlock, Owns, UndrawnBlock, UndrawnRun}
 use Rattle.lxr_core_invariant.specs.Epoch.{IsEpoch}
 use Rattle.lxr_core_invariant.specs.Laws.{DrawnMemoryIsKept}
@@ -74,6 +73,12 @@ idle_call b s i v o w t is there other runs blocks was rests spans =
     let u : EpochState = stands b s i v o w t in
     let none = idle b v.stage was in
     idle_kept b s u i v w is.drawn (turns_still s u i v w there refl runs blocks) (call_carries b s i v o t (slice_set s.thread_states i w) s.cleared is there other) spans rests (record { runs = runs; blocks = blocks }) (λ k _ h. none.unused k h) none.unmade
+
+-- so where that takes a reference into a register
+taking_call : (b : Beginning) (s : EpochState) (i : ℕ) (v : ThreadState) (o : Op) (dest : ℕ) (p : Place) (t : Tables) → IsEpoch b s → slice_get s.thread_states i ≡ Some v → IsNoNew o
+    → t.cursors RUN_CURSOR ≡ s.tables.cursors RUN_CURSOR → t.cursors FREE_BLOCK_CURSOR ≡ s.tables.cursors FREE_BLOCK_CURSOR → is_idle v.stage ≡ true → IsDrawnMemory b (stands b s i v o (loaded_with v o dest p) t)
+taking_call b s i v o dest p t is there other runs blocks was =
+    let idles = loaded_idle v o dest p in idle_call b s i v o (loaded_with v o dest p) t is there other runs blocks was idles.0 idles.1
 
 -- ---- a number is drawn
 
@@ -340,13 +345,14 @@ drawn_memory_is_kept b s i v (event.FindsValue place refs index) is there may = 
 drawn_memory_is_kept b s i v (event.FindsNone o) is there may =
     idle_call b s i v o _ s.tables is there (works_no_new v o may.place may.index may.reads.does may.reads.on) refl refl (ap is_idle may.reads.stage) (after_idle v o) refl
 drawn_memory_is_kept b s i v (event.LoadsReference o dest place index) is there may =
-    let idles = loaded_idle v o dest (place_in (s.tables.heap (field_word place index))) in
-    idle_call b s i v o _ s.tables is there (subst IsNoNew (sym may.loads.1) tt) refl refl (ap is_idle may.stage) idles.0 idles.1
+    taking_call b s i v o dest _ s.tables is there (subst IsNoNew (sym may.loads.1) tt) refl refl (ap is_idle may.stage)
 drawn_memory_is_kept b s i v (event.TellsName o n) is there may = idle_step b s i v _ s.tables s.cleared is there refl refl (ap is_idle may.stage) (after_idle v o) refl
 drawn_memory_is_kept b s i v (event.GetsValue o place refs index) is there may =
     idle_call b s i v o _ s.tables is there (subst IsNoNew (sym may.gets.1) tt) refl refl (ap is_idle may.stage) (after_idle v o) refl
 drawn_memory_is_kept b s i v (event.PutsValue o place refs index value) is there may =
     idle_call b s i v o _ _ is there (subst IsNoNew (sym may.puts.1) tt) refl refl (ap is_idle may.stage) (after_idle v o) refl
+drawn_memory_is_kept b s i v (event.AddsValue o place refs index value) is there may =
+    idle_call b s i v o _ _ is there (subst IsNoNew (sym may.adds.1) tt) refl refl (ap is_idle may.stage) (after_idle v o) refl
 drawn_memory_is_kept b s i v (event.SeesClear place index) is there may = idle_step b s i v _ s.tables s.cleared is there refl refl (ap is_idle may.stage) refl refl
 drawn_memory_is_kept b s i v (event.SeesFull place index) is there may = idle_step b s i v _ s.tables s.cleared is there refl refl (ap is_idle may.stage) refl refl
 drawn_memory_is_kept b s i v (event.LoadsOld place index) is there may = idle_step b s i v _ s.tables s.cleared is there refl refl (ap is_idle may.stage) refl refl
@@ -354,6 +360,8 @@ drawn_memory_is_kept b s i v (event.ClearsFirst e n) is there may = idle_step b 
 drawn_memory_is_kept b s i v (event.ClearsLate e) is there may = idle_step b s i v _ s.tables s.cleared is there refl refl (ap is_idle may.stage) refl refl
 drawn_memory_is_kept b s i v (event.StoresReference o place index value) is there may =
     idle_call b s i v o _ _ is there (subst IsNoNew (sym may.stores) tt) refl refl (ap is_idle may.stage) (after_idle v o) refl
+drawn_memory_is_kept b s i v (event.SwapsReference o dest place index value) is there may =
+    taking_call b s i v o dest _ _ is there (subst IsNoNew (sym may.swaps) tt) refl refl (ap is_idle may.stage)
 drawn_memory_is_kept b s i v event.DrawsRun is there may = run_drawn b s i v is there may.stage
 drawn_memory_is_kept b s i v event.MissesRun is there may =
     idle_kept b s (happen b s i v event.MissesRun) i v _ is.drawn (turns_still s (happen b s i v event.MissesRun) i v _ there refl refl refl) (still_carries b s s.tables _ s.cleared) refl refl (record { runs = refl; blocks = refl })

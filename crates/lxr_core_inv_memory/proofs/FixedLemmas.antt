@@ -6,13 +6,12 @@ use Rattle.lxr_layout.specs.declared.TheConstants.{FREE_BLOCK_CURSOR, PAUSE_WORD
 use Rattle.lxr_layout.specs.declared.Place.{Place}
 use Rattle.lxr_graph.specs.declared.Op.{Op}
 use Rattle.lxr_graph.specs.declared.Reply.{Reply}
-use Rattle.lxr_graph.specs.declared.Reply.TheVariants as reply
 use Rattle.lxr_graph.proofs.NameSets.{not_both}
 use Rattle.lxr_image.specs.Tables.{Tables}
 use Rattle.lxr_invariant.proofs.EntryLemmas.{changed_other}
 use Rattle.lxr_core_invariant.specs.ThreadStates.{Stage, ThreadState, Plain, AtReference, AtValue, Clears, Stores, DrewRun, HasRun, NeedsBlock, DrewBlock, HasBlock, Makes, GivesUp, Rests, Works, Names, Through}
 use Rattle.lxr_core_invariant.specs.EpochStates.{Beginning, EpochState, opening_tables}
-use Rattle.lxr_core_invariant.specs.Events.{Event, done_with}
+use Rattle.lxr_core_invariant.specs.Events.{Event, done_with, found_reply}
 use Rattle.lxr_core_invariant.specs.Events as event
 use Rattle.lxr_core_invariant.specs.Happening.{May, at_stage, happen, loaded_with}
 use Rattle.lxr_core_invariant.specs.Drawn.{AreFixed, block_draws, run_draws, total}
@@ -85,13 +84,13 @@ grows_by v w from to runs blocks was is same more_runs more_blocks =
 grows : (v : ThreadState) (from to : Stage) → v.stage ≡ from → run_draws from ≤ run_draws to → block_draws from ≤ block_draws to → Grows v (at_stage v to) 0 0
 grows v from to was more_runs more_blocks = grows_by v (at_stage v to) from to 0 0 was refl refl (omega (arith, more_runs)) (omega (arith, more_blocks))
 
--- a load that took a place has drawn nothing
-grows_loaded : (v : ThreadState) (o : Op) (dest : ℕ) (p : Place) (place index : ℕ) → v.stage ≡ Works (AtReference place index) → Grows v (loaded_with v o dest p) 0 0
-grows_loaded v o dest p place index was =
+-- a load or a swap that took a place has drawn nothing
+grows_loaded : (v : ThreadState) (o : Op) (dest : ℕ) (p : Place) (from : Stage) → v.stage ≡ from → run_draws from ≤ run_draws (Names p.0) → block_draws from ≤ block_draws (Names p.0) → Grows v (loaded_with v o dest p) 0 0
+grows_loaded v o dest p from was runs blocks =
     let held : ThreadState = record v { registers = slice_set v.registers dest p } in
-    elim (nat_eq p.0 0) as (λ b. Grows v (cond b (done_with held o (reply.Loaded None)) (at_stage held (Names p.0))) 0 0) [
-      | true ↦ grows_done v (done_with held o (reply.Loaded None)) (reply.Loaded None) refl
-      | false ↦ grows_by v (at_stage held (Names p.0)) (Works (AtReference place index)) (Names p.0) 0 0 was refl refl (lit≤ tt) (lit≤ tt)
+    elim (nat_eq p.0 0) as (λ b. Grows v (cond b (done_with held o (found_reply o None)) (at_stage held (Names p.0))) 0 0) [
+      | true ↦ grows_done v (done_with held o (found_reply o None)) (found_reply o None) refl
+      | false ↦ grows_by v (at_stage held (Names p.0)) from (Names p.0) 0 0 was refl refl (omega (arith, runs)) (omega (arith, blocks))
     ]
 
 -- ---- what mutators leave
@@ -161,16 +160,19 @@ kept b s i v (event.DoesAtOnce o r registers) is there may = fixed_still b s _ i
 kept b s i v (event.FindsReference place index) is there may = fixed_still b s _ i v _ is there refl refl refl (grows v _ _ may.reads.stage (lit≤ tt) (lit≤ tt))
 kept b s i v (event.FindsValue place refs index) is there may = fixed_still b s _ i v _ is there refl refl refl (grows v _ _ may.reads.stage (lit≤ tt) (lit≤ tt))
 kept b s i v (event.FindsNone o) is there may = fixed_still b s _ i v _ is there refl refl refl (grows_done v _ _ refl)
-kept b s i v (event.LoadsReference o dest place index) is there may = fixed_still b s _ i v _ is there refl refl refl (grows_loaded v o dest _ place index may.stage)
+kept b s i v (event.LoadsReference o dest place index) is there may = fixed_still b s _ i v _ is there refl refl refl (grows_loaded v o dest _ (Works (AtReference place index)) may.stage (lit≤ tt) (lit≤ tt))
 kept b s i v (event.TellsName o n) is there may = fixed_still b s _ i v _ is there refl refl refl (grows_done v _ _ refl)
 kept b s i v (event.GetsValue o place refs index) is there may = fixed_still b s _ i v _ is there refl refl refl (grows_done v _ _ refl)
 kept b s i v (event.PutsValue o place refs index value) is there may = fixed_still b s _ i v _ is there refl refl refl (grows_done v _ _ refl)
+kept b s i v (event.AddsValue o place refs index value) is there may = fixed_still b s _ i v _ is there refl refl refl (grows_done v _ _ refl)
 kept b s i v (event.SeesClear place index) is there may = fixed_still b s _ i v _ is there refl refl refl (grows v _ _ may.stage (lit≤ tt) (lit≤ tt))
 kept b s i v (event.SeesFull place index) is there may = fixed_still b s _ i v _ is there refl refl refl (grows v _ _ may.stage (lit≤ tt) (lit≤ tt))
 kept b s i v (event.LoadsOld place index) is there may = fixed_still b s _ i v _ is there refl refl refl (grows v _ _ may.stage (lit≤ tt) (lit≤ tt))
 kept b s i v (event.ClearsFirst e n) is there may = fixed_still b s _ i v _ is there refl refl refl (grows_by v _ _ _ 0 0 may.clear.stage refl refl (lit≤ tt) (lit≤ tt))
 kept b s i v (event.ClearsLate e) is there may = fixed_still b s _ i v _ is there refl refl refl (grows v _ _ may.stage (lit≤ tt) (lit≤ tt))
 kept b s i v (event.StoresReference o place index value) is there may = fixed_still b s _ i v _ is there refl refl refl (grows_done v _ _ refl)
+kept b s i v (event.SwapsReference o dest place index value) is there may =
+    fixed_still b s _ i v _ is there refl refl refl (grows_loaded v o dest _ (Works (Stores place index)) may.stage (lit≤ tt) (lit≤ tt))
 kept b s i v event.DrawsRun is there may =
     fixed_after b s _ i v _ 1 0 is there refl (mutators_leave b s i v event.DrawsRun) is.word (omega arith) (omega arith)
     (grows_by v _ _ _ 1 0 may.stage refl refl (lit≤ tt) (lit≤ tt))

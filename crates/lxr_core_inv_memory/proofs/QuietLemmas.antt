@@ -5,11 +5,10 @@ use Rattle.lxr_layout.specs.declared.TheConstants.{FREE_BLOCK_COUNT}
 use Rattle.lxr_layout.specs.declared.Place.{Place}
 use Rattle.lxr_layout.specs.declared.Shape.{Shape}
 use Rattle.lxr_graph.specs.declared.Op.{Op}
-use Rattle.lxr_graph.specs.declared.Reply.TheVariants as reply
 use Rattle.lxr_core_invariant.specs.ThreadStates.{Intent, Stage, ThreadState, Plain, AtReference, AtValue, Clears, Stores, DrewRun, HasRun, NeedsBlock, DrewBlock, HasBlock, Makes, GivesUp, Rests, Works, Names, Through, is_end}
 use Rattle.lxr_core_invariant.specs.ThreadStates as why
 use Rattle.lxr_core_invariant.specs.EpochStates.{Beginning, EpochState, opening_tables}
-use Rattle.lxr_core_invariant.specs.Events.{done_with, span_from, stage_after}
+use Rattle.lxr_core_invariant.specs.Events.{done_with, found_reply, span_from, stage_after}
 use Rattle.lxr_core_invariant.specs.Happening.{at_stage, loaded_with}
 use Rattle.lxr_core_invariant.specs.Drawn.{Drawers, HasDrawn, HasGranule, IsDrawnMemory, IsHandOf, IsOfHand, IsOfMaking, IsUsed, MakesIn, MakesInBlock, UndrawnRun}
 use Rattle.lxr_core_inv_memory.proofs.CarryLemmas.{Carries}
@@ -51,11 +50,11 @@ after_idle v o = elim (is_end o) as (λ c. is_idle (cond c (Through why.Ended) (
   | false ↦ elim (nat_eq (v.since + 1) v.every) as (λ c. is_idle (cond c (Through why.Turns) Rests) ≡ true) [ true ↦ refl | false ↦ refl ]
 ]
 
--- once a load has taken a place
+-- once a load or a swap has taken a place
 pub loaded_idle : (v : ThreadState) (o : Op) (dest : ℕ) (p : Place) → (is_idle (loaded_with v o dest p).stage ≡ true) × ((loaded_with v o dest p).spans ≡ v.spans)
 loaded_idle v o dest p =
     let held : ThreadState = record v { registers = slice_set v.registers dest p } in
-    elim (nat_eq p.0 0) as (λ c. (is_idle (cond c (done_with held o (reply.Loaded None)) (at_stage held (Names p.0))).stage ≡ true) × ((cond c (done_with held o (reply.Loaded None)) (at_stage held (Names p.0))).spans ≡ v.spans)) [
+    elim (nat_eq p.0 0) as (λ c. (is_idle (cond c (done_with held o (found_reply o None)) (at_stage held (Names p.0))).stage ≡ true) × ((cond c (done_with held o (found_reply o None)) (at_stage held (Names p.0))).spans ≡ v.spans)) [
       | true ↦ (after_idle held o, refl)
       | false ↦ (refl, refl)
     ]

@@ -79,8 +79,10 @@ logged_keeps t w = record {
 event_remembered : (b : Beginning) (s : EpochState) (i : ℕ) (v : ThreadState) (e : Event) → AreRememberedIn b s → AreRememberedIn b (happen b s i v e)
 event_remembered b s i v event.Stays is = is
 event_remembered b s i v (event.PutsValue o place refs index value) is = still_in b s (happen b s i v (event.PutsValue o place refs index value)) refl (heap_keeps s.tables _) is
+event_remembered b s i v (event.AddsValue o place refs index value) is = still_in b s (happen b s i v (event.AddsValue o place refs index value)) refl (heap_keeps s.tables _) is
 event_remembered b s i v (event.ClearsFirst e n) is = still_in b s (happen b s i v (event.ClearsFirst e n)) refl (logged_keeps s.tables _) is
 event_remembered b s i v (event.StoresReference o place index value) is = still_in b s (happen b s i v (event.StoresReference o place index value)) refl (heap_keeps s.tables _) is
+event_remembered b s i v (event.SwapsReference o dest place index value) is = still_in b s (happen b s i v (event.SwapsReference o dest place index value)) refl (heap_keeps s.tables _) is
 event_remembered b s i v event.DrawsRun is = still_in b s (happen b s i v event.DrawsRun) refl (cursor_keeps s.tables RUN_CURSOR _ (λ e. absurd (omega (arith, e)))) is
 event_remembered b s i v event.DrawsBlock is = still_in b s (happen b s i v event.DrawsBlock) refl (cursor_keeps s.tables FREE_BLOCK_CURSOR _ (λ e. absurd (omega (arith, e)))) is
 event_remembered b s i v (event.Wipes place shape wiped) is = still_in b s (happen b s i v (event.Wipes place shape wiped)) refl (heap_keeps s.tables _) is

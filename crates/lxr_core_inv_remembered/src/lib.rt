@@ -3,9 +3,9 @@
 //!
 //! A tracer that scans an object draws a number for each reference into a Chosen block, and writes the reference's entry there, with the reuse
 //! counter of its line (remembered sets of LXR: Zhao, Blackburn and McKinley, 2022). Until then it is ahead of that reference. A mutator
-//! that stores to a reference has cleared its unlogged bit first, and the next pause looks at it again. No object is marked twice, so no more
-//! numbers are drawn than the snapshot has references that were unmarked. The functions of this crate do nothing: the contract of each is a
-//! law.
+//! that stores to a reference, or swaps it, has cleared its unlogged bit first, and the next pause looks at it again. No object is marked
+//! twice, so no more numbers are drawn than the snapshot has references that were unmarked. The functions of this crate do nothing: the
+//! contract of each is a law.
 #![tactic(auto)]
 
 ghost use Rattle.lxr_core_invariant.specs.Laws.{ClosingRemembered, DecrementersKeepRemembered, OpeningRemembered, RememberedIsKept, TracersKeepRemembered};

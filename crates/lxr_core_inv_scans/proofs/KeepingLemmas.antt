@@ -35,8 +35,10 @@ quiet b s u is marks grays =
 -- each event of a mutator leaves them
 event_scanned : (b : Beginning) (s : EpochState) (i : ℕ) (v : ThreadState) (e : Event) → AreScannedIn b s → AreScannedIn b (happen b s i v e)
 event_scanned b s i v (event.PutsValue o place refs index value) is = quiet b s _ is refl refl
+event_scanned b s i v (event.AddsValue o place refs index value) is = quiet b s _ is refl refl
 event_scanned b s i v (event.ClearsFirst e n) is = quiet b s _ is refl refl
 event_scanned b s i v (event.StoresReference o place index value) is = quiet b s _ is refl refl
+event_scanned b s i v (event.SwapsReference o dest place index value) is = quiet b s _ is refl refl
 event_scanned b s i v event.DrawsRun is = quiet b s _ is refl refl
 event_scanned b s i v event.DrawsBlock is = quiet b s _ is refl refl
 event_scanned b s i v (event.Wipes place shape wiped) is = quiet b s _ is refl refl

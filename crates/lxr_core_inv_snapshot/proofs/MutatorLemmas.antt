@@ -9,7 +9,6 @@ use Rattle.lxr_base.specs.Roomy.{pushed}
 use Rattle.lxr_graph.specs.declared.Op.{Op}
 use Rattle.lxr_graph.specs.declared.Op.TheVariants as op
 use Rattle.lxr_graph.specs.declared.Reply.{Reply}
-use Rattle.lxr_graph.specs.declared.Reply.TheVariants as reply
 use Rattle.lxr_graph.specs.Names.{has, same_name}
 use Rattle.lxr_graph.specs.State.{State, next_name, object_at}
 use Rattle.lxr_graph.specs.Step.{state_after, step}
@@ -22,7 +21,7 @@ use Rattle.lxr_model_counting.specs.Following.{FollowsPause}
 use Rattle.lxr_invariant.specs.Tracing.{IsOldValue}
 use Rattle.lxr_core_invariant.specs.ThreadStates.{ThreadState, Names, Stores}
 use Rattle.lxr_core_invariant.specs.EpochStates.{Beginning, EpochState, moment_of}
-use Rattle.lxr_core_invariant.specs.Events.{Event, done_with}
+use Rattle.lxr_core_invariant.specs.Events.{Event, done_with, found_reply}
 use Rattle.lxr_core_invariant.specs.Events as event
 use Rattle.lxr_core_invariant.specs.Happening.{MayClearFirst, asked_by, at_stage, happen, intends, loaded_with, shows, stands}
 use Rattle.lxr_core_invariant.specs.Logged.{logs_of}
@@ -32,7 +31,7 @@ use Rattle.lxr_core_invariant.specs.Laws.{CoverIsKept}
 use Rattle.lxr_core_inv_snapshot.proofs.HelperLemmas.{while_runs}
 use Rattle.lxr_core_inv_snapshot.proofs.OldLemmas.{old_joins, old_left, old_stays}
 use Rattle.lxr_core_inv_snapshot.proofs.TurnLemmas.{turn_keeps_cover}
-use Rattle.lxr_core_inv_snapshot.proofs.StoreLemmas.{IsWaiting, StoresTo, at_once_never, call_leaves, clears_logs, none_never, store_never}
+use Rattle.lxr_core_inv_snapshot.proofs.StoreLemmas.{IsWaiting, WritesTo, at_once_never, call_leaves, clears_logs, none_never, store_never, swap_never}
 
 -- ---- kinds of events
 
@@ -57,7 +56,7 @@ shows_covers b s i v w heap cursors is shown log =
 -- an event by which an operation comes to stand in the history
 call_covers : (b : Beginning) (s : EpochState) (i : ℕ) (v w : ThreadState) (o : Op) (heap cursors : ℕ → ℕ) (to : Name → ℕ) → (is : IsEpoch b s) → (shown : slice_get s.thread_states i ≡ Some v) → w.log ≡ v.log
     → ((n : Name) → IsTrue (has (moment_of b s).unreclaimed n) → to n ≡ s.at n)
-    → ((n p : Name) (k : ℕ) → IsWaiting b s i v is shown n p k → StoresTo (moment_of b s).state v.thread o n k → ⊥)
+    → ((n p : Name) (k : ℕ) → IsWaiting b s i v is shown n p k → WritesTo (moment_of b s).state v.thread o n k → ⊥)
     → SnapshotIsCoveredIn b (record (stands b s i v o w (record s.tables { heap = heap; cursors = cursors })) { at = to })
 call_covers b s i v w o heap cursors to is shown log places never =
     let m : Moment = moment_of b s in
@@ -98,15 +97,17 @@ clears_covers b s i v e n is shown may =
     }) trace)
     is.covered
 
--- ---- no store
+-- ---- nothing is written
 
--- an operation that is another than a store
-other_never : (st : State) (t : ℕ) (o q : Op) (n : Name) (k : ℕ) → o ≡ q → ((base index source : ℕ) → q ≡ op.Store base index source → ⊥) → StoresTo st t o n k → ⊥
-other_never st t o q n k same other stores = other stores.base stores.index stores.source (sym same ∙ stores.is)
+-- an operation that is another than a store or a swap
+other_never : (st : State) (t : ℕ) (o q : Op) (n : Name) (k : ℕ) → o ≡ q → (WritesTo st t q n k → ⊥) → WritesTo st t o n k → ⊥
+other_never st t o q n k same other writes = other (subst (λ z. WritesTo st t z n k) same writes)
 
--- who asks for a pause does none
-asked_never : (o : Op) (r : Reply) (base index source : ℕ) → asked_by o ≡ Some r → o ≡ op.Store base index source → ⊥
-asked_never o r base index source asks same = let none : None ≡ Some r = sym (ap asked_by same) ∙ asks in cc
+-- who asks for a pause writes nothing
+asked_never : (st : State) (t : ℕ) (o : Op) (r : Reply) (n : Name) (k : ℕ) → asked_by o ≡ Some r → WritesTo st t o n k → ⊥
+asked_never st t (op.Store base index source) r n k asks writes = cc
+asked_never st t (op.Swap dest base index source) r n k asks writes = cc
+asked_never st t o r n k asks writes = writes
 
 -- an unreclaimed object keeps its place where the next name gets one
 places_stay : (m : Moment) (at : Name → ℕ) (t p : ℕ) → FollowsPause m → (n : Name) → IsTrue (has m.unreclaimed n) → placed at (next_name m.state.graph t) p n ≡ at n
@@ -118,10 +119,15 @@ places_stay m at t p follows n member = elim (same_name n (next_name m.state.gra
   | false ↦ λ k. refl
 ] refl
 
--- the log is as it was where a load found nil and where it found a name
+-- the log is as it was where a load or a swap found nil and where it found a name
 either_log : (nil : Bool) (x y v : ThreadState) → x.log ≡ v.log → y.log ≡ v.log → (if nil then x else y).log ≡ v.log
 either_log true x y v h k = h
 either_log false x y v h k = k
+
+taken_log : (v : ThreadState) (o : Op) (dest : ℕ) (p : Place) → (loaded_with v o dest p).log ≡ v.log
+taken_log v o dest p =
+    let held : ThreadState = record v { registers = slice_set v.registers dest p } in
+    either_log (nat_eq p.0 0) (done_with held o (found_reply o None)) (at_stage held (Names p.0)) v refl refl
 
 -- ---- all events
 
@@ -135,7 +141,7 @@ module _ (b : Beginning) (s : EpochState) (i : ℕ) (v : ThreadState) (is : IsEp
   draws w cursors log = shows_covers b s i v w s.tables.heap cursors is shown log
 
   -- an operation that changes no table
-  call : (w : ThreadState) (o : Op) → w.log ≡ v.log → ((n p : Name) (k : ℕ) → IsWaiting b s i v is shown n p k → StoresTo (moment_of b s).state v.thread o n k → ⊥) → SnapshotIsCoveredIn b (stands b s i v o w s.tables)
+  call : (w : ThreadState) (o : Op) → w.log ≡ v.log → ((n p : Name) (k : ℕ) → IsWaiting b s i v is shown n p k → WritesTo (moment_of b s).state v.thread o n k → ⊥) → SnapshotIsCoveredIn b (stands b s i v o w s.tables)
   call w o log never = call_covers b s i v w o s.tables.heap s.tables.cursors s.at is shown log (λ n h. refl) never
 
 pub cover_is_kept : CoverIsKept
@@ -150,20 +156,24 @@ cover_is_kept b s i v (event.FindsValue place refs index) is shown may = quiet b
 cover_is_kept b s i v (event.FindsNone o) is shown may = call b s i v is shown _ o refl (none_never b s i v is shown o may)
 cover_is_kept b s i v (event.LoadsReference o dest place index) is shown may =
     let p : Place = place_in (s.tables.heap (field_word place index)) in
-    let held : ThreadState = record v { registers = slice_set v.registers dest p } in
-    call b s i v is shown (loaded_with v o dest p) o (either_log (nat_eq p.0 0) (done_with held o (reply.Loaded None)) (at_stage held (Names p.0)) v refl refl)
-    (λ n q k waits. other_never (moment_of b s).state v.thread o (op.Load dest may.loads.0 index) n k may.loads.1 (λ x y z e. absurd (cc)))
+    call b s i v is shown (loaded_with v o dest p) o (taken_log v o dest p)
+    (λ n q k waits. other_never (moment_of b s).state v.thread o (op.Load dest may.loads.0 index) n k may.loads.1 (λ w. w))
 cover_is_kept b s i v (event.TellsName o n) is shown may = quiet b s i v is shown _ refl
 cover_is_kept b s i v (event.GetsValue o place refs index) is shown may =
-    call b s i v is shown _ o refl (λ n q k waits. other_never (moment_of b s).state v.thread o (op.Get may.gets.0 index) n k may.gets.1 (λ x y z e. absurd (cc)))
+    call b s i v is shown _ o refl (λ n q k waits. other_never (moment_of b s).state v.thread o (op.Get may.gets.0 index) n k may.gets.1 (λ w. w))
 cover_is_kept b s i v (event.PutsValue o place refs index value) is shown may =
-    call_covers b s i v _ o _ s.tables.cursors s.at is shown refl (λ n h. refl) (λ n q k waits. other_never (moment_of b s).state v.thread o (op.Put may.puts.0 index value) n k may.puts.1 (λ x y z e. absurd (cc)))
+    call_covers b s i v _ o _ s.tables.cursors s.at is shown refl (λ n h. refl) (λ n q k waits. other_never (moment_of b s).state v.thread o (op.Put may.puts.0 index value) n k may.puts.1 (λ w. w))
+cover_is_kept b s i v (event.AddsValue o place refs index value) is shown may =
+    call_covers b s i v _ o _ s.tables.cursors s.at is shown refl (λ n h. refl) (λ n q k waits. other_never (moment_of b s).state v.thread o (op.Add may.adds.0 index value) n k may.adds.1 (λ w. w))
 cover_is_kept b s i v (event.SeesClear place index) is shown may = quiet b s i v is shown _ refl
 cover_is_kept b s i v (event.SeesFull place index) is shown may = quiet b s i v is shown _ refl
 cover_is_kept b s i v (event.LoadsOld place index) is shown may = quiet b s i v is shown _ refl
 cover_is_kept b s i v (event.ClearsFirst e n) is shown may = clears_covers b s i v e n is shown may
 cover_is_kept b s i v (event.ClearsLate e) is shown may = quiet b s i v is shown _ refl
 cover_is_kept b s i v (event.StoresReference o place index value) is shown may = call_covers b s i v _ o _ s.tables.cursors s.at is shown refl (λ n h. refl) (store_never b s i v is shown o place index value may)
+cover_is_kept b s i v (event.SwapsReference o dest place index value) is shown may =
+    let p : Place = place_in (s.tables.heap (field_word place index)) in
+    call_covers b s i v (loaded_with v o dest p) o _ s.tables.cursors s.at is shown (taken_log v o dest p) (λ n h. refl) (swap_never b s i v is shown o dest place index value may)
 cover_is_kept b s i v event.DrawsRun is shown may = draws b s i v is shown _ _ refl
 cover_is_kept b s i v event.MissesRun is shown may = quiet b s i v is shown _ refl
 cover_is_kept b s i v (event.SeesRun number) is shown may = quiet b s i v is shown _ refl
@@ -175,7 +185,7 @@ cover_is_kept b s i v (event.TakesBlock block shape) is shown may = quiet b s i 
 cover_is_kept b s i v (event.Wipes place shape wiped) is shown may = shows_covers b s i v _ _ s.tables.cursors is shown refl
 cover_is_kept b s i v (event.MakesObject o dest place shape) is shown may =
     call_covers b s i v _ o _ s.tables.cursors _ is shown refl (places_stay (moment_of b s) s.at v.thread place is.lives)
-    (λ n q k waits. other_never (moment_of b s).state v.thread o (op.New dest shape) n k may.makes (λ x y z e. absurd (cc)))
+    (λ n q k waits. other_never (moment_of b s).state v.thread o (op.New dest shape) n k may.makes (λ w. w))
 cover_is_kept b s i v (event.Asks o r) is shown may =
-    call_covers b s i v _ o s.tables.heap _ s.at is shown refl (λ n h. refl) (λ n q k waits stores. asked_never o r stores.base stores.index stores.source may.asks stores.is)
+    call_covers b s i v _ o s.tables.heap _ s.at is shown refl (λ n h. refl) (λ n q k waits. asked_never (moment_of b s).state v.thread o r n k may.asks)
 cover_is_kept b s i v (event.Leaves reason) is shown may = draws b s i v is shown _ _ refl

@@ -1,7 +1,7 @@
--- What a mutator stores to has no unlogged bit: so a reference that has it holds what it held at the last pause, and goes on to. The mutator
+-- What a mutator stores to, or swaps, has no unlogged bit: so a reference that has it holds what it held at the last pause, and goes on to. The mutator
 -- that clears the bit logs what that was.
 use Rattle.std.proofs.Common.{◌≡◌, ℕ, ◌<◌, ◌≤◌, refl, sym, ap, subst, ◌∙◌, inl, inr, ◌⊎◌, arith, Bool, true, false, cond, List, [], ◌∷◌, ◌++◌, IsTrue, length, nat_eq}
-use Rattle.std.specs.Prelude.{Some, None, is_some, slice_get, slice_index_or}
+use Rattle.std.specs.Prelude.{Some, None, if◌then◌else◌, is_some, slice_get, slice_index_or}
 use Rattle.std.proofs.lemmas.Option.{get_or_from_slice_get, slice_get_within}
 use Rattle.lxr_layout.specs.declared.LogEntry.{LogEntry}
 use Rattle.lxr_layout.specs.declared.Name.{Name}
@@ -14,7 +14,7 @@ use Rattle.lxr_graph.specs.declared.Reply.{Reply}
 use Rattle.lxr_graph.specs.declared.Reply.TheVariants as reply
 use Rattle.lxr_graph.specs.Names.{has}
 use Rattle.lxr_graph.specs.State.{State, object_at, refs_of, register_at}
-use Rattle.lxr_graph.specs.Step.{IsWellFormed, state_after, step}
+use Rattle.lxr_graph.specs.Step.{state_after, step}
 use Rattle.lxr_graph.proofs.NameSets.{not_both}
 use Rattle.lxr_image.specs.Image.{place_word}
 use Rattle.lxr_model.specs.Moments.{Moment}
@@ -28,11 +28,11 @@ use Rattle.lxr_invariant.proofs.EntryLemmas.{changed_cases, equal_numbers}
 use Rattle.lxr_invariant.proofs.NameLemmas.{in_first}
 use Rattle.lxr_core_invariant.specs.ThreadStates.{Stage, ThreadState, Clears, Stores, Works, held}
 use Rattle.lxr_core_invariant.specs.EpochStates.{Beginning, EpochState, limits_of, moment_of}
-use Rattle.lxr_core_invariant.specs.Events.{at_once, base_of, indexed}
-use Rattle.lxr_core_invariant.specs.Happening.{MayClearFirst, MayDoAtOnce, MayFindNone, MayStore, with_logged}
+use Rattle.lxr_core_invariant.specs.Events.{Does, bad_at, base_of, is_for_reference}
+use Rattle.lxr_core_invariant.specs.Happening.{MayClearFirst, MayDoAtOnce, MayFindNone, MayStore, MaySwap, with_logged}
 use Rattle.lxr_core_invariant.specs.Imaged.{Knows, KnowsReference}
 use Rattle.lxr_core_invariant.specs.Epoch.{IsEpoch}
-use Rattle.lxr_core_invariant.proofs.ActingLemmas.{Acts, acts, base_held, base_nil, same_pair}
+use Rattle.lxr_core_invariant.proofs.ActingLemmas.{Acts, IsBase, acts, base_held, base_nil, same_pair}
 use Rattle.lxr_core_invariant.proofs.FieldLemmas.{field_found}
 use Rattle.lxr_core_invariant.proofs.ObjectLemmas.{state_after_step}
 use Rattle.lxr_core_invariant.proofs.ShowingLemmas.{op_formed}
@@ -40,21 +40,19 @@ use Rattle.lxr_core_invariant.proofs.TellingLemmas.{told_is}
 use Rattle.lxr_core_inv_snapshot.proofs.FindLemmas.{HeldThen, HoldsNow}
 use Rattle.lxr_core_inv_snapshot.proofs.OldLemmas.{old_right}
 
--- ---- what stores
+-- ---- what writes
 
--- an operation of a thread stores to reference i of n's object
-pub record StoresTo (s : State) (t : ℕ) (o : Op) (n : Name) (i : ℕ) : Type 0 where
-  pub base : ℕ
-  pub index : ℕ
-  pub source : ℕ
-  pub is : o ≡ op.Store base index source
-  pub holds : register_at s t base ≡ Some n
-  pub at : index ≡ i
+-- an operation of a thread is a store or a swap of reference i of n's object
+abbrev pub WritesTo : State → ℕ → Op → Name → ℕ → Type 0
+WritesTo s t (op.Store base index source) n i = (register_at s t base ≡ Some n) × (index ≡ i)
+WritesTo s t (op.Swap dest base index source) n i = (register_at s t base ≡ Some n) × (index ≡ i)
+WritesTo s t _ n i = ⊥
 
--- what writes a reference is a store to it
-writes_stores : (s : State) (t : ℕ) (o : Op) (r : Reply) (n : Name) (i : ℕ) → WritesField s t o r n i → StoresTo s t o n i
-writes_stores s t (op.Store base index source) reply.Stored n i w = record { base = base; index = index; source = source; is = refl; holds = w.0; at = w.1 }
-writes_stores s t o r n i w = absurd w
+-- what writes a reference is one
+field_written : (s : State) (t : ℕ) (o : Op) (r : Reply) (n : Name) (i : ℕ) → WritesField s t o r n i → WritesTo s t o n i
+field_written s t (op.Store base index source) reply.Stored n i w = w
+field_written s t (op.Swap dest base index source) (reply.Swapped found) n i w = w
+field_written s t o r n i w = absurd w
 
 module _ (b : Beginning) (s : EpochState) (i : ℕ) (v : ThreadState) (is : IsEpoch b s) (shown : slice_get s.thread_states i ≡ Some v) where
   abbrev m : Moment
@@ -122,8 +120,8 @@ module _ (b : Beginning) (s : EpochState) (i : ℕ) (v : ThreadState) (is : IsEp
 
   -- ---- a call
 
-  -- a call that doesn't store to it leaves it
-  pub call_leaves : (op : Op) (n o : Name) (k : ℕ) → IsWaiting n o k → (StoresTo m.state v.thread op n k → ⊥) → HoldsNow (record m { state = state_after m.state v.thread op (step m.state v.thread op).1 }) n k o
+  -- a call that doesn't write it leaves it
+  pub call_leaves : (op : Op) (n o : Name) (k : ℕ) → IsWaiting n o k → (WritesTo m.state v.thread op n k → ⊥) → HoldsNow (record m { state = state_after m.state v.thread op (step m.state v.thread op).1 }) n k o
   call_leaves op n o k waits never =
       let some = acting.thread in
       let row = acting.row in
@@ -131,45 +129,71 @@ module _ (b : Beginning) (s : EpochState) (i : ℕ) (v : ThreadState) (is : IsEp
       let keeps = step_keeps m.state v.thread op row (omega (arith, some, row, registers)) in
       elim (keeps.fields n k (ap is_some (is.lives.objects n waits.member).3)) [
         | inl same ↦ ap (λ (z : State). slice_get (refs_of (object_at z.graph n)) k) (state_after_step m.state v.thread op) ∙ same ∙ waits.holds
-        | inr w ↦ absurd (never (writes_stores m.state v.thread op (step m.state v.thread op).1 n k w))
+        | inr w ↦ absurd (never (field_written m.state v.thread op (step m.state v.thread op).1 n k w))
       ]
 
-  -- the store itself: its mutator cleared the bit, or saw it clear
-  pub store_never : (op : Op) (place index value : ℕ) → MayStore v op place index value → (n o : Name) (k : ℕ) → IsWaiting n o k → StoresTo m.state v.thread op n k → ⊥
-  store_never op place index value may n o k waits stores =
-      let knows : KnowsReference m s.at v place index = known (Works (Stores place index)) may.stage in
-      let own = base_held s.tables (limits_of b).blocks s.at m v op place index acting may.does knows.on in
-      let named = same_pair stores.base stores.index own.base index (ap base_of (sym stores.is) ∙ own.named) in
-      let both : Some own.name ≡ Some n = sym own.holds ∙ ap (register_at m.state v.thread) (sym named.0) ∙ stores.holds in
-      let name : own.name ≡ n = cc in
-      let cleared = is.logged.stores i v place index n shown may.stage waits.member (own.stands ∙ ap s.at name) in
-      not_both (has_field s.cleared (n, index)) cleared (ap (λ z. has_field s.cleared (n, z)) (sym named.1 ∙ stores.at) ∙ uncleared n o k waits)
+  -- what a write names is the object that its mutator works on
+  named_is : (o : Op) (place index base k : ℕ) (n : Name) → (own : IsBase s.at m v o place index) → base_of o ≡ Some (base, k) → register_at m.state v.thread base ≡ Some n → (own.name ≡ n) × (k ≡ index)
+  named_is o place index base k n own named holds =
+      let same = same_pair base k own.base index (sym named ∙ own.named) in
+      let both : Some own.name ≡ Some n = sym own.holds ∙ ap (register_at m.state v.thread) (sym same.0) ∙ holds in
+      (cc, same.1)
 
-  -- a store that finds its index past the references
-  pub none_never : (op : Op) → MayFindNone s.tables v op → (n o : Name) (k : ℕ) → IsWaiting n o k → StoresTo m.state v.thread op n k → ⊥
-  none_never op may n o k waits stores =
-      let own = base_held s.tables (limits_of b).blocks s.at m v op may.place may.index acting may.reads.does may.reads.on in
-      let named = same_pair stores.base stores.index own.base may.index (ap base_of (sym stores.is) ∙ own.named) in
-      let both : Some own.name ≡ Some n = sym own.holds ∙ ap (register_at m.state v.thread) (sym named.0) ∙ stores.holds in
-      let name : own.name ≡ n = cc in
+  -- the store or the swap itself: its mutator cleared the bit, or saw it clear
+  write_never : (o : Op) (place index base : ℕ) → v.stage ≡ Works (Stores place index) → Does v o → base_of o ≡ Some (base, index) → (n p : Name) (k : ℕ) → IsWaiting n p k
+      → (register_at m.state v.thread base ≡ Some n) × (index ≡ k) → ⊥
+  write_never o place index base stage does named n p k waits writes =
+      let knows : KnowsReference m s.at v place index = known (Works (Stores place index)) stage in
+      let own = base_held s.tables (limits_of b).blocks s.at m v o place index acting does knows.on in
+      let is_it = named_is o place index base index n own named writes.0 in
+      let cleared = is.logged.stores i v place index n shown stage waits.member (own.stands ∙ ap s.at is_it.0) in
+      not_both (has_field s.cleared (n, index)) cleared (ap (λ z. has_field s.cleared (n, z)) writes.1 ∙ uncleared n p k waits)
+
+  pub store_never : (o : Op) (place index value : ℕ) → MayStore v o place index value → (n p : Name) (k : ℕ) → IsWaiting n p k → WritesTo m.state v.thread o n k → ⊥
+  store_never o place index value may n p k waits writes =
+      write_never o place index may.base may.stage may.does (ap base_of may.stores) n p k waits (subst (λ z. WritesTo m.state v.thread z n k) may.stores writes)
+
+  pub swap_never : (o : Op) (dest place index value : ℕ) → MaySwap v o dest place index value → (n p : Name) (k : ℕ) → IsWaiting n p k → WritesTo m.state v.thread o n k → ⊥
+  swap_never o dest place index value may n p k waits writes =
+      write_never o place index may.base may.stage may.does (ap base_of may.swaps) n p k waits (subst (λ z. WritesTo m.state v.thread z n k) may.swaps writes)
+
+  -- one that finds its index past the references
+  past_never : (o : Op) (base j : ℕ) → base_of o ≡ Some (base, j) → is_for_reference o ≡ true → MayFindNone s.tables v o → (n p : Name) (k : ℕ) → IsWaiting n p k
+      → (register_at m.state v.thread base ≡ Some n) × (j ≡ k) → ⊥
+  past_never o base j named reference may n p k waits writes =
+      let own = base_held s.tables (limits_of b).blocks s.at m v o may.place may.index acting may.reads.does may.reads.on in
+      let is_it = named_is o may.place may.index base j n own named writes.0 in
       let told = told_is s.tables (limits_of b).blocks s.at m.state.graph (members m) own.name may.reads.name own.object may.shape may.place is.image.placed.image own.member own.is own.stands may.reads.told in
-      let many : may.shape.refs ≡ length (refs_of (object_at m.state.graph n)) = ap (λ (z : Shape). z.refs) told.1 ∙ sym (ap (λ z. length (refs_of z)) own.is) ∙ ap (λ z. length (refs_of (object_at m.state.graph z))) name in
-      let past : may.shape.refs ≤ may.index = subst (λ z. indexed z may.shape ≤ may.index) stores.is may.past in
-      let number = named.1 in
-      let here = stores.at in
-      let inside = within n o k waits in
+      let many : may.shape.refs ≡ length (refs_of (object_at m.state.graph n)) =
+      ap (λ (z : Shape). z.refs) told.1 ∙ sym (ap (λ z. length (refs_of z)) own.is) ∙ ap (λ z. length (refs_of (object_at m.state.graph z))) is_it.0 in
+      let past : may.shape.refs ≤ may.index = subst (λ (c : Bool). (if c then may.shape.refs else may.shape.values) ≤ may.index) reference may.past in
+      let number = is_it.1 in
+      let here = writes.1 in
+      let inside = within n p k waits in
       omega (arith, many, past, number, here, inside)
 
-  -- a store that is done at once finds nil in its base register
+  pub none_never : (o : Op) → MayFindNone s.tables v o → (n p : Name) (k : ℕ) → IsWaiting n p k → WritesTo m.state v.thread o n k → ⊥
+  none_never (op.Store base index source) may n p k waits writes = past_never (op.Store base index source) base index refl refl may n p k waits writes
+  none_never (op.Swap dest base index source) may n p k waits writes = past_never (op.Swap dest base index source) base index refl refl may n p k waits writes
+  none_never o may n p k waits writes = absurd writes
+
+  -- one that is done at once finds nil in its base register
   nil_base : (base : ℕ) (nil : Bool) (answer : Reply × List Place) (q : Reply × List Place) → nat_eq (held v base).0 0 ≡ nil → cond nil (Some answer) None ≡ Some q → (held v base).0 ≡ 0
   nil_base base true answer q tells e = equal_numbers (held v base).0 0 tells
   nil_base base false answer q tells e = absurd (cc)
 
-  pub at_once_never : (op : Op) (r : Reply) (registers : List Place) → MayDoAtOnce s.tables v op r registers → (n : Name) (k : ℕ) → StoresTo m.state v.thread op n k → ⊥
-  at_once_never op r registers may n k stores =
-      let formed = subst IsWellFormed stores.is (op_formed v op acting.formed may.does) in
-      let replies = subst (λ z. at_once v z ≡ Some (r, registers)) stores.is may.replies in
-      let nothing = nil_base stores.base (nat_eq (held v stores.base).0 0) (reply.Bad, v.registers) (r, registers) refl replies in
-      let none = base_nil s.tables (limits_of b).blocks s.at m v stores.base acting formed.0 nothing in
-      let both : None ≡ Some n = sym none ∙ stores.holds in
+  nil_never : (base : ℕ) (r : Reply) (registers : List Place) → base < 16 → bad_at v base ≡ Some (r, registers) → (n : Name) → register_at m.state v.thread base ≡ Some n → ⊥
+  nil_never base r registers formed replies n holds =
+      let nothing = nil_base base (nat_eq (held v base).0 0) (reply.Bad, v.registers) (r, registers) refl replies in
+      let none = base_nil s.tables (limits_of b).blocks s.at m v base acting formed nothing in
+      let both : None ≡ Some n = sym none ∙ holds in
       cc
+
+  pub at_once_never : (o : Op) (r : Reply) (registers : List Place) → MayDoAtOnce s.tables v o r registers → (n : Name) (k : ℕ) → WritesTo m.state v.thread o n k → ⊥
+  at_once_never (op.Store base index source) r registers may n k writes =
+      let formed = op_formed v (op.Store base index source) acting.formed may.does in
+      nil_never base r registers formed.0 may.replies n writes.0
+  at_once_never (op.Swap dest base index source) r registers may n k writes =
+      let formed = op_formed v (op.Swap dest base index source) acting.formed may.does in
+      nil_never base r registers formed.1 may.replies n writes.0
+  at_once_never o r registers may n k writes = absurd writes

@@ -1,10 +1,10 @@
 //! While a trace runs, its snapshot stays covered, whatever the order of the atomic steps of mutators, decrementers and tracers.
 //!
 //! What the world, the registers and the references of reachable objects held when the trace began is gray, marked, an old value in a log or
-//! in an actor's hand, or it still waits in a reference that holds it and that is neither scanned nor handled nor stored to. A mutator that
-//! stores to a reference first has logged what it held; a decrementer and a tracer have what they read in hand until it is gray. So
-//! nothing of the snapshot is lost (snapshot at the beginning: Zhao, Blackburn and McKinley, 2022). The functions of this crate do nothing:
-//! the contract of each is a law.
+//! in an actor's hand, or it still waits in a reference that holds it and that is neither scanned nor handled nor written. A mutator that
+//! stores to a reference, or swaps it, first has logged what it held; a decrementer and a tracer have what they read in hand until it is
+//! gray. So nothing of the snapshot is lost (snapshot at the beginning: Zhao, Blackburn and McKinley, 2022). The functions of this crate do
+//! nothing: the contract of each is a law.
 #![tactic(auto)]
 
 ghost use Rattle.lxr_core_invariant.specs.Laws.{ClosingCover, CoverIsKept, DecrementersKeepCover, OpeningCover, TracersKeepCover};

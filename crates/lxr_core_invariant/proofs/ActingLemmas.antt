@@ -99,6 +99,8 @@ base_small (op.Load d r i) base index formed e = let k = (same_pair r i base ind
 base_small (op.Store r i source) base index formed e = let k = (same_pair r i base index e).0 in subst (λ z. z < 16) k formed.0
 base_small (op.Put r i value) base index formed e = let k = (same_pair r i base index e).0 in subst (λ z. z < 16) k formed
 base_small (op.Get r i) base index formed e = let k = (same_pair r i base index e).0 in subst (λ z. z < 16) k formed
+base_small (op.Swap d r i source) base index formed e = let k = (same_pair r i base index e).0 in subst (λ z. z < 16) k formed.1
+base_small (op.Add r i value) base index formed e = let k = (same_pair r i base index e).0 in subst (λ z. z < 16) k formed
 base_small (op.Move d source) base index formed e = absurd (cc)
 base_small (op.Nil d) base index formed e = absurd (cc)
 base_small (op.Same left right) base index formed e = absurd (cc)
@@ -122,6 +124,10 @@ base_held t blocks at m v o place index known does on =
     let named : base_of o ≡ Some (on.base, index) = ap base_of (sym now) ∙ on.named in
     let small = base_small o on.base index (op_formed v o known.formed does) named in
     base_with t blocks at m v o place on.base index (register_at m.state v.thread on.base) known named on.some refl (sym on.held ∙ known.holds.places on.base small) (in_register m v.thread on.base known.follows)
+
+-- the base register of the operation holds it
+pub base_holds : (at : Name → ℕ) (m : Moment) (v : ThreadState) (o : Op) (place index base : ℕ) → (of : IsBase at m v o place index) → base_of o ≡ Some (base, index) → register_at m.state v.thread base ≡ Some of.name
+base_holds at m v o place index base of e = ap (register_at m.state v.thread) (same_pair base index of.base index (sym e ∙ of.named)).0 ∙ of.holds
 
 -- a base register that is nil holds nothing
 pub base_nil : (t : Tables) (blocks : ℕ) (at : Name → ℕ) (m : Moment) (v : ThreadState) (base : ℕ) → Acts t blocks at m v → base < 16 → (held v base).0 ≡ 0 → register_at m.state v.thread base ≡ None

@@ -6,3 +6,5 @@ pub mod ObjectLemmas
 pub mod DrawnLemmas
 pub mod PauseLemmas
 pub mod FieldLemmas
+pub mod ReplyStepLemmas
+pub mod ReadLemmas

@@ -1,5 +1,5 @@
 -- Each thread has as many objects as it has had replies that tell of a new one.
-use Rattle.std.proofs.Common.{◌≡◌, ℕ, zero, suc, ◌+◌, ◌<◌, ◌≤◌, Bool, true, false, arith, refl, sym, subst, ap, ◌∙◌, inl, inr, cond, List, [], ◌∷◌, ◌++◌, length, length-append, length-set, nat_eq, replicate}
+use Rattle.std.proofs.Common.{◌≡◌, ℕ, zero, suc, ◌+◌, ◌%◌, ◌^◌, ◌<◌, ◌≤◌, Bool, true, false, arith, refl, sym, subst, ap, ◌∙◌, inl, inr, cond, List, [], ◌∷◌, ◌++◌, length, length-append, length-set, nat_eq, replicate}
 use Rattle.std.specs.Prelude.{Option, Some, None, slice_set, if◌then◌else◌}
 use Rattle.std.specs.List.{count_by}
 use Rattle.std.proofs.lemmas.Bool.Decides.{eqb_tells}
@@ -12,7 +12,7 @@ use Rattle.lxr_graph.specs.declared.Reply.{Reply}
 use Rattle.lxr_graph.specs.declared.Reply.TheVariants as reply
 use Rattle.lxr_graph.specs.History.{Item, Call, Pause, replies_of}
 use Rattle.lxr_graph.specs.State.{Graph, Object, State, index_in_row, object_at, register_at, row_of, with_reference_at, with_value_at}
-use Rattle.lxr_graph.specs.Step.{IsReply, fresh, get_from, got, load_from, loaded, put_at, put_to, state_after, step, store_to, stored}
+use Rattle.lxr_graph.specs.Step.{IsReply, add_to, added, fresh, get_from, got, load_from, loaded, put_at, put_to, state_after, step, store_to, stored, swap_in, swapped}
 use Rattle.lxr_graph.proofs.RowLemmas.{row_of-set}
 use Rattle.lxr_model.specs.Legal.{IsCall, IsLegalSoFar, Replies}
 use Rattle.lxr_model.specs.Moments.{moment, opening_moment}
@@ -23,13 +23,13 @@ use Rattle.lxr_core_invariant.specs.EpochStates.{CountsObjects, Extends, called,
 abbrev news : Reply → ℕ
 news r = cond {A = ℕ} (tells_new r) 1 0
 
-abbrev added : ℕ → ℕ → Reply → ℕ
-added u t r = cond {A = ℕ} (nat_eq u t) (news r) 0
+abbrev joined : ℕ → ℕ → Reply → ℕ
+joined u t r = cond {A = ℕ} (nat_eq u t) (news r) 0
 
 -- a step leaves as many rows, and each thread has as many objects more as the reply tells of
 record CountsMore (s : State) (t : ℕ) (s' : State) (r : Reply) : Type 0 where
   pub rows : length s'.graph ≡ length s.graph
-  pub objects : (u : ℕ) → length (row_of s'.graph u) ≡ length (row_of s.graph u) + added u t r
+  pub objects : (u : ℕ) → length (row_of s'.graph u) ≡ length (row_of s.graph u) + joined u t r
 
 -- each row is as long as before where the row that is written is
 same_lengths : (g : Graph) (t : ℕ) (r : List Object) (u : ℕ) → length r ≡ length (row_of g t) → length (row_of (slice_set g t r) u) ≡ length (row_of g u)
@@ -39,7 +39,7 @@ same_lengths (q ∷ g) zero r (suc u) h = refl
 same_lengths (q ∷ g) (suc t) r zero h = refl
 same_lengths (q ∷ g) (suc t) r (suc u) h = same_lengths g t r u h
 
-none_added : (u t : ℕ) (r : Reply) (n m : ℕ) → tells_new r ≡ false → n ≡ m → n ≡ m + added u t r
+none_added : (u t : ℕ) (r : Reply) (n m : ℕ) → tells_new r ≡ false → n ≡ m → n ≡ m + joined u t r
 none_added u t r n m old e = let none = nothing (nat_eq u t) r old in omega (arith, e, none)
   where
     nothing : (own : Bool) (r : Reply) → tells_new r ≡ false → cond {A = ℕ} own (news r) 0 ≡ 0
@@ -51,8 +51,9 @@ unchanged : (s : State) (t : ℕ) (registers : List (Option Name)) (r : Reply) �
 unchanged s t registers r old = record { rows = refl; objects = λ u. none_added u t r _ _ old refl }
 
 -- a row is written that stays as long
-written : (s : State) (t k : ℕ) (row : List Object) (r : Reply) → tells_new r ≡ false → length row ≡ length (row_of s.graph k) → CountsMore s t (record s { graph = slice_set s.graph k row }) r
-written s t k row r old h = record { rows = length-set s.graph k row; objects = λ u. none_added u t r _ _ old (same_lengths s.graph k row u h) }
+written : (s : State) (t k : ℕ) (row : List Object) (registers : List (Option Name)) (r : Reply) → tells_new r ≡ false → length row ≡ length (row_of s.graph k)
+    → CountsMore s t (record s { graph = slice_set s.graph k row; registers = registers }) r
+written s t k row registers r old h = record { rows = length-set s.graph k row; objects = λ u. none_added u t r _ _ old (same_lengths s.graph k row u h) }
 
 -- an object joins the thread's row
 pushed : (s : State) (t : ℕ) (o : Object) (registers : List (Option Name)) (name : Name) → t < length s.graph
@@ -62,8 +63,8 @@ pushed s t o registers name there = record {
   objects = λ u. ap length (row_of-set s.graph t (row_of s.graph t ++ o ∷ []) u there) ∙ one u;
 }
   where
-    one : (u : ℕ) → length (cond (nat_eq u t) (row_of s.graph t ++ o ∷ []) (row_of s.graph u)) ≡ length (row_of s.graph u) + added u t (reply.New name)
-    one u = elim (eqb_tells u t) as (λ _. length (cond (nat_eq u t) (row_of s.graph t ++ o ∷ []) (row_of s.graph u)) ≡ length (row_of s.graph u) + added u t (reply.New name)) [
+    one : (u : ℕ) → length (cond (nat_eq u t) (row_of s.graph t ++ o ∷ []) (row_of s.graph u)) ≡ length (row_of s.graph u) + joined u t (reply.New name)
+    one u = elim (eqb_tells u t) as (λ _. length (cond (nat_eq u t) (row_of s.graph t ++ o ∷ []) (row_of s.graph u)) ≡ length (row_of s.graph u) + joined u t (reply.New name)) [
       | inl q ↦ ap (λ c. length (cond c (row_of s.graph t ++ o ∷ []) (row_of s.graph u))) q.0 ∙ length-append (row_of s.graph t) (o ∷ [])
           ∙ ap (λ k. length (row_of s.graph k) + 1) (sym q.1) ∙ ap (λ (c : Bool). length (row_of s.graph u) + cond {A = ℕ} c 1 0) (sym q.0)
       | inr q ↦ ap (λ c. length (cond c (row_of s.graph t ++ o ∷ []) (row_of s.graph u))) q.0 ∙ plus_none (length (row_of s.graph u)) (nat_eq u t) q.0
@@ -93,20 +94,38 @@ load_counts s t dest i (Some n) = loaded_counts s t dest _
 stored_counts : (s : State) (t : ℕ) (n : Name) (i : ℕ) (v : Option Name) (found : Option (Option Name)) → CountsMore s t (stored s n i v found).0 (stored s n i v found).1
 stored_counts s t n i v None = unchanged s t s.registers reply.Range refl
 stored_counts s t n i v (Some old) =
-    written s t n.thread _ reply.Stored refl (length-with_reference_at (row_of s.graph n.thread) (index_in_row n) i v (object_at s.graph n))
+    written s t n.thread _ s.registers reply.Stored refl (length-with_reference_at (row_of s.graph n.thread) (index_in_row n) i v (object_at s.graph n))
 
 store_counts : (s : State) (t i : ℕ) (v base : Option Name) → CountsMore s t (store_to s i v base).0 (store_to s i v base).1
 store_counts s t i v None = unchanged s t s.registers reply.Bad refl
 store_counts s t i v (Some n) = stored_counts s t n i v _
 
+swapped_counts : (s : State) (t dest : ℕ) (n : Name) (i : ℕ) (v : Option Name) (found : Option (Option Name)) → CountsMore s t (swapped s t dest n i v found).0 (swapped s t dest n i v found).1
+swapped_counts s t dest n i v None = unchanged s t s.registers reply.Range refl
+swapped_counts s t dest n i v (Some old) =
+    written s t n.thread _ _ (reply.Swapped old) refl (length-with_reference_at (row_of s.graph n.thread) (index_in_row n) i v (object_at s.graph n))
+
+swap_counts : (s : State) (t dest i : ℕ) (v base : Option Name) → CountsMore s t (swap_in s t dest i v base).0 (swap_in s t dest i v base).1
+swap_counts s t dest i v None = unchanged s t s.registers reply.Bad refl
+swap_counts s t dest i v (Some n) = swapped_counts s t dest n i v _
+
 put_at_counts : (s : State) (t : ℕ) (n : Name) (i v : ℕ) (found : Option ℕ) → CountsMore s t (put_at s n i v found).0 (put_at s n i v found).1
 put_at_counts s t n i v None = unchanged s t s.registers reply.Range refl
 put_at_counts s t n i v (Some old) =
-    written s t n.thread _ reply.Put refl (length-with_value_at (row_of s.graph n.thread) (index_in_row n) i v (object_at s.graph n))
+    written s t n.thread _ s.registers reply.Put refl (length-with_value_at (row_of s.graph n.thread) (index_in_row n) i v (object_at s.graph n))
 
 put_counts : (s : State) (t i v : ℕ) (base : Option Name) → CountsMore s t (put_to s i v base).0 (put_to s i v base).1
 put_counts s t i v None = unchanged s t s.registers reply.Bad refl
 put_counts s t i v (Some n) = put_at_counts s t n i v _
+
+added_counts : (s : State) (t : ℕ) (n : Name) (i v : ℕ) (found : Option ℕ) → CountsMore s t (added s n i v found).0 (added s n i v found).1
+added_counts s t n i v None = unchanged s t s.registers reply.Range refl
+added_counts s t n i v (Some old) =
+    written s t n.thread _ s.registers (reply.Added old) refl (length-with_value_at (row_of s.graph n.thread) (index_in_row n) i ((old + v) % 2 ^ 64) (object_at s.graph n))
+
+add_counts : (s : State) (t i v : ℕ) (base : Option Name) → CountsMore s t (add_to s i v base).0 (add_to s i v base).1
+add_counts s t i v None = unchanged s t s.registers reply.Bad refl
+add_counts s t i v (Some n) = added_counts s t n i v _
 
 got_counts : (s : State) (t : ℕ) (found : Option ℕ) → CountsMore s t s (got found)
 got_counts s t None = unchanged s t s.registers reply.Range refl
@@ -123,6 +142,8 @@ step_counts s t (op.Load dest base index) there = load_counts s t dest index (re
 step_counts s t (op.Store base index source) there = store_counts s t index (register_at s t source) (register_at s t base)
 step_counts s t (op.Put base index value) there = put_counts s t index value (register_at s t base)
 step_counts s t (op.Get base index) there = get_counts s t index (register_at s t base)
+step_counts s t (op.Swap dest base index source) there = swap_counts s t dest index (register_at s t source) (register_at s t base)
+step_counts s t (op.Add base index value) there = add_counts s t index value (register_at s t base)
 step_counts s t (op.Move dest source) there = unchanged s t _ reply.Moved refl
 step_counts s t (op.Nil dest) there = unchanged s t _ reply.Cleared refl
 step_counts s t (op.Same left right) there = unchanged s t s.registers (reply.Same _) refl
@@ -137,6 +158,8 @@ state_after_step s t (op.Load dest base index) = refl
 state_after_step s t (op.Store base index source) = refl
 state_after_step s t (op.Put base index value) = refl
 state_after_step s t (op.Get base index) = refl
+state_after_step s t (op.Swap dest base index source) = refl
+state_after_step s t (op.Add base index value) = refl
 state_after_step s t (op.Move dest source) = refl
 state_after_step s t (op.Nil dest) = refl
 state_after_step s t (op.Same left right) = refl
@@ -149,7 +172,7 @@ after_counts s t o r there is = subst (λ x. CountsMore s t (state_after s t o x
 
 -- ---- histories
 
-replies_counted : (u t : ℕ) (o : Op) (r : Reply) (h : List Item) → count_by tells_new (replies_of u (Call t o r ∷ h)) ≡ count_by tells_new (replies_of u h) + added u t r
+replies_counted : (u t : ℕ) (o : Op) (r : Reply) (h : List Item) → count_by tells_new (replies_of u (Call t o r ∷ h)) ≡ count_by tells_new (replies_of u h) + joined u t r
 replies_counted u t o r h = by (nat_eq u t)
   where
     by : (own : Bool) → count_by tells_new (if own then replies_of u h ++ r ∷ [] else replies_of u h) ≡ count_by tells_new (replies_of u h) + cond {A = ℕ} own (news r) 0
@@ -161,7 +184,7 @@ call_counts : (threads : ℕ) (h : List Item) (t : ℕ) (o : Op) (r : Reply) →
     → CountsObjects threads (Call t o r ∷ h)
 call_counts threads h t o r counts more = record {
   rows = more.rows ∙ counts.rows;
-  objects = λ u one few. more.objects u ∙ ap (λ k. k + added u t r) (counts.objects u one few) ∙ sym (replies_counted u t o r h);
+  objects = λ u one few. more.objects u ∙ ap (λ k. k + joined u t r) (counts.objects u one few) ∙ sym (replies_counted u t o r h);
 }
 
 there_is : (threads t rows : ℕ) → rows ≡ threads + 1 → t ≤ threads → t < rows

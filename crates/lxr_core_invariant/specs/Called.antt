@@ -4,8 +4,8 @@ use Rattle.std.specs.Prelude.{◌≡◌, ◌≢◌, ℕ, ◌+◌, ◌<◌, ◌�
 use Rattle.lxr_layout.specs.declared.TheConstants.{FREE_BLOCK_COUNT, FREE_BLOCK_CURSOR, PAUSE_WORD}
 use Rattle.lxr_layout.specs.declared.Name.{Name}
 use Rattle.lxr_layout.specs.declared.Shape.{Shape}
+use Rattle.lxr_graph.specs.declared.Op.{Op}
 use Rattle.lxr_graph.specs.declared.Op.TheVariants as op
-use Rattle.lxr_graph.specs.declared.Reply.TheVariants as reply
 use Rattle.lxr_graph.specs.History.{calls_of, replies_of}
 use Rattle.lxr_graph.specs.Names.{has}
 use Rattle.lxr_graph.specs.Step.{IsWellFormed}
@@ -14,10 +14,10 @@ use Rattle.lxr_invariant.specs.AbstractState.{members}
 use Rattle.lxr_core_invariant.specs.ThreadStates.{Intent, Reason, Stage, ThreadState, all_of, op_now, GivesUp, Rests, Works, Names, Through}
 use Rattle.lxr_core_invariant.specs.ThreadStates as why
 use Rattle.lxr_core_invariant.specs.EpochStates.{Beginning, EpochState, limits_of, moment_of}
-use Rattle.lxr_core_invariant.specs.Events.{Does}
-use Rattle.lxr_core_invariant.specs.Happening.{DoesNew, DoesStore}
+use Rattle.lxr_core_invariant.specs.Events.{Does, found_reply, takes_reference}
+use Rattle.lxr_core_invariant.specs.Happening.{DoesNew, WritesReference}
 
--- how many operations stand in the history: each with a reply, and a load that is yet to tell a name
+-- how many operations stand in the history: each with a reply, and a load or a swap that is yet to tell a name
 abbrev pub waiting_in : Stage → ℕ
 waiting_in (Names place) = 1
 waiting_in _ = 0
@@ -27,8 +27,10 @@ pub record IsToTell (b : Beginning) (s : EpochState) (v : ThreadState) (place : 
   pub name : Name
   pub member : IsTrue (has (members (moment_of b s)) name)
   pub stands : place ≡ s.at name
-  pub loads : (dest base index : ℕ) × Does v (op.Load dest base index)
-  pub reply : replies_of v.thread s.history ≡ v.replies ++ reply.Loaded (Some name) ∷ []
+  pub now : Op
+  pub does : Does v now
+  pub takes : IsTrue (takes_reference now)
+  pub reply : replies_of v.thread s.history ≡ v.replies ++ found_reply now (Some name) ∷ []
 
 abbrev pub AreReplies : Beginning → EpochState → ThreadState → Stage → Type 0
 AreReplies b s v (Names place) = IsToTell b s v place
@@ -41,7 +43,7 @@ IsUnended v = length v.replies ≤ length v.operations
 -- why a mutator gives up, or is through
 abbrev pub HasReason : EpochState → ThreadState → Reason → Type 0
 HasReason s v why.NoRun = ((shape : Shape) × DoesNew v shape) × (s.tables.cursors FREE_BLOCK_COUNT ≤ s.tables.cursors FREE_BLOCK_CURSOR)
-HasReason s v why.LogFull = DoesStore v × (v.log.room ≤ length v.log.items)
+HasReason s v why.LogFull = WritesReference v × (v.log.room ≤ length v.log.items)
 HasReason s v why.Asked = (s.tables.cursors PAUSE_WORD ≡ 1) × IsUnended v
 HasReason s v why.Turns = (v.since ≡ v.every) × IsUnended v
 HasReason s v why.Ended = length v.replies ≡ length v.operations + 1

@@ -1,7 +1,7 @@
 -- Counts and pending decrements: an unreclaimed object's count is the references to it at the last pause, but for those of what is
 -- done, and each decrement of it that is yet to be made, be it in the list or in a decrementer's hand. The state at the last pause, the
 -- unreclaimed and the stuck names and the places of their objects stay through an epoch, so they are those of its beginning.
-use Rattle.std.specs.Prelude.{◌≡◌, ℕ, ◌+◌, ◌*◌, ◌^◌, ◌<◌, ◌≤◌, ⊤, Bool, true, false, nat_eq, nat_lt, Option, Some, None, List, [], ◌∷◌, IsTrue, length, slice_get, if◌then◌else◌}
+use Rattle.std.specs.Prelude.{◌≡◌, ℕ, ◌+◌, ◌*◌, ◌^◌, ◌<◌, ◌≤◌, ⊤, true, false, nat_eq, nat_lt, Option, Some, None, List, [], ◌∷◌, IsTrue, length, slice_get, if◌then◌else◌}
 use Rattle.lxr_layout.specs.declared.Name.{Name}
 use Rattle.lxr_layout.specs.declared.TheConstants.{DECREMENT_COUNT, DECREMENT_CURSOR, GRANULES_IN_BLOCK, STUCK}
 use Rattle.lxr_graph.specs.Names.{has}
@@ -12,7 +12,7 @@ use Rattle.lxr_model.specs.Dead.{Dead}
 use Rattle.lxr_model.specs.Moments.{Moment}
 use Rattle.lxr_model.specs.References.{references}
 use Rattle.lxr_invariant.specs.Counting.{count_at, is_done, occurrences_from, undone, waiting_at}
-use Rattle.lxr_core_access.specs.Decrementers.{Decrementing, Handling, Entry, References, Rests, AsksCount, AsksStart, Claims, ReadsHeader, AsksTracing, ReadsReference, MakesGray, AsksLowered, Lowers, AsksCursor, AsksNumber, Draws, ReadsEntry}
+use Rattle.lxr_core_access.specs.Decrementers.{Decrementing, Handling, Entry, References, AsksCount, AsksStart, Claims, ReadsHeader, AsksTracing, ReadsReference, MakesGray, AsksLowered, Lowers, AsksNumber, Draws, ReadsEntry}
 use Rattle.lxr_core_invariant.specs.EpochStates.{Beginning, EpochState, limits_of}
 
 -- ---- what a decrementer has in hand

@@ -1,6 +1,6 @@
 -- While a trace runs, its snapshot is covered: what it holds is found, or will be, whatever mutators store, decrementers reclaim and
 -- tracers scan.
-use Rattle.std.specs.Prelude.{◌≡◌, ◌≢◌, ℕ, ◌+◌, ◌≤◌, ◌⊎◌, ⊤, Bool, true, false, Option, Some, None, List, IsTrue, slice_get}
+use Rattle.std.specs.Prelude.{◌≡◌, ℕ, ◌+◌, ◌≤◌, ◌⊎◌, ⊤, true, false, Option, Some, None, List, IsTrue, slice_get}
 use Rattle.lxr_layout.specs.declared.Name.{Name}
 use Rattle.lxr_layout.specs.declared.LogEntry.{LogEntry}
 use Rattle.lxr_graph.specs.Names.{has}
@@ -89,7 +89,7 @@ abbrev pub IsCoveredIn : Tables → Moment → (Name → ℕ) → List LogEntry 
 IsCoveredIn t m at entries ds ts n = (has m.unreclaimed n ≡ false) ⊎ (IsTrue (has m.unreclaimed n) × IsFound t at entries ds ts n)
 
 -- Reference i of u's object, which held v when the trace began, waits: u is unreclaimed, that reference is neither scanned nor handled, it
--- wasn't stored to since the last pause, and it holds v.
+-- wasn't written since the last pause, and it holds v.
 pub record WaitsIn (t : Tables) (m : Moment) (at : Name → ℕ) (ds : List Decrementing) (ts : List Tracing) (u : Name) (i : ℕ) (v : Name) : Type 0 where
   pub member : IsTrue (has m.unreclaimed u)
   pub unscanned : (t.marks (granule_of (at u)) ≡ false) ⊎ IsScannedLater ts (at u) i

@@ -1,6 +1,6 @@
 -- The single atomic steps of mutators, in their finest granularity: what each does to the tables, to what its mutator shows,
 -- and to the history. The steps of decrementers stand in a file of their own.
-use Rattle.std.specs.Prelude.{◌≡◌, ◌≢◌, ℕ, ◌+◌, ◌%◌, ◌^◌, Bool, true, false, nat_eq, Option, Some, None, List, [], ◌∷◌, ◌++◌, replicate, slice_set, if◌then◌else◌}
+use Rattle.std.specs.Prelude.{◌≡◌, ◌≢◌, ℕ, ◌+◌, Bool, true, false, nat_eq, Option, Some, None, List, [], ◌∷◌, ◌++◌, replicate, slice_set, if◌then◌else◌}
 use Rattle.lxr_layout.specs.declared.LogEntry.{LogEntry}
 use Rattle.lxr_layout.specs.declared.Name.{Name}
 use Rattle.lxr_layout.specs.declared.Place.{Place}
@@ -8,7 +8,7 @@ use Rattle.lxr_layout.specs.declared.Shape.{Shape}
 use Rattle.lxr_layout.specs.declared.Header.TheVariants as header
 use Rattle.lxr_layout.specs.declared.runs.Run.{Run}
 use Rattle.lxr_layout.specs.Objects.{header_of, line_count}
-use Rattle.lxr_layout.specs.Places.{field_word, first_word, place_in}
+use Rattle.lxr_layout.specs.Places.{first_word}
 use Rattle.lxr_graph.specs.declared.Op.{Op}
 use Rattle.lxr_graph.specs.declared.Op.TheVariants as op
 use Rattle.lxr_graph.specs.declared.Reply.{Reply}
@@ -46,18 +46,20 @@ pub data Event : Type 0 where
   -- a load takes the reference at a place and index into a register, and tells the name of what it found there
   LoadsReference : Op → (dest place index : ℕ) → Event
   TellsName : Op → Name → Event
-  -- a get takes the data word, a put writes a value there
+  -- a get takes the data word, a put writes a value there, an add adds a value to it and takes what it was
   GetsValue : Op → (place refs index : ℕ) → Event
   PutsValue : Op → (place refs index value : ℕ) → Event
-  -- a store sees the unlogged bit clear, or sees that its log is full, or loads the reference
+  AddsValue : Op → (place refs index value : ℕ) → Event
+  -- a store or a swap sees the unlogged bit clear, or sees that its log is full, or loads the reference
   SeesClear : (place index : ℕ) → Event
   SeesFull : (place index : ℕ) → Event
   LoadsOld : (place index : ℕ) → Event
   -- it clears the bit, which was set, of the reference of an entry, of the object of a name; the bit was clear
   ClearsFirst : LogEntry → Name → Event
   ClearsLate : LogEntry → Event
-  -- it stores a place
+  -- a store stores a place there; a swap does, and takes the reference that it found into a register, whose name it tells then
   StoresReference : Op → (place index value : ℕ) → Event
+  SwapsReference : Op → (dest place index value : ℕ) → Event
   -- a new object: it draws the number of a run or of a block, sees that there is none of that number, or that there is one,
   -- and takes it for an object of a shape
   DrawsRun : Event
@@ -83,6 +85,8 @@ base_of (op.Load dest base index) = Some (base, index)
 base_of (op.Store base index source) = Some (base, index)
 base_of (op.Put base index value) = Some (base, index)
 base_of (op.Get base index) = Some (base, index)
+base_of (op.Swap dest base index source) = Some (base, index)
+base_of (op.Add base index value) = Some (base, index)
 base_of _ = None
 
 -- the heap word of a data word of the object at a place, which has so many references
@@ -98,15 +102,23 @@ pub record WorksOn (v : ThreadState) (place index : ℕ) : Type 0 where
   pub held : (held v base).0 ≡ place
   pub some : place ≢ 0
 
--- it is a load or a store; a put or a get
+-- it is a load, a store or a swap; where it has a base, a put, a get or an add
 abbrev pub is_for_reference : Op → Bool
 is_for_reference (op.Load dest base index) = true
 is_for_reference (op.Store base index source) = true
+is_for_reference (op.Swap dest base index source) = true
 is_for_reference _ = false
 
-abbrev pub is_store : Op → Bool
-is_store (op.Store base index source) = true
-is_store _ = false
+-- it takes a reference into a register: a load or a swap
+abbrev pub takes_reference : Op → Bool
+takes_reference (op.Load dest base index) = true
+takes_reference (op.Swap dest base index source) = true
+takes_reference _ = false
+
+-- what such an operation replies of the reference that it found
+abbrev pub found_reply : Op → Option Name → Reply
+found_reply (op.Swap dest base index source) found = reply.Swapped found
+found_reply _ found = reply.Loaded found
 
 -- the operation in progress is this
 abbrev pub Does : ThreadState → Op → Type 0
@@ -145,6 +157,8 @@ at_once v (op.Load dest base index) = bad_at v base
 at_once v (op.Store base index source) = bad_at v base
 at_once v (op.Put base index value) = bad_at v base
 at_once v (op.Get base index) = bad_at v base
+at_once v (op.Swap dest base index source) = bad_at v base
+at_once v (op.Add base index value) = bad_at v base
 at_once v (op.Move dest source) = Some (reply.Moved, slice_set v.registers dest (held v source))
 at_once v (op.Nil dest) = Some (reply.Cleared, slice_set v.registers dest nil)
 at_once v (op.Same left right) = Some (reply.Same (nat_eq (held v left).0 (held v right).0), v.registers)

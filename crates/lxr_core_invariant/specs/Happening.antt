@@ -1,5 +1,5 @@
 -- When an event may happen to a mutator, and what there is after it.
-use Rattle.std.specs.Prelude.{◌≡◌, ◌≢◌, ℕ, ◌+◌, ◌<◌, ◌≤◌, ⊤, Bool, true, false, nat_eq, Option, Some, None, List, ◌∷◌, length, slice_set, if◌then◌else◌, IsTrue}
+use Rattle.std.specs.Prelude.{◌≡◌, ◌≢◌, ℕ, ◌+◌, ◌%◌, ◌^◌, ◌<◌, ◌≤◌, ⊤, Bool, true, false, nat_eq, Option, Some, None, List, ◌∷◌, length, slice_set, if◌then◌else◌, IsTrue}
 use Rattle.lxr_layout.specs.declared.TheConstants.{FREE_BLOCK_COUNT, FREE_BLOCK_CURSOR, PAUSE_WORD, RUN_COUNT, RUN_CURSOR}
 use Rattle.lxr_layout.specs.declared.LogEntry.{LogEntry}
 use Rattle.lxr_layout.specs.declared.Name.{Name}
@@ -18,6 +18,7 @@ use Rattle.lxr_graph.specs.History.{Item, Call}
 use Rattle.lxr_graph.specs.Names.{has}
 use Rattle.lxr_graph.specs.State.{next_name}
 use Rattle.lxr_graph.specs.Step.{step}
+use Rattle.lxr_model.specs.Belongs.{writes_reference}
 use Rattle.lxr_image.specs.Tables.{Tables, changed}
 use Rattle.lxr_image.specs.ImageLaws.{placed, with_heap}
 use Rattle.lxr_alloc.specs.Spans.{FitsSpan, IsInBlock, IsMedium, block_span, run_span}
@@ -27,7 +28,7 @@ use Rattle.lxr_core_invariant.specs.ThreadStates.{Plain, AtReference, AtValue, C
 use Rattle.lxr_core_invariant.specs.ThreadStates.{Rests, Works, Names, Through}
 use Rattle.lxr_core_invariant.specs.ThreadStates as why
 use Rattle.lxr_core_invariant.specs.EpochStates.{Beginning, EpochState, moment_of}
-use Rattle.lxr_core_invariant.specs.Events.{Event, Source, Does, TellsObject, WorksOn, at_once, bad_at, base_of, done_with, indexed, is_for_reference, is_store, making, source_for, span_from, value_word, with_span}
+use Rattle.lxr_core_invariant.specs.Events.{Event, Source, Does, TellsObject, WorksOn, at_once, bad_at, base_of, done_with, found_reply, indexed, is_for_reference, making, source_for, span_from, value_word, with_span}
 use Rattle.lxr_core_invariant.specs.Events as event
 use Rattle.lxr_core_invariant.specs.Events.{Current, Overflow}
 
@@ -113,9 +114,14 @@ pub record MayPut (v : ThreadState) (o : Op) (place refs index value : ℕ) : Ty
   pub does : Does v o
   pub puts : (base : ℕ) × (o ≡ op.Put base index value)
 
--- the operation in progress is a store
-abbrev pub DoesStore : ThreadState → Type 0
-DoesStore v = (base : ℕ) × (index : ℕ) × (source : ℕ) × Does v (op.Store base index source)
+pub record MayAdd (v : ThreadState) (o : Op) (place refs index value : ℕ) : Type 0 where
+  pub stage : Intends v (AtValue place refs index)
+  pub does : Does v o
+  pub adds : (base : ℕ) × (o ≡ op.Add base index value)
+
+-- the operation in progress is a store or a swap
+abbrev pub WritesReference : ThreadState → Type 0
+WritesReference v = IsTrue (writes_reference (op_now v))
 
 -- the log has room for an entry
 abbrev pub LogHasRoom : ThreadState → Type 0
@@ -123,24 +129,24 @@ LogHasRoom v = length v.log.items < v.log.room
 
 pub record MaySeeClear (t : Tables) (v : ThreadState) (place index : ℕ) : Type 0 where
   pub stage : Intends v (AtReference place index)
-  pub does : DoesStore v
+  pub does : WritesReference v
   pub clear : t.unlogged (field_word place index) ≡ false
 
 pub record MaySeeFull (t : Tables) (v : ThreadState) (place index : ℕ) : Type 0 where
   pub stage : Intends v (AtReference place index)
-  pub does : DoesStore v
+  pub does : WritesReference v
   pub unlogged : t.unlogged (field_word place index) ≡ true
   pub full : v.log.room ≤ length v.log.items
 
 pub record MayLoadOld (v : ThreadState) (place index : ℕ) : Type 0 where
   pub stage : Intends v (AtReference place index)
-  pub does : DoesStore v
+  pub does : WritesReference v
   pub room : LogHasRoom v
 
 -- the log still has room, since only its own mutator writes it
 pub record MayClear (t : Tables) (v : ThreadState) (e : LogEntry) (bit : Bool) : Type 0 where
   pub stage : Intends v (Clears e)
-  pub does : DoesStore v
+  pub does : WritesReference v
   pub room : LogHasRoom v
   pub unlogged : t.unlogged (field_word e.place.0 e.index) ≡ bit
 
@@ -156,6 +162,14 @@ pub record MayStore (v : ThreadState) (o : Op) (place index value : ℕ) : Type 
   pub base : ℕ
   pub source : ℕ
   pub stores : o ≡ op.Store base index source
+  pub value_is : value ≡ (held v source).0
+
+pub record MaySwap (v : ThreadState) (o : Op) (dest place index value : ℕ) : Type 0 where
+  pub stage : Intends v (Stores place index)
+  pub does : Does v o
+  pub base : ℕ
+  pub source : ℕ
+  pub swaps : o ≡ op.Swap dest base index source
   pub value_is : value ≡ (held v source).0
 
 pub record MayDrawRun (v : ThreadState) : Type 0 where
@@ -239,12 +253,14 @@ May b s v (event.LoadsReference o dest place index) = MayLoad v o dest place ind
 May b s v (event.TellsName o n) = MayTell s.tables v o n
 May b s v (event.GetsValue o place refs index) = MayGet v o place refs index
 May b s v (event.PutsValue o place refs index value) = MayPut v o place refs index value
+May b s v (event.AddsValue o place refs index value) = MayAdd v o place refs index value
 May b s v (event.SeesClear place index) = MaySeeClear s.tables v place index
 May b s v (event.SeesFull place index) = MaySeeFull s.tables v place index
 May b s v (event.LoadsOld place index) = MayLoadOld v place index
 May b s v (event.ClearsFirst e n) = MayClearFirst b s v e n
 May b s v (event.ClearsLate e) = MayClear s.tables v e false
 May b s v (event.StoresReference o place index value) = MayStore v o place index value
+May b s v (event.SwapsReference o dest place index value) = MaySwap v o dest place index value
 May b s v event.DrawsRun = MayDrawRun v
 May b s v event.MissesRun = MayMissRun s.tables v
 May b s v (event.SeesRun number) = MaySeeRun s.tables v number
@@ -267,11 +283,11 @@ at_stage v stage = record v { stage = stage }
 abbrev pub intends : ThreadState → Intent → ThreadState
 intends v intent = at_stage v (Works intent)
 
--- the thread state once a load has taken a place: a reply that has a name to tell waits for it
+-- the thread state once a load or a swap has taken a place: a reply that has a name to tell waits for it
 abbrev pub loaded_with : ThreadState → Op → ℕ → Place → ThreadState
 loaded_with v o dest p =
     let held = record v { registers = slice_set v.registers dest p } in
-    if nat_eq p.0 0 then (done_with held o (reply.Loaded None)) else (at_stage held (Names p.0))
+    if nat_eq p.0 0 then (done_with held o (found_reply o None)) else (at_stage held (Names p.0))
 
 -- ---- what there is after an event of mutator i, which showed v
 
@@ -294,7 +310,7 @@ with_call b s v o = Call v.thread o (step (moment_of b s).state v.thread o).1 �
 abbrev pub stands : Beginning → EpochState → ℕ → ThreadState → Op → ThreadState → Tables → EpochState
 stands b s i v o w t = record (shows s i w) { history = with_call b s v o; tables = t }
 
--- the entry that a store records: what it loaded, as a place
+-- the entry that a store or a swap records: what it loaded, as a place
 abbrev pub entry_with : Tables → ℕ → ℕ → LogEntry
 entry_with t place index = record { place = record { 0 = place }; index = index; old = place_in (t.heap (field_word place index)) }
 
@@ -317,9 +333,12 @@ happen b s i v (event.FindsReference place index) = shows s i (intends v (AtRefe
 happen b s i v (event.FindsValue place refs index) = shows s i (intends v (AtValue place refs index))
 happen b s i v (event.FindsNone o) = stands b s i v o (done_with v o reply.Range) s.tables
 happen b s i v (event.LoadsReference o dest place index) = stands b s i v o (loaded_with v o dest (place_in (s.tables.heap (field_word place index)))) s.tables
-happen b s i v (event.TellsName o n) = shows s i (done_with v o (reply.Loaded (Some n)))
+happen b s i v (event.TellsName o n) = shows s i (done_with v o (found_reply o (Some n)))
 happen b s i v (event.GetsValue o place refs index) = stands b s i v o (done_with v o (reply.Got (s.tables.heap (value_word place refs index)))) s.tables
 happen b s i v (event.PutsValue o place refs index value) = stands b s i v o (done_with v o reply.Put) (with_heap s.tables (value_word place refs index) value)
+happen b s i v (event.AddsValue o place refs index value) =
+    let old = s.tables.heap (value_word place refs index) in
+    stands b s i v o (done_with v o (reply.Added old)) (with_heap s.tables (value_word place refs index) ((old + value) % 2 ^ 64))
 happen b s i v (event.SeesClear place index) = shows s i (intends v (Stores place index))
 happen b s i v (event.SeesFull place index) = shows s i (intends v (GivesUp why.LogFull))
 happen b s i v (event.LoadsOld place index) = shows s i (intends v (Clears (entry_with s.tables place index)))
@@ -329,6 +348,8 @@ happen b s i v (event.ClearsFirst e n) = record (shows s i (intends (record v { 
 }
 happen b s i v (event.ClearsLate e) = shows s i (intends v (Stores e.place.0 e.index))
 happen b s i v (event.StoresReference o place index value) = stands b s i v o (done_with v o reply.Stored) (with_heap s.tables (field_word place index) value)
+happen b s i v (event.SwapsReference o dest place index value) =
+    stands b s i v o (loaded_with v o dest (place_in (s.tables.heap (field_word place index)))) (with_heap s.tables (field_word place index) value)
 happen b s i v event.DrawsRun = record (shows s i (intends v (DrewRun (s.tables.cursors RUN_CURSOR)))) { tables = with_cursor s.tables RUN_CURSOR (s.tables.cursors RUN_CURSOR + 1) }
 happen b s i v event.MissesRun = shows s i (intends v NeedsBlock)
 happen b s i v (event.SeesRun number) = shows s i (intends v (HasRun number))

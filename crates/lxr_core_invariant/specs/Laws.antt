@@ -26,7 +26,7 @@ use Rattle.lxr_core_access.specs.Decrementers.{Decrementing, Rests}
 use Rattle.lxr_core_access.specs.Tracers.{Tracing}
 use Rattle.lxr_core_invariant.specs.ThreadStates.{ThreadState}
 use Rattle.lxr_core_invariant.specs.EpochStates.{Beginning, Extends, EpochState, IsBeginning, limits_of, moment_of, opening_tables}
-use Rattle.lxr_core_invariant.specs.Events.{Event, value_word}
+use Rattle.lxr_core_invariant.specs.Events.{Event, found_reply, value_word}
 use Rattle.lxr_core_invariant.specs.Events as event
 use Rattle.lxr_core_invariant.specs.Happening.{May, happen, with_cursor}
 use Rattle.lxr_core_invariant.specs.Imaged.{HaveRegisters, IsPlacedIn}
@@ -62,20 +62,22 @@ IsLeft P = (b : Beginning) (s : EpochState) (u : Tables) (ds : List Decrementing
 abbrev pub RepliesAs : Beginning → EpochState → ThreadState → Op → Reply → Type 0
 RepliesAs b s v o r = IsReply (moment_of b s).state v.thread o r
 
--- a load takes the place of what it loads in the model
-pub record LoadsAs (b : Beginning) (s : EpochState) (v : ThreadState) (o : Op) (place : ℕ) : Type 0 where
-  pub loaded : Option Name
-  pub replies : RepliesAs b s v o (reply.Loaded loaded)
-  pub place_is : place ≡ place_word s.at loaded
+-- a load or a swap takes the place of what it finds in the model
+pub record TakesAs (b : Beginning) (s : EpochState) (v : ThreadState) (o : Op) (place : ℕ) : Type 0 where
+  pub found : Option Name
+  pub replies : RepliesAs b s v o (found_reply o found)
+  pub place_is : place ≡ place_word s.at found
 
 -- what the mutator replies where its operation stands in the history by an event
 abbrev pub AnswersAs : Beginning → EpochState → ThreadState → Event → Type 0
 AnswersAs b s v (event.DoesAtOnce o r registers) = RepliesAs b s v o r
 AnswersAs b s v (event.FindsNone o) = RepliesAs b s v o reply.Range
-AnswersAs b s v (event.LoadsReference o dest place index) = LoadsAs b s v o (place_in (s.tables.heap (field_word place index))).0
+AnswersAs b s v (event.LoadsReference o dest place index) = TakesAs b s v o (place_in (s.tables.heap (field_word place index))).0
 AnswersAs b s v (event.GetsValue o place refs index) = RepliesAs b s v o (reply.Got (s.tables.heap (value_word place refs index)))
 AnswersAs b s v (event.PutsValue o place refs index value) = RepliesAs b s v o reply.Put
+AnswersAs b s v (event.AddsValue o place refs index value) = RepliesAs b s v o (reply.Added (s.tables.heap (value_word place refs index)))
 AnswersAs b s v (event.StoresReference o place index value) = RepliesAs b s v o reply.Stored
+AnswersAs b s v (event.SwapsReference o dest place index value) = TakesAs b s v o (place_in (s.tables.heap (field_word place index))).0
 AnswersAs b s v (event.MakesObject o dest place shape) = RepliesAs b s v o (reply.New (next_name (moment_of b s).state.graph v.thread))
 AnswersAs b s v (event.Asks o r) = RepliesAs b s v o r
 AnswersAs b s v _ = ⊤
@@ -210,7 +212,7 @@ abbrev pub ClosingInside : Type 0
 ClosingInside = (b : Beginning) (s : EpochState) (trace : Trace) → IsEpoch b s → (moment_of b s).trace ≡ Some trace
     → MarksStayInside s.tables (moment_of b s) s.at trace
 
--- Where all rest, as much is remembered as at a safepoint, where unlogged bits are those of the references that weren't stored to.
+-- Where all rest, as much is remembered as at a safepoint, where unlogged bits are those of the references that weren't written.
 abbrev pub ClosingRemembered : Type 0
 ClosingRemembered = (b : Beginning) (s : EpochState) (trace : Trace) (snapshot : List Name) → IsEpoch b s → AllRest s → HasBits s.tables (moment_of b s) s.at (moment_of b s).unreclaimed
     → (moment_of b s).trace ≡ Some trace → IsSetOf snapshot (Reachable trace.state) → IsRememberedSoFar (limits_of b) s.tables (moment_of b s) s.at trace snapshot
@@ -232,7 +234,7 @@ pub record HasClosingCounts (b : Beginning) (s : EpochState) : Type 0 where
 abbrev pub ClosingCounts : Type 0
 ClosingCounts = (b : Beginning) (s : EpochState) → IsEpoch b s → DecrementersRest s → HasClosingCounts b s
 
--- Where all mutators rest, bits and logs are those of the references that were stored to since the last pause, each
+-- Where all mutators rest, bits and logs are those of the references that were written since the last pause, each
 -- with one entry, so that no log has more entries than there are such references.
 pub record HasClosingLogs (b : Beginning) (s : EpochState) : Type 0 where
   pub bits : HasBits s.tables (moment_of b s) s.at (moment_of b s).unreclaimed

@@ -12,7 +12,7 @@ use Rattle.lxr_invariant.specs.Standing.{AreLogged, HasBits, entry_of}
 use Rattle.lxr_core_invariant.specs.ThreadStates.{ThreadState, Clears, Stores, Works}
 use Rattle.lxr_core_invariant.specs.EpochStates.{Beginning, EpochState, limits_of, moment_of}
 
--- the moment as if these fields had been stored to since the last pause
+-- the moment as if these fields had been written since the last pause
 abbrev pub with_cleared : Moment → List Field → Moment
 with_cleared m fields = record m { written = fields }
 
@@ -20,7 +20,7 @@ with_cleared m fields = record m { written = fields }
 abbrev pub logs_of : List ThreadState → List LogEntry
 logs_of thread_states = flat_map (λ v. v.log.items) thread_states
 
--- some mutator is about to store to a reference
+-- some mutator is about to store to a reference, or to swap it
 pub record IsBeingStored (s : EpochState) (n : Name) (index : ℕ) : Type 0 where
   pub number : ℕ
   pub thread_state : ThreadState
@@ -40,10 +40,10 @@ pub record AreBitsAndLogs (b : Beginning) (s : EpochState) : Type 0 where
       → IsTrue (has (moment_of b s).unreclaimed n) × (i < length (refs_of (object_at (moment_of b s).last.graph n)))
   pub bits : HasBits s.tables (with_cleared (moment_of b s) s.cleared) s.at (moment_of b s).unreclaimed
   pub logs : AreLogged (with_cleared (moment_of b s) s.cleared) s.at (logs_of s.thread_states)
-  -- what was stored to is cleared; what is cleared was stored to, or is about to be
+  -- what was written is cleared; what is cleared was written, or is about to be
   pub written : (n : Name) (i : ℕ) → IsTrue (has_field (moment_of b s).written (n, i)) → IsTrue (has_field s.cleared (n, i))
   pub cleared : (n : Name) (i : ℕ) → IsTrue (has_field s.cleared (n, i)) → IsTrue (has_field (moment_of b s).written (n, i)) ⊎ IsBeingStored s n i
-  -- a mutator that has loaded a reference, and one that is about to store
+  -- a mutator that has loaded a reference, and one that is about to store or swap
   pub loaded : (i : ℕ) (v : ThreadState) (e : LogEntry) → slice_get s.thread_states i ≡ Some v → v.stage ≡ Works (Clears e) → MayRecord (moment_of b s) s.at s.cleared v e
   pub stores : (i : ℕ) (v : ThreadState) (place index : ℕ) (n : Name) → slice_get s.thread_states i ≡ Some v → v.stage ≡ Works (Stores place index)
       → IsTrue (has (moment_of b s).unreclaimed n) → place ≡ s.at n → IsTrue (has_field s.cleared (n, index))

@@ -77,7 +77,7 @@ IsRemembering _ = ⊥
 
 -- ---- what tracers know
 
--- a reference held v at the last pause, and wasn't stored to since
+-- a reference held v at the last pause, and wasn't written since
 pub record StillHolds (t : Tables) (m : Moment) (at : Name → ℕ) (n : Name) (i : ℕ) (v : Name) : Type 0 where
   pub member : IsTrue (has m.unreclaimed n)
   pub held : slice_get (refs_of (object_at m.last.graph n)) i ≡ Some (Some v)
@@ -118,7 +118,7 @@ pub record HasEntry (l : Limits) (t : Tables) (ts : List Tracing) (at : Name →
 abbrev pub IsSomeEntry : Limits → ℕ → Type 0
 IsSomeEntry l word = (c : ℕ) × (p : Place) × (i : ℕ) × IsEntryWord l word c p i
 
--- For a trace that runs: each reference of a scanned or promoted object that points into a Chosen block, and wasn't stored to since the last
+-- For a trace that runs: each reference of a scanned or promoted object that points into a Chosen block, and wasn't written since the last
 -- pause, has its entry, or the set has overflowed, or a tracer is ahead of it. Numbers that tracers are about to write entries for differ, and
 -- each other entry is one. What was drawn, what is still to be scanned, and what tracers are ahead of are no more than may be remembered.
 pub record AreRemembered (l : Limits) (t : Tables) (ts : List Tracing) (m : Moment) (at : Name → ℕ) (trace : Trace) : Type 0 where

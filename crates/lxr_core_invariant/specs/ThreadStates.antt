@@ -28,7 +28,7 @@ pub data Intent : Type 0 where
   AtValue : (place refs index : ℕ) → Intent
   -- it clears the unlogged bit of a reference that it has loaded, and logs this entry if it is the first
   Clears : LogEntry → Intent
-  -- it stores to a reference whose unlogged bit it saw clear, or cleared
+  -- it stores to a reference, or swaps it, whose unlogged bit it saw clear, or cleared
   Stores : (place index : ℕ) → Intent
   -- it has drawn a number of the table of runs, and isn't told yet whether there is such a run; it is told that there is
   DrewRun : ℕ → Intent
@@ -48,7 +48,7 @@ pub data Stage : Type 0 where
   Rests : Stage
   -- in a unit whose operation doesn't stand in the history yet
   Works : Intent → Stage
-  -- in a unit whose load stands in the history: the reply is yet to tell the name of the object at a place
+  -- in a unit whose load or swap stands in the history: the reply is yet to tell the name of the object at a place
   Names : (place : ℕ) → Stage
   -- it makes no further step in this epoch
   Through : Reason → Stage

@@ -5,7 +5,7 @@ use Rattle.lxr_layout.specs.declared.Shape.{Shape}
 use Rattle.lxr_graph.specs.declared.Op.{Op}
 use Rattle.lxr_graph.specs.declared.Op.TheVariants as op
 use Rattle.lxr_graph.specs.History.{Call, Item, Pause, calls_of, replies_of}
-use Rattle.lxr_model.specs.Belongs.{calls_since_pause, has_asked}
+use Rattle.lxr_model.specs.Belongs.{calls_since_pause, has_asked, writes_reference}
 use Rattle.lxr_model.specs.Kinds.{ends}
 use Rattle.lxr_model.specs.Legal.{IsLegalSoFar}
 use Rattle.lxr_model.specs.Terms.{Terms}
@@ -25,12 +25,12 @@ AllEnded s = (i : ℕ) (v : ThreadState) → slice_get s.thread_states i ≡ Som
 abbrev pub next_by : EpochState → ThreadState → Option Op
 next_by s v = slice_get (all_of v.operations) (length (calls_of v.thread s.history))
 
--- its thread's next operation is a `new`, and no block is left; its next operation is a `store`, and its log is full
+-- its thread's next operation is a `new`, and no block is left; its next operation is a `store` or a `swap`, and its log is full
 abbrev pub LacksBlock : EpochState → ThreadState → Type 0
 LacksBlock s v = ((dest : ℕ) × (shape : Shape) × (next_by s v ≡ Some (op.New dest shape))) × (s.tables.cursors FREE_BLOCK_COUNT ≤ s.tables.cursors FREE_BLOCK_CURSOR)
 
 abbrev pub LacksEntry : EpochState → ThreadState → Type 0
-LacksEntry s v = ((base : ℕ) × (index : ℕ) × (source : ℕ) × (next_by s v ≡ Some (op.Store base index source))) × (v.log.room ≤ length v.log.items)
+LacksEntry s v = IsTrue (writes_reference (next_by s v)) × (v.log.room ≤ length v.log.items)
 
 -- a pause comes because of a mutator: its thread asked for one, or had its turn, or lacks room
 abbrev pub CausesPause : Beginning → EpochState → ThreadState → Type 0

@@ -14,6 +14,8 @@ use Rattle.lxr_graph.specs.declared.Op.TheVariants as op
 use Rattle.lxr_graph.specs.declared.Reply.TheVariants as reply
 use Rattle.lxr_graph.specs.State.{shape_of}
 use Rattle.lxr_actor.specs.declared.Kindred.TheVariants as kind
+use Rattle.lxr_barrier.specs.declared.machines.LastStep.{LastStep}
+use Rattle.lxr_barrier.specs.declared.machines.LastStep.TheVariants as last_step
 use Rattle.lxr_barrier.specs.Storing.{begun}
 use Rattle.lxr_core_access.specs.declared.TableEntry.TheVariants.{Heap}
 use Rattle.lxr_core_access.specs.declared.Access.TheVariants.{Look}
@@ -28,7 +30,7 @@ use Rattle.lxr_core_invariant.specs.Events as epoch
 use Rattle.lxr_core_invariant.specs.Happening.{ReadsHeader, at_stage}
 use Rattle.lxr_core_invariant.specs.EpochStates.{Beginning, EpochState, limits_of, moment_of}
 use Rattle.lxr_core_invariant.proofs.ActingLemmas.{acts, base_held, same_pair}
-use Rattle.lxr_core_sim_mutator.specs.Showing.{IsMutatorOf, stage_in, thread_state_of}
+use Rattle.lxr_core_sim_mutator.specs.Showing.{IsMutatorOf, stage_in, thread_state_of, written_by}
 use Rattle.lxr_core_sim_mutator.specs.Stepping.{ShowsAs, StepIsEvent}
 use Rattle.lxr_core_sim_mutator.proofs.KeepingLemmas.{GoesOn, goes_on, no_end_now, now_shown, to_done, to_phase, thread_state_done}
 use Rattle.lxr_core_sim_mutator.proofs.OutcomeLemmas.{IsEventOf, IsEventTo, both, by_access, in_phase, is_le, none_more, of_event, on_heap, one_more, told_from, told_lt}
@@ -107,6 +109,27 @@ module _ (b : Beginning) (s : EpochState) (words : List ℕ) (i : ℕ) (m : Muta
   by_value to false kept shown value e =
       finds_none (subst (λ x. x ≤ index_of (op_now m)) (sym (ap (λ c. if c then shape.refs else shape.values) value)) (told_from (index_of (op_now m)) shape.values e))
 
+  -- a store or a swap begins, where its reference is there
+  reaches_store : (last : LastStep) (dest r k source : ℕ) → op_now m ≡ written_by last dest r k source → is_for_reference (op_now m) ≡ true → index_of (op_now m) ≡ k → base_of (op_now m) ≡ Some (r, k)
+      → IsEventTo b s i reader (Look (Heap (first_word base.0))) (reached_as (phase.Storing (record (begun m.regions base k (register m source)) { last = last })) (nat_lt k shape.refs))
+  reaches_store last dest r k source e reference index named =
+      let works = is.shows.mutator.steady in
+      let same = same_pair works.register_of works.index r k (sym works.named ∙ named) in
+      let st = record (begun m.regions base k (register m source)) { last = last } in
+      by_reference (phase.Storing st) (nat_lt k shape.refs)
+      (to_phase (limits_of b) reader (phase.Storing st) is.goes is.shows.mutator.regions (is.shows.mutator.sound.busy refl) (tt, refl) (record {
+        dest = dest;
+        base = r;
+        index = k;
+        source = source;
+        now = e;
+        unlogged = refl;
+        place = works.held ∙ ap (register m) same.0;
+        index_is = refl;
+        value = refl;
+      }))
+      (ap (λ (x : ℕ). Works (AtReference base.0 x)) index) reference (ap (λ (x : ℕ). nat_lt x shape.refs) index)
+
   -- the machine by its operation
   abbrev reached_by : Op → Mutating
   reached_by o = if nat_lt (index_of o) (indexed_fields o shape) then in_phase m (reaching reader base shape o) else done_with reader reply.Range
@@ -118,23 +141,7 @@ module _ (b : Beginning) (s : EpochState) (words : List ℕ) (i : ℕ) (m : Muta
       by_reference (phase.Reference base) (nat_lt k shape.refs)
       (to_phase (limits_of b) reader (phase.Reference base) is.goes is.shows.mutator.regions (is.shows.mutator.sound.busy refl) is.shows.mutator.sound.phase (dest, r, k, e))
       refl (ap is_for_reference e) (ap (λ (x : ℕ). nat_lt x shape.refs) index)
-  reaches (op.Store r k source) e =
-      let index = ap index_of e in
-      let works = is.shows.mutator.steady in
-      let same = same_pair works.register_of works.index r k (sym works.named ∙ ap base_of e) in
-      let st = begun m.regions base k (register m source) in
-      by_reference (phase.Storing st) (nat_lt k shape.refs)
-      (to_phase (limits_of b) reader (phase.Storing st) is.goes is.shows.mutator.regions (is.shows.mutator.sound.busy refl) (tt, refl) (record {
-        base = r;
-        index = k;
-        source = source;
-        now = e;
-        unlogged = refl;
-        place = works.held ∙ ap (register m) same.0;
-        index_is = refl;
-        value = refl;
-      }))
-      (ap (λ (x : ℕ). Works (AtReference base.0 x)) index) (ap is_for_reference e) (ap (λ (x : ℕ). nat_lt x shape.refs) index)
+  reaches (op.Store r k source) e = reaches_store last_step.Store 0 r k source e (ap is_for_reference e) (ap index_of e) (ap base_of e)
   reaches (op.Put r k value) e =
       let index = ap index_of e in
       by_value (phase.Putting base shape.refs) (nat_lt k shape.values)
@@ -144,6 +151,12 @@ module _ (b : Beginning) (s : EpochState) (words : List ℕ) (i : ℕ) (m : Muta
       let index = ap index_of e in
       by_value (phase.Datum base shape.refs) (nat_lt k shape.values)
       (to_phase (limits_of b) reader (phase.Datum base shape.refs) is.goes is.shows.mutator.regions (is.shows.mutator.sound.busy refl) is.shows.mutator.sound.phase (r, k, e))
+      refl (ap is_for_reference e) (ap (λ (x : ℕ). nat_lt x shape.values) index)
+  reaches (op.Swap dest r k source) e = reaches_store last_step.Swap dest r k source e (ap is_for_reference e) (ap index_of e) (ap base_of e)
+  reaches (op.Add r k value) e =
+      let index = ap index_of e in
+      by_value (phase.Adding base shape.refs) (nat_lt k shape.values)
+      (to_phase (limits_of b) reader (phase.Adding base shape.refs) is.goes is.shows.mutator.regions (is.shows.mutator.sound.busy refl) is.shows.mutator.sound.phase (r, k, value, e))
       refl (ap is_for_reference e) (ap (λ (x : ℕ). nat_lt x shape.values) index)
   reaches (op.New dest sh) e = absurd (no_base (sym is.shows.mutator.steady.named ∙ ap base_of e))
   reaches (op.Move dest source) e = absurd (no_base (sym is.shows.mutator.steady.named ∙ ap base_of e))
@@ -159,6 +172,8 @@ index_named (op.Load dest a c) r k e = sym (same_pair a c r k e).1
 index_named (op.Store a c source) r k e = sym (same_pair a c r k e).1
 index_named (op.Put a c value) r k e = sym (same_pair a c r k e).1
 index_named (op.Get a c) r k e = sym (same_pair a c r k e).1
+index_named (op.Swap dest a c source) r k e = sym (same_pair a c r k e).1
+index_named (op.Add a c value) r k e = sym (same_pair a c r k e).1
 index_named (op.New dest sh) r k e = absurd (no_base (sym e))
 index_named (op.Move dest source) r k e = absurd (no_base (sym e))
 index_named (op.Nil dest) r k e = absurd (no_base (sym e))

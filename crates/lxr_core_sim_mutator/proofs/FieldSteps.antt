@@ -1,11 +1,9 @@
--- The steps of loads, gets and puts on the field that they work on.
-use Rattle.std.proofs.Common.{◌≡◌, ℕ, ◌^◌, ◌<◌, ◌≤◌, Bool, true, false, arith, refl, sym, subst, ap, ◌∙◌, length}
-use Rattle.std.specs.Prelude.{List, Some, None, nat_eq, slice_set, if◌then◌else◌}
+-- The steps of loads, gets, puts and adds on the field that they work on.
+use Rattle.std.proofs.Common.{◌≡◌, ℕ, ◌^◌, arith, refl, sym, subst, ap, ◌∙◌}
+use Rattle.std.specs.Prelude.{List, Some, nat_eq, slice_set}
 use Rattle.lxr_layout.specs.declared.TheConstants.{MOST_GRANULES}
-use Rattle.lxr_layout.specs.Spaces.{regions_of}
 use Rattle.lxr_layout.specs.declared.Name.{Name}
 use Rattle.lxr_layout.specs.declared.Place.{Place}
-use Rattle.lxr_layout.specs.declared.limits.Limits.{Limits}
 use Rattle.lxr_layout.specs.Objects.{header_of}
 use Rattle.lxr_layout.specs.Places.{field_word, first_word, place_in}
 use Rattle.lxr_graph.specs.declared.Op.{Op}
@@ -15,20 +13,19 @@ use Rattle.lxr_graph.specs.declared.Reply.TheVariants as reply
 use Rattle.lxr_graph.specs.State.{shape_of}
 use Rattle.lxr_actor.specs.declared.Kindred.TheVariants as kind
 use Rattle.lxr_core_access.specs.declared.TableEntry.TheVariants.{Heap}
-use Rattle.lxr_core_access.specs.declared.Access.TheVariants.{Look, PutHeap}
+use Rattle.lxr_core_access.specs.declared.Access.TheVariants.{AddHeap, Look, PutHeap}
 use Rattle.lxr_mutator.specs.declared.phases.MutatorPhase.TheVariants as phase
 use Rattle.lxr_mutator.specs.Mutating.{Mutating, op_now}
-use Rattle.lxr_mutator.specs.Operating.{dest_of, index_of, value_of}
-use Rattle.lxr_mutator.specs.Steps.{done_with, name_told, with_register}
-use Rattle.lxr_core_invariant.specs.ThreadStates.{ThreadState, Names, is_end}
-use Rattle.lxr_core_invariant.specs.Events.{TellsObject, value_word}
+use Rattle.lxr_mutator.specs.Operating.{dest_of, found_reply, index_of, value_of}
+use Rattle.lxr_mutator.specs.Steps.{name_told}
+use Rattle.lxr_core_invariant.specs.Events.{takes_reference, value_word}
 use Rattle.lxr_core_invariant.specs.Events as epoch
-use Rattle.lxr_core_invariant.specs.Happening.{at_stage}
 use Rattle.lxr_core_invariant.specs.EpochStates.{Beginning, EpochState, limits_of, moment_of}
-use Rattle.lxr_core_sim_mutator.specs.Showing.{IsLoad, IsMutatorOf, thread_state_of}
+use Rattle.lxr_core_sim_mutator.specs.Showing.{thread_state_of}
 use Rattle.lxr_core_sim_mutator.specs.Stepping.{ShowsAs, StepIsEvent}
-use Rattle.lxr_core_sim_mutator.proofs.KeepingLemmas.{GoesOn, goes_on, no_end_now, now_shown, to_done, to_phase, thread_state_done, with_place}
+use Rattle.lxr_core_sim_mutator.proofs.KeepingLemmas.{goes_on, no_end_now, now_shown, to_done, thread_state_done}
 use Rattle.lxr_core_sim_mutator.proofs.OutcomeLemmas.{IsEventOf, by_access, in_phase, is_le, on_heap, one_more}
+use Rattle.lxr_core_sim_mutator.proofs.TakingLemmas.{same_found, taken_kept, taken_shown}
 use Rattle.lxr_core_sim_mutator.proofs.KnowingLemmas.{few_blocks, header_there, reference_there, told_is_header, value_there}
 
 -- the parts of an operation of a kind
@@ -43,29 +40,11 @@ get_parts o is = (is.0, subst (λ z. z ≡ op.Get is.0 (index_of z)) (sym is.2) 
 put_parts : (o : Op) → (base : ℕ) × (index : ℕ) × (value : ℕ) × (o ≡ op.Put base index value) → (base : ℕ) × (o ≡ op.Put base (index_of o) (value_of o))
 put_parts o is = (is.0, subst (λ z. z ≡ op.Put is.0 (index_of z) (value_of z)) (sym is.3) refl)
 
+-- and of an add
+add_parts : (o : Op) → (base : ℕ) × (index : ℕ) × (value : ℕ) × (o ≡ op.Add base index value) → (base : ℕ) × (o ≡ op.Add base (index_of o) (value_of o))
+add_parts o is = (is.0, subst (λ z. z ≡ op.Add is.0 (index_of z) (value_of z)) (sym is.3) refl)
+
 -- ---- a load takes the reference
-
--- the machine once it took a place, which is nil or not
-abbrev taken_as : Mutating → Place → Bool → Mutating
-taken_as m p none = if none then done_with (with_register m (dest_of (op_now m)) p) (reply.Loaded None) else record (with_register m (dest_of (op_now m)) p) { phase = phase.Referent p }
-
--- what it shows then
-abbrev shown_as : ThreadState → Op → ℕ → Place → Bool → ThreadState
-shown_as v o dest p none =
-    if none then epoch.done_with (record v { registers = slice_set v.registers dest p }) o (reply.Loaded None)
-    else at_stage (record v { registers = slice_set v.registers dest p }) (Names p.0)
-
--- a machine that took a place shows it
-taken_shown : (m : Mutating) (p : Place) (none : Bool) → m.since < m.every → is_end (op_now m) ≡ false → thread_state_of (taken_as m p none) ≡ shown_as (thread_state_of m) (op_now m) (dest_of (op_now m)) p none
-taken_shown m p true below goes = thread_state_done (with_register m (dest_of (op_now m)) p) (op_now m) (reply.Loaded None) below goes
-taken_shown m p false below goes = refl
-
--- a machine that took a place is a mutator of the space
-taken_kept : (l : Limits) (m : Mutating) (p : Place) (none : Bool) → GoesOn m → m.regions ≡ regions_of l → length m.replies.items < length m.operations → IsLoad m → p.0 ≤ MOST_GRANULES
-    → nat_eq p.0 0 ≡ none → IsMutatorOf l (taken_as m p none)
-taken_kept l m p true goes regions more load low e = to_done l (with_register m (dest_of (op_now m)) p) (reply.Loaded None) (with_place m (dest_of (op_now m)) p goes low) regions more
-taken_kept l m p false goes regions more load low e =
-    to_phase l (with_register m (dest_of (op_now m)) p) (phase.Referent p) (with_place m (dest_of (op_now m)) p goes low) regions more (grind (arith, e), low) load
 
 -- a step that loads the reference is an event
 pub reference_step : (b : Beginning) (s : EpochState) (words : List ℕ) (i : ℕ) (m : Mutating) (base : Place) → ShowsAs b s words i (in_phase m (phase.Reference base))
@@ -89,14 +68,14 @@ reference_step b s words i m base shows =
       may = record { stage = refl; does = now_shown n goes; loads = load_parts (op_now n) shows.mutator.steady };
       tables = refl;
       thread_states = ap (slice_set s.thread_states i) (sym (taken_shown n p (nat_eq p.0 0) goes.since (no_end_now n goes more)));
-      mutator = taken_kept l n p (nat_eq p.0 0) goes shows.mutator.regions more shows.mutator.steady (omega (arith, low)) refl;
+      mutator = taken_kept l n p (nat_eq p.0 0) goes shows.mutator.regions more (ap takes_reference shows.mutator.steady.3) (omega (arith, low)) refl;
       history = refl;
       places = refl;
     }))
 
 -- ---- and tells the name of what it found
 
--- a step that loads the header of what was loaded is an event
+-- a step that loads the header of what was found is an event
 pub referent_step : (b : Beginning) (s : EpochState) (words : List ℕ) (i : ℕ) (m : Mutating) (place : Place) → ShowsAs b s words i (in_phase m (phase.Referent place))
     → StepIsEvent b s words i (in_phase m (phase.Referent place))
 referent_step b s words i m place shows =
@@ -117,14 +96,15 @@ referent_step b s words i m place shows =
       event = epoch.TellsName (op_now n) telling.name;
       may = record { place = place.0; shape = shape_of there.0; stage = refl; does = now_shown n goes; told = head.told };
       tables = refl;
-      thread_states = ap (slice_set s.thread_states i) (sym (thread_state_done n (op_now n) (reply.Loaded (Some (name_told (header_of (s.tables.heap at))))) goes.since (no_end_now n goes more)
-          ∙ ap (λ (k : Name). epoch.done_with (thread_state_of n) (op_now n) (reply.Loaded (Some k))) name));
-      mutator = to_done l n (reply.Loaded (Some (name_told (header_of (s.tables.heap at))))) goes shows.mutator.regions more;
+      thread_states = ap (slice_set s.thread_states i) (sym (thread_state_done n (op_now n) (found_reply (op_now n) (Some (name_told (header_of (s.tables.heap at))))) goes.since (no_end_now n goes more)
+          ∙ ap (λ (k : Name). epoch.done_with (thread_state_of n) (op_now n) (found_reply (op_now n) (Some k))) name
+          ∙ ap (epoch.done_with (thread_state_of n) (op_now n)) (same_found (op_now n) (Some telling.name))));
+      mutator = to_done l n (found_reply (op_now n) (Some (name_told (header_of (s.tables.heap at))))) goes shows.mutator.regions more;
       history = refl;
       places = refl;
     }))
 
--- ---- gets and puts
+-- ---- gets, puts and adds
 
 -- a step that gets a data word is an event
 pub datum_step : (b : Beginning) (s : EpochState) (words : List ℕ) (i : ℕ) (m : Mutating) (base : Place) (refs : ℕ) → ShowsAs b s words i (in_phase m (phase.Datum base refs))
@@ -177,3 +157,30 @@ putting_step b s words i m base refs shows =
       history = one_more _ _ n.replies.items reply.Put;
       places = refl;
     })
+
+-- a step that adds to a data word is an event
+pub adding_step : (b : Beginning) (s : EpochState) (words : List ℕ) (i : ℕ) (m : Mutating) (base : Place) (refs : ℕ) → ShowsAs b s words i (in_phase m (phase.Adding base refs))
+    → StepIsEvent b s words i (in_phase m (phase.Adding base refs))
+adding_step b s words i m base refs shows =
+    let n = in_phase m (phase.Adding base refs) in
+    let l = limits_of b in
+    let is = shows.epoch in
+    let goes = goes_on n shows.mutator.sound (λ e. cc) in
+    let more = shows.mutator.sound.busy refl in
+    let index : ℕ = index_of (op_now n) in
+    let value : ℕ = value_of (op_now n) in
+    let at : ℕ = value_word base.0 refs index in
+    let knows = is.image.placed.knows i (thread_state_of n) shows.thread_state in
+    let within = value_there b s base.0 refs index is knows.stands in
+    let answer : Reply = reply.Added (s.tables.heap at) in
+    by_access b s words i n (AddHeap at value) shows (on_heap l n.regions kind.Add at value shows.mutator.regions) (record { table_entry = within; entry = tt })
+    (λ old told. subst (IsEventOf b s i n (AddHeap at value)) (sym told) (record {
+      accepts = refl;
+      event = epoch.AddsValue (op_now n) base.0 refs index value;
+      may = record { stage = refl; does = now_shown n goes; adds = add_parts (op_now n) shows.mutator.steady };
+      tables = refl;
+      thread_states = ap (slice_set s.thread_states i) (sym (thread_state_done n (op_now n) answer goes.since (no_end_now n goes more)));
+      mutator = to_done l n answer goes shows.mutator.regions more;
+      history = one_more _ _ n.replies.items answer;
+      places = refl;
+    }))

@@ -1,6 +1,7 @@
 pub mod KeepingLemmas
 pub mod OutcomeLemmas
 pub mod KnowingLemmas
+pub mod TakingLemmas
 pub mod FieldSteps
 pub mod LeavingSteps
 pub mod DrawingSteps

@@ -212,6 +212,8 @@ module _ (b : Beginning) (s : EpochState) (words : List ℕ) (i : ℕ) (m : Muta
   starts (op.Store r k source) e = based_on r k (ap base_of e) (ap (at_once (thread_state_of rested)) e) (more_of (op.Store r k source) e (λ q. cc))
   starts (op.Put r k value) e = based_on r k (ap base_of e) (ap (at_once (thread_state_of rested)) e) (more_of (op.Put r k value) e (λ q. cc))
   starts (op.Get r k) e = based_on r k (ap base_of e) (ap (at_once (thread_state_of rested)) e) (more_of (op.Get r k) e (λ q. cc))
+  starts (op.Swap dest r k source) e = based_on r k (ap base_of e) (ap (at_once (thread_state_of rested)) e) (more_of (op.Swap dest r k source) e (λ q. cc))
+  starts (op.Add r k value) e = based_on r k (ap base_of e) (ap (at_once (thread_state_of rested)) e) (more_of (op.Add r k value) e (λ q. cc))
   starts (op.Move dest source) e =
       at_once_done reply.Moved (slice_set m.registers dest (register m source)) (with_place rested dest (register m source) is.goes (register_held rested source is.goes))
       (more_of (op.Move dest source) e (λ q. cc)) (ap (at_once (thread_state_of rested)) e)

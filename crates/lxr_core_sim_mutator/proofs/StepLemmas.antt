@@ -13,7 +13,7 @@ use Rattle.lxr_core_sim_mutator.proofs.OutcomeLemmas.{in_phase}
 use Rattle.lxr_core_sim_mutator.proofs.NamingLemmas.{named}
 use Rattle.lxr_core_sim_mutator.proofs.ReadySteps.{ready_step}
 use Rattle.lxr_core_sim_mutator.proofs.BaseSteps.{base_step}
-use Rattle.lxr_core_sim_mutator.proofs.FieldSteps.{datum_step, putting_step, reference_step, referent_step}
+use Rattle.lxr_core_sim_mutator.proofs.FieldSteps.{adding_step, datum_step, putting_step, reference_step, referent_step}
 use Rattle.lxr_core_sim_mutator.proofs.StoringSteps.{storing_step}
 use Rattle.lxr_core_sim_mutator.proofs.DrawingSteps.{block_number_step, block_step, draws_block_step, draws_run_step, run_number_step, run_step}
 use Rattle.lxr_core_sim_mutator.proofs.MakingSteps.{heading_step, wiping_step}
@@ -28,6 +28,7 @@ step_in b s words i m (phase.Reference base) shows some = reference_step b s wor
 step_in b s words i m (phase.Referent place) shows some = referent_step b s words i m place shows
 step_in b s words i m (phase.Datum base refs) shows some = datum_step b s words i m base refs shows
 step_in b s words i m (phase.Putting base refs) shows some = putting_step b s words i m base refs shows
+step_in b s words i m (phase.Adding base refs) shows some = adding_step b s words i m base refs shows
 step_in b s words i m (phase.Storing st) shows some = storing_step b s words i m st shows
 step_in b s words i m phase.DrawsRun shows some = draws_run_step cursors_are_far b s words i m shows
 step_in b s words i m (phase.RunNumber number) shows some = run_number_step b s words i m number shows

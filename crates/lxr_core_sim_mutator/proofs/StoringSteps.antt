@@ -1,53 +1,66 @@
--- The steps of a store behind the barrier.
-use Rattle.std.proofs.Common.{◌≡◌, ℕ, zero, suc, ◌+◌, ◌/◌, ◌%◌, Bool, true, false, refl, sym, subst, ap, ◌∙◌, cond, inl, inr, List, [], ◌∷◌, length}
-use Rattle.std.specs.Prelude.{Option, Some, nat_le, slice_get, slice_set, if◌then◌else◌}
+-- The steps of a store or a swap behind the barrier.
+use Rattle.std.proofs.Common.{◌≡◌, ℕ, zero, suc, ◌+◌, ◌/◌, ◌%◌, arith, Bool, true, false, refl, sym, subst, ap, ◌∙◌, cond, inl, inr, List, [], ◌∷◌, length}
+use Rattle.std.specs.Prelude.{Option, Some, IsTrue, nat_eq, nat_le, slice_get, slice_set, if◌then◌else◌}
 use Rattle.std.proofs.lemmas.Bool.Decides.{eqb_tells}
 use Rattle.lxr_tables.specs.Entries.{all_but, is_set}
+use Rattle.lxr_layout.specs.declared.TheConstants.{MOST_GRANULES}
 use Rattle.lxr_layout.specs.Places.{field_word, place_in}
 use Rattle.lxr_layout.specs.declared.LogEntry.{LogEntry}
 use Rattle.lxr_layout.specs.declared.Place.{Place}
 use Rattle.lxr_base.specs.Roomy.{Roomy, pushed}
+use Rattle.lxr_graph.specs.declared.Op.{Op}
 use Rattle.lxr_graph.specs.declared.Op.TheVariants as op
 use Rattle.lxr_graph.specs.declared.Reply.TheVariants as reply
 use Rattle.lxr_image.specs.Tables.{Tables, changed}
 use Rattle.lxr_actor.specs.declared.Action.{Action}
 use Rattle.lxr_actor.specs.declared.Kindred.{Kindred}
 use Rattle.lxr_actor.specs.declared.Kindred.TheVariants as kind
+use Rattle.lxr_barrier.specs.declared.machines.LastStep.{LastStep}
+use Rattle.lxr_barrier.specs.declared.machines.LastStep.TheVariants as last_step
 use Rattle.lxr_barrier.specs.declared.machines.StorePhase.{StorePhase}
 use Rattle.lxr_barrier.specs.declared.machines.StorePhase.TheVariants as store
 use Rattle.lxr_barrier.specs.declared.StoreEnd.TheVariants as store_end
 use Rattle.lxr_barrier.specs.Storing.{Storing, end_in, entry_of, is_full}
 use Rattle.lxr_core_access.specs.declared.TableEntry.TheVariants.{Heap, Unlogged}
-use Rattle.lxr_core_access.specs.declared.Access.TheVariants.{ClearUnlogged, Look, PutHeap}
+use Rattle.lxr_core_access.specs.declared.Access.TheVariants.{ClearUnlogged, Look, PutHeap, SwapHeap}
 use Rattle.lxr_mutator.specs.declared.phases.MutatorPhase.TheVariants as phase
 use Rattle.lxr_mutator.specs.declared.phases.Stop.TheVariants as stop
 use Rattle.lxr_mutator.specs.Mutating.{Mutating, op_now}
+use Rattle.lxr_mutator.specs.Operating.{dest_of}
 use Rattle.lxr_mutator.specs.Steps.{stored}
-use Rattle.lxr_core_invariant.specs.Events.{Does}
+use Rattle.lxr_model.specs.Belongs.{writes_reference}
+use Rattle.lxr_core_invariant.specs.Events.{takes_reference}
 use Rattle.lxr_core_invariant.specs.Events as epoch
-use Rattle.lxr_core_invariant.specs.Happening.{DoesStore}
+use Rattle.lxr_core_invariant.specs.Happening.{WritesReference}
 use Rattle.lxr_core_invariant.specs.EpochStates.{Beginning, EpochState, limits_of}
-use Rattle.lxr_core_sim_mutator.specs.Showing.{IsStoreOf, thread_state_of}
+use Rattle.lxr_core_sim_mutator.specs.Showing.{IsStoreOf, thread_state_of, written_by}
 use Rattle.lxr_core_sim_mutator.specs.Stepping.{ShowsAs, StepIsEvent}
 use Rattle.lxr_core_sim_mutator.proofs.KeepingLemmas.{GoesOn, goes_on, no_end_now, now_shown, to_done, to_phase, thread_state_done, with_log}
-use Rattle.lxr_core_sim_mutator.proofs.OutcomeLemmas.{IsEventOf, IsEventTo, by_access, in_phase, none_more, of_event, on_heap, one_more, some_action, some_op, told_above, told_le}
+use Rattle.lxr_core_sim_mutator.proofs.OutcomeLemmas.{IsEventOf, IsEventTo, by_access, in_phase, is_le, none_more, of_event, on_heap, one_more, some_action, some_op, told_above, told_le}
+use Rattle.lxr_core_sim_mutator.proofs.TakingLemmas.{taken_kept, taken_shown}
 use Rattle.lxr_core_sim_mutator.proofs.KnowingLemmas.{reference_there}
 
 -- a mutator in a phase of its store
 abbrev in_store : Mutating → Storing → StorePhase → Mutating
 in_store m st p = in_phase m (phase.Storing (record st { phase = p }))
 
--- the heap word that it stores to
+-- the heap word that it writes
 abbrev word_of : Storing → ℕ
 word_of st = field_word st.place.0 st.index
 
--- it shows that it is in a store
-store_shown : (m : Mutating) (st : Storing) → GoesOn m → IsStoreOf m st → DoesStore (thread_state_of m)
-store_shown m st goes is = (is.base, is.index, is.source, now_shown m goes ∙ ap some_op is.now)
+-- a store and a swap write a reference
+write_written : (last : LastStep) (dest base index source : ℕ) → IsTrue (writes_reference (Some (written_by last dest base index source)))
+write_written last_step.Store dest base index source = refl
+write_written last_step.Swap dest base index source = refl
+
+-- it shows that it is in one
+store_shown : (m : Mutating) (st : Storing) → GoesOn m → IsStoreOf m st → WritesReference (thread_state_of m)
+store_shown m st goes is = ap writes_reference (now_shown m goes ∙ ap some_op is.now) ∙ write_written st.last is.dest is.base is.index is.source
 
 -- the store goes on
 store_on : (m : Mutating) (st : Storing) (p : StorePhase) (log : Roomy LogEntry) → IsStoreOf m st → IsStoreOf (in_store (record m { log = log }) st p) (record st { phase = p })
 store_on m st p log is = record {
+  dest = is.dest;
   base = is.base;
   index = is.index;
   source = is.source;
@@ -224,12 +237,16 @@ loaded_step b s words i m st first shows =
     by_access b s words i n (ClearUnlogged at) shows (on_bit n before kind.And (all_but (at % 64)) shows.mutator.steady) (record { table_entry = word.within; entry = tt })
     (λ old told. of_event b s i n (ClearUnlogged at) old refl (cleared b s words i m st first (is_set old (at % 64)) shows (sym told)))
 
--- ---- it stores
+-- ---- it stores, or swaps
+
+-- a mutator at the last step of its store
+abbrev at_last : Mutating → Storing → LastStep → Mutating
+at_last m st last = in_store m (record st { last = last }) store.Logged
 
 -- a step that stores is an event
-logged_step : (b : Beginning) (s : EpochState) (words : List ℕ) (i : ℕ) (m : Mutating) (st : Storing) → ShowsAs b s words i (in_store m st store.Logged) → StepIsEvent b s words i (in_store m st store.Logged)
-logged_step b s words i m st shows =
-    let n = in_store m st store.Logged in
+stores_step : (b : Beginning) (s : EpochState) (words : List ℕ) (i : ℕ) (m : Mutating) (st : Storing) → ShowsAs b s words i (at_last m st last_step.Store) → StepIsEvent b s words i (at_last m st last_step.Store)
+stores_step b s words i m st shows =
+    let n = at_last m st last_step.Store in
     let l = limits_of b in
     let at : ℕ = word_of st in
     let goes = goes_on n shows.mutator.sound (λ q. cc) in
@@ -255,12 +272,52 @@ logged_step b s words i m st shows =
       places = refl;
     })
 
+-- the swap of an operation, by its parts
+swap_parts : (o : Op) (dest base k index source : ℕ) → o ≡ op.Swap dest base k source → index ≡ k → o ≡ op.Swap (dest_of o) base index source
+swap_parts o dest base k index source is same = is ∙ (λ j. op.Swap (sym (ap dest_of is) j) base (sym same j) source)
+
+-- a step that swaps is an event
+swaps_step : (b : Beginning) (s : EpochState) (words : List ℕ) (i : ℕ) (m : Mutating) (st : Storing) → ShowsAs b s words i (at_last m st last_step.Swap) → StepIsEvent b s words i (at_last m st last_step.Swap)
+swaps_step b s words i m st shows =
+    let n = at_last m st last_step.Swap in
+    let l = limits_of b in
+    let at : ℕ = word_of st in
+    let goes = goes_on n shows.mutator.sound (λ q. cc) in
+    let more = shows.mutator.sound.busy refl in
+    let is = shows.mutator.steady in
+    let word = reference_there b s st.place.0 st.index shows.epoch (shows.epoch.image.placed.knows i (thread_state_of n) shows.thread_state).stands in
+    let low = word.low in
+    let p = place_in (s.tables.heap at) in
+    by_access b s words i n (SwapHeap at st.value.0) shows (on_heap l n.regions kind.Swap at st.value.0 shows.mutator.regions) (record { table_entry = word.within; entry = tt })
+    (λ old told. subst (IsEventOf b s i n (SwapHeap at st.value.0)) (sym told) (record {
+      accepts = is_le (s.tables.heap at) (MOST_GRANULES) low;
+      event = epoch.SwapsReference (op_now n) (dest_of (op_now n)) st.place.0 st.index st.value.0;
+      may = record {
+        stage = refl;
+        does = now_shown n goes;
+        base = is.base;
+        source = is.source;
+        swaps = swap_parts (op_now n) is.dest is.base is.index st.index is.source is.now is.index_is;
+        value_is = ap (λ (q : Place). q.0) is.value;
+      };
+      tables = refl;
+      thread_states = ap (slice_set s.thread_states i) (sym (taken_shown n p (nat_eq p.0 0) goes.since (no_end_now n goes more)));
+      mutator = taken_kept l n p (nat_eq p.0 0) goes shows.mutator.regions more (ap takes_reference is.now) (omega (arith, low)) refl;
+      history = refl;
+      places = refl;
+    }))
+
+-- a last step is an event
+last_by : (b : Beginning) (s : EpochState) (words : List ℕ) (i : ℕ) (m : Mutating) (st : Storing) (last : LastStep) → ShowsAs b s words i (at_last m st last) → StepIsEvent b s words i (at_last m st last)
+last_by b s words i m st last_step.Store shows = stores_step b s words i m st shows
+last_by b s words i m st last_step.Swap shows = swaps_step b s words i m st shows
+
 -- a step in a phase of a store is an event
 store_step : (b : Beginning) (s : EpochState) (words : List ℕ) (i : ℕ) (m : Mutating) (st : Storing) (p : StorePhase) → ShowsAs b s words i (in_store m st p) → StepIsEvent b s words i (in_store m st p)
 store_step b s words i m st store.Begun shows = begun_step b s words i m st shows
 store_step b s words i m st store.Unlogged shows = unlogged_step b s words i m st shows
 store_step b s words i m st (store.Loaded first) shows = loaded_step b s words i m st first shows
-store_step b s words i m st store.Logged shows = logged_step b s words i m st shows
+store_step b s words i m st store.Logged shows = last_by b s words i m st st.last shows
 store_step b s words i m st (store.Ended how) shows = absurd (let going = shows.mutator.sound.phase.1 in cc)
 
 -- a step of a store

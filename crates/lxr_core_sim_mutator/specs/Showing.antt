@@ -1,11 +1,14 @@
 -- What a mutator shows of itself, and what its machine keeps of the operation in progress.
-use Rattle.std.specs.Prelude.{◌≡◌, ◌≢◌, ℕ, ◌-◌, ◌⊎◌, ⊤, Option, Some}
+use Rattle.std.specs.Prelude.{◌≡◌, ◌≢◌, ℕ, ◌-◌, ◌⊎◌, ⊤, IsTrue, Option, Some}
 use Rattle.lxr_layout.specs.Spaces.{regions_of}
 use Rattle.lxr_layout.specs.declared.Place.{Place}
 use Rattle.lxr_layout.specs.declared.Shape.{Shape}
 use Rattle.lxr_layout.specs.declared.limits.Limits.{Limits}
 use Rattle.lxr_layout.specs.Objects.{line_count, word_count}
+use Rattle.lxr_graph.specs.declared.Op.{Op}
 use Rattle.lxr_graph.specs.declared.Op.TheVariants as op
+use Rattle.lxr_barrier.specs.declared.machines.LastStep.{LastStep}
+use Rattle.lxr_barrier.specs.declared.machines.LastStep.TheVariants as last_step
 use Rattle.lxr_barrier.specs.declared.machines.StorePhase.{StorePhase}
 use Rattle.lxr_barrier.specs.declared.machines.StorePhase.TheVariants as store
 use Rattle.lxr_barrier.specs.Storing.{Storing, entry_of}
@@ -21,7 +24,7 @@ use Rattle.lxr_mutator.specs.Operating.{index_of}
 use Rattle.lxr_mutator.specs.Steps.{shape_now}
 use Rattle.lxr_core_invariant.specs.ThreadStates.{Intent, Reason, Stage, ThreadState, Plain, AtReference, AtValue, Clears, Stores, DrewRun, HasRun, NeedsBlock, DrewBlock, HasBlock, Makes, GivesUp, Rests, Works, Names, Through}
 use Rattle.lxr_core_invariant.specs.ThreadStates as why
-use Rattle.lxr_core_invariant.specs.Events.{base_of}
+use Rattle.lxr_core_invariant.specs.Events.{base_of, takes_reference}
 
 -- why it is through with the epoch, by how its last unit ended
 abbrev pub reason_by : Option MutEnd → Reason
@@ -53,6 +56,7 @@ stage_in m (phase.Reference base) = Works (AtReference base.0 (index_of (op_now 
 stage_in m (phase.Referent place) = Names place.0
 stage_in m (phase.Datum base refs) = Works (AtValue base.0 refs (index_of (op_now m)))
 stage_in m (phase.Putting base refs) = Works (AtValue base.0 refs (index_of (op_now m)))
+stage_in m (phase.Adding base refs) = Works (AtValue base.0 refs (index_of (op_now m)))
 stage_in m (phase.Storing s) = Works (intent_of s s.phase)
 stage_in m phase.DrawsRun = Works Plain
 stage_in m (phase.RunNumber number) = Works (DrewRun number)
@@ -87,12 +91,18 @@ pub record WorksAtBase (m : Mutating) (base : Place) : Type 0 where
   pub held : base ≡ register m register_of
   pub some : base.0 ≢ 0
 
+-- the operation whose store ends with this step: a `swap` has a register for what it finds
+abbrev pub written_by : LastStep → (dest base index source : ℕ) → Op
+written_by last_step.Store dest base index source = op.Store base index source
+written_by last_step.Swap dest base index source = op.Swap dest base index source
+
 -- the store in progress is that of the operation
 pub record IsStoreOf (m : Mutating) (s : Storing) : Type 0 where
+  pub dest : ℕ
   pub base : ℕ
   pub index : ℕ
   pub source : ℕ
-  pub now : op_now m ≡ op.Store base index source
+  pub now : op_now m ≡ written_by s.last dest base index source
   pub unlogged : s.unlogged ≡ m.regions.unlogged
   pub place : s.place ≡ register m base
   pub index_is : s.index ≡ index
@@ -102,6 +112,10 @@ pub record IsStoreOf (m : Mutating) (s : Storing) : Type 0 where
 abbrev pub IsLoad : Mutating → Type 0
 IsLoad m = (dest : ℕ) × (base : ℕ) × (index : ℕ) × (op_now m ≡ op.Load dest base index)
 
+-- it is a `load` or a `swap`
+abbrev pub TakesReference : Mutating → Type 0
+TakesReference m = IsTrue (takes_reference (op_now m))
+
 -- it is a `get`
 abbrev pub IsGet : Mutating → Type 0
 IsGet m = (base : ℕ) × (index : ℕ) × (op_now m ≡ op.Get base index)
@@ -109,6 +123,10 @@ IsGet m = (base : ℕ) × (index : ℕ) × (op_now m ≡ op.Get base index)
 -- it is a `put`
 abbrev pub IsPut : Mutating → Type 0
 IsPut m = (base : ℕ) × (index : ℕ) × (value : ℕ) × (op_now m ≡ op.Put base index value)
+
+-- it is an `add`
+abbrev pub IsAdd : Mutating → Type 0
+IsAdd m = (base : ℕ) × (index : ℕ) × (value : ℕ) × (op_now m ≡ op.Add base index value)
 
 -- it is a `new`
 abbrev pub IsNew : Mutating → Type 0
@@ -128,9 +146,10 @@ IsSteadyIn m phase.Ready = (m.end ≢ Some ends.Ended) × WaitsForNew m
 IsSteadyIn m phase.Finished = WaitsForNew m
 IsSteadyIn m (phase.Base base) = WorksAtBase m base
 IsSteadyIn m (phase.Reference base) = IsLoad m
-IsSteadyIn m (phase.Referent place) = IsLoad m
+IsSteadyIn m (phase.Referent place) = TakesReference m
 IsSteadyIn m (phase.Datum base refs) = IsGet m
 IsSteadyIn m (phase.Putting base refs) = IsPut m
+IsSteadyIn m (phase.Adding base refs) = IsAdd m
 IsSteadyIn m (phase.Storing s) = IsStoreOf m s
 IsSteadyIn m phase.DrawsRun = IsNewOfLine m
 IsSteadyIn m (phase.RunNumber number) = IsNewOfLine m

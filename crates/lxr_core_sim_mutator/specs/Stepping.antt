@@ -9,6 +9,7 @@ use Rattle.lxr_image.specs.ImageLaws.{placed}
 use Rattle.lxr_image.specs.Tables.{tables_in}
 use Rattle.lxr_actor.specs.Machine.{Fits}
 use Rattle.lxr_actor.specs.Run.{stepped}
+use Rattle.lxr_barrier.specs.Storing.{swaps_next}
 use Rattle.lxr_mutator.specs.declared.phases.MutatorPhase.{MutatorPhase}
 use Rattle.lxr_mutator.specs.declared.phases.MutatorPhase.TheVariants as phase
 use Rattle.lxr_mutator.specs.Mutating.{Mutating, op_now}
@@ -20,10 +21,12 @@ use Rattle.lxr_core_invariant.specs.Epoch.{IsEpoch}
 use Rattle.lxr_core_sim_mutator.specs.Showing.{IsMutatorOf, thread_state_of}
 
 -- Whether the operation of a mutator, which has made a step, stands in the history at that step: a load at the step that
--- loads the reference, though its reply comes a step later if it has a name to tell; any other at the step that gives its reply.
+-- loads the reference, and a swap at its swap, though the reply comes a step later if it has a name to tell; any other at the step that
+-- gives its reply.
 abbrev pub stands_in : MutatorPhase → Mutating → Mutating → Bool
 stands_in (phase.Reference base) m m' = true
 stands_in (phase.Referent place) m m' = false
+stands_in (phase.Storing store) m m' = if swaps_next store then true else nat_eq (length m'.replies.items) (length m.replies.items + 1)
 stands_in p m m' = nat_eq (length m'.replies.items) (length m.replies.items + 1)
 
 -- the history after a step of m that leads to m': where the operation stands there, its call, with the reply of the model

@@ -1,5 +1,5 @@
 //! Finding the objects of Chosen blocks, by the start bits of 64 granules at once.
-ghost use Rattle.std.specs.Prelude.{◌≡◌, ℕ, ◌*◌, ◌/◌, ◌<◌, ◌≤◌, IfNone, IfSome, length};
+ghost use Rattle.std.specs.Prelude.{◌≡◌, ℕ, ◌*◌, ◌/◌, ◌<◌, ◌≤◌, IfNone, IfSome, false, length};
 ghost use Rattle.lxr_layout.specs.declared.Name.{Name as NameOf};
 ghost use Rattle.lxr_layout.specs.declared.TheConstants.{GRANULES_IN_BLOCK};
 ghost use Rattle.lxr_image.specs.Spaces.{IsSpace, tables_of};
@@ -10,7 +10,7 @@ ghost use Rattle.lxr_evac_moving.specs.Evacuation.{CanEvacuate};
 ghost use Rattle.lxr_evac_moving.specs.Stages.{granules, kept_names};
 ghost use Rattle.lxr_evac_moving.specs.Steps.{IsNextChosen, NoneBegins, last_stage};
 
-use lxr_blocks::{BlockState, state};
+use lxr_blocks::{BlockState, next_in_use, state};
 use lxr_image::Space;
 use lxr_image_search::{Wanted, next_in_word};
 use lxr_layout::GRANULES_IN_BLOCK;
@@ -27,8 +27,22 @@ fn is_in_chosen(space: &Space, granule: u32) -> bool
     }
 }
 
-/// The first granule from one on at which an object of a Chosen block begins. It takes one look for each block, and one for 64 granules of
-/// a Chosen block.
+/// The first granule of the next block that isn't Free, behind a granule's own that isn't Chosen; that behind the heap, where there is none.
+fn next_block(space: &Space, granule: u32) -> u32
+    requires space { IsSpace space.now }
+    requires granule { granule < GRANULES_IN_BLOCK * space.now.limits.blocks }
+    requires unchosen { is_chosen (state_in (tables_of space.now) (granule / GRANULES_IN_BLOCK)) ≡ false }
+    ensures past { granule < result }
+    ensures none { NoneBegins (tables_of space.now) granule result }
+{
+    match next_in_use(space, granule / GRANULES_IN_BLOCK + 1) {
+        Some(block) => GRANULES_IN_BLOCK * block,
+        None => GRANULES_IN_BLOCK * space.limits.blocks,
+    }
+}
+
+/// The first granule from one on at which an object of a Chosen block begins. It takes one look for each block that isn't Free, and one for
+/// 64 granules of a Chosen block.
 pub(crate) fn next_chosen(space: &Space, from: u32) -> Option<u32>
     requires { IsSpace space.now }
     ensures none { IfNone result (NoneBegins (tables_of space.now) from (granules space.now)) }
@@ -37,7 +51,7 @@ pub(crate) fn next_chosen(space: &Space, from: u32) -> Option<u32>
     let mut at = from;
     while at < GRANULES_IN_BLOCK * space.limits.blocks {
         if !is_in_chosen(space, at) {
-            at = (at / GRANULES_IN_BLOCK + 1) * GRANULES_IN_BLOCK;
+            at = next_block(space, at);
             continue;
         }
         if let Some(granule) = next_in_word(space, Wanted::Object, at) {

@@ -40,7 +40,7 @@ fn take_gray(space: &mut Space, from: u32, to: u32)
 }
 
 /// Gives the object at its new place the bits and the count that it had at its old one. All its references are to be logged, since none was
-/// stored to since the last pause, and each further line that it reaches into is marked.
+/// written since the last pause, and each further line that it reaches into is marked.
 fn take_over(space: &mut Space, old: Place, new: Place)
     requires stands { HasObjectAt space.old new }
     requires placed { 1 ≤ old.0 }

@@ -48,6 +48,6 @@ CollectedFullLeavesNoRun = (s : Space) (g : AbstractState) (shape : Shape) → I
     → (ns : List Name) × IsSetOf ns (λ o. Reachable g.moment.state o × (o ≢ world_name))
     × LeaveNoRun g.moment.state.graph ns s.limits.blocks (line_count shape)
 
--- the log has as many entries as fields were stored to since the last pause
+-- the log has as many entries as fields were written since the last pause
 abbrev pub LogIsWritten : Type 0
 LogIsWritten = (s : Space) (g : AbstractState) → IsAtSafepoint s g → length g.moment.written ≡ length s.logged.items

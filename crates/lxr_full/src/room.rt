@@ -30,7 +30,7 @@ pub fn world_keeps_shape()
     ensures { WorldKeepsShape }
 {}
 
-/// At a safepoint before a pause the log has as many entries as fields were stored to since the last pause.
+/// At a safepoint before a pause the log has as many entries as fields were written since the last pause.
 pub fn log_is_written()
     ensures { LogIsWritten }
 {}

@@ -1,8 +1,9 @@
 //! The graph with the registers of its threads, and one step of it.
 ghost use Rattle.std.specs.Prelude.{◌≡◌, ◌+◌, ◌-◌, ◌*◌, ◌^◌, ◌<◌, ◌≤◌, ◌++◌, [], IfOk, OnErr, OnOk, length};
+ghost use Rattle.lxr_graph.specs.declared.Reply.TheVariants as reply;
 ghost use Rattle.lxr_graph.specs.Names.{same_held};
 ghost use Rattle.lxr_graph.specs.State.{next_name, opening, opening_row, register_at, row_of, with_register};
-ghost use Rattle.lxr_graph.specs.Step.{IsWellFormed, cleared, fresh, get_from, load_from, make, put_to, step, store_to};
+ghost use Rattle.lxr_graph.specs.Step.{IsWellFormed, add_to, cleared, fresh, get_from, load_from, make, put_to, step, store_to, swap_in};
 
 use crate::rows::{Body, Row, reference_of, set_reference, set_value, value_of};
 use crate::{Op, Reply};
@@ -129,6 +130,25 @@ impl Graph {
         }
     }
 
+    fn swap(&mut self, thread: u8, dest: u8, base: u8, index: u16, source: u8) -> Reply
+        requires thread { (0 < thread) × (thread < length self.old.graph) }
+        requires registers { (dest < 16) × (base < 16) × (source < 16) }
+        ensures { swap_in self.old thread dest index (register_at self.old thread source) (register_at self.old thread base) ≡ (self.new, result) }
+    {
+        let given = self.register(thread, source);
+        match self.register(thread, base) {
+            None => Reply::Bad,
+            Some(name) => match reference_of(&self.rows, name, index) {
+                None => Reply::Range,
+                Some(old) => {
+                    set_reference(&mut self.rows, name, index, given);
+                    self.set_register(thread, dest, old);
+                    Reply::Swapped(old)
+                }
+            },
+        }
+    }
+
     fn put(&mut self, thread: u8, base: u8, index: u16, value: u64) -> Reply
         requires thread { (0 < thread) × (thread < length self.old.graph) }
         requires registers { base < 16 }
@@ -141,6 +161,23 @@ impl Graph {
                 Some(_) => {
                     set_value(&mut self.rows, name, index, value);
                     Reply::Put
+                }
+            },
+        }
+    }
+
+    fn add(&mut self, thread: u8, base: u8, index: u16, value: u64) -> Reply
+        requires thread { (0 < thread) × (thread < length self.old.graph) }
+        requires registers { base < 16 }
+        ensures { add_to self.old index value (register_at self.old thread base) ≡ (self.new, result) }
+    {
+        match self.register(thread, base) {
+            None => Reply::Bad,
+            Some(name) => match value_of(&self.rows, name, index) {
+                None => Reply::Range,
+                Some(old) => {
+                    set_value(&mut self.rows, name, index, old.wrapping_add(value));
+                    Reply::Added(old)
                 }
             },
         }
@@ -192,6 +229,24 @@ impl Graph {
         }
     }
 
+    fn copy(&mut self, thread: u8, dest: u8, source: u8) -> Reply
+        requires thread { (0 < thread) × (thread < length self.old.graph) }
+        requires registers { (dest < 16) × (source < 16) }
+        ensures { (self.new ≡ with_register self.old thread dest (register_at self.old thread source)) × (result ≡ reply.Moved) }
+    {
+        let held = self.register(thread, source);
+        self.set_register(thread, dest, held);
+        Reply::Moved
+    }
+
+    fn holds_same(&self, thread: u8, left: u8, right: u8) -> bool
+        requires thread { (0 < thread) × (thread < length self.now.graph) }
+        requires registers { (left < 16) × (right < 16) }
+        ensures { result ≡ same_held (register_at self.now thread left) (register_at self.now thread right) }
+    {
+        same_names(self.register(thread, left), self.register(thread, right))
+    }
+
     /// One step: does an operation of a thread, which is 1 or more, and gives its reply. A `New` finds room, and its
     /// name has the thread's next serial. Where memory runs out nothing has changed.
     pub fn apply(&mut self, alloc: Global, thread: u8, op: Op) -> Result<Reply, AllocError>
@@ -211,20 +266,19 @@ impl Graph {
             } => Ok(self.store(thread, base, index, source)),
             Op::Put { base, index, value } => Ok(self.put(thread, base, index, value)),
             Op::Get { base, index } => Ok(self.get(thread, base, index)),
-            Op::Move { dest, source } => {
-                let held = self.register(thread, source);
-                self.set_register(thread, dest, held);
-                Ok(Reply::Moved)
-            }
+            Op::Swap {
+                dest,
+                base,
+                index,
+                source,
+            } => Ok(self.swap(thread, dest, base, index, source)),
+            Op::Add { base, index, value } => Ok(self.add(thread, base, index, value)),
+            Op::Move { dest, source } => Ok(self.copy(thread, dest, source)),
             Op::Nil { dest } => {
                 self.set_register(thread, dest, None);
                 Ok(Reply::Cleared)
             }
-            Op::Same { left, right } => {
-                let left = self.register(thread, left);
-                let right = self.register(thread, right);
-                Ok(Reply::Same(same_names(left, right)))
-            }
+            Op::Same { left, right } => Ok(Reply::Same(self.holds_same(thread, left, right))),
             Op::Pause => Ok(Reply::Paused),
             Op::Collect => Ok(Reply::Collected),
             Op::End => {

@@ -4,6 +4,8 @@ use Rattle.std.specs.Prelude.{◌&&◌, if◌then◌else◌, slice_index, slice_
 use Rattle.std.specs.List.{flat_map}
 use Rattle.std.proofs.lemmas.List.{length-replicate}
 use Rattle.std.proofs.lemmas.Nat.{div-mul-add, mod-mul-add, pow_pos}
+use Rattle.lxr_layout.specs.declared.TheConstants.{COUNT_BITS}
+use Rattle.lxr_tables.specs.declared.counts.TheConstants.{COUNTS_IN_WORD}
 use Rattle.lxr_layout.specs.declared.limits.Limits.{Limits}
 use Rattle.lxr_layout.specs.Spaces.{region_sizes}
 use Rattle.lxr_tables.specs.Entries.{entries, table}
@@ -80,7 +82,7 @@ unfolding tables_in
 tables_cleared l size = λ j. record {
   size = length-replicate {A = ℕ} size 0 j;
   heap = λ i. blank l size 0 i j;
-  counts = λ i. blank_table 2 32 l size 1 i j;
+  counts = λ i. blank_table COUNT_BITS COUNTS_IN_WORD l size 1 i j;
   starts = λ i. nat_eq (blank_table 1 64 l size 2 i j) 1;
   marks = λ i. nat_eq (blank_table 1 64 l size 3 i j) 1;
   grays = λ i. nat_eq (blank_table 1 64 l size 4 i j) 1;

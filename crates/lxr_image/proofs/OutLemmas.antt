@@ -1,21 +1,11 @@
 -- The out bits of a block are two words.
-use Rattle.std.proofs.Common.{◌≡◌, ℕ, ◌+◌, ◌-◌, ◌*◌, ◌/◌, ◌%◌, ◌^◌, ◌<◌, sym, ap, ◌∙◌, inl, inr, arith, Bool, false, cond, List, [], length, lit<, eq-eqb, eqb-true}
-use Rattle.std.specs.Prelude.{◌==◌, ◌↔◌, IsBitSet, IsTrue, if◌then◌else◌, slice_index, slice_index_or, slice_set}
+use Rattle.std.proofs.Common.{◌≡◌, ℕ, ◌+◌, ◌-◌, ◌*◌, ◌%◌, ◌^◌, ◌<◌, sym, ap, ◌∙◌, inl, inr, arith, Bool, eq-eqb, eqb-true}
+use Rattle.std.specs.Prelude.{◌==◌, ◌↔◌, IsBitSet, IsTrue}
 use Rattle.std.specs.Int.{bit_at}
 use Rattle.std.specs.Int.Bits.{bit_or}
-use Rattle.std.proofs.lemmas.Bool.Decides.{eqb_tells, leb_tells}
-use Rattle.std.proofs.lemmas.List.{get_or-set_same, get_or-set_other}
-use Rattle.std.proofs.Math.ListN.{get_or-eq_default, length-set}
+use Rattle.std.proofs.lemmas.Bool.Decides.{leb_tells}
 use Rattle.lxr_layout.specs.declared.TheConstants.{LINES_IN_BLOCK}
-use Rattle.lxr_layout.specs.declared.limits.Limits.{Limits}
-use Rattle.lxr_layout.specs.Spaces.{region_begin, region_sizes}
-use Rattle.lxr_tables.specs.Entries.{table}
 use Rattle.lxr_tables.proofs.BitLemmas.{joined_above, joined_below, one_is_set, set_is_one}
-use Rattle.lxr_tables.proofs.EntryLemmas.{entry_read, length-table, others_stay}
-use Rattle.lxr_image.specs.declared.tables.BitTable.TheVariants.{Outs}
-use Rattle.lxr_image.specs.Tables.{bits_in, cut, tables_in, tables_from}
-use Rattle.lxr_image.proofs.RegionLemmas.{length_region, region_word_written}
-use Rattle.lxr_image.proofs.TableLaws.{bit_word_within, rebuilt}
 
 -- a bit of a word, by what it tells
 pub told_by_bit : (out : Bool) (word i : ℕ) → out ≡ (bit_at word i == 1) → (IsBitSet word i → IsTrue out) × (IsTrue out → IsBitSet word i)

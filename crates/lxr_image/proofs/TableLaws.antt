@@ -5,7 +5,8 @@ use Rattle.std.specs.Int.{bit_at}
 use Rattle.std.proofs.lemmas.Bool.Decides.{eqb_tells}
 use Rattle.std.proofs.lemmas.List.{get_or-set_same, get_or-set_other}
 use Rattle.std.proofs.Math.ListN.{get_or-eq_default, length-set}
-use Rattle.lxr_layout.specs.declared.TheConstants.{GRANULES_IN_BLOCK, LINES_IN_BLOCK}
+use Rattle.lxr_tables.specs.declared.counts.TheConstants.{COUNTS_IN_WORD}
+use Rattle.lxr_layout.specs.declared.TheConstants.{COUNT_BITS, COUNT_WORDS_IN_BLOCK, GRANULES_IN_BLOCK, LINES_IN_BLOCK, STUCK}
 use Rattle.lxr_layout.specs.declared.limits.Limits.{Limits}
 use Rattle.lxr_layout.specs.Spaces.{all_regions, counts_region, region_begin, region_sizes, reuse_region}
 use Rattle.lxr_tables.specs.Entries.{OthersStay, table}
@@ -167,39 +168,39 @@ word_written l ws t k v size within =
 
 -- ---- reference counts
 
-pub count_read : (l : Limits) (ws : List ℕ) (g : ℕ) → g < GRANULES_IN_BLOCK * l.blocks → slice_index (table 2 32 (drop (region_begin l counts_region) ws)) g ≡ (tables_in l ws).counts g
+pub count_read : (l : Limits) (ws : List ℕ) (g : ℕ) → g < GRANULES_IN_BLOCK * l.blocks → slice_index (table COUNT_BITS COUNTS_IN_WORD (drop (region_begin l counts_region) ws)) g ≡ (tables_in l ws).counts g
 unfolding tables_in
-count_read l ws g within = region_read 2 32 (region_sizes l) ws 1 g (lit< tt) (omega arith)
+count_read l ws g within = region_read COUNT_BITS COUNTS_IN_WORD (region_sizes l) ws 1 g (lit< tt) (omega arith)
 
-pub count_within : (l : Limits) (ws : List ℕ) (g : ℕ) → (tables_in l ws).size ≡ region_begin l all_regions → g < GRANULES_IN_BLOCK * l.blocks → region_begin l counts_region + g / 32 < length ws
+pub count_within : (l : Limits) (ws : List ℕ) (g : ℕ) → (tables_in l ws).size ≡ region_begin l all_regions → g < GRANULES_IN_BLOCK * l.blocks → region_begin l counts_region + g / COUNTS_IN_WORD < length ws
 unfolding tables_in
-count_within l ws g size within = region_within (region_sizes l) ws 1 (g / 32) (lit< tt) (omega arith) (omega arith)
+count_within l ws g size within = region_within (region_sizes l) ws 1 (g / COUNTS_IN_WORD) (lit< tt) (omega arith) (omega arith)
 
 -- a count by the word that it stands in
-pub count_of_word : (l : Limits) (ws : List ℕ) (at i : ℕ) → (tables_in l ws).size ≡ region_begin l all_regions → at < 64 * l.blocks → i < 32
-    → slice_index ws (region_begin l counts_region + at) / 2 ^ (2 * i) % 4 ≡ (tables_in l ws).counts (32 * at + i)
+pub count_of_word : (l : Limits) (ws : List ℕ) (at i : ℕ) → (tables_in l ws).size ≡ region_begin l all_regions → at < COUNT_WORDS_IN_BLOCK * l.blocks → i < COUNTS_IN_WORD
+    → slice_index ws (region_begin l counts_region + at) / 2 ^ (COUNT_BITS * i) % 2 ^ COUNT_BITS ≡ (tables_in l ws).counts (COUNTS_IN_WORD * at + i)
 count_of_word l ws at i size within in_word =
-    let g : ℕ = 32 * at + i in
-    let word : g / 32 ≡ at = omega arith in
-    let place : g % 32 ≡ i = omega arith in
-    sym (ap (λ x. slice_index ws (region_begin l counts_region + x) / 2 ^ (2 * (g % 32)) % 2 ^ 2) word ∙ ap (λ x. slice_index ws (region_begin l counts_region + at) / 2 ^ (2 * x) % 2 ^ 2) place)
-    ∙ sym (entry_read 2 32 (region_begin l counts_region) g ws (lit< tt) (count_within l ws g size (omega arith))) ∙ count_read l ws g (omega arith)
+    let g : ℕ = COUNTS_IN_WORD * at + i in
+    let word : g / COUNTS_IN_WORD ≡ at = omega arith in
+    let place : g % COUNTS_IN_WORD ≡ i = omega arith in
+    sym (ap (λ x. slice_index ws (region_begin l counts_region + x) / 2 ^ (COUNT_BITS * (g % COUNTS_IN_WORD)) % 2 ^ COUNT_BITS) word ∙ ap (λ x. slice_index ws (region_begin l counts_region + at) / 2 ^ (COUNT_BITS * x) % 2 ^ COUNT_BITS) place)
+    ∙ sym (entry_read COUNT_BITS COUNTS_IN_WORD (region_begin l counts_region) g ws (lit< tt) (count_within l ws g size (omega arith))) ∙ count_read l ws g (omega arith)
 
-pub count_word_within : (l : Limits) (ws : List ℕ) (at : ℕ) → (tables_in l ws).size ≡ region_begin l all_regions → at < 64 * l.blocks → region_begin l counts_region + at < length ws
+pub count_word_within : (l : Limits) (ws : List ℕ) (at : ℕ) → (tables_in l ws).size ≡ region_begin l all_regions → at < COUNT_WORDS_IN_BLOCK * l.blocks → region_begin l counts_region + at < length ws
 unfolding tables_in
 count_word_within l ws at size within = region_within (region_sizes l) ws 1 at (lit< tt) (omega arith) (omega arith)
 
 pub count_written : (l : Limits) (ws vs : List ℕ) (g e : ℕ) → (tables_in l ws).size ≡ region_begin l all_regions → g < GRANULES_IN_BLOCK * l.blocks
-    → table 2 32 (drop (region_begin l counts_region) vs) ≡ slice_set (table 2 32 (drop (region_begin l counts_region) ws)) g e → OthersStay ws vs (region_begin l counts_region + g / 32)
+    → table COUNT_BITS COUNTS_IN_WORD (drop (region_begin l counts_region) vs) ≡ slice_set (table COUNT_BITS COUNTS_IN_WORD (drop (region_begin l counts_region) ws)) g e → OthersStay ws vs (region_begin l counts_region + g / COUNTS_IN_WORD)
     → tables_in l vs ≡ record (tables_in l ws) { counts = changed (tables_in l ws).counts g e }
 unfolding tables_in
 count_written l ws vs g e size within written others =
     let sizes : List ℕ = region_sizes l in
     let old : List ℕ = slice_index_or (cut sizes ws) 1 [] in
     let new : List ℕ = slice_index_or (cut sizes vs) 1 [] in
-    let len = length_region_table 2 32 sizes ws 1 (lit< tt) (omega arith) in
-    let is : (i : ℕ) → counts_in new i ≡ changed (counts_in old) g e i = entry (λ x. x) (table 2 32 old) (table 2 32 new) g e (region_entry_written 2 32 sizes ws vs 1 g e (lit< tt) (omega arith) written) (omega arith) in
-    rebuilt l ws vs 1 (g / 32) (lit< tt) (omega arith) others ∙ (λ j. record (tables_from (length ws) (cut sizes ws)) { counts = λ i. is i j })
+    let len = length_region_table COUNT_BITS COUNTS_IN_WORD sizes ws 1 (lit< tt) (omega arith) in
+    let is : (i : ℕ) → counts_in new i ≡ changed (counts_in old) g e i = entry (λ x. x) (table COUNT_BITS COUNTS_IN_WORD old) (table COUNT_BITS COUNTS_IN_WORD new) g e (region_entry_written COUNT_BITS COUNTS_IN_WORD sizes ws vs 1 g e (lit< tt) (omega arith) written) (omega arith) in
+    rebuilt l ws vs 1 (g / COUNTS_IN_WORD) (lit< tt) (omega arith) others ∙ (λ j. record (tables_from (length ws) (cut sizes ws)) { counts = λ i. is i j })
 
 -- ---- reuse counters
 
@@ -260,9 +261,9 @@ no_state_past l ws b size past =
 
 -- ---- what entries can be
 
-pub count_fits : (l : Limits) (ws : List ℕ) (g : ℕ) → (tables_in l ws).counts g ≤ 3
+pub count_fits : (l : Limits) (ws : List ℕ) (g : ℕ) → (tables_in l ws).counts g ≤ STUCK
 unfolding tables_in
-count_fits l ws g = let below = entry_below 2 32 g (slice_index_or (cut (region_sizes l) ws) 1 []) in omega arith
+count_fits l ws g = let below = entry_below COUNT_BITS COUNTS_IN_WORD g (slice_index_or (cut (region_sizes l) ws) 1 []) in omega arith
 
 pub reuse_fits : (l : Limits) (ws : List ℕ) (n : ℕ) → (tables_in l ws).reuse n < 2 ^ 32
 unfolding tables_in

@@ -20,7 +20,7 @@ pub record Tables : Type 0 where
   pub marks : ℕ → Bool
   pub grays : ℕ → Bool
   pub dones : ℕ → Bool
-  -- by heap word: the reference there hasn't been stored to since the last pause
+  -- by heap word: the reference there hasn't been written since the last pause
   pub unlogged : ℕ → Bool
   -- by line: how often it was handed out, and whether it was since the last promotion
   pub reuse : ℕ → ℕ

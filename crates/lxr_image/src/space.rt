@@ -15,9 +15,9 @@ pub type Entries = Listed<LogEntry>;
 pub struct Tally {
     /// Replies to `new` with a name.
     pub news: u64,
-    /// Replies to `load` with a name or nil.
+    /// Replies to `load` or `swap` with a name or nil.
     pub loads: u64,
-    /// Replies to `store` that it was done.
+    /// Replies to `store` that it was done, and to `swap` with a name or nil.
     pub stores: u64,
     /// Entries that were recorded in logs.
     pub logs: u64,

@@ -5,7 +5,8 @@
 //! heap, from 0.
 ghost use Rattle.std.specs.Prelude.{◌≡◌, ◌≢◌, ℕ, ◌+◌, ◌*◌, ◌/◌, ◌%◌, ◌^◌, ◌<◌, ◌≤◌, ◌↔◌, ◌==◌, IsBitSet, IsTrue, false, if◌then◌else◌, slice_index, true};
 ghost use Rattle.std.specs.Int.{bit_at};
-ghost use Rattle.lxr_layout.specs.declared.TheConstants.{GRANULES_IN_BLOCK, GRANULES_IN_LINE, LINES_IN_BLOCK, WORDS_IN_BLOCK};
+ghost use Rattle.lxr_layout.specs.declared.TheConstants.{COUNT_WORDS_IN_BLOCK, GRANULES_IN_BLOCK, GRANULES_IN_LINE, LINES_IN_BLOCK, WORDS_IN_BLOCK};
+ghost use Rattle.lxr_tables.specs.declared.counts.TheConstants.{COUNTS_IN_WORD};
 ghost use Rattle.lxr_image.specs.Reads.{is_tracing};
 ghost use Rattle.lxr_image.specs.Spaces.{IsSpace, Turns, bit_region, bit_table, tables_of, with_bit, with_bit_word, with_word, word_region, word_table};
 ghost use Rattle.lxr_image.specs.Tables.{changed};
@@ -13,10 +14,10 @@ ghost use Rattle.lxr_layout.specs.Spaces.{AreLimits, counts_region, region_begin
 ghost use Rattle.lxr_tables.specs.Counts.{lowered_count, lowered_of, raised_count};
 
 use crate::Space;
-use lxr_layout::{Limits, STUCK, TRACING_WORD, regions};
+use lxr_layout::{COUNT_BITS, Limits, STUCK, TRACING_WORD, regions};
 use lxr_tables::{
-    Lowered, Raised, Words, bit, clear_bit, lower_two, raise_two, set_bit, set_two, two,
-    uncounted_lines, zero_counts,
+    COUNTS_IN_WORD, Lowered, Raised, Words, bit, clear_bit, four, lower_four, raise_four, set_bit,
+    set_four, uncounted_lines, zero_counts,
 };
 
 /// A table of bits.
@@ -387,7 +388,7 @@ impl Space {
         self.put_bit_word_in(BitTable::Dones, at, value);
     }
 
-    /// Whether the reference at the heap word hasn't been stored to since the last pause.
+    /// Whether the reference at the heap word hasn't been written since the last pause.
     #[inline(always)]
     pub fn has_unlogged(&self, at: u32) -> bool
         requires space { IsSpace self.now }
@@ -397,7 +398,7 @@ impl Space {
         self.bit_in(BitTable::Unlogged, at as usize)
     }
 
-    /// The next store to the heap word is to be logged.
+    /// The next write of the heap word is to be logged.
     #[inline(always)]
     pub fn set_unlogged(&mut self, at: u32)
         requires space { IsSpace self.old }
@@ -408,7 +409,7 @@ impl Space {
         self.set_bit_in(BitTable::Unlogged, at as usize);
     }
 
-    /// The next store to the heap word isn't logged.
+    /// The next write of the heap word isn't logged.
     #[inline(always)]
     pub fn clear_unlogged(&mut self, at: u32)
         requires space { IsSpace self.old }
@@ -419,7 +420,7 @@ impl Space {
         self.clear_bit_in(BitTable::Unlogged, at as usize);
     }
 
-    /// Which of 64 heap words in a row hold references that haven't been stored to since the last pause.
+    /// Which of 64 heap words in a row hold references that haven't been written since the last pause.
     #[inline(always)]
     pub fn unlogged_word(&self, at: u32) -> u64
         requires space { IsSpace self.now }
@@ -429,7 +430,7 @@ impl Space {
         self.bit_word_in(BitTable::Unlogged, at)
     }
 
-    /// Writes which of 64 heap words in a row hold references that haven't been stored to since the last pause.
+    /// Writes which of 64 heap words in a row hold references that haven't been written since the last pause.
     #[inline(always)]
     pub fn put_unlogged_word(&mut self, at: u32, value: u64)
         requires space { IsSpace self.old }
@@ -671,7 +672,7 @@ impl Space {
         ensures within { result ≤ STUCK }
     {
         let base = self.counts_begin();
-        two(&self.words, base, granule as usize)
+        four(&self.words, base, granule as usize)
     }
 
     /// Writes the reference count at the granule.
@@ -684,7 +685,7 @@ impl Space {
             Turns self.old self.new (record t { counts = changed t.counts granule count }) }
     {
         let base = self.counts_begin();
-        set_two(&mut self.words, base, granule as usize, count);
+        set_four(&mut self.words, base, granule as usize, count);
     }
 
     /// Raises the reference count at the granule by one, but not beyond `STUCK`.
@@ -698,7 +699,7 @@ impl Space {
             Turns self.old self.new (record t { counts = changed t.counts granule result.now }) }
     {
         let base = self.counts_begin();
-        raise_two(&mut self.words, base, granule as usize)
+        raise_four(&mut self.words, base, granule as usize)
     }
 
     /// Lowers the reference count at the granule, which isn't 0, by one; a stuck count stays.
@@ -712,7 +713,7 @@ impl Space {
             Turns self.old self.new (record t { counts = changed t.counts granule (lowered_count (t.counts granule)) }) }
     {
         let base = self.counts_begin();
-        lower_two(&mut self.words, base, granule as usize)
+        lower_four(&mut self.words, base, granule as usize)
     }
 
     /// The lines of the block that have no count but 0: bit i of the answer is set exactly where all counts of line i
@@ -726,18 +727,33 @@ impl Space {
         uncounted_lines(&self.words, self.counts_begin(), block as usize)
     }
 
-    /// Which of 32 granules in a row have count 0: bit i of the answer is set exactly where that of granule i of them is 0.
+    /// Which granules of a word of counts have count 0: bit i of the answer is set exactly where that of granule i of them is 0.
     #[inline(always)]
-    fn uncounted_word(&self, at: u32) -> u32
+    fn uncounted_word(&self, at: u32) -> u16
         requires space { IsSpace self.now }
-        requires at { at < 64 * self.now.limits.blocks }
-        ensures { (i : ℕ) → i < 32 → (IsBitSet result i ↔ ((tables_of self.now).counts (32 * at + i) ≡ 0)) }
+        requires at { at < COUNT_WORDS_IN_BLOCK * self.now.limits.blocks }
+        ensures { (i : ℕ) → i < COUNTS_IN_WORD → (IsBitSet result i ↔ ((tables_of self.now).counts (COUNTS_IN_WORD * at + i) ≡ 0)) }
     {
         zero_counts(self.words.get(self.counts_begin() + at as usize))
     }
 
+    /// Which of 64 granules in a row have count 0: bit i of the answer is set exactly where that of granule i of them is 0.
+    #[inline(always)]
+    fn uncounted_granules(&self, at: u32) -> u64
+        requires space { IsSpace self.now }
+        requires at { at < 32 * self.now.limits.blocks }
+        ensures { (i : ℕ) → i < 64 → (IsBitSet result i ↔ ((tables_of self.now).counts (64 * at + i) ≡ 0)) }
+    {
+        let mut zeros = 0;
+        for word in 0..COUNT_BITS {
+            let told = u64::from(self.uncounted_word(COUNT_BITS * at + word));
+            zeros |= told << (COUNTS_IN_WORD as u32 * word);
+        }
+        zeros
+    }
+
     /// The objects without a count among those that begin at 64 granules in a row: bit i of the answer is set exactly where
-    /// one begins at granule i of them and its count is 0. It looks at a word of start bits, and at two words of counts where
+    /// one begins at granule i of them and its count is 0. It looks at a word of start bits, and at their words of counts where
     /// an object begins there.
     #[inline(always)]
     pub fn uncounted_starts(&self, at: u32) -> u64
@@ -749,9 +765,7 @@ impl Space {
         if starts == 0 {
             return 0;
         }
-        let low = self.uncounted_word(2 * at);
-        let high = self.uncounted_word(2 * at + 1);
-        starts & (u64::from(high) << 32 | u64::from(low))
+        starts & self.uncounted_granules(at)
     }
 
     /// The first word of the reference counts.

@@ -12,7 +12,7 @@ use Rattle.lxr_tables.proofs.BitLemmas.{one_is_set, set_is_one}
 use Rattle.lxr_image.specs.Tables.{Tables}
 use Rattle.lxr_image.proofs.OutLemmas.{told_by_bit}
 use Rattle.lxr_blocks.specs.declared.states.BlockState.TheVariants.{Free}
-use Rattle.lxr_blocks.specs.States.{state_in}
+use Rattle.lxr_blocks.specs.States.{AreFreeBlocks, state_in}
 use Rattle.lxr_image_search.specs.declared.Wanted.{Wanted}
 use Rattle.lxr_image_search.specs.declared.Wanted.TheVariants.{Dropped, Handled, Object, ToScan, Unmarked}
 use Rattle.lxr_image_search.specs.Search.{AvoidsFree, IsNextWanted, NoneWanted, is_wanted}
@@ -99,12 +99,9 @@ none_seen t wanted block at seen hint before here clear k above below =
     let right = le_or_r seen hint in
     none_further t wanted (GRANULES_IN_BLOCK * block) (64 * at) (64 * at + 64) (before (omega (arith, left, clear))) (here (omega (arith, right, clear))) k above (omega (arith, below))
 
--- a block whose state is Free has none
-pub none_in_free : (t : Tables) (wanted : Wanted) (block : ℕ) → AvoidsFree t wanted → state_in t block ≡ Free → NoneWanted t wanted (GRANULES_IN_BLOCK * block) (GRANULES_IN_BLOCK * (block + 1))
-none_in_free t wanted block avoids free k from below = false_from_ne_true (is_wanted t wanted k) (λ yes. avoids k yes (ap (state_in t) (of_block block k from below) ∙ free))
-  where
-    of_block : (b k : ℕ) → GRANULES_IN_BLOCK * b ≤ k → k < GRANULES_IN_BLOCK * (b + 1) → k / GRANULES_IN_BLOCK ≡ b
-    of_block b k from below = omega arith
+-- blocks in a row that are Free have none
+pub none_in_frees : (t : Tables) (wanted : Wanted) (from end : ℕ) → AvoidsFree t wanted → AreFreeBlocks t from end → NoneWanted t wanted (GRANULES_IN_BLOCK * from) (GRANULES_IN_BLOCK * end)
+none_in_frees t wanted from end avoids free k above below = false_from_ne_true (is_wanted t wanted k) (λ yes. avoids k yes (free (k / GRANULES_IN_BLOCK) (omega (arith, above)) (omega (arith, below))))
 
 -- what is wanted stands outside Free blocks where start bits do, and gray and done bits stand only at these
 pub avoids_by_starts : (t : Tables) (wanted : Wanted) → ((k : ℕ) → IsTrue (t.starts k) → state_in t (k / GRANULES_IN_BLOCK) ≢ Free) → ((k : ℕ) → IsTrue (t.grays k) → IsTrue (t.starts k))

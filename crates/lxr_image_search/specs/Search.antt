@@ -1,5 +1,5 @@
 -- What a pass over the heap looks for, and where it stands next.
-use Rattle.std.specs.Prelude.{◌≡◌, ◌≢◌, ℕ, ◌/◌, ◌<◌, ◌≤◌, ◌==◌, ◌&&◌, not, Bool, false, IsTrue}
+use Rattle.std.specs.Prelude.{◌≡◌, ◌≢◌, ℕ, ◌*◌, ◌/◌, ◌<◌, ◌≤◌, ◌==◌, ◌&&◌, not, Bool, false, IsTrue}
 use Rattle.lxr_layout.specs.declared.TheConstants.{GRANULES_IN_BLOCK}
 use Rattle.lxr_image.specs.Tables.{Tables}
 use Rattle.lxr_blocks.specs.declared.states.BlockState.TheVariants.{Free}
@@ -29,3 +29,10 @@ pub record IsNextWanted (t : Tables) (wanted : Wanted) (from end granule : ℕ) 
   pub within : granule < end
   pub is : IsTrue (is_wanted t wanted granule)
   pub passed : NoneWanted t wanted from granule
+
+-- the first block from one on that isn't Free and may have it is another, which is below the end: no block that was passed has it
+pub record IsNextBlock (t : Tables) (wanted : Wanted) (from end block : ℕ) : Type 0 where
+  pub reached : from ≤ block
+  pub within : block < end
+  pub used : state_in t block ≢ Free
+  pub passed : NoneWanted t wanted (GRANULES_IN_BLOCK * from) (GRANULES_IN_BLOCK * block)

@@ -4,9 +4,9 @@
 ghost use Rattle.std.specs.Prelude.{◌≡◌, ◌↔◌, ℕ, ◌+◌, ◌*◌, ◌/◌, ◌<◌, IfNone, IfSome, IsBitSet, IsTrue, false};
 ghost use Rattle.lxr_layout.specs.declared.TheConstants.{GRANULES_IN_BLOCK};
 ghost use Rattle.lxr_image.specs.Spaces.{IsSpace, tables_of};
-ghost use Rattle.lxr_image_search.specs.Search.{AvoidsFree, IsNextWanted, NoneWanted, is_wanted};
+ghost use Rattle.lxr_image_search.specs.Search.{AvoidsFree, IsNextBlock, IsNextWanted, NoneWanted, is_wanted};
 
-use lxr_blocks::{BlockState, state};
+use lxr_blocks::next_in_use;
 use lxr_image::Space;
 use lxr_layout::GRANULES_IN_BLOCK;
 
@@ -69,18 +69,22 @@ fn has_hint(space: &Space, wanted: Wanted, block: u32) -> bool
     seen != 0
 }
 
-/// Whether a block may have a wanted object. One whose state is Free has none, and costs one read.
+/// The first block from one on that isn't Free and may have a wanted object. What isn't Free costs its looks, one for 64 granules.
 #[inline(always)]
-pub fn may_want(space: &Space, wanted: Wanted, block: u32) -> bool
+pub fn next_block(space: &Space, wanted: Wanted, from: u32) -> Option<u32>
     requires space { IsSpace space.now }
     requires free { AvoidsFree (tables_of space.now) wanted }
-    requires block { block < space.now.limits.blocks }
-    ensures { result ≡ false → NoneWanted (tables_of space.now) wanted (GRANULES_IN_BLOCK * block) (GRANULES_IN_BLOCK * (block + 1)) }
+    ensures none { IfNone result (NoneWanted (tables_of space.now) wanted (GRANULES_IN_BLOCK * from) (GRANULES_IN_BLOCK * space.now.limits.blocks)) }
+    ensures next { IfSome result (λ block. IsNextBlock (tables_of space.now) wanted from space.now.limits.blocks block) }
 {
-    match state(space, block) {
-        BlockState::Free => false,
-        _ => has_hint(space, wanted, block),
+    let mut at = from;
+    while let Some(block) = next_in_use(space, at) {
+        if has_hint(space, wanted, block) {
+            return Some(block);
+        }
+        at = block + 1;
     }
+    None
 }
 
 /// The first granule from one on that has a wanted object, of those whose bits are one word with its own.
@@ -99,7 +103,7 @@ pub fn next_in_word(space: &Space, wanted: Wanted, from: u32) -> Option<u32>
 }
 
 /// The first granule from one on that has a wanted object. It takes one look for 64 granules, and before them one for their
-/// block, behind which it goes on at once where that can have none. A block whose state is Free costs one read.
+/// block, behind which it goes on at once where that can have none. Free blocks are passed by as `next_in_use` does.
 #[inline(always)]
 pub fn next_wanted(space: &Space, wanted: Wanted, from: u32) -> Option<u32>
     requires space { IsSpace space.now }
@@ -109,9 +113,8 @@ pub fn next_wanted(space: &Space, wanted: Wanted, from: u32) -> Option<u32>
 {
     let mut at = from;
     while at < GRANULES_IN_BLOCK * space.limits.blocks {
-        if at % GRANULES_IN_BLOCK == 0 && !may_want(space, wanted, at / GRANULES_IN_BLOCK) {
-            at += GRANULES_IN_BLOCK;
-            continue;
+        if at % GRANULES_IN_BLOCK == 0 {
+            at = GRANULES_IN_BLOCK * next_block(space, wanted, at / GRANULES_IN_BLOCK)?;
         }
         if let Some(granule) = next_in_word(space, wanted, at) {
             return Some(granule);

@@ -13,3 +13,4 @@ pub mod MostLemmas
 pub mod CopiedLemmas
 pub mod LandingLemmas
 pub mod UnusedLemmas
+pub mod RestLemmas

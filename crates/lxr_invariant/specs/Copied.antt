@@ -43,7 +43,7 @@ pub record HasCopy (g : Graph) (at at' : Name → ℕ) (promoted : List Name) (l
   pub line_is : granule / GRANULES_IN_LINE ≡ line
 
 -- Objects that are promoted may stand elsewhere now, and no others. Where a copied one stood, the word of its place is left. A heap word
--- is as it was but for these, for those of promoted objects now, and for references that were stored to since the last pause. A line is
+-- is as it was but for these, for those of promoted objects now, and for references that were written since the last pause. A line is
 -- counted as handed out once more exactly where it has a copy and wasn't out.
 pub record CopiesPromoted (t u : Tables) (m : Moment) (at at' : Name → ℕ) (promoted : List Name) : Type 0 where
   pub others : (n : Name) → has promoted n ≡ false → at' n ≡ at n

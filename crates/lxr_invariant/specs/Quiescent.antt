@@ -46,7 +46,16 @@ pub record IsAtSafepoint (s : Space) (g : AbstractState) : Type 0 where
   pub numbers : HasNumbers s g
   pub traced : IsTracedBy s.limits (tables_of s) s.logged.items g g.moment.trace
 
--- Between epochs, and right after a pause: a safepoint at which no reference was stored to since the last pause. No decrementer has
+-- At rest: a safepoint behind which only whole operations stand since the last pause. No decrementer has worked, no line that an
+-- object overlaps is free, each line that is out is overlapped, and blocks have the states of their lines.
+pub record IsAtRest (s : Space) (g : AbstractState) : Type 0 where
+  pub safepoint : IsAtSafepoint s g
+  pub undecremented : IsUndecremented (tables_of s) g.moment g.at
+  pub lines : KeepLines (tables_of s) g.moment.state.graph g.at (members g.moment)
+  pub outs : OutsAreTaken (tables_of s) g.moment.state.graph g.at (members g.moment)
+  pub states : HasStates (tables_of s) s.limits.blocks
+
+-- Between epochs, and right after a pause: a safepoint at which no reference was written since the last pause. No decrementer has
 -- worked, no line that an object overlaps is free, each line that is out is overlapped, and blocks have the states of
 -- their lines.
 pub record IsQuiescent (s : Space) (g : AbstractState) : Type 0 where

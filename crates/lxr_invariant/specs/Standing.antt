@@ -31,7 +31,7 @@ pub record IsImaged (s : Space) (m : Moment) (at : Name → ℕ) : Type 0 where
 abbrev pub word_of_field : (Name → ℕ) → Name → ℕ → ℕ
 word_of_field at n i = field_word (at n) i
 
--- a heap word is a reference of one of these objects that wasn't stored to since the last pause
+-- a heap word is a reference of one of these objects that wasn't written since the last pause
 pub record IsUnwrittenAt (m : Moment) (at : Name → ℕ) (us : List Name) (w : ℕ) (n : Name) (i : ℕ) : Type 0 where
   pub member : IsTrue (has us n)
   pub index : i < length (refs_of (object_at m.state.graph n))
@@ -50,7 +50,7 @@ pub record HasBits (t : Tables) (m : Moment) (at : Name → ℕ) (us : List Name
   pub marks : (k : ℕ) → IsTrue (t.marks k) → IsTrue (t.starts k)
   pub grays : (k : ℕ) → IsTrue (t.grays k) → IsTrue (t.starts k)
   pub dones : (k : ℕ) → IsTrue (t.dones k) → IsTrue (t.starts k)
-  -- unlogged bits stand exactly at those of their references that weren't stored to since the last pause
+  -- unlogged bits stand exactly at those of their references that weren't written since the last pause
   pub unlogged : (w : ℕ) → IsTrue (t.unlogged w) ↔ IsUnwritten m at us w
 
 -- the entry of a field in a log: its place and index, and the place of what it held at the last pause
@@ -61,6 +61,6 @@ entry_of m at field = record {
   old = record { 0 = place_word at (slice_index_or (refs_of (object_at m.last.graph field.0)) field.1 None) };
 }
 
--- the logs have one entry for each field that was stored to since the last pause, in some order
+-- the logs have one entry for each field that was written since the last pause, in some order
 abbrev pub AreLogged : Moment → (Name → ℕ) → List LogEntry → Type 0
 AreLogged m at entries = IsPermutation (map (entry_of m at) m.written) entries

@@ -130,7 +130,7 @@ unscanned_slots t m at snapshot = reference_slots m.last.graph (filter (is_unsca
 
 -- What the remembered set has so far, and how much it may come to.
 pub record IsRememberedSoFar (l : Limits) (t : Tables) (m : Moment) (at : Name → ℕ) (trace : Trace) (snapshot : List Name) : Type 0 where
-  -- each reference of a scanned or promoted object that points into a Chosen block, and that wasn't stored to since the last pause, is
+  -- each reference of a scanned or promoted object that points into a Chosen block, and that wasn't written since the last pause, is
   -- remembered, unless the set has overflowed
   pub fields : (n v : Name) (i : ℕ) → IsTrue (has m.unreclaimed n) → IsScanned t at trace n
       → slice_get (refs_of (object_at m.state.graph n)) i ≡ Some (Some v) → IsTrue (t.unlogged (word_of_field at n i))

@@ -1,6 +1,6 @@
 -- The numbers of the geometry and of the cursors.
-use Rattle.std.specs.Prelude.{◌≡◌, ◌^◌}
-use Rattle.lxr_layout.specs.declared.TheConstants.{COUNT_BITS, DECREMENT_COUNT, DECREMENT_CURSOR, FREE_BLOCK_COUNT, FREE_BLOCK_CURSOR, GRANULES_IN_BLOCK, GRANULES_IN_LINE, LINES_IN_BLOCK, MOST_BLOCKS, MOST_BLOCKS_REMEMBERED, MOST_GRANULES, MOST_GRANULES_REMEMBERED, MOST_WORDS, PAUSE_WORD, REMEMBERED_CURSOR, RUN_COUNT, RUN_CURSOR, STUCK, TRACING_WORD, WORDS_IN_BLOCK, WORDS_IN_LINE, WORLD_LINES, WORLD_REFS}
+use Rattle.std.specs.Prelude.{◌≡◌, ◌*◌, ◌^◌}
+use Rattle.lxr_layout.specs.declared.TheConstants.{COUNT_BITS, COUNT_WORDS_IN_BLOCK, DECREMENT_COUNT, DECREMENT_CURSOR, FREE_BLOCK_COUNT, FREE_BLOCK_CURSOR, GRANULES_IN_BLOCK, GRANULES_IN_LINE, LINES_IN_BLOCK, MOST_BLOCKS, MOST_BLOCKS_REMEMBERED, MOST_GRANULES, MOST_GRANULES_REMEMBERED, MOST_WORDS, PAUSE_WORD, REMEMBERED_CURSOR, RUN_COUNT, RUN_CURSOR, STUCK, TRACING_WORD, WORDS_IN_BLOCK, WORDS_IN_LINE, WORLD_LINES, WORLD_REFS}
 
 -- a block of 32 KB has 128 lines of 256 bytes; a granule has two words of 8 bytes
 pub record HasGeometry : Type 0 where
@@ -32,7 +32,9 @@ pub record HasCursors : Type 0 where
   pub remembered : REMEMBERED_CURSOR ≡ 7
   pub tracing : TRACING_WORD ≡ 8
 
--- counts have two bits, and stick at the greatest number
+-- Counts have four bits, and stick at the greatest number. The counts of a line fill one word, so a block's fill one for each line.
 pub record HasCountWidth : Type 0 where
-  pub bits : COUNT_BITS ≡ 2
-  pub stuck : STUCK ≡ 3
+  pub bits : COUNT_BITS ≡ 4
+  pub stuck : STUCK ≡ 15
+  pub line_bits : GRANULES_IN_LINE * COUNT_BITS ≡ 64
+  pub block_words : COUNT_WORDS_IN_BLOCK ≡ LINES_IN_BLOCK

@@ -1,6 +1,6 @@
 -- How large a space is, and where its regions begin.
 use Rattle.std.specs.Prelude.{ℕ, ◌+◌, ◌*◌, ◌/◌, ◌≤◌, nat_le, if◌then◌else◌, List, [], ◌∷◌, take, sum}
-use Rattle.lxr_layout.specs.declared.TheConstants.{MOST_BLOCKS, MOST_BLOCKS_REMEMBERED, WORDS_IN_BLOCK}
+use Rattle.lxr_layout.specs.declared.TheConstants.{COUNT_WORDS_IN_BLOCK, MOST_BLOCKS, MOST_BLOCKS_REMEMBERED, WORDS_IN_BLOCK}
 use Rattle.lxr_layout.specs.declared.limits.Limits.{Limits}
 use Rattle.lxr_layout.specs.declared.limits.Regions.{Regions}
 
@@ -84,7 +84,7 @@ all_regions = 15
 -- the words of each region, in their order: heap, counts, starts, marks, grays, dones, unlogged, reuse,
 -- outs, states, runs, frees, decrements, remembered, cursors
 abbrev pub region_sizes : Limits → List ℕ
-region_sizes l = WORDS_IN_BLOCK * l.blocks ∷ 64 * l.blocks ∷ 32 * l.blocks ∷ 32 * l.blocks ∷ 32 * l.blocks ∷ 32 * l.blocks ∷ 64 * l.blocks ∷ 64 * l.blocks
+region_sizes l = WORDS_IN_BLOCK * l.blocks ∷ COUNT_WORDS_IN_BLOCK * l.blocks ∷ 32 * l.blocks ∷ 32 * l.blocks ∷ 32 * l.blocks ∷ 32 * l.blocks ∷ 64 * l.blocks ∷ 64 * l.blocks
     ∷ 2 * l.blocks ∷ l.blocks ∷ 64 * l.blocks ∷ l.blocks ∷ l.threads * (l.log + 16) ∷ l.remember ∷ 16 ∷ []
 
 -- the first word of a region, by its number: the sum of the sizes of those before it

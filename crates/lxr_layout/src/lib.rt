@@ -82,12 +82,16 @@ pub const REMEMBERED_CURSOR: u32 = 7;
 /// The cursor that is 1 while a trace runs, else 0.
 pub const TRACING_WORD: u32 = 8;
 
-/// The bits of a reference count in its table.
-pub const COUNT_BITS: u32 = 2;
+/// The bits of a reference count in its table. This number alone decides how large counts become and how many words they
+/// take; with four bits the counts of a line fill one word.
+pub const COUNT_BITS: u32 = 4;
 
-/// The count at which an object is stuck: it is neither raised nor lowered from then on, and only a trace
+/// The words of a block's reference counts.
+pub const COUNT_WORDS_IN_BLOCK: u32 = GRANULES_IN_BLOCK * COUNT_BITS / 64;
+
+/// The greatest count, at which an object is stuck: it is neither raised nor lowered from then on, and only a trace
 /// reclaims its object.
-pub const STUCK: u8 = 3;
+pub const STUCK: u8 = (1 << COUNT_BITS) - 1;
 
 /// Where an object begins: the index of its first granule in the heap, plus 1. 0 is nil.
 #[derive(Clone, Copy, Debug, PartialEq, Eq)]

@@ -18,7 +18,7 @@ pub struct Limits {
 pub struct Regions {
     /// Objects.
     pub heap: u32,
-    /// Two bits a granule: the reference count of the object that begins there, or a line mark.
+    /// `COUNT_BITS` bits a granule: the reference count of the object that begins there, or a line mark.
     pub counts: u32,
     /// A bit a granule: an object that was promoted and isn't reclaimed begins there.
     pub starts: u32,
@@ -28,7 +28,7 @@ pub struct Regions {
     pub grays: u32,
     /// A bit a granule: the dead object is claimed for handling.
     pub dones: u32,
-    /// A bit a heap word: the reference hasn't been stored to since the last pause.
+    /// A bit a heap word: the reference hasn't been written since the last pause.
     pub unlogged: u32,
     /// 32 bits a line, the even line in the low half: how often it was handed out.
     pub reuse: u32,

@@ -3,7 +3,7 @@ ghost use Rattle.std.specs.Prelude.{◌≡◌};
 ghost use Rattle.lxr_layout.specs.Spaces.{AreLimits, most_chosen, regions_of};
 
 use crate::limits::{Limits, Regions};
-use crate::{MOST_BLOCKS_REMEMBERED, WORDS_IN_BLOCK};
+use crate::{COUNT_WORDS_IN_BLOCK, MOST_BLOCKS_REMEMBERED, WORDS_IN_BLOCK};
 
 /// The most blocks that may be Chosen in a heap of so many: an eighth of them, and none in a heap of more than
 /// `MOST_BLOCKS_REMEMBERED`.
@@ -24,7 +24,7 @@ pub fn regions(limits: Limits) -> Regions
 {
     let blocks = limits.blocks;
     let counts = WORDS_IN_BLOCK * blocks;
-    let starts = counts + 64 * blocks;
+    let starts = counts + COUNT_WORDS_IN_BLOCK * blocks;
     let marks = starts + 32 * blocks;
     let grays = marks + 32 * blocks;
     let dones = grays + 32 * blocks;

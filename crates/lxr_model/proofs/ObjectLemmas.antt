@@ -1,6 +1,6 @@
 -- A step loses no object, the name that it makes had none, and it changes no object that isn't reachable: what it
 -- writes to, a register holds.
-use Rattle.std.proofs.Common.{◌≡◌, ℕ, ◌<◌, refl, sym, ap, subst, ◌∙◌, inl, inr, Bool, cond, List, IsTrue, length}
+use Rattle.std.proofs.Common.{◌≡◌, ℕ, ◌+◌, ◌%◌, ◌^◌, ◌<◌, refl, sym, ap, subst, ◌∙◌, inl, inr, Bool, cond, List, IsTrue, length}
 use Rattle.std.specs.Prelude.{Option, Some, None, is_some, slice_get, slice_set}
 use Rattle.std.proofs.lemmas.Bool.{cond_both, cond-false, false_from_ne_true}
 use Rattle.lxr_layout.specs.declared.Name.{Name}
@@ -11,7 +11,7 @@ use Rattle.lxr_graph.specs.declared.Reply.{Reply}
 use Rattle.lxr_graph.specs.declared.Reply.TheVariants as reply
 use Rattle.lxr_graph.specs.Names.{same_name}
 use Rattle.lxr_graph.specs.State.{Object, State, Graph, HasObject, object_at, refs_of, values_of, with_new, next_name, with_reference, with_value, register_at}
-use Rattle.lxr_graph.specs.Step.{fresh, step, stored, loaded, load_from, store_to, put_to, put_at, get_from, got, make}
+use Rattle.lxr_graph.specs.Step.{fresh, step, stored, loaded, load_from, store_to, swapped, swap_in, put_to, put_at, get_from, got, added, add_to, make}
 use Rattle.lxr_graph.proofs.RowLemmas.{object_at-with_new, object_at-with_reference, object_at-with_value, next_none}
 use Rattle.lxr_graph.proofs.NameSets.{same_itself, same_names}
 use Rattle.lxr_model.specs.Reachable.{Reachable, held}
@@ -44,38 +44,64 @@ load_facts : (s : State) (t dest i : ℕ) (b : Option Name) → StepFacts s (loa
 load_facts s t dest i None = still s _ _ (λ n e. cc)
 load_facts s t dest i (Some b) = loaded_facts s t dest _
 
--- the object of b, which is reachable, changes
-changed : (s : State) (b : Name) → Reachable s b → (g' : Graph) (o : Object) (r : Reply) → ((n : Name) → r ≡ reply.New n → ⊥)
-    → ((n : Name) → object_at g' n ≡ cond (same_name n b) (Some o) (object_at s.graph n)) → StepFacts s (record s { graph = g' }, r)
-changed s b rb g' o r never looked = record {
+-- the object of b, which is reachable, changes, and maybe registers
+changed : (s : State) (b : Name) → Reachable s b → (g' : Graph) (rs : List (Option Name)) (o : Object) (r : Reply) → ((n : Name) → r ≡ reply.New n → ⊥)
+    → ((n : Name) → object_at g' n ≡ cond (same_name n b) (Some o) (object_at s.graph n)) → StepFacts s (record { graph = g'; registers = rs }, r)
+changed s b rb g' rs o r never looked = record {
   stays = λ n h. rw (looked n) (some_cond (same_name n b) o (object_at s.graph n) h);
   new = λ n e. absurd (never n e);
   same = λ n h u. looked n ∙ other_cond (same_name n b) (Some o) (object_at s.graph n) (λ e. u (subst (Reachable s) (sym (same_names n b e)) rb));
 }
 
-stored_facts : (s : State) (i : ℕ) (b : Name) (v : Option Name) → Reachable s b → (at : Option Object) → object_at s.graph b ≡ at
-    → (found : Option (Option Name)) → slice_get (refs_of at) i ≡ found → StepFacts s (stored s b i v found)
-stored_facts s i b v rb at is None e = still s _ _ (λ n e. cc)
-stored_facts s i b v rb None is (Some old) e = absurd (cc)
-stored_facts s i b v rb (Some o) is (Some old) e =
-    subst (λ x. StepFacts s (record s { graph = with_reference s.graph b i v x }, reply.Stored)) (sym is)
-    (changed s b rb (with_reference s.graph b i v (Some o)) (record o { refs = slice_set o.refs i v }) reply.Stored (λ n e. cc) (λ n. object_at-with_reference s.graph b i v o n is))
+reference_facts : (s : State) (i : ℕ) (b : Name) (v : Option Name) (rs : List (Option Name)) (r : Reply) → ((n : Name) → r ≡ reply.New n → ⊥) → Reachable s b
+    → (at : Option Object) → object_at s.graph b ≡ at → (old : Option Name) → slice_get (refs_of at) i ≡ Some old
+    → StepFacts s (record { graph = with_reference s.graph b i v at; registers = rs }, r)
+reference_facts s i b v rs r never rb None is old e = absurd (cc)
+reference_facts s i b v rs r never rb (Some o) is old e =
+    changed s b rb (with_reference s.graph b i v (Some o)) rs (record o { refs = slice_set o.refs i v }) r never (λ n. object_at-with_reference s.graph b i v o n is)
+
+value_facts : (s : State) (i v : ℕ) (b : Name) (r : Reply) → ((n : Name) → r ≡ reply.New n → ⊥) → Reachable s b
+    → (at : Option Object) → object_at s.graph b ≡ at → (old : ℕ) → slice_get (values_of at) i ≡ Some old
+    → StepFacts s (record s { graph = with_value s.graph b i v at }, r)
+value_facts s i v b r never rb None is old e = absurd (cc)
+value_facts s i v b r never rb (Some o) is old e =
+    changed s b rb (with_value s.graph b i v (Some o)) s.registers (record o { values = slice_set o.values i v }) r never (λ n. object_at-with_value s.graph b i v o n is)
+
+stored_facts : (s : State) (i : ℕ) (b : Name) (v : Option Name) → Reachable s b
+    → (found : Option (Option Name)) → slice_get (refs_of (object_at s.graph b)) i ≡ found → StepFacts s (stored s b i v found)
+stored_facts s i b v rb None e = still s _ _ (λ n e. cc)
+stored_facts s i b v rb (Some old) e = reference_facts s i b v s.registers reply.Stored (λ n e. cc) rb (object_at s.graph b) refl old e
 
 store_facts : (s : State) (t base i : ℕ) (v b : Option Name) → register_at s t base ≡ b → StepFacts s (store_to s i v b)
 store_facts s t base i v None e = still s _ _ (λ n e. cc)
-store_facts s t base i v (Some b) e = stored_facts s i b v (held (register_held s t base b e)) _ refl _ refl
+store_facts s t base i v (Some b) e = stored_facts s i b v (held (register_held s t base b e)) _ refl
 
-put_at_facts : (s : State) (i v : ℕ) (b : Name) → Reachable s b → (at : Option Object) → object_at s.graph b ≡ at
-    → (found : Option ℕ) → slice_get (values_of at) i ≡ found → StepFacts s (put_at s b i v found)
-put_at_facts s i v b rb at is None e = still s _ _ (λ n e. cc)
-put_at_facts s i v b rb None is (Some old) e = absurd (cc)
-put_at_facts s i v b rb (Some o) is (Some old) e =
-    subst (λ x. StepFacts s (record s { graph = with_value s.graph b i v x }, reply.Put)) (sym is)
-    (changed s b rb (with_value s.graph b i v (Some o)) (record o { values = slice_set o.values i v }) reply.Put (λ n e. cc) (λ n. object_at-with_value s.graph b i v o n is))
+swapped_facts : (s : State) (t dest i : ℕ) (b : Name) (v : Option Name) → Reachable s b
+    → (found : Option (Option Name)) → slice_get (refs_of (object_at s.graph b)) i ≡ found → StepFacts s (swapped s t dest b i v found)
+swapped_facts s t dest i b v rb None e = still s _ _ (λ n e. cc)
+swapped_facts s t dest i b v rb (Some old) e = reference_facts s i b v _ (reply.Swapped old) (λ n e. cc) rb (object_at s.graph b) refl old e
+
+swap_facts : (s : State) (t dest base i : ℕ) (v b : Option Name) → register_at s t base ≡ b → StepFacts s (swap_in s t dest i v b)
+swap_facts s t dest base i v None e = still s _ _ (λ n e. cc)
+swap_facts s t dest base i v (Some b) e = swapped_facts s t dest i b v (held (register_held s t base b e)) _ refl
+
+put_at_facts : (s : State) (i v : ℕ) (b : Name) → Reachable s b
+    → (found : Option ℕ) → slice_get (values_of (object_at s.graph b)) i ≡ found → StepFacts s (put_at s b i v found)
+put_at_facts s i v b rb None e = still s _ _ (λ n e. cc)
+put_at_facts s i v b rb (Some old) e = value_facts s i v b reply.Put (λ n e. cc) rb (object_at s.graph b) refl old e
 
 put_facts : (s : State) (t base i v : ℕ) (b : Option Name) → register_at s t base ≡ b → StepFacts s (put_to s i v b)
 put_facts s t base i v None e = still s _ _ (λ n e. cc)
-put_facts s t base i v (Some b) e = put_at_facts s i v b (held (register_held s t base b e)) _ refl _ refl
+put_facts s t base i v (Some b) e = put_at_facts s i v b (held (register_held s t base b e)) _ refl
+
+added_facts : (s : State) (i v : ℕ) (b : Name) → Reachable s b
+    → (found : Option ℕ) → slice_get (values_of (object_at s.graph b)) i ≡ found → StepFacts s (added s b i v found)
+added_facts s i v b rb None e = still s _ _ (λ n e. cc)
+added_facts s i v b rb (Some old) e = value_facts s i ((old + v) % 2 ^ 64) b (reply.Added old) (λ n e. cc) rb (object_at s.graph b) refl old e
+
+add_facts : (s : State) (t base i v : ℕ) (b : Option Name) → register_at s t base ≡ b → StepFacts s (add_to s i v b)
+add_facts s t base i v None e = still s _ _ (λ n e. cc)
+add_facts s t base i v (Some b) e = added_facts s i v b (held (register_held s t base b e)) _ refl
 
 got_new : (o : Option ℕ) (n : Name) → got o ≡ reply.New n → ⊥
 got_new None n e = cc
@@ -104,6 +130,8 @@ step_facts s t (op.Load dest base index) h = load_facts s t dest index (register
 step_facts s t (op.Store base index source) h = store_facts s t base index (register_at s t source) _ refl
 step_facts s t (op.Put base index value) h = put_facts s t base index value _ refl
 step_facts s t (op.Get base index) h = get_facts s index (register_at s t base)
+step_facts s t (op.Swap dest base index source) h = swap_facts s t dest base index (register_at s t source) _ refl
+step_facts s t (op.Add base index value) h = add_facts s t base index value _ refl
 step_facts s t (op.Move dest source) h = still s _ _ (λ n e. cc)
 step_facts s t (op.Nil dest) h = still s _ _ (λ n e. cc)
 step_facts s t (op.Same left right) h = still s _ _ (λ n e. cc)

@@ -5,7 +5,7 @@ use Rattle.lxr_layout.specs.declared.Name.{Name}
 use Rattle.lxr_graph.specs.Names.{has}
 use Rattle.lxr_graph.specs.State.{State, world_name}
 use Rattle.lxr_graph.proofs.NameSets.{not_both}
-use Rattle.lxr_model.specs.Reachable.{Holds, Refers, Reachable, the_world, held, referred}
+use Rattle.lxr_model.specs.Reachable.{Holds, Refers, the_world, held, referred}
 use Rattle.lxr_model.specs.Dead.{Dead, dead, Promoted, by_register, by_kept, by_promoted}
 use Rattle.lxr_model.specs.Laws.{ReachableIsLeast, DeadIsLeast, PromotedIsLeast, DeadAreUnreachable}
 

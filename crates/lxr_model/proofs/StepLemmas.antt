@@ -1,6 +1,6 @@
 -- A step makes nothing reachable but the new name: registers and references get only what a register held, what a
 -- reachable object referred to, or the new name, whose object refers to nothing.
-use Rattle.std.proofs.Common.{◌≡◌, ℕ, zero, suc, ◌+◌, ◌-◌, ◌*◌, ◌<◌, refl, sym, ap, subst, ◌∙◌, inl, inr, ◌⊎◌, true, false, cond, List, [], ◌∷◌, ◌++◌, length, take, drop}
+use Rattle.std.proofs.Common.{◌≡◌, ℕ, zero, suc, ◌+◌, ◌-◌, ◌*◌, ◌%◌, ◌^◌, ◌<◌, refl, sym, ap, subst, ◌∙◌, inl, inr, ◌⊎◌, true, false, cond, List, [], ◌∷◌, ◌++◌, length, take, drop}
 use Rattle.std.specs.Prelude.{Option, Some, None, slice_get, slice_set, slice_index_or, replicate}
 use Rattle.lxr_layout.specs.declared.Name.{Name}
 use Rattle.lxr_layout.specs.declared.Shape.{Shape}
@@ -8,7 +8,7 @@ use Rattle.lxr_graph.specs.declared.Op.TheVariants as op
 use Rattle.lxr_graph.specs.declared.Reply.TheVariants as reply
 use Rattle.lxr_graph.specs.Names.{same_name}
 use Rattle.lxr_graph.specs.State.{Object, State, Graph, object_at, refs_of, values_of, with_new, next_name, with_reference, with_value, register_at, register_index, with_register}
-use Rattle.lxr_graph.specs.Step.{fresh, stored, loaded, load_from, store_to, put_to, put_at, get_from, make, cleared}
+use Rattle.lxr_graph.specs.Step.{fresh, stored, loaded, load_from, store_to, swapped, swap_in, put_to, put_at, get_from, added, add_to, make, cleared}
 use Rattle.lxr_graph.proofs.RowLemmas.{object_at-with_new, object_at-with_reference, object_at-with_value, next_none}
 use Rattle.lxr_graph.proofs.NameSets.{same_names}
 use Rattle.lxr_model.specs.Reachable.{Reachable, the_world, held, referred, Refers, Holds}
@@ -148,6 +148,29 @@ keeps_store s t i source None n r = r
 keeps_store s t i source (Some b) n r =
     keeps_stored s i b (register_at s t source) (λ m q. held (register_held s t source m q)) _ refl n r
 
+swapped_refers : (s : State) (t dest i : ℕ) (b : Name) (v : Option Name) → ((m : Name) → v ≡ Some m → Reachable s m)
+    → (found : Option (Option Name)) → slice_get (refs_of (object_at s.graph b)) i ≡ found → RefersNoMore s (swapped s t dest b i v found).0
+swapped_refers s t dest i b v from None e m n f = inl f
+swapped_refers s t dest i b v from (Some old) e m n f = refers_stored s i b v from (object_at s.graph b) refl old e m n f
+
+-- the register gets what a reachable object referred to, and its reference what a register held
+keeps_swapped : (s : State) (t dest i : ℕ) (b : Name) (v : Option Name) → ((m : Name) → v ≡ Some m → Reachable s m) → Reachable s b
+    → (found : Option (Option Name)) → slice_get (refs_of (object_at s.graph b)) i ≡ found → Keeps s (swapped s t dest b i v found).0
+keeps_swapped s t dest i b v from rb None e n r = r
+keeps_swapped s t dest i b v from rb (Some old) e n r = reach_same s (swapped s t dest b i v (Some old)).0
+    (λ m h. elim (gets-set s.registers (register_index t dest) old (Some m) h) [ inl g ↦ held g | inr q ↦ referred rb (i, e ∙ ap Some q) ])
+    (swapped_refers s t dest i b v from (Some old) e)
+    n r
+
+swap_refers : (s : State) (t dest i source : ℕ) (b : Option Name) → RefersNoMore s (swap_in s t dest i (register_at s t source) b).0
+swap_refers s t dest i source None m n f = inl f
+swap_refers s t dest i source (Some b) m n f = swapped_refers s t dest i b (register_at s t source) (λ m q. held (register_held s t source m q)) _ refl m n f
+
+keeps_swap : (s : State) (t dest base i source : ℕ) (b : Option Name) → register_at s t base ≡ b → Keeps s (swap_in s t dest i (register_at s t source) b).0
+keeps_swap s t dest base i source None e n r = r
+keeps_swap s t dest base i source (Some b) e n r =
+    keeps_swapped s t dest i b (register_at s t source) (λ m q. held (register_held s t source m q)) (held (register_held s t base b e)) _ refl n r
+
 refers_value : (g : Graph) (b : Name) (i v : ℕ) (o : Object) → object_at g b ≡ Some o
     → (m n : Name) → Refers (with_value g b i v (Some o)) m n → Refers g m n
 refers_value g b i v o is m n (j, e) =
@@ -178,6 +201,23 @@ put_refers s i v (Some b) m n f = put_at_refers s i v b _ refl m n f
 keeps_put : (s : State) (i v : ℕ) (b : Option Name) → Keeps s (put_to s i v b).0
 keeps_put s i v None n r = r
 keeps_put s i v (Some b) n r = keeps_put_at s i v b _ refl n r
+
+-- an `add` writes as a `put` of the sum
+added_refers : (s : State) (i v : ℕ) (b : Name) → (found : Option ℕ) → slice_get (values_of (object_at s.graph b)) i ≡ found → RefersNoMore s (added s b i v found).0
+added_refers s i v b None e m n f = inl f
+added_refers s i v b (Some old) e m n f = put_at_refers s i ((old + v) % 2 ^ 64) b (Some old) e m n f
+
+keeps_added : (s : State) (i v : ℕ) (b : Name) → (found : Option ℕ) → slice_get (values_of (object_at s.graph b)) i ≡ found → Keeps s (added s b i v found).0
+keeps_added s i v b None e n r = r
+keeps_added s i v b (Some old) e n r = keeps_put_at s i ((old + v) % 2 ^ 64) b (Some old) e n r
+
+add_refers : (s : State) (i v : ℕ) (b : Option Name) → RefersNoMore s (add_to s i v b).0
+add_refers s i v None m n f = inl f
+add_refers s i v (Some b) m n f = added_refers s i v b _ refl m n f
+
+keeps_add : (s : State) (i v : ℕ) (b : Option Name) → Keeps s (add_to s i v b).0
+keeps_add s i v None n r = r
+keeps_add s i v (Some b) n r = keeps_added s i v b _ refl n r
 
 keeps_get : (s : State) (i : ℕ) (b : Option Name) → Keeps s (get_from s i b).0
 keeps_get s i None n r = r
@@ -217,6 +257,8 @@ step_reaches s t (op.Load dest base index) h n r = inl (keeps_load s t dest base
 step_reaches s t (op.Store base index source) h n r = inl (keeps_store s t index source (register_at s t base) n r)
 step_reaches s t (op.Put base index value) h n r = inl (keeps_put s index value (register_at s t base) n r)
 step_reaches s t (op.Get base index) h n r = inl (keeps_get s index (register_at s t base) n r)
+step_reaches s t (op.Swap dest base index source) h n r = inl (keeps_swap s t dest base index source _ refl n r)
+step_reaches s t (op.Add base index value) h n r = inl (keeps_add s index value (register_at s t base) n r)
 step_reaches s t (op.Move dest source) h n r = inl (keeps_register s t dest (register_at s t source) (λ m q. held (register_held s t source m q)) n r)
 step_reaches s t (op.Nil dest) h n r = inl (keeps_register s t dest None (λ m q. absurd (cc)) n r)
 step_reaches s t (op.Same left right) h n r = inl r
@@ -244,6 +286,8 @@ step_refers s t (op.Load dest base index) h m n f = load_refers s t dest index (
 step_refers s t (op.Store base index source) h m n f = store_refers s t index source (register_at s t base) m n f
 step_refers s t (op.Put base index value) h m n f = put_refers s index value (register_at s t base) m n f
 step_refers s t (op.Get base index) h m n f = get_refers s index (register_at s t base) m n f
+step_refers s t (op.Swap dest base index source) h m n f = swap_refers s t dest index source (register_at s t base) m n f
+step_refers s t (op.Add base index value) h m n f = add_refers s index value (register_at s t base) m n f
 step_refers s t (op.Move dest source) h m n f = inl f
 step_refers s t (op.Nil dest) h m n f = inl f
 step_refers s t (op.Same left right) h m n f = inl f

@@ -72,10 +72,11 @@ abbrev pub is_new : Option Op → Bool
 is_new (Some (op.New dest shape)) = true
 is_new _ = false
 
--- there is a next operation, and it is a `store`
-abbrev pub is_store : Option Op → Bool
-is_store (Some (op.Store base index source)) = true
-is_store _ = false
+-- there is a next operation, and it writes a reference: a `store` or a `swap`
+abbrev pub writes_reference : Option Op → Bool
+writes_reference (Some (op.Store base index source)) = true
+writes_reference (Some (op.Swap dest base index source)) = true
+writes_reference _ = false
 
 -- a `new` may have found no block: each block that isn't listed as free holds an object, is block 0, or is chosen
 abbrev pub BlocksAreTaken : Terms → Moment → Type 0
@@ -87,7 +88,7 @@ IsCauseOf terms script h t =
     IsTrue (has_asked t h)
     ⊎ (terms.every ≤ calls_since_pause t h)
     ⊎ (IsTrue (is_new (next_operation script t h)) × BlocksAreTaken terms (moment terms.threads h))
-    ⊎ (IsTrue (is_store (next_operation script t h)) × (terms.log ≤ length (moment terms.threads h).written))
+    ⊎ (IsTrue (writes_reference (next_operation script t h)) × (terms.log ≤ length (moment terms.threads h).written))
 
 -- all threads have ended, so the pause that stands next is the last; or some thread is a cause
 abbrev pub HasCause : Terms → Script → List Item → Type 0

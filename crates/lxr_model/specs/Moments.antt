@@ -25,7 +25,7 @@ same_field a b = same_name a.0 b.0 && nat_eq a.1 b.1
 
 -- a trace that runs: the number of the pause at which it began, with the state and the unreclaimed names there; and of the
 -- pauses since, how many references the objects that they promoted have, and how many references of unreclaimed objects
--- were stored to before them
+-- were written before them
 pub record Trace : Type 0 where
   pub began : ℕ
   pub state : State
@@ -34,7 +34,7 @@ pub record Trace : Type 0 where
   pub written_slots : ℕ
 
 -- the state now and at the last pause; that pause's number, and the unreclaimed and the stuck names after it; the trace
--- that runs; since that pause, the names made and the references of unreclaimed objects that were stored to
+-- that runs; since that pause, the names made and the references of unreclaimed objects that were written
 pub record Moment : Type 0 where
   pub state : State
   pub last : State
@@ -67,14 +67,15 @@ made_after ns _ = ns
 abbrev pub with_field : List Field → Field → List Field
 with_field ws w = if list_any (same_field w) ws then ws else w ∷ ws
 
--- the written fields after a store to what the base register holds: those of unreclaimed objects count
+-- the written fields after a write to what the base register holds: those of unreclaimed objects count
 abbrev pub written_with : List Name → List Field → Option Name → ℕ → List Field
 written_with us ws None i = ws
 written_with us ws (Some n) i = if has us n then with_field ws (n, i) else ws
 
--- a `store` that replied ok writes a field
+-- a `store` that replied ok, and a `swap` that replied a name or nil, writes a field
 abbrev pub written_after : Moment → ℕ → Op → Reply → List Field
 written_after m t (op.Store base index source) reply.Stored = written_with m.unreclaimed m.written (register_at m.state t base) index
+written_after m t (op.Swap dest base index source) (reply.Swapped old) = written_with m.unreclaimed m.written (register_at m.state t base) index
 written_after m t _ _ = m.written
 
 -- the moment after a call
@@ -93,7 +94,7 @@ unreclaimed_after m report = left_by report (union report.promoted m.unreclaimed
 abbrev pub stuck_after : Moment → PauseReport → List Name
 stuck_after m report = left_by report (union report.stuck m.stuck)
 
--- a trace that goes on at a pause counts the references of what the pause promotes, and those that were stored to before it
+-- a trace that goes on at a pause counts the references of what the pause promotes, and those that were written before it
 abbrev pub going_on : Moment → PauseReport → Option Trace → Option Trace
 going_on m report None = None
 going_on m report (Some trace) = Some (record trace {
@@ -153,6 +154,6 @@ trace_at terms h = (moment terms.threads h).trace
 -- ---- the remembered set
 
 -- How many references a trace may have remembered so far, where these names are its snapshot: those of the snapshot's
--- objects, those of the objects promoted since it began, and those stored to before each pause since.
+-- objects, those of the objects promoted since it began, and those written before each pause since.
 abbrev pub rememberable : Trace → List Name → ℕ
 rememberable trace snapshot = reference_slots trace.state.graph snapshot + trace.promoted_slots + trace.written_slots

@@ -1,5 +1,5 @@
--- A step keeps the shape of each object and the number of registers, and changes no reference but that of a store.
-use Rattle.std.proofs.Common.{◌≡◌, ℕ, ◌+◌, ◌-◌, ◌*◌, ◌<◌, ◌≤◌, refl, sym, ap, subst, ◌∙◌, inl, inr, ◌⊎◌, arith, Bool, true, false, cond, List, ◌++◌, IsTrue, nat_eq, length, take, drop}
+-- A step keeps the shape of each object and the number of registers, and changes no reference but that of a store or a swap.
+use Rattle.std.proofs.Common.{◌≡◌, ℕ, ◌+◌, ◌-◌, ◌*◌, ◌%◌, ◌^◌, ◌<◌, ◌≤◌, refl, sym, ap, subst, ◌∙◌, inl, inr, ◌⊎◌, arith, Bool, true, false, cond, List, ◌++◌, IsTrue, nat_eq, length, take, drop}
 use Rattle.std.specs.Prelude.{Option, Some, None, is_some, slice_get, slice_set, replicate}
 use Rattle.std.proofs.lemmas.List.{length-set, length-take, length-drop, length-append}
 use Rattle.std.proofs.lemmas.Option.{slice_get_within}
@@ -10,8 +10,8 @@ use Rattle.lxr_graph.specs.declared.Op.TheVariants as op
 use Rattle.lxr_graph.specs.declared.Reply.{Reply}
 use Rattle.lxr_graph.specs.declared.Reply.TheVariants as reply
 use Rattle.lxr_graph.specs.Names.{same_name, has}
-use Rattle.lxr_graph.specs.State.{Object, State, Graph, HasObject, object_at, refs_of, values_of, with_new, next_name, with_reference, with_value, register_at}
-use Rattle.lxr_graph.specs.Step.{fresh, step, stored, loaded, load_from, store_to, put_to, put_at, get_from, make, cleared}
+use Rattle.lxr_graph.specs.State.{Object, State, Graph, HasObject, object_at, refs_of, values_of, with_new, next_name, with_reference, with_value, register_at, register_index}
+use Rattle.lxr_graph.specs.Step.{fresh, step, stored, loaded, load_from, store_to, swapped, swap_in, put_to, put_at, get_from, added, add_to, make, cleared}
 use Rattle.lxr_graph.proofs.RowLemmas.{object_at-with_new, object_at-with_reference, object_at-with_value, next_none, slice_get-set}
 use Rattle.lxr_graph.proofs.NameSets.{same_names}
 use Rattle.lxr_model.specs.Reachable.{Holds}
@@ -25,6 +25,7 @@ use Rattle.lxr_model_counting.proofs.DistinctLemmas.{tested, with_field_new, wit
 -- a call that replied so wrote reference i of n
 abbrev pub WritesField : State → ℕ → Op → Reply → Name → ℕ → Type 0
 WritesField s t (op.Store base index source) reply.Stored n i = (register_at s t base ≡ Some n) × (index ≡ i)
+WritesField s t (op.Swap dest base index source) (reply.Swapped old) n i = (register_at s t base ≡ Some n) × (index ≡ i)
 WritesField s t _ _ n i = ⊥
 
 pub record StepKeeps (s : State) (t : ℕ) (o : Op) (p : State × Reply) : Type 0 where
@@ -82,51 +83,87 @@ store_fields g b i v old o is e n j =
       ]
     ]
 
-stored_keeps : (s : State) (t base i source : ℕ) (b : Name) → register_at s t base ≡ Some b → (at : Option Object) → object_at s.graph b ≡ at
-    → (found : Option (Option Name)) → slice_get (refs_of at) i ≡ found → StepKeeps s t (op.Store base i source) (stored s b i (register_at s t source) found)
-stored_keeps s t base i source b reg at is None e = still s t (op.Store base i source) _ _ refl (λ n j w. w)
-stored_keeps s t base i source b reg None is (Some old) e = absurd (cc)
-stored_keeps s t base i source b reg (Some o) is (Some old) e =
-    let v : Option Name = register_at s t source in
-    let o' : Object = record o { refs = slice_set o.refs i v } in
-    subst (λ x. StepKeeps s t (op.Store base i source) (record s { graph = with_reference s.graph b i v x }, reply.Stored)) (sym is)
-    (record {
-      shapes = changed_shapes s.graph (with_reference s.graph b i v (Some o)) b o o' is (record { refs = length-set _ _ _; values = refl }) (λ n. object_at-with_reference s.graph b i v o n is);
-      fields = λ n j h. elim (store_fields s.graph b i v old o is e n j) [ inl q ↦ inl q | inr q ↦ inr (reg ∙ ap Some (sym q.0), q.1) ];
-      inside = λ n j w. (
-        register_held s t base n w.0,
-        let k : Some b ≡ Some n = sym reg ∙ w.0 in
-            let same : b ≡ n = cc in
-            subst (λ z. z < length (refs_of (object_at s.graph n))) w.1 (slice_get_within (refs_of (object_at s.graph n)) i old (ap (λ x. slice_get (refs_of x) i) (sym (ap (object_at s.graph) same) ∙ is) ∙ e)),
+-- a call whose reply says that it wrote reference i of what the base register holds, and maybe a register
+reference_keeps : (s : State) (t base i : ℕ) (v : Option Name) (b : Name) (rs : List (Option Name)) (o : Op) (r : Reply) → register_at s t base ≡ Some b
+    → ((n : Name) (j : ℕ) → (register_at s t base ≡ Some n) × (i ≡ j) → WritesField s t o r n j)
+    → ((n : Name) (j : ℕ) → WritesField s t o r n j → (register_at s t base ≡ Some n) × (i ≡ j))
+    → length rs ≡ length s.registers
+    → (at : Option Object) → object_at s.graph b ≡ at → (old : Option Name) → slice_get (refs_of at) i ≡ Some old
+    → StepKeeps s t o (record { graph = with_reference s.graph b i v at; registers = rs }, r)
+reference_keeps s t base i v b rs o r reg to from many None is old e = absurd (cc)
+reference_keeps s t base i v b rs o r reg to from many (Some a) is old e = record {
+  shapes = changed_shapes s.graph (with_reference s.graph b i v (Some a)) b a (record a { refs = slice_set a.refs i v }) is
+      (record { refs = length-set _ _ _; values = refl }) (λ n. object_at-with_reference s.graph b i v a n is);
+  fields = λ n j h. elim (store_fields s.graph b i v old a is e n j) [ inl q ↦ inl q | inr q ↦ inr (to n j (reg ∙ ap Some (sym q.0), q.1)) ];
+  inside = λ n j w.
+      let p = from n j w in
+      let k : Some b ≡ Some n = sym reg ∙ p.0 in
+      let same : b ≡ n = cc in (
+        register_held s t base n p.0,
+        subst (λ z. z < length (refs_of (object_at s.graph n))) p.1 (slice_get_within (refs_of (object_at s.graph n)) i old (ap (λ x. slice_get (refs_of x) i) (sym (ap (object_at s.graph) same) ∙ is) ∙ e)),
       );
-      registers = refl;
-    })
+  registers = many;
+}
+
+stored_keeps : (s : State) (t base i source : ℕ) (b : Name) → register_at s t base ≡ Some b
+    → (found : Option (Option Name)) → slice_get (refs_of (object_at s.graph b)) i ≡ found → StepKeeps s t (op.Store base i source) (stored s b i (register_at s t source) found)
+stored_keeps s t base i source b reg None e = still s t (op.Store base i source) _ _ refl (λ n j w. w)
+stored_keeps s t base i source b reg (Some old) e =
+    reference_keeps s t base i (register_at s t source) b s.registers (op.Store base i source) reply.Stored reg (λ n j w. w) (λ n j w. w) refl (object_at s.graph b) refl old e
 
 store_keeps : (s : State) (t base i source : ℕ) (b : Option Name) → register_at s t base ≡ b → StepKeeps s t (op.Store base i source) (store_to s i (register_at s t source) b)
 store_keeps s t base i source None e = still s t (op.Store base i source) _ _ refl (λ n j w. w)
-store_keeps s t base i source (Some b) e = stored_keeps s t base i source b e _ refl _ refl
+store_keeps s t base i source (Some b) e = stored_keeps s t base i source b e _ refl
 
-put_at_keeps : (s : State) (t base i v : ℕ) (b : Name) → (at : Option Object) → object_at s.graph b ≡ at
-    → (found : Option ℕ) → slice_get (values_of at) i ≡ found → StepKeeps s t (op.Put base i v) (put_at s b i v found)
-put_at_keeps s t base i v b at is None e = still s t (op.Put base i v) _ _ refl (λ n j w. w)
-put_at_keeps s t base i v b None is (Some old) e = absurd (cc)
-put_at_keeps s t base i v b (Some o) is (Some old) e =
-    let o' : Object = record o { values = slice_set o.values i v } in
-    let looked : (n : Name) → object_at (with_value s.graph b i v (Some o)) n ≡ cond (same_name n b) (Some o') (object_at s.graph n) = λ n. object_at-with_value s.graph b i v o n is in
-    subst (λ x. StepKeeps s t (op.Put base i v) (record s { graph = with_value s.graph b i v x }, reply.Put)) (sym is)
-    (record {
-      shapes = changed_shapes s.graph (with_value s.graph b i v (Some o)) b o o' is (record { refs = refl; values = length-set _ _ _ }) looked;
+swapped_keeps : (s : State) (t dest base i source : ℕ) (b : Name) → register_at s t base ≡ Some b
+    → (found : Option (Option Name)) → slice_get (refs_of (object_at s.graph b)) i ≡ found
+    → StepKeeps s t (op.Swap dest base i source) (swapped s t dest b i (register_at s t source) found)
+swapped_keeps s t dest base i source b reg None e = still s t (op.Swap dest base i source) _ _ refl (λ n j w. w)
+swapped_keeps s t dest base i source b reg (Some old) e =
+    reference_keeps s t base i (register_at s t source) b (slice_set s.registers (register_index t dest) old) (op.Swap dest base i source) (reply.Swapped old) reg
+    (λ n j w. w) (λ n j w. w) (length-set _ _ _) (object_at s.graph b) refl old e
+
+swap_keeps : (s : State) (t dest base i source : ℕ) (b : Option Name) → register_at s t base ≡ b
+    → StepKeeps s t (op.Swap dest base i source) (swap_in s t dest i (register_at s t source) b)
+swap_keeps s t dest base i source None e = still s t (op.Swap dest base i source) _ _ refl (λ n j w. w)
+swap_keeps s t dest base i source (Some b) e = swapped_keeps s t dest base i source b e _ refl
+
+-- a call that changes a data word
+value_keeps : (s : State) (t i v : ℕ) (b : Name) (o : Op) (r : Reply) → ((n : Name) (j : ℕ) → WritesField s t o r n j → ⊥)
+    → (at : Option Object) → object_at s.graph b ≡ at → (old : ℕ) → slice_get (values_of at) i ≡ Some old
+    → StepKeeps s t o (record s { graph = with_value s.graph b i v at }, r)
+value_keeps s t i v b o r never None is old e = absurd (cc)
+value_keeps s t i v b o r never (Some a) is old e =
+    let a' : Object = record a { values = slice_set a.values i v } in
+    let looked : (n : Name) → object_at (with_value s.graph b i v (Some a)) n ≡ cond (same_name n b) (Some a') (object_at s.graph n) = λ n. object_at-with_value s.graph b i v a n is in
+    record {
+      shapes = changed_shapes s.graph (with_value s.graph b i v (Some a)) b a a' is (record { refs = refl; values = length-set _ _ _ }) looked;
       fields = λ n j h. inl (elim (tested (same_name n b)) [
-        | inl k ↦ ap (λ x. slice_get (refs_of x) j) (looked n ∙ ap (λ x. cond x (Some o') (object_at s.graph n)) k) ∙ sym (ap (λ x. slice_get (refs_of x) j) (ap (object_at s.graph) (same_names n b k) ∙ is))
-        | inr k ↦ ap (λ x. slice_get (refs_of x) j) (looked n ∙ ap (λ x. cond x (Some o') (object_at s.graph n)) k)
+        | inl k ↦ ap (λ x. slice_get (refs_of x) j) (looked n ∙ ap (λ x. cond x (Some a') (object_at s.graph n)) k) ∙ sym (ap (λ x. slice_get (refs_of x) j) (ap (object_at s.graph) (same_names n b k) ∙ is))
+        | inr k ↦ ap (λ x. slice_get (refs_of x) j) (looked n ∙ ap (λ x. cond x (Some a') (object_at s.graph n)) k)
       ]);
-      inside = λ n j w. absurd w;
+      inside = λ n j w. absurd (never n j w);
       registers = refl;
-    })
+    }
+
+put_at_keeps : (s : State) (t base i v : ℕ) (b : Name)
+    → (found : Option ℕ) → slice_get (values_of (object_at s.graph b)) i ≡ found → StepKeeps s t (op.Put base i v) (put_at s b i v found)
+put_at_keeps s t base i v b None e = still s t (op.Put base i v) _ _ refl (λ n j w. w)
+put_at_keeps s t base i v b (Some old) e = value_keeps s t i v b (op.Put base i v) reply.Put (λ n j w. w) (object_at s.graph b) refl old e
 
 put_keeps : (s : State) (t base i v : ℕ) (b : Option Name) → StepKeeps s t (op.Put base i v) (put_to s i v b)
 put_keeps s t base i v None = still s t (op.Put base i v) _ _ refl (λ n j w. w)
-put_keeps s t base i v (Some b) = put_at_keeps s t base i v b _ refl _ refl
+put_keeps s t base i v (Some b) = put_at_keeps s t base i v b _ refl
+
+added_keeps : (s : State) (t base i v : ℕ) (b : Name)
+    → (found : Option ℕ) → slice_get (values_of (object_at s.graph b)) i ≡ found → StepKeeps s t (op.Add base i v) (added s b i v found)
+added_keeps s t base i v b None e = still s t (op.Add base i v) _ _ refl (λ n j w. w)
+added_keeps s t base i v b (Some old) e =
+    value_keeps s t i ((old + v) % 2 ^ 64) b (op.Add base i v) (reply.Added old) (λ n j w. w) (object_at s.graph b) refl old e
+
+add_keeps : (s : State) (t base i v : ℕ) (b : Option Name) → StepKeeps s t (op.Add base i v) (add_to s i v b)
+add_keeps s t base i v None = still s t (op.Add base i v) _ _ refl (λ n j w. w)
+add_keeps s t base i v (Some b) = added_keeps s t base i v b _ refl
 
 get_keeps : (s : State) (t base i : ℕ) (b : Option Name) → StepKeeps s t (op.Get base i) (get_from s i b)
 get_keeps s t base i None = still s t (op.Get base i) _ _ refl (λ n j w. w)
@@ -161,6 +198,8 @@ step_keeps s t (op.Load dest base index) h room = load_keeps s t dest index (op.
 step_keeps s t (op.Store base index source) h room = store_keeps s t base index source _ refl
 step_keeps s t (op.Put base index value) h room = put_keeps s t base index value (register_at s t base)
 step_keeps s t (op.Get base index) h room = get_keeps s t base index (register_at s t base)
+step_keeps s t (op.Swap dest base index source) h room = swap_keeps s t dest base index source _ refl
+step_keeps s t (op.Add base index value) h room = add_keeps s t base index value (register_at s t base)
 step_keeps s t (op.Move dest source) h room = still s t (op.Move dest source) _ _ (length-set _ _ _) (λ n j w. w)
 step_keeps s t (op.Nil dest) h room = still s t (op.Nil dest) _ _ (length-set _ _ _) (λ n j w. w)
 step_keeps s t (op.Same left right) h room = still s t (op.Same left right) _ _ refl (λ n j w. w)
@@ -209,16 +248,23 @@ written_split m t (op.Store base index source) reply.Stored n i h = elim (with_s
   | inl k ↦ inl k
   | inr k ↦ inr (k.0, (k.1, k.2))
 ]
+written_split m t (op.Swap dest base index source) (reply.Swapped old) n i h = elim (with_split m.unreclaimed m.written (register_at m.state t base) index n i h) [
+  | inl k ↦ inl k
+  | inr k ↦ inr (k.0, (k.1, k.2))
+]
 written_split m t o r n i h = inl h
 
 pub written_there : (m : Moment) (t : ℕ) (o : Op) (r : Reply) (n : Name) (i : ℕ) → IsTrue (has m.unreclaimed n) → WritesField m.state t o r n i → IsTrue (has_field (written_after m t o r) (n, i))
 written_there m t (op.Store base index source) reply.Stored n i h w = with_there m.unreclaimed m.written (register_at m.state t base) index n i h w.0 w.1
+written_there m t (op.Swap dest base index source) (reply.Swapped old) n i h w = with_there m.unreclaimed m.written (register_at m.state t base) index n i h w.0 w.1
 written_there m t o r n i h w = absurd w
 
 pub written_old : (m : Moment) (t : ℕ) (o : Op) (r : Reply) (n : Name) (i : ℕ) → IsTrue (has_field m.written (n, i)) → IsTrue (has_field (written_after m t o r) (n, i))
 written_old m t (op.Store base index source) reply.Stored n i h = with_old m.unreclaimed m.written (register_at m.state t base) index n i h
+written_old m t (op.Swap dest base index source) (reply.Swapped old) n i h = with_old m.unreclaimed m.written (register_at m.state t base) index n i h
 written_old m t o r n i h = h
 
 pub written_distinct : (m : Moment) (t : ℕ) (o : Op) (r : Reply) → AreDistinctFields m.written → AreDistinctFields (written_after m t o r)
 written_distinct m t (op.Store base index source) reply.Stored d = with_distinct m.unreclaimed m.written (register_at m.state t base) index d
+written_distinct m t (op.Swap dest base index source) (reply.Swapped old) d = with_distinct m.unreclaimed m.written (register_at m.state t base) index d
 written_distinct m t o r d = d

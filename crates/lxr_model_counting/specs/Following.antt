@@ -48,10 +48,10 @@ pub record FollowsPause (m : Moment) : Type 0 where
   pub young : (n : Name) → IsTrue (has m.made n) → (object_at m.last.graph n ≡ None) × HasObject m.state.graph n
   -- an unreclaimed object that wasn't reachable at the pause is what it was, references and data words: no thread gets at it
   pub unreached : (n : Name) → IsTrue (has m.unreclaimed n) → ¬ Reachable m.last n → object_at m.state.graph n ≡ object_at m.last.graph n
-  -- a reference of an unreclaimed object that wasn't stored to is what it was
+  -- a reference of an unreclaimed object that wasn't written is what it was
   pub unwritten : (n : Name) (i : ℕ) → IsTrue (has m.unreclaimed n) → has_field m.written (n, i) ≡ false
       → slice_get (refs_of (object_at m.state.graph n)) i ≡ slice_get (refs_of (object_at m.last.graph n)) i
-  -- the references stored to stand each once
+  -- the references written stand each once
   pub written_once : AreDistinctFields m.written
   -- each is a reference of an unreclaimed object that was reachable at the pause
   pub written : (n : Name) (i : ℕ) → IsTrue (has_field m.written (n, i))

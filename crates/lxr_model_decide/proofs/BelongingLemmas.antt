@@ -1,5 +1,5 @@
 -- Each test of belonging holds exactly where its point does.
-use Rattle.std.proofs.Common.{◌≡◌, ℕ, zero, suc, ◌+◌, ◌-◌, ◌/◌, ◌≤◌, refl, sym, subst, inl, inr, arith, Bool, true, false, List, [], ◌∷◌, IsTrue, nat_eq, length}
+use Rattle.std.proofs.Common.{◌≡◌, ℕ, zero, suc, ◌+◌, ◌-◌, ◌≤◌, refl, sym, subst, inl, inr, arith, Bool, true, false, List, [], ◌∷◌, IsTrue, nat_eq, length}
 use Rattle.std.specs.Prelude.{nat_le, not, ◌&&◌, ◌||◌}
 use Rattle.std.proofs.lemmas.Bool.{or_cases, or_left, or_right, and_parts, and_from, not-true, not_from_false}
 use Rattle.lxr_layout.specs.Spaces.{most_chosen}
@@ -9,7 +9,7 @@ use Rattle.lxr_graph.proofs.NameSets.{not_both}
 use Rattle.lxr_model.specs.Terms.{Terms}
 use Rattle.lxr_model.specs.Moments.{moment}
 use Rattle.lxr_model.specs.Kinds.{ends}
-use Rattle.lxr_model.specs.Belongs.{Script, operations_of, has_asked, calls_since_pause, next_operation, is_new, is_store, AskedPausesComeFirst, TurnsAreShort, IsCauseOf, HasCause, PausesHaveCauses, LastPauseWasEarly, EndsWithPause, Belongs}
+use Rattle.lxr_model.specs.Belongs.{Script, operations_of, has_asked, calls_since_pause, next_operation, is_new, writes_reference, AskedPausesComeFirst, TurnsAreShort, IsCauseOf, HasCause, PausesHaveCauses, LastPauseWasEarly, EndsWithPause, Belongs}
 use Rattle.lxr_model_decide.specs.Belonging.{calls_by_thread, operations_by_thread, asked_pauses_come_first, turns_are_short, is_cause, some_thread, has_cause, pauses_have_causes, last_pause_was_early, ends_with_pause, IsFoundBelonging}
 use Rattle.lxr_model_decide.specs.Laws.{BelongingIsComputed}
 use Rattle.lxr_model_decide.proofs.PartLemmas.{le_from_test, test_from_le}
@@ -55,16 +55,16 @@ cause_right terms script h t e =
     let long = nat_le terms.every (calls_since_pause t h) in
     let new = is_new (next_operation script t h) in
     let taken = nat_le (terms.blocks - most_chosen terms.blocks) (length m.unreclaimed + length m.made) in
-    let store = is_store (next_operation script t h) in
+    let writes = writes_reference (next_operation script t h) in
     let full = nat_le terms.log (length m.written) in
-    elim (or_cases (asked || long) ((new && taken) || (store && full)) e) [
+    elim (or_cases (asked || long) ((new && taken) || (writes && full)) e) [
       | inl k ↦ elim (or_cases asked long k) [
         | inl k ↦ inl k
         | inr k ↦ inr (inl (le_from_test terms.every (calls_since_pause t h) k))
       ]
-      | inr k ↦ elim (or_cases (new && taken) (store && full) k) [
+      | inr k ↦ elim (or_cases (new && taken) (writes && full) k) [
         | inl k ↦ let a = and_parts new taken k in inr (inr (inl (a.0, le_from_test (terms.blocks - most_chosen terms.blocks) (length m.unreclaimed + length m.made) a.1)))
-        | inr k ↦ let a = and_parts store full k in inr (inr (inr (a.0, le_from_test terms.log (length m.written) a.1)))
+        | inr k ↦ let a = and_parts writes full k in inr (inr (inr (a.0, le_from_test terms.log (length m.written) a.1)))
       ]
     ]
 
@@ -131,15 +131,15 @@ cause_test terms script h t e =
     let long = nat_le terms.every (calls_since_pause t h) in
     let new = is_new (next_operation script t h) in
     let taken = nat_le (terms.blocks - most_chosen terms.blocks) (length m.unreclaimed + length m.made) in
-    let store = is_store (next_operation script t h) in
+    let writes = writes_reference (next_operation script t h) in
     let full = nat_le terms.log (length m.written) in
     elim e [
-      | inl k ↦ or_left (asked || long) ((new && taken) || (store && full)) (or_left asked long k)
-      | inr (inl k) ↦ or_left (asked || long) ((new && taken) || (store && full)) (or_right asked long (test_from_le terms.every (calls_since_pause t h) k))
-      | inr (inr (inl k)) ↦ or_right (asked || long) ((new && taken) || (store && full)) (or_left (new && taken) (store && full)
+      | inl k ↦ or_left (asked || long) ((new && taken) || (writes && full)) (or_left asked long k)
+      | inr (inl k) ↦ or_left (asked || long) ((new && taken) || (writes && full)) (or_right asked long (test_from_le terms.every (calls_since_pause t h) k))
+      | inr (inr (inl k)) ↦ or_right (asked || long) ((new && taken) || (writes && full)) (or_left (new && taken) (writes && full)
           (and_from new taken k.0 (test_from_le (terms.blocks - most_chosen terms.blocks) (length m.unreclaimed + length m.made) k.1)))
-      | inr (inr (inr k)) ↦ or_right (asked || long) ((new && taken) || (store && full)) (or_right (new && taken) (store && full)
-          (and_from store full k.0 (test_from_le terms.log (length m.written) k.1)))
+      | inr (inr (inr k)) ↦ or_right (asked || long) ((new && taken) || (writes && full)) (or_right (new && taken) (writes && full)
+          (and_from writes full k.0 (test_from_le terms.log (length m.written) k.1)))
     ]
 
 thread_passes : (p : ℕ → Bool) (n t : ℕ) → 1 ≤ t → t ≤ n → IsTrue (p t) → IsTrue (some_thread p n)
@@ -150,7 +150,7 @@ thread_passes p (suc n) t low high e = elim (nat_eq t (suc n)) as (λ b. nat_eq 
       (let q : (t ≡ suc n) → ⊥ = λ q. not_both (nat_eq t (suc n)) (test_from_eq t (suc n) q) k in omega arith) e)
 ] refl
 
-has_cause_test : (terms : Terms) (script : Script) (h : List Item) → HasCause terms script h → IsTrue (has_cause terms script h)
+pub has_cause_test : (terms : Terms) (script : Script) (h : List Item) → HasCause terms script h → IsTrue (has_cause terms script h)
 has_cause_test terms script h e =
     let p = is_cause terms script h (moment terms.threads h) in
     elim e [

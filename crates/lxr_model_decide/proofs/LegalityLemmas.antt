@@ -1,10 +1,10 @@
 -- Each test of an item is right: where it holds, so does what it stands for.
-use Rattle.std.proofs.Common.{◌≡◌, ◌≢◌, ℕ, ◌+◌, ◌-◌, ◌/◌, ◌%◌, ◌<◌, refl, ap, subst, inl, inr, arith, Bool, true, false, List, [], ◌∷◌, IsTrue, nat_eq, nat_lt}
-use Rattle.std.specs.Prelude.{Option, Some, None, nat_le, not, ◌&&◌, ◌||◌}
+use Rattle.std.proofs.Common.{◌≡◌, ◌≢◌, ℕ, ◌+◌, ◌-◌, ◌%◌, ◌<◌, refl, ap, subst, inl, inr, arith, List, [], ◌∷◌, IsTrue, nat_eq, nat_lt}
+use Rattle.std.specs.Prelude.{Option, Some, None, nat_le, not, ◌&&◌}
 use Rattle.std.proofs.lemmas.Bool.{or_cases, or_left, or_right, and_parts, and_from, not-true, not_from_false, false_from_ne_true}
 use Rattle.lxr_layout.specs.declared.Name.{Name}
 use Rattle.lxr_layout.specs.declared.Shape.{Shape}
-use Rattle.lxr_layout.specs.Objects.{FitsShape, word_count, line_count}
+use Rattle.lxr_layout.specs.Objects.{FitsShape, line_count}
 use Rattle.lxr_layout.specs.Spaces.{most_chosen}
 use Rattle.lxr_graph.specs.declared.Op.{Op}
 use Rattle.lxr_graph.specs.declared.Op.TheVariants as op
@@ -111,6 +111,8 @@ formed_right (op.Load dest base index) e = below_two dest base e
 formed_right (op.Store base index source) e = below_two base source e
 formed_right (op.Put base index value) e = lt_from_test base 16 e
 formed_right (op.Get base index) e = lt_from_test base 16 e
+formed_right (op.Swap dest base index source) e = let c = and_parts (nat_lt dest 16) (nat_lt base 16 && nat_lt source 16) e in let d = below_two base source c.1 in (lt_from_test dest 16 c.0, d.0, d.1)
+formed_right (op.Add base index value) e = lt_from_test base 16 e
 formed_right (op.Move dest source) e = below_two dest source e
 formed_right (op.Nil dest) e = lt_from_test dest 16 e
 formed_right (op.Same left right) e = below_two left right e

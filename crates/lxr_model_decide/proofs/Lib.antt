@@ -6,4 +6,5 @@ pub mod BelongingLemmas
 pub mod TestLemmas
 mod RunLemmas
 mod MissLemmas
+pub mod SwapLemmas
 mod RememberedLemmas

@@ -1,11 +1,11 @@
 -- The tests of an item hold wherever what they stand for does, and the replies and reports of a legal history are those
 -- computed again, since a moment gives one report of a kind.
-use Rattle.std.proofs.Common.{◌≡◌, ◌≢◌, ℕ, ◌+◌, ◌-◌, ◌/◌, ◌%◌, ◌<◌, refl, ap, subst, inl, inr, arith, Bool, true, false, List, [], ◌∷◌, IsTrue, nat_eq, nat_lt}
+use Rattle.std.proofs.Common.{◌≡◌, ◌≢◌, ℕ, ◌+◌, ◌-◌, ◌%◌, ◌<◌, refl, ap, subst, inl, inr, arith, true, false, List, [], ◌∷◌, IsTrue, nat_eq, nat_lt}
 use Rattle.std.specs.Prelude.{Option, Some, None, nat_le, not, ◌&&◌, ◌||◌}
 use Rattle.std.proofs.lemmas.Bool.{or_left, or_right, and_parts, and_from, not-true, not_from_false, false_from_ne_true}
 use Rattle.lxr_layout.specs.declared.Name.{Name}
 use Rattle.lxr_layout.specs.declared.Shape.{Shape}
-use Rattle.lxr_layout.specs.Objects.{FitsShape, word_count, line_count}
+use Rattle.lxr_layout.specs.Objects.{FitsShape, line_count}
 use Rattle.lxr_layout.specs.Spaces.{most_chosen}
 use Rattle.lxr_graph.specs.declared.Op.{Op}
 use Rattle.lxr_graph.specs.declared.Op.TheVariants as op
@@ -92,6 +92,8 @@ formed_test (op.Load dest base index) e = both_below dest base e.0 e.1
 formed_test (op.Store base index source) e = both_below base source e.0 e.1
 formed_test (op.Put base index value) e = test_from_lt base 16 e
 formed_test (op.Get base index) e = test_from_lt base 16 e
+formed_test (op.Swap dest base index source) e = and_from (nat_lt dest 16) (nat_lt base 16 && nat_lt source 16) (test_from_lt dest 16 e.0) (both_below base source e.1 e.2)
+formed_test (op.Add base index value) e = test_from_lt base 16 e
 formed_test (op.Move dest source) e = both_below dest source e.0 e.1
 formed_test (op.Nil dest) e = test_from_lt dest 16 e
 formed_test (op.Same left right) e = both_below left right e.0 e.1

@@ -1,12 +1,12 @@
 -- Whether a history belongs to a script, computed point by point.
-use Rattle.std.specs.Prelude.{◌≡◌, ℕ, zero, suc, ◌+◌, ◌-◌, ◌/◌, Bool, true, false, not, ◌&&◌, ◌||◌, nat_eq, nat_lt, nat_le, List, [], ◌∷◌, IsTrue, length}
+use Rattle.std.specs.Prelude.{◌≡◌, ℕ, zero, suc, ◌+◌, ◌-◌, Bool, true, false, not, ◌&&◌, ◌||◌, nat_eq, nat_lt, nat_le, List, [], ◌∷◌, IsTrue, length}
 use Rattle.lxr_layout.specs.Spaces.{most_chosen}
 use Rattle.lxr_graph.specs.declared.Op.{Op}
 use Rattle.lxr_graph.specs.History.{Item, Call, Pause, calls_of}
 use Rattle.lxr_model.specs.Terms.{Terms}
 use Rattle.lxr_model.specs.Moments.{Moment, moment}
 use Rattle.lxr_model.specs.Kinds.{ends}
-use Rattle.lxr_model.specs.Belongs.{Script, operations_of, has_asked, calls_since_pause, next_operation, is_new, is_store}
+use Rattle.lxr_model.specs.Belongs.{Script, operations_of, has_asked, calls_since_pause, next_operation, is_new, writes_reference}
 
 -- the calls of threads 1 to n, the last thread first
 abbrev pub calls_by_thread : ℕ → List Item → List (List Op)
@@ -35,7 +35,7 @@ abbrev pub is_cause : Terms → Script → List Item → Moment → ℕ → Bool
 is_cause terms script h m t =
     (has_asked t h || nat_le terms.every (calls_since_pause t h))
     || ((is_new (next_operation script t h) && nat_le (terms.blocks - most_chosen terms.blocks) (length m.unreclaimed + length m.made))
-    || (is_store (next_operation script t h) && nat_le terms.log (length m.written)))
+    || (writes_reference (next_operation script t h) && nat_le terms.log (length m.written)))
 
 -- one of threads 1 to n passes a test
 abbrev pub some_thread : (ℕ → Bool) → ℕ → Bool

@@ -1,5 +1,6 @@
 -- Whole histories, oldest item first: every call with its reply, every pause with its report.
-use Rattle.std.specs.Prelude.{ℕ, true, List, [], ◌∷◌}
+use Rattle.std.specs.Prelude.{ℕ, zero, suc, ◌-◌, true, List, [], ◌∷◌, ◌++◌}
+use Rattle.lxr_layout.specs.declared.TheConstants.{STUCK}
 use Rattle.lxr_graph.specs.declared.Op.{Op}
 use Rattle.lxr_graph.specs.declared.Op.TheVariants as op
 use Rattle.lxr_graph.specs.declared.Reply.TheVariants as reply
@@ -29,7 +30,7 @@ overwriting_run =
     ∷ []
 
 abbrev pub OverwrittenIsNotPromoted : Type 0
-OverwrittenIsNotPromoted = IsRunOf usual_terms overwriting overwriting_run
+OverwrittenIsNotPromoted = IsRunOf usual_terms (overwriting ∷ []) overwriting_run
 
 -- ---- a reference is stored again where it was
 
@@ -51,7 +52,7 @@ storing_again_run =
     ∷ []
 
 abbrev pub StoredAgainCountsOnce : Type 0
-StoredAgainCountsOnce = IsRunOf usual_terms storing_again storing_again_run
+StoredAgainCountsOnce = IsRunOf usual_terms (storing_again ∷ []) storing_again_run
 
 -- ---- a cycle of garbage
 
@@ -78,7 +79,7 @@ cycle_run =
     ∷ []
 
 abbrev pub CycleIsSwept : Type 0
-CycleIsSwept = IsRunOf usual_terms cycle cycle_run
+CycleIsSwept = IsRunOf usual_terms (cycle ∷ []) cycle_run
 
 -- ---- a cycle of garbage and a trace
 
@@ -107,7 +108,7 @@ traced_cycle_run =
     ∷ []
 
 abbrev pub TraceSweepsCycle : Type 0
-TraceSweepsCycle = IsRunOf traced_terms traced_cycle traced_cycle_run
+TraceSweepsCycle = IsRunOf traced_terms (traced_cycle ∷ []) traced_cycle_run
 
 -- ---- a full heap
 
@@ -135,24 +136,108 @@ filling_run =
     ∷ []
 
 abbrev pub FullAfterCollecting : Type 0
-FullAfterCollecting = IsRunOf one_block filling filling_run
+FullAfterCollecting = IsRunOf one_block (filling ∷ []) filling_run
 
--- ---- a stuck count
+-- ---- a log that is full
 
--- the world refers to 1.1 three times, and then no more
-abbrev pub sticking : List Op
-sticking =
-    new 1 0 ∷ store 0 0 1 ∷ store 0 1 1 ∷ store 0 2 1 ∷ clear 1 ∷ op.Pause
-    ∷ store 0 0 1 ∷ store 0 1 1 ∷ store 0 2 1 ∷ op.Pause ∷ op.Pause ∷ op.Collect
+-- logs of one entry
+abbrev pub one_entry : Terms
+one_entry = record usual_terms { log = 1 }
+
+-- 1.1 is stored to two references of the world
+abbrev pub storing_twice : List Op
+storing_twice = new 1 0 ∷ store 0 0 1 ∷ store 0 1 1 ∷ []
+
+-- the second store waits for a pause, and both count
+abbrev pub storing_twice_run : List Item
+storing_twice_run =
+    makes 1 0 1 ∷ stores 0 0 1
+    ∷ Pause (record (quiet 1 kind.Plain []) { promoted = made 1 ∷ [] })
+    ∷ stores 0 1 1
+    ∷ ends
+    ∷ Pause (quiet 2 kind.Collect (world_count ∷ counted 1 2 ∷ []))
     ∷ []
 
--- its count doesn't fall, and a collecting pause sweeps it
+abbrev pub StoreWaitsForLog : Type 0
+StoreWaitsForLog = IsRunOf one_entry (storing_twice ∷ []) storing_twice_run
+
+-- ---- an object that a trace finds reachable
+
+abbrev pub eight_blocks : Terms
+eight_blocks = record traced_terms { blocks = 8 }
+
+-- two references of the world and a register hold 1.1
+abbrev pub holding : List Op
+holding = new 1 0 ∷ store 0 0 1 ∷ store 0 1 1 ∷ op.Pause ∷ op.Pause ∷ op.Pause ∷ load 2 0 0 ∷ op.Same 1 2 ∷ []
+
+-- it is what it was before the trace, in whatever place, and counts the same
+abbrev pub holding_run : List Item
+holding_run =
+    makes 1 0 1 ∷ stores 0 0 1 ∷ stores 0 1 1 ∷ asks
+    ∷ Pause (record (quiet 1 kind.Plain []) { promoted = made 1 ∷ [] })
+    ∷ asks
+    ∷ Pause (quiet 2 kind.Begin (world_count ∷ counted 1 3 ∷ []))
+    ∷ asks
+    ∷ Pause (quiet 3 (kind.End 2) (world_count ∷ counted 1 3 ∷ []))
+    ∷ loads 2 0 0 1 ∷ does (op.Same 1 2) (reply.Same true)
+    ∷ ends
+    ∷ Pause (quiet 4 kind.Collect (world_count ∷ counted 1 2 ∷ []))
+    ∷ []
+
+abbrev pub HeldIsTheSame : Type 0
+HeldIsTheSame = IsRunOf eight_blocks (holding ∷ []) holding_run
+
+-- ---- a count that falls to zero, and one that is stuck
+
+-- what r1 holds is stored to the first n references of the world
+abbrev pub store_to_first : ℕ → List Op
+store_to_first zero = []
+store_to_first (suc n) = store_to_first n ++ store 0 n 1 ∷ []
+
+abbrev pub stores_to_first : ℕ → List Item
+stores_to_first zero = []
+stores_to_first (suc n) = stores_to_first n ++ stores 0 n 1 ∷ []
+
+-- the world refers to 1.1 n times, and then no more
+abbrev pub letting_go : ℕ → List Op
+letting_go n =
+    new 1 0 ∷ store_to_first n ++ clear 1 ∷ op.Pause
+    ∷ store_to_first n ++ op.Pause ∷ op.Pause ∷ op.Collect
+    ∷ []
+
+-- the calls up to the first pause, and from there to the second
+abbrev pub held_by : ℕ → List Item
+held_by n = makes 1 0 1 ∷ stores_to_first n ++ clears 1 ∷ asks ∷ []
+
+abbrev pub let_go_by : ℕ → List Item
+let_go_by n = stores_to_first n ++ asks ∷ []
+
+-- it is dead one pause after the pause that saw this
+abbrev pub letting_go_run : ℕ → List Item
+letting_go_run n =
+    held_by n
+    ++ Pause (record (quiet 1 kind.Plain []) { promoted = made 1 ∷ [] })
+    ∷ let_go_by n
+    ++ Pause (quiet 2 kind.Plain [])
+    ∷ asks
+    ∷ Pause (record (quiet 3 kind.Plain []) { dead = made 1 ∷ [] })
+    ∷ collects
+    ∷ Pause (quiet 4 kind.Collect (world_count ∷ []))
+    ∷ ends
+    ∷ Pause (quiet 5 kind.Collect (world_count ∷ []))
+    ∷ []
+
+-- where there are three references, and where one more would make it stuck
+abbrev pub LetGoIsDead : Type 0
+LetGoIsDead = IsRunOf usual_terms (letting_go 3 ∷ []) (letting_go_run 3) × IsRunOf usual_terms (letting_go (STUCK - 1) ∷ []) (letting_go_run (STUCK - 1))
+
+-- with one more its count doesn't fall, and a collecting pause sweeps it
 abbrev pub sticking_run : List Item
 sticking_run =
-    makes 1 0 1 ∷ stores 0 0 1 ∷ stores 0 1 1 ∷ stores 0 2 1 ∷ clears 1 ∷ asks
-    ∷ Pause (record (quiet 1 kind.Plain []) { promoted = made 1 ∷ []; stuck = made 1 ∷ [] })
-    ∷ stores 0 0 1 ∷ stores 0 1 1 ∷ stores 0 2 1 ∷ asks
-    ∷ Pause (quiet 2 kind.Plain [])
+    held_by STUCK
+    ++ Pause (record (quiet 1 kind.Plain []) { promoted = made 1 ∷ []; stuck = made 1 ∷ [] })
+    ∷ let_go_by STUCK
+    ++ Pause (quiet 2 kind.Plain [])
     ∷ asks
     ∷ Pause (quiet 3 kind.Plain [])
     ∷ collects
@@ -162,29 +247,4 @@ sticking_run =
     ∷ []
 
 abbrev pub StuckIsSwept : Type 0
-StuckIsSwept = IsRunOf usual_terms sticking sticking_run
-
--- ---- a count that falls to zero
-
--- the world refers to 1.1 twice, and then no more
-abbrev pub letting_go : List Op
-letting_go =
-    new 1 0 ∷ store 0 0 1 ∷ store 0 1 1 ∷ clear 1 ∷ op.Pause
-    ∷ store 0 0 1 ∷ store 0 1 1 ∷ op.Pause ∷ op.Pause
-    ∷ []
-
--- it is dead one pause after the pause that saw this
-abbrev pub letting_go_run : List Item
-letting_go_run =
-    makes 1 0 1 ∷ stores 0 0 1 ∷ stores 0 1 1 ∷ clears 1 ∷ asks
-    ∷ Pause (record (quiet 1 kind.Plain []) { promoted = made 1 ∷ [] })
-    ∷ stores 0 0 1 ∷ stores 0 1 1 ∷ asks
-    ∷ Pause (quiet 2 kind.Plain [])
-    ∷ asks
-    ∷ Pause (record (quiet 3 kind.Plain []) { dead = made 1 ∷ [] })
-    ∷ ends
-    ∷ Pause (quiet 4 kind.Collect (world_count ∷ []))
-    ∷ []
-
-abbrev pub LetGoIsDead : Type 0
-LetGoIsDead = IsRunOf usual_terms letting_go letting_go_run
+StuckIsSwept = IsRunOf usual_terms (letting_go STUCK ∷ []) sticking_run

@@ -1,5 +1,5 @@
--- Short words for histories of one thread.
-use Rattle.std.specs.Prelude.{ℕ, Some, None, List, [], ◌∷◌, reverse}
+-- Short words for histories, most of them of one thread.
+use Rattle.std.specs.Prelude.{ℕ, Option, Some, None, List, [], reverse}
 use Rattle.lxr_layout.specs.declared.Name.{Name}
 use Rattle.lxr_graph.specs.declared.Op.{Op}
 use Rattle.lxr_graph.specs.declared.Op.TheVariants as op
@@ -11,7 +11,7 @@ use Rattle.lxr_graph.specs.State.{world_name}
 use Rattle.lxr_graph.specs.History.{PauseReport, Item, Call}
 use Rattle.lxr_model.specs.Terms.{Terms}
 use Rattle.lxr_model.specs.Legal.{IsLegal}
-use Rattle.lxr_model.specs.Belongs.{Belongs}
+use Rattle.lxr_model.specs.Belongs.{Script, Belongs}
 
 -- one thread, and the numbers that a run has unless told otherwise
 abbrev pub usual_terms : Terms
@@ -35,6 +35,14 @@ store base index source = op.Store base index source
 abbrev pub load : ℕ → ℕ → ℕ → Op
 load dest base index = op.Load dest base index
 
+-- reference `index` of what `base` holds becomes what `source` holds, and then a register gets what it was
+abbrev pub swap : ℕ → ℕ → ℕ → ℕ → Op
+swap dest base index source = op.Swap dest base index source
+
+-- data word `index` of what `base` holds grows by a value
+abbrev pub add : ℕ → ℕ → ℕ → Op
+add base index value = op.Add base index value
+
 abbrev pub clear : ℕ → Op
 clear dest = op.Nil dest
 
@@ -52,6 +60,12 @@ stores base index source = does (store base index source) reply.Stored
 
 abbrev pub loads : ℕ → ℕ → ℕ → ℕ → Item
 loads dest base index serial = does (load dest base index) (reply.Loaded (Some (made serial)))
+
+abbrev pub swaps : ℕ → ℕ → ℕ → ℕ → Option Name → Item
+swaps dest base index source old = does (swap dest base index source) (reply.Swapped old)
+
+abbrev pub adds : ℕ → ℕ → ℕ → ℕ → Item
+adds base index value old = does (add base index value) (reply.Added old)
 
 abbrev pub clears : ℕ → Item
 clears dest = does (clear dest) reply.Cleared
@@ -80,7 +94,7 @@ counted serial count = record { name = made serial; count = Some count }
 
 -- ---- the claim
 
--- under these terms this history, oldest item first, is legal and belongs to the script with these operations of thread 1
-pub record IsRunOf (terms : Terms) (operations : List Op) (items : List Item) : Type 0 where
+-- under these terms this history, oldest item first, is legal and belongs to this script
+pub record IsRunOf (terms : Terms) (script : Script) (items : List Item) : Type 0 where
   pub legal : IsLegal terms (reverse items)
-  pub belongs : Belongs terms (operations ∷ []) (reverse items)
+  pub belongs : Belongs terms script (reverse items)

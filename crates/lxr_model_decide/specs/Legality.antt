@@ -1,6 +1,6 @@
 -- Whether a history is legal, computed: what may stand is tested item by item, and its replies and reports are computed
 -- again.
-use Rattle.std.specs.Prelude.{◌≡◌, ℕ, ◌+◌, ◌-◌, ◌/◌, ◌%◌, Bool, true, false, not, ◌&&◌, ◌||◌, nat_eq, nat_lt, nat_le, Option, Some, None, List, [], ◌∷◌, IsTrue}
+use Rattle.std.specs.Prelude.{◌≡◌, ℕ, ◌+◌, ◌-◌, ◌%◌, Bool, true, false, not, ◌&&◌, ◌||◌, nat_eq, nat_lt, nat_le, Option, Some, None, List, [], ◌∷◌, IsTrue}
 use Rattle.lxr_layout.specs.declared.Name.{Name}
 use Rattle.lxr_layout.specs.declared.Shape.{Shape}
 use Rattle.lxr_layout.specs.Objects.{line_count}
@@ -74,6 +74,8 @@ is_well_formed (op.Load dest base index) = nat_lt dest 16 && nat_lt base 16
 is_well_formed (op.Store base index source) = nat_lt base 16 && nat_lt source 16
 is_well_formed (op.Put base index value) = nat_lt base 16
 is_well_formed (op.Get base index) = nat_lt base 16
+is_well_formed (op.Swap dest base index source) = nat_lt dest 16 && (nat_lt base 16 && nat_lt source 16)
+is_well_formed (op.Add base index value) = nat_lt base 16
 is_well_formed (op.Move dest source) = nat_lt dest 16 && nat_lt source 16
 is_well_formed (op.Nil dest) = nat_lt dest 16
 is_well_formed (op.Same left right) = nat_lt left 16 && nat_lt right 16

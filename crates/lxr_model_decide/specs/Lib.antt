@@ -7,4 +7,5 @@ pub mod Laws
 pub mod ExampleWords
 pub mod ExampleHistories
 pub mod NearMisses
+pub mod ExampleSwaps
 pub mod Remembered

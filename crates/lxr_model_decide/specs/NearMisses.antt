@@ -1,16 +1,17 @@
--- Histories that miss to be legal, or to belong to their script, by their last report.
+-- Histories that miss to be legal, or to belong to their script, by their last item.
 use Rattle.std.specs.Prelude.{List, [], ◌∷◌, reverse}
 use Rattle.lxr_graph.specs.declared.Op.{Op}
 use Rattle.lxr_graph.specs.declared.report.Kind.TheVariants as kind
 use Rattle.lxr_graph.specs.History.{PauseReport, Item, Pause}
+use Rattle.lxr_model.specs.Terms.{Terms}
 use Rattle.lxr_model.specs.Legal.{IsLegalSoFar}
 use Rattle.lxr_model.specs.Belongs.{BelongsSoFar, IsHistorySoFar}
 use Rattle.lxr_model_decide.specs.ExampleWords.{usual_terms, made, makes, stores, clears, asks, ends, quiet, world_count, counted}
 
--- these items, oldest first, are legal as far as they go, and with this report they aren't
-pub record IsNearMiss (items : List Item) (report : PauseReport) : Type 0 where
-  pub before : IsLegalSoFar usual_terms (reverse items)
-  pub refused : IsLegalSoFar usual_terms (Pause report ∷ reverse items) → ⊥
+-- these items, oldest first, are legal as far as they go under these terms, and with this one they aren't
+pub record IsNearMiss (terms : Terms) (items : List Item) (last : Item) : Type 0 where
+  pub before : IsLegalSoFar terms (reverse items)
+  pub refused : IsLegalSoFar terms (last ∷ reverse items) → ⊥
 
 -- ---- a reachable name is dead
 
@@ -26,7 +27,7 @@ abbrev pub kept_is_dead : PauseReport
 kept_is_dead = record (quiet 2 kind.Plain []) { dead = made 1 ∷ [] }
 
 abbrev pub ReachableIsNotDead : Type 0
-ReachableIsNotDead = IsNearMiss kept_run kept_is_dead
+ReachableIsNotDead = IsNearMiss usual_terms kept_run (Pause kept_is_dead)
 
 -- ---- a cycle of garbage is dead
 
@@ -44,7 +45,7 @@ abbrev pub cycle_is_dead : PauseReport
 cycle_is_dead = record (quiet 3 kind.Plain []) { dead = made 1 ∷ made 2 ∷ [] }
 
 abbrev pub CycleIsNotDead : Type 0
-CycleIsNotDead = IsNearMiss cycle_left cycle_is_dead
+CycleIsNotDead = IsNearMiss usual_terms cycle_left (Pause cycle_is_dead)
 
 -- ---- a pause collects though nothing asked for it
 
@@ -56,7 +57,7 @@ abbrev pub collects_unasked : PauseReport
 collects_unasked = record (quiet 1 kind.Collect (world_count ∷ counted 1 1 ∷ [])) { promoted = made 1 ∷ [] }
 
 abbrev pub UnaskedCollectIsRefused : Type 0
-UnaskedCollectIsRefused = IsNearMiss paused collects_unasked
+UnaskedCollectIsRefused = IsNearMiss usual_terms paused (Pause collects_unasked)
 
 -- ---- a second pause stands behind the last end
 

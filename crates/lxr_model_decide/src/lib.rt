@@ -2,8 +2,8 @@
 //! legal and belongs to a script.
 //!
 //! The functions of this crate do nothing: the contract of each says that what a definition of `specs/` computes is what
-//! the definitions of `lxr_model` mean, or what these say of a small history that is written out whole: seven runs that are legal
-//! and belong to their scripts, four that miss it by one report, and one in which a trace remembers.
+//! the definitions of `lxr_model` mean, or what these say of a small history that is written out whole: runs that are legal and
+//! belong to their scripts, some that miss it by one item, and one in which a trace remembers.
 #![tactic(auto)]
 
 mod histories;
@@ -12,6 +12,7 @@ mod remembered;
 mod reports;
 mod runs;
 mod sets;
+mod swaps;
 
 pub use histories::{belonging, legality};
 pub use near_misses::{
@@ -21,7 +22,14 @@ pub use near_misses::{
 pub use remembered::remembered_are_summed;
 pub use reports::report_at;
 pub use runs::{
-    cycle_is_swept, full_after_collecting, let_go_is_dead, overwritten_is_not_promoted,
-    stored_again_counts_once, stuck_is_swept, trace_sweeps_cycle,
+    cycle_is_swept, full_after_collecting, held_is_the_same, let_go_is_dead,
+    overwritten_is_not_promoted, store_waits_for_log, stored_again_counts_once, stuck_is_swept,
+    trace_sweeps_cycle,
 };
 pub use sets::{dead_names, promoted_names, reachable_names};
+pub use swaps::{
+    add_does_not_stop_at_the_largest, add_does_not_tell_the_sum, add_fills_no_log,
+    add_needs_no_log, both_swaps_do_not_find_nil, either_swap_may_be_first,
+    swap_does_not_find_its_own, swap_fills_the_log, swap_reads_before_it_writes,
+    swaps_and_adds_are_steps,
+};

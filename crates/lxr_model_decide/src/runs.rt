@@ -1,5 +1,5 @@
 //! Histories that are legal and belong to their scripts.
-ghost use Rattle.lxr_model_decide.specs.ExampleHistories.{CycleIsSwept, FullAfterCollecting, LetGoIsDead, OverwrittenIsNotPromoted, StoredAgainCountsOnce, StuckIsSwept, TraceSweepsCycle};
+ghost use Rattle.lxr_model_decide.specs.ExampleHistories.{CycleIsSwept, FullAfterCollecting, HeldIsTheSame, LetGoIsDead, OverwrittenIsNotPromoted, StoreWaitsForLog, StoredAgainCountsOnce, StuckIsSwept, TraceSweepsCycle};
 
 /// Of two objects that are stored to one field between two pauses, the first is never promoted.
 pub fn overwritten_is_not_promoted()
@@ -27,12 +27,22 @@ pub fn full_after_collecting()
     ensures { FullAfterCollecting }
 {}
 
-/// An object with three references at a pause is stuck, and only a sweep reclaims it.
-pub fn stuck_is_swept()
-    ensures { StuckIsSwept }
+/// Where the log is full a store waits for a pause.
+pub fn store_waits_for_log()
+    ensures { StoreWaitsForLog }
 {}
 
-/// An object whose references are gone at a pause is dead at the next.
+/// An object that stays reachable while a trace runs is the same behind it.
+pub fn held_is_the_same()
+    ensures { HeldIsTheSame }
+{}
+
+/// An object whose references are gone at a pause is dead at the next, where they were fewer than `STUCK`.
 pub fn let_go_is_dead()
     ensures { LetGoIsDead }
+{}
+
+/// An object with `STUCK` references at a pause is stuck, and only a sweep reclaims it.
+pub fn stuck_is_swept()
+    ensures { StuckIsSwept }
 {}

@@ -5,7 +5,9 @@ use Rattle.std.proofs.lemmas.List.{length-append}
 use Rattle.std.proofs.lemmas.Bool.Decides.{eqb_tells, leb_tells}
 use borrow.Author.Tests.{ltb-true}
 use Rattle.lxr_graph.specs.declared.Op.TheVariants as op
+use Rattle.lxr_layout.specs.declared.TheConstants.{MOST_GRANULES}
 use Rattle.lxr_barrier.specs.Storing.{log_after, store_after}
+use Rattle.lxr_barrier.proofs.EndLemmas.{full_swaps_nothing}
 use Rattle.lxr_mutator.specs.declared.phases.MutEnd.TheVariants as ends
 use Rattle.lxr_mutator.specs.declared.phases.MutatorPhase.TheVariants as phase
 use Rattle.lxr_mutator.specs.declared.phases.Stop.{Stop}
@@ -61,7 +63,10 @@ found_no_run m before asked unit is =
 
 -- a store that finds the log full
 found_full : (x : Mutating) (old : ℕ) → IsLogFull x old → (after x old).phase ≡ phase.GivingUp stop.LogFull
-found_full x old (s, is, end) = ap (λ p. (next_in x p old).phase) is ∙ ap (λ e. (stored x (store_after s x.log old) (log_after s x.log old) e).phase) end
+found_full x old (s, is, end) =
+    ap (λ p. (next_in x p old).phase) is
+    ∙ ap (λ b. (if (if b then nat_le old (MOST_GRANULES) else true) then after_in x (phase.Storing s) old else done_with x reply.Bad).phase) (full_swaps_nothing s x.log old end)
+    ∙ ap (λ e. (stored x (store_after s x.log old) (log_after s x.log old) e).phase) end
 
 -- the last of its turns
 module _ (m x : Mutating) (old : ℕ) (since : x.since ≡ m.since) (every : x.every ≡ m.every) (more : x.phase ≢ phase.Finished) where

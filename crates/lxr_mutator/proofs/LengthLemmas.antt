@@ -29,6 +29,7 @@ short_in m (phase.Reference base) few = omega arith
 short_in m (phase.Referent place) few = omega arith
 short_in m (phase.Datum base refs) few = omega arith
 short_in m (phase.Putting base refs) few = omega arith
+short_in m (phase.Adding base refs) few = omega arith
 short_in m (phase.Storing store) few = omega (arith, store_short store.phase)
 short_in m phase.DrawsRun few = omega arith
 short_in m (phase.RunNumber number) few = omega arith

@@ -9,3 +9,4 @@ pub mod StayLemmas
 pub mod StepLemmas
 pub mod UnitLemmas
 pub mod CauseLemmas
+pub mod FoundLemmas

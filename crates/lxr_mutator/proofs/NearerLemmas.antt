@@ -20,8 +20,9 @@ use Rattle.lxr_barrier.specs.Storing.{Storing, end_in, end_of, phase_after, stor
 use Rattle.lxr_barrier.specs.Storers.{steps_left}
 use Rattle.lxr_mutator.specs.declared.phases.MutatorPhase.TheVariants as phase
 use Rattle.lxr_mutator.specs.declared.phases.MutEnd.TheVariants as ends
+use Rattle.lxr_mutator.specs.Operating.{dest_of, found_reply}
 use Rattle.lxr_mutator.specs.Mutating.{Mutating, nil, op_now, register, rests_in}
-use Rattle.lxr_mutator.specs.Steps.{after_in, based, done_with, draws_for, finished, has_room, in_current, in_overflow, is_medium, left_in, mutator_machine, shape_now, started, stored, with_register}
+use Rattle.lxr_mutator.specs.Steps.{accepts_in, after_in, based, done_with, draws_for, finished, has_room, in_current, in_overflow, is_medium, left_in, loaded, mutator_machine, next_in, shape_now, started, stored, with_register}
 
 -- an operation that is done leaves nothing to do
 rests_either : (m : Mutating) (b : Bool) → (if rests_in (if b then phase.Finished else phase.Ready) then 0 else left_in m (if b then phase.Finished else phase.Ready)) ≡ 0
@@ -66,6 +67,8 @@ started_to_go m (op.Load dest base index) few = omega (arith, based_to_go m (reg
 started_to_go m (op.Store base index source) few = omega (arith, based_to_go m (register m base))
 started_to_go m (op.Put base index value) few = omega (arith, based_to_go m (register m base))
 started_to_go m (op.Get base index) few = omega (arith, based_to_go m (register m base))
+started_to_go m (op.Swap dest base index source) few = omega (arith, based_to_go m (register m base))
+started_to_go m (op.Add base index value) few = omega (arith, based_to_go m (register m base))
 started_to_go m (op.Move dest source) few = omega (arith, done_to_go (with_register m dest (register m source)) reply.Moved)
 started_to_go m (op.Nil dest) few = omega (arith, done_to_go (with_register m dest nil) reply.Cleared)
 started_to_go m (op.Same left right) few = omega (arith, done_to_go m (reply.Same (nat_eq (register m left).0 (register m right).0)))
@@ -82,13 +85,23 @@ asked_by m few false = omega (arith, started_to_go m (op_now m) few)
 pub ready_nearer : (m : Mutating) (old : ℕ) → word_count (shape_now m) ≤ GRANULES_IN_BLOCK → to_go mutator_machine (after_in m phase.Ready old) < 2054
 ready_nearer m old few = asked_by m few (nat_eq old 1)
 
--- a store that has gone on takes at most its own steps, and one more where it gives up
+-- a place that was found is nil, or its name is one step away
+loaded_by : (m : Mutating) (place : Place) (r : Reply) (b : Bool) → to_go mutator_machine (if b then done_with m r else record m { phase = phase.Referent place }) ≤ 1
+loaded_by m place r true = omega (arith, done_to_go m r)
+loaded_by m place r false = omega arith
+
+-- so it is by the place
+found_to_go : (m : Mutating) (place : Place) → to_go mutator_machine (loaded m place) ≤ 1
+found_to_go m place = loaded_by (with_register m (dest_of (op_now m)) place) place (found_reply (op_now m) None) (nat_eq place.0 0)
+
+-- a store that has gone on takes at most its own steps, and one more where it gives up or has swapped
 stored_to_go : (m : Mutating) (s : Storing) (log : Roomy LogEntry) (p : StorePhase) → s.phase ≡ p → to_go mutator_machine (stored m s log (end_in p)) ≤ steps_left p + 1
 stored_to_go m s log store_phase.Begun e = omega (arith, ap steps_left e)
 stored_to_go m s log store_phase.Unlogged e = omega (arith, ap steps_left e)
 stored_to_go m s log (store_phase.Loaded old) e = omega (arith, ap steps_left e)
 stored_to_go m s log store_phase.Logged e = omega (arith, ap steps_left e)
 stored_to_go m s log (store_phase.Ended store_end.Stored) e = omega (arith, done_to_go (record m { log = log }) reply.Stored)
+stored_to_go m s log (store_phase.Ended (store_end.Swapped place)) e = omega (arith, found_to_go (record m { log = log }) place)
 stored_to_go m s log (store_phase.Ended store_end.LogFull) e = omega arith
 
 -- a look at the unlogged bit is one of its steps
@@ -105,8 +118,14 @@ phase_left s log old (store_phase.Loaded first) e = omega arith
 phase_left s log old store_phase.Logged e = omega arith
 phase_left s log old (store_phase.Ended how) e = absurd (cc)
 
--- a step of a store brings the mutator nearer
-pub storing_nearer : (m : Mutating) (s : Storing) (old : ℕ) → end_of s ≡ None → to_go mutator_machine (after_in m (phase.Storing s) old) < steps_left s.phase + 1
-storing_nearer m s old e =
+-- whether or not the word tells what the store looks for
+storing_by : (m : Mutating) (s : Storing) (old : ℕ) → end_of s ≡ None → (b : Bool)
+    → to_go mutator_machine (if b then after_in m (phase.Storing s) old else done_with m reply.Bad) < steps_left s.phase + 1
+storing_by m s old e true =
     let s' = store_after s m.log old in
     omega (arith, stored_to_go m s' (log_after s m.log old) s'.phase refl, phase_left s m.log old s.phase e)
+storing_by m s old e false = omega (arith, done_to_go m reply.Bad)
+
+-- a step of a store brings the mutator nearer
+pub storing_nearer : (m : Mutating) (s : Storing) (old : ℕ) → end_of s ≡ None → to_go mutator_machine (next_in m (phase.Storing s) old) < steps_left s.phase + 1
+storing_nearer m s old e = storing_by m s old e (accepts_in m (phase.Storing s) old)

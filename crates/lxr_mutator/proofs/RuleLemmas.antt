@@ -9,6 +9,7 @@ use Rattle.lxr_layout.specs.Objects.{header_of, word_count}
 use Rattle.lxr_base.specs.Roomy.{Roomy}
 use Rattle.lxr_graph.specs.declared.Op.{Op}
 use Rattle.lxr_graph.specs.declared.Op.TheVariants as op
+use Rattle.lxr_graph.specs.declared.Reply.{Reply}
 use Rattle.lxr_graph.specs.declared.Reply.TheVariants as reply
 use Rattle.lxr_alloc.specs.declared.Span.{Span}
 use Rattle.lxr_alloc.specs.Spans.{block_span}
@@ -20,9 +21,9 @@ use Rattle.lxr_mutator.specs.declared.phases.MutatorPhase.{MutatorPhase}
 use Rattle.lxr_mutator.specs.declared.phases.MutatorPhase.TheVariants as phase
 use Rattle.lxr_mutator.specs.declared.phases.Stop.{Stop}
 use Rattle.lxr_mutator.specs.declared.phases.Stop.TheVariants as stop
-use Rattle.lxr_mutator.specs.Operating.{dest_of, indexed_fields, index_of, shape_made}
+use Rattle.lxr_mutator.specs.Operating.{dest_of, found_reply, indexed_fields, index_of, shape_made}
 use Rattle.lxr_mutator.specs.Mutating.{Mutating, op_now, register}
-use Rattle.lxr_mutator.specs.Steps.{accepts_in, action_in, after_in, next_in, done_with, draws_for, finished, has_room, in_current, in_overflow, is_medium, reaching, shape_now, shape_told, started, stored, with_register}
+use Rattle.lxr_mutator.specs.Steps.{accepts_in, action_in, after_in, next_in, done_with, draws_for, finished, has_room, in_current, in_overflow, is_medium, loaded, reaching, shape_now, shape_told, started, stored, with_register}
 use Rattle.lxr_mutator.specs.Laws.{Finds, IsPastRuns, MutatorsDrawByRule, MutatorsGiveUpByRules}
 
 -- the phases in which a unit gives up, draws a block, or has drawn a number
@@ -52,6 +53,8 @@ reaching_on m base shape (op.Load dest b index) = refl
 reaching_on m base shape (op.Store b index source) = refl
 reaching_on m base shape (op.Put b index value) = refl
 reaching_on m base shape (op.Get b index) = refl
+reaching_on m base shape (op.Swap dest b index source) = refl
+reaching_on m base shape (op.Add b index value) = refl
 reaching_on m base shape (op.Move dest source) = refl
 reaching_on m base shape (op.Nil dest) = refl
 reaching_on m base shape (op.Same left right) = refl
@@ -64,10 +67,14 @@ reached_on : (m : Mutating) (base : Place) (shape : Shape) (b : Bool) → halts 
 reached_on m base shape true = reaching_on m base shape (op_now m)
 reached_on m base shape false = done_on halts refl refl (nat_le m.every (m.since + 1))
 
--- nor does a load
-loaded_on : (m : Mutating) (place : Place) (b : Bool) → halts (if b then done_with m (reply.Loaded None) else record m { phase = phase.Referent place }).phase ≡ false
-loaded_on m place true = done_on halts refl refl (nat_le m.every (m.since + 1))
-loaded_on m place false = refl
+-- nor does a load or a swap
+loaded_on : (m : Mutating) (place : Place) (r : Reply) (b : Bool) → halts (if b then done_with m r else record m { phase = phase.Referent place }).phase ≡ false
+loaded_on m place r true = done_on halts refl refl (nat_le m.every (m.since + 1))
+loaded_on m place r false = refl
+
+-- so it is of the place that it finds
+found_on : (m : Mutating) (place : Place) → halts (loaded m place).phase ≡ false
+found_on m place = loaded_on (with_register m (dest_of (op_now m)) place) place (found_reply (op_now m) None) (nat_eq place.0 0)
 
 -- nor wiping
 wiped_on : (place : Place) (next : ℕ) (b : Bool) → halts (if b then phase.Wiping place (next + 1) else phase.Heading place) ≡ false
@@ -95,10 +102,11 @@ plain_on : (m : Mutating) (old : ℕ) (p : MutatorPhase) → IsPlain p → halts
 plain_on m old phase.Ready is = absurd is
 plain_on m old phase.Finished is = absurd is
 plain_on m old (phase.Base base) is = reached_on m base (shape_told (header_of old)) (nat_lt (index_of (op_now m)) (indexed_fields (op_now m) (shape_told (header_of old))))
-plain_on m old (phase.Reference base) is = loaded_on (with_register m (dest_of (op_now m)) (place_in old)) (place_in old) (nat_eq (place_in old).0 0)
+plain_on m old (phase.Reference base) is = found_on m (place_in old)
 plain_on m old (phase.Referent place) is = done_on halts refl refl (nat_le m.every (m.since + 1))
 plain_on m old (phase.Datum base refs) is = done_on halts refl refl (nat_le m.every (m.since + 1))
 plain_on m old (phase.Putting base refs) is = done_on halts refl refl (nat_le m.every (m.since + 1))
+plain_on m old (phase.Adding base refs) is = done_on halts refl refl (nat_le m.every (m.since + 1))
 plain_on m old (phase.Storing store) is = absurd is
 plain_on m old phase.DrawsRun is = absurd is
 plain_on m old (phase.RunNumber number) is = absurd is
@@ -142,6 +150,8 @@ started_on m (op.Load dest base index) = based_on gives_up refl refl m (register
 started_on m (op.Store base index source) = based_on gives_up refl refl m (register m base) refl (nat_eq (register m base).0 0)
 started_on m (op.Put base index value) = based_on gives_up refl refl m (register m base) refl (nat_eq (register m base).0 0)
 started_on m (op.Get base index) = based_on gives_up refl refl m (register m base) refl (nat_eq (register m base).0 0)
+started_on m (op.Swap dest base index source) = based_on gives_up refl refl m (register m base) refl (nat_eq (register m base).0 0)
+started_on m (op.Add base index value) = based_on gives_up refl refl m (register m base) refl (nat_eq (register m base).0 0)
 started_on m (op.Move dest source) = done_on gives_up refl refl (nat_le m.every (m.since + 1))
 started_on m (op.Nil dest) = done_on gives_up refl refl (nat_le m.every (m.since + 1))
 started_on m (op.Same left right) = done_on gives_up refl refl (nat_le m.every (m.since + 1))
@@ -188,6 +198,8 @@ started_medium m (op.Load dest base index) h = absurd (clash draws _ _ h (based_
 started_medium m (op.Store base index source) h = absurd (clash draws _ _ h (based_on draws refl refl m (register m base) refl (nat_eq (register m base).0 0)) refl)
 started_medium m (op.Put base index value) h = absurd (clash draws _ _ h (based_on draws refl refl m (register m base) refl (nat_eq (register m base).0 0)) refl)
 started_medium m (op.Get base index) h = absurd (clash draws _ _ h (based_on draws refl refl m (register m base) refl (nat_eq (register m base).0 0)) refl)
+started_medium m (op.Swap dest base index source) h = absurd (clash draws _ _ h (based_on draws refl refl m (register m base) refl (nat_eq (register m base).0 0)) refl)
+started_medium m (op.Add base index value) h = absurd (clash draws _ _ h (based_on draws refl refl m (register m base) refl (nat_eq (register m base).0 0)) refl)
 started_medium m (op.Move dest source) h = absurd (clash draws _ _ h (done_on draws refl refl (nat_le m.every (m.since + 1))) refl)
 started_medium m (op.Nil dest) h = absurd (clash draws _ _ h (done_on draws refl refl (nat_le m.every (m.since + 1))) refl)
 started_medium m (op.Same left right) h = absurd (clash draws _ _ h (done_on draws refl refl (nat_le m.every (m.since + 1))) refl)
@@ -205,13 +217,20 @@ stored_full : (m : Mutating) (old : ℕ) (s s' : Storing) (log : Roomy LogEntry)
     → m.phase ≡ phase.Storing s → end_of (store_after s m.log old) ≡ e → (stored m s' log e).phase ≡ phase.GivingUp why → Finds m old why
 stored_full m old s s' log None why is end h = absurd (cc)
 stored_full m old s s' log (Some store_end.Stored) why is end h = absurd (clash gives_up _ _ h (done_on gives_up refl refl (nat_le m.every (m.since + 1))) refl)
+stored_full m old s s' log (Some (store_end.Swapped place)) why is end h = absurd (clash halts _ _ h (found_on (record m { log = log }) place) refl)
 stored_full m old s s' log (Some store_end.LogFull) stop.NoRun is end h = absurd (cc)
 stored_full m old s s' log (Some store_end.LogFull) stop.LogFull is end h = (s, is, end)
+
+-- a phase that doesn't halt draws nothing
+quiet_draws : (p : MutatorPhase) → halts p ≡ false → draws p ≡ false
+quiet_draws phase.DrawsBlock e = absurd (cc)
+quiet_draws p e = refl
 
 -- a store draws nothing
 stored_draws : (m : Mutating) (s' : Storing) (log : Roomy LogEntry) (e : Option StoreEnd) → draws (stored m s' log e).phase ≡ false
 stored_draws m s' log None = refl
 stored_draws m s' log (Some store_end.Stored) = done_on draws refl refl (nat_le m.every (m.since + 1))
+stored_draws m s' log (Some (store_end.Swapped place)) = quiet_draws (loaded (record m { log = log }) place).phase (found_on (record m { log = log }) place)
 stored_draws m s' log (Some store_end.LogFull) = refl
 
 -- a number that was drawn is past the list
@@ -246,6 +265,7 @@ finds_in m old why (phase.Reference base) is h = absurd (clash halts _ _ h (plai
 finds_in m old why (phase.Referent place) is h = absurd (clash halts _ _ h (plain_on m old (phase.Referent place) tt) refl)
 finds_in m old why (phase.Datum base refs) is h = absurd (clash halts _ _ h (plain_on m old (phase.Datum base refs) tt) refl)
 finds_in m old why (phase.Putting base refs) is h = absurd (clash halts _ _ h (plain_on m old (phase.Putting base refs) tt) refl)
+finds_in m old why (phase.Adding base refs) is h = absurd (clash halts _ _ h (plain_on m old (phase.Adding base refs) tt) refl)
 finds_in m old why (phase.Storing s) is h = stored_full m old s (store_after s m.log old) (log_after s m.log old) (end_of (store_after s m.log old)) why is refl h
 finds_in m old why phase.DrawsRun is h = absurd (cc)
 finds_in m old why (phase.RunNumber number) is h = absurd (clash gives_up _ _ h (runs_on number (nat_lt number old)) refl)
@@ -267,6 +287,7 @@ draws_in m old (phase.Reference base) is h = absurd (clash halts _ _ h (plain_on
 draws_in m old (phase.Referent place) is h = absurd (clash halts _ _ h (plain_on m old (phase.Referent place) tt) refl)
 draws_in m old (phase.Datum base refs) is h = absurd (clash halts _ _ h (plain_on m old (phase.Datum base refs) tt) refl)
 draws_in m old (phase.Putting base refs) is h = absurd (clash halts _ _ h (plain_on m old (phase.Putting base refs) tt) refl)
+draws_in m old (phase.Adding base refs) is h = absurd (clash halts _ _ h (plain_on m old (phase.Adding base refs) tt) refl)
 draws_in m old (phase.Storing s) is h = absurd (clash draws _ _ h (stored_draws m (store_after s m.log old) (log_after s m.log old) (end_of (store_after s m.log old))) refl)
 draws_in m old phase.DrawsRun is h = absurd (cc)
 draws_in m old (phase.RunNumber number) is h = inl (runs_past m old number is (nat_lt number old) refl h)
@@ -305,10 +326,17 @@ has_number (phase.RunNumber number) = true
 has_number (phase.BlockNumber number) = true
 has_number p = false
 
+-- in a phase that doesn't halt none was drawn
+quiet_number : (p : MutatorPhase) → halts p ≡ false → has_number p ≡ false
+quiet_number (phase.RunNumber number) e = absurd (cc)
+quiet_number (phase.BlockNumber number) e = absurd (cc)
+quiet_number p e = refl
+
 -- a store draws none
 stored_number : (m : Mutating) (s' : Storing) (log : Roomy LogEntry) (e : Option StoreEnd) → has_number (stored m s' log e).phase ≡ false
 stored_number m s' log None = refl
 stored_number m s' log (Some store_end.Stored) = done_on has_number refl refl (nat_le m.every (m.since + 1))
+stored_number m s' log (Some (store_end.Swapped place)) = quiet_number (loaded (record m { log = log }) place).phase (found_on (record m { log = log }) place)
 stored_number m s' log (Some store_end.LogFull) = refl
 
 -- nor does the look at how many free blocks there are
@@ -325,6 +353,7 @@ run_number_in m old number (phase.Reference base) is h = absurd (clash halts _ _
 run_number_in m old number (phase.Referent place) is h = absurd (clash halts _ _ h (plain_on m old (phase.Referent place) tt) refl)
 run_number_in m old number (phase.Datum base refs) is h = absurd (clash halts _ _ h (plain_on m old (phase.Datum base refs) tt) refl)
 run_number_in m old number (phase.Putting base refs) is h = absurd (clash halts _ _ h (plain_on m old (phase.Putting base refs) tt) refl)
+run_number_in m old number (phase.Adding base refs) is h = absurd (clash halts _ _ h (plain_on m old (phase.Adding base refs) tt) refl)
 run_number_in m old number (phase.Storing s) is h = absurd (clash has_number _ _ h (stored_number m (store_after s m.log old) (log_after s m.log old) (end_of (store_after s m.log old))) refl)
 run_number_in m old number phase.DrawsRun is h = (is, cc)
 run_number_in m old number (phase.RunNumber n) is h = absurd (clash gives_up _ _ h (runs_on n (nat_lt n old)) refl)
@@ -346,6 +375,7 @@ block_number_in m old number (phase.Reference base) is h = absurd (clash halts _
 block_number_in m old number (phase.Referent place) is h = absurd (clash halts _ _ h (plain_on m old (phase.Referent place) tt) refl)
 block_number_in m old number (phase.Datum base refs) is h = absurd (clash halts _ _ h (plain_on m old (phase.Datum base refs) tt) refl)
 block_number_in m old number (phase.Putting base refs) is h = absurd (clash halts _ _ h (plain_on m old (phase.Putting base refs) tt) refl)
+block_number_in m old number (phase.Adding base refs) is h = absurd (clash halts _ _ h (plain_on m old (phase.Adding base refs) tt) refl)
 block_number_in m old number (phase.Storing s) is h = absurd (clash has_number _ _ h (stored_number m (store_after s m.log old) (log_after s m.log old) (end_of (store_after s m.log old))) refl)
 block_number_in m old number phase.DrawsRun is h = absurd (cc)
 block_number_in m old number (phase.RunNumber n) is h = absurd (clash gives_up _ _ h (runs_on n (nat_lt n old)) refl)

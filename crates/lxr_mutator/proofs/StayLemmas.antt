@@ -25,16 +25,17 @@ use Rattle.lxr_barrier.specs.declared.machines.StorePhase.{StorePhase}
 use Rattle.lxr_barrier.specs.declared.machines.StorePhase.TheVariants as store_phase
 use Rattle.lxr_barrier.specs.declared.StoreEnd.{StoreEnd}
 use Rattle.lxr_barrier.specs.declared.StoreEnd.TheVariants as store_end
-use Rattle.lxr_barrier.specs.Storing.{Storing, bit_number, end_of, is_full, log_after, log_in, phase_after, store_after}
+use Rattle.lxr_barrier.specs.Storing.{Storing, bit_number, end_of, is_full, log_after, log_in, phase_after, store_after, swaps_next}
+use Rattle.lxr_barrier.proofs.EndLemmas.{swap_found}
 use Rattle.lxr_barrier.specs.Storers.{HasRoomIn}
 use Rattle.lxr_mutator.specs.declared.phases.MutEnd.{MutEnd}
 use Rattle.lxr_mutator.specs.declared.phases.MutEnd.TheVariants as ends
 use Rattle.lxr_mutator.specs.declared.phases.MutatorPhase.{MutatorPhase}
 use Rattle.lxr_mutator.specs.declared.phases.MutatorPhase.TheVariants as phase
 use Rattle.lxr_mutator.specs.declared.phases.Stop.TheVariants as stop
-use Rattle.lxr_mutator.specs.Operating.{dest_of, indexed_fields, index_of, shape_made}
+use Rattle.lxr_mutator.specs.Operating.{dest_of, found_reply, indexed_fields, index_of, shape_made}
 use Rattle.lxr_mutator.specs.Mutating.{Mutating, next_name, nil, op_now, register, rests_in}
-use Rattle.lxr_mutator.specs.Steps.{accepts_in, after_in, done_with, draws_for, end_by, ended, finished, has_room, in_current, in_overflow, is_medium, placed, reaching, run_in, shape_now, shape_told, started, stored, with_register}
+use Rattle.lxr_mutator.specs.Steps.{accepts_in, after_in, done_with, draws_for, end_by, ended, finished, has_room, in_current, in_overflow, is_medium, loaded, placed, reaching, run_in, shape_now, shape_told, started, stored, with_register}
 use Rattle.lxr_mutator.specs.Mutators.{AreInHeap, IsHeld, IsIn, IsMutator, IsThrough, MayBeIn, NeedsBlock, NeedsRun}
 use Rattle.lxr_mutator.specs.Laws.{MutatorsStaySo}
 use Rattle.lxr_mutator.proofs.NowLemmas.{few_words, formed_now}
@@ -184,11 +185,17 @@ based_stays : (m : Mutating) (base : Place) → IsMutator m → GoesOn m → IsH
 based_stays m base is on held true e = done_stays m reply.Bad is on
 based_stays m base is on held false e = go m (phase.Base base) is on (grind arith, held)
 
--- a place was loaded, nil or not
-loaded_stays : (m : Mutating) (place : Place) → IsMutator m → GoesOn m → IsHeld place → (b : Bool) → nat_eq place.0 0 ≡ b
-    → IsMutator (if b then done_with m (reply.Loaded None) else record m { phase = phase.Referent place })
-loaded_stays m place is on held true e = done_stays m (reply.Loaded None) is on
-loaded_stays m place is on held false e = go m (phase.Referent place) is on (grind arith, held)
+-- a place was loaded or swapped out, nil or not
+loaded_stays : (m : Mutating) (place : Place) (r : Reply) → IsMutator m → GoesOn m → IsHeld place → (b : Bool) → nat_eq place.0 0 ≡ b
+    → IsMutator (if b then done_with m r else record m { phase = phase.Referent place })
+loaded_stays m place r is on held true e = done_stays m r is on
+loaded_stays m place r is on held false e = go m (phase.Referent place) is on (grind arith, held)
+
+-- a place was found in a field
+found_stays : (m : Mutating) (place : Place) → IsMutator m → GoesOn m → IsHeld place → IsMutator (loaded m place)
+found_stays m place is on held =
+    loaded_stays (with_register m (dest_of (op_now m)) place) place (found_reply (op_now m) None) (register_stays m (dest_of (op_now m)) place is on held) (register_on m (dest_of (op_now m)) place on) held
+    (nat_eq place.0 0) refl
 
 -- a field is gone to on a base that is a place
 reaching_may : (m : Mutating) (base : Place) (shape : Shape) (o : Op) → IsPlace base → MayBeIn m (reaching m base shape o)
@@ -197,6 +204,8 @@ reaching_may m base shape (op.Load dest b index) at = at
 reaching_may m base shape (op.Store b index source) at = (tt, refl)
 reaching_may m base shape (op.Put b index value) at = at
 reaching_may m base shape (op.Get b index) at = at
+reaching_may m base shape (op.Swap dest b index source) at = (tt, refl)
+reaching_may m base shape (op.Add b index value) at = at
 reaching_may m base shape (op.Move dest source) at = tt
 reaching_may m base shape (op.Nil dest) at = tt
 reaching_may m base shape (op.Same left right) at = tt
@@ -285,13 +294,17 @@ store_room s log old (store_phase.Loaded first) room = tt
 store_room s log old store_phase.Logged room = tt
 store_room s log old (store_phase.Ended how) room = tt
 
--- a store has gone on
-stored_stays : (m : Mutating) (s : Storing) (log : Roomy LogEntry) → IsMutator m → GoesOn m → HasRoomIn s.phase log → (e : Option StoreEnd) → end_of s ≡ e → IsMutator (stored m s log e)
-stored_stays m s log is on room None end = goes_on m log m.registers m.spans (phase.Storing s) is on is.registers is.held is.spans (room, end)
-stored_stays m s log is on room (Some store_end.Stored) end =
-    done_stays (record m { log = log; phase = phase.Ready }) reply.Stored (goes_on m log m.registers m.spans phase.Ready is on is.registers is.held is.spans tt)
-    (record { turn = λ f. absurd (cc); operation = on.operation })
-stored_stays m s log is on room (Some store_end.LogFull) end = goes_on m log m.registers m.spans (phase.GivingUp stop.LogFull) is on is.registers is.held is.spans tt
+-- what it is between units with this log
+between : (m : Mutating) (log : Roomy LogEntry) → IsMutator m → GoesOn m → IsMutator (record m { log = log; phase = phase.Ready }) × GoesOn (record m { log = log; phase = phase.Ready })
+between m log is on = (goes_on m log m.registers m.spans phase.Ready is on is.registers is.held is.spans tt, record { turn = λ f. absurd (cc); operation = on.operation })
+
+-- a store has gone on; where it has swapped, it has found a place, or nil
+stored_stays : (m : Mutating) (s : Storing) (log : Roomy LogEntry) → IsMutator m → GoesOn m → HasRoomIn s.phase log → (e : Option StoreEnd) → end_of s ≡ e
+    → ((place : Place) → e ≡ Some (store_end.Swapped place) → IsHeld place) → IsMutator (stored m s log e)
+stored_stays m s log is on room None end held = goes_on m log m.registers m.spans (phase.Storing s) is on is.registers is.held is.spans (room, end)
+stored_stays m s log is on room (Some store_end.Stored) end held = let b = between m log is on in done_stays (record m { log = log; phase = phase.Ready }) reply.Stored b.0 b.1
+stored_stays m s log is on room (Some (store_end.Swapped place)) end held = let b = between m log is on in found_stays (record m { log = log; phase = phase.Ready }) place b.0 b.1 (held place refl)
+stored_stays m s log is on room (Some store_end.LogFull) end held = goes_on m log m.registers m.spans (phase.GivingUp stop.LogFull) is on is.registers is.held is.spans tt
 
 -- an operation whose turn it is, is none past the last
 within_at : (ops : List Op) (i : ℕ) → slice_index_or ops i op.End ≢ op.End → i < length ops
@@ -313,6 +326,8 @@ started_stays m (op.Load dest base index) is e now formed = based_stays m (regis
 started_stays m (op.Store base index source) is e now formed = based_stays m (register m base) is (on_ready m e (λ f. absurd (cc))) (register_held m base is formed.0) (nat_eq (register m base).0 0) refl
 started_stays m (op.Put base index value) is e now formed = based_stays m (register m base) is (on_ready m e (λ f. absurd (cc))) (register_held m base is formed) (nat_eq (register m base).0 0) refl
 started_stays m (op.Get base index) is e now formed = based_stays m (register m base) is (on_ready m e (λ f. absurd (cc))) (register_held m base is formed) (nat_eq (register m base).0 0) refl
+started_stays m (op.Swap dest base index source) is e now formed = based_stays m (register m base) is (on_ready m e (λ f. absurd (cc))) (register_held m base is formed.1) (nat_eq (register m base).0 0) refl
+started_stays m (op.Add base index value) is e now formed = based_stays m (register m base) is (on_ready m e (λ f. absurd (cc))) (register_held m base is formed) (nat_eq (register m base).0 0) refl
 started_stays m (op.Move dest source) is e now formed =
     let on = on_ready m e (λ f. absurd (cc)) in
     done_stays (with_register m dest (register m source)) reply.Moved (register_stays m dest (register m source) is on (register_held m source is formed.1)) (register_on m dest (register m source) on)
@@ -333,20 +348,25 @@ ready_stays m is e false = started_stays m (op_now m) is e refl (formed_now m is
 line_fits : (r : Run) (shape : Shape) → FitsRun r → line_count shape ≤ 1 → FitsSpan (run_span r) shape
 line_fits r shape f one = omega (arith, f.some)
 
+-- a swap that is accepted found a place, or nil
+swapped_held : (old : ℕ) (place : Place) (b : Bool) → IsTrue b → IsTrue (if b then nat_le old (MOST_GRANULES) else true) → place ≡ place_in old → IsHeld place
+swapped_held old place true swaps ok is = subst IsHeld (sym is) (grind arith)
+swapped_held old place false swaps ok is = absurd (cc)
+
 -- by its phase
 stays_in : (m : Mutating) (old : ℕ) (p : MutatorPhase) → IsMutator m → m.phase ≡ p → MayBeIn m p → IsTrue (accepts_in m p old) → IsMutator (after_in m p old)
 stays_in m old phase.Ready is e may ok = ready_stays m is e (nat_eq old 1)
 stays_in m old phase.Finished is e may ok = is
 stays_in m old (phase.Base base) is e may ok = reached_stays m base (shape_told (header_of old)) is (on_busy m (phase.Base base) is e refl) may (nat_lt (index_of (op_now m)) (indexed_fields (op_now m) (shape_told (header_of old))))
 stays_in m old (phase.Reference base) is e may ok =
-    let on = on_busy m (phase.Reference base) is e refl in
-    let held : IsHeld (place_in old) = grind arith in
-    loaded_stays (with_register m (dest_of (op_now m)) (place_in old)) (place_in old) (register_stays m (dest_of (op_now m)) (place_in old) is on held) (register_on m (dest_of (op_now m)) (place_in old) on) held (nat_eq (place_in old).0 0) refl
+    found_stays m (place_in old) is (on_busy m (phase.Reference base) is e refl) (grind arith)
 stays_in m old (phase.Referent place) is e may ok = done_stays m _ is (on_busy m (phase.Referent place) is e refl)
 stays_in m old (phase.Datum base refs) is e may ok = done_stays m _ is (on_busy m (phase.Datum base refs) is e refl)
 stays_in m old (phase.Putting base refs) is e may ok = done_stays m _ is (on_busy m (phase.Putting base refs) is e refl)
+stays_in m old (phase.Adding base refs) is e may ok = done_stays m _ is (on_busy m (phase.Adding base refs) is e refl)
 stays_in m old (phase.Storing s) is e may ok =
     stored_stays m (store_after s m.log old) (log_after s m.log old) is (on_busy m (phase.Storing s) is e refl) (store_room s m.log old s.phase may.0) (end_of (store_after s m.log old)) refl
+    (λ place swapped. let found = swap_found s m.log old place may.1 swapped in swapped_held old place (swaps_next s) found.0 ok found.1)
 stays_in m old phase.DrawsRun is e may ok = go m (phase.RunNumber old) is (on_busy m phase.DrawsRun is e refl) may
 stays_in m old (phase.RunNumber number) is e may ok = runs_stays m number old is (on_busy m (phase.RunNumber number) is e refl) may (grind arith) (nat_lt number old) refl
 stays_in m old (phase.Run number) is e may ok =
@@ -373,6 +393,7 @@ unread_busy m old (phase.Reference base) e = refl
 unread_busy m old (phase.Referent place) e = refl
 unread_busy m old (phase.Datum base refs) e = refl
 unread_busy m old (phase.Putting base refs) e = refl
+unread_busy m old (phase.Adding base refs) e = refl
 unread_busy m old (phase.Storing s) e = refl
 unread_busy m old phase.DrawsRun e = refl
 unread_busy m old (phase.RunNumber number) e = refl

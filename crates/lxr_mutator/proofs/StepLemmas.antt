@@ -10,6 +10,7 @@ use Rattle.lxr_layout.specs.Objects.{header_of, word_count}
 use Rattle.lxr_base.specs.Roomy.{Roomy}
 use Rattle.lxr_graph.specs.declared.Op.{Op}
 use Rattle.lxr_graph.specs.declared.Op.TheVariants as op
+use Rattle.lxr_graph.specs.declared.Reply.{Reply}
 use Rattle.lxr_graph.specs.declared.Reply.TheVariants as reply
 use Rattle.lxr_alloc.specs.declared.Span.{Span}
 use Rattle.lxr_alloc.specs.Spans.{block_span}
@@ -20,9 +21,9 @@ use Rattle.lxr_mutator.specs.declared.phases.MutEnd.TheVariants as ends
 use Rattle.lxr_mutator.specs.declared.phases.MutatorPhase.{MutatorPhase}
 use Rattle.lxr_mutator.specs.declared.phases.MutatorPhase.TheVariants as phase
 use Rattle.lxr_mutator.specs.declared.phases.Stop.TheVariants as stop
-use Rattle.lxr_mutator.specs.Operating.{asked_reply, dest_of, indexed_fields, index_of}
+use Rattle.lxr_mutator.specs.Operating.{asked_reply, dest_of, found_reply, indexed_fields, index_of}
 use Rattle.lxr_mutator.specs.Mutating.{Mutating, next_name, op_now, register, rests_in}
-use Rattle.lxr_mutator.specs.Steps.{accepts_in, after_in, done_with, draws_for, finished, has_room, in_current, in_overflow, is_medium, name_told, reaching, shape_now, shape_told, started, stored, with_register}
+use Rattle.lxr_mutator.specs.Steps.{accepts_in, after_in, done_with, draws_for, finished, has_room, in_current, in_overflow, is_medium, loaded, name_told, reaching, shape_now, shape_told, started, stored, with_register}
 use Rattle.lxr_mutator.specs.Laws.{MutatorsStepByRule, StepsByRule}
 use Rattle.lxr_mutator.specs.Laws.StepsByRule.{does_one, finds_asked, finds_end, gave_up, goes_on, stands_still}
 
@@ -56,6 +57,8 @@ started_by m old ready unasked (op.Load dest base index) is = based_by m old (re
 started_by m old ready unasked (op.Store base index source) is = based_by m old (register m base) (nat_eq (register m base).0 0)
 started_by m old ready unasked (op.Put base index value) is = based_by m old (register m base) (nat_eq (register m base).0 0)
 started_by m old ready unasked (op.Get base index) is = based_by m old (register m base) (nat_eq (register m base).0 0)
+started_by m old ready unasked (op.Swap dest base index source) is = based_by m old (register m base) (nat_eq (register m base).0 0)
+started_by m old ready unasked (op.Add base index value) is = based_by m old (register m base) (nat_eq (register m base).0 0)
 started_by m old ready unasked (op.Move dest source) is = does_one (with_register m dest (register m source)) reply.Moved refl refl
 started_by m old ready unasked (op.Nil dest) is = does_one (with_register m dest (record { 0 = 0 })) reply.Cleared refl refl
 started_by m old ready unasked (op.Same left right) is = does_one m (reply.Same (nat_eq (register m left).0 (register m right).0)) refl refl
@@ -78,6 +81,8 @@ reached_by m old base shape (op.Load dest b index) true is = goes_on _ refl refl
 reached_by m old base shape (op.Store b index source) true is = goes_on _ refl refl refl
 reached_by m old base shape (op.Put b index value) true is = goes_on _ refl refl refl
 reached_by m old base shape (op.Get b index) true is = goes_on _ refl refl refl
+reached_by m old base shape (op.Swap dest b index source) true is = goes_on _ refl refl refl
+reached_by m old base shape (op.Add b index value) true is = goes_on _ refl refl refl
 reached_by m old base shape (op.New dest s) true is = absurd (cc)
 reached_by m old base shape (op.Move dest source) true is = absurd (cc)
 reached_by m old base shape (op.Nil dest) true is = absurd (cc)
@@ -86,16 +91,21 @@ reached_by m old base shape op.Pause true is = absurd (cc)
 reached_by m old base shape op.Collect true is = absurd (cc)
 reached_by m old base shape op.End true is = absurd (cc)
 
--- a place is loaded
-loaded_by : (m : Mutating) (old dest : ℕ) (place : Place) (b : Bool)
-    → StepsByRule m old (if b then done_with (with_register m dest place) (reply.Loaded None) else record (with_register m dest place) { phase = phase.Referent place })
-loaded_by m old dest place true = does_one (with_register m dest place) (reply.Loaded None) refl refl
-loaded_by m old dest place false = goes_on _ refl refl refl
+-- a place is loaded or swapped out, the log being this one
+loaded_by : (m : Mutating) (old : ℕ) (log : Roomy LogEntry) (dest : ℕ) (place : Place) (r : Reply) (b : Bool)
+    → StepsByRule m old (if b then done_with (with_register (record m { log = log }) dest place) r else record (with_register (record m { log = log }) dest place) { phase = phase.Referent place })
+loaded_by m old log dest place r true = does_one (with_register (record m { log = log }) dest place) r refl refl
+loaded_by m old log dest place r false = goes_on _ refl refl refl
+
+-- the place that was found
+found_by : (m : Mutating) (old : ℕ) (log : Roomy LogEntry) (place : Place) → StepsByRule m old (loaded (record m { log = log }) place)
+found_by m old log place = loaded_by m old log (dest_of (op_now m)) place (found_reply (op_now m) None) (nat_eq place.0 0)
 
 -- a store goes on, is done, or finds the log full
 stored_by : (m : Mutating) (old : ℕ) (s : Storing) (log : Roomy LogEntry) (e : Option StoreEnd) → StepsByRule m old (stored m s log e)
 stored_by m old s log None = goes_on _ refl refl refl
 stored_by m old s log (Some store_end.Stored) = does_one (record m { log = log }) reply.Stored refl refl
+stored_by m old s log (Some (store_end.Swapped place)) = found_by m old log place
 stored_by m old s log (Some store_end.LogFull) = goes_on _ refl refl refl
 
 -- a new object is wiped
@@ -123,10 +133,11 @@ steps_in : (m : Mutating) (old : ℕ) (p : MutatorPhase) → m.phase ≡ p → S
 steps_in m old phase.Ready is = ready_by m old is
 steps_in m old phase.Finished is = stands_still is
 steps_in m old (phase.Base base) is = reached_by m old base (shape_told (header_of old)) (op_now m) (nat_lt (index_of (op_now m)) (indexed_fields (op_now m) (shape_told (header_of old)))) refl
-steps_in m old (phase.Reference base) is = loaded_by m old (dest_of (op_now m)) (place_in old) (nat_eq (place_in old).0 0)
-steps_in m old (phase.Referent place) is = does_one m (reply.Loaded (Some (name_told (header_of old)))) refl refl
+steps_in m old (phase.Reference base) is = found_by m old m.log (place_in old)
+steps_in m old (phase.Referent place) is = does_one m (found_reply (op_now m) (Some (name_told (header_of old)))) refl refl
 steps_in m old (phase.Datum base refs) is = does_one m (reply.Got old) refl refl
 steps_in m old (phase.Putting base refs) is = does_one m reply.Put refl refl
+steps_in m old (phase.Adding base refs) is = does_one m (reply.Added old) refl refl
 steps_in m old (phase.Storing s) is = stored_by m old (store_after s m.log old) (log_after s m.log old) (end_of (store_after s m.log old))
 steps_in m old phase.DrawsRun is = goes_on _ refl refl refl
 steps_in m old (phase.RunNumber number) is = run_by m old number (nat_lt number old)

@@ -33,7 +33,7 @@ ready_staged did m m' s t old is sound leads step = staged did m m' s t phase.Re
 
 -- in a store
 pub store_staged : {S : Type 0} (did : S → Mutating → ℕ → S → Type 0) (m m' : Mutating) (s t : S) (store : Storing) (old : ℕ)
-    → IsBusy m (phase.Storing store) → m' ≡ after_in m (phase.Storing store) old → did s m old t → Does mutator_machine did m s m' t
+    → IsBusy m (phase.Storing store) → m' ≡ next_in m (phase.Storing store) old → did s m old t → Does mutator_machine did m s m' t
 store_staged did m m' s t store old busy leads step = staged did m m' s t (phase.Storing store) old busy.phase leads (storing_nearer m store old busy.may.1) step
 
 -- one word fewer is left to wipe, or the header

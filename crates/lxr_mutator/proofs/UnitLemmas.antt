@@ -16,7 +16,7 @@ use Rattle.lxr_mutator.proofs.RuleLemmas.{block_number_by, give_up_by_rules, run
 use Rattle.lxr_mutator.proofs.StepLemmas.{stays, step_by_rule}
 
 -- behind one more step
-led_more : (m : Mutating) (front : List ℕ) (old : ℕ) → led m (front ++ old ∷ []) ≡ after (led m front) old
+pub led_more : (m : Mutating) (front : List ℕ) (old : ℕ) → led m (front ++ old ∷ []) ≡ after (led m front) old
 led_more m [] old = refl
 led_more m (first ∷ front) old = led_more (after m first) front old
 
@@ -52,7 +52,7 @@ record Way (m : Mutating) (front : List ℕ) (x : Mutating) : Type 0 where
   knows : Knows m front x.phase
 
 -- one more word, and another
-two_more : (before : List ℕ) (a b : ℕ) → (before ++ a ∷ []) ++ b ∷ [] ≡ before ++ a ∷ b ∷ []
+pub two_more : (before : List ℕ) (a b : ℕ) → (before ++ a ∷ []) ++ b ∷ [] ≡ before ++ a ∷ b ∷ []
 two_more before a b = append_assoc before (a ∷ []) (b ∷ [])
 
 -- of the steps so far of a unit, which led to x, and of one more
@@ -94,6 +94,7 @@ module _ (m : Mutating) (front : List ℕ) (x : Mutating) (old : ℕ) (way : Way
   knows_more (phase.Referent place) is on = tt
   knows_more (phase.Datum base refs) is on = tt
   knows_more (phase.Putting base refs) is on = tt
+  knows_more (phase.Adding base refs) is on = tt
   knows_more (phase.Storing store) is on = tt
   knows_more phase.DrawsRun is on = tt
   knows_more (phase.Run number) is on = tt

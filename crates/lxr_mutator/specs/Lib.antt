@@ -5,3 +5,4 @@ pub mod Mutators
 pub mod Seen
 pub mod Laws
 pub mod Units
+pub mod Found

@@ -51,14 +51,16 @@ abbrev pub is_new : Reply → Bool
 is_new (reply.New n) = true
 is_new r = false
 
--- a reply to a `load` that was done
+-- a reply to a `load` that was done, or to a `swap`, which loads too
 abbrev pub is_loaded : Reply → Bool
 is_loaded (reply.Loaded n) = true
+is_loaded (reply.Swapped n) = true
 is_loaded r = false
 
--- a reply to a `store` that was done
+-- a reply to a `store` that was done, or to a `swap`, which stores too
 abbrev pub is_stored : Reply → Bool
 is_stored reply.Stored = true
+is_stored (reply.Swapped n) = true
 is_stored r = false
 
 -- the reply of its last operation, if it has done one

@@ -69,6 +69,7 @@ module _ (r : Regions) (log : Roomy LogEntry) (spans : Spans) (shape : Shape) wh
   IsIn (phase.Referent place) = IsPlace place
   IsIn (phase.Datum base refs) = IsPlace base
   IsIn (phase.Putting base refs) = IsPlace base
+  IsIn (phase.Adding base refs) = IsPlace base
   IsIn (phase.Storing store) = HasRoomIn store.phase log × (end_of store ≡ None)
   IsIn phase.DrawsRun = NeedsRun spans shape
   IsIn (phase.RunNumber number) = NeedsRun spans shape

@@ -22,7 +22,7 @@ use Rattle.lxr_alloc.specs.declared.Span.{Span}
 use Rattle.lxr_alloc.specs.Spans.{granule_count, rest_of, front_of, taken_from, run_span, block_span}
 use Rattle.lxr_barrier.specs.declared.StoreEnd.{StoreEnd}
 use Rattle.lxr_barrier.specs.declared.StoreEnd.TheVariants as store_end
-use Rattle.lxr_barrier.specs.Storing.{Storing, begun, next_action, reference_word, store_after, log_after, end_of}
+use Rattle.lxr_barrier.specs.Storing.{Storing, begun, begun_swap, next_action, reference_word, store_after, log_after, end_of, swaps_next}
 use Rattle.lxr_barrier.specs.Storers.{steps_left}
 use Rattle.lxr_mutator.specs.declared.phases.MutEnd.{MutEnd}
 use Rattle.lxr_mutator.specs.declared.phases.MutEnd.TheVariants as ends
@@ -30,7 +30,7 @@ use Rattle.lxr_mutator.specs.declared.phases.MutatorPhase.{MutatorPhase}
 use Rattle.lxr_mutator.specs.declared.phases.MutatorPhase.TheVariants as phase
 use Rattle.lxr_mutator.specs.declared.phases.Stop.{Stop}
 use Rattle.lxr_mutator.specs.declared.phases.Stop.TheVariants as stop
-use Rattle.lxr_mutator.specs.Operating.{dest_of, index_of, value_of, shape_made, indexed_fields, asked_reply}
+use Rattle.lxr_mutator.specs.Operating.{dest_of, index_of, value_of, shape_made, indexed_fields, found_reply, asked_reply}
 use Rattle.lxr_mutator.specs.Mutating.{Mutating, nil, op_now, register, next_name, rests_in}
 
 -- the shape of the object that it makes
@@ -45,9 +45,13 @@ loading word = Some (record { kind = Load; word = word; operand = 0 })
 abbrev pub storing : ℕ → ℕ → Option Action
 storing word value = Some (record { kind = Store; word = word; operand = value })
 
+-- an addition to a word
+abbrev pub adding : ℕ → ℕ → Option Action
+adding word value = Some (record { kind = Add; word = word; operand = value })
+
 -- a draw from a cursor
 abbrev pub drawing : ℕ → Option Action
-drawing word = Some (record { kind = Add; word = word; operand = 1 })
+drawing word = adding word 1
 
 -- the heap word of a data word: data words stand behind the header and the references
 abbrev pub data_word : Place → ℕ → ℕ → ℕ
@@ -62,6 +66,7 @@ action_in m (phase.Reference base) = loading (reference_word base (index_of (op_
 action_in m (phase.Referent place) = loading (first_word place.0)
 action_in m (phase.Datum base refs) = loading (data_word base refs (index_of (op_now m)))
 action_in m (phase.Putting base refs) = storing (data_word base refs (index_of (op_now m))) (value_of (op_now m))
+action_in m (phase.Adding base refs) = adding (data_word base refs (index_of (op_now m))) (value_of (op_now m))
 action_in m (phase.Storing store) = next_action store
 action_in m phase.DrawsRun = drawing (m.regions.cursors + RUN_CURSOR)
 action_in m (phase.RunNumber number) = loading (m.regions.cursors + RUN_COUNT)
@@ -104,12 +109,13 @@ run_in word = record { block = word / 2 ^ 16; line = word / 2 ^ 8 % 2 ^ 8; lines
 abbrev pub is_run : Run → Bool
 is_run run = nat_lt run.block MOST_BLOCKS && (nat_le 1 run.lines && nat_le (run.line + run.lines) LINES_IN_BLOCK)
 
--- The word of its next step tells what its phase looks for: the header of an object of the heap, a reference, a count that its
--- table has room for, a run, a block. In an epoch each word does.
+-- The word of its next step tells what its phase looks for: the header of an object of the heap, a reference, also where that is swapped,
+-- a count that its table has room for, a run, a block. In an epoch each word does.
 abbrev pub accepts_in : Mutating → MutatorPhase → ℕ → Bool
 accepts_in m (phase.Base base) old = is_header old && lies_in_heap m base old
 accepts_in m (phase.Reference base) old = nat_le old (MOST_GRANULES)
 accepts_in m (phase.Referent place) old = is_header old
+accepts_in m (phase.Storing store) old = if swaps_next store then nat_le old (MOST_GRANULES) else true
 accepts_in m (phase.RunNumber number) old = nat_le (m.regions.runs + old) m.regions.frees
 accepts_in m (phase.Run number) old = is_run (run_in old)
 accepts_in m (phase.BlockNumber number) old = nat_le (m.regions.frees + old) m.regions.decs
@@ -190,6 +196,8 @@ started m (op.Load dest base index) = based m (register m base)
 started m (op.Store base index source) = based m (register m base)
 started m (op.Put base index value) = based m (register m base)
 started m (op.Get base index) = based m (register m base)
+started m (op.Swap dest base index source) = based m (register m base)
+started m (op.Add base index value) = based m (register m base)
 started m (op.Move dest source) = done_with (with_register m dest (register m source)) reply.Moved
 started m (op.Nil dest) = done_with (with_register m dest nil) reply.Cleared
 started m (op.Same left right) = done_with m (reply.Same (nat_eq (register m left).0 (register m right).0))
@@ -203,6 +211,8 @@ reaching m base shape (op.Load dest b index) = phase.Reference base
 reaching m base shape (op.Store b index source) = phase.Storing (begun m.regions base index (register m source))
 reaching m base shape (op.Put b index value) = phase.Putting base shape.refs
 reaching m base shape (op.Get b index) = phase.Datum base shape.refs
+reaching m base shape (op.Swap dest b index source) = phase.Storing (begun_swap m.regions base index (register m source))
+reaching m base shape (op.Add b index value) = phase.Adding base shape.refs
 reaching m base shape o = phase.Ready
 
 -- the base has this shape: the operation goes on at its field, if there is one of this index
@@ -211,16 +221,17 @@ reached m base shape =
     if nat_lt (index_of (op_now m)) (indexed_fields (op_now m) shape) then record m { phase = reaching m base shape (op_now m) }
     else done_with m reply.Range
 
--- this place was loaded
+-- this place was found in the field: its register holds it, and its name is looked up unless it is nil
 abbrev pub loaded : Mutating → Place → Mutating
 loaded m place =
     let m' = with_register m (dest_of (op_now m)) place in
-    if nat_eq place.0 0 then done_with m' (reply.Loaded None) else record m' { phase = phase.Referent place }
+    if nat_eq place.0 0 then done_with m' (found_reply (op_now m) None) else record m' { phase = phase.Referent place }
 
 -- its store has gone on, with this log, and has ended so
 abbrev pub stored : Mutating → Storing → Roomy LogEntry → Option StoreEnd → Mutating
 stored m store log None = record m { log = log; phase = phase.Storing store }
 stored m store log (Some store_end.Stored) = done_with (record m { log = log }) reply.Stored
+stored m store log (Some (store_end.Swapped old)) = loaded (record m { log = log }) old
 stored m store log (Some store_end.LogFull) = record m { log = log; phase = phase.GivingUp stop.LogFull }
 
 -- the words of the new object up to this one are wiped
@@ -239,9 +250,10 @@ after_in m phase.Ready old = if nat_eq old 1 then finished m ends.Asked else sta
 after_in m phase.Finished old = m
 after_in m (phase.Base base) old = reached m base (shape_told (header_of old))
 after_in m (phase.Reference base) old = loaded m (place_in old)
-after_in m (phase.Referent place) old = done_with m (reply.Loaded (Some (name_told (header_of old))))
+after_in m (phase.Referent place) old = done_with m (found_reply (op_now m) (Some (name_told (header_of old))))
 after_in m (phase.Datum base refs) old = done_with m (reply.Got old)
 after_in m (phase.Putting base refs) old = done_with m reply.Put
+after_in m (phase.Adding base refs) old = done_with m (reply.Added old)
 after_in m (phase.Storing store) old = let store' = store_after store m.log old in stored m store' (log_after store m.log old) (end_of store')
 after_in m phase.DrawsRun old = record m { phase = phase.RunNumber old }
 after_in m (phase.RunNumber number) old = record m { phase = if nat_lt number old then phase.Run number else phase.DrawsBlock }
@@ -271,6 +283,7 @@ left_in m (phase.Reference base) = 2
 left_in m (phase.Referent place) = 1
 left_in m (phase.Datum base refs) = 1
 left_in m (phase.Putting base refs) = 1
+left_in m (phase.Adding base refs) = 1
 left_in m (phase.Storing store) = steps_left store.phase + 1
 left_in m phase.DrawsRun = 2053
 left_in m (phase.RunNumber number) = 2052

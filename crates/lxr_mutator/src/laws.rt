@@ -1,6 +1,7 @@
 //! What holds of every mutator. The functions do nothing: the contract of each is the law, and whoever calls one knows
 //! it.
 ghost use Rattle.lxr_mutator.specs.Laws.{MutatorsDrawByRule, MutatorsGiveUpByRules, MutatorsStaySo, MutatorsStepByRule, UnitsAreShort};
+ghost use Rattle.lxr_mutator.specs.Found.{AddsTellWhatTheyFind, SwapsTellWhatTheyFind};
 ghost use Rattle.lxr_mutator.specs.Units.{CausesEndUnits, UnitsEndByRules};
 
 /// A unit has at most 8,192 steps.
@@ -41,4 +42,11 @@ pub fn units_end_by_rules()
 /// And the other way round: a unit whose steps were so ended so.
 pub fn causes_end_units()
     ensures { CausesEndUnits }
+{}
+
+/// A unit of a swap tells what its step that swapped has found, and leaves that in its register; it replies `bad` or `range` only where its base is
+/// nil or has no such reference. A unit of an add tells the word that its addition has found.
+pub fn swaps_and_adds_tell_what_they_find()
+    ensures swaps { SwapsTellWhatTheyFind }
+    ensures adds { AddsTellWhatTheyFind }
 {}

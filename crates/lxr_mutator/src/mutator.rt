@@ -230,7 +230,7 @@ impl Mutator {
         self.registers[usize::from(number)]
     }
 
-    /// The references that it was the first to store to in this epoch, with their old values.
+    /// The references that it was the first to write in this epoch, with their old values.
     pub fn log(&self) -> &Log
         ensures { result.now ≡ self.now.log }
     {

@@ -2,12 +2,12 @@
 ghost use Rattle.std.specs.Prelude.{◌≡◌, ◌<◌};
 ghost use Rattle.lxr_layout.specs.Objects.{FitsShape};
 ghost use Rattle.lxr_graph.specs.Step.{IsWellFormed};
-ghost use Rattle.lxr_mutator.specs.Operating.{asked_reply, dest_of, indexed_fields, index_of, shape_made, value_of};
+ghost use Rattle.lxr_mutator.specs.Operating.{asked_reply, dest_of, found_reply, indexed_fields, index_of, shape_made, value_of};
 
 use lxr_graph::{Op, Reply};
-use lxr_layout::Shape;
+use lxr_layout::{Name, Shape};
 
-/// The register that gets what `new` makes or `load` loads; 0 for all else.
+/// The register that gets what `new` makes, `load` loads or `swap` swaps out; 0 for all else.
 #[inline(always)]
 pub fn dest_of(op: Op) -> u8
     requires { IsWellFormed op }
@@ -17,6 +17,7 @@ pub fn dest_of(op: Op) -> u8
     match op {
         Op::New { dest, .. } => dest,
         Op::Load { dest, .. } => dest,
+        Op::Swap { dest, .. } => dest,
         _ => 0,
     }
 }
@@ -31,17 +32,20 @@ pub fn index_of(op: Op) -> u16
         Op::Store { index, .. } => index,
         Op::Put { index, .. } => index,
         Op::Get { index, .. } => index,
+        Op::Swap { index, .. } => index,
+        Op::Add { index, .. } => index,
         _ => 0,
     }
 }
 
-/// What `put` stores; 0 for all else.
+/// What `put` stores or `add` adds; 0 for all else.
 #[inline(always)]
 pub fn value_of(op: Op) -> u64
     ensures { result ≡ value_of op }
 {
     match op {
         Op::Put { value, .. } => value,
+        Op::Add { value, .. } => value,
         _ => 0,
     }
 }
@@ -59,8 +63,8 @@ pub fn shape_made(op: Op) -> Shape
     }
 }
 
-/// How many fields a base of this shape has of the kind that the operation indexes: references for `load` and `store`,
-/// data words for `put` and `get`.
+/// How many fields a base of this shape has of the kind that the operation indexes: references for `load`, `store`
+/// and `swap`, data words for `put`, `get` and `add`.
 #[inline(always)]
 pub fn indexed_fields(op: Op, shape: Shape) -> u16
     ensures { result ≡ indexed_fields op shape }
@@ -70,7 +74,20 @@ pub fn indexed_fields(op: Op, shape: Shape) -> u16
         Op::Store { .. } => shape.refs,
         Op::Put { .. } => shape.values,
         Op::Get { .. } => shape.values,
+        Op::Swap { .. } => shape.refs,
+        Op::Add { .. } => shape.values,
         _ => 0,
+    }
+}
+
+/// The reply that tells which object a `load` or a `swap` has found in its field, or none.
+#[inline(always)]
+pub fn found_reply(op: Op, found: Option<Name>) -> Reply
+    ensures { result ≡ found_reply op found }
+{
+    match op {
+        Op::Swap { .. } => Reply::Swapped(found),
+        _ => Reply::Loaded(found),
     }
 }
 

@@ -14,7 +14,7 @@ pub enum MutEnd {
     OpDone(Reply),
     /// A `new` found neither lines of its own, nor a run, nor a free block. It waits to be served or refused.
     NoRun,
-    /// A store whose old value is to be recorded found the log full. It is to be done again after the pause.
+    /// A store or a swap whose old value is to be recorded found the log full. It is to be done again after the pause.
     LogFull,
     /// The pause word was 1. The operation is to be begun again after the pause.
     Asked,
@@ -43,9 +43,9 @@ pub struct Waiting {
 pub struct MutTally {
     /// Objects that `new` made.
     pub news: u32,
-    /// References that `load` loaded, nil or not.
+    /// References that `load` or `swap` loaded, nil or not.
     pub loads: u32,
-    /// References that `store` stored.
+    /// References that `store` or `swap` stored.
     pub stores: u32,
 }
 
@@ -60,6 +60,10 @@ impl MutTally {
             Reply::New(_) => self.news += 1,
             Reply::Loaded(_) => self.loads += 1,
             Reply::Stored => self.stores += 1,
+            Reply::Swapped(_) => {
+                self.loads += 1;
+                self.stores += 1;
+            }
             _ => {}
         }
     }
@@ -76,13 +80,15 @@ pub enum MutatorPhase {
     Base { base: Place },
     /// Loads the reference that `load` asks for.
     Reference { base: Place },
-    /// Loads the header of what was loaded, for its name.
+    /// Loads the header of what was loaded or swapped out, for its name.
     Referent { place: Place },
     /// Loads the data word that `get` asks for, behind so many references.
     Datum { base: Place, refs: u16 },
     /// Stores to the data word that `put` names, behind so many references.
     Putting { base: Place, refs: u16 },
-    /// Stores a reference behind the barrier.
+    /// Adds to the data word that `add` names, behind so many references.
+    Adding { base: Place, refs: u16 },
+    /// Stores or swaps a reference behind the barrier.
     Storing(StoreMachine),
     /// Draws the number of a run.
     DrawsRun,

@@ -61,10 +61,3 @@ none_once_reclaimed t u block dones before k above below = dones k ∙ (elim (eq
   | inl q ↦ ap (λ z. cond z false (t.dones k)) q.0
   | inr q ↦ let h = q.1 in ap (λ z. cond z false (t.dones k)) q.0 ∙ before k above (omega (arith, h, below))
 ])
-
--- where nothing is wanted, nothing is to be cleared
-pub none_to_clear : (t : Tables) (block : ℕ) → NoneWanted t Handled (GRANULES_IN_BLOCK * block) (GRANULES_IN_BLOCK * (block + 1)) → (k : ℕ) → t.dones k ≡ (if k / GRANULES_IN_BLOCK == block then false else t.dones k)
-none_to_clear t block none k = elim (eqb_tells (k / GRANULES_IN_BLOCK) block) [
-  | inl q ↦ let h = q.1 in none k (omega (arith, h)) (omega (arith, h)) ∙ sym (ap (λ z. cond z false (t.dones k)) q.0)
-  | inr q ↦ sym (ap (λ z. cond z false (t.dones k)) q.0)
-]

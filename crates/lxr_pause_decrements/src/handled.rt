@@ -18,7 +18,7 @@ ghost use Rattle.lxr_pause_decrements.specs.Steps.{MayReclaimAllHandled, Reclaim
 use crate::reclaiming::{clear_line_marks, clear_logs};
 use lxr_base::take_bit;
 use lxr_image::Space;
-use lxr_image_search::{Wanted, may_want};
+use lxr_image_search::{Wanted, next_block};
 use lxr_layout::{GRANULES_IN_BLOCK, Header, unpack, words_of};
 
 /// How many words of bits a block has, a bit for each granule.
@@ -123,26 +123,15 @@ fn reclaim_block(space: &mut Space, block: u32)
     clear_block(space, block);
 }
 
-/// Reclaims the handled objects that begin in a block, where there may be some.
-fn reclaim_wanted(space: &mut Space, block: u32)
-    requires stage { MayReclaimAllHandled space.old }
-    requires block { block < space.old.limits.blocks }
-    ensures reclaims { ReclaimsSomeHandled space.old space.new }
-    ensures dones { (k : ℕ) → (tables_of space.new).dones k ≡ (if k / GRANULES_IN_BLOCK == block then false else (tables_of space.old).dones k) }
-    ensures keeps { Keeps space.old space.new }
-{
-    if may_want(space, Wanted::Handled, block) {
-        reclaim_block(space, block);
-    }
-}
-
-/// Reclaims each object that a decrementer has handled.
+/// Reclaims each object that a decrementer has handled. Blocks whose state is Free have none, and are passed over.
 pub(crate) fn reclaim_all_handled(space: &mut Space)
     requires { MayReclaimAllHandled space.old }
     ensures reclaims { ReclaimsAllHandled space.old space.new }
     ensures keeps { Keeps space.old space.new }
 {
-    for block in 0..space.limits.blocks {
-        reclaim_wanted(space, block);
+    let mut from = 0;
+    while let Some(block) = next_block(space, Wanted::Handled, from) {
+        reclaim_block(space, block);
+        from = block + 1;
     }
 }

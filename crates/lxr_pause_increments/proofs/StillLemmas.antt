@@ -1,9 +1,9 @@
--- The lines that are out are cleared block by block, by the words of their bits.
-use Rattle.std.proofs.Common.{◌≡◌, ℕ, ◌+◌, ◌*◌, ◌/◌, ◌≤◌, refl, sym, ap, ◌∙◌, arith, lit<, Bool, true, false, cond, List, [], inl, inr}
-use Rattle.std.specs.Prelude.{◌==◌, if◌then◌else◌, nat_lt, slice_index, slice_index_or, IsTrue}
+-- The lines that are out are cleared block by block, by the words of their bits; Free blocks are passed over.
+use Rattle.std.proofs.Common.{◌≡◌, ℕ, ◌+◌, ◌*◌, ◌/◌, ◌<◌, ◌≤◌, refl, sym, ap, ◌∙◌, arith, lit<, Bool, true, false, cond, List, []}
+use Rattle.std.specs.Prelude.{◌==◌, if◌then◌else◌, nat_lt, slice_index, slice_index_or}
 use Rattle.std.proofs.Math.ListN.{get_or-eq_default}
 use Rattle.std.proofs.lemmas.Bool.{false_from_ne_true}
-use Rattle.std.proofs.lemmas.Bool.Decides.{nat_tests, eqb_tells}
+use Rattle.std.proofs.lemmas.Bool.Decides.{nat_tests}
 use Rattle.lxr_layout.specs.declared.TheConstants.{LINES_IN_BLOCK}
 use Rattle.lxr_layout.specs.declared.limits.Limits.{Limits}
 use Rattle.lxr_layout.specs.Spaces.{all_regions, region_begin, region_sizes}
@@ -13,7 +13,8 @@ use Rattle.lxr_image.specs.Spaces.{IsSpace, Turns, tables_of}
 use Rattle.lxr_image.specs.Tables.{Tables, cut, tables_in}
 use Rattle.lxr_image.proofs.RegionLemmas.{length_region_table}
 use Rattle.lxr_blocks.specs.declared.states.BlockState.TheVariants.{Free}
-use Rattle.lxr_blocks.specs.States.{state_in, state_of}
+use Rattle.lxr_blocks.specs.States.{AreFreeBlocks, state_in, state_of}
+use Rattle.lxr_image_search.proofs.ClearingLemmas.{cleared_further}
 use Rattle.lxr_pause_increments.specs.Clearing.{OutsAvoidFree, without_outs_of}
 
 -- past the heap's last line none is out
@@ -45,24 +46,18 @@ outs_more a b c k before one = record {
     step : (line : ℕ) → (if line / LINES_IN_BLOCK == k then false else out_behind (tables_of a).outs (LINES_IN_BLOCK * k) line) ≡ out_behind (tables_of a).outs (LINES_IN_BLOCK * (k + 1)) line
     step line = grind (arith, nat_tests)
 
--- a block whose state is Free has none
-pub outs_of_free : (s : Space) (k : ℕ) → OutsAvoidFree (tables_of s) → state_in (tables_of s) k ≡ Free → Turns s s (without_outs_of (tables_of s) k)
-outs_of_free s k avoid free = record { tables = λ i. record (tables_of s) { outs = λ line. none line i }; rest = refl }
+-- blocks whose state is Free have none
+pub outs_passed : (a b : Space) (from end : ℕ) → OutsAvoidFree (tables_of a) → from ≤ end → AreFreeBlocks (tables_of b) from end
+    → Turns a b (record (tables_of a) { outs = out_behind (tables_of a).outs (LINES_IN_BLOCK * from) }) → Turns a b (record (tables_of a) { outs = out_behind (tables_of a).outs (LINES_IN_BLOCK * end) })
+outs_passed a b from end avoid past free turns = record { tables = turns.tables ∙ (λ i. record (tables_of a) { outs = λ line. passed line i }); rest = turns.rest }
   where
-    none : (line : ℕ) → (tables_of s).outs line ≡ (if line / LINES_IN_BLOCK == k then false else (tables_of s).outs line)
-    none line = elim (eqb_tells (line / LINES_IN_BLOCK) k) [
-      | inl e ↦ false_from_ne_true ((tables_of s).outs line) (λ out. avoid line out (ap (state_in (tables_of s)) e.1 ∙ free)) ∙ sym (ap (λ b. if b then false else (tables_of s).outs line) e.0)
-      | inr e ↦ sym (ap (λ b. if b then false else (tables_of s).outs line) e.0)
-    ]
+    block_free : (block : ℕ) → from ≤ block → block < end → state_in (tables_of a) block ≡ Free
+    block_free block above below = sym (ap (λ t. state_of (t.states block)) turns.tables) ∙ free block above below
 
--- so it stays while lines are forgotten
-pub outs_avoid_still : (a b : Space) (k : ℕ) → Turns a b (record (tables_of a) { outs = out_behind (tables_of a).outs k }) → OutsAvoidFree (tables_of a) → OutsAvoidFree (tables_of b)
-outs_avoid_still a b k turns avoid line out free =
-    avoid line (was (nat_lt line k) (sym (ap (λ t. t.outs line) turns.tables) ∙ out)) (sym (ap (λ t. state_of (t.states (line / LINES_IN_BLOCK))) turns.tables) ∙ free)
-  where
-    was : (past : Bool) → IsTrue (if past then false else (tables_of a).outs line) → IsTrue ((tables_of a).outs line)
-    was true h = absurd (let no : false ≡ true = h in cc)
-    was false h = h
+    passed : (line : ℕ) → out_behind (tables_of a).outs (LINES_IN_BLOCK * from) line ≡ out_behind (tables_of a).outs (LINES_IN_BLOCK * end) line
+    passed line =
+        cleared_further (tables_of a).outs (LINES_IN_BLOCK * from) (LINES_IN_BLOCK * end) line (omega (arith, past))
+        (λ above below. false_from_ne_true ((tables_of a).outs line) (λ out. avoid line out (block_free (line / LINES_IN_BLOCK) (omega (arith, above)) (omega (arith, below)))))
 
 pub outs_end : (s b : Space) (k : ℕ) → IsSpace s → k ≡ LINES_IN_BLOCK * s.limits.blocks → Turns s b (record (tables_of s) { outs = out_behind (tables_of s).outs k }) → Turns s b (record (tables_of s) { outs = λ line. false })
 outs_end s b k space end turns = record { tables = turns.tables ∙ (λ i. record (tables_of s) { outs = λ line. none line i }); rest = turns.rest }

@@ -46,7 +46,7 @@ pub record IsHolder (m : Moment) (st : IncrementStage) (u : Name) (place : ℕ) 
   pub known : IsTrue (has m.unreclaimed u) ⊎ IsTrue (has st.promoted u)
   pub stands : place ≡ st.now u
 
--- a reference of it that is to be raised: of a promoted object, or one that was stored to since the last pause
+-- a reference of it that is to be raised: of a promoted object, or one that was written since the last pause
 pub record IsRaisable (m : Moment) (st : IncrementStage) (u : Name) (i : ℕ) : Type 0 where
   pub within : i < length (references_at m u)
   pub changes : IsTrue (has st.promoted u) ⊎ IsTrue (has_field m.written (u, i))
@@ -93,7 +93,7 @@ pub record GoesOn (before after : Space) (m : Moment) (st later : IncrementStage
 
 -- ---- stages
 
--- how often each name is raised, by how many references, and by which of those that were stored to
+-- how often each name is raised, by how many references, and by which of those that were written
 pub record Raisings : Type 0 where
   pub times : Name → ℕ
   pub fields : ℕ
@@ -103,7 +103,7 @@ pub record Raisings : Type 0 where
 abbrev pub none_raised : Raisings
 none_raised = record { times = λ o. 0; fields = 0; written = [] }
 
--- No more references were remembered since increments began than were raised: so many of those that were stored to, and those of each
+-- No more references were remembered since increments began than were raised: so many of those that were written, and those of each
 -- promoted object that isn't in the worklist, but for so many that are still pending.
 pub record IsFew (s : Space) (m : Moment) (st : IncrementStage) (base pending : ℕ) : Type 0 where
   pub cursor : (tables_of s).cursors REMEMBERED_CURSOR + pending ≤ (tables_of st.found).cursors REMEMBERED_CURSOR + base + reference_slots m.state.graph (without st.promoted st.work)

@@ -43,7 +43,7 @@ pub record IncrementStage : Type 0 where
 abbrev pub first_stage : (Name → ℕ) → Space → IncrementStage
 first_stage at found = record { promoted = []; work = []; added = λ n. 0; now = at; found = found }
 
--- a reference was raised: it is one of a promoted object or was stored to, and what it holds is known
+-- a reference was raised: it is one of a promoted object or was written, and what it holds is known
 pub record WasRaised (m : Moment) (st : IncrementStage) (u : Name) (i : ℕ) : Type 0 where
   pub holder : IsTrue (has (with_promoted m st.promoted) u)
   pub changes : IsTrue (has st.promoted u) ⊎ IsTrue (has_field m.written (u, i))

@@ -44,7 +44,7 @@ RaisesGrays (Some trace) before after entries =
 
 -- Counts are raised, and what the report has is what was promoted and became stuck. The promoted objects are copied where lines fit
 -- them, and stand at their new places, which registers hold. While a trace runs, what is promoted is marked, and what logged references
--- held is made gray. Each reference of a promoted object, and each that was stored to, is remembered where it leads into a Chosen block,
+-- held is made gray. Each reference of a promoted object, and each that was written, is remembered where it leads into a Chosen block,
 -- and no more are remembered than there are such references: one number is drawn for each that leads into a Chosen block and is entered, for
 -- none twice, and no other. Other lists and the entries of the table of decrements stay, and no block
 -- has become Chosen or World or ceased to be so; no promoted object stands in a Chosen block. Nothing else has changed, but that no line

@@ -16,7 +16,7 @@ ghost use Rattle.lxr_pause_increments.specs.Steps.{Empties, FixesFieldWith, HasH
 use crate::counts::raise;
 use crate::remembering::remember_held;
 use crate::tracing::gray_old_values;
-use lxr_blocks::{BlockState, state};
+use lxr_blocks::next_in_use;
 use lxr_image::Space;
 use lxr_layout::{Place, field_word};
 use lxr_pause_promote::Shortage;
@@ -176,31 +176,26 @@ fn raise_registers(space: &mut Space, shortage: &mut Shortage)
     }
 }
 
-/// Forgets the lines of a block that were handed out, those of a word of their bits at a time. Of a block whose state is Free none
-/// was, and nothing but its state is read.
+/// Forgets the lines of a block that were handed out, those of a word of their bits at a time.
 fn clear_block(space: &mut Space, block: u32)
     requires space { IsSpace space.old }
     requires block { block < space.old.limits.blocks }
-    requires free { OutsAvoidFree (tables_of space.old) }
     ensures { Turns space.old space.new (without_outs_of (tables_of space.old) block) }
 {
-    match state(space, block) {
-        BlockState::Free => {}
-        BlockState::Partly | BlockState::Whole | BlockState::Chosen | BlockState::World => {
-            space.clear_out_word(2 * block);
-            space.clear_out_word(2 * block + 1);
-        }
-    }
+    space.clear_out_word(2 * block);
+    space.clear_out_word(2 * block + 1);
 }
 
-/// Forgets all lines that were handed out. A block whose state is Free costs one read.
+/// Forgets all lines that were handed out. Blocks whose state is Free have none, and are passed over.
 fn clear_outs(space: &mut Space)
     requires space { IsSpace space.old }
     requires free { OutsAvoidFree (tables_of space.old) }
     ensures { Turns space.old space.new (record (tables_of space.old) { outs = λ line. false }) }
 {
-    for block in 0..space.limits.blocks {
+    let mut from = 0;
+    while let Some(block) = next_in_use(space, from) {
         clear_block(space, block);
+        from = block + 1;
     }
 }
 

@@ -43,11 +43,12 @@ none_told t from (suc k) past none = elim (leb_tells (suc k) from) [
       entries_stay t k (none k before (omega arith)) ∙ none_told t from k before (λ g above below. none g above (omega (arith, below)))
 ]
 
--- where none is wanted in a block, nothing more is told behind it
-pub no_more_told : (s : Space) (b : ℕ) → s.report.counts.items ≡ entries_below (tables_of s) (GRANULES_IN_BLOCK * b) → NoneWanted (tables_of s) Object (GRANULES_IN_BLOCK * b) (GRANULES_IN_BLOCK * (b + 1))
-    → s ≡ with_counts s (entries_below (tables_of s) (GRANULES_IN_BLOCK * (b + 1)))
-no_more_told s b told none =
-    ap {A = List Count} (with_counts s) (told ∙ sym (none_told (tables_of s) (GRANULES_IN_BLOCK * b) (GRANULES_IN_BLOCK * (b + 1)) (omega arith) (λ g above below. none g above below)))
+-- where none is wanted up to a block, nothing more is told before it
+pub none_more_told : (s mid : Space) (from end : ℕ) → mid ≡ with_counts s (entries_below (tables_of s) (GRANULES_IN_BLOCK * from)) → from ≤ end
+    → NoneWanted (tables_of mid) Object (GRANULES_IN_BLOCK * from) (GRANULES_IN_BLOCK * end) → mid ≡ with_counts s (entries_below (tables_of s) (GRANULES_IN_BLOCK * end))
+none_more_told s mid from end told past none =
+    let none_there = subst (λ t. NoneWanted t Object (GRANULES_IN_BLOCK * from) (GRANULES_IN_BLOCK * end)) (ap tables_of told) none in
+    told ∙ ap {A = List Count} (with_counts s) (sym (none_told (tables_of s) (GRANULES_IN_BLOCK * from) (GRANULES_IN_BLOCK * end) (omega (arith, past)) (λ g above below. none_there g above below)))
 
 -- ---- how many there are
 
@@ -145,3 +146,8 @@ module _ (s mid : Space) (at word rest from : ℕ) (is : AreToldTo s mid at word
 -- nothing is told at its begin
 pub begins_with_none : (s : Space) → s.report.counts.items ≡ [] → s ≡ with_counts s (entries_below (tables_of s) 0)
 begins_with_none s empty = ap (with_counts s) (empty ∙ sym (none_below (tables_of s)))
+
+-- the objects of one block more are told
+pub told_then : (s mid new : Space) (from end : ℕ) → mid ≡ with_counts s (entries_below (tables_of s) from) → new ≡ with_counts mid (entries_below (tables_of mid) end)
+    → new ≡ with_counts s (entries_below (tables_of s) end)
+told_then s mid new from end told more = more ∙ ap (λ (z : Space). with_counts z (entries_below (tables_of z) end)) told

@@ -1,7 +1,7 @@
 //! Telling the count of each unreclaimed object.
 //!
 //! Where a pause has finished its decrements and nothing waits, a count is the number of references to the object from
-//! unreclaimed ones and from registers. A count has two bits, so one that reached its greatest is stuck, as in LXR (Zhao,
+//! unreclaimed ones and from registers. A count has `COUNT_BITS` bits, so one that reached its greatest is stuck, as in LXR (Zhao,
 //! Blackburn and McKinley, 2022), and tells no number.
 ghost use Rattle.std.specs.Prelude.{◌≡◌, ℕ, ◌+◌, ◌*◌, ◌<◌, ◌≤◌, ◌++◌, [], length};
 ghost use Rattle.lxr_layout.specs.declared.TheConstants.{GRANULES_IN_BLOCK};
@@ -16,7 +16,7 @@ ghost use Rattle.lxr_pause_queue.specs.Entries.{count_told, entries_below, entry
 use lxr_base::take_bit;
 use lxr_graph::{Count, sort_by_name};
 use lxr_image::Space;
-use lxr_image_search::{Wanted, may_want};
+use lxr_image_search::{Wanted, next_block};
 use lxr_layout::{Header, STUCK, unpack};
 
 /// A count as a report tells it: none where it is stuck.
@@ -67,21 +67,8 @@ fn add_words(space: &mut Space, block: u32)
     }
 }
 
-/// Adds those of the objects that begin in a block, where it may have some. A block whose state is Free costs one read.
-fn add_block(space: &mut Space, block: u32)
-    requires space { IsSpace space.old }
-    requires free { AvoidsFree (tables_of space.old) Object }
-    requires block { block < space.old.limits.blocks }
-    requires room { GRANULES_IN_BLOCK * space.old.limits.blocks ≤ space.old.report.counts.room }
-    requires told { space.old.report.counts.items ≡ entries_below (tables_of space.old) (GRANULES_IN_BLOCK * block) }
-    ensures { space.new ≡ with_counts space.old (entries_below (tables_of space.old) (GRANULES_IN_BLOCK * (block + 1))) }
-{
-    if may_want(space, Wanted::Object, block) {
-        add_words(space, block);
-    }
-}
-
-/// Adds the name and the count of each unreclaimed object, as they stand in the heap.
+/// Adds the name and the count of each unreclaimed object, as they stand in the heap. Blocks whose state is Free have none, and are
+/// passed over.
 fn add_counts(space: &mut Space)
     requires space { IsSpace space.old }
     requires free { AvoidsFree (tables_of space.old) Object }
@@ -89,8 +76,10 @@ fn add_counts(space: &mut Space)
     requires room { GRANULES_IN_BLOCK * space.old.limits.blocks ≤ space.old.report.counts.room }
     ensures { space.new ≡ with_counts space.old (entries_below (tables_of space.old) (GRANULES_IN_BLOCK * space.old.limits.blocks)) }
 {
-    for block in 0..space.limits.blocks {
-        add_block(space, block);
+    let mut from = 0;
+    while let Some(block) = next_block(space, Wanted::Object, from) {
+        add_words(space, block);
+        from = block + 1;
     }
 }
 

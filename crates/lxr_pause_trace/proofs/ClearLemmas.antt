@@ -1,9 +1,9 @@
--- All marks and grays are taken away, block by block, and in a block word by word.
-use Rattle.std.proofs.Common.{◌≡◌, ℕ, ◌+◌, ◌*◌, ◌/◌, ◌≤◌, refl, sym, ap, ◌∙◌, arith, lit<, Bool, true, false, cond, List, [], ◌≢◌, inl, inr}
+-- All marks and grays are taken away, block by block, and in a block word by word; Free blocks are passed over.
+use Rattle.std.proofs.Common.{◌≡◌, ℕ, ◌+◌, ◌*◌, ◌/◌, ◌<◌, ◌≤◌, refl, sym, ap, ◌∙◌, arith, lit<, Bool, true, false, cond, List, [], ◌≢◌, inl, inr}
 use Rattle.std.specs.Prelude.{◌==◌, if◌then◌else◌, nat_lt, slice_index, slice_index_or, nat_le, ◌&&◌, IsTrue}
 use Rattle.std.proofs.Math.ListN.{get_or-eq_default}
 use Rattle.std.proofs.lemmas.Bool.{false_from_ne_true}
-use Rattle.std.proofs.lemmas.Bool.Decides.{nat_tests, eqb_tells}
+use Rattle.std.proofs.lemmas.Bool.Decides.{nat_tests}
 use Rattle.lxr_layout.specs.declared.TheConstants.{GRANULES_IN_BLOCK}
 use Rattle.lxr_layout.specs.declared.limits.Limits.{Limits}
 use Rattle.lxr_layout.specs.Spaces.{all_regions, region_begin, region_sizes}
@@ -13,7 +13,8 @@ use Rattle.lxr_image.specs.Spaces.{IsSpace, Turns, tables_of}
 use Rattle.lxr_image.specs.Tables.{Tables, cut, tables_in}
 use Rattle.lxr_image.proofs.RegionLemmas.{length_region_table}
 use Rattle.lxr_blocks.specs.declared.states.BlockState.TheVariants.{Free}
-use Rattle.lxr_blocks.specs.States.{state_in, state_of}
+use Rattle.lxr_blocks.specs.States.{AreFreeBlocks, state_in, state_of}
+use Rattle.lxr_image_search.proofs.ClearingLemmas.{cleared_further}
 use Rattle.lxr_pause_trace.specs.Clearing.{MarksAvoidFree, without_marks_of}
 
 -- past the heap nothing is marked, and nothing is gray
@@ -63,6 +64,26 @@ clear_more s a c b before one = record {
   rest = one.rest ∙ ap {A = Space} (λ z. record z { words = c.words }) before.rest;
 }
 
+-- blocks whose state is Free have neither marks nor grays
+pub clear_passed : (s b : Space) (from end : ℕ) → MarksAvoidFree (tables_of s) → from ≤ end → AreFreeBlocks (tables_of b) from end
+    → Turns s b (with_clear (tables_of s) (GRANULES_IN_BLOCK * from)) → Turns s b (with_clear (tables_of s) (GRANULES_IN_BLOCK * end))
+clear_passed s b from end avoid past free turns = record {
+  tables = turns.tables ∙ (λ i. record (tables_of s) {
+    marks = λ k. passed (tables_of s).marks (λ j h. avoid j (inl h)) k i;
+    grays = λ k. passed (tables_of s).grays (λ j h. avoid j (inr h)) k i;
+  });
+  rest = turns.rest;
+}
+  where
+    block_free : (block : ℕ) → from ≤ block → block < end → state_in (tables_of s) block ≡ Free
+    block_free block above below = sym (ap (λ t. state_of (t.states block)) turns.tables) ∙ free block above below
+
+    passed : (f : ℕ → Bool) → ((k : ℕ) → IsTrue (f k) → state_in (tables_of s) (k / GRANULES_IN_BLOCK) ≢ Free) → (k : ℕ)
+        → cleared_behind f (GRANULES_IN_BLOCK * from) k ≡ cleared_behind f (GRANULES_IN_BLOCK * end) k
+    passed f used k =
+        cleared_further f (GRANULES_IN_BLOCK * from) (GRANULES_IN_BLOCK * end) k (omega (arith, past))
+        (λ above below. false_from_ne_true (f k) (λ set. used k set (block_free (k / GRANULES_IN_BLOCK) (omega (arith, above)) (omega (arith, below)))))
+
 pub clear_end : (s b : Space) (end : ℕ) → IsSpace s → end ≡ GRANULES_IN_BLOCK * s.limits.blocks → Turns s b (with_clear (tables_of s) end)
     → Turns s b (record (tables_of s) { marks = λ k. false; grays = λ k. false })
 clear_end s b end space is turns = record {
@@ -110,31 +131,3 @@ words_end s c b at end turns = record {
   tables = turns.tables ∙ ap (with_clear_from (tables_of s) b) end ∙ (λ i. record (tables_of s) { marks = λ k. all_from (tables_of s).marks b k i; grays = λ k. all_from (tables_of s).grays b k i });
   rest = turns.rest;
 }
-
--- a block whose state is Free has neither marks nor grays
-pub clear_free : (s : Space) (b : ℕ) → MarksAvoidFree (tables_of s) → state_in (tables_of s) b ≡ Free → Turns s s (without_marks_of (tables_of s) b)
-clear_free s b avoid free = record {
-  tables = λ i. record (tables_of s) {
-    marks = λ k. none (tables_of s).marks k (λ h. avoid k (inl h)) i;
-    grays = λ k. none (tables_of s).grays k (λ h. avoid k (inr h)) i;
-  };
-  rest = refl;
-}
-  where
-    none : (f : ℕ → Bool) (k : ℕ) → (IsTrue (f k) → state_in (tables_of s) (k / GRANULES_IN_BLOCK) ≢ Free) → f k ≡ (if k / GRANULES_IN_BLOCK == b then false else f k)
-    none f k used = elim (eqb_tells (k / GRANULES_IN_BLOCK) b) [
-      | inl e ↦ false_from_ne_true (f k) (λ h. used h (ap (state_in (tables_of s)) e.1 ∙ free)) ∙ sym (ap (λ x. if x then false else f k) e.0)
-      | inr e ↦ sym (ap (λ x. if x then false else f k) e.0)
-    ]
-
--- so it stays while bits are cleared
-pub marks_avoid_still : (a b : Space) (end : ℕ) → Turns a b (with_clear (tables_of a) end) → MarksAvoidFree (tables_of a) → MarksAvoidFree (tables_of b)
-marks_avoid_still a b end turns avoid k some free =
-    avoid k (elim some [
-      | inl h ↦ inl (was (tables_of a).marks (nat_lt k end) (sym (ap (λ t. t.marks k) turns.tables) ∙ h))
-      | inr h ↦ inr (was (tables_of a).grays (nat_lt k end) (sym (ap (λ t. t.grays k) turns.tables) ∙ h))
-    ]) (sym (ap (λ t. state_of (t.states (k / GRANULES_IN_BLOCK))) turns.tables) ∙ free)
-  where
-    was : (f : ℕ → Bool) (past : Bool) → IsTrue (if past then false else f k) → IsTrue (f k)
-    was f true h = absurd (let no : false ≡ true = h in cc)
-    was f false h = h

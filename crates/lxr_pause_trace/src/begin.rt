@@ -7,12 +7,12 @@ ghost use Rattle.lxr_pause_trace.specs.Clearing.{MarksAvoidFree, without_marks_o
 ghost use Rattle.lxr_pause_trace.specs.Marking.{HoldPlaces, ShadesRegisters};
 ghost use Rattle.lxr_pause_trace.specs.Tracing.{BeginsTrace, CanTrace};
 
-use lxr_blocks::{BlockState, state};
+use lxr_blocks::next_in_use;
 use lxr_image::Space;
 use lxr_layout::granule_of;
 
 /// Takes the marks of a block away and forgets what was gray in it, a word of bits at a time.
-fn clear_words(space: &mut Space, block: u32)
+fn clear_block(space: &mut Space, block: u32)
     requires space { IsSpace space.old }
     requires block { block < space.old.limits.blocks }
     ensures { Turns space.old space.new (without_marks_of (tables_of space.old) block) }
@@ -23,29 +23,16 @@ fn clear_words(space: &mut Space, block: u32)
     }
 }
 
-/// So for a block of any state. One whose state is Free has neither, and costs one read.
-fn clear_block(space: &mut Space, block: u32)
-    requires space { IsSpace space.old }
-    requires block { block < space.old.limits.blocks }
-    requires free { MarksAvoidFree (tables_of space.old) }
-    ensures { Turns space.old space.new (without_marks_of (tables_of space.old) block) }
-{
-    match state(space, block) {
-        BlockState::Free => {}
-        BlockState::Partly | BlockState::Whole | BlockState::Chosen | BlockState::World => {
-            clear_words(space, block);
-        }
-    }
-}
-
-/// Takes all marks away and forgets all that was gray.
+/// Takes all marks away and forgets all that was gray. Blocks whose state is Free have neither, and are passed over.
 fn clear_bits(space: &mut Space)
     requires space { IsSpace space.old }
     requires free { MarksAvoidFree (tables_of space.old) }
     ensures { Turns space.old space.new (record (tables_of space.old) { marks = λ k. false; grays = λ k. false }) }
 {
-    for block in 0..space.limits.blocks {
+    let mut from = 0;
+    while let Some(block) = next_in_use(space, from) {
         clear_block(space, block);
+        from = block + 1;
     }
 }
 

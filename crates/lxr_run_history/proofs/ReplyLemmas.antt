@@ -11,7 +11,7 @@ use Rattle.lxr_graph.specs.declared.Reply.{Reply}
 use Rattle.lxr_graph.specs.declared.Reply.TheVariants as reply
 use Rattle.lxr_graph.specs.History.{Item, Call, Pause, calls_of, replies_of}
 use Rattle.lxr_graph.specs.State.{State, object_at, refs_of, register_at, values_of}
-use Rattle.lxr_graph.specs.Step.{IsReply, get_from, got, load_from, loaded, put_at, put_to, store_to, stored}
+use Rattle.lxr_graph.specs.Step.{IsReply, add_to, added, get_from, got, load_from, loaded, put_at, put_to, store_to, stored, swap_in, swapped}
 use Rattle.lxr_model.specs.Legal.{IsLegalSoFar, Replies}
 use Rattle.lxr_model.specs.Moments.{moment}
 use Rattle.lxr_core_invariant.specs.ThreadStates.{all_of}
@@ -39,6 +39,14 @@ store-goes_on : (s : State) (i : ℕ) (v : Option Name) (b : Option Name) → (s
 store-goes_on s i v None e = cc
 store-goes_on s i v (Some n) e = stored-goes_on s n i v (slice_get (refs_of (object_at s.graph n)) i) e
 
+swapped-goes_on : (s : State) (t dest : ℕ) (n : Name) (i : ℕ) (v : Option Name) (o : Option (Option Name)) → (swapped s t dest n i v o).1 ≢ reply.Ended
+swapped-goes_on s t dest n i v None e = cc
+swapped-goes_on s t dest n i v (Some old) e = cc
+
+swap-goes_on : (s : State) (t dest i : ℕ) (v : Option Name) (b : Option Name) → (swap_in s t dest i v b).1 ≢ reply.Ended
+swap-goes_on s t dest i v None e = cc
+swap-goes_on s t dest i v (Some n) e = swapped-goes_on s t dest n i v (slice_get (refs_of (object_at s.graph n)) i) e
+
 put_at-goes_on : (s : State) (n : Name) (i v : ℕ) (o : Option ℕ) → (put_at s n i v o).1 ≢ reply.Ended
 put_at-goes_on s n i v None e = cc
 put_at-goes_on s n i v (Some old) e = cc
@@ -46,6 +54,14 @@ put_at-goes_on s n i v (Some old) e = cc
 put-goes_on : (s : State) (i v : ℕ) (b : Option Name) → (put_to s i v b).1 ≢ reply.Ended
 put-goes_on s i v None e = cc
 put-goes_on s i v (Some n) e = put_at-goes_on s n i v (slice_get (values_of (object_at s.graph n)) i) e
+
+added-goes_on : (s : State) (n : Name) (i v : ℕ) (o : Option ℕ) → (added s n i v o).1 ≢ reply.Ended
+added-goes_on s n i v None e = cc
+added-goes_on s n i v (Some old) e = cc
+
+add-goes_on : (s : State) (i v : ℕ) (b : Option Name) → (add_to s i v b).1 ≢ reply.Ended
+add-goes_on s i v None e = cc
+add-goes_on s i v (Some n) e = added-goes_on s n i v (slice_get (values_of (object_at s.graph n)) i) e
 
 got-goes_on : (o : Option ℕ) → got o ≢ reply.Ended
 got-goes_on None e = cc
@@ -61,6 +77,8 @@ step-goes_on s t (op.Load dest base i) more e = load-goes_on s t dest i (registe
 step-goes_on s t (op.Store base i source) more e = store-goes_on s i (register_at s t source) (register_at s t base) e
 step-goes_on s t (op.Put base i v) more e = put-goes_on s i v (register_at s t base) e
 step-goes_on s t (op.Get base i) more e = get-goes_on s i (register_at s t base) e
+step-goes_on s t (op.Swap dest base i source) more e = swap-goes_on s t dest i (register_at s t source) (register_at s t base) e
+step-goes_on s t (op.Add base i v) more e = add-goes_on s i v (register_at s t base) e
 step-goes_on s t (op.Move dest source) more e = cc
 step-goes_on s t (op.Nil dest) more e = cc
 step-goes_on s t (op.Same left right) more e = cc

@@ -1,5 +1,5 @@
 -- What the numbers of a history are, and what they are within.
-use Rattle.std.proofs.Common.{◌≡◌, ℕ, ◌+◌, ◌≤◌, refl, sym, ap, ◌∙◌, arith, Bool, true, false, List, [], ◌∷◌, length}
+use Rattle.std.proofs.Common.{◌≡◌, ℕ, ◌+◌, ◌*◌, ◌≤◌, refl, sym, ap, ◌∙◌, arith, Bool, true, false, List, [], ◌∷◌, length}
 use Rattle.std.specs.Prelude.{Option, Some, None, if◌then◌else◌}
 use Rattle.std.specs.List.{list_any}
 use Rattle.lxr_layout.specs.declared.Name.{Name}
@@ -31,10 +31,12 @@ news_grow t r = omega arith
 
 loads_grow : (t : Tally) (r : Reply) → (counted t r).loads ≡ t.loads + (if is_loaded r then 1 else 0)
 loads_grow t (reply.Loaded v) = refl
+loads_grow t (reply.Swapped v) = refl
 loads_grow t r = omega arith
 
 stores_grow : (t : Tally) (r : Reply) → (counted t r).stores ≡ t.stores + (if is_stored r then 1 else 0)
 stores_grow t reply.Stored = refl
+stores_grow t (reply.Swapped v) = refl
 stores_grow t r = omega arith
 
 -- the numbers are those of the replies of each kind
@@ -55,15 +57,16 @@ stores_are threads (Call t o r ∷ h) = stores_grow (tally_of threads h) r ∙ a
 
 -- ---- bounds
 
--- one reply counts for one number at most
-pub tally_few : (t : Tally) (r : Reply) → (counted t r).news + (counted t r).loads + (counted t r).stores ≤ t.news + t.loads + t.stores + 1
+-- one reply counts for two numbers at most
+tally_few : (t : Tally) (r : Reply) → (counted t r).news + (counted t r).loads + (counted t r).stores ≤ t.news + t.loads + t.stores + 2
 tally_few t (reply.New n) = omega arith
 tally_few t (reply.Loaded v) = omega arith
 tally_few t reply.Stored = omega arith
+tally_few t (reply.Swapped v) = omega arith
 tally_few t r = omega arith
 
--- so they are within the number of calls
-pub replies_few : (threads : ℕ) (h : List Item) → (tally_of threads h).news + (tally_of threads h).loads + (tally_of threads h).stores ≤ counted_in one h
+-- so they are within twice the number of calls
+pub replies_few : (threads : ℕ) (h : List Item) → (tally_of threads h).news + (tally_of threads h).loads + (tally_of threads h).stores ≤ 2 * counted_in one h
 replies_few threads [] = omega arith
 replies_few threads (Pause report ∷ h) = replies_few threads h
 replies_few threads (Call t o r ∷ h) = let few = replies_few threads h in let more = tally_few (tally_of threads h) r in omega arith
@@ -73,12 +76,14 @@ pub pauses_stay : (t : Tally) (r : Reply) → (counted t r).pauses ≡ t.pauses
 pauses_stay t (reply.New n) = refl
 pauses_stay t (reply.Loaded v) = refl
 pauses_stay t reply.Stored = refl
+pauses_stay t (reply.Swapped v) = refl
 pauses_stay t r = refl
 
 pub logs_stay : (t : Tally) (r : Reply) → (counted t r).logs ≡ t.logs
 logs_stay t (reply.New n) = refl
 logs_stay t (reply.Loaded v) = refl
 logs_stay t reply.Stored = refl
+logs_stay t (reply.Swapped v) = refl
 logs_stay t r = refl
 
 -- pauses are numbered from 1
@@ -114,6 +119,7 @@ stores_not_fewer t r = let e = stores_grow t r in omega arith
 -- a call writes a field only where it counts as a store
 written_few : (t : Tally) (m : Moment) (thread : ℕ) (o : Op) (r : Reply) → length (written_after m thread o r) + t.stores ≤ length m.written + (counted t r).stores
 written_few t m thread (op.Store base index source) reply.Stored = let few = with_few m.unreclaimed m.written (register_at m.state thread base) index in omega arith
+written_few t m thread (op.Swap dest base index source) (reply.Swapped old) = let few = with_few m.unreclaimed m.written (register_at m.state thread base) index in omega arith
 written_few t m thread (op.Store base index source) r = let more = stores_not_fewer t r in omega arith
 written_few t m thread o r = let more = stores_not_fewer t r in omega arith
 

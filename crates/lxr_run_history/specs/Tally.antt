@@ -7,15 +7,16 @@ use Rattle.lxr_image.specs.declared.space.Tally.{Tally}
 use Rattle.lxr_image.specs.Opened.{no_tally}
 use Rattle.lxr_model.specs.Moments.{moment}
 
--- a new object, a loaded reference and a store that was done are counted, each in its own number
+-- a new object, a loaded reference and a store that was done are counted, each in its own number; a swap that was done loads and stores
 abbrev pub counted : Tally → Reply → Tally
 counted t (reply.New n) = record t { news = t.news + 1 }
 counted t (reply.Loaded v) = record t { loads = t.loads + 1 }
 counted t reply.Stored = record t { stores = t.stores + 1 }
+counted t (reply.Swapped v) = record t { loads = t.loads + 1; stores = t.stores + 1 }
 counted t r = t
 
 -- The numbers of a history of so many threads, whose items stand newest first: those of its replies, its pauses, and the references of
--- unreclaimed objects that were stored to before each of them.
+-- unreclaimed objects that were written before each of them.
 abbrev pub tally_of : ℕ → List Item → Tally
 tally_of threads [] = no_tally
 tally_of threads (Call t o r ∷ h) = counted (tally_of threads h) r

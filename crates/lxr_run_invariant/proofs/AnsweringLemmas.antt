@@ -21,11 +21,11 @@ use Rattle.lxr_mutator.specs.Mutating.{IsWaiting, Mutating, next_name as next_ma
 use Rattle.lxr_core.specs.declared.actors.AnyActor.{AnyActor}
 use Rattle.lxr_core.specs.Actors.{mutators_in}
 use Rattle.lxr_core.specs.Resting.{FitsThread, HelpersRest, RestsAfter}
-use Rattle.lxr_run_serve.specs.Placing.{IsServable, served_abstract_state}
+use Rattle.lxr_run_placing.specs.Placing.{served_abstract_state}
 use Rattle.lxr_run_serve.specs.Answering.{AnswersAll, TakeTurns, TakesTurn, WantsCollection, begins, next, passes, refuses, serves}
 use Rattle.lxr_run_serve.specs.Serving.{CanServe}
 use Rattle.lxr_run_serve.proofs.MutatorLemmas.{waits_by, waits_for}
-use Rattle.lxr_run_serve.proofs.SpaceLemmas.{IsNewServed, new_served}
+use Rattle.lxr_run_serve.proofs.SpaceLemmas.{IsNewServed, IsServableBetween, new_served}
 use Rattle.lxr_run_history.specs.Left.{last_report}
 use Rattle.lxr_run_invariant.specs.LoopInvariant.{HasCome, IsCollectedSince, IsServing, Task, done_of, task_limits, threads_of}
 use Rattle.lxr_run_invariant.proofs.ActorLemmas.{as_many, done_more}
@@ -79,7 +79,7 @@ can_serve task space written seen before paused collected actors h g serving hel
 
 -- an object can be made for a `new` whose turn has come
 servable : (task : Task) (space : Space) (written : Option (List ℕ)) (seen : Option (List Sight)) (t : ℕ) (m : Mutating) (collected served : Bool) (h : List Item) (g : AbstractState)
-    → MayServe task space written seen t m collected served h g → IsServable space g (next_made m)
+    → MayServe task space written seen t m collected served h g → IsServableBetween space g (next_made m)
 servable task space written seen t m collected served h g may = record {
   between = may.between;
   next = name_is task space written seen t m collected served h g may ∙ ap (next_name g.moment.state.graph) (sym may.rests.thread);

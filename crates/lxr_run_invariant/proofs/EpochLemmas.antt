@@ -92,6 +92,7 @@ counted_rest : (t s : Tally) (r : Reply) → t ≡ with_operations s t → count
 counted_rest t s (reply.New n) e = ap (λ (z : Tally). record z { news = t.news + 1 }) e
 counted_rest t s (reply.Loaded v) e = ap (λ (z : Tally). record z { loads = t.loads + 1 }) e
 counted_rest t s reply.Stored e = ap (λ (z : Tally). record z { stores = t.stores + 1 }) e
+counted_rest t s (reply.Swapped v) e = ap (λ (z : Tally). record z { loads = t.loads + 1; stores = t.stores + 1 }) e
 counted_rest t s r e = e
 
 -- calls change the numbers of operations alone

@@ -87,8 +87,8 @@ counts_fit task space written seen h g mutators come have few =
     let all = all_done_few task h mutators have (few_threads task space written seen h g come) in
     let told = pauses_counted task space written seen h g come in
     let calls = calls_are_done task h mutators come.history.0 have in
-    let replies : space.tally.news + space.tally.loads + space.tally.stores ≤ counted_in one h =
-    subst (λ (t : Tally). t.news + t.loads + t.stores ≤ counted_in one h) (sym come.tally) (replies_few (threads_of task) h) in
+    let replies : space.tally.news + space.tally.loads + space.tally.stores ≤ 2 * counted_in one h =
+    subst (λ (t : Tally). t.news + t.loads + t.stores ≤ 2 * counted_in one h) (sym come.tally) (replies_few (threads_of task) h) in
     let stored : space.tally.logs + length (moment (threads_of task) h).written ≤ space.tally.stores =
     subst (λ (t : Tally). t.logs + length (moment (threads_of task) h).written ≤ t.stores) (sym come.tally) (logs_few (threads_of task) h) in
     let logged = logged_is task space written seen h g come in
@@ -100,8 +100,8 @@ pub news_fit : (task : Task) (space : Space) (written : Option (List ℕ)) (seen
 news_fit task space written seen h g mutators come have =
     let all = all_done_few task h mutators have (few_threads task space written seen h g come) in
     let calls = calls_are_done task h mutators come.history.0 have in
-    let replies : space.tally.news + space.tally.loads + space.tally.stores ≤ counted_in one h =
-    subst (λ (t : Tally). t.news + t.loads + t.stores ≤ counted_in one h) (sym come.tally) (replies_few (threads_of task) h) in
+    let replies : space.tally.news + space.tally.loads + space.tally.stores ≤ 2 * counted_in one h =
+    subst (λ (t : Tally). t.news + t.loads + t.stores ≤ 2 * counted_in one h) (sym come.tally) (replies_few (threads_of task) h) in
     omega arith
 
 -- ---- a pause

@@ -32,7 +32,7 @@ use Rattle.lxr_image.specs.Opened.{IsOpened}
 use Rattle.lxr_model.specs.Moments.{opening_moment}
 use Rattle.lxr_invariant.specs.Quiescent.{IsQuiescent}
 use Rattle.lxr_invariant.specs.Listed.{IsListedWhole}
-use Rattle.lxr_run_serve.specs.Opening.{opening_abstract_state}
+use Rattle.lxr_run_placing.specs.Opening.{opening_abstract_state}
 use Rattle.lxr_run_watch.specs.Sights.{Sight}
 use Rattle.lxr_words.specs.declared.Options.{Options}
 use Rattle.lxr_run_history.specs.Left.{run_limits}

@@ -13,7 +13,7 @@ use Rattle.lxr_core.proofs.OrderLemmas.{lengths_add}
 use Rattle.lxr_run_pause.specs.declared.Ask.{Ask}
 use Rattle.lxr_run_pause.specs.declared.Ask.TheVariants as ask
 use Rattle.lxr_run_pause.specs.Pausing.{Pauses}
-use Rattle.lxr_run_serve.specs.Listing.{ListsAll}
+use Rattle.lxr_run_placing.specs.Listing.{ListsAll}
 use Rattle.lxr_run_serve.specs.Serving.{KeepsHelpers}
 use Rattle.lxr_run_watch.specs.Sights.{Sight}
 use Rattle.lxr_words.specs.declared.Options.{Options}

@@ -18,7 +18,7 @@ use Rattle.lxr_core.specs.Executions.{tell_all}
 use Rattle.lxr_core.specs.Opening.{Begins, Opens, execution_at}
 use Rattle.lxr_run_pause.specs.declared.Ask.{Ask}
 use Rattle.lxr_run_pause.specs.declared.Ask.TheVariants as ask
-use Rattle.lxr_run_serve.specs.Listing.{ListsAll}
+use Rattle.lxr_run_placing.specs.Listing.{ListsAll}
 use Rattle.lxr_run_serve.specs.Serving.{KeepsHelpers}
 use Rattle.lxr_run_replay.specs.Replaying.{Replays}
 use Rattle.lxr_run_invariant.specs.LoopInvariant.{Task, pace_of, task_limits, terms_of}

@@ -74,7 +74,7 @@ pub record DrawsFor (before : Space) (g : AbstractState) (IsOne : Name → ℕ �
   pub are : AreIntoChosen before g IsOne entered
   pub drawn : end ≡ first + length entered
 
--- a reference that a pause raises: of an object that it promotes, or one that was stored to since the last pause
+-- a reference that a pause raises: of an object that it promotes, or one that was written since the last pause
 abbrev pub IsToRaise : AbstractState → PauseReport → Name → ℕ → Type 0
 IsToRaise g r n i = IsTrue (has r.promoted n) ⊎ IsTrue (has_field g.moment.written (n, i))
 

@@ -63,7 +63,7 @@ rememberable_by (Some trace) snapshot = rememberable trace snapshot
 
 -- What a pause moves out of Chosen blocks of what it leaves, and what it keeps there: it moves where lines outside these blocks fit, unless
 -- the remembered set has overflowed. At the end of a trace that has happened only where more references may have been remembered than there
--- is room for: those of the snapshot, those of what was promoted since the trace began, and those that were stored to, with what this pause adds.
+-- is room for: those of the snapshot, those of what was promoted since the trace began, and those that were written, with what this pause adds.
 pub record Evacuates (before after : Space) (g : AbstractState) (at' : Name → ℕ) (left moved kept : List Name) : Type 0 where
   pub moved_are : IsSetOf moved (λ n. IsEvacuee before after g left n × (at' n ≢ g.at n))
   pub kept_are : IsSetOf kept (λ n. IsEvacuee before after g left n × (at' n ≡ g.at n))
@@ -84,7 +84,7 @@ one_where b = if b then 1 else 0
 
 -- Objects that were promoted or moved may stand elsewhere now, and no others. Where one that was copied stood, the word of its new place is
 -- left, unless a moved object lies there now. A heap word is as it was but for these, for those of promoted and moved objects now, for
--- references that were stored to since the last pause, and for references to what has moved of the objects that the pause leaves. A line is
+-- references that were written since the last pause, and for references to what has moved of the objects that the pause leaves. A line is
 -- counted as handed out once more where it has a promoted object's copy and wasn't out, and once more where it has a moved object.
 pub record Relocates (before after : Space) (g : AbstractState) (at' : Name → ℕ) (left promoted moved : List Name) : Type 0 where
   pub others : (n : Name) → has promoted n ≡ false → has moved n ≡ false → at' n ≡ g.at n

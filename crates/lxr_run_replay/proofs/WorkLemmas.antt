@@ -22,10 +22,10 @@ use Rattle.lxr_mutator.specs.declared.phases.MutatorPhase.{MutatorPhase}
 use Rattle.lxr_mutator.specs.declared.phases.MutatorPhase.TheVariants as phase
 use Rattle.lxr_mutator.specs.declared.phases.MutEnd.TheVariants as ends
 use Rattle.lxr_mutator.specs.declared.phases.Stop.TheVariants as stop
-use Rattle.lxr_mutator.specs.Operating.{asked_reply, dest_of, indexed_fields, index_of}
+use Rattle.lxr_mutator.specs.Operating.{asked_reply, dest_of, found_reply, indexed_fields, index_of}
 use Rattle.lxr_mutator.specs.Mutating.{Mutating, next_name, nil, op_now, register}
 use Rattle.lxr_mutator.specs.Mutators.{IsMutator, MayBeIn}
-use Rattle.lxr_mutator.specs.Steps.{accepts_in, action, action_in, after, after_in, based, done_with, draws_for, finished, has_room, in_current, in_overflow, is_medium, name_told, reaching, shape_now, shape_told, started, stored, with_register}
+use Rattle.lxr_mutator.specs.Steps.{accepts_in, action, action_in, after, after_in, based, done_with, draws_for, finished, has_room, in_current, in_overflow, is_medium, loaded, name_told, reaching, shape_now, shape_told, started, stored, with_register}
 use Rattle.lxr_alloc.specs.Spans.{block_span}
 use Rattle.lxr_mutator.proofs.NowLemmas.{few_words}
 use Rattle.lxr_run_replay.specs.Working.{units, work, work_in}
@@ -86,6 +86,8 @@ started_work m (op.Load dest base index) has few = let d = based_work m (registe
 started_work m (op.Store base index source) has few = let d = based_work m (register m base) has in omega arith
 started_work m (op.Put base index value) has few = let d = based_work m (register m base) has in omega arith
 started_work m (op.Get base index) has few = let d = based_work m (register m base) has in omega arith
+started_work m (op.Swap dest base index source) has few = let d = based_work m (register m base) has in omega arith
+started_work m (op.Add base index value) has few = let d = based_work m (register m base) has in omega arith
 started_work m (op.Move dest source) has few = let d = done_work (with_register m dest (register m source)) reply.Moved has in omega arith
 started_work m (op.Nil dest) has few = let d = done_work (with_register m dest nil) reply.Cleared has in omega arith
 started_work m (op.Same left right) has few = let d = done_work m (reply.Same (nat_eq (register m left).0 (register m right).0)) has in omega arith
@@ -105,6 +107,8 @@ reaching_work m base shape (op.Load dest b index) h = omega arith
 reaching_work m base shape (op.Store b index source) h = omega arith
 reaching_work m base shape (op.Put b index value) h = omega arith
 reaching_work m base shape (op.Get b index) h = omega arith
+reaching_work m base shape (op.Swap dest b index source) h = omega arith
+reaching_work m base shape (op.Add b index value) h = omega arith
 reaching_work m base shape o h = absurd (grind arith)
 
 -- a base has a field of this index or not
@@ -113,10 +117,14 @@ reached_by : (m : Mutating) (base : Place) (shape : Shape) → HasUnit m → (b 
 reached_by m base shape has true e = reaching_work m base shape (op_now m) e
 reached_by m base shape has false e = let d = done_work m reply.Range has in omega arith
 
--- what was loaded is nil or a place
-loaded_by : (m : Mutating) (place : Place) → HasUnit m → (b : Bool) → work (if b then done_with m (reply.Loaded None) else record m { phase = phase.Referent place }) < 2055 * units m + 2
-loaded_by m place has true = let d = done_work m (reply.Loaded None) has in omega arith
-loaded_by m place has false = omega arith
+-- what was found is nil or a place
+loaded_by : (m : Mutating) (place : Place) (r : Reply) → HasUnit m → (b : Bool) → work (if b then done_with m r else record m { phase = phase.Referent place }) < 2055 * units m + 2
+loaded_by m place r has true = let d = done_work m r has in omega arith
+loaded_by m place r has false = omega arith
+
+-- a load or a swap has found a place
+loaded_work : (m : Mutating) (place : Place) → HasUnit m → work (loaded m place) < 2055 * units m + 2
+loaded_work m place has = loaded_by (with_register m (dest_of (op_now m)) place) place (found_reply (op_now m) None) has (nat_eq place.0 0)
 
 -- a store that has gone on takes at most its own steps, and one more where it gives up
 stored_work : (m : Mutating) (s : Storing) (log : Roomy LogEntry) (p : StorePhase) → HasUnit m → s.phase ≡ p → work (stored m s log (end_in p)) ≤ 2055 * units m + steps_left p + 1
@@ -125,6 +133,7 @@ stored_work m s log store_phase.Unlogged has e = omega (arith, ap steps_left e)
 stored_work m s log (store_phase.Loaded old) has e = omega (arith, ap steps_left e)
 stored_work m s log store_phase.Logged has e = omega (arith, ap steps_left e)
 stored_work m s log (store_phase.Ended store_end.Stored) has e = let d = done_work (record m { log = log }) reply.Stored has in omega arith
+stored_work m s log (store_phase.Ended (store_end.Swapped old)) has e = let d = loaded_work (record m { log = log }) old has in omega arith
 stored_work m s log (store_phase.Ended store_end.LogFull) has e = omega arith
 
 -- a store that has looked at the bit
@@ -182,10 +191,11 @@ work_falls : (m : Mutating) (old : ℕ) (p : MutatorPhase) → IsAt m p → (act
 work_falls m old phase.Ready is some = asked_by m is.has is.few (nat_eq old 1)
 work_falls m old phase.Finished is some = absurd (some refl)
 work_falls m old (phase.Base base) is some = reached_by m base (shape_told (header_of old)) is.has _ refl
-work_falls m old (phase.Reference base) is some = loaded_by (with_register m (dest_of (op_now m)) (place_in old)) (place_in old) is.has (nat_eq (place_in old).0 0)
-work_falls m old (phase.Referent place) is some = let d = done_work m (reply.Loaded (Some (name_told (header_of old)))) is.has in omega arith
+work_falls m old (phase.Reference base) is some = loaded_work m (place_in old) is.has
+work_falls m old (phase.Referent place) is some = let d = done_work m (found_reply (op_now m) (Some (name_told (header_of old)))) is.has in omega arith
 work_falls m old (phase.Datum base refs) is some = let d = done_work m (reply.Got old) is.has in omega arith
 work_falls m old (phase.Putting base refs) is some = let d = done_work m reply.Put is.has in omega arith
+work_falls m old (phase.Adding base refs) is some = let d = done_work m (reply.Added old) is.has in omega arith
 work_falls m old (phase.Storing s) is some = storing_work m s old is.has is.may.1
 work_falls m old phase.DrawsRun is some = omega arith
 work_falls m old (phase.RunNumber number) is some = run_number_by m number (nat_lt number old)
@@ -211,6 +221,7 @@ unread_in m old (phase.Reference base) e = omega arith
 unread_in m old (phase.Referent place) e = omega arith
 unread_in m old (phase.Datum base refs) e = omega arith
 unread_in m old (phase.Putting base refs) e = omega arith
+unread_in m old (phase.Adding base refs) e = omega arith
 unread_in m old (phase.Storing s) e = omega arith
 unread_in m old phase.DrawsRun e = omega arith
 unread_in m old (phase.RunNumber number) e = omega arith

@@ -7,15 +7,17 @@ use Rattle.lxr_layout.specs.declared.Place.{Place}
 use Rattle.lxr_layout.specs.declared.Shape.{Shape}
 use Rattle.lxr_graph.specs.declared.Op.TheVariants as op
 use Rattle.lxr_graph.specs.declared.Reply.TheVariants as reply
+use Rattle.lxr_graph.specs.State.{next_name as name_of_next}
 use Rattle.lxr_graph.specs.Step.{IsReply}
 use Rattle.lxr_image.specs.declared.space.Space.{Space}
 use Rattle.lxr_image.specs.declared.space.Tally.{Tally}
 use Rattle.lxr_image.specs.Image.{place_word}
 use Rattle.lxr_invariant.specs.AbstractState.{AbstractState}
 use Rattle.lxr_invariant.specs.Quiescent.{IsQuiescent}
+use Rattle.lxr_invariant.proofs.RestLemmas.{quiescent_rests, rests_quiescent}
 use Rattle.lxr_invariant.proofs.ToldLemmas.{holds_told}
-use Rattle.lxr_run_serve.specs.Placing.{IsServable, IsServed, IsServedFrom, served_abstract_state}
-use Rattle.lxr_run_serve.proofs.ServedLemmas.{KeepsOthers, served_keeps}
+use Rattle.lxr_run_placing.specs.Placing.{IsServed, IsServedFrom, served_abstract_state}
+use Rattle.lxr_run_placing.proofs.ServedLemmas.{KeepsOthers, served_keeps}
 use Rattle.lxr_mutator.specs.declared.phases.Waiting.{Waiting}
 use Rattle.lxr_mutator.specs.Mutating.{Mutating, next_name, op_now, waiting_by}
 use Rattle.lxr_run_serve.specs.Answering.{ServesNew}
@@ -75,17 +77,22 @@ pub record IsNewServed (before after : Space) (g : AbstractState) (name : Name) 
   pub others : KeepsAllElse before after
   pub news : after.tally.news ≡ before.tally.news + 1
 
+-- a space between epochs stands for an abstract state in which a name is the next one of its thread
+pub record IsServableBetween (s : Space) (g : AbstractState) (name : Name) : Type 0 where
+  pub between : IsQuiescent s g
+  pub next : name ≡ name_of_next g.moment.state.graph name.thread
+
 -- so it is whatever state the space stands for, where the mutator names its object as the state does
-pub new_served : (before after : Space) (m m' : Mutating) (w : Waiting) (dest : ℕ) (shape : Shape) (g : AbstractState) → IsServable before g (next_name m) → waiting_by m m.end ≡ Some w → op_now m ≡ op.New dest shape
+pub new_served : (before after : Space) (m m' : Mutating) (w : Waiting) (dest : ℕ) (shape : Shape) (g : AbstractState) → IsServableBetween before g (next_name m) → waiting_by m m.end ≡ Some w → op_now m ≡ op.New dest shape
     → (makes : ServesNew before after m m' w) → IsNewServed before after g (next_name m) dest shape makes.place
 new_served before after m m' w dest shape g may waits is makes =
     let mid : Space = makes.middle in
     let w_is : w ≡ record { dest = dest; shape = shape } = waits_for m w dest shape waits is in
     let made : IsServed before mid (next_name m) dest shape makes.place = subst (λ (x : Waiting). IsServed before mid (next_name m) x.dest x.shape makes.place) w_is makes.served in
-    let from : IsServedFrom mid g (next_name m) dest shape makes.place = made.abstract_state g may in
+    let from : IsServedFrom mid g (next_name m) dest shape makes.place = made.abstract_state g (record { rests = quiescent_rests before g may.between; next = may.next }) in
     let to : AbstractState = served_abstract_state g (next_name m) dest shape makes.place in record {
       replied = from.reply;
-      between = subst (λ (s : Space). IsQuiescent s to) (sym makes.counted) (quiescent_tallied mid to (record mid.tally { news = mid.tally.news + 1 }) from.between);
+      between = subst (λ (s : Space). IsQuiescent s to) (sym makes.counted) (quiescent_tallied mid to (record mid.tally { news = mid.tally.news + 1 }) (rests_quiescent mid to from.rests may.between.unwritten));
       others = serves_keeps before after m m' w makes;
       news = serves_one before after m m' w makes;
     }

@@ -12,7 +12,7 @@ use Rattle.lxr_graph.specs.Step.{fresh}
 use Rattle.lxr_image.specs.declared.space.Space.{Space}
 use Rattle.lxr_model.specs.Moments.{Moment, after_call, moment}
 use Rattle.lxr_invariant.specs.AbstractState.{AbstractState}
-use Rattle.lxr_run_serve.specs.Placing.{served_abstract_state}
+use Rattle.lxr_run_placing.specs.Placing.{served_abstract_state}
 use Rattle.lxr_mutator.specs.declared.phases.Waiting.{Waiting}
 use Rattle.lxr_mutator.specs.Mutating.{IsWaiting, Mutating, next_name as next_made, op_now, waiting_by}
 use Rattle.lxr_mutator.specs.Mutators.{IsAnswered}

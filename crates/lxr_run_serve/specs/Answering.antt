@@ -6,7 +6,7 @@ use Rattle.lxr_graph.specs.declared.Reply.TheVariants as reply
 use Rattle.lxr_graph.specs.History.{Item, Call}
 use Rattle.lxr_image.specs.declared.space.Space.{Space}
 use Rattle.lxr_blocks.specs.Placing.{IsFull}
-use Rattle.lxr_run_serve.specs.Placing.{IsServed}
+use Rattle.lxr_run_placing.specs.Placing.{IsServed}
 use Rattle.lxr_mutator.specs.declared.phases.Waiting.{Waiting}
 use Rattle.lxr_mutator.specs.Mutating.{IsWaiting, Mutating, next_name, op_now, waiting_by}
 use Rattle.lxr_mutator.specs.Mutators.{answered, served as given}

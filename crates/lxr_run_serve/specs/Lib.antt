@@ -1,6 +1,3 @@
 pub mod Answering
 pub mod Serving
 pub mod Turns
-pub mod Opening
-pub mod Placing
-pub mod Listing

@@ -6,12 +6,8 @@
 //! McKinley, 2022).
 #![tactic(auto)]
 
-mod listing;
-mod placing;
 mod serving;
 
-pub use listing::{list_for_epoch, opened_is_listed};
-pub use placing::{opened_is_quiescent, serve};
 pub use serving::serve_waiting;
 
 /// What has come of serving the `new`s that wait.

@@ -8,15 +8,16 @@ ghost use Rattle.lxr_graph.specs.History.{Item};
 ghost use Rattle.lxr_invariant.specs.AbstractState.{AbstractState};
 ghost use Rattle.lxr_mutator.specs.Mutating.{next_name, waiting_by};
 ghost use Rattle.lxr_core.specs.Actors.{mutators_in};
-ghost use Rattle.lxr_run_serve.specs.Placing.{IsServable};
+ghost use Rattle.lxr_run_placing.specs.Placing.{IsServable};
 ghost use Rattle.lxr_run_serve.specs.Answering.{Answers, ServesIfRoom};
 ghost use Rattle.lxr_run_serve.specs.Serving.{CanServe, HasServed, KeepsHelpers};
 ghost use Rattle.lxr_run_serve.specs.Turns.{AreMutatorsWith, CanTakeTurn, ComesOut, IsMutatorWith};
 
-use crate::{Served, serve};
+use crate::Served;
 use lxr_core::AnyActor;
 use lxr_image::Space;
 use lxr_mutator::{Mutator, Waiting};
+use lxr_run_placing::serve;
 
 /// Serves the `new` that a mutator waits for, where there is room for its object. Whether there was.
 fn serve_one(space: &mut Space, mutator: &mut Mutator, waiting: Waiting) -> bool

@@ -19,9 +19,9 @@ use Rattle.lxr_barrier.specs.Storing.{Storing, end_of, log_after, store_after}
 use Rattle.lxr_mutator.specs.declared.phases.MutEnd.TheVariants as ends
 use Rattle.lxr_mutator.specs.declared.phases.MutatorPhase.{MutatorPhase}
 use Rattle.lxr_mutator.specs.declared.phases.MutatorPhase.TheVariants as phase
-use Rattle.lxr_mutator.specs.Operating.{asked_reply, dest_of, indexed_fields, index_of}
+use Rattle.lxr_mutator.specs.Operating.{asked_reply, dest_of, found_reply, indexed_fields, index_of}
 use Rattle.lxr_mutator.specs.Mutating.{Mutating, next_name, nil, op_now, register, rests_in}
-use Rattle.lxr_mutator.specs.Steps.{accepts_in, after, after_in, based, done_with, draws_for, ended, finished, has_room, in_current, in_overflow, is_medium, name_told, placed, reaching, shape_now, shape_told, started, stored, with_register}
+use Rattle.lxr_mutator.specs.Steps.{accepts_in, after, after_in, based, done_with, draws_for, ended, finished, has_room, in_current, in_overflow, is_medium, loaded, name_told, placed, reaching, shape_now, shape_told, started, stored, with_register}
 use Rattle.lxr_run_watch.specs.Gates.{IsLetPass, IsLetPassSince}
 
 -- ---- one step
@@ -63,6 +63,8 @@ started_once m (op.Load dest base index) = based_once m (register m base)
 started_once m (op.Store base index source) = based_once m (register m base)
 started_once m (op.Put base index value) = based_once m (register m base)
 started_once m (op.Get base index) = based_once m (register m base)
+started_once m (op.Swap dest base index source) = based_once m (register m base)
+started_once m (op.Add base index value) = based_once m (register m base)
 started_once m (op.Move dest source) = done_once (with_register m dest (register m source)) reply.Moved
 started_once m (op.Nil dest) = done_once (with_register m dest nil) reply.Cleared
 started_once m (op.Same left right) = done_once m (reply.Same (nat_eq (register m left).0 (register m right).0))
@@ -70,10 +72,17 @@ started_once m op.Pause = (refl, inl refl)
 started_once m op.Collect = (refl, inl refl)
 started_once m op.End = ended_once m
 
+-- a load or a swap has found a place
+loaded_once : (m : Mutating) (place : Place) → RepliesOnce m (loaded m place)
+loaded_once m place =
+    let n = with_register m (dest_of (op_now m)) place in
+    once_if m (done_with n (found_reply (op_now m) None)) (record n { phase = phase.Referent place }) (nat_eq place.0 0) (done_once n (found_reply (op_now m) None)) (refl, inl refl)
+
 -- a store goes on
 stored_once : (m : Mutating) (s : Storing) (log : Roomy LogEntry) (e : Option StoreEnd) → RepliesOnce m (stored m s log e)
 stored_once m s log None = (refl, inl refl)
 stored_once m s log (Some store_end.Stored) = done_once (record m { log = log }) reply.Stored
+stored_once m s log (Some (store_end.Swapped old)) = loaded_once (record m { log = log }) old
 stored_once m s log (Some store_end.LogFull) = (refl, inl refl)
 
 -- by its phase
@@ -83,14 +92,11 @@ once_in m phase.Finished old = (refl, inl refl)
 once_in m (phase.Base base) old =
     once_if m (record m { phase = reaching m base (shape_told (header_of old)) (op_now m) }) (done_with m reply.Range)
     (nat_lt (index_of (op_now m)) (indexed_fields (op_now m) (shape_told (header_of old)))) (refl, inl refl) (done_once m reply.Range)
-once_in m (phase.Reference base) old = loaded_once (nat_eq (place_in old).0 0)
-  where
-    loaded_once : (b : Bool) → RepliesOnce m (if b then done_with (with_register m (dest_of (op_now m)) (place_in old)) (reply.Loaded None) else record (with_register m (dest_of (op_now m)) (place_in old)) { phase = phase.Referent (place_in old) })
-    loaded_once true = done_once (with_register m (dest_of (op_now m)) (place_in old)) (reply.Loaded None)
-    loaded_once false = (refl, inl refl)
-once_in m (phase.Referent place) old = done_once m (reply.Loaded (Some (name_told (header_of old))))
+once_in m (phase.Reference base) old = loaded_once m (place_in old)
+once_in m (phase.Referent place) old = done_once m (found_reply (op_now m) (Some (name_told (header_of old))))
 once_in m (phase.Datum base refs) old = done_once m (reply.Got old)
 once_in m (phase.Putting base refs) old = done_once m reply.Put
+once_in m (phase.Adding base refs) old = done_once m (reply.Added old)
 once_in m (phase.Storing s) old = stored_once m (store_after s m.log old) (log_after s m.log old) (end_of (store_after s m.log old))
 once_in m phase.DrawsRun old = (refl, inl refl)
 once_in m (phase.RunNumber number) old = (refl, inl refl)

@@ -23,7 +23,7 @@ use Rattle.lxr_mutator.specs.declared.phases.MutEnd.{MutEnd}
 use Rattle.lxr_mutator.specs.declared.phases.Stop.TheVariants as stop
 use Rattle.lxr_mutator.specs.declared.phases.MutatorPhase.{MutatorPhase}
 use Rattle.lxr_mutator.specs.declared.phases.MutatorPhase.TheVariants as phase
-use Rattle.lxr_mutator.specs.Operating.{dest_of, index_of, indexed_fields}
+use Rattle.lxr_mutator.specs.Operating.{dest_of, found_reply, index_of, indexed_fields}
 use Rattle.lxr_mutator.specs.Mutating.{Mutating, nil, op_now, register, rests_in as mut_rests_in}
 use Rattle.lxr_mutator.specs.Steps as mutator
 use Rattle.lxr_pocket.specs.Helpers as helper
@@ -103,6 +103,8 @@ started m (op.Load dest base index) = based m (register m base)
 started m (op.Store base index source) = based m (register m base)
 started m (op.Put base index value) = based m (register m base)
 started m (op.Get base index) = based m (register m base)
+started m (op.Swap dest base index source) = based m (register m base)
+started m (op.Add base index value) = based m (register m base)
 started m (op.Move dest source) = done (mutator.with_register m dest (register m source)) reply.Moved
 started m (op.Nil dest) = done (mutator.with_register m dest nil) reply.Cleared
 started m (op.Same left right) = done m (reply.Same (nat_eq (register m left).0 (register m right).0))
@@ -120,6 +122,8 @@ reaching m base shape (op.Load dest b index) e = refl
 reaching m base shape (op.Store b index source) e = refl
 reaching m base shape (op.Put b index value) e = refl
 reaching m base shape (op.Get b index) e = refl
+reaching m base shape (op.Swap dest b index source) e = refl
+reaching m base shape (op.Add b index value) e = refl
 reaching m base shape (op.Move dest source) e = absurd (cc)
 reaching m base shape (op.Nil dest) e = absurd (cc)
 reaching m base shape (op.Same left right) e = absurd (cc)
@@ -135,11 +139,12 @@ reached m base shape false e = done m reply.Range
 loaded : (m : Mutating) (place : Place) → MutTells (mutator.loaded m place)
 loaded m place =
     let m' = mutator.with_register m (dest_of (op_now m)) place in
-    either mut_rests mut_end (nat_eq place.0 0) _ _ (done m' (reply.Loaded None)) (mut_in m' (phase.Referent place) refl)
+    either mut_rests mut_end (nat_eq place.0 0) _ _ (done m' (found_reply (op_now m) None)) (mut_in m' (phase.Referent place) refl)
 
 stored : (m : Mutating) (store : Storing) (log : Roomy LogEntry) (e : Option StoreEnd) → MutTells (mutator.stored m store log e)
 stored m store log None = mut_in (record m { log = log }) (phase.Storing store) refl
 stored m store log (Some store_end.Stored) = done (record m { log = log }) reply.Stored
+stored m store log (Some (store_end.Swapped old)) = loaded (record m { log = log }) old
 stored m store log (Some store_end.LogFull) = mut_in (record m { log = log }) (phase.GivingUp stop.LogFull) refl
 
 mut_after_in : (m : Mutating) (p : MutatorPhase) (old : ℕ) → IsSome (mutator.action_in m p) → MutTells (mutator.after_in m p old)
@@ -152,6 +157,7 @@ mut_after_in m (phase.Reference base) old acts = loaded m (place_in old)
 mut_after_in m (phase.Referent place) old acts = done m _
 mut_after_in m (phase.Datum base refs) old acts = done m _
 mut_after_in m (phase.Putting base refs) old acts = done m _
+mut_after_in m (phase.Adding base refs) old acts = done m _
 mut_after_in m (phase.Storing store) old acts = stored m (store_after store m.log old) (log_after store m.log old) (store_end_of (store_after store m.log old))
 mut_after_in m phase.DrawsRun old acts = mut_in m (phase.RunNumber old) refl
 mut_after_in m (phase.RunNumber number) old acts = mut_in_either m (nat_lt number old) (phase.Run number) phase.DrawsBlock refl refl

@@ -1,6 +1,6 @@
 //! Tables of reference counts, `COUNT_BITS` bits each and `COUNTS_IN_WORD` to a word.
 //!
-//! A count is raised and lowered by one. A count that reaches `STUCK` stays there until it is set: two bits cannot
+//! A count is raised and lowered by one. A count that reaches `STUCK` stays there until it is set: so few bits cannot
 //! tell how many references an object had beyond that (Zhao, Blackburn and McKinley, 2022).
 ghost use Rattle.std.specs.Prelude.{◌≡◌, ◌≢◌, ◌+◌, ◌*◌, ◌/◌, ◌%◌, ◌^◌, ◌<◌, ◌≤◌, length, slice_index, slice_set};
 ghost use Rattle.lxr_tables.specs.Counts.{lowered_count, lowered_of, raised_count};
@@ -32,7 +32,7 @@ pub enum Lowered {
 
 /// The count at an index.
 #[inline(always)]
-pub fn two<W: Words>(words: &W, base: usize, index: usize) -> u8
+pub fn four<W: Words>(words: &W, base: usize, index: usize) -> u8
     requires { base + index / COUNTS_IN_WORD < length (W.words_of words.now) }
     ensures value { result ≡ slice_index (counts_from (W.words_of words.now) base) index }
     ensures within { result ≤ STUCK }
@@ -43,7 +43,7 @@ pub fn two<W: Words>(words: &W, base: usize, index: usize) -> u8
 
 /// Writes a count. All other counts and words stay.
 #[inline(always)]
-pub fn set_two<W: Words>(words: &mut W, base: usize, index: usize, value: u8)
+pub fn set_four<W: Words>(words: &mut W, base: usize, index: usize, value: u8)
     requires place { base + index / COUNTS_IN_WORD < length (W.words_of words.old) }
     requires value { value ≤ STUCK }
     ensures table { counts_from (W.words_of words.new) base ≡ slice_set (counts_from (W.words_of words.old) base) index value }
@@ -58,7 +58,7 @@ pub fn set_two<W: Words>(words: &mut W, base: usize, index: usize, value: u8)
 
 /// Raises a count by one, but not beyond `STUCK`. All other counts and words stay.
 #[inline(always)]
-pub fn raise_two<W: Words>(words: &mut W, base: usize, index: usize) -> Raised
+pub fn raise_four<W: Words>(words: &mut W, base: usize, index: usize) -> Raised
     requires { base + index / COUNTS_IN_WORD < length (W.words_of words.old) }
     ensures old { result.old ≡ slice_index (counts_from (W.words_of words.old) base) index }
     ensures now { result.now ≡ raised_count result.old }
@@ -79,7 +79,7 @@ pub fn raise_two<W: Words>(words: &mut W, base: usize, index: usize) -> Raised
 
 /// Lowers a count that isn't 0 by one, unless it is stuck; then nothing changes. All other counts and words stay.
 #[inline(always)]
-pub fn lower_two<W: Words>(words: &mut W, base: usize, index: usize) -> Lowered
+pub fn lower_four<W: Words>(words: &mut W, base: usize, index: usize) -> Lowered
     requires place { base + index / COUNTS_IN_WORD < length (W.words_of words.old) }
     requires counted { slice_index (counts_from (W.words_of words.old) base) index ≢ 0 }
     ensures answer { result ≡ lowered_of (slice_index (counts_from (W.words_of words.old) base) index) }

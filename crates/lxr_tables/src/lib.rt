@@ -1,7 +1,7 @@
 //! Tables over a list of words.
 //!
 //! A table is a part of one list of 64-bit words that begins at a word `base` and is cut into entries of a few
-//! bits: bits, 64 to a word, and reference counts, 32 to a word. Contracts see a table as the list of its entries,
+//! bits: bits, 64 to a word, and reference counts, `COUNTS_IN_WORD` to a word. Contracts see a table as the list of its entries,
 //! so each call reads one entry, or gives the list with one entry changed. A call takes a few instructions and
 //! neither loops nor branches on what it finds.
 //!
@@ -23,9 +23,9 @@ mod words;
 
 pub use bits::{bit, clear_bit, set_bit};
 pub use closed::ClosedWords;
-pub use counts::{COUNTS_IN_WORD, Lowered, Raised, lower_two, raise_two, set_two, two};
+pub use counts::{COUNTS_IN_WORD, Lowered, Raised, four, lower_four, raise_four, set_four};
 pub use gathering::zero_counts;
 pub use key::KeyFrom;
-pub use lanes::{COUNT_WORDS_IN_BLOCK, uncounted_lines, zero_lanes};
+pub use lanes::{uncounted_lines, zero_lanes};
 pub use reopening::reopen;
 pub use words::{PlainWords, Words};

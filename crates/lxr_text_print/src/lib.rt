@@ -13,5 +13,5 @@ mod summary;
 pub use laws::{text_grows_by_calls, text_is_of_operations};
 pub use pages::{LINE, PAGE, Page};
 pub use pauses::print_pause;
-pub use replies::print_replies;
+pub use replies::{print_replies, push_answer, push_thread, push_word};
 pub use summary::{Sums, print_summary};

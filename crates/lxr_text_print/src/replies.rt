@@ -34,7 +34,7 @@ pub fn print_replies<O: Sink>(
 
 /// Adds the line `thread T`.
 #[tactic(auto, unfolding(crate::specs::Replies::heading_text))]
-fn push_thread(page: &mut Page, thread: u8)
+pub fn push_thread(page: &mut Page, thread: u8)
     requires { length page.old + LINE ≤ PAGE }
     ensures { page.new ≡ page.old ++ heading_text thread }
 {
@@ -56,7 +56,7 @@ fn push_call(page: &mut Page, op: Op, reply: Reply)
 
 /// Adds the word of an operation and a space.
 #[inline(always)]
-fn push_word(page: &mut Page, op: Op)
+pub fn push_word(page: &mut Page, op: Op)
     requires room { length page.old + 8 ≤ PAGE }
     requires no_end { op ≢ Op.End }
     ensures text { page.new ≡ page.old ++ (word_of op ++ codes " ") }
@@ -68,6 +68,8 @@ fn push_word(page: &mut Page, op: Op)
         Op::Store { .. } => page.push(b"store "),
         Op::Put { .. } => page.push(b"put "),
         Op::Get { .. } => page.push(b"get "),
+        Op::Swap { .. } => page.push(b"swap "),
+        Op::Add { .. } => page.push(b"add "),
         Op::Move { .. } => page.push(b"move "),
         Op::Nil { .. } => page.push(b"nil "),
         Op::Same { .. } => page.push(b"same "),
@@ -79,7 +81,7 @@ fn push_word(page: &mut Page, op: Op)
 
 /// Adds the word of a reply.
 #[inline(always)]
-fn push_answer(page: &mut Page, reply: Reply)
+pub fn push_answer(page: &mut Page, reply: Reply)
     requires { length page.old + 41 ≤ PAGE }
     ensures text { page.new ≡ page.old ++ answer_of reply }
     ensures short { length page.new ≤ length page.old + 41 }
@@ -90,8 +92,11 @@ fn push_answer(page: &mut Page, reply: Reply)
         Reply::Loaded(None) => page.push(b"nil"),
         Reply::Loaded(Some(name)) => page.name(name),
         Reply::Stored => page.push(b"ok"),
+        Reply::Swapped(None) => page.push(b"nil"),
+        Reply::Swapped(Some(name)) => page.name(name),
         Reply::Put => page.push(b"ok"),
         Reply::Got(value) => page.number(value),
+        Reply::Added(value) => page.number(value),
         Reply::Moved => page.push(b"ok"),
         Reply::Cleared => page.push(b"ok"),
         Reply::Same(true) => page.push(b"yes"),

@@ -1,8 +1,8 @@
 mod Cutting
 mod Items
 mod Digits
-mod Loops
+pub mod Loops
 mod Spelled
 mod Plain
 mod Canonical
-mod Accepted
+pub mod Accepted

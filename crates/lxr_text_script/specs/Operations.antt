@@ -4,6 +4,8 @@ use Rattle.std.specs.Prelude.{ℕ, List, [], ◌∷◌, nat_le, Option, Some, No
 use Rattle.std.specs.Str.{bytes_eq}
 use Rattle.lxr_graph.specs.declared.Op.{Op}
 use Rattle.lxr_graph.specs.declared.Op.TheVariants as op
+use Rattle.lxr_text_script.specs.declared.Version.{Version}
+use Rattle.lxr_text_script.specs.declared.Version.TheVariants.{One, Two}
 use Rattle.lxr_text_script.specs.declared.fault.ScriptFault.{ScriptFault}
 use Rattle.lxr_text_script.specs.declared.fault.ScriptFault.TheVariants as fault
 use Rattle.lxr_text_script.specs.Lines.{Text}
@@ -67,6 +69,11 @@ two_words n words = Err (fault.Operation n)
 abbrev pub three_words : ℕ → List Text → Read (Text × Text × Text)
 three_words n (a ∷ b ∷ c ∷ []) = Ok (a, b, c)
 three_words n words = Err (fault.Operation n)
+
+-- exactly four words
+abbrev pub four_words : ℕ → List Text → Read (Text × Text × Text × Text)
+four_words n (a ∷ b ∷ c ∷ d ∷ []) = Ok (a, b, c, d)
+four_words n words = Err (fault.Operation n)
 
 -- The operations, by the words after their own.
 
@@ -137,16 +144,34 @@ same_of n words = do
   right ← register_at n w.1
   Ok (op.Same left right)
 
+-- `swap DEST BASE INDEX SOURCE`
+unfoldable pub swap_of : ℕ → List Text → Read Op
+swap_of n words = do
+  w ← four_words n words
+  dest ← register_at n w.0
+  base ← register_at n w.1
+  index ← index_at n w.2
+  source ← register_at n w.3
+  Ok (op.Swap dest base index source)
+
+-- `add BASE INDEX VALUE`
+unfoldable pub add_of : ℕ → List Text → Read Op
+add_of n words = do
+  w ← three_words n words
+  base ← register_at n w.0
+  index ← index_at n w.1
+  value ← number_at n w.2
+  Ok (op.Add base index value)
+
 -- `pause` and `collect`
 unfoldable pub alone : Op → ℕ → List Text → Read Op
 alone o n words = do
   none ← no_words n words
   Ok o
 
--- the operation of a line by its words
-unfoldable pub operation_of : ℕ → List Text → Read Op
-operation_of n [] = Err (fault.Operation n)
-operation_of n (word ∷ words) =
+-- an operation that each version has, by its word and those after it
+unfoldable pub first_of : ℕ → Text → List Text → Read Op
+first_of n word words =
     if bytes_eq word (codes "new") then new_of n words
     else if bytes_eq word (codes "load") then load_of n words
     else if bytes_eq word (codes "store") then store_of n words
@@ -158,3 +183,16 @@ operation_of n (word ∷ words) =
     else if bytes_eq word (codes "pause") then alone op.Pause n words
     else if bytes_eq word (codes "collect") then alone op.Collect n words
     else Err (fault.Operation n)
+
+-- an operation of version 2, which has two more
+unfoldable pub second_of : ℕ → Text → List Text → Read Op
+second_of n word words =
+    if bytes_eq word (codes "swap") then swap_of n words
+    else if bytes_eq word (codes "add") then add_of n words
+    else first_of n word words
+
+-- the operation of a line by its words, in a script of a version
+unfoldable pub operation_of : Version → ℕ → List Text → Read Op
+operation_of version n [] = Err (fault.Operation n)
+operation_of One n (word ∷ words) = first_of n word words
+operation_of Two n (word ∷ words) = second_of n word words

@@ -1,6 +1,6 @@
 -- What the bytes of a script say: the operations of its threads, or the first fault with its line.
 --
---     script   = `lxr 1`, `threads N`, thread 1 .. thread N
+--     script   = `lxr 1` or `lxr 2`, `threads N`, thread 1 .. thread N
 --     thread t = `thread t`, operations, `end`
 --
 -- Each of these stands on a line of its own, and nothing comes after the last.
@@ -10,6 +10,8 @@ use Rattle.std.specs.Cmp.Lexicographic.{pointwise}
 use Rattle.std.specs.Str.{bytes_eq}
 use Rattle.lxr_base.specs.Roomy.{Roomy}
 use Rattle.lxr_graph.specs.declared.Op.{Op}
+use Rattle.lxr_text_script.specs.declared.Version.{Version}
+use Rattle.lxr_text_script.specs.declared.Version.TheVariants.{One, Two}
 use Rattle.lxr_text_script.specs.declared.fault.ScriptFault.TheVariants as fault
 use Rattle.lxr_text_script.specs.declared.fault.ScriptError.{ScriptError}
 use Rattle.lxr_text_script.specs.declared.fault.ScriptError.TheVariants as error
@@ -31,11 +33,21 @@ number_after name words = None
 -- In the following, end is the number after that of the last line. An item's reading gives what it says and the lines
 -- after it.
 
--- the line `lxr 1`
-unfoldable pub header_of : ℕ → List Line → Read (List Line)
+-- the version that a word names
+abbrev pub version_of : Text → Option Version
+version_of word = if bytes_eq word (codes "1") then Some One else if bytes_eq word (codes "2") then Some Two else None
+
+-- the version of a line that consists of `lxr` and its number
+unfoldable pub header_version : List Text → Option Version
+header_version (word ∷ version ∷ []) = if bytes_eq word (codes "lxr") then version_of version else None
+header_version words = None
+
+-- the line `lxr 1` or `lxr 2`
+unfoldable pub header_of : ℕ → List Line → Read (Version × List Line)
 header_of end [] = Err (fault.Header end)
-header_of end (line ∷ others) =
-    if are line.words (codes "lxr" ∷ codes "1" ∷ []) then Ok others else Err (fault.Header line.number)
+header_of end (line ∷ others) = do
+  version ← or_fault (fault.Header line.number) (header_version line.words)
+  Ok (version, others)
 
 -- a number of 1 to 16
 abbrev pub thread_count : Option ℕ → Option ℕ
@@ -60,28 +72,28 @@ opening_of end t (line ∷ others) =
     if is_opening t line.words then Ok others else Err (fault.Threads line.number)
 
 -- the operation of a line, where so many of its thread stand before it
-unfoldable pub next_operation : ℕ → Line → Read Op
-next_operation before line = do
-  o ← operation_of line.number line.words
+unfoldable pub next_operation : Version → ℕ → Line → Read Op
+next_operation version before line = do
+  o ← operation_of version line.number line.words
   if nat_lt before most_operations then Ok o else Err (fault.TooManyOperations line.number)
 
 -- the operations of a thread up to its `end`, where so many of its operations stand before them
-unfoldable pub operations_of : ℕ → ℕ → List Line → Read (List Op × List Line)
-operations_of end before [] = Err (fault.NoEnd end)
-operations_of end before (line ∷ others) =
+unfoldable pub operations_of : Version → ℕ → ℕ → List Line → Read (List Op × List Line)
+operations_of version end before [] = Err (fault.NoEnd end)
+operations_of version end before (line ∷ others) =
     if are line.words (codes "end" ∷ []) then Ok ([], others)
     else do
-      o ← next_operation before line
-      more ← operations_of end (before + 1) others
+      o ← next_operation version before line
+      more ← operations_of version end (before + 1) others
       Ok (o ∷ more.0, more.1)
 
 -- so many threads, the first of which is thread t
-unfoldable pub bodies_of : ℕ → ℕ → ℕ → List Line → Read (List (List Op) × List Line)
-bodies_of end zero t items = Ok ([], items)
-bodies_of end (suc count) t items = do
+unfoldable pub bodies_of : Version → ℕ → ℕ → ℕ → List Line → Read (List (List Op) × List Line)
+bodies_of version end zero t items = Ok ([], items)
+bodies_of version end (suc count) t items = do
   body ← opening_of end t items
-  thread ← operations_of end 0 body
-  more ← bodies_of end count (t + 1) thread.1
+  thread ← operations_of version end 0 body
+  more ← bodies_of version end count (t + 1) thread.1
   Ok (thread.0 ∷ more.0, more.1)
 
 -- nothing comes after the last `end`
@@ -93,8 +105,8 @@ nothing_after (line ∷ others) = Err (fault.AfterEnd line.number)
 unfoldable pub script_of : ℕ → List Line → Read (List (List Op))
 script_of end items = do
   first ← header_of end items
-  threads ← threads_of end first
-  bodies ← bodies_of end threads.0 1 threads.1
+  threads ← threads_of end first.1
+  bodies ← bodies_of first.0 end threads.0 1 threads.1
   none ← nothing_after bodies.1
   Ok bodies.0
 

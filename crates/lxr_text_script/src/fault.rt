@@ -9,13 +9,13 @@ use thiserror::Error;
 /// The first fault of a script. Lines are counted from 1, and the end of the input is on the line after the last.
 #[derive(Clone, Copy, Debug, PartialEq, Eq, Error)]
 pub enum ScriptFault {
-    /// The first line isn't `lxr 1`.
+    /// The first line is neither `lxr 1` nor `lxr 2`.
     #[error("script line {line}: header")]
     Header { line: u32 },
     /// The second line isn't `threads N` with N of 1 to 16, or a thread's first line isn't `thread t`.
     #[error("script line {line}: threads")]
     Threads { line: u32 },
-    /// The first word is neither an operation nor `end`, or the number of words after it isn't its own.
+    /// The first word is neither an operation of the script's version nor `end`, or the number of words after it isn't its own.
     #[error("script line {line}: operation")]
     Operation { line: u32 },
     /// A word in a number's place isn't a number below 2^64.

@@ -9,7 +9,7 @@ ghost use Rattle.lxr_text_script.specs.Lines as text;
 
 /// A line that isn't skipped: its number, its first word, and the bytes after that word.
 #[derive(Clone, Copy)]
-pub(crate) struct Item<'a> {
+pub struct Item<'a> {
     pub number: u32,
     pub word: &'a [u8],
     pub rest: &'a [u8],
@@ -17,7 +17,7 @@ pub(crate) struct Item<'a> {
 
 /// The lines of a text that are left, with the number of the next.
 #[derive(Drop)]
-pub(crate) struct Scanner<'a> {
+pub struct Scanner<'a> {
     pub number: u32,
     pub rest: &'a [u8],
 }
@@ -85,7 +85,7 @@ fn front_word(line: &[u8]) -> (&[u8], &[u8])
 }
 
 /// The first word, and the bytes after it.
-pub(crate) fn split_word(line: &[u8]) -> Option<(&[u8], &[u8])>
+pub fn split_word(line: &[u8]) -> Option<(&[u8], &[u8])>
     ensures { MatchOption result (words_of line.now ≡ []) (λ found. (words_of line.now ≡ found.0.now ∷ words_of found.1.now) × (0 < length found.0.now)) }
 {
     match word_start(line) {

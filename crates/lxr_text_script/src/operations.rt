@@ -4,21 +4,21 @@ ghost use Rattle.std.specs.Result.{result_map_both};
 ghost use Rattle.lxr_text_script.specs.Lines.{words_of};
 ghost use Rattle.lxr_text_script.specs.Operations as read;
 
-use crate::ScriptFault;
 use crate::lines::split_word;
 use crate::numbers::{number_of, register_of};
+use crate::{ScriptFault, Version};
 use lxr_graph::Op;
 use lxr_layout::Shape;
 
 /// A word in a number's place.
-fn number_at(line: u32, word: &[u8]) -> Result<u64, ScriptFault>
+pub fn number_at(line: u32, word: &[u8]) -> Result<u64, ScriptFault>
     ensures { result ≡ read.number_at line word.now }
 {
     number_of(word).ok_or(ScriptFault::Number { line })
 }
 
 /// A word in a register's place.
-fn register_at(line: u32, word: &[u8]) -> Result<u8, ScriptFault>
+pub fn register_at(line: u32, word: &[u8]) -> Result<u8, ScriptFault>
     ensures { result ≡ read.register_at line word.now }
 {
     register_of(word).ok_or(ScriptFault::Register { line })
@@ -74,7 +74,7 @@ fn one_word(line: u32, rest: &[u8]) -> Result<&[u8], ScriptFault>
 }
 
 /// The two words that there are.
-fn two_words(line: u32, rest: &[u8]) -> Result<(&[u8], &[u8]), ScriptFault>
+pub fn two_words(line: u32, rest: &[u8]) -> Result<(&[u8], &[u8]), ScriptFault>
     ensures { result_map_both (λ w. (w.0.now, w.1.now)) (λ fault. fault) result ≡ read.two_words line (words_of rest.now) }
 {
     match split_word(rest) {
@@ -84,7 +84,7 @@ fn two_words(line: u32, rest: &[u8]) -> Result<(&[u8], &[u8]), ScriptFault>
 }
 
 /// The three words that there are.
-fn three_words(line: u32, rest: &[u8]) -> Result<(&[u8], &[u8], &[u8]), ScriptFault>
+pub fn three_words(line: u32, rest: &[u8]) -> Result<(&[u8], &[u8], &[u8]), ScriptFault>
     ensures { result_map_both (λ w. (w.0.now, w.1.now, w.2.now)) (λ fault. fault) result ≡ read.three_words line (words_of rest.now) }
 {
     match split_word(rest) {
@@ -92,6 +92,19 @@ fn three_words(line: u32, rest: &[u8]) -> Result<(&[u8], &[u8], &[u8]), ScriptFa
         Some((a, rest)) => {
             let (b, c) = two_words(line, rest)?;
             Ok((a, b, c))
+        }
+    }
+}
+
+/// The four words that there are.
+fn four_words(line: u32, rest: &[u8]) -> Result<(&[u8], &[u8], &[u8], &[u8]), ScriptFault>
+    ensures { result_map_both (λ w. (w.0.now, w.1.now, w.2.now, w.3.now)) (λ fault. fault) result ≡ read.four_words line (words_of rest.now) }
+{
+    match split_word(rest) {
+        None => Err(ScriptFault::Operation { line }),
+        Some((a, rest)) => {
+            let (b, c, d) = three_words(line, rest)?;
+            Ok((a, b, c, d))
         }
     }
 }
@@ -186,6 +199,34 @@ fn same_of(line: u32, rest: &[u8]) -> Result<Op, ScriptFault>
     Ok(Op::Same { left, right })
 }
 
+#[tactic(auto, unfolding(crate::specs::Operations::swap_of))]
+fn swap_of(line: u32, rest: &[u8]) -> Result<Op, ScriptFault>
+    ensures { result ≡ read.swap_of line (words_of rest.now) }
+{
+    let (dest, base, index, source) = four_words(line, rest)?;
+    let dest = register_at(line, dest)?;
+    let base = register_at(line, base)?;
+    let index = index_at(line, index)?;
+    let source = register_at(line, source)?;
+    Ok(Op::Swap {
+        dest,
+        base,
+        index,
+        source,
+    })
+}
+
+#[tactic(auto, unfolding(crate::specs::Operations::add_of))]
+fn add_of(line: u32, rest: &[u8]) -> Result<Op, ScriptFault>
+    ensures { result ≡ read.add_of line (words_of rest.now) }
+{
+    let (base, index, value) = three_words(line, rest)?;
+    let base = register_at(line, base)?;
+    let index = index_at(line, index)?;
+    let value = number_at(line, value)?;
+    Ok(Op::Add { base, index, value })
+}
+
 /// An operation without words after its own.
 #[tactic(auto, unfolding(crate::specs::Operations::alone))]
 fn alone(op: Op, line: u32, rest: &[u8]) -> Result<Op, ScriptFault>
@@ -195,10 +236,10 @@ fn alone(op: Op, line: u32, rest: &[u8]) -> Result<Op, ScriptFault>
     Ok(op)
 }
 
-/// The operation of a line, by its first word and the bytes after it.
-#[tactic(auto, unfolding(crate::specs::Operations::operation_of))]
-pub(crate) fn operation_of(line: u32, word: &[u8], rest: &[u8]) -> Result<Op, ScriptFault>
-    ensures { result ≡ read.operation_of line (word.now ∷ words_of rest.now) }
+/// The operation of a line that each version has, by its first word and the bytes after it.
+#[tactic(auto, unfolding(crate::specs::Operations::first_of))]
+fn first_of(line: u32, word: &[u8], rest: &[u8]) -> Result<Op, ScriptFault>
+    ensures { result ≡ read.first_of line word.now (words_of rest.now) }
 {
     match word {
         b"new" => new_of(line, rest),
@@ -212,5 +253,33 @@ pub(crate) fn operation_of(line: u32, word: &[u8], rest: &[u8]) -> Result<Op, Sc
         b"pause" => alone(Op::Pause, line, rest),
         b"collect" => alone(Op::Collect, line, rest),
         _ => Err(ScriptFault::Operation { line }),
+    }
+}
+
+/// The operation of a line of a script of version 2, which has two more.
+#[tactic(auto, unfolding(crate::specs::Operations::second_of))]
+fn second_of(line: u32, word: &[u8], rest: &[u8]) -> Result<Op, ScriptFault>
+    ensures { result ≡ read.second_of line word.now (words_of rest.now) }
+{
+    match word {
+        b"swap" => swap_of(line, rest),
+        b"add" => add_of(line, rest),
+        _ => first_of(line, word, rest),
+    }
+}
+
+/// The operation of a line, by its first word and the bytes after it.
+#[tactic(auto, unfolding(crate::specs::Operations::operation_of))]
+pub fn operation_of(
+    version: Version,
+    line: u32,
+    word: &[u8],
+    rest: &[u8],
+) -> Result<Op, ScriptFault>
+    ensures { result ≡ read.operation_of version line (word.now ∷ words_of rest.now) }
+{
+    match version {
+        Version::One => first_of(line, word, rest),
+        Version::Two => second_of(line, word, rest),
     }
 }

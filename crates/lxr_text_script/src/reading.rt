@@ -9,12 +9,12 @@ ghost use Rattle.lxr_text_script.specs.Scanner.{IsSmall, end_left, items_left, l
 use crate::lines::{Item, Scanner, split_word};
 use crate::numbers::number_of;
 use crate::operations::operation_of;
-use crate::{Lists, MOST_BYTES, Script, ScriptError, ScriptFault};
+use crate::{Lists, MOST_BYTES, Script, ScriptError, ScriptFault, Version};
 use lxr_graph::{Op, Operations};
 use std::alloc::Global;
 
 /// A thread has at most so many operations.
-const MOST_OPERATIONS: usize = 1_048_576;
+pub const MOST_OPERATIONS: usize = 1_048_576;
 
 /// The number of a line that consists of the given word and a number.
 #[tactic(auto, unfolding(crate::specs::Reading::number_after))]
@@ -29,44 +29,48 @@ fn number_after(name: &[u8], item: &Item) -> Option<u64>
     }
 }
 
-/// Whether a line is `lxr 1`.
-fn is_header(item: &Item) -> bool
-    ensures { result ≡ read.are (line_of item.now).words (codes "lxr" ∷ codes "1" ∷ []) }
+/// The version that a word names.
+fn version_of(word: &[u8]) -> Option<Version>
+    ensures { result ≡ read.version_of word.now }
 {
-    match split_word(item.rest) {
-        None => false,
-        Some((version, rest)) => {
-            item.word == b"lxr".as_slice()
-                && version == b"1".as_slice()
-                && split_word(rest).is_none()
-        }
+    match word {
+        b"1" => Some(Version::One),
+        b"2" => Some(Version::Two),
+        _ => None,
+    }
+}
+
+/// The version of a line `lxr 1` or `lxr 2`.
+#[tactic(auto, unfolding(crate::specs::Reading::header_version))]
+fn header_version(item: &Item) -> Option<Version>
+    ensures { result ≡ read.header_version (line_of item.now).words }
+{
+    let (version, rest) = split_word(item.rest)?;
+    if item.word == b"lxr".as_slice() && split_word(rest).is_none() {
+        version_of(version)
+    } else {
+        None
     }
 }
 
 /// Whether a line is `end`.
-fn is_end(item: &Item) -> bool
+pub fn is_end(item: &Item) -> bool
     ensures { result ≡ read.are (line_of item.now).words (codes "end" ∷ []) }
 {
     item.word == b"end".as_slice() && split_word(item.rest).is_none()
 }
 
-/// Reads the line `lxr 1`.
+/// Reads the line `lxr 1` or `lxr 2`: which version it names.
 #[tactic(auto, unfolding(crate::specs::Reading::header_of))]
-fn read_header(lines: &mut Scanner) -> Result<(), ScriptFault>
+fn read_header(lines: &mut Scanner) -> Result<Version, ScriptFault>
     requires { IsSmall lines.old }
     ensures small { IsSmall lines.new }
     ensures end { end_left lines.new ≡ end_left lines.old }
-    ensures read { result_map_both (λ _. items_left lines.new) (λ fault. fault) result ≡ read.header_of (end_left lines.old) (items_left lines.old) }
+    ensures read { result_map_both (λ version. (version, items_left lines.new)) (λ fault. fault) result ≡ read.header_of (end_left lines.old) (items_left lines.old) }
 {
     match lines.next() {
         None => Err(ScriptFault::Header { line: lines.number }),
-        Some(item) => {
-            if is_header(&item) {
-                Ok(())
-            } else {
-                Err(ScriptFault::Header { line: item.number })
-            }
-        }
+        Some(item) => header_version(&item).ok_or(ScriptFault::Header { line: item.number }),
     }
 }
 
@@ -129,10 +133,10 @@ fn read_opening(lines: &mut Scanner, thread: u8) -> Result<(), ScriptFault>
 
 /// The operation of a line, where so many of its thread stand before it.
 #[tactic(auto, unfolding(crate::specs::Reading::next_operation))]
-fn next_operation(item: &Item, before: usize) -> Result<Op, ScriptFault>
-    ensures { result ≡ read.next_operation before (line_of item.now) }
+fn next_operation(version: Version, item: &Item, before: usize) -> Result<Op, ScriptFault>
+    ensures { result ≡ read.next_operation version before (line_of item.now) }
 {
-    let op = operation_of(item.number, item.word, item.rest)?;
+    let op = operation_of(version, item.number, item.word, item.rest)?;
     if before < MOST_OPERATIONS {
         Ok(op)
     } else {
@@ -141,35 +145,44 @@ fn next_operation(item: &Item, before: usize) -> Result<Op, ScriptFault>
 }
 
 /// Reads the operations of a thread up to its `end`.
-fn read_operations(alloc: Global, lines: &mut Scanner) -> Result<Operations, ScriptError>
+fn read_operations(
+    alloc: Global,
+    version: Version,
+    lines: &mut Scanner,
+) -> Result<Operations, ScriptError>
     requires { IsSmall lines.old }
     ensures small { IsSmall lines.new }
     ensures end { end_left lines.new ≡ end_left lines.old }
-    ensures read { Gives (λ operations. (operations.items, items_left lines.new)) result (read.operations_of (end_left lines.old) 0 (items_left lines.old)) }
+    ensures read { Gives (λ operations. (operations.items, items_left lines.new)) result (read.operations_of version (end_left lines.old) 0 (items_left lines.old)) }
 {
     let mut operations = Vec::new(alloc);
     while let Some(item) = lines.next() {
         if is_end(&item) {
             return Ok(Operations::from_vec(operations));
         }
-        let op = next_operation(&item, operations.len())?;
+        let op = next_operation(version, &item, operations.len())?;
         operations.push(op)?;
     }
     Err(ScriptError::Fault(ScriptFault::NoEnd { line: lines.number }))
 }
 
 /// Reads so many threads.
-fn read_bodies(alloc: Global, lines: &mut Scanner, count: u8) -> Result<Lists, ScriptError>
+fn read_bodies(
+    alloc: Global,
+    version: Version,
+    lines: &mut Scanner,
+    count: u8,
+) -> Result<Lists, ScriptError>
     requires { IsSmall lines.old }
     ensures small { IsSmall lines.new }
     ensures end { end_left lines.new ≡ end_left lines.old }
-    ensures read { Gives (λ bodies. (lists_in bodies, items_left lines.new)) result (read.bodies_of (end_left lines.old) count 1 (items_left lines.old)) }
+    ensures read { Gives (λ bodies. (lists_in bodies, items_left lines.new)) result (read.bodies_of version (end_left lines.old) count 1 (items_left lines.old)) }
     ensures count { IfOk result (λ bodies. length (lists_in bodies) ≡ count) }
 {
     let mut bodies = Vec::new(alloc);
     for done in 0..count {
         read_opening(lines, done + 1)?;
-        let body = read_operations(alloc, lines)?;
+        let body = read_operations(alloc, version, lines)?;
         bodies.push(body)?;
     }
     Ok(Lists::from_vec(bodies))
@@ -182,9 +195,9 @@ fn read_lines(alloc: Global, lines: &mut Scanner) -> Result<Script, ScriptError>
     ensures exact { Gives threads_in result (read.script_of (end_left lines.old) (items_left lines.old)) }
     ensures threads { IfOk result (λ script. script.threads ≡ length (threads_in script)) }
 {
-    read_header(lines)?;
+    let version = read_header(lines)?;
     let threads = read_threads(lines)?;
-    let operations = read_bodies(alloc, lines, threads)?;
+    let operations = read_bodies(alloc, version, lines, threads)?;
     match lines.next() {
         None => Ok(Script {
             threads,

@@ -1,6 +1,6 @@
 //! Units of decrementers, worked out by hand, in a space of one block.
 //!
-//! The count of the object at place 5 begins at bit 8 of its word, and its bit is bit 4; those of place 7 are at bit 12, and
+//! The count of the object at place 5 begins at bit 16 of its word, and its bit is bit 4; those of place 7 are at bit 24, and
 //! bit 6.
 use crate::steps::{End, LIMITS, Move, Play, TABLES, TWO_REFERENCES, Unit, play, words_with};
 use lxr_decrement::{DecEnd, Decrementer};
@@ -34,22 +34,31 @@ fn play_each(rt: &impl Abort, alloc: Global, plays: &[Play]) {
     }
 }
 
-/// An entry for an object with count 1, or stuck, beside another object with count 3.
+/// An entry for an object with count 1, with one below the greatest, or stuck, beside another object that is stuck.
 const ENTRIES: &[Play] = &[
     (
-        &[(LISTED, 1), (TABLES.decs, 5), (TABLES.counts, 0xd00)],
+        &[(LISTED, 1), (TABLES.decs, 5), (TABLES.counts, 0xf1_0000)],
         &[
             (0, Move::Finish(6, End::Worked)),
-            (0, Move::Word(TABLES.counts, 0xc00)),
+            (0, Move::Word(TABLES.counts, 0xf0_0000)),
             (0, Move::Spare(5)),
             (0, Move::Finish(2, End::Nothing)),
         ],
     ),
     (
-        &[(LISTED, 1), (TABLES.decs, 5), (TABLES.counts, 0xf00)],
+        &[(LISTED, 1), (TABLES.decs, 5), (TABLES.counts, 0xfe_0000)],
+        &[
+            (0, Move::Finish(6, End::Worked)),
+            (0, Move::Word(TABLES.counts, 0xfd_0000)),
+            (0, Move::Spare(0)),
+            (0, Move::Finish(2, End::Nothing)),
+        ],
+    ),
+    (
+        &[(LISTED, 1), (TABLES.decs, 5), (TABLES.counts, 0xff_0000)],
         &[
             (0, Move::Finish(5, End::Worked)),
-            (0, Move::Word(TABLES.counts, 0xf00)),
+            (0, Move::Word(TABLES.counts, 0xff_0000)),
             (0, Move::Spare(0)),
             (0, Move::Finish(2, End::Nothing)),
         ],
@@ -67,12 +76,12 @@ const STOPPED: &[Play] = &[(
         (LISTED, 2),
         (TABLES.decs, 5),
         (TABLES.decs + 1, 5),
-        (TABLES.counts, 0x200),
+        (TABLES.counts, 0x2_0000),
     ],
     &[
         (0, Move::Advance(5)),
         (1, Move::Finish(6, End::Worked)),
-        (1, Move::Word(TABLES.counts, 0x100)),
+        (1, Move::Word(TABLES.counts, 0x1_0000)),
         (0, Move::Finish(1, End::Worked)),
         (0, Move::Word(TABLES.counts, 0)),
         (1, Move::Spare(0)),
@@ -93,7 +102,7 @@ const DEAD: &[Play] = &[
         &[
             (8, TWO_REFERENCES),
             (10, 7),
-            (TABLES.counts, 0x1000),
+            (TABLES.counts, 0x100_0000),
             (TABLES.starts, 0x50),
             (TRACING, 1),
         ],
@@ -109,7 +118,7 @@ const DEAD: &[Play] = &[
         &[
             (8, TWO_REFERENCES),
             (10, 7),
-            (TABLES.counts, 0x1000),
+            (TABLES.counts, 0x100_0000),
             (TABLES.starts, 0x50),
             (TABLES.dones, 0x10),
             (TRACING, 1),

@@ -2,7 +2,7 @@
 use lxr_base::draw;
 use lxr_blocks::zero_lines;
 use lxr_layout::{Header, Name, Place, Run, Shape, entry_word, pack, run_word, unpack};
-use lxr_tables::{Lowered, PlainWords, Raised, Words, lower_two, raise_two, two};
+use lxr_tables::{Lowered, PlainWords, Raised, Words, four, lower_four, raise_four};
 use std::process::Abort;
 
 const FIRST: Name = Name {
@@ -28,19 +28,20 @@ fn packed_words(rt: HostRuntime) {
 /// Raises the last count of a word.
 fn raise_last(rt: &impl Abort, words: &mut PlainWords) -> Raised {
     assert!(rt; words.count() == 1);
-    raise_two(words, 0, 31)
+    raise_four(words, 0, 15)
 }
 
 /// The last count of a word is raised to where it is stuck, and then stays.
 #[test]
 fn counts_saturate(rt: HostRuntime) {
     let mut words = PlainWords::new(rt.alloc(), 1).expect(&rt, "memory");
-    for (old, now) in [(0, 1), (1, 2), (2, 3), (3, 3)] {
-        assert!(rt; raise_last(&rt, &mut words) == Raised { old, now });
+    for old in 0..15_u8 {
+        assert!(rt; raise_last(&rt, &mut words) == Raised { old, now: old + 1 });
     }
+    assert!(rt; raise_last(&rt, &mut words) == Raised { old: 15, now: 15 });
     assert!(rt; words.count() == 1);
-    assert!(rt; two(&words, 0, 31) != 0);
-    assert!(rt; lower_two(&mut words, 0, 31) == Lowered::Stuck);
+    assert!(rt; four(&words, 0, 15) != 0);
+    assert!(rt; lower_four(&mut words, 0, 15) == Lowered::Stuck);
     drop(words);
 }
 
@@ -56,7 +57,7 @@ fn first_draw_from_seven(rt: HostRuntime) {
 #[test]
 fn lines_whose_words_are_zero(rt: HostRuntime) {
     let mut words = [0; 128];
-    words[0] = 1 << 30;
-    words[127] = 1 << 30;
+    words[0] = 1 << 62;
+    words[127] = 1;
     assert!(rt; zero_lines(&words) == (1_u128 << 127) - 2);
 }

@@ -1,15 +1,16 @@
 //! Fields: from the header of a base to a reference or a data word of it.
-ghost use Rattle.std.specs.Prelude.{◌≡◌, ◌+◌, ◌&&◌, ◌<◌, ◌≤◌, false, Some, None, if◌then◌else◌};
+ghost use Rattle.std.specs.Prelude.{◌≡◌, ◌≢◌, ◌+◌, ◌&&◌, ◌<◌, ◌≤◌, false, length, nat_le, Some, None, if◌then◌else◌};
 ghost use Rattle.lxr_layout.specs.Objects.{header_of, word_count};
-ghost use Rattle.lxr_layout.specs.Places.{IsPlace, first_word};
+ghost use Rattle.lxr_layout.specs.declared.TheConstants.{MOST_GRANULES};
+ghost use Rattle.lxr_layout.specs.Places.{IsPlace, first_word, place_in};
 ghost use Rattle.lxr_barrier.specs.Storing.{Storing};
 ghost use Rattle.lxr_mutator.specs.Operating.{index_of, indexed_fields};
 ghost use Rattle.lxr_mutator.specs.Mutating.{op_now, wipes_in};
-ghost use Rattle.lxr_mutator.specs.Steps.{after_in, data_word, is_header, lies_in_heap, name_told, next_in, reaching, shape_told};
+ghost use Rattle.lxr_mutator.specs.Steps.{data_word, done_with, is_header, lies_in_heap, loaded, name_told, next_in, reaching, shape_told};
 ghost use Rattle.lxr_mutator.specs.Mutators.{IsBusy, MayBeIn};
 
 use super::Mutator;
-use crate::operating::{dest_of, index_of, indexed_fields};
+use crate::operating::{dest_of, found_reply, index_of, indexed_fields};
 use crate::phases::{MutatorPhase, Stop};
 use lxr_barrier::{StoreEnd, StoreMachine};
 use lxr_graph::{Op, Reply};
@@ -67,11 +68,21 @@ impl Mutator {
                 index,
                 self.register(source),
             )),
+            Op::Swap { index, source, .. } => MutatorPhase::Storing(StoreMachine::swapping(
+                self.regions,
+                base,
+                index,
+                self.register(source),
+            )),
             Op::Put { .. } => MutatorPhase::Putting {
                 base,
                 refs: shape.refs,
             },
             Op::Get { .. } => MutatorPhase::Datum {
+                base,
+                refs: shape.refs,
+            },
+            Op::Add { .. } => MutatorPhase::Adding {
                 base,
                 refs: shape.refs,
             },
@@ -85,36 +96,48 @@ impl Mutator {
         requires { IsBusy self.old (MutatorPhase.Reference base) }
         ensures { self.new ≡ next_in self.old (MutatorPhase.Reference base) reference }
     {
+        self.hold_reference(reference);
+    }
+
+    /// A word was found in the field: where it is a reference, its register holds what it refers to, whose name is looked
+    /// up unless it is nil.
+    #[inline(always)]
+    fn hold_reference(&mut self, reference: u64)
+        requires turn { self.old.phase ≢ MutatorPhase.Finished }
+        requires operation { length self.old.replies.items < length self.old.operations }
+        ensures { self.new ≡ (if nat_le reference (MOST_GRANULES) then loaded self.old (place_in reference) else done_with self.old Reply.Bad) }
+    {
         if reference > u64::from(MOST_GRANULES) {
             self.reply(Reply::Bad);
             return;
         }
         let place = Place(reference as u32);
-        self.set_register(dest_of(self.op()), place);
+        let op = self.op();
+        self.set_register(dest_of(op), place);
         if place.0 == 0 {
-            self.reply(Reply::Loaded(None));
+            self.reply(found_reply(op, None));
         } else {
             self.go_on(MutatorPhase::Referent { place });
         }
     }
 
-    /// The header of what was loaded is loaded too: the operation is done, with the name that it tells.
+    /// The header of what was loaded or swapped out is loaded too: the operation is done, with the name that it tells.
     #[inline(always)]
     pub(super) fn name_referent(&mut self, place: Place, header: u64)
         requires { IsBusy self.old (MutatorPhase.Referent place) }
         ensures { self.new ≡ next_in self.old (MutatorPhase.Referent place) header }
     {
         match unpack(header) {
-            Header::Object(name, _) => self.reply(Reply::Loaded(Some(name))),
+            Header::Object(name, _) => self.reply(found_reply(self.op(), Some(name))),
             Header::Moved(_) => self.reply(Reply::Bad),
         }
     }
 
-    /// The store in progress goes on.
+    /// The store or swap in progress goes on.
     #[inline(always)]
     pub(super) fn step_store(&mut self, old: u64)
         requires { (store : Storing) × (self.old.phase ≡ MutatorPhase.Storing store) }
-        ensures { (store : Storing) → self.old.phase ≡ MutatorPhase.Storing store → self.new ≡ after_in self.old (MutatorPhase.Storing store) old }
+        ensures { (store : Storing) → self.old.phase ≡ MutatorPhase.Storing store → self.new ≡ next_in self.old (MutatorPhase.Storing store) old }
     {
         let MutatorPhase::Storing(machine) = &mut self.phase else {
             unreachable!();
@@ -125,6 +148,10 @@ impl Mutator {
             Some(StoreEnd::Stored) => {
                 self.phase = MutatorPhase::Ready;
                 self.reply(Reply::Stored);
+            }
+            Some(StoreEnd::Swapped { .. }) => {
+                self.phase = MutatorPhase::Ready;
+                self.hold_reference(old);
             }
             Some(StoreEnd::LogFull) => self.phase = MutatorPhase::GivingUp(Stop::LogFull),
         }

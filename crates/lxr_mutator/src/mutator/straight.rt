@@ -67,11 +67,15 @@ impl Mutator {
                 self.store_datum(steps, table);
                 self.finish(steps, table);
             }
+            MutatorPhase::Adding { .. } => {
+                self.add_datum(steps, table);
+                self.finish(steps, table);
+            }
             _ => self.store(steps, table),
         }
     }
 
-    /// Does what is left of a `load`, once the reference was loaded.
+    /// Does what is left of a `load` or a `swap`, once the reference was loaded or swapped out.
     #[inline(always)]
     fn tell_name<T, S: Steps<Mutator, T>>(&mut self, steps: &mut S, table: &T)
         requires holds { S.holds table.now steps.old self.old }
@@ -87,7 +91,7 @@ impl Mutator {
         }
     }
 
-    /// Does what is left of a `store` to a reference.
+    /// Does what is left of a `store` to a reference, or of a `swap`.
     #[inline(always)]
     fn store<T, S: Steps<Mutator, T>>(&mut self, steps: &mut S, table: &T)
         requires holds { S.holds table.now steps.old self.old }
@@ -97,7 +101,7 @@ impl Mutator {
         while let MutatorPhase::Storing(_) = self.phase {
             self.go_on_storing(steps, table);
         }
-        self.finish(steps, table);
+        self.tell_name(steps, table);
     }
 
     /// Makes an object in lines that it has: wipes its further words, and stores its header.
@@ -197,7 +201,7 @@ impl Mutator {
         self.keep_reference(base, reference);
     }
 
-    /// Loads the header of what was loaded.
+    /// Loads the header of what was loaded or swapped out.
     #[inline(always)]
     fn load_name<T, S: Steps<Mutator, T>>(&mut self, place: Place, steps: &mut S, table: &T)
         requires busy { IsBusy self.old (MutatorPhase.Referent place) }
@@ -233,7 +237,19 @@ impl Mutator {
         self.end_put();
     }
 
-    /// Does the next step of the store in progress.
+    /// Adds to the data word that `add` names.
+    #[inline(always)]
+    fn add_datum<T, S: Steps<Mutator, T>>(&mut self, steps: &mut S, table: &T)
+        requires busy { (base : Place) × (refs : ℕ) × IsBusy self.old (MutatorPhase.Adding base refs) }
+        requires holds { S.holds table.now steps.old self.old }
+        ensures step { Does mutator_machine S.did self.old steps.old self.new steps.new }
+        ensures holds { S.holds table.now steps.new self.new }
+    {
+        let old = steps.step(table, self);
+        self.end_add(old);
+    }
+
+    /// Does the next step of the store or swap in progress.
     #[inline(always)]
     fn go_on_storing<T, S: Steps<Mutator, T>>(&mut self, steps: &mut S, table: &T)
         requires busy { (store : Storing) × IsBusy self.old (MutatorPhase.Storing store) }

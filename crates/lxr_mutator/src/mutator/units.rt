@@ -10,7 +10,7 @@ use super::Mutator;
 use super::fields::data_word;
 use crate::operating::{asked_reply, index_of, value_of};
 use crate::phases::{MutEnd, MutatorPhase, Stop};
-use lxr_actor::{Action, Actor};
+use lxr_actor::{Action, Actor, Kindred};
 use lxr_graph::{Op, Reply};
 use lxr_layout::{
     FREE_BLOCK_COUNT, FREE_BLOCK_CURSOR, PAUSE_WORD, Place, RUN_COUNT, RUN_CURSOR, field_word,
@@ -106,6 +106,16 @@ impl Mutator {
         self.reply(Reply::Put);
     }
 
+    /// The data word was added to: the operation is done, and tells what it was.
+    #[inline(always)]
+    pub(super) fn end_add(&mut self, old: u64)
+        requires turn { self.old.phase ≢ MutatorPhase.Finished }
+        requires operation { length self.old.replies.items < length self.old.operations }
+        ensures { self.new ≡ done_with self.old (Reply.Added old) }
+    {
+        self.reply(Reply::Added(old));
+    }
+
     /// A pause was asked for, as the script says: the operation is done.
     #[inline(always)]
     fn end_asking(&mut self)
@@ -140,6 +150,8 @@ impl Mutator {
             Op::Store { base, .. } => self.begin_at(self.register(base)),
             Op::Put { base, .. } => self.begin_at(self.register(base)),
             Op::Get { base, .. } => self.begin_at(self.register(base)),
+            Op::Swap { base, .. } => self.begin_at(self.register(base)),
+            Op::Add { base, .. } => self.begin_at(self.register(base)),
             Op::Move { dest, source } => {
                 self.set_register(dest, self.register(source));
                 self.reply(Reply::Moved);
@@ -197,6 +209,14 @@ impl Actor for Mutator {
                 let op = self.op();
                 Some(Action::store(data_word(base, refs, op), value_of(op)))
             }
+            MutatorPhase::Adding { base, refs } => {
+                let op = self.op();
+                Some(Action {
+                    kind: Kindred::Add,
+                    word: data_word(base, refs, op),
+                    operand: value_of(op),
+                })
+            }
             MutatorPhase::Storing(ref machine) => machine.next(),
             MutatorPhase::DrawsRun => Some(Action::draw(cursors + RUN_CURSOR)),
             MutatorPhase::RunNumber { .. } => Some(Action::load(cursors + RUN_COUNT)),
@@ -226,6 +246,7 @@ impl Actor for Mutator {
             MutatorPhase::Referent { place } => self.name_referent(place, old),
             MutatorPhase::Datum { .. } => self.tell_datum(old),
             MutatorPhase::Putting { .. } => self.end_put(),
+            MutatorPhase::Adding { .. } => self.end_add(old),
             MutatorPhase::Storing(_) => self.step_store(old),
             MutatorPhase::DrawsRun => self.draw_run(old),
             MutatorPhase::RunNumber { number } => self.find_run(number, old),

@@ -1,5 +1,5 @@
 //! Whoever stores first to a reference, exactly one log keeps the value that it had: in threads, and by schedules worked
-//! out by hand.
+//! out by hand. So it is with swaps, each of which tells what it has found.
 ghost use Rattle.std.specs.Prelude.{◌≡◌, IfOk, length};
 ghost use Rattle.lxr_barrier.specs.Unlogged.{HaveWords};
 
@@ -24,8 +24,8 @@ const INDEX: u16 = 2;
 
 const FIELD: usize = 67;
 
-/// The second word of the unlogged bits, which begin at word 4,288 of a space of one block, and the reference's bit.
-const BITS: usize = 4289;
+/// The second word of the unlogged bits, which begin at word 4,352 of a space of one block, and the reference's bit.
+const BITS: usize = 4353;
 
 const BIT: u64 = 8;
 
@@ -143,6 +143,62 @@ fn races(rt: HostRuntime) -> Result<(), Fail> {
         ([2, 0, 0, 0, 0, 1, 255, 1], B, 0),
     ] {
         race(&rt, rt.alloc(), &schedule, stored, winner)?;
+    }
+    Ok(())
+}
+
+/// Does the next step of a machine on words that have it, with a log that has room.
+fn step(machine: &mut StoreMachine, log: &mut Log, words: &mut PlainWords) {
+    let Some(action) = machine.next() else {
+        return;
+    };
+    let at = action.word as usize;
+    if at < words.count() && !log.is_full() {
+        let old = words.get(at);
+        words.set(at, action.kind.apply(old, action.operand));
+        machine.take(old, log);
+    }
+}
+
+/// Runs a swap of `A` and one of `B` by a schedule, and looks at what each has found, what the reference holds then, and how
+/// many entries each has recorded.
+fn swap_race(
+    rt: &impl Abort,
+    alloc: Global,
+    schedule: &[u8],
+    olds: [Option<Place>; 2],
+    left: Place,
+    recorded: [u32; 2],
+) -> Result<(), AllocError> {
+    let mut words = opened(alloc)?;
+    let mut first = StoreMachine::swapping(regions(LIMITS), PLACE, INDEX, A);
+    let mut second = StoreMachine::swapping(regions(LIMITS), PLACE, INDEX, B);
+    let mut first_log = Log::new(alloc, 2)?;
+    let mut second_log = Log::new(alloc, 2)?;
+    for turn in schedule {
+        match *turn {
+            0 => step(&mut first, &mut first_log, &mut words),
+            1 => step(&mut second, &mut second_log, &mut words),
+            _ => {}
+        }
+    }
+    assert!(rt; [first.old(), second.old()] == olds);
+    assert_eq!(rt; [first_log.len(), second_log.len()], recorded);
+    assert!(rt; words.count() == 5000 && words.get(FIELD) == u64::from(left.0));
+    Ok(())
+}
+
+#[test]
+fn swaps_tell_what_they_find(rt: HostRuntime) -> Result<(), Fail> {
+    for (schedule, olds, left, recorded) in [
+        ([0, 0, 0, 1, 1, 0, 9, 9], [Some(B), Some(P)], A, [1, 0]),
+        ([0, 0, 1, 1, 1, 1, 0, 0], [Some(B), Some(P)], A, [0, 1]),
+        ([0, 1, 0, 1, 0, 1, 0, 1], [Some(P), Some(A)], B, [1, 0]),
+        ([0, 1, 0, 1, 1, 0, 0, 1], [Some(P), Some(A)], B, [0, 1]),
+        ([0, 0, 0, 1, 9, 9, 9, 9], [None, None], P, [1, 0]),
+        ([1, 1, 1, 1, 0, 9, 9, 9], [None, Some(P)], B, [0, 1]),
+    ] {
+        swap_race(&rt, rt.alloc(), &schedule, olds, left, recorded)?;
     }
     Ok(())
 }

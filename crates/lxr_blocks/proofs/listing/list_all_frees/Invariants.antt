@@ -1,4 +1,4 @@
-use Rattle.std.proofs.Common.{◌≡◌, ◌*◌, ◌≤◌, length}
+use Rattle.std.proofs.Common.{◌≡◌, ◌-◌, ◌≤◌, length}
 use Rattle.lxr_image.specs.Spaces.{IsSpace, Turns, tables_of}
 use Rattle.lxr_blocks.specs.Listing.{block_frees, joined, with_frees}
 use Rattle.lxr_blocks.proofs.listing.list_all_frees.Given as goal
@@ -6,7 +6,11 @@ use Rattle.lxr_blocks.proofs.listing.list_all_frees.Given as goal
 abbrev pub invariant-loop-block : goal.invariant-loop-block
 invariant-loop-block l = record {
   space : IsSpace l.space;
-  turns : Turns l.initial.space l.space (with_frees (tables_of l.initial.space) 0 (joined (block_frees (tables_of l.initial.space)) l.block));
-  count : l.count ≡ length (joined (block_frees (tables_of l.initial.space)) l.block);
-  room : l.count ≤ 1 * l.block;
+  turns : Turns l.initial.space l.space (with_frees (tables_of l.initial.space) 0 (joined (block_frees (tables_of l.initial.space)) l.at));
+  count : l.count ≡ length (joined (block_frees (tables_of l.initial.space)) l.at);
+  room : l.count ≤ l.at;
+  within : l.at ≤ l.initial.space.limits.blocks;
 }
+
+abbrev pub decreases-loop-block : goal.decreases-loop-block
+decreases-loop-block l = l.initial.space.limits.blocks - l.at

@@ -1,14 +1,23 @@
-use Rattle.std.proofs.Common.{◌≡◌, ◌*◌, ◌%◌, ◌^◌, ◌+◌, arith, subst, sym, ap, ◌∙◌}
+use Rattle.std.proofs.Common.{◌≡◌, ◌+◌, ◌*◌, ◌%◌, ◌^◌, ◌<◌, ◌≤◌, ℕ, subst, sym, arith}
 use Rattle.std.specs.Prelude.{◌↔◌, IsBitSet, slice_index}
 use Rattle.std.specs.Int.Bits.{bit_or}
-use Rattle.lxr_tables.proofs.LanesLemmas.{halves_tell}
+use Rattle.lxr_tables.specs.declared.lanes.TheConstants.{LANES}
+use Rattle.lxr_tables.proofs.BitLemmas.{TellsOf, more_fit, more_told}
 use Rattle.lxr_tables.proofs.lanes.zero_lanes.Goals as goal
 
-pub returns : goal.returns
-returns c i within =
-    subst (λ h. IsBitSet (bit_or (h * 2 ^ 64 % 2 ^ 128) c.from-2.result) i ↔ (slice_index c.args.words.now i ≡ 0)) (sym c.from.ensures)
-    (subst (λ l. IsBitSet (bit_or (c.zeros_of-high.result * 2 ^ 64 % 2 ^ 128) l) i ↔ (slice_index c.args.words.now i ≡ 0)) (sym c.from-2.ensures)
-    (halves_tell c.args.words.now c.zeros_of-high.result c.zeros_of-low.result i c.zeros_of-high.type_inv c.zeros_of-low.type_inv
-    (λ k h. let lane : slice_index c.lanes_from.result k ≡ slice_index c.args.words.now k = c.lanes_from.ensures k h ∙ ap (slice_index c.args.words.now) (let same : 0 + k ≡ k = omega arith in same) in subst (λ x. IsBitSet c.zeros_of-low.result k ↔ (x ≡ 0)) lane (c.zeros_of-low.ensures k h))
-    (λ k h. subst (λ x. IsBitSet c.zeros_of-high.result k ↔ (x ≡ 0)) (c.lanes_from-2.ensures k h) (c.zeros_of-high.ensures k h))
-    within))
+pub loop-group-preserved : goal.loop-group-preserved
+loop-group-preserved c =
+    let zero : ℕ → Type 0 = λ i. slice_index c.args.words.now i ≡ 0 in
+    let n = LANES * c.loop-group.group in
+    let told = c.from-told.result in
+    let before = c.loop-group.invariant in
+    let test = c.loop-group-test.true in
+    let room : n + LANES ≤ 128 = omega (arith, test) in
+    let fits : told < 2 ^ LANES = subst (λ w. w < 2 ^ LANES) (sym c.from-told.ensures) c.zeros_of.ensures.within in
+    let lanes : TellsOf (λ i. zero (n + i)) LANES told = λ i within.
+    subst (λ w. IsBitSet w i ↔ zero (n + i)) (sym c.from-told.ensures) (subst (λ x. IsBitSet c.zeros_of.result i ↔ (x ≡ 0)) (c.lanes_from.ensures i within) (c.zeros_of.ensures.told i within)) in
+    let next : n + LANES ≡ LANES * (c.loop-group.group + 1) = omega arith in
+    record {
+      fit = subst (λ k. bit_or c.loop-group.zeros (told * 2 ^ n % 2 ^ 128) < 2 ^ k) next (more_fit zero 128 LANES n c.loop-group.zeros told room before.fit fits);
+      told = subst (λ k. TellsOf zero k (bit_or c.loop-group.zeros (told * 2 ^ n % 2 ^ 128))) next (more_told zero 128 LANES n c.loop-group.zeros told room before.fit fits before.told lanes);
+    }

@@ -4,7 +4,7 @@ use Rattle.lxr_text_script.proofs.Loops.{ReadsOn}
 use Rattle.lxr_text_script.proofs.reading.read_operations.Given as goal
 
 abbrev pub invariant-loop-item : goal.invariant-loop-item
-invariant-loop-item l = ReadsOn l.initial.lines l.lines l.operations.items
+invariant-loop-item l = ReadsOn l.version l.initial.lines l.lines l.operations.items
 
 abbrev pub decreases-loop-item : goal.decreases-loop-item
 decreases-loop-item l = length (items_left l.lines)

@@ -1,6 +1,7 @@
 use Rattle.std.proofs.Common.{◌≡◌, ℕ, ◌<◌, ◌+◌, ◌*◌, ◌≤◌, ◌∙◌, ap, arith, drop, length, subst, sym}
 use Rattle.std.specs.Prelude.{slice_index}
-use Rattle.lxr_layout.specs.declared.TheConstants.{GRANULES_IN_BLOCK, GRANULES_IN_LINE}
+use Rattle.lxr_tables.specs.declared.counts.TheConstants.{COUNTS_IN_WORD}
+use Rattle.lxr_layout.specs.declared.TheConstants.{COUNT_BITS, COUNT_WORDS_IN_BLOCK, GRANULES_IN_BLOCK, GRANULES_IN_LINE}
 use Rattle.lxr_tables.specs.Entries.{table}
 use Rattle.lxr_image.specs.Spaces.{tables_of}
 use Rattle.lxr_image.proofs.TableLaws.{count_read, count_within}
@@ -10,12 +11,12 @@ pub uncounted_lines-requires : goal.uncounted_lines-requires
 uncounted_lines-requires c =
     let block = c.requires.block in
     let last = count_within c.args.self.now.limits c.args.self.now.words (GRANULES_IN_BLOCK * c.args.block + 2047) c.requires.space.size (omega arith) in
-    subst (λ b. b + 64 * (c.args.block + 1) ≤ length c.args.self.now.words) (sym c.counts_begin.ensures) (omega arith)
+    subst (λ b. b + COUNT_WORDS_IN_BLOCK * (c.args.block + 1) ≤ length c.args.self.now.words) (sym c.counts_begin.ensures) (omega arith)
 
 pub returns : goal.returns
 returns c i within =
     let block = c.requires.block in
     let told = c.uncounted_lines.ensures i within in
-    let read : (k : ℕ) → k < GRANULES_IN_LINE → slice_index (table 2 32 (drop c.counts_begin.result c.args.self.now.words)) (GRANULES_IN_BLOCK * c.args.block + GRANULES_IN_LINE * i + k) ≡ (tables_of c.args.self.now).counts (GRANULES_IN_BLOCK * c.args.block + GRANULES_IN_LINE * i + k) = λ k in_line. ap (λ b. slice_index (table 2 32 (drop b c.args.self.now.words)) (GRANULES_IN_BLOCK * c.args.block + GRANULES_IN_LINE * i + k)) c.counts_begin.ensures
+    let read : (k : ℕ) → k < GRANULES_IN_LINE → slice_index (table COUNT_BITS COUNTS_IN_WORD (drop c.counts_begin.result c.args.self.now.words)) (GRANULES_IN_BLOCK * c.args.block + GRANULES_IN_LINE * i + k) ≡ (tables_of c.args.self.now).counts (GRANULES_IN_BLOCK * c.args.block + GRANULES_IN_LINE * i + k) = λ k in_line. ap (λ b. slice_index (table COUNT_BITS COUNTS_IN_WORD (drop b c.args.self.now.words)) (GRANULES_IN_BLOCK * c.args.block + GRANULES_IN_LINE * i + k)) c.counts_begin.ensures
     ∙ count_read c.args.self.now.limits c.args.self.now.words (GRANULES_IN_BLOCK * c.args.block + GRANULES_IN_LINE * i + k) (omega (arith, in_line)) in
     ((λ set k in_line. sym (read k in_line) ∙ told.0 set k in_line), (λ each. told.1 (λ k in_line. read k in_line ∙ each k in_line)))

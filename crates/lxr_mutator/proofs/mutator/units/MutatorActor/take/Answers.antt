@@ -3,14 +3,14 @@ use Rattle.lxr_actor.specs.Machine.{to_go}
 use Rattle.lxr_mutator.specs.declared.phases.MutatorPhase.{MutatorPhase}
 use Rattle.lxr_mutator.specs.declared.phases.MutatorPhase.TheVariants as phase
 use Rattle.lxr_mutator.specs.Mutating.{Mutating}
-use Rattle.lxr_mutator.specs.Steps.{after_in, left_in, mutator_machine}
+use Rattle.lxr_mutator.specs.Steps.{left_in, mutator_machine, next_in}
 use Rattle.lxr_mutator.specs.Mutators.{IsMutator}
 use Rattle.lxr_mutator.proofs.NowLemmas.{few_words, store_goes_on}
 use Rattle.lxr_mutator.proofs.NearerLemmas.{ready_nearer, storing_nearer}
 use Rattle.lxr_mutator.proofs.mutator.units.MutatorActor.take.Goals as goal
 
 -- what a step by this phase leads to is nearer, where that is the mutator's phase
-nearer : (m m' : Mutating) (p : MutatorPhase) (n : ℕ) → m.phase ≡ p → m' ≡ after_in m p n → to_go mutator_machine (after_in m p n) < left_in m p → to_go mutator_machine m' < left_in m m.phase
+nearer : (m m' : Mutating) (p : MutatorPhase) (n : ℕ) → m.phase ≡ p → m' ≡ next_in m p n → to_go mutator_machine (next_in m p n) < left_in m p → to_go mutator_machine m' < left_in m m.phase
 nearer m m' p n is e h =
     subst (λ q. to_go mutator_machine m' < left_in m q) (sym is)
     (subst (λ x. to_go mutator_machine x < left_in m p) (sym e) h)

@@ -1,0 +1,14 @@
+use Rattle.std.proofs.Common.{◌-◌, ◌≤◌}
+use Rattle.lxr_image.specs.Spaces.{tables_of}
+use Rattle.lxr_blocks.specs.States.{AreFreeBlocks}
+use Rattle.lxr_blocks.proofs.in_use.next_in_use.Given as goal
+
+abbrev pub invariant-loop-block : goal.invariant-loop-block
+invariant-loop-block l =
+    record {
+      past : l.from ≤ l.block;
+      free : AreFreeBlocks (tables_of l.space) l.from l.block;
+    }
+
+abbrev pub decreases-loop-block : goal.decreases-loop-block
+decreases-loop-block l = l.space.limits.blocks - l.block

@@ -1,0 +1,4 @@
+mod Runs
+mod Sorted
+mod Words
+mod Views

@@ -1,0 +1,4 @@
+pub mod Bodies
+pub mod Blocks
+pub mod Entries
+pub mod Kept

@@ -1,0 +1,11 @@
+pub mod BodyLemmas
+pub mod RowLemmas
+pub mod MomentLemmas
+pub mod ApartLemmas
+pub mod BlockLemmas
+pub mod HeapLemmas
+pub mod CallLemmas
+pub mod FullLemmas
+pub mod ActingLemmas
+pub mod PausingLemmas
+pub mod OpeningLemmas

@@ -1,0 +1,14 @@
+//! What a heap consists of.
+use lxr_image::Space;
+use lxr_large_bodies::Bodies;
+
+/// A space for objects, the bodies of those that are large, and what is to be known of both.
+#[derive(Drop)]
+pub struct Heap {
+    pub space: Space,
+    pub bodies: Bodies,
+    /// How many objects were made.
+    pub made: u32,
+    /// Whether the last pause collected, and only operations came behind it that were refused for want of room.
+    pub fresh: bool,
+}

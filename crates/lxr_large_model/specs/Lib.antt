@@ -1,0 +1,5 @@
+pub mod State
+pub mod Step
+pub mod History
+pub mod Full
+pub mod Pauses

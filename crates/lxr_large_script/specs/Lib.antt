@@ -1,0 +1,3 @@
+pub mod Operations
+pub mod Reading
+pub mod Limits

@@ -1,0 +1,13 @@
+pub mod PlacingLemmas
+pub mod StateLemmas
+pub mod NewLemmas
+pub mod TraceLemmas
+pub mod ServedLemmas
+pub mod OpeningLemmas
+pub mod OrderLemmas
+pub mod RunLemmas
+pub mod ListedLemmas
+pub mod QuiescentLemmas
+pub mod OpenedListLemmas
+pub mod OpenedExactLemmas
+pub mod WholeLemmas

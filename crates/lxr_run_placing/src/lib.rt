@@ -1,0 +1,12 @@
+//! Objects that are placed while all threads rest, and lines that are listed for them to draw from.
+//!
+//! A space at rest takes a new object at once, on what is left of the lines that were placed on last or on a run of free lines. Between
+//! two epochs its runs of free lines and its free blocks are listed anew. Lines and blocks are those of Immix (Blackburn and McKinley,
+//! 2008), the scheme is that of LXR (Zhao, Blackburn and McKinley, 2022).
+#![tactic(auto)]
+
+mod listing;
+mod placing;
+
+pub use listing::{list_for_epoch, opened_is_listed};
+pub use placing::{opened_is_quiescent, serve};
