@@ -189,11 +189,10 @@ record AreOthers (m : Moment) (ns : List Name) : Type 0 where
   among : (n : Name) → IsTrue (has ns n) → IsTrue (has (members m) n)
   all : (n : Name) → IsTrue (has (members m) n) → (IsTrue (has (world_name ∷ []) n) → ⊥) → IsTrue (has ns n)
 
-lines_are_taken : (s : Space) (g : AbstractState) (ns : List Name) → IsQuiescent s g → HasWorld g.moment.state.graph → AreOthers g.moment ns
+lines_are_taken : (s : Space) (g : AbstractState) (ns : List Name) → HoldsMoment s g.moment g.at → OutsAreTaken (tables_of s) g.moment.state.graph g.at (members g.moment) → HasWorld g.moment.state.graph → AreOthers g.moment ns
     → LinesAreTaken (tables_of s) s.limits.blocks g.at g.moment.state.graph ns
-lines_are_taken s g ns between world others line past in_heap taken =
-    let holds = between.safepoint.holds in
-    let is = member_takes s g holds between.outs line taken in
+lines_are_taken s g ns holds outs world others line past in_heap taken =
+    let is = member_takes s g holds outs line taken in
     let n : Name = is.0 in (
       n,
       is.1,
@@ -211,13 +210,12 @@ world_is_open : (state : BlockState) → state ≡ World → state ≢ Chosen
 world_is_open state world chosen = let both : false ≡ true = sym (ap is_chosen world) ∙ ap is_chosen chosen in cc
 
 -- where no room is left, they can leave no run outside Chosen blocks
-full_leaves_no_run : (s : Space) (g : AbstractState) (shape : Shape) (ns : List Name) → IsQuiescent s g → HasWorld g.moment.state.graph → IsFull s shape → AreOthers g.moment ns
-    → LeaveNoRun g.moment.state.graph ns (s.limits.blocks - chosen_count (tables_of s) s.limits.blocks) (line_count shape)
-full_leaves_no_run s g shape ns between world full others =
-    let holds = between.safepoint.holds in
+full_leaves_no_run : (s : Space) (g : AbstractState) (shape : Shape) (ns : List Name) → HoldsMoment s g.moment g.at → OutsAreTaken (tables_of s) g.moment.state.graph g.at (members g.moment) → HasWorld g.moment.state.graph
+    → IsFull s shape → AreOthers g.moment ns → LeaveNoRun g.moment.state.graph ns (s.limits.blocks - chosen_count (tables_of s) s.limits.blocks) (line_count shape)
+full_leaves_no_run s g shape ns holds outs world full others =
     taken_leaves_no_run (tables_of s) s.limits.blocks g.at g.moment.state.graph (members g.moment) ns (line_count shape) (some_lines shape) holds.space.limits.blocks.0
     (world_is_open (state_in (tables_of s) 0) holds.blocks.world)
-    (record { image = holds.image.image; among = others.among; lines = lines_are_taken s g ns between world others })
+    (record { image = holds.image.image; among = others.among; lines = lines_are_taken s g ns holds outs world others })
     full.lines
 
 -- ---- where a `new` waits
@@ -238,9 +236,14 @@ union_are_others m = record {
   all = λ n h other. in_without (union m.made m.unreclaimed) (world_name ∷ []) n (in_union m n (member_cases m n h)) other;
 }
 
+-- where no room is left, all objects but the world can leave no run outside Chosen blocks
+pub all_leave_no_run : (s : Space) (g : AbstractState) (shape : Shape) → HoldsMoment s g.moment g.at → OutsAreTaken (tables_of s) g.moment.state.graph g.at (members g.moment) → HasWorld g.moment.state.graph
+    → IsFull s shape → LeaveNoRun g.moment.state.graph (without (union g.moment.made g.moment.unreclaimed) (world_name ∷ [])) (s.limits.blocks - chosen_count (tables_of s) s.limits.blocks) (line_count shape)
+all_leave_no_run s g shape holds outs world full = full_leaves_no_run s g shape (without (union g.moment.made g.moment.unreclaimed) (world_name ∷ [])) holds outs world full (union_are_others g.moment)
+
 pub waiting_may_collect : WaitingMayCollect
 waiting_may_collect s g shape between world fits full =
-    let none = full_leaves_no_run s g shape (without (union g.moment.made g.moment.unreclaimed) (world_name ∷ [])) between world full (union_are_others g.moment) in
+    let none = all_leave_no_run s g shape between.safepoint.holds between.outs world full in
     let few = between.safepoint.holds.blocks.few in
     let more : s.limits.blocks - most_chosen s.limits.blocks - 1 ≤ s.limits.blocks - chosen_count (tables_of s) s.limits.blocks - 1 = omega (arith, few) in
     let slots = mul-le-mul_right (LINES_IN_BLOCK / line_count shape) more in
@@ -274,7 +277,7 @@ reachable_set m order exactly = record {
 
 pub collected_full_leaves_no_run : CollectedFullLeavesNoRun
 collected_full_leaves_no_run s g shape between none_made unchosen exactly world full =
-    let none = full_leaves_no_run s g shape (without g.moment.unreclaimed (world_name ∷ [])) between world full (unreclaimed_are_others g.moment none_made) in
+    let none = full_leaves_no_run s g shape (without g.moment.unreclaimed (world_name ∷ [])) between.safepoint.holds between.outs world full (unreclaimed_are_others g.moment none_made) in
     let all : s.limits.blocks - chosen_count (tables_of s) s.limits.blocks ≡ s.limits.blocks = omega (arith, unchosen) in (
       without g.moment.unreclaimed (world_name ∷ []),
       reachable_set g.moment between.safepoint.holds.follows.unreclaimed exactly,

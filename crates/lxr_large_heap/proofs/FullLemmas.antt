@@ -20,7 +20,7 @@ use Rattle.lxr_large_heap.proofs.BlockLemmas.{found_all, found_named, found_whol
 use Rattle.lxr_large_heap.proofs.BodyLemmas.{held_names, held_pass, words_of, words_same}
 
 -- the slots of a body by its words
-slots_words : (blocks k : ℕ) (found : Option Body) → ((b : Body) → found ≡ Some b → IsWhole blocks b) → slots_by k found ≡ body_slots k (words_of found)
+pub slots_words : (blocks k : ℕ) (found : Option Body) → ((b : Body) → found ≡ Some b → IsWhole blocks b) → slots_by k found ≡ body_slots k (words_of found)
 slots_words blocks k None whole = refl
 slots_words blocks k (Some b) whole =
     let long = (whole b refl).words in
@@ -28,7 +28,7 @@ slots_words blocks k (Some b) whole =
     ap (slots_touched k) same
 
 -- names of the thread
-of_thread : (made : ℕ) (ls : List Large) → AllByRecursion (IsMade made) ls → AllByRecursion (λ (l : Large). l.name.thread ≡ 1) ls
+pub of_thread : (made : ℕ) (ls : List Large) → AllByRecursion (IsMade made) ls → AllByRecursion (λ (l : Large). l.name.thread ≡ 1) ls
 of_thread made [] all = tt
 of_thread made (l ∷ ls) all = (all.0.thread, of_thread made ls all.1)
 
@@ -36,7 +36,7 @@ of_thread made (l ∷ ls) all = (all.0.thread, of_thread made ls all.1)
 not_world : (n : Name) → has (world_name ∷ []) n ≡ false → n ≢ world_name
 not_world n other is = not_both (has (world_name ∷ []) n) (subst (λ m. IsTrue (has (world_name ∷ []) m)) (sym is) refl) other
 
-not_ours : (n : Name) → n.thread ≡ 1 → IsTrue (has (world_name ∷ []) n) → ⊥
+pub not_ours : (n : Name) → n.thread ≡ 1 → IsTrue (has (world_name ∷ []) n) → ⊥
 not_ours n own one = let zero : n.thread ≡ 0 = ap (λ (q : Name). q.thread) (has_one world_name n one) in absurd (omega (arith, own, zero))
 
 -- where exactly the reachable is unreclaimed, these are the reachable names but the world

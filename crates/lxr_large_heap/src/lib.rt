@@ -101,4 +101,11 @@ impl LargeHeap {
     {
         &self.heap.bodies
     }
+
+    /// The space of its objects, as the heap leaves it; the bodies are let go.
+    pub fn into_space(self) -> Space
+        ensures { result ≡ self.space }
+    {
+        self.heap.space
+    }
 }

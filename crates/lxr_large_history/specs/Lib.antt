@@ -1,0 +1,3 @@
+pub mod Histories
+pub mod Texts
+pub mod Growing

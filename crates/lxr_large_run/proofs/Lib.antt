@@ -1,0 +1,4 @@
+pub mod CallLemmas
+pub mod PlayLemmas
+pub mod RoomLemmas
+pub mod EndLemmas
