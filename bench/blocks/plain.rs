@@ -1,8 +1,7 @@
 //! The same masks of free lines in plain Rust, over the same tables in one list of words, to compare times with. Nothing of it
 //! is proved.
 use std::arch::x86_64::{
-    __m128i, _mm_and_si128, _mm_castps_si128, _mm_castsi128_ps, _mm_cmpeq_epi32, _mm_loadu_si128, _mm_movemask_epi8, _mm_packs_epi16,
-    _mm_packs_epi32, _mm_setzero_si128, _mm_shuffle_ps,
+    __m128i, _mm_cmpeq_epi16, _mm_loadu_si128, _mm_movemask_epi8, _mm_packs_epi16, _mm_packs_epi32, _mm_setzero_si128,
 };
 use std::time::Instant;
 
@@ -37,22 +36,33 @@ fn zero_words(words: &[u64; 16]) -> u16 {
     unsafe {
         let zero = _mm_setzero_si128();
         let pairs = words.as_ptr().cast::<__m128i>();
-        let halves = |at: usize| _mm_castsi128_ps(_mm_cmpeq_epi32(_mm_loadu_si128(pairs.add(at)), zero));
-        // A word is 0 where its low half is and its high half is.
-        let four = |at: usize| {
-            let low = _mm_castps_si128(_mm_shuffle_ps::<0x88>(halves(at), halves(at + 1)));
-            let high = _mm_castps_si128(_mm_shuffle_ps::<0xdd>(halves(at), halves(at + 1)));
-            _mm_and_si128(low, high)
+        let pair = |at: usize| _mm_loadu_si128(pairs.add(at));
+        // What is packed with its sign stays 0 or stays another number: so halves become bytes, and two bytes are compared as one number.
+        let eight = |at: usize| {
+            let bytes = _mm_packs_epi16(
+                _mm_packs_epi32(pair(at), pair(at + 1)),
+                _mm_packs_epi32(pair(at + 2), pair(at + 3)),
+            );
+            _mm_cmpeq_epi16(bytes, zero)
         };
-        let low = _mm_packs_epi32(four(0), four(2));
-        let high = _mm_packs_epi32(four(4), four(6));
-        _mm_movemask_epi8(_mm_packs_epi16(low, high)) as u16
+        _mm_movemask_epi8(_mm_packs_epi16(eight(0), eight(4))) as u16
     }
+}
+
+/// From how many lines on a few lines of a block are looked at before all are, and at how many where a run would end.
+const LONG: u32 = 24;
+const LOOKS: u32 = 4;
+
+/// What keeps lines from being free.
+#[derive(Clone, Copy)]
+enum Taken {
+    Out,
+    Counted,
 }
 
 impl Space {
     /// A space of which the first block has three taken lines, and one of so many lines everywhere is taken, or none.
-    fn new(every: usize) -> Space {
+    fn new(every: usize, taken: Taken) -> Space {
         let mut words = vec![0; TOTAL];
         words.iter_mut().for_each(|word| *word = std::hint::black_box(0));
         for line in 0..3 {
@@ -61,7 +71,10 @@ impl Space {
         words[STATES] = WORLD;
         if every > 0 {
             for line in (every - 1..128 * BLOCKS).step_by(every) {
-                words[OUTS + line / 64] |= 1 << (line % 64);
+                match taken {
+                    Taken::Out => words[OUTS + line / 64] |= 1 << (line % 64),
+                    Taken::Counted => words[COUNTS + line] |= 1,
+                }
             }
         }
         Space { words, rest_next: 0, rest_end: 0 }
@@ -123,8 +136,28 @@ impl Space {
         runs
     }
 
+    fn is_free(&self, block: usize, line: u32) -> bool {
+        let line = 128 * block + line as usize;
+        self.words[OUTS + line / 64] >> (line % 64) & 1 == 0 && self.words[COUNTS + line] == 0
+    }
+
+    fn may_have(&self, block: usize, lines: u32) -> bool {
+        let mut first = 0;
+        while first + lines <= 128 {
+            let end = first + lines;
+            match (end - LOOKS..end).rev().find(|&line| !self.is_free(block, line)) {
+                Some(line) => first = line + 1,
+                None => return true,
+            }
+        }
+        false
+    }
+
     fn fit(&self, block: usize, lines: u32) -> Option<u32> {
         if self.words[STATES + block] == CHOSEN {
+            return None;
+        }
+        if lines >= LONG && !self.may_have(block, lines) {
             return None;
         }
         let mut starts = self.free_mask(block);
@@ -175,12 +208,13 @@ fn report(kind: &str, start: Instant, units: u32) {
 }
 
 fn main() {
-    for (kind, words, every) in [
-        ("place one line", 32, 0),
-        ("place 64 lines", 2048, 0),
-        ("place one line, every second taken", 32, 2),
+    for (kind, words, every, taken) in [
+        ("place one line", 32, 0, Taken::Out),
+        ("place 64 lines", 2048, 0, Taken::Out),
+        ("place one line, every second taken", 32, 2, Taken::Out),
+        ("place one line, every second counted", 32, 2, Taken::Counted),
     ] {
-        let mut space = Space::new(every);
+        let mut space = Space::new(every, taken);
         let start = Instant::now();
         let mut placed = 0;
         while space.place(1 << 52 | 1 << 20, words).is_some() {
@@ -188,18 +222,28 @@ fn main() {
         }
         report(kind, start, placed);
     }
-    let mut space = Space::new(3);
-    let start = Instant::now();
-    for _ in 0..ROUNDS {
-        assert!(space.place(1 << 52 | 1 << 20, 2048).is_none());
-    }
-    report("look for 64 lines, every third taken", start, ROUNDS);
-    for (kind, every) in [
-        ("list an empty heap", 0),
-        ("list, every third line taken", 3),
-        ("list, every second line taken", 2),
+    for (kind, words, every, taken) in [
+        ("look for 2 lines, every second taken", 64, 2, Taken::Out),
+        ("look for 2 lines, every second counted", 64, 2, Taken::Counted),
+        ("look for 8 lines, every third taken", 256, 3, Taken::Out),
+        ("look for 8 lines, every third counted", 256, 3, Taken::Counted),
+        ("look for 64 lines, every third taken", 2048, 3, Taken::Out),
+        ("look for 64 lines, every third counted", 2048, 3, Taken::Counted),
     ] {
-        let mut space = Space::new(every);
+        let mut space = Space::new(every, taken);
+        let start = Instant::now();
+        for _ in 0..ROUNDS {
+            assert!(space.place(1 << 52 | 1 << 20, words).is_none());
+        }
+        report(kind, start, ROUNDS);
+    }
+    for (kind, every, taken) in [
+        ("list an empty heap", 0, Taken::Out),
+        ("list, every third line taken", 3, Taken::Out),
+        ("list, every third line counted", 3, Taken::Counted),
+        ("list, every second line taken", 2, Taken::Out),
+    ] {
+        let mut space = Space::new(every, taken);
         space.sweep();
         let start = Instant::now();
         for _ in 0..ROUNDS {
@@ -207,7 +251,7 @@ fn main() {
         }
         report(kind, start, ROUNDS);
     }
-    let mut space = Space::new(0);
+    let mut space = Space::new(0, Taken::Out);
     let start = Instant::now();
     for _ in 0..ROUNDS {
         std::hint::black_box(&mut space).sweep();

@@ -1,5 +1,6 @@
 //! Objects placed until a heap is full, lines looked for in vain, free lines listed, and heaps swept.
-ghost use Rattle.std.specs.Prelude.{◌≡◌, ◌≤◌, IfOk};
+ghost use Rattle.std.specs.Prelude.{◌≡◌, ◌*◌, ◌<◌, ◌≤◌, IfOk};
+ghost use Rattle.lxr_layout.specs.declared.TheConstants.{LINES_IN_BLOCK};
 ghost use Rattle.lxr_image.specs.Spaces.{IsSpace, tables_of};
 ghost use Rattle.lxr_layout.specs.Objects.{FitsShape};
 ghost use Rattle.lxr_blocks.specs.Placing.{IsRest};
@@ -8,7 +9,7 @@ ghost use Rattle.lxr_blocks.specs.States.{FreeBlocksAreFree};
 use anyhow::Result;
 use lxr_blocks::{list_runs, place_now, renew_state, sweep_lines};
 use lxr_image::Space;
-use lxr_layout::{LINES_IN_BLOCK, Limits, Name, Shape, WORDS_IN_BLOCK};
+use lxr_layout::{GRANULES_IN_LINE, LINES_IN_BLOCK, Limits, Name, Shape, WORDS_IN_BLOCK};
 use std::alloc::{AllocError, Global};
 use std::rt::Clock;
 use std::time::Instant;
@@ -17,6 +18,18 @@ use std::time::Instant;
 const LINE: Shape = Shape {
     refs: 0,
     values: 31,
+};
+
+/// An object of two lines.
+const TWO: Shape = Shape {
+    refs: 0,
+    values: 63,
+};
+
+/// An object of eight lines.
+const EIGHT: Shape = Shape {
+    refs: 0,
+    values: 255,
 };
 
 /// An object of 64 lines, the largest.
@@ -35,24 +48,89 @@ enum Work {
     PlaceLine,
     /// So are objects of 64 lines.
     PlaceLargest,
-    /// Room for an object of 64 lines is looked for.
-    Search,
+    /// Room for an object of two lines is looked for.
+    SearchTwo,
+    /// So is room for one of eight lines.
+    SearchEight,
+    /// So is room for one of 64 lines.
+    SearchLargest,
     /// The free lines are listed.
     List,
     /// The heap is swept.
     Sweep,
 }
 
+/// What keeps lines from being free.
+#[derive(Clone, Copy)]
+enum Taken {
+    /// They are handed out.
+    Out,
+    /// Objects that are counted lie on them.
+    Counted,
+}
+
 /// What is done, in a heap of whose lines one of so many is taken, or none.
-const ROWS: [(&str, Work, u32); 8] = [
-    ("place one line", Work::PlaceLine, 0),
-    ("place 64 lines", Work::PlaceLargest, 0),
-    ("place one line, every second taken", Work::PlaceLine, 2),
-    ("look for 64 lines, every third taken", Work::Search, 3),
-    ("list an empty heap", Work::List, 0),
-    ("list, every third line taken", Work::List, 3),
-    ("list, every second line taken", Work::List, 2),
-    ("sweep an empty heap", Work::Sweep, 0),
+const ROWS: [(&str, Work, u32, Taken); 15] = [
+    ("place one line", Work::PlaceLine, 0, Taken::Out),
+    ("place 64 lines", Work::PlaceLargest, 0, Taken::Out),
+    (
+        "place one line, every second taken",
+        Work::PlaceLine,
+        2,
+        Taken::Out,
+    ),
+    (
+        "place one line, every second counted",
+        Work::PlaceLine,
+        2,
+        Taken::Counted,
+    ),
+    (
+        "look for 2 lines, every second taken",
+        Work::SearchTwo,
+        2,
+        Taken::Out,
+    ),
+    (
+        "look for 2 lines, every second counted",
+        Work::SearchTwo,
+        2,
+        Taken::Counted,
+    ),
+    (
+        "look for 8 lines, every third taken",
+        Work::SearchEight,
+        3,
+        Taken::Out,
+    ),
+    (
+        "look for 8 lines, every third counted",
+        Work::SearchEight,
+        3,
+        Taken::Counted,
+    ),
+    (
+        "look for 64 lines, every third taken",
+        Work::SearchLargest,
+        3,
+        Taken::Out,
+    ),
+    (
+        "look for 64 lines, every third counted",
+        Work::SearchLargest,
+        3,
+        Taken::Counted,
+    ),
+    ("list an empty heap", Work::List, 0, Taken::Out),
+    ("list, every third line taken", Work::List, 3, Taken::Out),
+    (
+        "list, every third line counted",
+        Work::List,
+        3,
+        Taken::Counted,
+    ),
+    ("list, every second line taken", Work::List, 2, Taken::Out),
+    ("sweep an empty heap", Work::Sweep, 0, Taken::Out),
 ];
 
 /// Does all of it in a heap of 1,024 blocks and prints nanoseconds, of an object, of a search, or of a block; or in one of two blocks, and prints
@@ -60,8 +138,8 @@ const ROWS: [(&str, Work, u32); 8] = [
 pub fn report_all<R: AllocGlobal + Clock + Print>(rt: &R, timed: bool) -> Result<()> {
     let blocks = if timed { 1024 } else { 2 };
     let start = Instant::now(rt)?;
-    for (kind, work, every) in ROWS {
-        let (found, nanos) = measure(rt, rt.alloc(), start, blocks, work, every)?;
+    for (kind, work, every, taken) in ROWS {
+        let (found, nanos) = measure(rt, rt.alloc(), start, blocks, work, every, taken)?;
         report(rt, kind, work, found, nanos, timed)?;
     }
     Ok(())
@@ -78,7 +156,8 @@ fn report<R: Print>(
 ) -> Result<()> {
     let units = match work {
         Work::PlaceLine | Work::PlaceLargest => found.max(1),
-        Work::Search | Work::List | Work::Sweep => ROUNDS,
+        Work::SearchTwo | Work::SearchEight | Work::SearchLargest | Work::List | Work::Sweep =>
+            ROUNDS,
     };
     if timed {
         let each = nanos / u128::from(units);
@@ -105,10 +184,11 @@ fn measure<R: Clock>(
     blocks: u32,
     work: Work,
     every: u32,
+    taken: Taken,
 ) -> Result<(u32, u128), AllocError>
     requires { (1 ≤ blocks) × (blocks ≤ 1024) }
 {
-    let mut space = fragmented(alloc, blocks, every)?;
+    let mut space = fragmented(alloc, blocks, every, taken)?;
     let begun = nanos_since(rt, start);
     let found = done(&mut space, work);
     let nanos = nanos_since(rt, start).saturating_sub(begun);
@@ -125,7 +205,9 @@ fn done(space: &mut Space, work: Work) -> u32
     match work {
         Work::PlaceLine => fill(space, LINE),
         Work::PlaceLargest => fill(space, LARGEST),
-        Work::Search => search(space),
+        Work::SearchTwo => search(space, TWO),
+        Work::SearchEight => search(space, EIGHT),
+        Work::SearchLargest => search(space, LARGEST),
         Work::List => list(space),
         Work::Sweep => sweep(space),
     }
@@ -133,7 +215,7 @@ fn done(space: &mut Space, work: Work) -> u32
 
 /// A space of so many blocks, just opened, of whose lines one of so many is taken, or none, and whose blocks have
 /// the states of their lines.
-fn fragmented(alloc: Global, blocks: u32, every: u32) -> Result<Space, AllocError>
+fn fragmented(alloc: Global, blocks: u32, every: u32, taken: Taken) -> Result<Space, AllocError>
     requires { (1 ≤ blocks) × (blocks ≤ 1024) }
     ensures space { IfOk result (λ space. IsSpace space) }
     ensures rest { IfOk result (λ space. IsRest space) }
@@ -149,7 +231,7 @@ fn fragmented(alloc: Global, blocks: u32, every: u32) -> Result<Space, AllocErro
     space.open(alloc, limits)?;
     touch_heap(&mut space);
     if every > 0 {
-        take_lines(&mut space, every);
+        take_lines(&mut space, every, taken);
     }
     renew_states(&mut space);
     space.rest_next = 0;
@@ -172,7 +254,7 @@ fn touch_heap(space: &mut Space)
 }
 
 /// Takes one of so many lines of the heap.
-fn take_lines(space: &mut Space, every: u32)
+fn take_lines(space: &mut Space, every: u32, taken: Taken)
     requires space { IsSpace space.old }
     requires rest { IsRest space.old }
     requires every { 1 ≤ every }
@@ -181,8 +263,23 @@ fn take_lines(space: &mut Space, every: u32)
 {
     for line in 0..LINES_IN_BLOCK * space.limits.blocks {
         if line % every == every - 1 {
-            space.set_out(line);
+            take_line(space, line, taken);
         }
+    }
+}
+
+/// Takes a line: it is handed out, or an object that is counted begins at its front.
+fn take_line(space: &mut Space, line: u32, taken: Taken)
+    requires space { IsSpace space.old }
+    requires rest { IsRest space.old }
+    requires line { line < LINES_IN_BLOCK * space.old.limits.blocks }
+    ensures space { IsSpace space.new }
+    ensures rest { IsRest space.new }
+    ensures limits { space.new.limits ≡ space.old.limits }
+{
+    match taken {
+        Taken::Out => space.set_out(line),
+        Taken::Counted => space.set_count(GRANULES_IN_LINE * line, 1),
     }
 }
 
@@ -204,10 +301,11 @@ fn fill(space: &mut Space, shape: Shape) -> u32
     LINES_IN_BLOCK * space.limits.blocks
 }
 
-/// Tries to place objects of 64 lines, and answers how many were placed.
-fn search(space: &mut Space) -> u32
+/// Tries to place objects, and answers how many were placed.
+fn search(space: &mut Space, shape: Shape) -> u32
     requires space { IsSpace space.old }
     requires rest { IsRest space.old }
+    requires shape { FitsShape shape }
 {
     let name = Name {
         thread: 1,
@@ -215,7 +313,7 @@ fn search(space: &mut Space) -> u32
     };
     let mut placed = 0_u32;
     for _ in 0..ROUNDS {
-        if place_now(space, name, LARGEST).is_some() {
+        if place_now(space, name, shape).is_some() {
             placed = placed.saturating_add(1);
         }
     }

@@ -8,4 +8,5 @@ pub mod LeftLemmas
 pub mod LineLemmas
 pub mod ListingLemmas
 pub mod MaskLemmas
+pub mod SkippingLemmas
 pub mod SweptLemmas

@@ -41,7 +41,7 @@ bit_within mask i fits set = elim (leb_tells 128 i) [
 pub told_line : (mask : ℕ) (lines : ℕ → Bool) (i : ℕ) → IsMask mask lines → i < LINES_IN_BLOCK → bit_at mask i ≡ 1 → lines i ≡ true
 told_line mask lines i is within one = (is i within).0 (one_is_set mask i one)
 
-not_true : (b : Bool) → (b ≡ true → ⊥) → b ≡ false
+pub not_true : (b : Bool) → (b ≡ true → ⊥) → b ≡ false
 not_true true never = absurd (never refl)
 not_true false never = refl
 

@@ -12,6 +12,7 @@ mod laws;
 mod listing;
 mod masks;
 mod placing;
+mod skipping;
 mod states;
 mod sweeping;
 mod zeros;

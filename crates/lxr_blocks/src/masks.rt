@@ -21,6 +21,17 @@ pub fn free_mask(space: &Space, block: u32) -> u128
     space.uncounted_lines(block) & !space.out_lines(block)
 }
 
+/// Whether a line of a block is free. It reads one word of counts and one of out bits.
+#[inline(always)]
+pub(crate) fn is_free_line(space: &Space, block: u32, line: u32) -> bool
+    requires space { IsSpace space.now }
+    requires block { block < space.now.limits.blocks }
+    requires line { line < LINES_IN_BLOCK }
+    ensures { result ≡ free_in (tables_of space.now) block line }
+{
+    !space.has_out(LINES_IN_BLOCK * block + line) && space.is_uncounted(block, line)
+}
+
 /// The bits from one on, all set.
 #[inline(always)]
 fn bits_from(first: u32) -> u128

@@ -14,12 +14,16 @@ ghost use Rattle.lxr_blocks.specs.States.{IsOpenRun};
 
 use crate::handing::hand_out_of;
 use crate::masks::{free_mask, run_starts};
+use crate::skipping::may_have;
 use crate::states::{BlockState, state};
 use lxr_image::Space;
 use lxr_layout::{
     GRANULES_IN_BLOCK, GRANULES_IN_LINE, LINES_IN_BLOCK, Name, Place, Run, Shape, lines_of, pack,
     place_at, words_of,
 };
+
+/// From how many lines on a few lines of a block are looked at before all are.
+const LONG: u8 = 24;
 
 /// Free lines in a row, and all the free lines of their block.
 #[derive(Clone, Copy)]
@@ -38,6 +42,9 @@ fn fit_in(space: &Space, block: u32, lines: u8) -> Option<Fit>
     ensures first { IfSome result (λ fit. (q : Run) → IsFreeRun (tables_of space.now) space.now.limits.blocks q → q.block ≡ block → q.lines ≡ lines → fit.run.line ≤ q.line) }
     ensures free { IfSome result (λ fit. IsMask fit.free (free_in (tables_of space.now) fit.run.block)) }
 {
+    if lines >= LONG && !may_have(space, block, lines) {
+        return None;
+    }
     let free = free_mask(space, block);
     let starts = run_starts(free, lines);
     if starts == 0 {

@@ -1,52 +1,56 @@
 -- An operation is done once the space is at rest for the state after it.
-use Rattle.std.proofs.Common.{◌≡◌, ℕ, ◌+◌, ◌-◌, ◌*◌, ◌<◌, ◌≤◌, refl, sym, ap, subst, ◌∙◌, List, [], length}
-use Rattle.std.specs.Prelude.{Option, Some, None, IsTrue, slice_set}
-use Rattle.std.proofs.lemmas.List.{length-set}
-use Rattle.std.proofs.lemmas.List.{length-map}
+use Rattle.std.proofs.Common.{◌≡◌, ℕ, ◌<◌, refl, sym, ap, subst, ◌∙◌, List, length}
+use Rattle.std.specs.Prelude.{Option, IsTrue}
 use Rattle.lxr_layout.specs.declared.LogEntry.{LogEntry}
 use Rattle.lxr_layout.specs.declared.Name.{Name}
 use Rattle.lxr_layout.specs.declared.Place.{Place}
 use Rattle.lxr_graph.specs.declared.Op.{Op}
 use Rattle.lxr_graph.specs.declared.Reply.{Reply}
 use Rattle.lxr_graph.specs.Names.{has}
-use Rattle.lxr_graph.specs.State.{Object, State, object_at, refs_of, shape_of}
+use Rattle.lxr_graph.specs.State.{State, object_at, refs_of}
 use Rattle.lxr_graph.specs.Step.{step}
 use Rattle.lxr_image.specs.declared.space.Space.{Space}
-use Rattle.lxr_image.specs.Tables.{Tables, tables_in}
+use Rattle.lxr_image.specs.Tables.{Tables}
 use Rattle.lxr_image.specs.Spaces.{tables_of}
-use Rattle.lxr_image.specs.Image.{ArePlacesOf, IsImage, place_word}
-use Rattle.lxr_image.specs.ImageLaws.{with_heap}
+use Rattle.lxr_image.specs.Image.{ArePlacesOf, IsImage}
 use Rattle.lxr_model.specs.Moments.{Field, Moment, after_call}
 use Rattle.lxr_model_counting.specs.Following.{FollowsPause}
 use Rattle.lxr_invariant.specs.AbstractState.{AbstractState, members}
 use Rattle.lxr_invariant.specs.Quiescent.{IsAtRest}
-use Rattle.lxr_invariant.specs.Standing.{HasBits, IsUnwritten}
-use Rattle.lxr_invariant.proofs.FrameLemmas.{bits_still}
+use Rattle.lxr_invariant.specs.Standing.{HasBits}
 use Rattle.lxr_invariant.proofs.NameLemmas.{in_first}
-use Rattle.lxr_direct.specs.Operating.{IsDone, MayOperate, called, with_places}
+use Rattle.lxr_direct.specs.Operating.{IsDone, KeepsTables, Leaves, MayOperate}
 use Rattle.lxr_direct.proofs.TurnedLemmas.{IsTurned, KeepsShapes, rests_turned, turned, turned_space}
 
 -- ---- what the moment after a call is
 
+-- An operation makes no object: where the tables keep all but heap words and unlogged bits, it leaves what it is to leave.
+abbrev pub MakesNothing : Space → AbstractState → ℕ → Op → Type 0
+MakesNothing s g t o = (after : Space) → KeepsTables (tables_of s) (tables_of after) → Leaves s after g.moment.state t o
+
 -- done, by the space that has turned
-pub done_turned : (s : Space) (g : AbstractState) (t serial : ℕ) (o : Op) (r : Reply) (st : State) (ws : List Field) (words : List ℕ) (places : List Place) (entries : List LogEntry) → MayOperate s g t serial
+pub done_turned : (s : Space) (g : AbstractState) (t serial : ℕ) (o : Op) (r : Reply) (st : State) (ws : List Field) (words : List ℕ) (places : List Place) (entries : List LogEntry)
+    → MakesNothing s g t o → MayOperate s g t serial
     → after_call g.moment t o r ≡ turned g.moment st ws → r ≡ (step g.moment.state t o).1 → IsTurned s g.moment g.at st ws words places entries → IsDone s (turned_space s words places entries) g t o r
-done_turned s g t serial o r st ws words places entries may moment reply now = record {
+done_turned s g t serial o r st ws words places entries leaves may moment reply now = record {
   reply = reply;
   at = g.at;
   stay = λ n h. refl;
   rests = subst (λ m. IsAtRest (turned_space s words places entries) (record g { moment = m })) (sym moment) (rests_turned s g st ws words places entries may.rests may.untraced now);
   keeps = refl;
+  leaves = leaves (turned_space s words places entries) now.tables;
 }
 
 -- done, where nothing has changed
-pub done_unchanged : (s : Space) (g : AbstractState) (t serial : ℕ) (o : Op) (r : Reply) → MayOperate s g t serial → after_call g.moment t o r ≡ g.moment → r ≡ (step g.moment.state t o).1 → IsDone s s g t o r
-done_unchanged s g t serial o r may moment reply = record {
+pub done_unchanged : (s : Space) (g : AbstractState) (t serial : ℕ) (o : Op) (r : Reply) → MakesNothing s g t o → MayOperate s g t serial
+    → after_call g.moment t o r ≡ g.moment → r ≡ (step g.moment.state t o).1 → IsDone s s g t o r
+done_unchanged s g t serial o r leaves may moment reply = record {
   reply = reply;
   at = g.at;
   stay = λ n h. refl;
   rests = subst (λ m. IsAtRest s (record g { moment = m })) (sym moment) may.rests;
   keeps = refl;
+  leaves = leaves s refl;
 }
 
 -- ---- bits

@@ -1,5 +1,5 @@
 -- Operations on fields: of nil, past the fields that there are, and of a field that is there.
-use Rattle.std.proofs.Common.{◌≡◌, ◌≢◌, ℕ, ◌+◌, ◌-◌, ◌*◌, ◌%◌, ◌^◌, ◌<◌, ◌≤◌, refl, sym, ap, subst, ◌∙◌, inl, inr, ◌⊎◌, arith, Bool, true, false, List, [], ◌∷◌, ◌++◌, length, map, get_or, cond}
+use Rattle.std.proofs.Common.{◌≡◌, ℕ, ◌+◌, ◌*◌, ◌%◌, ◌^◌, ◌<◌, ◌≤◌, refl, sym, ap, subst, ◌∙◌, inl, inr, arith, Bool, true, false, List, [], ◌∷◌, ◌++◌, length, map, get_or, cond}
 use Rattle.std.specs.Prelude.{Option, Some, None, IsTrue, slice_get, slice_set}
 use Rattle.std.specs.List.Sorted.{IsPermutation}
 use Rattle.std.proofs.Math.ListN.{length-set}
@@ -7,7 +7,6 @@ use Rattle.std.proofs.lemmas.Bool.Decides.{leb_tells}
 use Rattle.std.proofs.lemmas.Option.{slice_get-get_or}
 use Rattle.std.proofs.lemmas.List.{length-append}
 use Rattle.std.proofs.lemmas.List.Sorted.{IsPermutation-append_comm, IsPermutation-append_right, IsPermutation-trans}
-use Rattle.lxr_layout.specs.declared.TheConstants.{MOST_BLOCKS}
 use Rattle.lxr_layout.specs.declared.LogEntry.{LogEntry}
 use Rattle.lxr_layout.specs.declared.Name.{Name}
 use Rattle.lxr_layout.specs.declared.Place.{Place}
@@ -17,8 +16,8 @@ use Rattle.lxr_graph.specs.declared.Op.TheVariants as op
 use Rattle.lxr_graph.specs.declared.Reply.{Reply}
 use Rattle.lxr_graph.specs.declared.Reply.TheVariants as reply
 use Rattle.lxr_graph.specs.Names.{has}
-use Rattle.lxr_graph.specs.State.{Graph, Object, State, object_at, refs_of, register_at, register_index, shape_of, with_reference, with_register, with_value}
-use Rattle.lxr_graph.specs.Step.{IsWellFormed, step}
+use Rattle.lxr_graph.specs.State.{Graph, Object, State, object_at, refs_of, register_at, register_index, shape_of, with_reference, with_value}
+use Rattle.lxr_graph.specs.Step.{step}
 use Rattle.lxr_graph.proofs.RowLemmas.{object_at-with_reference, object_at-with_value}
 use Rattle.lxr_image.specs.declared.space.Space.{Space}
 use Rattle.lxr_image.specs.Tables.{Tables, changed, tables_in}
@@ -29,22 +28,22 @@ use Rattle.lxr_image.proofs.ImageLemmas.{Rewrites, put_keeps_image, rewrites, st
 use Rattle.lxr_image.proofs.SpaceLemmas.{space_alike}
 use Rattle.lxr_model.specs.Moments.{Field, Moment, after_call, with_field, written_with}
 use Rattle.lxr_model_counting.specs.Distinct.{has_field}
-use Rattle.lxr_model_counting.specs.Following.{FollowsPause, IsStepReply}
+use Rattle.lxr_model_counting.specs.Following.{FollowsPause}
 use Rattle.lxr_invariant.specs.AbstractState.{AbstractState, members}
 use Rattle.lxr_invariant.specs.Standing.{AreLogged, HasBits, entry_of}
 use Rattle.lxr_invariant.proofs.FrameLemmas.{bits_still, image_still}
 use Rattle.lxr_core_invariant.specs.Imaged.{IsReferenceAt}
-use Rattle.lxr_core_invariant.proofs.HeldLemmas.{in_register, reference_held}
+use Rattle.lxr_core_invariant.proofs.HeldLemmas.{reference_held}
 use Rattle.lxr_core_invariant.proofs.TellingLemmas.{small_place, stands_there}
 use Rattle.lxr_core_invariant.proofs.ReplyStepLemmas.{get_bad, get_ok, get_range, load_bad, load_ok, load_range, put_bad, put_ok, put_range, store_bad, store_ok, store_range}
 use Rattle.lxr_core_inv_logs.proofs.ReferenceLemmas.{clear_is_cleared, cleared_bits, old_is_read, set_is_uncleared}
 use Rattle.lxr_direct.specs.declared.reading.Base.{Base}
-use Rattle.lxr_direct.specs.Operating.{FindsLogFull, IsDone, IsPlaceOf, IsToRecord, LogIsFull, MayOperate, StandsAt, with_places}
+use Rattle.lxr_direct.specs.Operating.{IsDone, IsPlaceOf, IsToRecord, LogIsFull, MayOperate, StandsAt, with_places}
 use Rattle.lxr_direct.specs.Recording.{IsRecorded, Records, entry_now, is_unlogged}
-use Rattle.lxr_direct.proofs.DoneLemmas.{bits_turned, done_turned, done_unchanged, holding}
+use Rattle.lxr_direct.proofs.DoneLemmas.{bits_turned, done_turned, done_unchanged}
 use Rattle.lxr_direct.proofs.HeldLemmas.{held_member, register_place}
 use Rattle.lxr_direct.proofs.RegisterLemmas.{follows_call, register_turned, row_there}
-use Rattle.lxr_direct.proofs.TurnedLemmas.{IsTurned, KeepsShapes, rests_turned, turned, turned_space}
+use Rattle.lxr_direct.proofs.TurnedLemmas.{IsTurned, KeepsShapes, turned, turned_space}
 
 -- recording leaves a space of the same limits
 pub recorded_limits : (s mid : Space) (place : Place) (i : ℕ) → Records s mid place i true → mid.limits ≡ s.limits
@@ -80,22 +79,22 @@ module _ (s : Space) (g : AbstractState) (t serial : ℕ) (may : MayOperate s g 
   pub load_of_nil : (dest base i : ℕ) → register_at m.state t base ≡ None → IsDone s s g t (op.Load dest base i) reply.Bad
   load_of_nil dest base i none =
       let step_is = load_bad m.state t dest base i none in
-      done_unchanged s g t serial (op.Load dest base i) reply.Bad may (ap (λ (p : State × Reply). record m { state = p.0 }) step_is) (sym (ap (λ p. p.1) step_is))
+      done_unchanged s g t serial (op.Load dest base i) reply.Bad (λ after kept. kept) may (ap (λ (p : State × Reply). record m { state = p.0 }) step_is) (sym (ap (λ p. p.1) step_is))
 
   pub store_of_nil : (base i source : ℕ) → register_at m.state t base ≡ None → IsDone s s g t (op.Store base i source) reply.Bad
   store_of_nil base i source none =
       let step_is = store_bad m.state t base i source none in
-      done_unchanged s g t serial (op.Store base i source) reply.Bad may (ap (λ (p : State × Reply). record m { state = p.0 }) step_is) (sym (ap (λ p. p.1) step_is))
+      done_unchanged s g t serial (op.Store base i source) reply.Bad (λ after kept. kept) may (ap (λ (p : State × Reply). record m { state = p.0 }) step_is) (sym (ap (λ p. p.1) step_is))
 
   pub put_of_nil : (base i v : ℕ) → register_at m.state t base ≡ None → IsDone s s g t (op.Put base i v) reply.Bad
   put_of_nil base i v none =
       let step_is = put_bad m.state t base i v none in
-      done_unchanged s g t serial (op.Put base i v) reply.Bad may (ap (λ (p : State × Reply). record m { state = p.0 }) step_is) (sym (ap (λ p. p.1) step_is))
+      done_unchanged s g t serial (op.Put base i v) reply.Bad (λ after kept. kept) may (ap (λ (p : State × Reply). record m { state = p.0 }) step_is) (sym (ap (λ p. p.1) step_is))
 
   pub get_of_nil : (base i : ℕ) → register_at m.state t base ≡ None → IsDone s s g t (op.Get base i) reply.Bad
   get_of_nil base i none =
       let step_is = get_bad m.state t base i none in
-      done_unchanged s g t serial (op.Get base i) reply.Bad may (ap (λ (p : State × Reply). record m { state = p.0 }) step_is) (sym (ap (λ p. p.1) step_is))
+      done_unchanged s g t serial (op.Get base i) reply.Bad (λ after kept. kept) may (ap (λ (p : State × Reply). record m { state = p.0 }) step_is) (sym (ap (λ p. p.1) step_is))
 
   module _ (register : ℕ) (base : Base) (n : Name) (at : StandsAt g base.place (register_at m.state t register) n base.shape) where
     abbrev o : Object
@@ -110,22 +109,22 @@ module _ (s : Space) (g : AbstractState) (t serial : ℕ) (may : MayOperate s g 
     pub load_past : (dest i : ℕ) → base.shape.refs ≤ i → IsDone s s g t (op.Load dest register i) reply.Range
     load_past dest i past =
         let step_is = load_range m.state t dest register i n o at.is at.there (subst (λ z. z ≤ i) refs_are past) in
-        done_unchanged s g t serial (op.Load dest register i) reply.Range may (ap (λ (p : State × Reply). record m { state = p.0 }) step_is) (sym (ap (λ p. p.1) step_is))
+        done_unchanged s g t serial (op.Load dest register i) reply.Range (λ after kept. kept) may (ap (λ (p : State × Reply). record m { state = p.0 }) step_is) (sym (ap (λ p. p.1) step_is))
 
     pub store_past : (i source : ℕ) → base.shape.refs ≤ i → IsDone s s g t (op.Store register i source) reply.Range
     store_past i source past =
         let step_is = store_range m.state t register i source n o at.is at.there (subst (λ z. z ≤ i) refs_are past) in
-        done_unchanged s g t serial (op.Store register i source) reply.Range may (ap (λ (p : State × Reply). record m { state = p.0 }) step_is) (sym (ap (λ p. p.1) step_is))
+        done_unchanged s g t serial (op.Store register i source) reply.Range (λ after kept. kept) may (ap (λ (p : State × Reply). record m { state = p.0 }) step_is) (sym (ap (λ p. p.1) step_is))
 
     pub put_past : (i v : ℕ) → base.shape.values ≤ i → IsDone s s g t (op.Put register i v) reply.Range
     put_past i v past =
         let step_is = put_range m.state t register i v n o at.is at.there (subst (λ z. z ≤ i) values_are past) in
-        done_unchanged s g t serial (op.Put register i v) reply.Range may (ap (λ (p : State × Reply). record m { state = p.0 }) step_is) (sym (ap (λ p. p.1) step_is))
+        done_unchanged s g t serial (op.Put register i v) reply.Range (λ after kept. kept) may (ap (λ (p : State × Reply). record m { state = p.0 }) step_is) (sym (ap (λ p. p.1) step_is))
 
     pub get_past : (i : ℕ) → base.shape.values ≤ i → IsDone s s g t (op.Get register i) reply.Range
     get_past i past =
         let step_is = get_range m.state t register i n o at.is at.there (subst (λ z. z ≤ i) values_are past) in
-        done_unchanged s g t serial (op.Get register i) reply.Range may (ap (λ (p : State × Reply). record m { state = p.0 }) step_is) (sym (ap (λ p. p.1) step_is))
+        done_unchanged s g t serial (op.Get register i) reply.Range (λ after kept. kept) may (ap (λ (p : State × Reply). record m { state = p.0 }) step_is) (sym (ap (λ p. p.1) step_is))
 
     -- ---- a field is read
 
@@ -158,7 +157,7 @@ module _ (s : Space) (g : AbstractState) (t serial : ℕ) (may : MayOperate s g 
     load_done dest i r small within is =
         let step_is = load_ok m.state t dest register i n o at.is at.there (subst (λ z. i < z) refs_are within) in
         let replies : (step m.state t (op.Load dest register i)).1 ≡ reply.Loaded r = ap (λ p. p.1) step_is ∙ ap reply.Loaded (sym is) in
-        register_turned s g t serial dest (op.Load dest register i) (reply.Loaded r) (found i) (referred i) may small (stepped s g t serial (op.Load dest register i) (reply.Loaded r) may replies)
+        register_turned s g t serial dest (op.Load dest register i) (reply.Loaded r) (found i) (referred i) (λ after kept. kept) may small (stepped s g t serial (op.Load dest register i) (reply.Loaded r) may replies)
         (ap (λ (p : State × Reply). record m { state = p.0 }) step_is) (sym replies) (reference_placed i within).stands
 
     pub get_done : (i w : ℕ) → i < base.shape.values → w ≡ first_word base.place.0 + 1 + base.shape.refs + i → IsDone s s g t (op.Get register i) (reply.Got (tables.heap w))
@@ -168,7 +167,7 @@ module _ (s : Space) (g : AbstractState) (t serial : ℕ) (may : MayOperate s g 
         let word : tables.heap w ≡ get_or o.values i 0 =
         ap tables.heap (is ∙ ap (λ z. first_word z + 1 + base.shape.refs + i) at.stands ∙ ap (λ z. first_word (g.at n) + 1 + z + i) refs_are)
         ∙ whole.values i (get_or o.values i 0) (slice_get-get_or o.values i 0 inside) in
-        done_unchanged s g t serial (op.Get register i) (reply.Got (tables.heap w)) may (ap (λ (p : State × Reply). record m { state = p.0 }) step_is)
+        done_unchanged s g t serial (op.Get register i) (reply.Got (tables.heap w)) (λ after kept. kept) may (ap (λ (p : State × Reply). record m { state = p.0 }) step_is)
         (ap reply.Got word ∙ sym (ap (λ p. p.1) step_is))
 
     -- ---- a field is written
@@ -196,7 +195,7 @@ module _ (s : Space) (g : AbstractState) (t serial : ℕ) (may : MayOperate s g 
         let kept = subst (λ z. IsImage (with_heap tables z v) s.limits.blocks g.at h (members m)) word (put_keeps_image tables s.limits.blocks g.at m.state.graph (members m) n o i v image at.member at.there inside) in
         let same : tables_of (record s { words = after.words }) ≡ record tables { heap = changed tables.heap w v } = ap tables_of (sym turns.rest) ∙ turns.tables in
         subst (λ z. IsDone s z g t (op.Put register i v) reply.Put) (sym turns.rest)
-        (done_turned s g t serial (op.Put register i v) reply.Put st m.written after.words s.registers.items s.logged.items may moment (sym replies) (record {
+        (done_turned s g t serial (op.Put register i v) reply.Put st m.written after.words s.registers.items s.logged.items (λ after kept. kept) may moment (sym replies) (record {
           tables = same ∙ (λ j. record tables { heap = (sym same j).heap; unlogged = (sym same j).unlogged });
           follows = subst FollowsPause moment (follows_call s g t serial (op.Put register i v) reply.Put may small (stepped s g t serial (op.Put register i v) reply.Put may replies));
           shapes = shapes;
@@ -325,7 +324,7 @@ module _ (s : Space) (g : AbstractState) (t serial : ℕ) (may : MayOperate s g 
         }
 
         stored_done : IsDone s (turned_space s words s.registers.items entries) g t (op.Store register i source) reply.Stored
-        stored_done = done_turned s g t serial (op.Store register i source) reply.Stored st ws words s.registers.items entries may (moment_then ws written_is) (sym replies) stored_turned
+        stored_done = done_turned s g t serial (op.Store register i source) reply.Stored st ws words s.registers.items entries (λ after kept. kept) may (moment_then ws written_is) (sym replies) stored_turned
 
       -- the store of a reference that needs no entry
       pub store_done_clear : (after : Space) → is_unlogged s base.place i ≡ false → Turns s after (record tables { heap = changed tables.heap w p.0 }) → IsDone s after g t (op.Store register i source) reply.Stored

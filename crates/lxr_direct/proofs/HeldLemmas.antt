@@ -1,27 +1,25 @@
 -- What a space at rest says of what registers and references hold: places of the heap, at which headers tell names and shapes.
-use Rattle.std.proofs.Common.{◌≡◌, ◌≢◌, ℕ, zero, suc, ◌+◌, ◌-◌, ◌*◌, ◌/◌, ◌%◌, ◌^◌, ◌<◌, ◌≤◌, refl, sym, ap, subst, ◌∙◌, inl, inr, arith, List, [], ◌∷◌, length, map, get_or}
-use Rattle.std.specs.Prelude.{Option, Some, None, IsTrue, slice_get}
-use Rattle.std.proofs.lemmas.List.{length-map}
-use Rattle.std.proofs.lemmas.Option.{slice_get-get_or}
+use Rattle.std.proofs.Common.{◌≡◌, ◌≢◌, ℕ, zero, suc, ◌+◌, ◌-◌, ◌*◌, ◌<◌, ◌≤◌, refl, sym, ap, subst, ◌∙◌, inl, inr, arith, true, false, nat_eq, List, [], ◌∷◌, length, get_or}
+use Rattle.std.specs.Prelude.{◌↔◌, Option, Some, None, IsTrue, slice_get}
+use Rattle.std.proofs.lemmas.Bool.Decides.{eqb_tells}
 use Rattle.lxr_layout.specs.declared.TheConstants.{GRANULES_IN_BLOCK, MOST_BLOCKS, WORDS_IN_BLOCK}
 use Rattle.lxr_layout.specs.declared.Header.TheVariants as header
 use Rattle.lxr_layout.specs.declared.Name.{Name}
 use Rattle.lxr_layout.specs.declared.Place.{Place}
 use Rattle.lxr_layout.specs.declared.Shape.{Shape}
-use Rattle.lxr_layout.specs.Objects.{header_of, word_count}
-use Rattle.lxr_layout.specs.Places.{IsPlace, field_word, first_word}
+use Rattle.lxr_layout.specs.Objects.{header_of}
+use Rattle.lxr_layout.specs.Places.{IsPlace, first_word}
 use Rattle.lxr_graph.specs.Names.{has}
 use Rattle.lxr_graph.specs.State.{Object, object_at, register_at, register_index, shape_of}
 use Rattle.lxr_image.specs.declared.space.Space.{Space}
-use Rattle.lxr_image.specs.Tables.{Tables}
 use Rattle.lxr_image.specs.Spaces.{tables_of}
-use Rattle.lxr_image.specs.Image.{ArePlacesOf, IsImage, Stands, place_word}
+use Rattle.lxr_image.specs.Image.{ArePlacesOf, Stands, place_word}
 use Rattle.lxr_image.proofs.ImageLemmas.{words_cover, words_even}
 use Rattle.lxr_invariant.specs.AbstractState.{AbstractState, members}
 use Rattle.lxr_invariant.specs.Quiescent.{IsAtRest}
-use Rattle.lxr_core_invariant.proofs.HeldLemmas.{IsHeld, in_register, reference_held}
-use Rattle.lxr_core_invariant.proofs.TellingLemmas.{placed_there, small_place, told_there}
-use Rattle.lxr_direct.specs.Operating.{IsNilOrMember, IsPlaceOf, LiesInside, MayOperate, StandsAt}
+use Rattle.lxr_core_invariant.proofs.HeldLemmas.{IsHeld, in_register}
+use Rattle.lxr_core_invariant.proofs.TellingLemmas.{placed_there, told_there}
+use Rattle.lxr_direct.specs.Operating.{IsNilOrMember, IsPlaceOf, LiesInside, MayOperate, StandsAt, Tells, named_shape, shape_found}
 use Rattle.lxr_direct.specs.declared.reading.Base.{Base}
 
 -- ---- registers
@@ -166,3 +164,19 @@ stands_inside s g v n base is at =
       place = is_place s g base.place v is.rests h;
       words = subst (λ z. first_word base.place.0 + 1 + z.refs + z.values ≤ WORDS_IN_BLOCK * s.limits.blocks) (ap shape_of object ∙ sym at.shaped) (object_words s g base.place v h);
     }
+
+-- what is told of a place is what is held there, with its shape
+pub tells_named : (g : AbstractState) (place : Place) (v : Option Name) (found : Option (Name × Shape)) → Tells g place v found → found ≡ named_shape g.moment.state v
+tells_named g place v None none = ap (named_shape g.moment.state) (sym none)
+tells_named g place v (Some (n, shape)) at = ap (λ (z : Shape). Some (n, z)) (at.shaped ∙ ap shape_found (sym at.there)) ∙ ap (named_shape g.moment.state) (sym at.is)
+
+-- a register is nil exactly where it holds no place
+pub nil_place : (s : Space) (g : AbstractState) (p : Place) (v : Option Name) → IsPlaceOf s g p v → (p.0 ≡ 0) ↔ (v ≡ None)
+nil_place s g p v is = (none_there s g p v is, λ none. is.stands ∙ ap (place_word g.at) none)
+
+-- so the test says
+pub nil_test : (p : ℕ) (v : Option Name) → (p ≡ 0) ↔ (v ≡ None) → IsTrue (nat_eq p 0) ↔ (v ≡ None)
+nil_test p v same = elim (eqb_tells p 0) [
+  | inl e ↦ (λ t. same.0 e.1, λ none. e.0)
+  | inr e ↦ (λ t. let no : false ≡ true = sym e.0 ∙ t in absurd (cc), λ none. absurd (e.1 (same.1 none)))
+]

@@ -1,20 +1,18 @@
 -- A new object, and operations that ask for a pause.
-use Rattle.std.proofs.Common.{◌≡◌, ℕ, ◌^◌, ◌<◌, ◌≤◌, refl, sym, ap, subst, ◌∙◌, length}
-use Rattle.std.specs.Prelude.{Option, Some, None, IsTrue}
+use Rattle.std.proofs.Common.{◌≡◌, ℕ, refl, sym, ap, subst, ◌∙◌}
 use Rattle.lxr_layout.specs.declared.Name.{Name}
 use Rattle.lxr_layout.specs.declared.Place.{Place}
 use Rattle.lxr_layout.specs.declared.Shape.{Shape}
 use Rattle.lxr_graph.specs.declared.Op.TheVariants as op
 use Rattle.lxr_graph.specs.declared.Reply.TheVariants as reply
-use Rattle.lxr_graph.specs.Names.{has}
-use Rattle.lxr_graph.specs.State.{next_name}
+use Rattle.lxr_graph.specs.State.{register_index}
 use Rattle.lxr_image.specs.declared.space.Space.{Space}
 use Rattle.lxr_image.specs.ImageLaws.{placed}
-use Rattle.lxr_invariant.specs.AbstractState.{AbstractState, members}
+use Rattle.lxr_invariant.specs.AbstractState.{AbstractState}
 use Rattle.lxr_run_placing.specs.Placing.{IsServable, IsServed, IsServedFrom}
 use Rattle.lxr_run_placing.proofs.NewLemmas.{is_beside}
 use Rattle.lxr_run_placing.proofs.ServedLemmas.{KeepsOthers, served_keeps}
-use Rattle.lxr_direct.specs.Operating.{IsDone, KeepsBeside, MayOperate}
+use Rattle.lxr_direct.specs.Operating.{IsDone, IsPlacedIn, KeepsBeside, MayOperate}
 use Rattle.lxr_direct.proofs.DoneLemmas.{done_unchanged}
 use Rattle.lxr_direct.proofs.RegisterLemmas.{row_there}
 
@@ -48,11 +46,12 @@ make_done s after g t serial dest shape p may served =
       stay = λ q h. subst (λ z. placed g.at z p.0 q ≡ g.at q) may.next (beside.old_at q h);
       rests = from.rests;
       keeps = keeps_log s after (served_keeps s after n dest shape p served);
+      leaves = subst (λ q. IsPlacedIn s after (register_index t dest) q shape) (sym may.next) (record { place = p; placed = served.middle; places = served.placed; held = served.held });
     }
 
 -- a pause is asked for
 pub pause_done : (s : Space) (g : AbstractState) (t serial : ℕ) → MayOperate s g t serial → IsDone s s g t op.Pause reply.Paused
-pause_done s g t serial may = done_unchanged s g t serial op.Pause reply.Paused may refl refl
+pause_done s g t serial may = done_unchanged s g t serial op.Pause reply.Paused (λ after kept. kept) may refl refl
 
 pub collect_done : (s : Space) (g : AbstractState) (t serial : ℕ) → MayOperate s g t serial → IsDone s s g t op.Collect reply.Collected
-collect_done s g t serial may = done_unchanged s g t serial op.Collect reply.Collected may refl refl
+collect_done s g t serial may = done_unchanged s g t serial op.Collect reply.Collected (λ after kept. kept) may refl refl

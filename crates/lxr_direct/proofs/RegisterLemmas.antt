@@ -1,7 +1,7 @@
 -- Operations on registers alone.
-use Rattle.std.proofs.Common.{◌≡◌, ℕ, ◌+◌, ◌-◌, ◌*◌, ◌<◌, ◌≤◌, refl, sym, ap, subst, ◌∙◌, arith, List, [], ◌++◌, length, map, nat_eq, replicate, take, drop}
+use Rattle.std.proofs.Common.{◌≡◌, ℕ, ◌+◌, ◌-◌, ◌*◌, ◌<◌, ◌≤◌, refl, sym, ap, subst, ◌∙◌, arith, List, ◌++◌, length, map, nat_eq, replicate, take, drop}
 use Rattle.std.specs.Prelude.{Option, Some, None, slice_get, slice_set}
-use Rattle.std.proofs.lemmas.List.{drop-map, length-append, length-drop, length-map, length-replicate, length-set, length-take, map-append, take-map}
+use Rattle.std.proofs.lemmas.List.{drop-map, length-append, length-drop, length-set, length-take, map-append, take-map}
 use Rattle.lxr_layout.specs.declared.Name.{Name}
 use Rattle.lxr_layout.specs.declared.Place.{Place}
 use Rattle.lxr_graph.specs.declared.Op.{Op}
@@ -23,7 +23,7 @@ use Rattle.lxr_core_invariant.proofs.HeldLemmas.{in_register}
 use Rattle.lxr_core_invariant.proofs.TellingLemmas.{same_by_place}
 use Rattle.lxr_run_placing.proofs.ServedLemmas.{row_of_thread}
 use Rattle.lxr_direct.specs.Operating.{IsDone, MayOperate, nil, with_places, without_registers}
-use Rattle.lxr_direct.proofs.DoneLemmas.{done_turned, done_unchanged, holding, registers_turned}
+use Rattle.lxr_direct.proofs.DoneLemmas.{MakesNothing, done_turned, done_unchanged, holding, registers_turned}
 use Rattle.lxr_direct.proofs.HeldLemmas.{register_place}
 use Rattle.lxr_direct.proofs.TurnedLemmas.{turned}
 
@@ -38,13 +38,13 @@ pub row_there : (s : Space) (g : AbstractState) (t serial : ℕ) → MayOperate 
 row_there s g t serial may = (row_of_thread s g t may.rests may.thread.0 may.thread.1, may.thread.0)
 
 -- one register holds another name
-pub register_turned : (s : Space) (g : AbstractState) (t serial dest : ℕ) (o : Op) (r : Reply) (p : Place) (v : Option Name) → MayOperate s g t serial → IsWellFormed o → IsStepReply g.moment.state t o r
+pub register_turned : (s : Space) (g : AbstractState) (t serial dest : ℕ) (o : Op) (r : Reply) (p : Place) (v : Option Name) → MakesNothing s g t o → MayOperate s g t serial → IsWellFormed o → IsStepReply g.moment.state t o r
     → after_call g.moment t o r ≡ turned g.moment (holding g.moment.state (slice_set g.moment.state.registers (register_index t dest) v)) g.moment.written → r ≡ (step g.moment.state t o).1 → p.0 ≡ place_word g.at v
     → IsDone s (with_places s (slice_set s.registers.items (register_index t dest) p)) g t o r
-register_turned s g t serial dest o r p v may formed is_reply moment reply place =
+register_turned s g t serial dest o r p v leaves may formed is_reply moment reply place =
     let held : List (Option Name) = slice_set g.moment.state.registers (register_index t dest) v in
     let places : List Place = slice_set s.registers.items (register_index t dest) p in
-    done_turned s g t serial o r (holding g.moment.state held) g.moment.written s.words places s.logged.items may moment reply
+    done_turned s g t serial o r (holding g.moment.state held) g.moment.written s.words places s.logged.items leaves may moment reply
     (registers_turned s g t serial held places may (subst FollowsPause moment (follows_call s g t serial o r may formed is_reply))
     (register_keeps_places g.at s.registers.items g.moment.state.registers (register_index t dest) p v may.rests.safepoint.holds.image.registers place)
     (length-set s.registers.items (register_index t dest) p))
@@ -52,12 +52,12 @@ register_turned s g t serial dest o r p v may formed is_reply moment reply place
 pub move_done : (s : Space) (g : AbstractState) (t serial dest source : ℕ) (p : Place) → MayOperate s g t serial → (dest < 16) × (source < 16) → slice_get s.registers.items (register_index t source) ≡ Some p
     → IsDone s (with_places s (slice_set s.registers.items (register_index t dest) p)) g t (op.Move dest source) reply.Moved
 move_done s g t serial dest source p may small there =
-    register_turned s g t serial dest (op.Move dest source) reply.Moved p (register_at g.moment.state t source) may small (refl, (row_there s g t serial may).0, (row_there s g t serial may).1) refl refl (register_place s g t serial source p may there)
+    register_turned s g t serial dest (op.Move dest source) reply.Moved p (register_at g.moment.state t source) (λ after kept. kept) may small (refl, (row_there s g t serial may).0, (row_there s g t serial may).1) refl refl (register_place s g t serial source p may there)
 
 pub nil_done : (s : Space) (g : AbstractState) (t serial dest : ℕ) → MayOperate s g t serial → dest < 16
     → IsDone s (with_places s (slice_set s.registers.items (register_index t dest) nil)) g t (op.Nil dest) reply.Cleared
 nil_done s g t serial dest may small =
-    register_turned s g t serial dest (op.Nil dest) reply.Cleared nil None may small (refl, (row_there s g t serial may).0, (row_there s g t serial may).1) refl refl refl
+    register_turned s g t serial dest (op.Nil dest) reply.Cleared nil None (λ after kept. kept) may small (refl, (row_there s g t serial may).0, (row_there s g t serial may).1) refl refl refl
 
 -- ---- whether two are the same
 
@@ -70,7 +70,7 @@ same_done s g t serial left right p q may there_p there_q =
     let same : same_held v w ≡ nat_eq p.0 q.0 =
     same_by_place (tables_of s) s.limits.blocks g.at g.moment v w p.0 q.0 may.rests.safepoint.holds.image.image (in_register g.moment t left follows) (in_register g.moment t right follows)
     (register_place s g t serial left p may there_p) (register_place s g t serial right q may there_q) in
-    done_unchanged s g t serial (op.Same left right) (reply.Same (nat_eq p.0 q.0)) may refl (ap reply.Same (sym same))
+    done_unchanged s g t serial (op.Same left right) (reply.Same (nat_eq p.0 q.0)) (λ after kept. kept) may refl (ap reply.Same (sym same))
 
 -- ---- the end
 
@@ -99,6 +99,6 @@ length_cleared places t many =
 pub end_done : (s : Space) (g : AbstractState) (t serial : ℕ) → MayOperate s g t serial → 16 * (t - 1) + 16 ≤ length s.registers.items → IsDone s (with_places s (without_registers s.registers.items t)) g t op.End reply.Ended
 end_done s g t serial may many =
     let held : List (Option Name) = cleared g.moment.state.registers t in
-    done_turned s g t serial op.End reply.Ended (holding g.moment.state held) g.moment.written s.words (without_registers s.registers.items t) s.logged.items may refl refl
+    done_turned s g t serial op.End reply.Ended (holding g.moment.state held) g.moment.written s.words (without_registers s.registers.items t) s.logged.items (λ after kept. kept) may refl refl
     (registers_turned s g t serial held (without_registers s.registers.items t) may (follows_call s g t serial op.End reply.Ended may tt (refl, (row_there s g t serial may).0, (row_there s g t serial may).1))
     (cleared_places g.at s.registers.items g.moment.state.registers t may.rests.safepoint.holds.image.registers) (length_cleared s.registers.items t many))

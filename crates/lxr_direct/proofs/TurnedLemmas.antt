@@ -1,8 +1,7 @@
 -- A space at rest stays so where fields of members are written and registers hold other names: objects keep their places and shapes, and
 -- what tells of fields and of the log is known of the state then.
-use Rattle.std.proofs.Common.{◌≡◌, ℕ, ◌+◌, ◌*◌, ◌/◌, ◌<◌, ◌≤◌, refl, sym, ap, subst, ◌∙◌, inl, inr, List, length}
-use Rattle.std.specs.Prelude.{Option, Some, None, IsTrue}
-use Rattle.lxr_layout.specs.declared.TheConstants.{GRANULES_IN_LINE}
+use Rattle.std.proofs.Common.{◌≡◌, ℕ, ◌+◌, ◌*◌, ◌/◌, ◌<◌, ◌≤◌, refl, sym, ap, subst, ◌∙◌, List, length}
+use Rattle.std.specs.Prelude.{Some, None, IsTrue}
 use Rattle.lxr_layout.specs.declared.LogEntry.{LogEntry}
 use Rattle.lxr_layout.specs.declared.Name.{Name}
 use Rattle.lxr_layout.specs.declared.Place.{Place}
@@ -19,7 +18,7 @@ use Rattle.lxr_model_counting.specs.Following.{FollowsPause}
 use Rattle.lxr_invariant.specs.AbstractState.{AbstractState, members}
 use Rattle.lxr_invariant.specs.Standing.{AreLogged, HasBits}
 use Rattle.lxr_invariant.specs.Counting.{HasCounts, HasDecrements, IsUndecremented}
-use Rattle.lxr_invariant.specs.Lines.{AvoidChosen, Covers, FreeAreUnused, HasBlocks, HasMarks, HasStates, IsMarkOf, KeepLines, KeepsRest, LinesAreOut, OutsAreTaken}
+use Rattle.lxr_invariant.specs.Lines.{AvoidChosen, Covers, FreeAreUnused, HasBlocks, HasMarks, HasStates, KeepLines, KeepsRest, LinesAreOut, OutsAreTaken}
 use Rattle.lxr_invariant.specs.Tracing.{IsTracedBy}
 use Rattle.lxr_invariant.specs.Quiescent.{HoldsMoment, IsAtRest}
 use Rattle.lxr_invariant.proofs.FrameLemmas.{rest_still}

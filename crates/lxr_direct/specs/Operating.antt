@@ -9,15 +9,18 @@ use Rattle.lxr_graph.specs.declared.Op.{Op}
 use Rattle.lxr_graph.specs.declared.Op.TheVariants as op
 use Rattle.lxr_graph.specs.declared.Reply.{Reply}
 use Rattle.lxr_graph.specs.Names.{has}
-use Rattle.lxr_graph.specs.State.{Object, next_name, object_at, refs_of, register_at, shape_of}
+use Rattle.lxr_graph.specs.State.{Object, State, next_name, object_at, refs_of, register_at, register_index, shape_of}
 use Rattle.lxr_graph.specs.Step.{step}
 use Rattle.lxr_image.specs.declared.space.Space.{Space}
 use Rattle.lxr_image.specs.Image.{place_word}
-use Rattle.lxr_blocks.specs.Placing.{IsFull}
+use Rattle.lxr_image.specs.Spaces.{tables_of}
+use Rattle.lxr_image.specs.Tables.{Tables}
+use Rattle.lxr_blocks.specs.Placing.{IsFull, IsPlaced}
 use Rattle.lxr_model.specs.Moments.{Moment, after_call}
 use Rattle.lxr_model_counting.specs.Distinct.{has_field}
 use Rattle.lxr_invariant.specs.AbstractState.{AbstractState, members}
 use Rattle.lxr_invariant.specs.Quiescent.{IsAtRest}
+use Rattle.lxr_run_placing.specs.Placing.{with_register}
 use Rattle.lxr_direct.specs.declared.reading.Base.{Base}
 use Rattle.lxr_direct.specs.declared.Operated.{Operated}
 use Rattle.lxr_direct.specs.declared.Operated.TheVariants as came
@@ -58,6 +61,16 @@ Tells g place v (Some (name, shape)) = StandsAt g place v name shape
 abbrev pub IsBase : AbstractState → ℕ → ℕ → Option Base → Type 0
 IsBase g t register None = register_at g.moment.state t register ≡ None
 IsBase g t register (Some base) = (name : Name) × StandsAt g base.place (register_at g.moment.state t register) name base.shape
+
+-- the shape of an object, where one was found
+abbrev pub shape_found : Option Object → Shape
+shape_found None = record { refs = 0; values = 0 }
+shape_found (Some o) = shape_of o
+
+-- what is held, by its name and the shape of its object; nothing of nil
+abbrev pub named_shape : State → Option Name → Option (Name × Shape)
+named_shape s None = None
+named_shape s (Some n) = Some (n, shape_found (object_at s.graph n))
 
 -- an object of this shape at its place lies inside the heap
 pub record LiesInside (s : Space) (base : Base) : Type 0 where
@@ -131,6 +144,23 @@ KeepsBeside before after = after ≡ record before {
   rest_end = after.rest_end;
 }
 
+-- of the tables, heap words and unlogged bits may have changed
+abbrev pub KeepsTables : Tables → Tables → Type 0
+KeepsTables t u = u ≡ record t { heap = u.heap; unlogged = u.unlogged }
+
+-- An object was placed, on what is left of the lines that were placed on last or on the first lines that fit it, and then a register got its place.
+pub record IsPlacedIn (before after : Space) (register : ℕ) (name : Name) (shape : Shape) : Type 0 where
+  pub place : Place
+  pub placed : Space
+  pub places : IsPlaced before placed name shape place
+  pub held : after ≡ with_register placed register place
+
+-- What an operation of thread t leaves of the space: a `new` has its object placed and its register hold it, and changes nothing else. Of the
+-- tables any other operation changes heap words and unlogged bits alone.
+abbrev pub Leaves : Space → Space → State → ℕ → Op → Type 0
+Leaves before after s t (op.New dest shape) = IsPlacedIn before after (register_index t dest) (next_name s.graph t) shape
+Leaves before after s t o = KeepsTables (tables_of before) (tables_of after)
+
 -- It was done: the reply is that of a step of the model, the space is at rest for the state after it, and all objects stand where they did.
 pub record IsDone (before after : Space) (g : AbstractState) (t : ℕ) (o : Op) (r : Reply) : Type 0 where
   pub reply : r ≡ (step g.moment.state t o).1
@@ -138,6 +168,7 @@ pub record IsDone (before after : Space) (g : AbstractState) (t : ℕ) (o : Op) 
   pub stay : (n : Name) → IsTrue (has (members g.moment) n) → at n ≡ g.at n
   pub rests : IsAtRest after (called g t o r at)
   pub keeps : KeepsBeside before after
+  pub leaves : Leaves before after g.moment.state t o
 
 -- An operation is done exactly where it finds room and its log isn't full; else nothing has changed.
 abbrev pub Operates : Space → Space → AbstractState → ℕ → Op → Operated → Type 0

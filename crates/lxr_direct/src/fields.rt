@@ -13,6 +13,7 @@ use lxr_image::Space;
 use lxr_layout::field_word;
 
 /// Register `dest` gets reference `index` of the object that `base` holds.
+#[inline(always)]
 pub fn load(space: &mut Space, thread: u8, dest: u8, base: u8, index: u16) -> Reply
     requires state { CanOperate space.old thread }
     requires registers { (dest < 16) × (base < 16) }
@@ -32,6 +33,7 @@ pub fn load(space: &mut Space, thread: u8, dest: u8, base: u8, index: u16) -> Re
 
 /// Reference `index` of the object that `base` holds becomes what `source` holds; what it held at the last pause is recorded by the first
 /// store to it.
+#[inline(always)]
 pub fn store(space: &mut Space, thread: u8, base: u8, index: u16, source: u8) -> Operated
     requires state { CanOperate space.old thread }
     requires registers { (base < 16) × (source < 16) }
@@ -52,6 +54,7 @@ pub fn store(space: &mut Space, thread: u8, base: u8, index: u16, source: u8) ->
 }
 
 /// Data word `index` of the object that `base` holds becomes `value`.
+#[inline(always)]
 pub fn put(space: &mut Space, thread: u8, base: u8, index: u16, value: u64) -> Reply
     requires state { CanOperate space.old thread }
     requires registers { base < 16 }
@@ -68,6 +71,7 @@ pub fn put(space: &mut Space, thread: u8, base: u8, index: u16, value: u64) -> R
 }
 
 /// Reads data word `index` of the object that `base` holds.
+#[inline(always)]
 pub fn get(space: &Space, thread: u8, base: u8, index: u16) -> Reply
     requires state { CanOperate space.now thread }
     requires registers { base < 16 }

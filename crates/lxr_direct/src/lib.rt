@@ -14,7 +14,7 @@ mod registers;
 
 use lxr_graph::Reply;
 pub use operating::operate;
-pub use reading::name_in;
+pub use reading::{is_nil, name_in, object_in};
 
 /// What has come of an operation.
 #[derive(Clone, Copy, Debug, PartialEq, Eq)]

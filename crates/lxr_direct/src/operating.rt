@@ -16,6 +16,7 @@ use lxr_layout::{Name, Place, Shape};
 use lxr_run_placing::serve;
 
 /// Register `dest` gets what `source` holds.
+#[inline(always)]
 fn move_register(space: &mut Space, thread: u8, dest: u8, source: u8)
     requires state { CanOperate space.old thread }
     requires registers { (dest < 16) × (source < 16) }
@@ -26,6 +27,7 @@ fn move_register(space: &mut Space, thread: u8, dest: u8, source: u8)
 }
 
 /// Register `dest` becomes nil.
+#[inline(always)]
 fn nil_register(space: &mut Space, thread: u8, dest: u8)
     requires state { CanOperate space.old thread }
     requires registers { dest < 16 }
@@ -35,6 +37,7 @@ fn nil_register(space: &mut Space, thread: u8, dest: u8)
 }
 
 /// Whether both registers are nil or hold one object.
+#[inline(always)]
 fn same(space: &Space, thread: u8, left: u8, right: u8) -> bool
     requires state { CanOperate space.now thread }
     requires registers { (left < 16) × (right < 16) }
@@ -52,6 +55,7 @@ fn end(space: &mut Space, thread: u8)
 }
 
 /// Register `dest` gets a new object, which is the thread's next one.
+#[inline(always)]
 fn make(space: &mut Space, thread: u8, serial: u32, dest: u8, shape: Shape) -> Operated
     requires state { (g : AbstractState) × MayOperate space.old g thread serial }
     requires dest { dest < 16 }
@@ -68,6 +72,7 @@ fn make(space: &mut Space, thread: u8, serial: u32, dest: u8, shape: Shape) -> O
 /// Does one operation of a thread on a space at rest, where no trace runs; the thread's next object has this serial. A `new` finds no room
 /// exactly where neither what is left of the lines that were placed on last nor free lines fit it, and a store its log full exactly where
 /// it has to record what it overwrites and the log has as many entries as it may have. Then nothing has changed.
+#[inline(always)]
 pub fn operate(space: &mut Space, thread: u8, serial: u32, op: Op) -> Operated
     requires state { (g : AbstractState) × MayOperate space.old g thread serial }
     requires op { IsWellFormed op }

@@ -1,5 +1,5 @@
 //! What stands in the heap at the places that registers and references hold.
-ghost use Rattle.std.specs.Prelude.{◌≡◌, ℕ, ◌+◌, ◌*◌, ◌<◌, Option};
+ghost use Rattle.std.specs.Prelude.{◌≡◌, ◌↔◌, ℕ, ◌+◌, ◌*◌, ◌<◌, IsTrue, None, Option};
 ghost use Rattle.std.specs.Option.{ForSome};
 ghost use Rattle.lxr_layout.specs.declared.Name.{Name as NameOf};
 ghost use Rattle.lxr_layout.specs.declared.TheConstants.{WORDS_IN_BLOCK};
@@ -7,7 +7,7 @@ ghost use Rattle.lxr_layout.specs.Places.{IsPlace, field_word, first_word, place
 ghost use Rattle.lxr_graph.specs.State.{register_at};
 ghost use Rattle.lxr_image.specs.Spaces.{IsSpace, tables_of};
 ghost use Rattle.lxr_invariant.specs.AbstractState.{AbstractState};
-ghost use Rattle.lxr_direct.specs.Operating.{CanOperate, IsBase, IsPlaceOf, LiesInside, MayOperate, Tells};
+ghost use Rattle.lxr_direct.specs.Operating.{CanOperate, IsBase, IsPlaceOf, LiesInside, MayOperate, Tells, named_shape};
 
 use crate::registers::held;
 use lxr_image::Space;
@@ -56,6 +56,27 @@ pub fn name_in(space: &Space, thread: u8, register: u8) -> Option<Name>
 {
     let place = held(space, thread, register);
     name_at(space, place)
+}
+
+/// The name of what a thread's register holds, and the shape of its object; none where it is nil.
+#[inline(always)]
+pub fn object_in(space: &Space, thread: u8, register: u8) -> Option<(Name, Shape)>
+    requires state { CanOperate space.now thread }
+    requires register { register < 16 }
+    ensures { (g : AbstractState) (serial : ℕ) → MayOperate space.now g thread serial → result ≡ named_shape g.moment.state (register_at g.moment.state thread register) }
+{
+    let place = held(space, thread, register);
+    object_at(space, place)
+}
+
+/// Whether a thread's register is nil.
+#[inline(always)]
+pub fn is_nil(space: &Space, thread: u8, register: u8) -> bool
+    requires state { CanOperate space.now thread }
+    requires register { register < 16 }
+    ensures { (g : AbstractState) (serial : ℕ) → MayOperate space.now g thread serial → IsTrue result ↔ (register_at g.moment.state thread register ≡ None) }
+{
+    held(space, thread, register).0 == 0
 }
 
 /// The object that a thread's register holds; none where it is nil.

@@ -16,8 +16,8 @@ ghost use Rattle.lxr_tables.specs.Counts.{lowered_count, lowered_of, raised_coun
 use crate::Space;
 use lxr_layout::{COUNT_BITS, Limits, STUCK, TRACING_WORD, regions};
 use lxr_tables::{
-    COUNTS_IN_WORD, Lowered, Raised, Words, bit, clear_bit, four, lower_four, raise_four, set_bit,
-    set_four, uncounted_lines, zero_counts,
+    COUNTS_IN_WORD, Lowered, Raised, Words, bit, clear_bit, four, is_uncounted, lower_four,
+    raise_four, set_bit, set_four, uncounted_lines, zero_counts,
 };
 
 /// A table of bits.
@@ -725,6 +725,22 @@ impl Space {
         ensures { (i : ℕ) → i < LINES_IN_BLOCK → (IsBitSet result i ↔ ((k : ℕ) → k < GRANULES_IN_LINE → (tables_of self.now).counts (GRANULES_IN_BLOCK * block + GRANULES_IN_LINE * i + k) ≡ 0)) }
     {
         uncounted_lines(&self.words, self.counts_begin(), block as usize)
+    }
+
+    /// Whether a line of the block has no count but 0. It looks at one word.
+    #[inline(always)]
+    pub fn is_uncounted(&self, block: u32, line: u32) -> bool
+        requires space { IsSpace self.now }
+        requires block { block < self.now.limits.blocks }
+        requires line { line < LINES_IN_BLOCK }
+        ensures { IsTrue result ↔ ((k : ℕ) → k < GRANULES_IN_LINE → (tables_of self.now).counts (GRANULES_IN_BLOCK * block + GRANULES_IN_LINE * line + k) ≡ 0) }
+    {
+        is_uncounted(
+            &self.words,
+            self.counts_begin(),
+            block as usize,
+            line as usize,
+        )
     }
 
     /// Which granules of a word of counts have count 0: bit i of the answer is set exactly where that of granule i of them is 0.

@@ -2,3 +2,4 @@ mod Runs
 mod Sorted
 mod Words
 mod Views
+mod Renaming

@@ -1,5 +1,5 @@
 -- Blocks are taken one after the other: each that was free makes one more.
-use Rattle.std.proofs.Common.{◌≡◌, ◌≢◌, ℕ, zero, suc, ◌+◌, ◌-◌, ◌<◌, ◌≤◌, ◌⊎◌, inl, inr, refl, ◌∙◌, arith, Bool, true, false, cond, List, [], ◌∷◌, length, get_or, set, replicate, ltb, leb, ◌&&◌}
+use Rattle.std.proofs.Common.{◌≡◌, ◌≢◌, ℕ, zero, suc, ◌+◌, ◌-◌, ◌<◌, ◌≤◌, ◌⊎◌, inl, inr, refl, ap, ◌∙◌, arith, Bool, true, false, cond, List, [], ◌∷◌, length, get_or, set, replicate, take, ltb, leb, ◌&&◌}
 use Rattle.std.proofs.lemmas.List.{get_or-set_same, get_or-set_other}
 use Rattle.lxr_large_bodies.specs.Blocks.{AreFree, TakesRun, taken_count}
 
@@ -14,6 +14,30 @@ pub count_few : (taken : List Bool) → taken_count taken ≤ length taken
 count_few [] = omega arith
 count_few (true ∷ bs) = let few = count_few bs in omega (arith, few)
 count_few (false ∷ bs) = let few = count_few bs in omega (arith, few)
+
+none_yet : (taken : List Bool) → taken_count (take 0 taken) ≡ 0
+none_yet [] = refl
+none_yet (b ∷ bs) = refl
+
+-- one block more
+pub count_more : (taken : List Bool) (k : ℕ) → k < length taken → taken_count (take (k + 1) taken) ≡ taken_count (take k taken) + cond (get_or taken k false) 1 0
+count_more [] k within = absurd (omega (arith, within))
+count_more (true ∷ bs) zero within = let none = none_yet bs in omega (arith, none)
+count_more (false ∷ bs) zero within = none_yet bs
+count_more (true ∷ bs) (suc k) within =
+    let more = count_more bs k (omega (arith, within)) in
+    let next : suc k + 1 ≡ suc (k + 1) = omega arith in
+    rw next (omega (arith, more))
+count_more (false ∷ bs) (suc k) within =
+    let next : suc k + 1 ≡ suc (k + 1) = omega arith in
+    rw next (count_more bs k (omega (arith, within)))
+
+-- a free block makes one more, and a taken one none
+pub free_next : (taken : List Bool) (free k : ℕ) → k < length taken → get_or taken k false ≡ false → free + taken_count (take k taken) ≡ k → free + 1 + taken_count (take (k + 1) taken) ≡ k + 1
+free_next taken free k within is so_far = let more = count_more taken k within ∙ ap (λ b. taken_count (take k taken) + cond b 1 0) is in omega (arith, more, so_far)
+
+pub free_same : (taken : List Bool) (free k : ℕ) → k < length taken → get_or taken k false ≡ true → free + taken_count (take k taken) ≡ k → free + taken_count (take (k + 1) taken) ≡ k + 1
+free_same taken free k within is so_far = let more = count_more taken k within ∙ ap (λ b. taken_count (take k taken) + cond b 1 0) is in omega (arith, more, so_far)
 
 -- where a block is free, not all are taken
 pub count_below : (taken : List Bool) (k : ℕ) → k < length taken → get_or taken k false ≡ false → taken_count taken < length taken

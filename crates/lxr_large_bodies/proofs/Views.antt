@@ -12,11 +12,16 @@ use Rattle.lxr_graph.specs.Names.{has, same_name}
 use Rattle.lxr_graph.specs.History.{PauseReport}
 use Rattle.lxr_large_bodies.specs.declared.entries.Entry.{Entry}
 use Rattle.lxr_large_bodies.specs.Blocks.{AreFree, AreTaken, AreWithin, TakesRun, block_count, covers, is_within}
-use Rattle.lxr_large_bodies.specs.Bodies.{Body, Held, IsFreeRun, body_of, fresh, left_by, overwritten, range_at, range_in, rank_of, settled, stays, takes, with_placed, with_words, word_at, word_in}
+use Rattle.lxr_large_bodies.specs.Bodies.{Body, Held, IsFreeRun, blocks_held, blocks_in, body_of, fresh, left_by, overwritten, range_at, range_in, rank_of, settled, stays, takes, with_placed, with_words, word_at, word_in}
 use Rattle.lxr_large_bodies.specs.Entries.{AreSorted, ClearsBlocks, ComesBefore, body_at, entry_of, inserted, is_settled, settled_where, start_in, words_in}
 use Rattle.lxr_large_bodies.proofs.Runs.{count_below, none_count, none_taken}
 use Rattle.lxr_large_bodies.proofs.Sorted.{IsNewEntry, LieApart, all_filter, all_found, all_get, all_weaken, rank_apart, rank_same, sorted_filter, sorted_where, same_rank}
 use Rattle.lxr_large_bodies.proofs.Words.{KeepsOthers, clears_keep, clears_run, get_inside, get_outside, run_kept, set_inside, set_keeps, spliced, spliced_inside, spliced_keeps, take_inside}
+
+-- how many blocks an entry has, where there is one
+abbrev pub blocks_of : Option Entry → ℕ
+blocks_of None = 0
+blocks_of (Some e) = e.blocks
 
 pub body_found : (ws : List ℕ) (es : List Entry) (n : Name) → body_of (map (body_at ws) es) n ≡ option_map (body_at ws) (entry_of es n)
 body_found ws [] n = refl
@@ -24,6 +29,19 @@ body_found ws (e ∷ es) n = elim (same_name n e.name) as (λ b. cond b (Some (b
   | true ↦ refl
   | false ↦ body_found ws es n
 ]
+
+-- how many blocks the body of a name has
+pub blocks_found : (ws : List ℕ) (es : List Entry) (n : Name) → blocks_in (body_of (map (body_at ws) es) n) ≡ blocks_of (entry_of es n)
+blocks_found ws es n = ap blocks_in (body_found ws es n) ∙ go (entry_of es n)
+  where
+    go : (entry : Option Entry) → blocks_in (option_map (body_at ws) entry) ≡ blocks_of entry
+    go None = refl
+    go (Some e) = refl
+
+-- and how many all have
+pub blocks_all : (ws : List ℕ) (es : List Entry) → blocks_held (map (body_at ws) es) ≡ block_count es
+blocks_all ws [] = refl
+blocks_all ws (e ∷ es) = ap (λ k. e.blocks + k) (blocks_all ws es)
 
 -- ---- a range of words
 

@@ -1,10 +1,12 @@
 -- The bodies of large objects, each in a run of blocks.
-use Rattle.std.specs.Prelude.{◌≡◌, ℕ, ◌+◌, ◌*◌, ◌^◌, ◌<◌, ◌≤◌, ◌&&◌, ◌||◌, not, nat_le, nat_lt, Bool, true, false, Option, Some, None, List, [], ◌∷◌, ◌++◌, if◌then◌else◌, length, take, drop, map, filter, replicate, slice_get}
-use Rattle.std.specs.List.{list_any}
+use Rattle.std.specs.Prelude.{◌≡◌, ℕ, ◌+◌, ◌*◌, ◌^◌, ◌<◌, ◌≤◌, ◌&&◌, ◌||◌, not, nat_le, nat_lt, Bool, true, false, Option, Some, None, List, [], ◌∷◌, ◌++◌, if◌then◌else◌, IsTrue, length, take, drop, map, filter, replicate, slice_get}
+use Rattle.std.specs.List.{AllByRecursion, list_any}
 use Rattle.lxr_layout.specs.declared.Name.{Name}
 use Rattle.lxr_layout.specs.declared.TheConstants.{WORDS_IN_BLOCK}
+use Rattle.lxr_graph.specs.declared.report.Count.{Count}
 use Rattle.lxr_graph.specs.Names.{has, same_name}
 use Rattle.lxr_graph.specs.History.{PauseReport}
+use Rattle.lxr_large_model.specs.Renewing.{counted_name, renewed_name}
 
 -- the body of a large name: its first block and how many it has, whether it was placed since the last pause, and its words
 pub record Body : Type 0 where
@@ -27,6 +29,16 @@ no_bodies blocks = record { blocks = blocks; bodies = [] }
 abbrev pub body_of : List Body → Name → Option Body
 body_of [] n = None
 body_of (b ∷ bs) n = if same_name n b.name then Some b else body_of bs n
+
+-- how many blocks a body has, where there is one
+abbrev pub blocks_in : Option Body → ℕ
+blocks_in None = 0
+blocks_in (Some b) = b.blocks
+
+-- how many blocks these bodies have
+abbrev pub blocks_held : List Body → ℕ
+blocks_held [] = 0
+blocks_held (b ∷ bs) = b.blocks + blocks_held bs
 
 -- a body has a block
 abbrev pub takes : ℕ → Body → Bool
@@ -97,3 +109,13 @@ settled b = record b { young = false }
 -- the bodies that a pause leaves
 abbrev pub left_by : PauseReport → List Body → List Body
 left_by r bs = map settled (filter (stays r) bs)
+
+-- ---- names
+
+-- a body under the new name of its object, where these names are renewed
+abbrev pub renamed : List Name → Body → Body
+renamed ns b = record b { name = renewed_name ns b.name }
+
+-- each body is that of one of the names that are counted
+abbrev pub AreAmong : List Count → List Body → Type 0
+AreAmong counts bs = AllByRecursion (λ (b : Body). IsTrue (has (map counted_name counts) b.name)) bs

@@ -4,6 +4,7 @@ use Rattle.std.specs.List.{AllByRecursion}
 use Rattle.lxr_layout.specs.declared.Name.{Name}
 use Rattle.lxr_layout.specs.declared.TheConstants.{WORDS_IN_BLOCK}
 use Rattle.lxr_graph.specs.Names.{has, same_name}
+use Rattle.lxr_large_model.specs.Renewing.{renewed_name}
 use Rattle.lxr_large_bodies.specs.declared.entries.Entry.{Entry}
 use Rattle.lxr_large_bodies.specs.Blocks.{AreTaken, AreWithin}
 use Rattle.lxr_large_bodies.specs.Bodies.{Body, rank_of}
@@ -65,6 +66,10 @@ inserted (f ∷ fs) e = if nat_lt (rank_of f.name) (rank_of e.name) then f ∷ i
 -- whether an entry is settled is said anew where its name is one of these
 abbrev pub settled_where : List Name → Bool → Entry → Entry
 settled_where ns value e = record e { settled = if has ns e.name then value else e.settled }
+
+-- an entry under the new name of its body's object
+abbrev pub renamed_entry : List Name → Entry → Entry
+renamed_entry ns e = record e { name = renewed_name ns e.name }
 
 -- an entry is settled
 abbrev pub is_settled : Entry → Bool

@@ -1,6 +1,6 @@
 //! Which blocks are taken: the first run of free ones, and a run that is taken.
-ghost use Rattle.std.specs.Prelude.{ℕ, ◌+◌, ◌≤◌, length, IfSome, IfNone};
-ghost use Rattle.lxr_large_bodies.specs.Blocks.{AreFree, TakesRun};
+ghost use Rattle.std.specs.Prelude.{◌≡◌, ℕ, ◌+◌, ◌≤◌, length, IfSome, IfNone};
+ghost use Rattle.lxr_large_bodies.specs.Blocks.{AreFree, TakesRun, taken_count};
 
 /// The first so many free blocks in a row.
 pub(crate) fn free_run(taken: &[bool], blocks: u32) -> Option<u32>
@@ -21,6 +21,20 @@ pub(crate) fn free_run(taken: &[bool], blocks: u32) -> Option<u32>
         }
     }
     None
+}
+
+/// How many blocks are free.
+pub(crate) fn free_count(taken: &[bool]) -> u32
+    requires { length taken.now ≤ 65536 }
+    ensures { result + taken_count taken.now ≡ length taken.now }
+{
+    let mut free = 0;
+    for block in 0..taken.len() {
+        if !taken[block] {
+            free += 1;
+        }
+    }
+    free
 }
 
 /// Takes so many free blocks from one on.

@@ -1,14 +1,16 @@
 //! Bodies by name.
-ghost use Rattle.std.specs.Prelude.{◌≡◌, ◌↔◌, ℕ, ◌+◌, ◌*◌, ◌≤◌, IfOk, IfNone, IfSome, IsTrue, None, length, take, drop, is_some, if◌then◌else◌, slice_set, unwrap_or, vec_capacity};
+ghost use Rattle.std.specs.Prelude.{◌≡◌, ◌↔◌, ℕ, ◌+◌, ◌*◌, ◌≤◌, IfOk, IfNone, IfSome, IsTrue, None, List, length, map, take, drop, is_some, if◌then◌else◌, slice_set, unwrap_or, vec_capacity};
 ghost use Rattle.lxr_layout.specs.declared.TheConstants.{MOST_BLOCKS};
+ghost use Rattle.lxr_layout.specs.declared.Name.{Name as NameOf};
 ghost use Rattle.lxr_graph.specs.History.{report_of};
 ghost use Rattle.lxr_large_model.specs.declared.TheConstants.{MOST_BODY_BLOCKS};
-ghost use Rattle.lxr_large_bodies.specs.Bodies.{IsFreeRun, body_of, fresh, left_by, no_bodies, overwritten, range_at, word_at, with_placed, with_words};
+ghost use Rattle.lxr_large_model.specs.Renewing.{AreCounted};
+ghost use Rattle.lxr_large_bodies.specs.Bodies.{AreAmong, IsFreeRun, blocks_held, blocks_in, body_of, fresh, left_by, no_bodies, overwritten, range_at, renamed, word_at, with_placed, with_words};
 ghost use Rattle.lxr_large_bodies.specs.Entries.{ClearsBlocks};
 
-use crate::blocks::{free_run, take_run};
-use crate::entries::{Entry, drop_unsettled, insert, settle, start_of, take_all};
-use lxr_graph::Report;
+use crate::blocks::{free_count, free_run, take_run};
+use crate::entries::{Entry, drop_unsettled, find, insert, rename, settle, start_of, take_all};
+use lxr_graph::{Count, Report};
 use lxr_layout::{Name, WORDS_IN_BLOCK};
 use std::alloc::{AllocError, Global};
 use std::marker::Model;
@@ -116,7 +118,26 @@ impl Bodies {
         }
     }
 
+    /// How many blocks the body of a name has; 0 where it has none.
+    #[inline(always)]
+    pub fn blocks_of(&self, name: Name) -> u32
+        ensures { result ≡ blocks_in (body_of self.now.bodies name) }
+    {
+        match find(&self.entries, name) {
+            None => 0,
+            Some(entry) => entry.blocks,
+        }
+    }
+
+    /// How many blocks are free.
+    pub fn free_blocks(&self) -> u32
+        ensures { result + blocks_held self.now.bodies ≡ self.now.blocks }
+    {
+        free_count(&self.taken)
+    }
+
     /// A word of the body of a name; none exactly where no body of that name has it.
+    #[inline(always)]
     pub fn word(&self, name: Name, index: u32) -> Option<u64>
         ensures { result ≡ word_at self.now.bodies name index }
     {
@@ -125,6 +146,7 @@ impl Bodies {
     }
 
     /// Writes a word of the body of a name. Whether a body of that name has it; where none has, nothing changes.
+    #[inline(always)]
     pub fn set_word(&mut self, name: Name, index: u32, value: u64) -> bool
         ensures found { result ≡ is_some (word_at self.old.bodies name index) }
         ensures written { self.new ≡ (if result then (record self.old { bodies = with_words self.old.bodies name (λ words. slice_set words index value) }) else self.old) }
@@ -178,5 +200,14 @@ impl Bodies {
         settle(&mut self.entries, report.swept.as_slice(), false);
         drop_unsettled(&mut self.entries);
         take_all(&mut self.taken, &self.entries);
+    }
+    /// Gives each body the new name of its object, where names are renewed, by the counts of all that is left. Bodies stay where they are, and in
+    /// their order. It takes no memory.
+    pub fn renew(&mut self, counts: &[Count])
+        requires counts { (ns : List NameOf) × AreCounted counts.now ns }
+        requires among { AreAmong counts.now self.old.bodies }
+        ensures { (ns : List NameOf) → AreCounted counts.now ns → self.new ≡ record self.old { bodies = map (renamed ns) self.old.bodies } }
+    {
+        rename(&mut self.entries, counts);
     }
 }

@@ -1,10 +1,17 @@
 //! The entries of bodies, in order of names, so that one is found by halves.
-ghost use Rattle.std.specs.Prelude.{◌≡◌, ◌^◌, ◌<◌, ◌≤◌, [], ◌∷◌, IfNone, IfSome, length, filter, map, vec_capacity, vec_len};
+ghost use Rattle.std.specs.Prelude.{◌≡◌, ◌^◌, ◌<◌, ◌≤◌, List, [], ◌∷◌, IfNone, IfSome, IsTrue, length, filter, map, vec_capacity, vec_len};
+ghost use Rattle.std.specs.List.{AllByRecursion};
+ghost use Rattle.lxr_layout.specs.declared.Name.{Name as NameOf};
+ghost use Rattle.lxr_graph.specs.Names.{has};
+ghost use Rattle.lxr_large_model.specs.Renewing.{AreCounted, counted_name};
+ghost use Rattle.lxr_large_bodies.specs.declared.entries.Entry.{Entry as EntryOf};
 ghost use Rattle.lxr_large_bodies.specs.Bodies.{rank_of};
 ghost use Rattle.lxr_large_bodies.specs.Blocks.{AreTaken, AreWithin};
-ghost use Rattle.lxr_large_bodies.specs.Entries.{AreSorted, HasNone, IsIndexOf, IsLowerBound, entry_of, inserted, is_settled, settled_where, start_in};
+ghost use Rattle.lxr_large_bodies.specs.Entries.{AreSorted, HasNone, IsIndexOf, IsLowerBound, entry_of, inserted, is_settled, renamed_entry, settled_where, start_in};
 
 use crate::blocks::take_run;
+use lxr_graph::Count;
+use lxr_large_model::renewed;
 use lxr_layout::{Name, WORDS_IN_BLOCK};
 
 /// A body: whose it is, and which blocks it has.
@@ -18,6 +25,7 @@ pub(crate) struct Entry {
 }
 
 /// The thread and the serial of a name as one number.
+#[inline(always)]
 fn rank(name: Name) -> u64
     ensures number { result ≡ rank_of name }
     ensures serial { name.serial < 2 ^ 32 }
@@ -47,6 +55,7 @@ fn position(entries: &[Entry], name: Name) -> usize
 }
 
 /// Where the entry of a name stands, if there is one.
+#[inline(always)]
 fn index_of(entries: &[Entry], name: Name) -> Option<usize>
     requires { AreSorted entries.now }
     ensures none { IfNone result (HasNone entries.now name) }
@@ -62,7 +71,8 @@ fn index_of(entries: &[Entry], name: Name) -> Option<usize>
 }
 
 /// The entry of a name.
-fn find(entries: &[Entry], name: Name) -> Option<Entry>
+#[inline(always)]
+pub(crate) fn find(entries: &[Entry], name: Name) -> Option<Entry>
     requires { AreSorted entries.now }
     ensures { result ≡ entry_of entries.now name }
 {
@@ -71,6 +81,7 @@ fn find(entries: &[Entry], name: Name) -> Option<Entry>
 }
 
 /// Where so many words of the body of a name begin among all words, from one of an index on; none where it has them not.
+#[inline(always)]
 pub(crate) fn start_of(entries: &[Entry], name: Name, index: u32, count: usize) -> Option<usize>
     requires sorted { AreSorted entries.now }
     requires few { count < 2 ^ 60 }
@@ -115,6 +126,18 @@ pub(crate) fn settle(entries: &mut [Entry], names: &[Name], settled: bool)
 {
     for name in names {
         settle_one(entries, *name, settled);
+    }
+}
+
+/// Gives each entry the new name of its body's object, by the counts of all that is left. New names stand in the order of the old ones, and so
+/// do the entries.
+pub(crate) fn rename(entries: &mut [Entry], counts: &[Count])
+    requires counts { (ns : List NameOf) × AreCounted counts.now ns }
+    requires among { AllByRecursion (λ (e : EntryOf). IsTrue (has (map counted_name counts.now) e.name)) entries.old }
+    ensures { (ns : List NameOf) → AreCounted counts.now ns → entries.new ≡ map (renamed_entry ns) entries.old }
+{
+    for at in 0..entries.len() {
+        entries[at].name = renewed(counts, entries[at].name);
     }
 }
 

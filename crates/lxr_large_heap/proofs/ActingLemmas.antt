@@ -1,9 +1,9 @@
 -- What comes of an operation, by what has come of its parts.
-use Rattle.std.proofs.Common.{◌≡◌, ℕ, ◌+◌, ◌<◌, ◌≤◌, refl, sym, ap, subst, ◌∙◌, inl, inr, ◌⊎◌, Bool, true, false, cond, List, [], ◌∷◌, Option, Some, None}
-use Rattle.std.specs.Prelude.{◌↔◌, ◌||◌, IfNone, IfSome, IsTrue, is_some, if◌then◌else◌, slice_set}
+use Rattle.std.proofs.Common.{◌≡◌, ℕ, ◌+◌, ◌<◌, ◌≤◌, refl, sym, ap, subst, ◌∙◌, inl, inr, Bool, true, false, cond, List, [], ◌∷◌, Option, Some, None}
+use Rattle.std.specs.Prelude.{IfNone, IfSome, IsTrue, is_some, if◌then◌else◌, slice_set}
 use Rattle.std.specs.List.{AllByRecursion}
 use Rattle.lxr_layout.specs.declared.Name.{Name}
-use Rattle.lxr_graph.specs.Names.{has, same_name}
+use Rattle.lxr_graph.specs.Names.{same_name}
 use Rattle.lxr_graph.proofs.NameSets.{same_itself, same_names}
 use Rattle.lxr_graph.specs.State.{State, register_at}
 use Rattle.lxr_graph.specs.Step.{IsWellFormed}
@@ -22,16 +22,17 @@ use Rattle.lxr_large_model.specs.declared.LargeReply.{LargeReply}
 use Rattle.lxr_large_model.specs.declared.LargeReply.TheVariants as large_reply
 use Rattle.lxr_large_model.specs.Full.{AreReachable, LeaveNoBody}
 use Rattle.lxr_large_model.specs.History.{LargeItem, Called, large_moment, large_state}
-use Rattle.lxr_large_model.specs.State.{body_of as large_of, handle}
+use Rattle.lxr_large_model.specs.State.{LargeState, body_of as large_of, handle}
 use Rattle.lxr_large_model.specs.Step.{get_from, got, put_at, put_to, word_in as word_of}
 use Rattle.lxr_large_bodies.specs.Bodies.{Body, Held, IsFreeRun, body_of, fresh, with_placed, with_words, word_at}
 use Rattle.lxr_large_heap.specs.declared.heap.Heap.{Heap}
-use Rattle.lxr_large_heap.specs.Acting.{Acts, FindsNoPlace, HasRun, IsRefusal, IsReplied}
+use Rattle.lxr_large_heap.specs.Acting.{Acts, FindsNoPlace, HasRun, IsReplied, made_by}
 use Rattle.lxr_large_heap.specs.Holding.{IsHeapOf, abstract_after, made_with, terms_of}
 use Rattle.lxr_large_heap.proofs.CallLemmas.{done_get, done_large, done_no_put, done_put, done_small, held_is_kept, held_word, lines_full, refused_big, refused_new}
 use Rattle.lxr_large_heap.proofs.FullLemmas.{blocks_full}
 use Rattle.lxr_large_heap.proofs.HeapLemmas.{IsStep, behind, is_step_of, keeps_beside, other_names, same_terms}
 use Rattle.lxr_large_heap.proofs.BodyLemmas.{held_names}
+use Rattle.lxr_large_heap.proofs.StayLemmas.{stay_changed, stay_placed, stay_same}
 
 -- ---- an operation on the object graph
 
@@ -50,6 +51,8 @@ replied_small x h is space o r made formed first count came =
       refused = (λ f. absurd (st.refused f), λ p. absurd (came.1 (place_room x o p)));
       fresh = λ f. absurd (st.refused f);
       logged = came.2;
+      made = count;
+      stay = stay_same x.bodies.bodies;
       terms = same_terms x space x.bodies made (keeps_beside x.space space came.0.keeps) refl;
     }
 
@@ -66,11 +69,29 @@ no_place_small x h is (op.New dest shape) formed full = elim x.fresh as (λ c. x
         refused = (λ f. full, λ p. tt);
         fresh = λ f. (fresh, refl);
         logged = λ no. no;
+        made = refl;
+        stay = stay_same x.bodies.bodies;
         terms = refl;
       }
   | false ↦ λ stale. (full, stale, refl)
 ] refl
 no_place_small x h is o formed full = absurd full
+
+-- ---- names
+
+-- no body is of a name that comes next
+pub no_body : (bs : List Body) (n : Name) → AllByRecursion (λ (b : Body). same_name b.name n ≡ false) bs → body_of bs n ≡ None
+no_body [] n all = refl
+no_body (b ∷ bs) n all = elim (same_name n b.name) as (λ c. same_name n b.name ≡ c → cond c (Some b) (body_of bs n) ≡ None) [
+  | true ↦ λ same. let other : same_name n n ≡ false = subst (λ q. same_name q n ≡ false) (sym (same_names n b.name same)) all.0 in let both : true ≡ false = sym (same_itself n) ∙ other in absurd (cc)
+  | false ↦ λ e. no_body bs n all.1
+] refl
+
+pub next_has_none : (x : Heap) (h : List LargeItem) (is : IsHeapOf x h) → body_of x.bodies.bodies (record { thread = 1; serial = x.made + 1 }) ≡ None
+next_has_none x h is =
+    no_body x.bodies.bodies (record { thread = 1; serial = x.made + 1 })
+    (held_names (λ q. same_name q (record { thread = 1; serial = x.made + 1 }) ≡ false) (large_moment h) x.bodies.bodies (large_state h).large is.bodies
+    (other_names x.made (record { thread = 1; serial = x.made + 1 }) (large_state h).large refl is.names))
 
 -- ---- a new large object
 
@@ -84,6 +105,8 @@ no_place_big x h is dest blocks small range none = elim x.fresh as (λ c. x.fres
         refused = (λ f. none, λ p. tt);
         fresh = λ f. (fresh, refl);
         logged = λ no. no;
+        made = refl;
+        stay = stay_same x.bodies.bodies;
         terms = refl;
       }
   | false ↦ λ stale. (none, stale, refl)
@@ -108,6 +131,8 @@ replied_big x h is space held' n dest blocks first small range run placed some n
       refused = (λ no. absurd no, λ p. absurd (some p));
       fresh = λ no. absurd no;
       logged = λ no. no;
+      made = refl;
+      stay = stay_placed x.bodies.bodies (fresh n first blocks) (subst (λ q. body_of x.bodies.bodies q ≡ None) (sym named) (next_has_none x h is));
       terms = same_terms x space (record x.bodies { bodies = with_placed x.bodies.bodies (fresh n first blocks) }) (x.made + 1) (keeps_beside x.space space done.keeps) refl;
     })
 
@@ -117,6 +142,24 @@ replied_big x h is space held' n dest blocks first small range run placed some n
 small_register : (x : Heap) (h : List LargeItem) (is : IsHeapOf x h) (base : ℕ) (v : Option Name) → v ≡ register_at (large_moment h).state 1 base → register_at (large_state h).small 1 base ≡ v
 small_register x h is base v e = sym (e ∙ ap (λ (s : State). register_at s 1 base) is.state)
 
+-- a read makes no object
+get_makes : (made : ℕ) (s : LargeState) (i : ℕ) (v : Option Name) → made_by made (get_from s i v) ≡ made
+get_makes made s i None = refl
+get_makes made s i (Some n) = by (word_of (large_of s.large n) i)
+  where
+    by : (word : Option ℕ) → made_by made (got word) ≡ made
+    by None = refl
+    by (Some w) = refl
+
+-- nor does a write
+put_makes : (made : ℕ) (s : LargeState) (i value : ℕ) (v : Option Name) → made_by made (put_to s i value v).1 ≡ made
+put_makes made s i value None = refl
+put_makes made s i value (Some n) = by (word_of (large_of s.large n) i)
+  where
+    by : (word : Option ℕ) → made_by made (put_at s n i value word).1 ≡ made
+    by None = refl
+    by (Some w) = refl
+
 pub replied_get : (x : Heap) (h : List LargeItem) (is : IsHeapOf x h) (base i : ℕ) (v : Option Name) (r : LargeReply) → base < 16 → v ≡ register_at (large_moment h).state 1 base → get_from (large_state h) i v ≡ r
     → IsReplied x (behind x x.space x.bodies x.made) h (large_op.BigGet base i) r
 replied_get x h is base i v r small e told = record {
@@ -124,6 +167,8 @@ replied_get x h is base i v r small e told = record {
   refused = (λ no. absurd no, λ no. absurd no);
   fresh = λ no. absurd no;
   logged = λ no. no;
+  made = sym (get_makes x.made (large_state h) i v) ∙ ap (made_by x.made) told;
+  stay = stay_same x.bodies.bodies;
   terms = refl;
 }
 
@@ -138,6 +183,8 @@ replied_no_put x h is base i value v r small e told = record {
   refused = (λ no. absurd no, λ no. absurd no);
   fresh = λ no. absurd no;
   logged = λ no. no;
+  made = sym (put_makes x.made (large_state h) i value v) ∙ ap (λ (p : LargeState × LargeReply). made_by x.made p.1) told;
+  stay = stay_same x.bodies.bodies;
   terms = refl;
 }
 
@@ -161,24 +208,12 @@ replied_put x h is base i value n found held' small e told changed =
           refused = (λ no. absurd no, λ no. absurd no);
           fresh = λ no. absurd no;
           logged = λ no. no;
+          made = refl;
+          stay = stay_changed n (λ words. slice_set words i value) x.bodies.bodies;
           terms = refl;
         })
 
--- ---- names and histories
-
--- no body is of a name that comes next
-pub no_body : (bs : List Body) (n : Name) → AllByRecursion (λ (b : Body). same_name b.name n ≡ false) bs → body_of bs n ≡ None
-no_body [] n all = refl
-no_body (b ∷ bs) n all = elim (same_name n b.name) as (λ c. same_name n b.name ≡ c → cond c (Some b) (body_of bs n) ≡ None) [
-  | true ↦ λ same. let other : same_name n n ≡ false = subst (λ q. same_name q n ≡ false) (sym (same_names n b.name same)) all.0 in let both : true ≡ false = sym (same_itself n) ∙ other in absurd (cc)
-  | false ↦ λ e. no_body bs n all.1
-] refl
-
-pub next_has_none : (x : Heap) (h : List LargeItem) (is : IsHeapOf x h) → body_of x.bodies.bodies (record { thread = 1; serial = x.made + 1 }) ≡ None
-next_has_none x h is =
-    no_body x.bodies.bodies (record { thread = 1; serial = x.made + 1 })
-    (held_names (λ q. same_name q (record { thread = 1; serial = x.made + 1 }) ≡ false) (large_moment h) x.bodies.bodies (large_state h).large is.bodies
-    (other_names x.made (record { thread = 1; serial = x.made + 1 }) (large_state h).large refl is.names))
+-- ---- histories
 
 -- whatever comes of a call, the heap is that of some history
 pub still_holds : (x y : Heap) (h : List LargeItem) (o : LargeOp) (a : Acted) → IsHeapOf x h → Acts x y h o a → (k : List LargeItem) × IsHeapOf y k

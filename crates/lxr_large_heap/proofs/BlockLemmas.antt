@@ -1,19 +1,19 @@
 -- Where no run of free blocks is long enough, bodies touch each slot of so many blocks, and each body touches few of them: its blocks over the
 -- slot's, rounded up, and one.
-use Rattle.std.proofs.Common.{◌≡◌, ℕ, zero, suc, ◌+◌, ◌-◌, ◌*◌, ◌/◌, ◌<◌, ◌≤◌, refl, sym, ap, subst, ◌∙◌, inl, inr, ◌⊎◌, arith, Bool, true, false, cond, List, [], ◌∷◌, filter, length, map, ltb, leb, Option, Some, None}
+use Rattle.std.proofs.Common.{◌≡◌, ℕ, ◌+◌, ◌-◌, ◌*◌, ◌/◌, ◌<◌, ◌≤◌, refl, sym, ap, subst, ◌∙◌, inl, inr, arith, Bool, true, false, cond, List, [], ◌∷◌, ltb, leb, Option, Some, None}
 use Rattle.std.specs.Prelude.{◌&&◌, ◌||◌, IsTrue, sum_by}
 use Rattle.std.specs.List.{AllByRecursion, list_any}
 use Rattle.std.proofs.Math.Nat.{div-mul-le_self, mul-le-mul_right}
-use Rattle.std.proofs.lemmas.Bool.{and_parts, cases_Bool, le-leb, lt-ltb, leb-true, ltb-true}
+use Rattle.std.proofs.lemmas.Bool.{and_parts, cases_Bool, lt-ltb, leb-true, ltb-true}
 use Rattle.std.proofs.lemmas.List.Sums.{sum_by-cons}
 use Rattle.lxr_layout.specs.declared.Name.{Name}
 use Rattle.lxr_graph.specs.Names.{has, same_name}
 use Rattle.lxr_graph.proofs.NameSets.{same_itself, same_names}
 use Rattle.lxr_model.specs.Full.{slots_touched}
 use Rattle.lxr_full.specs.Touched.{count_passing}
-use Rattle.lxr_full.proofs.SlotLemmas.{IsInWindow, counts_all, counts_in_window, counts_none, slot_in_window}
+use Rattle.lxr_full.proofs.SlotLemmas.{counts_all, counts_in_window, counts_none, slot_in_window}
 use Rattle.lxr_full.proofs.TakenLines.{all_or_one}
-use Rattle.lxr_large_bodies.specs.Bodies.{Body, Held, IsFreeRun, body_of, takes}
+use Rattle.lxr_large_bodies.specs.Bodies.{Body, Held, body_of, takes}
 use Rattle.lxr_large_heap.specs.Acting.{HasRun}
 use Rattle.lxr_large_heap.specs.Holding.{AreApart, IsOther, IsWhole}
 

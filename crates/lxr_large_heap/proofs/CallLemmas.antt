@@ -1,5 +1,5 @@
 -- The heap behind a call: of an operation on the object graph, of a new large object, of a word of a body, and of one that was refused.
-use Rattle.std.proofs.Common.{◌≡◌, ◌≢◌, ℕ, ◌+◌, ◌*◌, ◌<◌, ◌≤◌, refl, sym, ap, subst, ◌∙◌, inl, inr, ◌⊎◌, arith, Bool, true, false, filter, List, [], ◌∷◌, ◌++◌, length, map, Option, Some, None}
+use Rattle.std.proofs.Common.{◌≡◌, ◌≢◌, ℕ, ◌+◌, ◌<◌, ◌≤◌, refl, sym, ap, subst, ◌∙◌, arith, true, false, filter, List, [], ◌∷◌, ◌++◌, length, map, Some}
 use Rattle.std.specs.Prelude.{◌↔◌, ◌||◌, IsTrue, if◌then◌else◌, slice_set}
 use Rattle.std.specs.List.{AllByRecursion}
 use Rattle.std.proofs.lemmas.List.Folds.{list_any-append}
@@ -8,7 +8,7 @@ use Rattle.lxr_layout.specs.declared.Shape.{Shape}
 use Rattle.lxr_layout.specs.Objects.{line_count}
 use Rattle.lxr_graph.specs.Names.{IsSetOf, has, same_name}
 use Rattle.lxr_graph.specs.State.{State, next_name, register_at, world_name}
-use Rattle.lxr_graph.specs.Step.{IsWellFormed, step}
+use Rattle.lxr_graph.specs.Step.{IsWellFormed}
 use Rattle.lxr_graph.specs.declared.Op.{Op}
 use Rattle.lxr_graph.specs.declared.Op.TheVariants as op
 use Rattle.lxr_graph.specs.declared.Reply.{Reply}
@@ -25,22 +25,22 @@ use Rattle.lxr_full.specs.Room.{HasWorld}
 use Rattle.lxr_full.proofs.RoomLemmas.{collected_full_leaves_no_run}
 use Rattle.lxr_direct.specs.Operating.{IsDone, IsOfFirstVersion}
 use Rattle.lxr_large_model.specs.declared.TheConstants.{MOST_BODY_BLOCKS}
-use Rattle.lxr_large_model.specs.declared.LargeOp.{LargeOp}
 use Rattle.lxr_large_model.specs.declared.LargeOp.TheVariants as large_op
 use Rattle.lxr_large_model.specs.declared.LargeReply.{LargeReply}
 use Rattle.lxr_large_model.specs.declared.LargeReply.TheVariants as large_reply
-use Rattle.lxr_large_model.specs.Full.{AreReachable, IsFresh, LargeReplies, LargeTerms, LeaveNoLines, MayBeFull}
-use Rattle.lxr_large_model.specs.History.{LargeItem, Called, Paused, large_moment, large_state}
+use Rattle.lxr_large_model.specs.Full.{AreReachable, LeaveNoLines, MayBeFull}
+use Rattle.lxr_large_model.specs.History.{LargeItem, Called, large_moment, large_state}
 use Rattle.lxr_large_model.specs.Pauses.{IsLegalLarge}
 use Rattle.lxr_large_model.specs.State.{Large, LargeState, body_of as large_of, fresh_body, handle, with_body}
 use Rattle.lxr_large_model.specs.Step.{IsLargeOp, large_step, put_at, put_to, word_in as word_of}
-use Rattle.lxr_large_bodies.specs.Bodies.{Body, Held, IsFreeRun, fresh, rank_of, with_placed, with_words, word_at}
-use Rattle.lxr_large_bodies.specs.Kept.{HoldsBodies, is_kept, kept_of, to_keep}
+use Rattle.lxr_large_bodies.specs.Bodies.{Held, IsFreeRun, fresh, rank_of, with_placed, with_words, word_at}
+use Rattle.lxr_large_bodies.specs.Kept.{is_kept, kept_of, to_keep}
 use Rattle.lxr_large_heap.specs.declared.heap.Heap.{Heap}
-use Rattle.lxr_large_heap.specs.Holding.{AreApart, IsHeapOf, IsMade, abstract_after, limits_of, made_with, terms_of}
+use Rattle.lxr_large_heap.specs.Holding.{IsHeapOf, IsMade, abstract_after, limits_of, made_with, terms_of}
 use Rattle.lxr_large_heap.proofs.ApartLemmas.{changed_apart, placed_apart}
 use Rattle.lxr_large_heap.proofs.BodyLemmas.{held_changed, held_more, held_names, word_same}
-use Rattle.lxr_large_heap.proofs.HeapLemmas.{Keeps, StandsFor, behind, is_step_of, keeps_beside, lower_and_other, names_more, one_thread, other_names, same_terms, stands, stepped}
+use Rattle.lxr_large_heap.proofs.CountLemmas.{counts_called}
+use Rattle.lxr_large_heap.proofs.HeapLemmas.{StandsFor, behind, is_step_of, keeps_beside, lower_and_other, one_thread, other_names, same_terms, stands, stepped}
 use Rattle.lxr_large_heap.proofs.MomentLemmas.{none_chosen, quiescent, sixteen, two_rows}
 
 -- `false` is no test that holds
@@ -80,6 +80,7 @@ module _ (x : Heap) (h : List LargeItem) (is : IsHeapOf x h) where
         state = after.state;
         world = after.world;
         next = after.next;
+        counts = counts_called x.left x.made_before x.made m o r is.rests.safepoint.holds.follows rows first done.reply is.counts;
         names = after.names;
         bodies = after.bodies;
         apart = is.apart;
@@ -116,6 +117,7 @@ module _ (x : Heap) (h : List LargeItem) (is : IsHeapOf x h) where
         state = now.state;
         world = now.world;
         next = now.next;
+        counts = counts_called x.left x.made_before x.made m (op.New dest handle) (reply.New n) is.rests.safepoint.holds.follows rows tt done.reply is.counts;
         names = names_append (x.made + 1) s.large (record { name = next_name s.small.graph 1; words = fresh_body blocks }) now.names
             (record { thread = refl; serial = let i = ap (λ (q : Name). q.serial) is.next in omega (arith, i) });
         bodies = subst (λ q. map kept_of held.bodies ≡ map (to_keep k) (filter (is_kept k) (s.large ++ record { name = q; words = fresh_body blocks } ∷ []))) e more;
@@ -155,6 +157,7 @@ module _ (x : Heap) (h : List LargeItem) (is : IsHeapOf x h) where
     state = is.state;
     world = is.world;
     next = is.next;
+    counts = is.counts;
     names = is.names;
     bodies = is.bodies;
     apart = is.apart;
@@ -177,6 +180,7 @@ module _ (x : Heap) (h : List LargeItem) (is : IsHeapOf x h) where
         state = old.state;
         world = old.world;
         next = old.next;
+        counts = is.counts;
         names = old.names;
         bodies = old.bodies;
         apart = is.apart;
@@ -219,6 +223,7 @@ module _ (x : Heap) (h : List LargeItem) (is : IsHeapOf x h) where
         state = after.state;
         world = after.world;
         next = after.next;
+        counts = is.counts;
         names = after.names;
         bodies = after.bodies;
         apart = changed_apart x.bodies.blocks n i v x.bodies.bodies is.apart;
@@ -251,6 +256,7 @@ module _ (x : Heap) (h : List LargeItem) (is : IsHeapOf x h) where
     state = is.state;
     world = is.world;
     next = is.next;
+    counts = is.counts;
     names = is.names;
     bodies = is.bodies;
     apart = is.apart;
@@ -269,6 +275,7 @@ module _ (x : Heap) (h : List LargeItem) (is : IsHeapOf x h) where
     state = is.state;
     world = is.world;
     next = is.next;
+    counts = is.counts;
     names = is.names;
     bodies = is.bodies;
     apart = is.apart;

@@ -1,42 +1,34 @@
 -- A heap stands for the state behind a call, once its space and its bodies do. What depends on the state alone is one record, so that it is
 -- carried over whole.
-use Rattle.std.proofs.Common.{◌≡◌, ℕ, ◌+◌, ◌-◌, ◌*◌, ◌^◌, ◌<◌, ◌≤◌, refl, sym, ap, subst, ◌∙◌, inl, inr, ◌⊎◌, arith, Bool, true, false, List, [], ◌∷◌, ◌++◌, length, Option, Some, None}
-use Rattle.std.specs.Prelude.{◌↔◌, IsTrue}
+use Rattle.std.proofs.Common.{◌≡◌, ℕ, ◌+◌, ◌<◌, refl, sym, ap, subst, ◌∙◌, inl, inr, arith, true, false, List, [], ◌∷◌, length}
 use Rattle.std.specs.List.{AllByRecursion}
 use Rattle.lxr_layout.specs.declared.Name.{Name}
-use Rattle.lxr_layout.specs.declared.Shape.{Shape}
-use Rattle.lxr_graph.specs.Names.{has, insert_name, same_name}
+use Rattle.lxr_graph.specs.Names.{has, same_name}
 use Rattle.lxr_graph.specs.State.{State, next_name, row_of}
-use Rattle.lxr_graph.specs.Step.{IsWellFormed, fresh as fresh_object, make, state_after, step}
+use Rattle.lxr_graph.specs.Step.{state_after, step}
 use Rattle.lxr_graph.specs.declared.Op.{Op}
 use Rattle.lxr_graph.specs.declared.Op.TheVariants as op
 use Rattle.lxr_graph.specs.declared.Reply.{Reply}
 use Rattle.lxr_graph.specs.declared.Reply.TheVariants as reply
 use Rattle.lxr_graph.proofs.NameSets.{same_names}
 use Rattle.lxr_image.specs.declared.space.Space.{Space}
-use Rattle.lxr_image.specs.Opened.{no_tally}
 use Rattle.lxr_model.specs.Moments.{Moment, after_call, made_after}
 use Rattle.lxr_model_counting.proofs.StoreLemmas.{shape_through, step_keeps}
 use Rattle.lxr_graph.specs.State.{world}
-use Rattle.lxr_invariant.specs.AbstractState.{AbstractState}
-use Rattle.lxr_invariant.specs.Quiescent.{IsAtRest}
 use Rattle.lxr_full.specs.Room.{HasWorld}
-use Rattle.lxr_direct.specs.Operating.{IsDone, IsOfFirstVersion, KeepsBeside, MayOperate}
-use Rattle.lxr_large_model.specs.declared.LargeOp.{LargeOp}
+use Rattle.lxr_direct.specs.Operating.{IsOfFirstVersion, KeepsBeside, MayOperate}
 use Rattle.lxr_large_model.specs.declared.LargeOp.TheVariants as large_op
-use Rattle.lxr_large_model.specs.declared.LargeReply.{LargeReply}
 use Rattle.lxr_large_model.specs.declared.LargeReply.TheVariants as large_reply
 use Rattle.lxr_large_model.specs.Full.{IsFresh, LargeReplies, LargeTerms}
-use Rattle.lxr_large_model.specs.History.{LargeItem, Called, Paused, large_moment, large_state}
-use Rattle.lxr_large_model.specs.State.{Large, LargeState, fresh_body, handle}
-use Rattle.lxr_large_model.specs.Step.{IsLargeOp, large_after, large_step}
-use Rattle.lxr_large_bodies.specs.Bodies.{Body, Held, rank_of}
+use Rattle.lxr_large_model.specs.History.{LargeItem, Called, large_moment, large_state}
+use Rattle.lxr_large_model.specs.State.{Large, LargeState}
+use Rattle.lxr_large_model.specs.Step.{large_after}
+use Rattle.lxr_large_bodies.specs.Bodies.{Held, rank_of}
 use Rattle.lxr_large_bodies.specs.Kept.{HoldsBodies}
 use Rattle.lxr_large_heap.specs.declared.heap.Heap.{Heap}
 use Rattle.lxr_large_heap.specs.Acting.{IsRefusal}
-use Rattle.lxr_large_heap.specs.Holding.{IsHeapOf, IsMade, abstract_after, limits_of, made_with, terms_of}
-use Rattle.lxr_large_heap.proofs.BodyLemmas.{held_names, held_still, made_still}
-use Rattle.lxr_large_heap.proofs.MomentLemmas.{good, sixteen, two_rows}
+use Rattle.lxr_large_heap.specs.Holding.{IsHeapOf, IsMade, abstract_after, made_with, terms_of}
+use Rattle.lxr_large_heap.proofs.BodyLemmas.{held_still, made_still}
 use Rattle.lxr_large_heap.proofs.RowLemmas.{step_counts}
 
 -- ---- what a heap is called with

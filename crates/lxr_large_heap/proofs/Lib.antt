@@ -3,9 +3,14 @@ pub mod RowLemmas
 pub mod MomentLemmas
 pub mod ApartLemmas
 pub mod BlockLemmas
+pub mod CountLemmas
+pub mod StayLemmas
 pub mod HeapLemmas
 pub mod CallLemmas
 pub mod FullLemmas
 pub mod ActingLemmas
 pub mod PausingLemmas
 pub mod OpeningLemmas
+pub mod BulkLemmas
+pub mod LookingLemmas
+pub mod RenewingLemmas

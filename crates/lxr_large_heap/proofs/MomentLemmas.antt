@@ -1,21 +1,20 @@
 -- What a space at rest for one thread says of its moment, and what a pause that collects leaves: exactly what is reachable.
-use Rattle.std.proofs.Common.{◌≡◌, ℕ, ◌+◌, ◌-◌, ◌*◌, ◌<◌, ◌≤◌, refl, sym, ap, subst, ◌∙◌, inl, inr, ◌⊎◌, arith, List, [], ◌∷◌, ◌++◌, length}
-use Rattle.std.specs.Prelude.{◌↔◌, Option, Some, None, is_some, IsTrue}
+use Rattle.std.proofs.Common.{◌≡◌, ◌*◌, refl, sym, ap, subst, ◌∙◌, inl, inr, arith, List, [], length}
+use Rattle.std.specs.Prelude.{None, is_some, IsTrue}
 use Rattle.std.proofs.lemmas.List.{length-map}
 use Rattle.lxr_layout.specs.declared.Name.{Name}
 use Rattle.lxr_graph.specs.Names.{has, union, without}
 use Rattle.lxr_graph.proofs.NameSets.{in_without, union_cases, union_left, union_right, without_parts}
 use Rattle.lxr_graph.specs.History.{PauseReport}
-use Rattle.lxr_graph.specs.State.{State}
 use Rattle.lxr_graph.specs.declared.report.Kind.TheVariants as kind
 use Rattle.lxr_image.specs.declared.space.Space.{Space}
 use Rattle.lxr_image.specs.Spaces.{tables_of}
 use Rattle.lxr_image.specs.Image.{place_word}
-use Rattle.lxr_model.specs.Moments.{Moment, Trace, after_pause, unreclaimed_after}
+use Rattle.lxr_model.specs.Moments.{Moment, after_pause, unreclaimed_after}
 use Rattle.lxr_model.specs.Reachable.{Reachable}
 use Rattle.lxr_model.specs.Reports.{IsReport}
 use Rattle.lxr_model.proofs.CollectLemmas.{collected_reachable}
-use Rattle.lxr_model.proofs.HistoryLemmas.{Good, GoodAt, RunningGood, dead_gone, reachable_kept, swept_gone}
+use Rattle.lxr_model.proofs.HistoryLemmas.{GoodAt, RunningGood, dead_gone, reachable_kept, swept_gone}
 use Rattle.lxr_model.proofs.ObjectLemmas.{no_object}
 use Rattle.lxr_model.proofs.ReachableLemmas.{promoted_made}
 use Rattle.lxr_model_counting.proofs.FollowingLemmas.{live_reachable}

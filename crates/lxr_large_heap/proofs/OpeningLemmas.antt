@@ -1,5 +1,5 @@
 -- A heap that was just opened is that of the empty history.
-use Rattle.std.proofs.Common.{◌≡◌, ℕ, false, refl, sym, ap, ◌∙◌}
+use Rattle.std.proofs.Common.{ℕ, false, refl, sym, ap, ◌∙◌, arith}
 use Rattle.lxr_layout.specs.declared.limits.Limits.{Limits}
 use Rattle.lxr_graph.specs.State.{world}
 use Rattle.lxr_image.specs.declared.space.Space.{Space}
@@ -10,13 +10,13 @@ use Rattle.lxr_model_counting.proofs.StoreLemmas.{same_shape}
 use Rattle.lxr_run_placing.proofs.OpeningLemmas.{opened_is_quiescent}
 use Rattle.lxr_large_bodies.specs.Bodies.{no_bodies}
 use Rattle.lxr_large_heap.specs.declared.heap.Heap.{Heap}
-use Rattle.lxr_large_heap.specs.Holding.{IsHeapOf, IsOpenedHeap, limits_of}
+use Rattle.lxr_large_heap.specs.Holding.{IsOpenedHeap, limits_of}
 use Rattle.lxr_large_heap.proofs.CallLemmas.{stale_now}
 use Rattle.lxr_large_heap.proofs.MomentLemmas.{at_rest}
 
 -- the heap of an opened space, with no bodies
 abbrev pub opened_with : Space → ℕ → Heap
-opened_with space bodies = record { space = space; bodies = no_bodies bodies; made = 0; fresh = false }
+opened_with space bodies = record { space = space; bodies = no_bodies bodies; made = 0; made_before = 0; left = 0; fresh = false }
 
 pub opened_heap : (space : Space) (blocks bodies : ℕ) → IsOpened space (limits_of blocks) → IsSpace space → IsOpeningImage space → IsOpenedHeap (opened_with space bodies) blocks bodies
 opened_heap space blocks bodies opened is image = record {
@@ -30,6 +30,7 @@ opened_heap space blocks bodies opened is image = record {
     state = refl;
     world = (world, refl, same_shape world);
     next = refl;
+    counts = record { unreclaimed = refl; few = omega arith; young = refl };
     names = tt;
     bodies = refl;
     apart = tt;

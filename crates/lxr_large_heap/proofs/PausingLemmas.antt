@@ -1,37 +1,36 @@
 -- The heap behind a pause: no trace begins, so nothing is moved but what is promoted, and bodies stay where names do.
-use Rattle.std.proofs.Common.{◌≡◌, ◌≢◌, ℕ, ◌+◌, ◌%◌, ◌^◌, ◌<◌, ◌≤◌, refl, sym, ap, subst, ◌∙◌, inl, inr, ◌⊎◌, arith, Bool, true, false, cond, List, [], ◌∷◌, length, nat_eq, Option, Some, None}
+use Rattle.std.proofs.Common.{◌≡◌, ◌≢◌, ℕ, ◌+◌, ◌%◌, ◌^◌, ◌<◌, refl, sym, ap, subst, ◌∙◌, inl, inr, arith, Bool, true, false, cond, List, [], ◌∷◌, length, Option, None}
 use Rattle.std.specs.Prelude.{◌↔◌, ◌||◌, IsTrue}
 use Rattle.std.proofs.lemmas.Bool.Decides.{eqb_tells}
 use Rattle.lxr_layout.specs.declared.Name.{Name}
-use Rattle.lxr_graph.specs.Names.{IsSetOf, has, same_name}
+use Rattle.lxr_graph.specs.Names.{has}
 use Rattle.lxr_graph.specs.History.{PauseReport, report_of}
 use Rattle.lxr_graph.specs.declared.report.Kind.{Kind}
 use Rattle.lxr_graph.specs.declared.report.Kind.TheVariants as kind
 use Rattle.lxr_graph.proofs.NameSets.{same_itself}
 use Rattle.lxr_image.specs.declared.space.Space.{Space}
 use Rattle.lxr_image.specs.declared.space.Tally.{Tally}
-use Rattle.lxr_image.specs.Spaces.{tables_of}
 use Rattle.lxr_image.specs.Opened.{no_tally}
 use Rattle.lxr_model.specs.Moments.{Moment, Trace, after_pause, going_on, trace_after}
-use Rattle.lxr_model.specs.Reports.{IsReport}
-use Rattle.lxr_invariant.specs.AbstractState.{AbstractState, paused}
-use Rattle.lxr_large_model.specs.Full.{IsFresh}
-use Rattle.lxr_large_model.specs.History.{LargeItem, Called, Paused, large_moment, large_state}
+use Rattle.lxr_invariant.specs.AbstractState.{paused}
+use Rattle.lxr_large_model.specs.History.{LargeItem, Paused, large_moment, large_state}
 use Rattle.lxr_large_model.specs.Pauses.{IsLargeKind, IsLegalLarge}
-use Rattle.lxr_large_bodies.specs.Bodies.{Held, left_by}
+use Rattle.lxr_large_bodies.specs.Bodies.{left_by}
 use Rattle.lxr_run_pause.specs.declared.Ask.{Ask}
 use Rattle.lxr_run_pause.specs.declared.Ask.TheVariants as ask
 use Rattle.lxr_run_pause.specs.declared.Pace.{Pace}
-use Rattle.lxr_run_pause.specs.Deciding.{HasKind, kind_of}
+use Rattle.lxr_run_pause.specs.Deciding.{kind_of}
 use Rattle.lxr_run_pause.specs.Pausing.{CanPause, KeepsObjects, Pauses}
-use Rattle.lxr_run_pause.specs.Relocating.{Evacuates, IsEnd}
+use Rattle.lxr_run_pause.specs.Relocating.{IsEnd}
 use Rattle.lxr_large_heap.specs.declared.heap.Heap.{Heap}
 use Rattle.lxr_large_heap.specs.Holding.{IsHeapOf, abstract_after, limits_of, terms_of}
 use Rattle.lxr_large_heap.specs.Pausing.{PausesHeap, kind_asked}
 use Rattle.lxr_large_heap.proofs.ApartLemmas.{left_apart}
 use Rattle.lxr_large_heap.proofs.BodyLemmas.{held_paused}
+use Rattle.lxr_large_heap.proofs.CountLemmas.{CountsPause, counts_paused}
 use Rattle.lxr_large_heap.proofs.HeapLemmas.{one_thread}
 use Rattle.lxr_large_heap.proofs.MomentLemmas.{at_rest, collected, good, promoted_young}
+use Rattle.lxr_large_heap.proofs.StayLemmas.{stay_left}
 
 -- what a pause is asked for
 abbrev pub asked : Bool → Ask
@@ -84,26 +83,42 @@ fresh_behind : (collect : Bool) (k : Kind) → k ≡ kind_asked collect → IsTr
 fresh_behind true k is = (λ t. is, λ e. refl)
 fresh_behind false k is = ((λ no. let e : false ≡ true = no in absurd (cc)), (λ e. let no : kind.Plain ≡ kind.Collect = sym is ∙ e in absurd (cc)))
 
--- the heap behind a pause
-abbrev pub behind_pause : Heap → Space → Bool → Heap
-behind_pause x space collect = record x { space = space; bodies = record x.bodies { bodies = left_by (report_of space.report) x.bodies.bodies }; fresh = collect }
+-- the kind of a pause that was made is the one that was asked for
+kind_was : (x : Heap) (h : List LargeItem) (is : IsHeapOf x h) (space : Space) (collect : Bool) (pace : Pace) (at' : Name → ℕ) → (x.space.pauses + 1) % pace.trace ≢ 0
+    → Pauses x.space space (abstract_after h is.at) at' (asked collect) pace → space.report.kind ≡ kind_asked collect
+kind_was x h is space collect pace at' apart p =
+    let m = large_moment h in
+    let number : x.space.pauses + 1 ≡ m.number + 1 = ap (λ k. k + 1) is.rests.safepoint.numbers.pauses in
+    p.kind.kind ∙ kind_told collect pace (m.number + 1) m.trace p.kind.traced is.untraced (subst (λ k. k % pace.trace ≢ 0) number apart)
 
-pub pauses_heap : (x : Heap) (h : List LargeItem) (is : IsHeapOf x h) (space : Space) (collect : Bool) (pace : Pace) (at' : Name → ℕ) → (x.space.pauses + 1) % pace.trace ≢ 0
-    → Pauses x.space space (abstract_after h is.at) at' (asked collect) pace → PausesHeap x (behind_pause x space collect) h collect
-pauses_heap x h is space collect pace at' apart p =
+-- the heap behind a pause
+abbrev pub behind_pause : Heap → Space → ℕ → Bool → Heap
+behind_pause x space left collect = record x { space = space; bodies = record x.bodies { bodies = left_by (report_of space.report) x.bodies.bodies }; made_before = x.made; left = left; fresh = collect }
+
+-- the numbers of objects behind it
+pub numbers_behind : (x : Heap) (h : List LargeItem) (is : IsHeapOf x h) (space : Space) (collect : Bool) (pace : Pace) (at' : Name → ℕ) → (x.space.pauses + 1) % pace.trace ≢ 0
+    → Pauses x.space space (abstract_after h is.at) at' (asked collect) pace → CountsPause x.left x.made_before x.made (large_moment h) (report_of space.report)
+numbers_behind x h is space collect pace at' apart p =
+    counts_paused x.left x.made_before x.made (large_moment h) (report_of space.report) is.rests.safepoint.holds.follows p.between.safepoint.holds.follows p.reports
+    (large_kind collect space.report.kind (kind_was x h is space collect pace at' apart p)) is.counts
+
+pub pauses_heap : (x : Heap) (h : List LargeItem) (is : IsHeapOf x h) (space : Space) (left : ℕ) (collect : Bool) (pace : Pace) (at' : Name → ℕ) → (x.space.pauses + 1) % pace.trace ≢ 0
+    → Pauses x.space space (abstract_after h is.at) at' (asked collect) pace
+    → left + (length space.report.dead.items + length space.report.swept.items) ≡ x.left + length space.report.promoted.items → PausesHeap x (behind_pause x space left collect) h collect
+pauses_heap x h is space left collect pace at' apart p left_is =
     let m = large_moment h in
     let r : PauseReport = report_of space.report in
-    let number : x.space.pauses + 1 ≡ m.number + 1 = ap (λ k. k + 1) is.rests.safepoint.numbers.pauses in
-    let told : r.kind ≡ kind_asked collect = p.kind.kind ∙ kind_told collect pace (m.number + 1) m.trace p.kind.traced is.untraced (subst (λ k. k % pace.trace ≢ 0) number apart) in
+    let told : r.kind ≡ kind_asked collect = kind_was x h is space collect pace at' apart p in
     let keeps : space.limits ≡ x.space.limits = ap (λ (s : Space). s.limits) p.space in
     let counted : space.pauses ≡ x.space.pauses + 1 = ap (λ (s : Space). s.pauses) p.space in
     let none_moved : p.moved ≡ [] = nobody p.moved (λ n member. no_end collect space.report.kind told ((p.evacuates.moved_are.members n).0 member).0.ends) in
     let none_kept : p.kept ≡ [] = nobody p.kept (λ n member. no_end collect space.report.kind told ((p.evacuates.kept_are.members n).0 member).0.ends) in
     let tally = p.tally ∙ (λ i. record (is.tally i) { pauses = (is.tally i).pauses + 1; moved = (is.tally i).moved + length (none_moved i); kept = (is.tally i).kept + length (none_kept i) }) in
-    let terms : terms_of (behind_pause x space collect) ≡ terms_of x = λ i. record { blocks = (keeps i).blocks; bodies = x.bodies.blocks } in
+    let terms : terms_of (behind_pause x space left collect) ≡ terms_of x = λ i. record { blocks = (keeps i).blocks; bodies = x.bodies.blocks } in
     record {
       kind = told;
       made = refl;
+      stay = stay_left r x.bodies.blocks x.bodies.bodies is.apart;
       terms = terms;
       holds = record {
         legal = subst (λ t. IsLegalLarge t (Paused r ∷ h)) (sym terms) (is.legal, record { kind = large_kind collect r.kind told; reports = p.reports });
@@ -115,6 +130,7 @@ pauses_heap x h is space collect pace at' apart p =
         state = is.state;
         world = is.world;
         next = is.next;
+        counts = (numbers_behind x h is space collect pace at' apart p).after left left_is;
         names = is.names;
         bodies = held_paused m (after_pause m r) r x.bodies.bodies (large_state h).large refl refl (promoted_young m r p.reports) is.rests.safepoint.holds.follows.apart is.bodies;
         apart = left_apart r x.bodies.blocks x.bodies.bodies is.apart;

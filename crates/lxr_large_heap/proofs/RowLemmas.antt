@@ -1,5 +1,5 @@
 -- What an operation of the first version does to the thread's row: only a `new` makes an object, and its reply says so.
-use Rattle.std.proofs.Common.{◌≡◌, ℕ, zero, suc, ◌+◌, ◌<◌, ◌⊎◌, inl, inr, refl, ap, ◌∙◌, List, [], ◌∷◌, ◌++◌, length, length-append, length-set}
+use Rattle.std.proofs.Common.{◌≡◌, ℕ, zero, suc, ◌<◌, ◌⊎◌, inl, inr, refl, ap, ◌∙◌, List, [], ◌∷◌, ◌++◌, length, length-append, length-set}
 use Rattle.std.specs.Prelude.{Option, Some, None, slice_get, slice_set}
 use Rattle.lxr_layout.specs.declared.Name.{Name}
 use Rattle.lxr_layout.specs.declared.Shape.{Shape}
@@ -7,7 +7,7 @@ use Rattle.lxr_graph.specs.declared.Op.{Op}
 use Rattle.lxr_graph.specs.declared.Op.TheVariants as op
 use Rattle.lxr_graph.specs.declared.Reply.{Reply}
 use Rattle.lxr_graph.specs.declared.Reply.TheVariants as reply
-use Rattle.lxr_graph.specs.State.{Graph, Object, State, index_in_row, next_name, object_at, refs_of, register_at, row_of, values_of, with_new, with_reference_at, with_value_at}
+use Rattle.lxr_graph.specs.State.{Graph, Object, State, index_in_row, next_name, object_at, refs_of, register_at, row_of, values_of, with_reference_at, with_value_at}
 use Rattle.lxr_graph.specs.Step.{fresh, get_from, got, load_from, loaded, make, put_at, put_to, step, store_to, stored}
 use Rattle.lxr_graph.proofs.RowLemmas.{row_of-set}
 use Rattle.lxr_model.specs.Moments.{made_after}

@@ -1,3 +1,6 @@
 pub mod Holding
 pub mod Acting
 pub mod Pausing
+pub mod Looking
+pub mod Bulk
+pub mod Renewing

@@ -23,6 +23,7 @@ use lxr_run_placing::serve;
 const HANDLE: Shape = Shape { refs: 0, values: 0 };
 
 /// What comes of an operation that finds no place: it is refused where a fresh pause stands before it, and else it asks for one.
+#[inline(always)]
 fn refused(fresh: bool, full: LargeReply) -> Acted
     ensures { result ≡ (if fresh then acted.Replied full else acted.Room) }
 {
@@ -34,6 +35,7 @@ fn refused(fresh: bool, full: LargeReply) -> Acted
 }
 
 /// How many objects were made, with the one of which a reply tells.
+#[inline(always)]
 fn made_with(made: u32, reply: Reply) -> u32
     requires { made < 2 ^ 32 - 1 }
     ensures { result ≡ is_made_with made reply }
@@ -45,6 +47,7 @@ fn made_with(made: u32, reply: Reply) -> u32
 }
 
 /// Does an operation on the object graph.
+#[inline(always)]
 fn act_small(heap: &mut Heap, op: Op) -> Acted
     requires holds { (h : List LargeItem) × IsHeapOf heap.old h }
     requires made { heap.old.made < 2 ^ 32 - 1 }
@@ -90,6 +93,7 @@ fn make_large(heap: &mut Heap, dest: u8, blocks: u32) -> Acted
 }
 
 /// The reply of a write, by whether the object has a body with such a word.
+#[inline(always)]
 fn put_reply(found: bool) -> LargeReply
     ensures { result ≡ (if found then large_reply.Put else large_reply.Range) }
 {
@@ -101,6 +105,7 @@ fn put_reply(found: bool) -> LargeReply
 }
 
 /// The reply of a read, by the word that was found.
+#[inline(always)]
 fn got_reply(word: Option<u64>) -> LargeReply
     ensures { result ≡ got word }
 {
@@ -111,6 +116,7 @@ fn got_reply(word: Option<u64>) -> LargeReply
 }
 
 /// Word `index` of the body of what `base` holds becomes `value`.
+#[inline(always)]
 fn put_word(heap: &mut Heap, base: u8, index: u32, value: u64) -> LargeReply
     requires holds { (h : List LargeItem) × IsHeapOf heap.old h }
     requires base { base < 16 }
@@ -124,6 +130,7 @@ fn put_word(heap: &mut Heap, base: u8, index: u32, value: u64) -> LargeReply
 }
 
 /// Reads word `index` of the body of what `base` holds.
+#[inline(always)]
 fn get_word(heap: &mut Heap, base: u8, index: u32) -> LargeReply
     requires holds { (h : List LargeItem) × IsHeapOf heap.old h }
     requires base { base < 16 }
@@ -137,6 +144,7 @@ fn get_word(heap: &mut Heap, base: u8, index: u32) -> LargeReply
 }
 
 /// Does one operation.
+#[inline(always)]
 pub(crate) fn act(heap: &mut Heap, op: LargeOp) -> Acted
     requires holds { (h : List LargeItem) × IsHeapOf heap.old h }
     requires made { heap.old.made < 2 ^ 32 - 1 }

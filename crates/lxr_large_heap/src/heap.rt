@@ -9,6 +9,10 @@ pub struct Heap {
     pub bodies: Bodies,
     /// How many objects were made.
     pub made: u32,
+    /// How many of them were made before the last pause.
+    pub made_before: u32,
+    /// How many objects the last pause left, without the world.
+    pub left: u32,
     /// Whether the last pause collected, and only operations came behind it that were refused for want of room.
     pub fresh: bool,
 }

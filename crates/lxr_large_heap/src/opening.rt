@@ -31,6 +31,8 @@ pub(crate) fn open(alloc: Global, blocks: u32, bodies: u32) -> Result<Heap, Allo
         space,
         bodies: Bodies::open(alloc, bodies)?,
         made: 0,
+        made_before: 0,
+        left: 0,
         fresh: false,
     })
 }

@@ -1,5 +1,5 @@
 //! One pause of a heap.
-ghost use Rattle.std.specs.Prelude.{◌≡◌, ◌≢◌, ◌+◌, ◌^◌, ◌%◌, ◌<◌, ◌≤◌, List, if◌then◌else◌};
+ghost use Rattle.std.specs.Prelude.{◌≡◌, ◌≢◌, ◌+◌, ◌^◌, ◌%◌, ◌<◌, ◌≤◌, List, if◌then◌else◌, length};
 ghost use Rattle.lxr_large_model.specs.History.{LargeItem};
 ghost use Rattle.lxr_run_pause.specs.declared.Ask.TheVariants as ask;
 ghost use Rattle.lxr_run_pause.specs.Deciding.{IsPace};
@@ -7,6 +7,7 @@ ghost use Rattle.lxr_large_heap.specs.Holding.{IsHeapOf};
 ghost use Rattle.lxr_large_heap.specs.Pausing.{PausesHeap};
 
 use crate::heap::Heap;
+use lxr_graph::Report;
 use lxr_run_pause::{Ask, Pace, one_pause};
 
 /// A pace by which no trace begins at the pause of this number: of two numbers that follow each other it is no multiple of both, for a number
@@ -36,6 +37,17 @@ fn asked(collect: bool) -> Ask
     if collect { Ask::Collect } else { Ask::Ordinary }
 }
 
+/// How many objects a pause leaves, where the one before it left so many, by its report.
+fn left_after(left: u32, report: &Report) -> u32
+    requires few { left + length report.now.promoted.items < 2 ^ 32 }
+    requires gone { length report.now.dead.items + length report.now.swept.items ≤ left + length report.now.promoted.items }
+    ensures { result + (length report.now.dead.items + length report.now.swept.items) ≡ left + length report.now.promoted.items }
+{
+    let promoted = report.promoted.len() as u32;
+    let gone = (report.dead.len() + report.swept.len()) as u32;
+    left + promoted - gone
+}
+
 /// Makes a pause. What is unreachable is reclaimed where it is to collect, and else what counts show to be dead; bodies stay where their names
 /// do.
 pub(crate) fn pause(heap: &mut Heap, collect: bool)
@@ -47,5 +59,7 @@ pub(crate) fn pause(heap: &mut Heap, collect: bool)
     let pace = untraced_pace(heap.space.pauses + 1);
     one_pause(&mut heap.space, ask, pace);
     heap.bodies.after_pause(&heap.space.report);
+    heap.left = left_after(heap.left, &heap.space.report);
+    heap.made_before = heap.made;
     heap.fresh = collect;
 }

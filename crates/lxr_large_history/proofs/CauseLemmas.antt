@@ -5,7 +5,7 @@ use Rattle.lxr_graph.specs.declared.report.Kind.{Kind}
 use Rattle.lxr_large_model.specs.declared.LargeOp.{LargeOp}
 use Rattle.lxr_large_model.specs.declared.LargeOp.TheVariants as large_op
 use Rattle.lxr_large_model.specs.Full.{LargeTerms}
-use Rattle.lxr_large_model.specs.History.{LargeItem, Called, Paused}
+use Rattle.lxr_large_model.specs.History.{LargeItem, Called, Paused, Renewed}
 use Rattle.lxr_large_model.specs.Pauses.{AsksFor, ComesFor, PauseComes, PausesHaveCauses}
 use Rattle.lxr_large_history.specs.Growing.{AnyCallMayCome, AskedAreFollowed, PausesAreMadeFor, UnaskedOweNothing}
 
@@ -14,10 +14,12 @@ use Rattle.lxr_large_history.specs.Growing.{AnyCallMayCome, AskedAreFollowed, Pa
 same_pause : (x : LargeItem) (l m : List LargeItem) (k : Kind) → PauseComes k (x ∷ l) → PauseComes k (x ∷ m)
 same_pause (Called o r) l m k comes = absurd comes
 same_pause (Paused report) l m k comes = comes
+same_pause (Renewed ns) l m k comes = absurd comes
 
 same_call : (terms : LargeTerms) (h : List LargeItem) (k : Kind) (x : LargeItem) (l m : List LargeItem) → ComesFor terms h k (x ∷ l) → ComesFor terms h k (x ∷ m)
 same_call terms h k (Called o r) l m comes = comes
 same_call terms h k (Paused report) l m comes = absurd comes
+same_call terms h k (Renewed ns) l m comes = absurd comes
 
 -- what stands behind the next item says nothing
 pub same_behind : (terms : LargeTerms) (h : List LargeItem) (x : LargeItem) (l m : List LargeItem) → PausesHaveCauses terms (x ∷ l) h → PausesHaveCauses terms (x ∷ m) h
@@ -27,6 +29,7 @@ same_behind terms (Paused report ∷ h) x l m causes = (
   elim causes.0 [ inl asked ↦ inl asked | inr made ↦ inr (same_call terms h report.kind x l m made) ],
   same_behind terms h (Paused report) (x ∷ l) (x ∷ m) causes.1,
 )
+same_behind terms (Renewed ns ∷ h) x l m causes = causes
 
 -- where nothing is to come, anything may
 pub anything_comes : (terms : LargeTerms) (h : List LargeItem) (x : LargeItem) (l : List LargeItem) → PausesHaveCauses terms [] h → PausesHaveCauses terms (x ∷ l) h
@@ -36,6 +39,7 @@ anything_comes terms (Paused report ∷ h) x l causes = (
   elim causes.0 [ inl asked ↦ inl asked | inr made ↦ absurd made ],
   same_behind terms h (Paused report) [] (x ∷ l) causes.1,
 )
+anything_comes terms (Renewed ns ∷ h) x l causes = causes
 
 -- ---- what asks for a pause
 

@@ -8,7 +8,7 @@ use Rattle.lxr_large_model.specs.declared.LargeOp.TheVariants as large_op
 use Rattle.lxr_large_model.specs.declared.LargeReply.{LargeReply}
 use Rattle.lxr_large_model.specs.declared.LargeReply.TheVariants as large_reply
 use Rattle.lxr_large_model.specs.Full.{IsFresh, LargeTerms}
-use Rattle.lxr_large_model.specs.History.{LargeItem, Called, Paused, large_moment}
+use Rattle.lxr_large_model.specs.History.{LargeItem, Called, Paused, Renewed, large_moment}
 use Rattle.lxr_large_model.specs.Pauses.{AsksFor, WasAskedFor}
 use Rattle.lxr_large_history.specs.Histories.{IsLargeHistory, called_in, replied_in, with_end}
 
@@ -19,6 +19,7 @@ pub as_many : (h : List LargeItem) → length (replied_in h) ≡ length (called_
 as_many [] = refl
 as_many (Called o r ∷ h) = let rest = as_many h in let a = length-append (replied_in h) (r ∷ []) in let b = length-append (called_in h) (o ∷ []) in omega (arith, rest, a, b)
 as_many (Paused report ∷ h) = as_many h
+as_many (Renewed ns ∷ h) = as_many h
 
 -- what is still to come says how many have come
 pub has_done : (h : List LargeItem) (o : LargeOp) (rest operations : List LargeOp) → called_in h ++ o ∷ rest ≡ with_end operations → length (replied_in h) + 1 + length rest ≡ length operations + 1
@@ -53,6 +54,7 @@ same_last os ps o p is = sym (last_is o os o) ∙ ap (last_of o) is ∙ last_is 
 end_collects : (h : List LargeItem) (k : Kind) (operations : List LargeOp) → called_in h ≡ with_end operations → WasAskedFor h k → k ≡ kind.Collect
 end_collects [] k operations calls asked = absurd asked
 end_collects (Paused report ∷ h) k operations calls asked = absurd asked
+end_collects (Renewed ns ∷ h) k operations calls asked = absurd asked
 end_collects (Called o r ∷ h) k operations calls asked = subst (λ p. AsksFor p k) (same_last (called_in h) operations o (large_op.Small op.End) calls) asked
 
 -- so a whole history ends with it
@@ -62,3 +64,4 @@ ends_fresh terms operations (Called o r ∷ h) is =
     let same = same_last (called_in h) operations o (large_op.Small op.End) is.calls in
     absurd (is.causes.0 kind.Collect (subst (λ p. AsksFor p kind.Collect) (sym same) refl))
 ends_fresh terms operations (Paused report ∷ h) is = elim is.causes.0 [ inl asked ↦ end_collects h report.kind operations is.calls asked | inr made ↦ absurd made ]
+ends_fresh terms operations (Renewed ns ∷ h) is = absurd is.causes

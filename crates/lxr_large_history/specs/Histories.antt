@@ -5,7 +5,7 @@ use Rattle.lxr_large_model.specs.declared.LargeOp.{LargeOp}
 use Rattle.lxr_large_model.specs.declared.LargeOp.TheVariants as large_op
 use Rattle.lxr_large_model.specs.declared.LargeReply.{LargeReply}
 use Rattle.lxr_large_model.specs.Full.{LargeTerms}
-use Rattle.lxr_large_model.specs.History.{LargeItem, Called, Paused}
+use Rattle.lxr_large_model.specs.History.{LargeItem, Called, Paused, Renewed}
 use Rattle.lxr_large_model.specs.Pauses.{IsLegalLarge, PausesHaveCauses}
 
 -- the operations that were called, oldest first
@@ -13,12 +13,14 @@ abbrev pub called_in : List LargeItem → List LargeOp
 called_in [] = []
 called_in (Called o r ∷ h) = called_in h ++ o ∷ []
 called_in (Paused report ∷ h) = called_in h
+called_in (Renewed ns ∷ h) = called_in h
 
 -- their replies, oldest first
 abbrev pub replied_in : List LargeItem → List LargeReply
 replied_in [] = []
 replied_in (Called o r ∷ h) = replied_in h ++ r ∷ []
 replied_in (Paused report ∷ h) = replied_in h
+replied_in (Renewed ns ∷ h) = replied_in h
 
 -- the operations of a script, followed by the end of the thread
 abbrev pub with_end : List LargeOp → List LargeOp

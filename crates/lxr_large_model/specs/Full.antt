@@ -16,7 +16,7 @@ use Rattle.lxr_large_model.specs.declared.LargeOp.{LargeOp}
 use Rattle.lxr_large_model.specs.declared.LargeOp.TheVariants as large_op
 use Rattle.lxr_large_model.specs.declared.LargeReply.{LargeReply}
 use Rattle.lxr_large_model.specs.declared.LargeReply.TheVariants as large_reply
-use Rattle.lxr_large_model.specs.History.{LargeItem, Called, Paused, large_moment, large_state}
+use Rattle.lxr_large_model.specs.History.{LargeItem, Called, Paused, Renewed, large_state}
 use Rattle.lxr_large_model.specs.State.{LargeState, body_of, handle}
 use Rattle.lxr_large_model.specs.Step.{IsLargeReply}
 
@@ -25,13 +25,14 @@ pub record LargeTerms : Type 0 where
   pub blocks : ℕ
   pub bodies : ℕ
 
--- A pause is fresh for the next call: it collects, and nothing stands behind it but `new full` and `big full`.
+-- A pause is fresh for the next call: it collects, and nothing stands behind it but `new full`, `big full` and renewals.
 abbrev pub IsFresh : List LargeItem → Type 0
 IsFresh [] = ⊥
 IsFresh (Paused report ∷ h) = report.kind ≡ kind.Collect
 IsFresh (Called (large_op.Small (op.New dest shape)) (large_reply.Small reply.Full) ∷ h) = IsFresh h
 IsFresh (Called (large_op.Big dest blocks) large_reply.Full ∷ h) = IsFresh h
 IsFresh (Called _ _ ∷ h) = ⊥
+IsFresh (Renewed ns ∷ h) = IsFresh h
 
 -- how many slots of k blocks a body touches at most: its blocks over k, rounded up, and one; none where there is no body
 abbrev pub body_slots : ℕ → Option (List ℕ) → ℕ

@@ -1,15 +1,17 @@
 -- Where the pauses of a script with large objects stand, and which histories are legal. Items stand newest first.
 use Rattle.std.specs.Prelude.{◌≡◌, ℕ, ◌⊎◌, ⊤, List, [], ◌∷◌, length}
+use Rattle.lxr_layout.specs.declared.Name.{Name}
 use Rattle.lxr_graph.specs.declared.Op.TheVariants as op
 use Rattle.lxr_graph.specs.declared.report.Kind.{Kind}
 use Rattle.lxr_graph.specs.declared.report.Kind.TheVariants as kind
 use Rattle.lxr_graph.specs.History.{PauseReport}
+use Rattle.lxr_graph.specs.State.{world_name}
 use Rattle.lxr_model.specs.Reports.{IsReport}
 use Rattle.lxr_large_model.specs.declared.LargeOp.{LargeOp}
 use Rattle.lxr_large_model.specs.declared.LargeOp.TheVariants as large_op
 use Rattle.lxr_large_model.specs.declared.LargeReply.{LargeReply}
-use Rattle.lxr_large_model.specs.Full.{LargeReplies, LargeTerms, LeaveNoRoom, kept_names}
-use Rattle.lxr_large_model.specs.History.{LargeItem, Called, Paused, large_moment, large_state}
+use Rattle.lxr_large_model.specs.Full.{IsFresh, LargeReplies, LargeTerms, LeaveNoRoom, kept_names}
+use Rattle.lxr_large_model.specs.History.{LargeItem, Called, Paused, Renewed, large_moment, large_state}
 use Rattle.lxr_large_model.specs.Step.{IsLargeOp}
 
 -- so many references are logged between two pauses at most
@@ -32,12 +34,18 @@ pub record IsLargePause (h : List LargeItem) (report : PauseReport) : Type 0 whe
   pub kind : IsLargeKind report.kind
   pub reports : IsReport (large_moment h) report
 
+-- A renewal after h: right behind a pause that collects, of all that is left. The unreclaimed names are the world's and these, in order.
+pub record IsRenewal (h : List LargeItem) (ns : List Name) : Type 0 where
+  pub fresh : IsFresh h
+  pub names : (large_moment h).unreclaimed ≡ world_name ∷ ns
+
 -- item x may come after h
 abbrev pub MayFollow : LargeTerms → List LargeItem → LargeItem → Type 0
 MayFollow terms h (Called o r) = IsLargeCall terms h o r
 MayFollow terms h (Paused report) = IsLargePause h report
+MayFollow terms h (Renewed ns) = IsRenewal h ns
 
--- a legal history: each call is a step or may be full, and each pause gives its report
+-- a legal history: each call is a step or may be full, each pause gives its report, and names are renewed right behind a pause that collects
 abbrev pub IsLegalLarge : LargeTerms → List LargeItem → Type 0
 IsLegalLarge terms [] = ⊤
 IsLegalLarge terms (x ∷ h) = IsLegalLarge terms h × MayFollow terms h x
@@ -75,8 +83,9 @@ PauseComes k (Paused report ∷ later) = report.kind ≡ k
 PauseComes k _ = ⊥
 
 -- Each pause was asked for by the call before it, or is made for the call behind it; and right behind each call that asks for one stands its
--- pause. `later` are the items behind, the next one first.
+-- pause. No names are renewed. `later` are the items behind, the next one first.
 abbrev pub PausesHaveCauses : LargeTerms → List LargeItem → List LargeItem → Type 0
 PausesHaveCauses terms later [] = ⊤
 PausesHaveCauses terms later (Called o r ∷ h) = ((k : Kind) → AsksFor o k → PauseComes k later) × PausesHaveCauses terms (Called o r ∷ later) h
 PausesHaveCauses terms later (Paused report ∷ h) = (WasAskedFor h report.kind ⊎ ComesFor terms h report.kind later) × PausesHaveCauses terms (Paused report ∷ later) h
+PausesHaveCauses terms later (Renewed ns ∷ h) = ⊥

@@ -1,7 +1,6 @@
 -- One step of a heap with large objects: what an operation of its one thread does, and its reply.
 use Rattle.std.specs.Prelude.{◌≡◌, ℕ, ◌<◌, ◌≤◌, Option, Some, None, List, [], ◌∷◌, ◌++◌, slice_get, slice_set}
 use Rattle.lxr_layout.specs.declared.Name.{Name}
-use Rattle.lxr_graph.specs.declared.Op.{Op}
 use Rattle.lxr_graph.specs.declared.Op.TheVariants as op
 use Rattle.lxr_graph.specs.declared.Reply.{Reply}
 use Rattle.lxr_graph.specs.declared.Reply.TheVariants as reply
@@ -12,7 +11,7 @@ use Rattle.lxr_large_model.specs.declared.LargeOp.{LargeOp}
 use Rattle.lxr_large_model.specs.declared.LargeOp.TheVariants as large_op
 use Rattle.lxr_large_model.specs.declared.LargeReply.{LargeReply}
 use Rattle.lxr_large_model.specs.declared.LargeReply.TheVariants as large_reply
-use Rattle.lxr_large_model.specs.State.{Large, LargeState, body_of, fresh_body, handle, with_body}
+use Rattle.lxr_large_model.specs.State.{LargeState, body_of, fresh_body, handle, with_body}
 
 -- an operation on the object graph, with its reply
 abbrev pub small_step : LargeState → State × Reply → LargeState × LargeReply

@@ -5,8 +5,11 @@
 //! may say that there is no room, and where pauses stand, is said in `specs/`.
 #![tactic(auto)]
 
+mod renewing;
+
 use lxr_graph::{Op, Reply};
 use lxr_layout::Name;
+pub use renewing::renewed;
 
 /// The most blocks of a body: 4 MB of data words.
 pub const MOST_BODY_BLOCKS: u32 = 128;

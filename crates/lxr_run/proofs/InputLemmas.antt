@@ -4,20 +4,27 @@ use Rattle.std.specs.Prelude.{Option, Some, None, IfErr, IfSome, IsErrAnd, Ok, E
 use Rattle.std.proofs.lemmas.List.{append-nil, take_at, take_all}
 use Rattle.std.proofs.lemmas.Bool.{cases_lt, leb-true}
 use Rattle.lxr_text_script.specs.declared.TheConstants.{MOST_BYTES}
+use Rattle.lxr_text_script.specs.declared.fault.ScriptFault.{ScriptFault}
 use Rattle.lxr_text_script.specs.declared.fault.ScriptError.{ScriptError}
 use Rattle.lxr_text_script.specs.declared.fault.ScriptError.TheVariants as script_error
+use Rattle.lxr_text_script.specs.Operations.{Read}
 use Rattle.lxr_text_script.specs.Reading.{Fails, reading_of}
 use Rattle.lxr_text_stream.specs.declared.transfer.ReadError.{ReadError}
 use Rattle.lxr_text_stream.specs.declared.transfer.ReadError.TheVariants as read_error
 use Rattle.lxr_text_stream.specs.Streams.{IsAtEnd, Takes}
 use Rattle.lxr_model.specs.Belongs.{Script}
+use Rattle.lxr_large_model.specs.declared.LargeOp.{LargeOp}
+use Rattle.lxr_large_script.specs.Reading.{large_reading_of}
+use Rattle.lxr_words.specs.declared.Command.{Command}
+use Rattle.lxr_words.specs.declared.Command.TheVariants.{Large, Load, Map, Run}
 use Rattle.lxr_words.specs.declared.Options.{Options}
+use Rattle.lxr_words.specs.declared.WordFault.{WordFault}
 use Rattle.lxr_words.specs.declared.WordError.{WordError}
 use Rattle.lxr_words.specs.declared.WordError.TheVariants as word_error
 use Rattle.lxr_words.specs.Options.{Answers, reading_of as words_read, script_commands}
 use Rattle.lxr_run.specs.Causes.{refusal_of_read, refusal_of_script, refusal_of_words}
 use Rattle.lxr_run.specs.Runs.{HasFailed, Stream}
-use Rattle.lxr_run.specs.Script.{AsksToRead, GivesNoScript, HasCause, IsNoScript, IsReadFrom, IsScriptOf, judged_part}
+use Rattle.lxr_run.specs.Script.{AsksToRead, GivesNone, GivesNoScript, HasCause, IsNoScript, IsReadFrom, judged_part}
 use Rattle.lxr_run.specs.declared.refusal.Refusal.{Refusal}
 use Rattle.lxr_run.specs.declared.refusal.Refusal.TheVariants as refusal
 
@@ -61,59 +68,81 @@ test_passed true x f y e = refl
 test_passed false x f y e = absurd (cc)
 
 -- an accepted script has at most 67,108,864 bytes
-accepted_short : (bytes : List ℕ) (script : Script) → IsScriptOf bytes script → length bytes ≤ MOST_BYTES
+pub accepted_short : (bytes : List ℕ) (script : Script) → reading_of bytes ≡ Ok script → length bytes ≤ MOST_BYTES
 unfolding reading_of
 accepted_short bytes script accepted =
     leb-true (length bytes) MOST_BYTES (test_passed (nat_le (length bytes) MOST_BYTES) _ _ _ accepted)
 
+-- so has one with large objects
+pub large_accepted_short : (bytes : List ℕ) (operations : List LargeOp) → large_reading_of bytes ≡ Ok operations → length bytes ≤ MOST_BYTES
+unfolding large_reading_of
+large_accepted_short bytes operations accepted =
+    leb-true (length bytes) MOST_BYTES (test_passed (nat_le (length bytes) MOST_BYTES) _ _ _ accepted)
+
 -- it is judged whole
-pub accepted_judged : (bytes : List ℕ) (script : Script) → IsScriptOf bytes script → judged_part bytes ≡ bytes
+pub judged_whole : (bytes : List ℕ) → length bytes ≤ MOST_BYTES → judged_part bytes ≡ bytes
 unfolding judged_part
-accepted_judged bytes script accepted = let short = accepted_short bytes script accepted in take_all (MOST_BYTES + 1) bytes (omega arith)
+judged_whole bytes short = take_all (MOST_BYTES + 1) bytes (omega arith)
 
--- it was read to its end, and is all that was left of the input
-read_whole : (left left' : Option (List ℕ)) (read : List ℕ) (script : Script) → Takes left left' read → (length read ≤ MOST_BYTES → IsAtEnd left')
-    → IsScriptOf read script → IsAtEnd left' × IfSome left (λ bytes. IsScriptOf bytes script)
-read_whole left None read script takes end accepted = (tt, subst (λ z. IfSome z (λ bytes. IsScriptOf bytes script)) (sym takes) tt)
-read_whole left (Some rest) read script takes end accepted =
-    let none : rest ≡ [] = end (accepted_short read script accepted) in
-    let whole : read ++ rest ≡ read = ap (λ z. read ++ z) none ∙ append-nil read in
-    (none, subst (λ z. IfSome z (λ bytes. IsScriptOf bytes script)) (sym takes) (subst (λ z. IsScriptOf z script) (sym whole) accepted))
+-- a way of reading accepts no more bytes than a script may have
+abbrev pub AcceptsShort : {X : Type 0} → (List ℕ → Read X) → Type 0
+AcceptsShort {X} reading = (bytes : List ℕ) (script : X) → reading bytes ≡ Ok script → length bytes ≤ MOST_BYTES
 
-pub read_from : {I : Type 0} (input : Stream I) (read : List ℕ) (script : Script) → Takes (input.bytes input.before) (input.bytes input.after) read
-    → (length read ≤ MOST_BYTES → IsAtEnd (input.bytes input.after)) → IsScriptOf read script → IsReadFrom input script
-read_from input read script takes end accepted =
-    let whole = read_whole (input.bytes input.before) (input.bytes input.after) read script takes end accepted in record { bytes = whole.1; end = whole.0 }
+-- In the following, reading is such a way.
+module _ {X : Type 0} (reading : List ℕ → Read X) (short : AcceptsShort reading) where
+  -- a script was read to its end, and is all that was left of the input
+  read_whole : (left left' : Option (List ℕ)) (read : List ℕ) (script : X) → Takes left left' read → (length read ≤ MOST_BYTES → IsAtEnd left')
+      → reading read ≡ Ok script → IsAtEnd left' × IfSome left (λ bytes. reading bytes ≡ Ok script)
+  read_whole left None read script takes end accepted = (tt, subst (λ z. IfSome z (λ bytes. reading bytes ≡ Ok script)) (sym takes) tt)
+  read_whole left (Some rest) read script takes end accepted =
+      let none : rest ≡ [] = end (short read script accepted) in
+      let whole : read ++ rest ≡ read = ap (λ z. read ++ z) none ∙ append-nil read in
+      (none, subst (λ z. IfSome z (λ bytes. reading bytes ≡ Ok script)) (sym takes) (subst (λ z. reading z ≡ Ok script) (sym whole) accepted))
+
+  pub read_from : {I : Type 0} (input : Stream I) (read : List ℕ) (script : X) → Takes (input.bytes input.before) (input.bytes input.after) read
+      → (length read ≤ MOST_BYTES → IsAtEnd (input.bytes input.after)) → reading read ≡ Ok script → IsReadFrom reading input script
+  read_from input read script takes end accepted =
+      let whole = read_whole (input.bytes input.before) (input.bytes input.after) read script takes end accepted in record { bytes = whole.1; end = whole.0 }
+
+  -- what was read is right
+  pub read_right : {I : Type 0} (input : Stream I) (script : X) (bytes : List ℕ) (wrong : ScriptFault) → IsReadFrom reading input script → input.bytes input.before ≡ Some bytes → IsNoScript reading bytes wrong → ⊥
+  read_right input script bytes wrong given told noscript =
+      let is : reading bytes ≡ Ok script = subst (λ o. IfSome o (λ bytes. reading bytes ≡ Ok script)) told given.bytes in
+      let judged : reading (judged_part bytes) ≡ Ok script = ap reading (judged_whole bytes (short bytes script is)) ∙ is in cc
 
 -- ---- no script
 
 -- an input that wasn't read
-pub unread_by : {I : Type 0} (input : Stream I) (e : ReadError) → (e ≡ read_error.Fault → HasFailed input) → GivesNoScript (refusal_of_read e) input
-unread_by input read_error.Fault failed = failed refl
-unread_by input read_error.Memory failed = tt
+pub unread_by : {I X : Type 0} (reading : List ℕ → Read X) (input : Stream I) (e : ReadError) → (e ≡ read_error.Fault → HasFailed input) → GivesNone reading (refusal_of_read e) input
+unread_by reading input read_error.Fault failed = failed refl
+unread_by reading input read_error.Memory failed = tt
 
 -- bytes that were refused
-pub refused_by : {I : Type 0} (input : Stream I) (read : List ℕ) (e : ScriptError) → Takes (input.bytes input.before) (input.bytes input.after) read
-    → (length read ≤ MOST_BYTES → IsAtEnd (input.bytes input.after)) → length read ≤ MOST_BYTES + 1 → Fails e (reading_of read) → GivesNoScript (refusal_of_script e) input
-refused_by input read (script_error.Fault wrong) takes end limited fails =
-    if_some-weaker (input.bytes input.before) (λ bytes. judged_part bytes ≡ read) (λ bytes. IsNoScript bytes wrong) (judged_is (input.bytes input.before) (input.bytes input.after) read takes end limited)
-    (λ bytes is. ap reading_of is ∙ fails)
-refused_by input read script_error.Memory takes end limited fails = tt
+pub refused_by : {I X : Type 0} (reading : List ℕ → Read X) (input : Stream I) (read : List ℕ) (e : ScriptError) → Takes (input.bytes input.before) (input.bytes input.after) read
+    → (length read ≤ MOST_BYTES → IsAtEnd (input.bytes input.after)) → length read ≤ MOST_BYTES + 1 → Fails e (reading read) → GivesNone reading (refusal_of_script e) input
+refused_by reading input read (script_error.Fault wrong) takes end limited fails =
+    if_some-weaker (input.bytes input.before) (λ bytes. judged_part bytes ≡ read) (λ bytes. IsNoScript reading bytes wrong) (judged_is (input.bytes input.before) (input.bytes input.after) read takes end limited)
+    (λ bytes is. ap reading is ∙ fails)
+refused_by reading input read script_error.Memory takes end limited fails = tt
 
 -- words that were refused
 pub words_cause : {I : Type 0} (words : List (List ℕ)) (input : Stream I) (e : WordError) → Answers (words_read words) (Err e) → HasCause (refusal_of_words e) words input
 words_cause words input (word_error.Fault wrong) answers = answers
 words_cause words input word_error.Memory answers = tt
 
+-- wrong words are no cause for that
+never_words : {I : Type 0} (command : Command) (input : Stream I) (wrong : WordFault) → GivesNoScript command (refusal.Words wrong) input → ⊥
+never_words Run input wrong none = none
+never_words Map input wrong none = none
+never_words Large input wrong none = none
+never_words (Load seed) input wrong none = let e : refusal.Words wrong ≡ refusal.Memory = none in absurd (cc)
+
 -- words that were accepted, and gave no script
-pub input_cause : {I : Type 0} (words : List (List ℕ)) (input : Stream I) (options : Options) (reads : Bool) (why : Refusal) → words_read words ≡ Ok options → script_commands options.command ≡ reads
-    → (reads ≡ false → why ≡ refusal.Memory) → GivesNoScript why input → HasCause why words input
-input_cause words input options reads (refusal.Words wrong) accepted is made none = absurd none
-input_cause words input options true (refusal.Script wrong) accepted is made none = ((options, accepted, is), none)
-input_cause words input options false (refusal.Script wrong) accepted is made none = let e : refusal.Script wrong ≡ refusal.Memory = made refl in absurd (cc)
-input_cause words input options true refusal.ReadFault accepted is made none = ((options, accepted, is), none)
-input_cause words input options false refusal.ReadFault accepted is made none = let e : refusal.ReadFault ≡ refusal.Memory = made refl in absurd (cc)
-input_cause words input options reads refusal.Memory accepted is made none = tt
+pub input_cause : {I : Type 0} (words : List (List ℕ)) (input : Stream I) (options : Options) (why : Refusal) → words_read words ≡ Ok options → GivesNoScript options.command why input → HasCause why words input
+input_cause words input options (refusal.Words wrong) accepted none = absurd (never_words options.command input wrong none)
+input_cause words input options (refusal.Script wrong) accepted none = (options, accepted, none)
+input_cause words input options refusal.ReadFault accepted none = (options, accepted, none)
+input_cause words input options refusal.Memory accepted none = tt
 
 -- words that ask for no script leave the input as it was
 pub unread_where : {X : Type 0} (words : List (List ℕ)) (options : Options) (reads : Bool) (x y : X) → words_read words ≡ Ok options → script_commands options.command ≡ reads

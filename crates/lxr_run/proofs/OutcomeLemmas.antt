@@ -1,6 +1,6 @@
 -- What the ways in which a run ends come to: its loop's outcome is the run's, and the status follows from what is told.
-use Rattle.std.proofs.Common.{inl, inr, ◌≡◌, ℕ, refl, sym, ap, subst, ◌∙◌, List}
-use Rattle.std.specs.Prelude.{◌⊎◌, Some, IfErr, IfSome, IsErr, IsErrAnd, IsTrue, Ok, Err, Result}
+use Rattle.std.proofs.Common.{inl, inr, ◌≡◌, ℕ, refl, sym, ap, subst, List, []}
+use Rattle.std.specs.Prelude.{◌⊎◌, Some, IfErr, IsErr, IsErrAnd, Ok, Err, Result}
 use Rattle.lxr_text_script.specs.Reading.{reading_of}
 use Rattle.lxr_text_script.specs.declared.fault.ScriptFault.{ScriptFault}
 use Rattle.lxr_text_stream.specs.declared.transfer.WriteError.{WriteError}
@@ -8,15 +8,19 @@ use Rattle.lxr_text_stream.specs.declared.transfer.WriteError.TheVariants as wri
 use Rattle.lxr_model.specs.Belongs.{Script}
 use Rattle.lxr_model.proofs.CollectLemmas.{last_reachable}
 use Rattle.lxr_words.specs.declared.Command.{Command}
-use Rattle.lxr_words.specs.declared.Command.TheVariants.{Load, Map, Run as CommandRun}
+use Rattle.lxr_words.specs.declared.Command.TheVariants.{Large, Load, Map, Run as CommandRun}
 use Rattle.lxr_words.specs.declared.Options.{Options}
 use Rattle.lxr_words.specs.declared.WordFault.{WordFault}
-use Rattle.lxr_words.specs.Options.{reading_of as words_read, script_commands}
+use Rattle.lxr_words.specs.Options.{reading_of as words_read}
 use Rattle.lxr_run_history.specs.Run.{script_terms}
+use Rattle.lxr_large_model.specs.declared.LargeOp.{LargeOp}
+use Rattle.lxr_large_script.specs.Reading.{large_reading_of}
+use Rattle.lxr_large_run.specs.Played.{IsCutOff as PlayingWasCutOff, IsPlayed}
 use Rattle.lxr_run_loop.specs.Printed.{IsCutShort, IsPrinted}
 use Rattle.lxr_run.specs.Causes.{stop_of_write}
 use Rattle.lxr_run.specs.Runs.{HasFailed, Run, Stream}
-use Rattle.lxr_run.specs.Script.{AsksToRead, IsGivenBy, IsNoScript, WasAsked, judged_part}
+use Rattle.lxr_run.specs.LargeRuns.{IsLargeCutOff, large_task_of}
+use Rattle.lxr_run.specs.Script.{AsksForLarge, AsksInVain, IsGivenBy, IsLargeGivenBy, IsNoScriptFor, WasAsked, WasAskedLarge}
 use Rattle.lxr_run.specs.Replayed.{IsReplayed, task_of}
 use Rattle.lxr_run.specs.Outcome.{ComesOrFails, HasEnded, HasStopped, IsCutOff, IsDone, IsRefused, IsToldBy}
 use Rattle.lxr_run.specs.declared.Status.{Status}
@@ -24,13 +28,13 @@ use Rattle.lxr_run.specs.declared.Status.TheVariants as status
 use Rattle.lxr_run.specs.declared.refusal.Refusal.{Refusal}
 use Rattle.lxr_run.specs.declared.refusal.Refusal.TheVariants as refusal
 use Rattle.lxr_run.specs.declared.attempt.Stop.{Stop}
-use Rattle.lxr_run.proofs.InputLemmas.{accepted_judged, if_err}
+use Rattle.lxr_run.proofs.InputLemmas.{accepted_short, if_err, large_accepted_short, read_right}
 
 -- ---- the outcome of the loop
 
 pub done_by : {I O W : Type 0} (run : Run I O W) (options : Options) (script : Script) → WasAsked run.words run.input options script
     → IsPrinted (task_of run options script) run.space (run.output.bytes run.output.after) (run.watch.seen run.watch.after) → IsDone run
-done_by run options script asked printed = record {
+done_by run options script asked printed = inl (record {
   options = options;
   script = script;
   history = printed.history;
@@ -40,7 +44,7 @@ done_by run options script asked printed = record {
   space_left = printed.space_left;
   sights = printed.sights;
   reachable = last_reachable (script_terms options script) script printed.history printed.run.legal printed.run.belongs;
-}
+})
 
 pub replayed_by : {I O W : Type 0} (run : Run I O W) (options : Options) (script : Script) → WasAsked run.words run.input options script
     → IsPrinted (task_of run options script) run.space (run.output.bytes run.output.after) (run.watch.seen run.watch.after) → IsReplayed run
@@ -60,13 +64,13 @@ pub stopped_by : {I O W : Type 0} (run : Run I O W) (options : Options) (script 
 stopped_by run options script write_error.Fault asked failed (inl (h, cut)) =
     (failed refl, inl (record { options = options; script = script; history = h; asked = asked; so_far = cut.history; text_front = cut.text_front; space_left = cut.left; sights = cut.sights }))
 stopped_by run options script write_error.Fault asked failed (inr cut) =
-    (failed refl, inr (record { options = options; script = script; history = cut.history; asked = asked; is_of = cut.run; text_front = cut.text_front; space_left = cut.space_left; sights = cut.sights }))
+    (failed refl, inr (inl (record { options = options; script = script; history = cut.history; asked = asked; is_of = cut.run; text_front = cut.text_front; space_left = cut.space_left; sights = cut.sights })))
 stopped_by run options script write_error.Memory asked failed (inl (inl (h, cut))) =
     inr (refl, inl (inl (record { options = options; script = script; history = h; asked = asked; so_far = cut.history; text_front = cut.text_front; space_left = cut.left; sights = cut.sights })))
 stopped_by run options script write_error.Memory asked failed (inl (inr (h, lost))) =
     inr (refl, inr (record { options = options; script = script; history = h; asked = asked; so_far = lost.history; text = lost.text; gone = lost.gone; evacuated = lost.evacuated; sights = lost.sights }))
 stopped_by run options script write_error.Memory asked failed (inr cut) =
-    inr (refl, inl (inr (record { options = options; script = script; history = cut.history; asked = asked; is_of = cut.run; text_front = cut.text_front; space_left = cut.space_left; sights = cut.sights })))
+    inr (refl, inl (inr (inl (record { options = options; script = script; history = cut.history; asked = asked; is_of = cut.run; text_front = cut.text_front; space_left = cut.space_left; sights = cut.sights }))))
 
 -- the same of the answer that it leads to
 pub stopped_at : {I O W : Type 0} (run : Run I O W) (options : Options) (script : Script) (why : WriteError) (answer : Result (Unit {0}) Stop) → (IsErr answer × IsErrAnd answer (λ stop. stop ≡ stop_of_write why))
@@ -74,6 +78,36 @@ pub stopped_at : {I O W : Type 0} (run : Run I O W) (options : Options) (script 
     → IfErr answer (λ stop. HasStopped stop run)
 stopped_at run options script why answer known asked failed cut =
     if_err answer (λ stop. stop ≡ stop_of_write why) (λ stop. HasStopped stop run) known.1 (λ stop is. subst (λ z. HasStopped z run) (sym is) (stopped_by run options script why asked failed cut))
+
+-- ---- the outcome of playing
+
+-- words whose command has a script with large objects ask for one
+pub asks_for_large : {I : Type 0} (words : List (List ℕ)) (input : Stream I) (options : Options) (operations : List LargeOp) → WasAskedLarge words input options operations → AsksForLarge words
+asks_for_large words input options operations asked = (options, asked.accepted, go options.command asked.given)
+  where
+    go : (command : Command) → IsLargeGivenBy command input operations → command ≡ Large
+    go CommandRun given = absurd given
+    go Map given = absurd given
+    go Large given = refl
+    go (Load seed) given = absurd given
+
+pub done_by_playing : {I O W : Type 0} (run : Run I O W) (options : Options) (operations : List LargeOp) → WasAskedLarge run.words run.input options operations
+    → IsPlayed (large_task_of run options operations) (run.output.bytes run.output.after) run.space → run.watch.after ≡ run.watch.before → IsDone run
+done_by_playing run options operations asked played unseen = inr (record { options = options; operations = operations; asked = asked; played = played; unseen = unseen })
+
+stopped_by_playing : {I O W : Type 0} (run : Run I O W) (why : WriteError) → (why ≡ write_error.Fault → HasFailed run.output) → IsLargeCutOff run → HasStopped (stop_of_write why) run
+stopped_by_playing run write_error.Fault failed cut = (failed refl, inr (inr cut))
+stopped_by_playing run write_error.Memory failed cut = inr (refl, inl (inr (inr cut)))
+
+-- the same of the answer that it leads to
+pub stopped_at_playing : {I O W : Type 0} (run : Run I O W) (options : Options) (operations : List LargeOp) (why : WriteError) (answer : Result (Unit {0}) Stop) → (IsErr answer × IsErrAnd answer (λ stop. stop ≡ stop_of_write why))
+    → WasAskedLarge run.words run.input options operations → (why ≡ write_error.Fault → HasFailed run.output)
+    → PlayingWasCutOff (large_task_of run options operations) (run.output.bytes run.output.after) → run.watch.after ≡ run.watch.before → run.space.words ≡ []
+    → IfErr answer (λ stop. HasStopped stop run)
+stopped_at_playing run options operations why answer known asked failed cut unseen gone =
+    if_err answer (λ stop. stop ≡ stop_of_write why) (λ stop. HasStopped stop run) known.1
+    (λ stop is. subst (λ z. HasStopped z run) (sym is) (stopped_by_playing run why failed
+    (record { options = options; operations = operations; asked = asked; cut_off = cut; unseen = unseen; space = gone })))
 
 -- ---- the status of a refusal
 
@@ -87,62 +121,84 @@ ended_by run errors why ended refused (inr (inr (is, front))) = subst (HasEnded 
 
 -- ---- what is wrong is refused
 
--- a run that was cut off was asked for
-asked_of : {I O W : Type 0} (run : Run I O W) → IsCutOff run → (options : Options) × (script : Script) × WasAsked run.words run.input options script
-asked_of run (inl cut) = (cut.options, cut.script, cut.asked)
-asked_of run (inr cut) = (cut.options, cut.script, cut.asked)
+-- a run was asked for with its script, of either sort
+abbrev Asked : {I : Type 0} → List (List ℕ) → Stream I → Type 0
+Asked words input = ((options : Options) × (script : Script) × WasAsked words input options script) ⊎ ((options : Options) × (operations : List LargeOp) × WasAskedLarge words input options operations)
 
-not_wrong : {I : Type 0} (words : List (List ℕ)) (input : Stream I) (wrong : WordFault) → words_read words ≡ Err wrong → (options : Options) (script : Script) → WasAsked words input options script → ⊥
-not_wrong words input wrong is options script asked = let accepted = asked.accepted in cc
+asked_done : {I O W : Type 0} (run : Run I O W) → IsDone run → Asked run.words run.input
+asked_done run (inl done) = inl (done.options, done.script, done.asked)
+asked_done run (inr done) = inr (done.options, done.operations, done.asked)
 
-asks_right : (words : List (List ℕ)) (wrong : WordFault) → words_read words ≡ Err wrong → AsksToRead words → ⊥
-asks_right words wrong is (options, accepted, reads) = cc
+asked_of : {I O W : Type 0} (run : Run I O W) → IsCutOff run → Asked run.words run.input
+asked_of run (inl cut) = inl (cut.options, cut.script, cut.asked)
+asked_of run (inr (inl cut)) = inl (cut.options, cut.script, cut.asked)
+asked_of run (inr (inr cut)) = inr (cut.options, cut.operations, cut.asked)
+
+-- so its words aren't wrong
+not_wrong : {I : Type 0} (words : List (List ℕ)) (input : Stream I) (wrong : WordFault) → words_read words ≡ Err wrong → Asked words input → ⊥
+not_wrong words input wrong is (inl (options, script, asked)) = let accepted = asked.accepted in cc
+not_wrong words input wrong is (inr (options, operations, asked)) = let accepted = asked.accepted in cc
+
+-- nor those of one that was asked for in vain
+not_in_vain : {I : Type 0} (why : Refusal) (words : List (List ℕ)) (input : Stream I) (wrong : WordFault) → words_read words ≡ Err wrong → AsksInVain why words input → ⊥
+not_in_vain why words input wrong is (options, accepted, none) = cc
 
 pub words_told : {I O W E : Type 0} (run : Run I O W) (errors : Stream E) (ended : Status) → HasEnded run errors ended → (wrong : WordFault) → words_read run.words ≡ Err wrong → ComesOrFails status.Words errors ended
-words_told run errors status.Done (done, untold) wrong is = absurd (not_wrong run.words run.input wrong is done.options done.script done.asked)
+words_told run errors status.Done (done, untold) wrong is = absurd (not_wrong run.words run.input wrong is (asked_done run done))
 words_told run errors status.Words told wrong is = inl refl
 words_told run errors status.Script (w, told) wrong is = go told.refused
   where
     go : IsRefused (refusal.Script w) run → ComesOrFails status.Words errors status.Script
-    go (inl (cause, nothing)) = absurd (asks_right run.words wrong is cause.0)
+    go (inl (cause, nothing)) = absurd (not_in_vain (refusal.Script w) run.words run.input wrong is cause)
     go (inr (e, rest)) = absurd (cc)
 words_told run errors status.ReadFault told wrong is = go told.refused
   where
     go : IsRefused refusal.ReadFault run → ComesOrFails status.Words errors status.ReadFault
-    go (inl (cause, nothing)) = absurd (asks_right run.words wrong is cause.0)
+    go (inl (cause, nothing)) = absurd (not_in_vain refusal.ReadFault run.words run.input wrong is cause)
     go (inr (e, rest)) = absurd (cc)
-words_told run errors status.WriteFault (inl (failed, cut, untold)) wrong is = let asked = asked_of run cut in absurd (not_wrong run.words run.input wrong is asked.0 asked.1 asked.2)
+words_told run errors status.WriteFault (inl (failed, cut, untold)) wrong is = absurd (not_wrong run.words run.input wrong is (asked_of run cut))
 words_told run errors status.WriteFault (inr (failed, told)) wrong is = inr (inr (refl, failed))
 words_told run errors status.Memory told wrong is = inr (inl refl)
 
--- a script that was read is right
-given_right : {I : Type 0} (command : Command) (options : Options) (input : Stream I) (script : Script) (bytes : List ℕ) (wrong : ScriptFault) → IsGivenBy command options input script → IsTrue (script_commands command)
-    → input.bytes input.before ≡ Some bytes → IsNoScript bytes wrong → ⊥
-given_right CommandRun options input script bytes wrong given reads told noscript =
-    let is : reading_of bytes ≡ Ok script = subst (λ o. IfSome o (λ bytes. reading_of bytes ≡ Ok script)) told given.bytes in
-    let judged : reading_of (judged_part bytes) ≡ Ok script = ap reading_of (accepted_judged bytes script is) ∙ is in cc
-given_right Map options input script bytes wrong given reads told noscript =
-    let is : reading_of bytes ≡ Ok script = subst (λ o. IfSome o (λ bytes. reading_of bytes ≡ Ok script)) told given.bytes in
-    let judged : reading_of (judged_part bytes) ≡ Ok script = ap reading_of (accepted_judged bytes script is) ∙ is in cc
-given_right (Load seed) options input script bytes wrong given reads told noscript = cc
+-- a script of threads that was read is right
+given_right : {I : Type 0} (command : Command) (options : Options) (input : Stream I) (script : Script) (bytes : List ℕ) (wrong : ScriptFault) → IsGivenBy command options input script
+    → input.bytes input.before ≡ Some bytes → IsNoScriptFor command bytes wrong → ⊥
+given_right CommandRun options input script bytes wrong given told noscript = read_right reading_of accepted_short input script bytes wrong given told noscript
+given_right Map options input script bytes wrong given told noscript = read_right reading_of accepted_short input script bytes wrong given told noscript
+given_right Large options input script bytes wrong given told noscript = given
+given_right (Load seed) options input script bytes wrong given told noscript = noscript
 
-not_refused : {I : Type 0} (words : List (List ℕ)) (input : Stream I) (bytes : List ℕ) (wrong : ScriptFault) → AsksToRead words → input.bytes input.before ≡ Some bytes → IsNoScript bytes wrong
-    → (options : Options) (script : Script) → WasAsked words input options script → ⊥
-not_refused words input bytes wrong (options', accepted', reads) told noscript options script asked =
-    let accepted = asked.accepted in
-    let same : options' ≡ options = cc in
-    given_right options.command options input script bytes wrong asked.given (subst (λ z. IsTrue (script_commands z.command)) same reads) told noscript
+-- so is one with large objects
+large_given_right : {I : Type 0} (command : Command) (input : Stream I) (operations : List LargeOp) (bytes : List ℕ) (wrong : ScriptFault) → IsLargeGivenBy command input operations
+    → input.bytes input.before ≡ Some bytes → IsNoScriptFor command bytes wrong → ⊥
+large_given_right CommandRun input operations bytes wrong given told noscript = given
+large_given_right Map input operations bytes wrong given told noscript = given
+large_given_right Large input operations bytes wrong given told noscript = read_right large_reading_of large_accepted_short input operations bytes wrong given told noscript
+large_given_right (Load seed) input operations bytes wrong given told noscript = given
 
-pub script_told : {I O W E : Type 0} (run : Run I O W) (errors : Stream E) (ended : Status) → HasEnded run errors ended → (bytes : List ℕ) (wrong : ScriptFault) → AsksToRead run.words
-    → run.input.bytes run.input.before ≡ Some bytes → IsNoScript bytes wrong → (ended ≡ status.ReadFault) ⊎ ComesOrFails status.Script errors ended
-script_told run errors status.Done (done, untold) bytes wrong asks is noscript = absurd (not_refused run.words run.input bytes wrong asks is noscript done.options done.script done.asked)
-script_told run errors status.Words (w, told) bytes wrong asks is noscript = go told.refused
+-- In the following, the words are accepted, and the bytes are no script for their command.
+module _ {I : Type 0} (words : List (List ℕ)) (input : Stream I) (options : Options) (accepted : words_read words ≡ Ok options) (bytes : List ℕ) (wrong : ScriptFault)
+    (told : input.bytes input.before ≡ Some bytes) (noscript : IsNoScriptFor options.command bytes wrong) where
+  not_refused : Asked words input → ⊥
+  not_refused (inl (options', script, asked)) =
+      let accepted' = asked.accepted in
+      let same : options' ≡ options = cc in
+      given_right options.command options input script bytes wrong (subst (λ z. IsGivenBy z.command z input script) same asked.given) told noscript
+  not_refused (inr (options', operations, asked)) =
+      let accepted' = asked.accepted in
+      let same : options' ≡ options = cc in
+      large_given_right options.command input operations bytes wrong (subst (λ z. IsLargeGivenBy z.command input operations) same asked.given) told noscript
+
+pub script_told : {I O W E : Type 0} (run : Run I O W) (errors : Stream E) (ended : Status) → HasEnded run errors ended → (options : Options) (bytes : List ℕ) (wrong : ScriptFault)
+    → words_read run.words ≡ Ok options → run.input.bytes run.input.before ≡ Some bytes → IsNoScriptFor options.command bytes wrong → (ended ≡ status.ReadFault) ⊎ ComesOrFails status.Script errors ended
+script_told run errors status.Done (done, untold) options bytes wrong accepted is noscript = absurd (not_refused run.words run.input options accepted bytes wrong is noscript (asked_done run done))
+script_told run errors status.Words (w, told) options bytes wrong accepted is noscript = go told.refused
   where
     go : IsRefused (refusal.Words w) run → (status.Words ≡ status.ReadFault) ⊎ ComesOrFails status.Script errors status.Words
-    go (inl (cause, nothing)) = absurd (asks_right run.words w cause asks)
+    go (inl (cause, nothing)) = absurd (cc)
     go (inr (e, rest)) = absurd (cc)
-script_told run errors status.Script told bytes wrong asks is noscript = inr (inl refl)
-script_told run errors status.ReadFault told bytes wrong asks is noscript = inl refl
-script_told run errors status.WriteFault (inl (failed, cut, untold)) bytes wrong asks is noscript = let asked = asked_of run cut in absurd (not_refused run.words run.input bytes wrong asks is noscript asked.0 asked.1 asked.2)
-script_told run errors status.WriteFault (inr (failed, told)) bytes wrong asks is noscript = inr (inr (inr (refl, failed)))
-script_told run errors status.Memory told bytes wrong asks is noscript = inr (inr (inl refl))
+script_told run errors status.Script told options bytes wrong accepted is noscript = inr (inl refl)
+script_told run errors status.ReadFault told options bytes wrong accepted is noscript = inl refl
+script_told run errors status.WriteFault (inl (failed, cut, untold)) options bytes wrong accepted is noscript = absurd (not_refused run.words run.input options accepted bytes wrong is noscript (asked_of run cut))
+script_told run errors status.WriteFault (inr (failed, told)) options bytes wrong accepted is noscript = inr (inr (inr (refl, failed)))
+script_told run errors status.Memory told options bytes wrong accepted is noscript = inr (inr (inl refl))

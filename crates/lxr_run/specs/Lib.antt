@@ -3,5 +3,6 @@ pub mod Lines
 pub mod Causes
 pub mod Runs
 pub mod Script
+pub mod LargeRuns
 pub mod Outcome
 pub mod Replayed

@@ -14,6 +14,7 @@ use Rattle.lxr_run_history.specs.Run.{IsHistoryOf, script_terms}
 use Rattle.lxr_run_history.specs.Sights.{Sees}
 use Rattle.lxr_run_history.specs.Tally.{Evacuated, evacuated_in}
 use Rattle.lxr_run_history.specs.Texts.{run_text, told_text}
+use Rattle.lxr_run.specs.LargeRuns.{IsLargeCutOff, IsLargeDone}
 use Rattle.lxr_run.specs.Lines.{refusal_text}
 use Rattle.lxr_run.specs.Runs.{IsUntouched, HasFailed, IsPartlyWritten, IsWritten, Run, Stream}
 use Rattle.lxr_run.specs.Script.{HasCause, WasAsked}
@@ -26,10 +27,10 @@ use Rattle.lxr_run.specs.declared.attempt.Stop.TheVariants as stop
 
 -- ---- what a run leaves
 
--- A run that is done: the text of one history of the script was written, the space is left by it, and the watch has seen its pauses. The tally
--- of the space counts what all of them have moved out of Chosen blocks and kept there.
+-- A run of threads that is done: the text of one history of the script was written, the space is left by it, and the watch has seen its pauses.
+-- The tally of the space counts what all of them have moved out of Chosen blocks and kept there.
 -- What is left unreclaimed is exactly what can be reached.
-pub record IsDone {I O W : Type 0} (run : Run I O W) : Type 0 where
+pub record IsThreadsDone {I O W : Type 0} (run : Run I O W) : Type 0 where
   pub options : Options
   pub script : Script
   pub history : List Item
@@ -39,6 +40,10 @@ pub record IsDone {I O W : Type 0} (run : Run I O W) : Type 0 where
   pub space_left : IsLeftBy options (length script) history run.space
   pub sights : Sees (length script) history (run.watch.seen run.watch.before) (run.watch.seen run.watch.after) (evacuated_in run.space.tally)
   pub reachable : (n : Name) → IsTrue (has (moment (length script) history).unreclaimed n) ↔ Reachable (moment (length script) history).state n
+
+-- a run is done: its threads have ended, or its script with large objects was played
+abbrev pub IsDone : {I O W : Type 0} → Run I O W → Type 0
+IsDone run = IsThreadsDone run ⊎ IsLargeDone run
 
 -- A run that was cut off at a report: a prefix of what is told pause by pause of a history so far was written, the space is left by it, and the
 -- watch has seen its pauses.
@@ -64,9 +69,9 @@ pub record IsCutOffLate {I O W : Type 0} (run : Run I O W) : Type 0 where
   pub space_left : IsLeftBy options (length script) history run.space
   pub sights : Sees (length script) history (run.watch.seen run.watch.before) (run.watch.seen run.watch.after) (evacuated_in run.space.tally)
 
--- a run was cut off at a report, or at what it prints last
+-- a run of threads was cut off at a report, or at what it prints last; or one with large objects was
 abbrev pub IsCutOff : {I O W : Type 0} → Run I O W → Type 0
-IsCutOff run = IsCutOffEarly run ⊎ IsCutOffLate run
+IsCutOff run = IsCutOffEarly run ⊎ IsCutOffLate run ⊎ IsLargeCutOff run
 
 -- A run that lost its space, since no memory was left as an epoch was to begin: what is told of a history so far was written, and the watch
 -- has seen its pauses.

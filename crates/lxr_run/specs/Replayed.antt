@@ -1,4 +1,4 @@
--- That a run which is done was made by its epochs and pauses, and with a replay by the draws of its generator.
+-- That a run of threads which is done was made by its epochs and pauses, and with a replay by the draws of its generator.
 use Rattle.std.specs.Prelude.{ℕ, Option, List, length}
 use Rattle.lxr_graph.specs.History.{Item}
 use Rattle.lxr_model.specs.Belongs.{Script}

@@ -4,11 +4,12 @@ ghost use Rattle.lxr_text_stream.specs.Streams.{TakesSome};
 ghost use Rattle.lxr_run.specs.Outcome.{HasStopped, IsDone};
 ghost use Rattle.lxr_run.specs.Replayed.{IsReplayed};
 ghost use Rattle.lxr_run.specs.Runs.{run_of, stream, watcher};
-ghost use Rattle.lxr_run.specs.Script.{AsksToRead};
+ghost use Rattle.lxr_run.specs.Script.{AsksForLarge, AsksToRead};
 
 use crate::refusal::Refusal;
-use crate::script::script_for;
+use crate::script::{AnyScript, script_for};
 use lxr_image::Space;
+use lxr_large_run::{open_large, play_large};
 use lxr_run_loop::{open, run_and_print};
 use lxr_run_watch::{Gate, Watch};
 use lxr_text_stream::{Sink, Source, WriteError};
@@ -73,7 +74,7 @@ impl From<WriteError> for Stop {
     }
 }
 
-/// Reads the words and then the script, opens the space and runs the script in it; tells nothing of a refusal.
+/// Reads the words and then the script, opens a space for it and runs or plays it in that; tells nothing of a refusal.
 pub(crate) fn attempt<R: Threads + Sync, I: Source, O: Sink, G: Gate, W: Watch>(
     rt: &R,
     alloc: Global,
@@ -86,14 +87,23 @@ pub(crate) fn attempt<R: Threads + Sync, I: Source, O: Sink, G: Gate, W: Watch>(
 ) -> Result<(), Stop>
     requires { space.old.words ≡ [] }
     ensures done { OnOk result (IsDone (run_of (map (λ word. word.now) words.now) (stream I.left I.faults input.old input.new) (stream O.written O.faults output.old output.new) (watcher W.seen watch.old watch.new) space.new)) }
-    ensures replayed { OnOk result (IsReplayed (run_of (map (λ word. word.now) words.now) (stream I.left I.faults input.old input.new) (stream O.written O.faults output.old output.new) (watcher W.seen watch.old watch.new) space.new)) }
+    ensures replayed { OnOk result (¬ AsksForLarge (map (λ word. word.now) words.now) → IsReplayed (run_of (map (λ word. word.now) words.now) (stream I.left I.faults input.old input.new) (stream O.written O.faults output.old output.new) (watcher W.seen watch.old watch.new) space.new)) }
     ensures stopped { IfErr result (λ why. HasStopped why (run_of (map (λ word. word.now) words.now) (stream I.left I.faults input.old input.new) (stream O.written O.faults output.old output.new) (watcher W.seen watch.old watch.new) space.new)) }
     ensures taken { TakesSome (I.left input.old) (I.left input.new) }
     ensures unread { ¬ AsksToRead (map (λ word. word.now) words.now) → input.new ≡ input.old }
 {
     let options = read_words(alloc, words)?;
     let script = script_for(alloc, options, input)?;
-    let actors = open(alloc, space, options, script)?;
-    run_and_print(rt, alloc, space, actors, options, gate, watch, output)?;
-    Ok(())
+    match script {
+        AnyScript::Threads(lists) => {
+            let actors = open(alloc, space, options, lists)?;
+            run_and_print(rt, alloc, space, actors, options, gate, watch, output)?;
+            Ok(())
+        }
+        AnyScript::Large(operations) => {
+            let run = open_large(alloc, options.blocks, options.bodies, operations)?;
+            *space = play_large(run, options.counts, output)?;
+            Ok(())
+        }
+    }
 }

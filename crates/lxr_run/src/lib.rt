@@ -6,6 +6,8 @@
 //! text that was written is that of one legal history of the script, and the space is what that history leaves. One clause alone,
 //! `replayed`, speaks of steps: with the option `replay` the history is the one that its generator draws.
 //!
+//! A script with large objects is that of one thread, and is played by the calls of a heap in which nothing runs beside the caller.
+//!
 //! While a trace runs, tracers work beside mutators and decrementers. [`one_pause`] makes a pause of the kind that its [`Ask`] and
 //! its [`Pace`] lead to: a plain one, one that begins or ends a trace, or one that collects.
 #![tactic(auto)]
@@ -14,11 +16,12 @@ ghost use Rattle.std.specs.Prelude.{◌≡◌, ◌⊎◌, ℕ, [], List, map};
 ghost use Rattle.lxr_text_script.specs.declared.fault.ScriptFault.{ScriptFault};
 ghost use Rattle.lxr_text_stream.specs.Streams.{TakesSome};
 ghost use Rattle.lxr_words.specs.Options.{reading_of as words_read};
+ghost use Rattle.lxr_words.specs.declared.Options.{Options as OptionsOf};
 ghost use Rattle.lxr_run.specs.Codes.{code_of};
 ghost use Rattle.lxr_run.specs.Outcome.{ComesOrFails, HasEnded};
 ghost use Rattle.lxr_run.specs.Replayed.{IsReplayed};
 ghost use Rattle.lxr_run.specs.Runs.{run_of, stream, watcher};
-ghost use Rattle.lxr_run.specs.Script.{AsksToRead, IsNoScript};
+ghost use Rattle.lxr_run.specs.Script.{AsksForLarge, AsksToRead, IsNoScriptFor};
 
 mod attempt;
 mod refusal;
@@ -76,7 +79,8 @@ impl Status {
 /// The work is done in this order: the words; the input and its script, or for `load` the script that its seed makes; the opening of
 /// the space and of its threads with all the memory that they take; the epochs with their pauses; and what is printed last. `run`
 /// prints the reports of the pauses as they come and then the replies, thread by thread; `map` these and the heap; `load` nine sums.
-/// Without the option `replay` epochs run on threads of the machine, which `rt` starts; with one a generator draws who makes each
+/// `large` plays a script with large objects on a heap of one thread, and prints as `run` does; there are no epochs, neither the gate nor
+/// the watch is called, and where it isn't done it leaves no space. Without the option `replay` epochs run on threads of the machine, which `rt` starts; with one a generator draws who makes each
 /// step, and the same words and input lead to the same output. The gate is called before each operation, and the watch looks at the
 /// space right before and right after each pause.
 ///
@@ -98,12 +102,12 @@ pub fn lxr<R: Threads + Sync, I: Source, O: Sink, E: Sink, G: Gate, W: Watch>(
     // What each status says.
     ensures ended { HasEnded (run_of (map (λ word. word.now) words.now) (stream I.left I.faults input.old input.new) (stream O.written O.faults output.old output.new) (watcher W.seen watch.old watch.new) space.new) (stream E.written E.faults errors.old errors.new) result }
 
-    // The history whose text was written is one that epochs and pauses made; with `--replay`, the one that its generator draws.
-    ensures replayed { result ≡ Status.Done → IsReplayed (run_of (map (λ word. word.now) words.now) (stream I.left I.faults input.old input.new) (stream O.written O.faults output.old output.new) (watcher W.seen watch.old watch.new) space.new) }
+    // But for `large`, the history whose text was written is one that epochs and pauses made; with `--replay`, the one that its generator draws.
+    ensures replayed { result ≡ Status.Done → ¬ AsksForLarge (map (λ word. word.now) words.now) → IsReplayed (run_of (map (λ word. word.now) words.now) (stream I.left I.faults input.old input.new) (stream O.written O.faults output.old output.new) (watcher W.seen watch.old watch.new) space.new) }
 
     // Wrong words and wrong scripts are refused, each of them.
     ensures words { (wrong : WordFault) → words_read (map (λ word. word.now) words.now) ≡ Err wrong → ComesOrFails Status.Words (stream E.written E.faults errors.old errors.new) result }
-    ensures script { (bytes : List ℕ) (wrong : ScriptFault) → AsksToRead (map (λ word. word.now) words.now) → I.left input.old ≡ Some bytes → IsNoScript bytes wrong
+    ensures script { (options : OptionsOf) (bytes : List ℕ) (wrong : ScriptFault) → words_read (map (λ word. word.now) words.now) ≡ Ok options → I.left input.old ≡ Some bytes → IsNoScriptFor options.command bytes wrong
         → (result ≡ Status.ReadFault) ⊎ ComesOrFails Status.Script (stream E.written E.faults errors.old errors.new) result }
 
     // What is read is read from the front, and nothing where the words are refused or ask for a script that is made.

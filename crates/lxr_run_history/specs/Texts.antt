@@ -1,4 +1,4 @@
--- What a run prints, by its command.
+-- What a run of threads prints, by its command. `large` runs none, and nothing is printed of them.
 use Rattle.std.specs.Prelude.{ℕ, Bool, List, [], ◌++◌}
 use Rattle.lxr_graph.specs.History.{Item, PauseReport}
 use Rattle.lxr_image.specs.declared.space.Space.{Space}
@@ -6,7 +6,7 @@ use Rattle.lxr_text_print.specs.Reports.{report_text}
 use Rattle.lxr_text_print.specs.Summary.{summary_text}
 use Rattle.lxr_text_map.specs.Map.{map_text}
 use Rattle.lxr_words.specs.declared.Command.{Command}
-use Rattle.lxr_words.specs.declared.Command.TheVariants.{Load, Map, Run}
+use Rattle.lxr_words.specs.declared.Command.TheVariants.{Large, Load, Map, Run}
 use Rattle.lxr_words.specs.declared.Options.{Options}
 use Rattle.lxr_run_history.specs.Run.{history_text, reports_text}
 use Rattle.lxr_run_history.specs.Sums.{sums_of}
@@ -15,12 +15,14 @@ use Rattle.lxr_run_history.specs.Sums.{sums_of}
 abbrev pub told_report : Command → Bool → PauseReport → List ℕ
 told_report Run counts report = report_text counts report
 told_report Map counts report = report_text counts report
+told_report Large counts report = []
 told_report (Load seed) counts report = []
 
 -- what is printed pause by pause
 abbrev pub told_by : Command → Bool → List Item → List ℕ
 told_by Run counts h = reports_text counts h
 told_by Map counts h = reports_text counts h
+told_by Large counts h = []
 told_by (Load seed) counts h = []
 
 -- what is printed pause by pause with these options
@@ -32,6 +34,7 @@ told_text options h = told_by options.command options.counts h
 abbrev pub text_by : Command → Bool → ℕ → List Item → Space → List ℕ
 text_by Run counts threads h space = history_text counts threads h
 text_by Map counts threads h space = history_text counts threads h ++ map_text space
+text_by Large counts threads h space = []
 text_by (Load seed) counts threads h space = summary_text (sums_of threads h)
 
 -- the whole text with these options

@@ -24,7 +24,7 @@ use Rattle.lxr_text_map.specs.Map.{CanBeMapped, map_text}
 use Rattle.lxr_text_print.specs.Summary.{summary_text}
 use Rattle.lxr_text_print.specs.declared.summary.Sums.{Sums}
 use Rattle.lxr_words.specs.declared.Command.{Command}
-use Rattle.lxr_words.specs.declared.Command.TheVariants.{Load, Map, Run}
+use Rattle.lxr_words.specs.declared.Command.TheVariants.{Large, Load, Map, Run}
 use Rattle.lxr_run_history.specs.Sums.{sums_of}
 use Rattle.lxr_run_history.specs.Texts.{run_text, text_by, told_by, told_text}
 use Rattle.lxr_run_history.proofs.RoomLemmas.{none_chosen}
@@ -100,6 +100,7 @@ mappable task space written seen actors course (h, run, drawn, totals) =
 abbrev pub last_by : Command → List Mutating → Space → Sums → List ℕ
 last_by Run mutators space sums = mutators_text mutators
 last_by Map mutators space sums = mutators_text mutators ++ map_text space
+last_by Large mutators space sums = []
 last_by (Load seed) mutators space sums = summary_text sums
 
 -- the text of a run is what was told of it, and this
@@ -108,6 +109,7 @@ text_by_command : (task : Task) (space : Space) (written : Option (List ℕ)) (s
 text_by_command task space written seen actors h run Run = text_of_run task space written seen actors h run
 text_by_command task space written seen actors h run Map =
     sym (append_assoc (reports_text task.options.counts h) (mutators_text (mutators_in actors)) (map_text space)) ∙ ap (λ z. z ++ map_text space) (text_of_run task space written seen actors h run)
+text_by_command task space written seen actors h run Large = refl
 text_by_command task space written seen actors h run (Load seed) = refl
 
 module _ (task : Task) (space : Space) (written written' : Option (List ℕ)) (seen : Option (List Sight)) (actors : List AnyActor) (course : Course) (h : List Item) (run : HasRunTo task space written seen actors h)

@@ -28,8 +28,8 @@ fn pace_of(options: Options) -> Pace
     }
 }
 
-/// Prints what is told of a pause by the command: its report, with counts where the options want them; `load` tells nothing. After an
-/// error a prefix of the text is written.
+/// Prints what is told of a pause by the command: its report, with counts where the options want them; `load` tells nothing, and `large`
+/// runs no threads. After an error a prefix of the text is written.
 fn tell<O: Sink>(report: &Report, options: &Options, output: &mut O) -> Result<(), WriteError>
     ensures ok { OnOk result (Appends (O.written output.old) (O.written output.new) (told_report options.now.command options.now.counts (report_of report.now))) }
     ensures err { OnErr result (AppendsFront (O.written output.old) (O.written output.new) (told_report options.now.command options.now.counts (report_of report.now))) }
@@ -40,6 +40,7 @@ fn tell<O: Sink>(report: &Report, options: &Options, output: &mut O) -> Result<(
         Command::Run => print_pause(report, options.counts, output),
         Command::Map => print_pause(report, options.counts, output),
         Command::Load(_) => Ok(()),
+        Command::Large => Ok(()),
     }
 }
 

@@ -142,7 +142,8 @@ fn print_heap_too<O: Sink>(
     print_map(space, output)
 }
 
-/// Prints what a run tells at its end, by its command: the replies of all threads; these and the heap; or the sums of the run.
+/// Prints what a run tells at its end, by its command: the replies of all threads; these and the heap; or the sums of the run. `large`
+/// runs no threads.
 pub(crate) fn print_end<O: Sink>(
     space: &Space,
     actors: &[AnyActor],
@@ -160,5 +161,6 @@ pub(crate) fn print_end<O: Sink>(
         Command::Run => print_threads(actors, output),
         Command::Map => print_heap_too(space, actors, output),
         Command::Load(_) => print_summary(&sums(space, actors, totals), output),
+        Command::Large => Ok(()),
     }
 }

@@ -2,7 +2,7 @@
 //!
 //! The counts of a line fill one word, since `GRANULES_IN_LINE` counts of `COUNT_BITS` bits have 64, so a line's test is one
 //! comparison. Of the number of bits nothing else is made use of but here and in the masks of `zero_counts`.
-ghost use Rattle.std.specs.Prelude.{◌≡◌, ◌↔◌, ℕ, ◌+◌, ◌*◌, ◌^◌, ◌<◌, ◌≤◌, IsBitSet, length, slice_index};
+ghost use Rattle.std.specs.Prelude.{◌≡◌, ◌↔◌, ℕ, ◌+◌, ◌*◌, ◌^◌, ◌<◌, ◌≤◌, IsBitSet, IsTrue, length, slice_index};
 ghost use Rattle.lxr_layout.specs.declared.TheConstants.{COUNT_WORDS_IN_BLOCK, GRANULES_IN_BLOCK, GRANULES_IN_LINE, LINES_IN_BLOCK};
 ghost use Rattle.lxr_tables.specs.Entries.{counts_from};
 
@@ -69,4 +69,17 @@ pub fn uncounted_lines<W: Words>(words: &W, base: usize, block: usize) -> u128
     let _count = words.count();
     let first = word_at(words, base, COUNT_WORDS_IN_BLOCK as usize * block);
     zero_lanes(&words_of_lines(words, first))
+}
+
+/// Whether a line of a block has no count but 0: it looks at the line's one word.
+#[inline(always)]
+pub fn is_uncounted<W: Words>(words: &W, base: usize, block: usize, line: usize) -> bool
+    requires block { base + COUNT_WORDS_IN_BLOCK * (block + 1) ≤ length (W.words_of words.now) }
+    requires line { line < LINES_IN_BLOCK }
+    ensures { IsTrue result ↔ ((k : ℕ) → k < GRANULES_IN_LINE → slice_index (counts_from (W.words_of words.now) base) (GRANULES_IN_BLOCK * block + GRANULES_IN_LINE * line + k) ≡ 0) }
+{
+    // The block's counts lie among the words, so their indexes are each a `usize`.
+    let _count = words.count();
+    let first = word_at(words, base, COUNT_WORDS_IN_BLOCK as usize * block);
+    words.get(word_at(words, first, line)) == 0
 }

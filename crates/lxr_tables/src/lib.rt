@@ -26,6 +26,6 @@ pub use closed::ClosedWords;
 pub use counts::{COUNTS_IN_WORD, Lowered, Raised, four, lower_four, raise_four, set_four};
 pub use gathering::zero_counts;
 pub use key::KeyFrom;
-pub use lanes::{uncounted_lines, zero_lanes};
+pub use lanes::{is_uncounted, uncounted_lines, zero_lanes};
 pub use reopening::reopen;
 pub use words::{PlainWords, Words};

@@ -1,4 +1,4 @@
-mod Cutting
+pub mod Cutting
 mod Items
 mod Digits
 pub mod Loops

@@ -15,7 +15,7 @@ mod reading;
 
 pub use fault::{ScriptError, ScriptFault, error_line};
 pub use laws::{accepted_is_spelled, spelled_is_accepted, spelling_is_read_again};
-pub use lines::{Item, Scanner, split_word};
+pub use lines::{Item, Scanner, split_line, split_word};
 use lxr_base::Listed;
 use lxr_graph::Operations;
 pub use numbers::number_of;

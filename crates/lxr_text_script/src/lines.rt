@@ -47,7 +47,7 @@ fn line_end(text: &[u8]) -> Option<usize>
 }
 
 /// The first line, and the bytes after it.
-fn split_line(text: &[u8]) -> (&[u8], &[u8])
+pub fn split_line(text: &[u8]) -> (&[u8], &[u8])
     requires { 0 < length text.now }
     ensures lines { lines text.now ≡ result.0.now ∷ lines result.1.now }
     ensures shorter { length result.1.now < length text.now }

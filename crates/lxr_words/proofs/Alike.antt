@@ -1,6 +1,6 @@
 -- The two spellings of a number are read alike. Where an option waits for its value, both are read as
 -- that value, and neither is a number; so what is compared is the settings that fit.
-use Rattle.std.proofs.Common.{◌≡◌, ◌≢◌, ◌∙◌, ◌&&◌, ◌||◌, ◌++◌, ℕ, Bool, cond, true, false, refl, sym, ap, ap₂, List, [], ◌∷◌, Option, Some, None, option_and_then, is_some, Ok, Err, codes}
+use Rattle.std.proofs.Common.{◌≡◌, ◌≢◌, ◌∙◌, ◌&&◌, ◌||◌, ◌++◌, ℕ, Bool, cond, true, false, refl, sym, ap, ap₂, List, [], ◌∷◌, Option, Some, None, option_and_then, is_some, Result, Ok, Err, codes}
 use Rattle.std.specs.List.{list_all, list_any}
 use Rattle.std.specs.Str.{bytes_eq}
 use Rattle.lxr_words.specs.Grammar.{joined_word, name_word}
@@ -8,7 +8,9 @@ use Rattle.lxr_words.specs.Number.{Text, is_number, value_of}
 use Rattle.lxr_words.specs.Options.{accepted, load_in, options_from, options_in, reading_of, table_of}
 use Rattle.lxr_words.specs.Settings.{KnownOption, Settings, Table, Word, after_word, each_once, fits, is_equals, opens, option_named, settings_in, stray, whole, with_setting, word_for, word_of}
 use Rattle.lxr_words.specs.declared.Command.{Command}
-use Rattle.lxr_words.specs.declared.Command.TheVariants.{Load, Map, Run}
+use Rattle.lxr_words.specs.declared.Command.TheVariants.{Large, Load, Map, Run}
+use Rattle.lxr_words.specs.declared.Options.{Options}
+use Rattle.lxr_words.specs.declared.WordFault.{WordFault}
 use Rattle.lxr_words.specs.declared.WordFault.TheVariants as fault
 use Rattle.lxr_words.proofs.Accepted.{GoodWord, Waiting, good_word, passes_at}
 use Rattle.std.proofs.Math.Bool.{and-false}
@@ -23,6 +25,7 @@ is_number_or flag k = is_some k.range || bytes_eq k.name flag
 one_flag : (command : Command) → list_all (is_number_or (codes "counts")) (table_of command) ≡ true
 one_flag Run = refl
 one_flag Map = refl
+one_flag Large = refl
 one_flag (Load seed) = refl
 
 -- the settings, if each of them fits
@@ -123,8 +126,13 @@ module _ (name value : Text) (after : List Text) (free : list_any is_equals name
       ∙ sym (ap (λ b. cond b (options_in (Load (value_of (joined_word name value))) after) (Err fault.Seed)) no_number_joined)
   same_load (seed ∷ before) = ap (λ r. cond (is_number seed) r (Err fault.Seed)) (same_options (Load (value_of seed)) before)
 
+  -- what is read by the first word
+  abbrev by_word : Text → Result Options WordFault → Result Options WordFault → Result Options WordFault → Result Options WordFault → Result Options WordFault
+  by_word word r m b l =
+      cond (bytes_eq word (codes "run")) r (cond (bytes_eq word (codes "map")) m (cond (bytes_eq word (codes "large")) b (cond (bytes_eq word (codes "load")) l (Err fault.Command))))
+
   pub same_reading : (before : List Text) → reading_of (before ++ apart) ≡ reading_of (before ++ joined)
   same_reading [] = refl
   same_reading (word ∷ before) =
-      ap (λ r. cond (bytes_eq word (codes "run")) r (cond (bytes_eq word (codes "map")) (options_in Map (before ++ apart)) (cond (bytes_eq word (codes "load")) (load_in (before ++ apart)) (Err fault.Command)))) (same_options Run before)
-      ∙ ap₂ (λ m l. cond (bytes_eq word (codes "run")) (options_in Run (before ++ joined)) (cond (bytes_eq word (codes "map")) m (cond (bytes_eq word (codes "load")) l (Err fault.Command)))) (same_options Map before) (same_load before)
+      ap₂ (λ r m. by_word word r m (options_in Large (before ++ apart)) (load_in (before ++ apart))) (same_options Run before) (same_options Map before)
+      ∙ ap₂ (λ b l. by_word word (options_in Run (before ++ joined)) (options_in Map (before ++ joined)) b l) (same_options Large before) (same_load before)

@@ -2,12 +2,12 @@
 use Rattle.std.proofs.Common.{◌≡◌, ◌∙◌, Bool, cond, not, true, false, refl, sym, ap, subst, List, [], ◌∷◌, Option, Some, None, Result, Ok, Err, codes, true≢false, is_ok}
 use Rattle.std.specs.List.{list_all, list_any}
 use Rattle.std.specs.Str.{bytes_eq}
-use Rattle.lxr_words.specs.Grammar.{CommandLine, SpellsOptions, load, map, run}
+use Rattle.lxr_words.specs.Grammar.{CommandLine, SpellsOptions, large, load, map, run}
 use Rattle.lxr_words.specs.Number.{Text, is_number, value_of}
 use Rattle.lxr_words.specs.Options.{accepted, load_in, options_from, options_in, reading_of, table_of}
 use Rattle.lxr_words.specs.Settings.{Settings, is_accepted, is_equals, settings_in}
 use Rattle.lxr_words.specs.declared.Command.{Command}
-use Rattle.lxr_words.specs.declared.Command.TheVariants.{Load, Map, Run}
+use Rattle.lxr_words.specs.declared.Command.TheVariants.{Large, Load, Map, Run}
 use Rattle.lxr_words.specs.declared.Options.{Options}
 use Rattle.lxr_words.specs.declared.WordFault.{WordFault}
 use Rattle.lxr_words.specs.declared.WordFault.TheVariants as fault
@@ -18,6 +18,7 @@ use Rattle.lxr_words.proofs.Spellings.{read_is_spelt, spelt_is_read}
 pub plain_names : (command : Command) → list_all (λ k. not (list_any is_equals k.name)) (table_of command) ≡ true
 plain_names Run = refl
 plain_names Map = refl
+plain_names Large = refl
 plain_names (Load seed) = refl
 
 -- ---- the options of a command
@@ -53,6 +54,7 @@ options_spelt command words options e = go (settings_in (table_of command) words
 pub line_is_read : (words : List Text) (options : Options) → CommandLine words options → reading_of words ≡ Ok options
 line_is_read _ _ (run words options h) = spelt_options Run words options h
 line_is_read _ _ (map words options h) = spelt_options Map words options h
+line_is_read _ _ (large words options h) = spelt_options Large words options h
 line_is_read _ _ (load seed words options n h) =
     ap (λ b. cond b (options_in (Load (value_of seed)) words) (Err fault.Seed)) n ∙ spelt_options (Load (value_of seed)) words options h
 
@@ -66,17 +68,18 @@ load_is_line (seed ∷ words) options e = go (is_number seed) refl
     go true q = load seed words options q
         (options_spelt (Load (value_of seed)) words options (ap (λ b. cond b (options_in (Load (value_of seed)) words) (Err fault.Seed)) (sym q) ∙ e))
 
-abbrev with_command : Bool → Bool → Bool → List Text → Result Options WordFault
-with_command r m l words =
-    cond r (options_in Run words) (cond m (options_in Map words) (cond l (load_in words) (Err fault.Command)))
+abbrev with_command : Bool → Bool → Bool → Bool → List Text → Result Options WordFault
+with_command r m b l words =
+    cond r (options_in Run words) (cond m (options_in Map words) (cond b (options_in Large words) (cond l (load_in words) (Err fault.Command))))
 
 pub read_is_line : (words : List Text) (options : Options) → reading_of words ≡ Ok options → CommandLine words options
 read_is_line [] options e = absurd (true≢false (sym (ap is_ok e)))
-read_is_line (word ∷ words) options e = go (bytes_eq word (codes "run")) refl (bytes_eq word (codes "map")) refl (bytes_eq word (codes "load")) refl e
+read_is_line (word ∷ words) options e = go (bytes_eq word (codes "run")) refl (bytes_eq word (codes "map")) refl (bytes_eq word (codes "large")) refl (bytes_eq word (codes "load")) refl e
   where
-    go : (r : Bool) → bytes_eq word (codes "run") ≡ r → (m : Bool) → bytes_eq word (codes "map") ≡ m → (l : Bool) → bytes_eq word (codes "load") ≡ l
-        → with_command r m l words ≡ Ok options → CommandLine (word ∷ words) options
-    go true p m q l f e = subst (λ w. CommandLine (w ∷ words) options) (sym (same_text word (codes "run") p)) (run words options (options_spelt Run words options e))
-    go false p true q l f e = subst (λ w. CommandLine (w ∷ words) options) (sym (same_text word (codes "map") q)) (map words options (options_spelt Map words options e))
-    go false p false q true f e = subst (λ w. CommandLine (w ∷ words) options) (sym (same_text word (codes "load") f)) (load_is_line words options e)
-    go false p false q false f e = absurd (true≢false (sym (ap is_ok e)))
+    go : (r : Bool) → bytes_eq word (codes "run") ≡ r → (m : Bool) → bytes_eq word (codes "map") ≡ m → (b : Bool) → bytes_eq word (codes "large") ≡ b → (l : Bool) → bytes_eq word (codes "load") ≡ l
+        → with_command r m b l words ≡ Ok options → CommandLine (word ∷ words) options
+    go true p m q b g l f e = subst (λ w. CommandLine (w ∷ words) options) (sym (same_text word (codes "run") p)) (run words options (options_spelt Run words options e))
+    go false p true q b g l f e = subst (λ w. CommandLine (w ∷ words) options) (sym (same_text word (codes "map") q)) (map words options (options_spelt Map words options e))
+    go false p false q true g l f e = subst (λ w. CommandLine (w ∷ words) options) (sym (same_text word (codes "large") g)) (large words options (options_spelt Large words options e))
+    go false p false q false g true f e = subst (λ w. CommandLine (w ∷ words) options) (sym (same_text word (codes "load") f)) (load_is_line words options e)
+    go false p false q false g false f e = absurd (true≢false (sym (ap is_ok e)))

@@ -39,26 +39,31 @@ title = codes "lxr"
 named_all : (which : Command) → option_named (table_of which) [] ≡ None
 named_all command.Run = refl
 named_all command.Map = refl
+named_all command.Large = refl
 named_all (command.Load seed) = refl
 
 pub simple_is : (which : Command) → is_simple_and_free (app_for title (table_of which)) ≡ true
 simple_is command.Run = refl
 simple_is command.Map = refl
+simple_is command.Large = refl
 simple_is (command.Load seed) = refl
 
 plain : (which : Command) (n : Text) → bytes_eq (codes "counts") n ≡ false → list_all (not_flag n) (table_of which) ≡ true
 plain command.Run n e = ap (λ b. not b && true) e
 plain command.Map n e = ap (λ b. not b && true) e
+plain command.Large n e = ap (λ b. not b && true) e
 plain (command.Load seed) n e = refl
 
 owns : (which : Command) → list_all (is_own (table_of which)) number_options ≡ true
 owns command.Run = refl
 owns command.Map = refl
+owns command.Large = refl
 owns (command.Load seed) = refl
 
 within : (which : Command) → list_all (is_within (table_of which) number_options) (table_of which) ≡ true
 within command.Run = refl
 within command.Map = refl
+within command.Large = refl
 within (command.Load seed) = refl
 
 -- ---- texts
@@ -75,6 +80,7 @@ same_fine f h e = rw (
   e (codes "replay") refl,
   e (codes "threads") refl,
   e (codes "rounds") refl,
+  e (codes "bodies") refl,
 ) refl
 
 same_options : (f h : Text → Option Text) (b : Bool) (which : Command) → ((n : Text) → bytes_eq (codes "counts") n ≡ false → f n ≡ h n) → options_by f b which ≡ options_by h b which
@@ -89,6 +95,7 @@ same_options f h b which e = rw (
   e (codes "replay") refl,
   e (codes "threads") refl,
   e (codes "rounds") refl,
+  e (codes "bodies") refl,
 ) refl
 
 -- ---- the flag
@@ -118,7 +125,8 @@ module _ (words : List Text) (g : Settings) (found : Found) (b : Bool) (says : F
       → end_rows title (table_of which) (walk_from nothing_held) words ≡ rows_for g → b ≡ is_set (codes "counts") g
   flag_right command.Run good rows end = flag_known (table_of command.Run) refl good rows end
   flag_right command.Map good rows end = flag_known (table_of command.Map) refl good rows end
-  flag_right (command.Load seed) good rows end = flag_absent number_options refl refl good rows end
+  flag_right command.Large good rows end = flag_known (table_of command.Large) refl good rows end
+  flag_right (command.Load seed) good rows end = flag_absent (table_of (command.Load seed)) refl refl good rows end
 
 -- ---- answers
 

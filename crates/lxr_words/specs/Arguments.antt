@@ -36,9 +36,13 @@ app_for title table = record {
   subs = [];
 }
 
--- the options of every command: the table up to the flag
+-- the options of every command: the first row of the table
 abbrev pub common_options : Table
-common_options = map (λ row. row.option) (take 8 option_rows)
+common_options = map (λ row. row.option) (take 1 option_rows)
+
+-- those of every command that runs threads: the table up to the flag
+abbrev pub thread_options : Table
+thread_options = map (λ row. row.option) (take 8 option_rows)
 
 -- the options of all commands together
 abbrev pub every_option : Table

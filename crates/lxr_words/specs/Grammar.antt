@@ -6,7 +6,7 @@ use Rattle.lxr_words.specs.Number.{Text, is_number, value_of}
 use Rattle.lxr_words.specs.Settings.{Settings, Table, dashes, is_accepted, is_equals, option_named}
 use Rattle.lxr_words.specs.Options.{options_from, reading_of, table_of}
 use Rattle.lxr_words.specs.declared.Command.{Command}
-use Rattle.lxr_words.specs.declared.Command.TheVariants.{Load, Map, Run}
+use Rattle.lxr_words.specs.declared.Command.TheVariants.{Large, Load, Map, Run}
 use Rattle.lxr_words.specs.declared.Options.{Options}
 
 -- the table has an option of that name with a number
@@ -54,6 +54,8 @@ pub data CommandLine : List Text → Options → Type 0 where
       → CommandLine (codes "run" ∷ words) options
   map : (words : List Text) (options : Options) → SpellsOptions Map words options
       → CommandLine (codes "map" ∷ words) options
+  large : (words : List Text) (options : Options) → SpellsOptions Large words options
+      → CommandLine (codes "large" ∷ words) options
   load : (seed : Text) (words : List Text) (options : Options) → is_number seed ≡ true
       → SpellsOptions (Load (value_of seed)) words options
       → CommandLine (codes "load" ∷ seed ∷ words) options

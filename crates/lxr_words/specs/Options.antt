@@ -6,7 +6,7 @@ use Rattle.std.specs.Str.{bytes_eq}
 use Rattle.lxr_words.specs.Number.{Text, is_number, value_of}
 use Rattle.lxr_words.specs.Settings.{KnownOption, Settings, Table, is_accepted, is_set, settings_in, text_of}
 use Rattle.lxr_words.specs.declared.Command.{Command}
-use Rattle.lxr_words.specs.declared.Command.TheVariants.{Load, Map, Run}
+use Rattle.lxr_words.specs.declared.Command.TheVariants.{Large, Load, Map, Run}
 use Rattle.lxr_words.specs.declared.Options.{Options}
 use Rattle.lxr_words.specs.declared.WordError.{WordError}
 use Rattle.lxr_words.specs.declared.WordError.TheVariants.{Fault, Memory}
@@ -28,13 +28,25 @@ all_commands command = true
 abbrev pub script_commands : Command → Bool
 script_commands Run = true
 script_commands Map = true
+script_commands Large = true
 script_commands (Load seed) = false
+
+-- the commands that run threads
+abbrev pub thread_commands : Command → Bool
+thread_commands Run = true
+thread_commands Map = true
+thread_commands Large = false
+thread_commands (Load seed) = true
 
 -- the command `load` alone
 abbrev pub load_command : Command → Bool
-load_command Run = false
-load_command Map = false
 load_command (Load seed) = true
+load_command _ = false
+
+-- the command `large` alone
+abbrev pub large_command : Command → Bool
+large_command Large = true
+large_command _ = false
 
 -- a row of an option with a number
 abbrev pub number_row : Text → ℕ → ℕ → (Command → Bool) → OptionRow
@@ -50,16 +62,17 @@ flag_row name is_of = record { option = record { name = name; range = None }; is
 -- the table: name, least and greatest value, commands
 abbrev pub option_rows : List OptionRow
 option_rows = number_row (codes "blocks") 1 1024 all_commands
-    ∷ number_row (codes "workers") 1 8 all_commands
-    ∷ number_row (codes "every") 1 1048576 all_commands
-    ∷ number_row (codes "log") 1 65536 all_commands
-    ∷ number_row (codes "trace") 1 1000000 all_commands
-    ∷ number_row (codes "within") 1 1000000 all_commands
-    ∷ number_row (codes "remember") 1 1048576 all_commands
-    ∷ number_row (codes "replay") 0 18446744073709551615 all_commands
+    ∷ number_row (codes "workers") 1 8 thread_commands
+    ∷ number_row (codes "every") 1 1048576 thread_commands
+    ∷ number_row (codes "log") 1 65536 thread_commands
+    ∷ number_row (codes "trace") 1 1000000 thread_commands
+    ∷ number_row (codes "within") 1 1000000 thread_commands
+    ∷ number_row (codes "remember") 1 1048576 thread_commands
+    ∷ number_row (codes "replay") 0 18446744073709551615 thread_commands
     ∷ flag_row (codes "counts") script_commands
     ∷ number_row (codes "threads") 1 16 load_command
     ∷ number_row (codes "rounds") 1 100000 load_command
+    ∷ number_row (codes "bodies") 1 1024 large_command
     ∷ []
 
 -- the options that a command has
@@ -87,6 +100,7 @@ options_by text counts command = record {
   replay = option_map value_of (text (codes "replay"));
   threads = number_or 4 (text (codes "threads"));
   rounds = number_or 1000 (text (codes "rounds"));
+  bodies = number_or 64 (text (codes "bodies"));
 }
 
 -- the options of the command by the settings
@@ -119,7 +133,8 @@ reading_of [] = Err fault.Command
 reading_of (word ∷ words) =
     if bytes_eq word (codes "run") then options_in Run words
     else (if bytes_eq word (codes "map") then options_in Map words
-    else (if bytes_eq word (codes "load") then load_in words else Err fault.Command))
+    else (if bytes_eq word (codes "large") then options_in Large words
+    else (if bytes_eq word (codes "load") then load_in words else Err fault.Command)))
 
 -- the answer is that reading, unless memory ran out
 abbrev pub Answers : Result Options WordFault → Result Options WordError → Type 0

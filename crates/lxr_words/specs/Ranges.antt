@@ -1,13 +1,14 @@
 -- The ranges of the options that words ask for.
 use Rattle.std.specs.Prelude.{ℕ, ◌^◌, ◌<◌, ◌≤◌, ⊤, Option, IfSome}
 use Rattle.lxr_words.specs.declared.Command.{Command}
-use Rattle.lxr_words.specs.declared.Command.TheVariants.{Load, Map, Run}
+use Rattle.lxr_words.specs.declared.Command.TheVariants.{Large, Load, Map, Run}
 use Rattle.lxr_words.specs.declared.Options.{Options}
 
 -- the seed of a command is below 2^64
 abbrev pub IsCommand : Command → Type 0
 IsCommand Run = ⊤
 IsCommand Map = ⊤
+IsCommand Large = ⊤
 IsCommand (Load seed) = seed < 2 ^ 64
 
 -- each option has a number in its range
@@ -23,3 +24,4 @@ pub record AreInRange (options : Options) : Type 0 where
   pub replay : IfSome options.replay (λ x. x < 2 ^ 64)
   pub threads : (1 ≤ options.threads) × (options.threads ≤ 16)
   pub rounds : (1 ≤ options.rounds) × (options.rounds ≤ 100000)
+  pub bodies : (1 ≤ options.bodies) × (options.bodies ≤ 1024)

@@ -7,10 +7,11 @@ ghost use Rattle.std.specs.Str.{bytes_eq};
 ghost use Rattle.clap.specs.Simple.{app_of};
 ghost use Rattle.lxr_words.specs.Settings.{dashes};
 ghost use Rattle.lxr_words.specs.Options.{table_of};
-ghost use Rattle.lxr_words.specs.Arguments.{Finds, app_for, common_options};
+ghost use Rattle.lxr_words.specs.Arguments.{Finds, app_for, common_options, thread_options};
 
 use crate::table::{
-    BLOCKS, COUNTS, EVERY, LOG, REMEMBER, REPLAY, ROUNDS, THREADS, TRACE, WITHIN, WORKERS, flag,
+    BLOCKS, BODIES, COUNTS, EVERY, LOG, REMEMBER, REPLAY, ROUNDS, THREADS, TRACE, WITHIN, WORKERS,
+    flag,
 };
 use crate::{Command, WordError, WordFault};
 use clap::ArgMatches;
@@ -46,14 +47,16 @@ fn word_error(kind: ErrorKind) -> WordError
     }
 }
 
-// The arguments of a command: those of every command, and then its own.
+// The arguments of a command: those that it shares with others, and then its own.
 fn arguments_of<'a>(alloc: Global, command: Command) -> Result<clap::Command<'a>, AllocError>
     ensures { IfOk result (λ r. app_of r ≡ app_for (codes "lxr") (table_of command)) }
 {
-    let common = common_arguments(alloc)?;
     match command {
-        Command::Run | Command::Map => common.arg(flag(alloc, COUNTS)),
-        Command::Load(_) => common
+        Command::Run | Command::Map => thread_arguments(alloc)?.arg(flag(alloc, COUNTS)),
+        Command::Large => common_arguments(alloc)?
+            .arg(flag(alloc, COUNTS))?
+            .arg(BODIES.argument(alloc)),
+        Command::Load(_) => thread_arguments(alloc)?
             .arg(THREADS.argument(alloc))?
             .arg(ROUNDS.argument(alloc)),
     }
@@ -66,7 +69,14 @@ fn common_arguments<'a>(alloc: Global) -> Result<clap::Command<'a>, AllocError>
     clap::Command::new(alloc, "lxr")
         .no_binary_name(true)
         .disable_help_flag(true)
-        .arg(BLOCKS.argument(alloc))?
+        .arg(BLOCKS.argument(alloc))
+}
+
+// The arguments of every command that runs threads.
+fn thread_arguments<'a>(alloc: Global) -> Result<clap::Command<'a>, AllocError>
+    ensures { IfOk result (λ r. app_of r ≡ app_for (codes "lxr") thread_options) }
+{
+    common_arguments(alloc)?
         .arg(WORKERS.argument(alloc))?
         .arg(EVERY.argument(alloc))?
         .arg(LOG.argument(alloc))?

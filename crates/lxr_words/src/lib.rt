@@ -1,7 +1,7 @@
 //! The words of the command line: which command the program carries out, and under which options.
 //!
 //! [`read_words`] takes the words after the program's own name. The first is the command, `run`,
-//! `load` or `map`; after `load` comes the seed; all others are options. Each option is given at
+//! `map`, `large` or `load`; after `load` comes the seed; all others are options. Each option is given at
 //! most once, in any order, as `--name value` or as `--name=value`, where the value is a number in
 //! the option's range; the flag `--counts` has no value. Nothing else is accepted: no `--`, no
 //! `--help`, no shortened name. A number is one decimal digit or more, without a sign; leading
@@ -10,16 +10,17 @@
 //! | Option | Range | Default | Commands |
 //! |---|---|---|---|
 //! | `--blocks` | 1 to 1,024 | 64 | all |
-//! | `--workers` | 1 to 8 | 2 | all |
-//! | `--every` | 1 to 1,048,576 | 1,024 | all |
-//! | `--log` | 1 to 65,536 | 1,024 | all |
-//! | `--trace` | 1 to 1,000,000 | 8 | all |
-//! | `--within` | 1 to 1,000,000 | 4 | all |
-//! | `--remember` | 1 to 1,048,576 | 4,096 | all |
-//! | `--replay` | below 2^64 | absent | all |
-//! | `--counts` | no value | off | `run`, `map` |
+//! | `--workers` | 1 to 8 | 2 | `run`, `map`, `load` |
+//! | `--every` | 1 to 1,048,576 | 1,024 | `run`, `map`, `load` |
+//! | `--log` | 1 to 65,536 | 1,024 | `run`, `map`, `load` |
+//! | `--trace` | 1 to 1,000,000 | 8 | `run`, `map`, `load` |
+//! | `--within` | 1 to 1,000,000 | 4 | `run`, `map`, `load` |
+//! | `--remember` | 1 to 1,048,576 | 4,096 | `run`, `map`, `load` |
+//! | `--replay` | below 2^64 | absent | `run`, `map`, `load` |
+//! | `--counts` | no value | off | `run`, `map`, `large` |
 //! | `--threads` | 1 to 16 | 4 | `load` |
 //! | `--rounds` | 1 to 100,000 | 1,000 | `load` |
+//! | `--bodies` | 1 to 1,024 | 64 | `large` |
 #![tactic(auto)]
 
 ghost use Rattle.std.specs.Prelude.{◌≡◌};
@@ -44,6 +45,8 @@ pub enum Command {
     Load(u64),
     /// Runs a script, and prints the heap at its end.
     Map,
+    /// Runs a script of one thread with large objects.
+    Large,
 }
 
 /// The command and its options. An option that the words leave out, or that the command does not
@@ -74,6 +77,8 @@ pub struct Options {
     pub threads: u8,
     /// The number of rounds of each thread of a generated script.
     pub rounds: u32,
+    /// The room for the bodies of large objects, in blocks.
+    pub bodies: u32,
 }
 
 /// What is wrong with the words.

@@ -12,7 +12,7 @@ ghost use Rattle.lxr_words.specs.Ranges.{AreInRange};
 use crate::arguments::matches_among;
 use crate::digits::number_in;
 use crate::table::{
-    BLOCKS, COUNTS, EVERY, LOG, REMEMBER, REPLAY, ROUNDS, THREADS, TRACE, WITHIN, WORKERS,
+    BLOCKS, BODIES, COUNTS, EVERY, LOG, REMEMBER, REPLAY, ROUNDS, THREADS, TRACE, WITHIN, WORKERS,
 };
 use crate::{Command, Options, WordError, WordFault};
 use clap::ArgMatches;
@@ -31,6 +31,7 @@ pub fn read_words(alloc: Global, words: &[&str]) -> Result<Options, WordError>
     match *word {
         "run" => read_options(alloc, Command::Run, rest),
         "map" => read_options(alloc, Command::Map, rest),
+        "large" => read_options(alloc, Command::Large, rest),
         "load" => read_load(alloc, rest),
         _ => Err(WordError::Fault(WordFault::Command)),
     }
@@ -97,5 +98,6 @@ fn options_among(
         replay: REPLAY.number(matches)?,
         threads: THREADS.number_or(matches, 4)? as u8,
         rounds: ROUNDS.number_or(matches, 1000)? as u32,
+        bodies: BODIES.number_or(matches, 64)? as u32,
     })
 }

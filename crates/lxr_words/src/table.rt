@@ -81,6 +81,12 @@ pub(crate) const ROUNDS: NumberOption = NumberOption {
     greatest: 100_000,
 };
 
+pub(crate) const BODIES: NumberOption = NumberOption {
+    name: "bodies",
+    least: 1,
+    greatest: 1024,
+};
+
 // The flag, by its name.
 pub(crate) const COUNTS: &str = "counts";
 

@@ -1,4 +1,4 @@
-use Rattle.std.proofs.Common.{◌≡◌, ◌<◌, ◌≤◌, ◌+◌, ◌*◌, subst, arith}
+use Rattle.std.proofs.Common.{subst, arith}
 use Rattle.lxr_direct.specs.Operating.{IsBase}
 use Rattle.lxr_direct.proofs.FieldLemmas.{put_done, put_of_nil, put_past}
 use Rattle.lxr_direct.proofs.fields.put.Goals as goal

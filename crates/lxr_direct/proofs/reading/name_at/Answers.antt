@@ -1,5 +1,4 @@
-use Rattle.std.proofs.Common.{sym, ap, subst, ◌∙◌}
-use Rattle.std.specs.Prelude.{Some}
+use Rattle.std.proofs.Common.{sym, subst}
 use Rattle.lxr_direct.specs.Operating.{Tells}
 use Rattle.lxr_direct.proofs.reading.name_at.Goals as goal
 

@@ -1,6 +1,6 @@
 use Rattle.std.proofs.Common.{rules, ◌-◌, ◌*◌, ap, ◌∙◌, arith}
 use Rattle.std.proofs.lemmas.List.Edits.{fill_from_more}
-use Rattle.lxr_direct.specs.Operating.{nil, with_places}
+use Rattle.lxr_direct.specs.Operating.{nil}
 use Rattle.lxr_direct.proofs.registers.clear.Goals as goal
 
 pub loop-register-preserved : goal.loop-register-preserved

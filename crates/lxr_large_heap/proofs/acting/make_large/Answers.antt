@@ -1,4 +1,4 @@
-use Rattle.std.proofs.Common.{rules, ◌+◌, ◌≡◌, ◌≤◌, refl, sym, ap, subst, ◌∙◌, inl, inr, arith}
+use Rattle.std.proofs.Common.{rules, ◌+◌, ◌≡◌, refl, sym, subst, ◌∙◌, inl, inr, arith}
 use Rattle.std.specs.Prelude.{true, false}
 use Rattle.lxr_layout.specs.declared.Name.{Name}
 use Rattle.lxr_run_placing.specs.Placing.{Serves}
@@ -6,8 +6,7 @@ use Rattle.lxr_direct.proofs.MakingLemmas.{make_done, servable}
 use Rattle.lxr_large_model.specs.declared.LargeOp.TheVariants as large_op
 use Rattle.lxr_large_model.specs.declared.LargeReply.TheVariants as large_reply
 use Rattle.lxr_large_model.specs.State.{handle}
-use Rattle.lxr_large_bodies.specs.Bodies.{Held}
-use Rattle.lxr_large_heap.specs.Acting.{Acts, FindsNoPlace, HasRun}
+use Rattle.lxr_large_heap.specs.Acting.{Acts, HasRun}
 use Rattle.lxr_large_heap.specs.Holding.{abstract_after}
 use Rattle.lxr_large_heap.proofs.ActingLemmas.{is_placed, next_has_none, no_place_big, refusal, replied_big}
 use Rattle.lxr_large_heap.proofs.HeapLemmas.{may_operate, one_thread}

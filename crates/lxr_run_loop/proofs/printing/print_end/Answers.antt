@@ -1,7 +1,8 @@
 use Rattle.std.proofs.Common.{sym, ap, ◌∙◌, refl}
+use Rattle.lxr_text_stream.proofs.StreamLemmas.{Appends-nil}
 use Rattle.lxr_run_history.specs.Sums.{sums_of}
 use Rattle.lxr_run_invariant.specs.LoopInvariant.{threads_of}
-use Rattle.lxr_words.specs.declared.Command.TheVariants.{Load, Map, Run}
+use Rattle.lxr_words.specs.declared.Command.TheVariants.{Large, Load, Map, Run}
 use Rattle.lxr_words.specs.declared.Options.{Options}
 use Rattle.lxr_run_loop.specs.Printed.{SomeIsComplete}
 use Rattle.lxr_run_loop.proofs.PrintedLemmas.{mappable, on_err, on_ok, printable, printed_front, printed_whole}
@@ -54,6 +55,11 @@ returns-in-Map-clause-err g c = on_err (λ printed. λ task with_options seen co
     printed_front task c.args.space.now (g.O.Sink.written c.args.output.now) (g.O.Sink.written c.print_heap_too.new.output) seen c.args.actors.now course h run Map (ap (λ (o : Options). o.command) with_options ∙ c.in-Map.is)
     (sums_of (threads_of task) h) refl printed)
     c.print_heap_too.result c.print_heap_too.ensures.err
+
+pub returns-in-Large-clause-ok : goal.returns-in-Large-clause-ok
+returns-in-Large-clause-ok g c = λ task with_options seen course same (h, run, drawn, totals).
+    printed_whole task c.args.space.now (g.O.Sink.written c.args.output.now) (g.O.Sink.written c.args.output.now) seen c.args.actors.now course h run Large (ap (λ (o : Options). o.command) with_options ∙ c.in-Large.is)
+    (sums_of (threads_of task) h) refl drawn (Appends-nil (g.O.Sink.written c.args.output.now))
 
 pub returns-in-Load-clause-ok : goal.returns-in-Load-clause-ok
 returns-in-Load-clause-ok g c = on_ok (λ printed. λ task with_options seen course same (h, run, drawn, totals).

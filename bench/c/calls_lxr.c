@@ -1,0 +1,126 @@
+/*
+ * calls_lxr.c: what the calls of lxr.h cost. SPDX: MIT OR Apache-2.0
+ *
+ * usage: calls_lxr calls               each call, a line with its name and its nanoseconds
+ *        calls_lxr new LIVE EVERY      a new object beside LIVE others: dropped at once, and put in the place of one of them
+ *        calls_lxr pauses LIVE EVERY   the pauses while objects are replaced so
+ *
+ * The heap has three times what LIVE objects take, with lxr_pause_every(EVERY).
+ */
+#include "bench.h"
+
+#include <lxr.h>
+#include <string.h>
+
+enum { WORLD, TOP, TABLE, MADE, OBJECT, OTHER, BODY, SPARE };
+
+static lxr_heap heap;
+
+static void must(uint32_t code) {
+    if (code == LXR_OK) return;
+    fprintf(stderr, "calls_lxr: %s\n", lxr_message(code));
+    exit(1);
+}
+
+static void measure_calls(void) {
+    static uint64_t words[LXR_BLOCK_WORDS];
+    uint64_t word = 0;
+    uint32_t answer = 0, refs, data, blocks;
+    must(lxr_open(&heap, 64, 64));
+    must(lxr_new(&heap, OBJECT, 4, 4));
+    must(lxr_new(&heap, OTHER, 4, 4));
+    must(lxr_new(&heap, TABLE, IN_TABLE, 0));
+    must(lxr_big(&heap, BODY, 1));
+    must(lxr_pause(&heap));
+    for (uint32_t at = 0; at < 4; at++) must(lxr_store(&heap, OBJECT, at, OTHER));
+    MEASURE_CALL("lxr_version", answer += lxr_version());
+    MEASURE_CALL("lxr_load", lxr_load(&heap, MADE, OBJECT, i & 3));
+    MEASURE_CALL("lxr_store", lxr_store(&heap, OBJECT, i & 3, OTHER));
+    MEASURE_AFTER("lxr_store, the first since a pause", 1000, IN_TABLE, must(lxr_pause(&heap)), lxr_store(&heap, TABLE, i, OTHER));
+    MEASURE_CALL("lxr_get", lxr_get(&heap, OBJECT, i & 3, &word));
+    MEASURE_CALL("lxr_put", lxr_put(&heap, OBJECT, i & 3, i));
+    MEASURE_CALL("lxr_same", lxr_same(&heap, OBJECT, OTHER, &answer));
+    MEASURE_CALL("lxr_move", lxr_move(&heap, SPARE, OTHER));
+    MEASURE_CALL("lxr_nil", lxr_nil(&heap, SPARE));
+    MEASURE_CALL("lxr_is_nil", lxr_is_nil(&heap, SPARE, &answer));
+    MEASURE_CALL("lxr_shape", lxr_shape(&heap, OBJECT, &refs, &data, &blocks));
+    MEASURE_CALL("lxr_bget", lxr_bget(&heap, BODY, i & 4095, &word));
+    MEASURE_CALL("lxr_bput", lxr_bput(&heap, BODY, i & 4095, i));
+    MEASURE("lxr_bread, 4,096 words", 20, 1000, lxr_bread(&heap, BODY, 0, words, LXR_BLOCK_WORDS));
+    MEASURE("lxr_bwrite, 4,096 words", 20, 1000, lxr_bwrite(&heap, BODY, 0, words, LXR_BLOCK_WORDS));
+    MEASURE_CALL("lxr_count, pauses", lxr_count(&heap, LXR_PAUSES, &word));
+    MEASURE("lxr_count, free blocks", 20, 1000, lxr_count(&heap, LXR_FREE_BLOCKS, &word));
+    MEASURE("lxr_pause, nothing to do", 20, 1000, lxr_pause(&heap));
+    MEASURE("lxr_collect, nothing to do", 20, 1000, lxr_collect(&heap));
+    MEASURE("lxr_new of 4 words, dropped at once", 5, 1000000, lxr_new(&heap, MADE, 2, 2));
+    must(lxr_pause_every(&heap, 10000));
+    MEASURE("lxr_new of 4 words, dropped at once, a pause every 10,000", 5, 1000000, lxr_new(&heap, MADE, 2, 2));
+    must(lxr_pause_every(&heap, 0));
+    MEASURE("lxr_big of one block, dropped at once", 20, 1000, lxr_big(&heap, BODY, 1));
+    must(lxr_close(&heap));
+}
+
+/* As many live objects as are told, in tables of the object TOP; the heap has three times the blocks that they take. */
+static void fill(uint32_t live, uint32_t every) {
+    uint64_t bytes = (uint64_t)live * OBJECT_BYTES + (uint64_t)live / IN_TABLE * (IN_TABLE + 2) * 8;
+    must(lxr_open(&heap, (uint32_t)(3 * bytes / 32768 + 1), 1));
+    must(lxr_pause_every(&heap, every));
+    must(lxr_new(&heap, TOP, live / IN_TABLE, 0));
+    for (uint32_t table = 0; table < live / IN_TABLE; table++) {
+        must(lxr_new(&heap, TABLE, IN_TABLE, 0));
+        must(lxr_store(&heap, TOP, table, TABLE));
+        for (uint32_t at = 0; at < IN_TABLE; at++) {
+            must(lxr_new(&heap, MADE, 2, 2));
+            must(lxr_store(&heap, TABLE, at, MADE));
+        }
+    }
+}
+
+static inline void replace_one(uint32_t live) {
+    uint32_t drawn = draw(live);
+    lxr_load(&heap, TABLE, TOP, drawn / IN_TABLE);
+    must(lxr_new(&heap, MADE, 2, 2));
+    lxr_store(&heap, TABLE, drawn % IN_TABLE, MADE);
+}
+
+static void measure_new(uint32_t live, uint32_t every) {
+    char name[80];
+    fill(live, every);
+    snprintf(name, sizeof name, "a new object dropped at once, beside %u", live);
+    MEASURE(name, 5, 1000000, must(lxr_new(&heap, MADE, 2, 2)));
+    snprintf(name, sizeof name, "one of %u objects replaced by a new one", live);
+    MEASURE(name, 5, 1000000, replace_one(live));
+    must(lxr_close(&heap));
+}
+
+/* A pause is made by lxr_new, or by lxr_store where the log is full. */
+static void measure_pauses(uint32_t live, uint32_t every) {
+    struct pauses pauses = { NULL, 0, 0 };
+    uint64_t before = 0, after = 0;
+    char name[80];
+    fill(live, every);
+    must(lxr_count(&heap, LXR_PAUSES, &before));
+    for (uint32_t at = 0; at < 2000000; at++) {
+        double begun = now();
+        replace_one(live);
+        double ended = now();
+        lxr_count(&heap, LXR_PAUSES, &after);
+        if (after != before) keep_pause(&pauses, ended - begun);
+        before = after;
+    }
+    snprintf(name, sizeof name, "lxr, %u live, every %u", live, every);
+    print_pauses(name, &pauses);
+    must(lxr_close(&heap));
+}
+
+int main(int count, char **words) {
+    if (count == 2 && strcmp(words[1], "calls") == 0) {
+        measure_calls();
+    } else if (count == 4) {
+        uint32_t live = (uint32_t)strtoul(words[2], NULL, 10), every = (uint32_t)strtoul(words[3], NULL, 10);
+        (strcmp(words[1], "new") == 0 ? measure_new : measure_pauses)(live, every);
+    } else {
+        return 2;
+    }
+    return 0;
+}

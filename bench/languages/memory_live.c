@@ -1,0 +1,105 @@
+/*
+ * The heap on plain malloc, which tells how much of it lives. SPDX: MIT OR Apache-2.0
+ *
+ * From time to time it marks what registers lead to, and sums it up as the collector's heap has it: a header of eight bytes, and eight for
+ * each reference and word, in steps of sixteen. The greatest sum is told at the end, for small and for large objects.
+ */
+#include "memory.h"
+#include <stdlib.h>
+#include <string.h>
+
+enum { STEP = 16, HEADER = 8, FIELD = 8, LEAST_BETWEEN = 65536 };
+
+typedef struct object {
+    uint32_t references, words;
+    uint64_t marked; /* by which marking */
+} Object;
+
+static Object *registers[MEMORY_REGISTERS];
+static Object **stack;
+static size_t stacked, stack_room;
+static uint64_t marking, made, next_marking = LEAST_BETWEEN, most_small, most_large;
+
+static Object **references_of(Object *object) { return (Object **)(void *)(object + 1); }
+
+static Word *words_of(Object *object) { return (Word *)(void *)(references_of(object) + object->references); }
+
+static uint64_t bytes_of(const Object *object) {
+    return (HEADER + FIELD * ((uint64_t)object->references + object->words) + STEP - 1) / STEP * STEP;
+}
+
+static void reach(Object *object) {
+    if (!object || object->marked == marking) return;
+    object->marked = marking;
+    if (stacked == stack_room) {
+        stack_room = stack_room ? 2 * stack_room : 1024;
+        stack = realloc(stack, stack_room * sizeof(Object *));
+        if (!stack) abort();
+    }
+    stack[stacked++] = object;
+}
+
+static void mark(void) {
+    uint64_t small = 0, large = 0;
+    marking++;
+    for (unsigned i = 0; i < MEMORY_REGISTERS; i++) reach(registers[i]);
+    while (stacked) {
+        Object *const object = stack[--stacked];
+        *(object->words > OBJECT_MOST ? &large : &small) += bytes_of(object);
+        for (uint32_t i = 0; i < object->references; i++) reach(references_of(object)[i]);
+    }
+    if (small > most_small) most_small = small;
+    if (large > most_large) most_large = large;
+    next_marking = made + (small + large) / 8 + LEAST_BETWEEN;
+}
+
+static bool make(unsigned dest, size_t references, size_t words) {
+    Object *const object = calloc(1, sizeof *object + references * sizeof(Object *) + words * sizeof(Word));
+    if (!object) return false;
+    object->references = (uint32_t)references;
+    object->words = (uint32_t)words;
+    registers[dest] = object;
+    made += bytes_of(object);
+    if (made > next_marking) mark();
+    return true;
+}
+
+bool memory_open(const MemoryOptions *options) {
+    (void)options;
+    return true;
+}
+
+void memory_close(void) {}
+
+bool memory_new(unsigned dest, unsigned references, unsigned words) { return make(dest, references, words); }
+
+void memory_load(unsigned dest, unsigned base, unsigned index) { registers[dest] = references_of(registers[base])[index]; }
+
+void memory_store(unsigned base, unsigned index, unsigned source) { references_of(registers[base])[index] = registers[source]; }
+
+Word memory_get(unsigned base, unsigned index) { return words_of(registers[base])[index]; }
+
+void memory_put(unsigned base, unsigned index, Word word) { words_of(registers[base])[index] = word; }
+
+void memory_move(unsigned dest, unsigned source) { registers[dest] = registers[source]; }
+
+void memory_nil(unsigned dest) { registers[dest] = NULL; }
+
+bool memory_same(unsigned left, unsigned right) { return registers[left] == registers[right]; }
+
+bool memory_big(unsigned dest, unsigned blocks) { return make(dest, 0, (size_t)blocks * BODY_BLOCK_WORDS); }
+
+void memory_read(unsigned base, size_t index, Word *into, size_t count) {
+    memcpy(into, words_of(registers[base]) + index, count * sizeof *into);
+}
+
+void memory_write(unsigned base, size_t index, const Word *from, size_t count) {
+    memcpy(words_of(registers[base]) + index, from, count * sizeof *from);
+}
+
+void memory_collect(void) { mark(); }
+
+void memory_report(FILE *to) {
+    fprintf(to, "live: %llu bytes of objects, %llu of bodies, of %llu made\n", (unsigned long long)most_small,
+            (unsigned long long)most_large, (unsigned long long)made);
+}

@@ -1,0 +1,4 @@
+pub mod AsBox
+pub mod OperationLemmas
+pub mod RoomLemmas
+pub mod CallLemmas

@@ -1,0 +1,7 @@
+use Rattle.std.proofs.Common.{subst}
+use Rattle.lxr_c.specs.Calling.{Asks}
+use Rattle.lxr_c.specs.Hosting.{Stores}
+use Rattle.lxr_c.proofs.lxr_store.Goals as goal
+
+pub returns : goal.returns
+returns c = (c.store.result, subst (λ q. Asks Stores c.args.heap.now.block.value c.store.new.self.block.value q c.store.result) c.set_reference.ensures.asked c.store.ensures, c.answered.ensures)

@@ -1,0 +1,39 @@
+-- What calls answer.
+use Rattle.std.specs.Prelude.{ℕ, Result, Ok, Err}
+use Rattle.lxr_graph.specs.declared.Reply.TheVariants as reply
+use Rattle.lxr_large_model.specs.declared.LargeReply.{LargeReply}
+use Rattle.lxr_large_model.specs.declared.LargeReply.TheVariants as large_reply
+use Rattle.lxr_c.specs.declared.codes.Code.{Code}
+use Rattle.lxr_c.specs.declared.codes.Code.TheVariants as code
+
+-- the number of a code, as the header has it
+abbrev pub number_of : Code → ℕ
+number_of code.Done = 0
+number_of code.NoHeap = 1
+number_of code.InUse = 2
+number_of code.Register = 3
+number_of code.Size = 4
+number_of code.Nil = 5
+number_of code.Index = 6
+number_of code.Full = 7
+number_of code.Memory = 8
+number_of code.What = 9
+
+-- the code of a reply: an operation was done, but where the reply is one of these
+abbrev pub code_of : LargeReply → Code
+code_of (large_reply.Small reply.Bad) = code.Nil
+code_of (large_reply.Small reply.Range) = code.Index
+code_of (large_reply.Small reply.Full) = code.Full
+code_of large_reply.Bad = code.Nil
+code_of large_reply.Range = code.Index
+code_of large_reply.Full = code.Full
+code_of r = code.Done
+
+-- what a call is answered: the reply of its operation, or a code where it comes to none
+abbrev pub Answer : Type 0
+Answer = Result LargeReply Code
+
+-- the number that the program gets for it
+abbrev pub answered : Answer → ℕ
+answered (Ok r) = number_of (code_of r)
+answered (Err e) = number_of e

@@ -1,0 +1,93 @@
+-- The operation that a call asks for, by the numbers that a program in C gives.
+use Rattle.std.specs.Prelude.{ℕ, ◌&&◌, nat_le, nat_lt, if◌then◌else◌, Result, Ok, Err}
+use Rattle.lxr_graph.specs.declared.Op.TheVariants as op
+use Rattle.lxr_large_model.specs.declared.LargeOp.{LargeOp}
+use Rattle.lxr_large_model.specs.declared.LargeOp.TheVariants as large_op
+use Rattle.lxr_large_model.specs.declared.TheConstants.{MOST_BODY_BLOCKS}
+use Rattle.lxr_large_heap.specs.Acting.{MayBeCalled}
+use Rattle.lxr_c.specs.declared.codes.Code.{Code}
+use Rattle.lxr_c.specs.declared.codes.Code.TheVariants as code
+
+-- an operation that a heap may be called with, or the code of what is wrong with the numbers
+abbrev pub Request : Type 0
+Request = Result LargeOp Code
+
+-- ---- numbers
+
+-- the register of a number: there are sixteen
+abbrev pub register_of : ℕ → Result ℕ Code
+register_of r = if nat_lt r 16 then Ok r else Err code.Register
+
+-- so many references, or data words: an object has at most 1,023 of each
+abbrev pub size_of : ℕ → Result ℕ Code
+size_of n = if nat_le n 1023 then Ok n else Err code.Size
+
+-- so many blocks of a body
+abbrev pub blocks_of : ℕ → Result ℕ Code
+blocks_of n = if nat_le 1 n && nat_le n MOST_BODY_BLOCKS then Ok n else Err code.Size
+
+-- The index that an operation has for one that was given. An object has at most 1,023 references and data words, so from 65,535 on all indexes
+-- find the same, which is nothing.
+abbrev pub index_of : ℕ → ℕ
+index_of i = if nat_lt i 65536 then i else 65535
+
+-- what follows of a number that fits, or the code of what is wrong with it
+abbrev pub with_number : Result ℕ Code → (ℕ → Request) → Request
+with_number (Ok n) next = next n
+with_number (Err e) next = Err e
+
+-- ---- calls
+
+abbrev pub new : ℕ → ℕ → ℕ → Request
+new dest refs words =
+    with_number (register_of dest) (λ d. with_number (size_of refs) (λ r. with_number (size_of words) (λ w. Ok (large_op.Small (op.New d (record { refs = r; values = w }))))))
+
+abbrev pub big : ℕ → ℕ → Request
+big dest blocks = with_number (register_of dest) (λ d. with_number (blocks_of blocks) (λ b. Ok (large_op.Big d b)))
+
+abbrev pub store : ℕ → ℕ → ℕ → Request
+store base index source = with_number (register_of base) (λ b. with_number (register_of source) (λ s. Ok (large_op.Small (op.Store b (index_of index) s))))
+
+abbrev pub load : ℕ → ℕ → ℕ → Request
+load dest base index = with_number (register_of dest) (λ d. with_number (register_of base) (λ b. Ok (large_op.Small (op.Load d b (index_of index)))))
+
+abbrev pub get : ℕ → ℕ → Request
+get base index = with_number (register_of base) (λ b. Ok (large_op.Small (op.Get b (index_of index))))
+
+abbrev pub put : ℕ → ℕ → ℕ → Request
+put base index value = with_number (register_of base) (λ b. Ok (large_op.Small (op.Put b (index_of index) value)))
+
+abbrev pub same : ℕ → ℕ → Request
+same left right = with_number (register_of left) (λ l. with_number (register_of right) (λ r. Ok (large_op.Small (op.Same l r))))
+
+abbrev pub copy : ℕ → ℕ → Request
+copy dest source = with_number (register_of dest) (λ d. with_number (register_of source) (λ s. Ok (large_op.Small (op.Move d s))))
+
+abbrev pub nil : ℕ → Request
+nil dest = with_number (register_of dest) (λ d. Ok (large_op.Small (op.Nil d)))
+
+abbrev pub big_get : ℕ → ℕ → Request
+big_get base index = with_number (register_of base) (λ b. Ok (large_op.BigGet b index))
+
+abbrev pub big_put : ℕ → ℕ → ℕ → Request
+big_put base index value = with_number (register_of base) (λ b. Ok (large_op.BigPut b index value))
+
+-- ---- which pauses an operation may want
+
+-- an operation that makes an object
+abbrev pub IsMaking : LargeOp → Type 0
+IsMaking (large_op.Small (op.New dest shape)) = MayBeCalled (large_op.Small (op.New dest shape))
+IsMaking (large_op.Big dest blocks) = MayBeCalled (large_op.Big dest blocks)
+IsMaking o = ⊥
+
+-- a store of a reference
+abbrev pub IsStoring : LargeOp → Type 0
+IsStoring (large_op.Small (op.Store base index source)) = MayBeCalled (large_op.Small (op.Store base index source))
+IsStoring o = ⊥
+
+-- an operation that makes no object and stores no reference, and so finds room whatever the heap holds
+abbrev pub IsQuiet : LargeOp → Type 0
+IsQuiet (large_op.Small (op.New dest shape)) = ⊥
+IsQuiet (large_op.Small (op.Store base index source)) = ⊥
+IsQuiet (large_op.Big dest blocks) = ⊥
+IsQuiet o = MayBeCalled o

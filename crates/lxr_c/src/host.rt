@@ -1,0 +1,197 @@
+//! The heap of a program, with the pauses that it makes by itself.
+ghost use Rattle.std.specs.Prelude.{◌≡◌, ◌+◌, ◌-◌, ◌^◌, ◌<◌, ◌≤◌, ◌↔◌, false, List, IsTrue, IfOk};
+ghost use Rattle.lxr_large_model.specs.History.{LargeItem};
+ghost use Rattle.lxr_large_heap.specs.Holding.{IsHeapOf};
+ghost use Rattle.lxr_large_heap.specs.Acting.{MayBeCalled};
+ghost use Rattle.lxr_large_run.specs.Asking.{WantsNoPause};
+ghost use Rattle.lxr_c.specs.Hosting.{Acts, HasRoom, IsAtEnd, IsBlockCount, IsDue, IsOpened, IsServing, IsWithin, Makes, Pauses, PausesAsked, PausesWhere, Replies, SettlesAt, Stores};
+ghost use Rattle.lxr_c.specs.Requests.{IsMaking, IsQuiet, IsStoring};
+
+use lxr_large_heap::LargeHeap;
+use lxr_large_model::{Acted, LargeOp, LargeReply};
+use std::alloc::{AllocError, Global};
+
+/// How many objects, and how many pauses, a heap makes before it is renewed: its names have serials, and its reports numbers, of 32 bits.
+#[derive(Clone, Copy, Debug, PartialEq, Eq)]
+pub struct Ends {
+    pub made: u32,
+    pub pauses: u32,
+}
+
+/// The ends of each heap: a call makes one object and two pauses at most, and there is room for these.
+pub const ENDS: Ends = Ends {
+    made: 4_294_967_000,
+    pauses: 4_294_967_000,
+};
+
+/// The heap of a program.
+#[derive(Drop)]
+pub struct HostHeap {
+    pub heap: LargeHeap,
+    /// Before an object is made a pause is made once so many were made since the last one; 0: none.
+    pub every: u32,
+    /// How many pauses were made since the heap was opened, modulo 2^64.
+    pub pauses: u64,
+}
+
+/// Whether a number has come to a limit, where there is one; 0 is none.
+fn is_reached(limit: u32, number: u32) -> bool
+    ensures { IsTrue result ↔ ((1 ≤ limit) × (limit ≤ number)) }
+{
+    1 <= limit && limit <= number
+}
+
+impl HostHeap {
+    /// A heap of so many blocks, and so many for bodies.
+    pub(crate) fn open(alloc: Global, blocks: u32, body_blocks: u32) -> Result<HostHeap, AllocError>
+        requires blocks { IsBlockCount blocks }
+        requires bodies { IsBlockCount body_blocks }
+        ensures opened { IfOk result (λ x. IsOpened x blocks body_blocks) }
+        ensures serving { IfOk result IsServing }
+    {
+        let heap = LargeHeap::open(alloc, blocks, body_blocks)?;
+        Ok(HostHeap {
+            heap,
+            every: 0,
+            pauses: 0,
+        })
+    }
+
+    /// Makes a pause.
+    pub(crate) fn pause(&mut self, collect: bool)
+        requires number { self.old.heap.space.pauses + 1 < 2 ^ 32 }
+        ensures { (h : List LargeItem) → IsHeapOf self.old.heap h → Pauses self.old self.new h collect }
+    {
+        self.heap.pause(collect);
+        self.pauses = self.pauses.wrapping_add(1);
+    }
+
+    /// Whether it has made as many objects, or as many pauses, as it makes before it is renewed.
+    fn is_at_end(&self, ends: Ends) -> bool
+        ensures { IsTrue result ↔ IsAtEnd ends self.now }
+    {
+        self.heap.made() >= ends.made || self.heap.pauses() >= ends.pauses
+    }
+
+    /// Where it is at an end, collects and gives all objects that are left new names.
+    pub(crate) fn settle(&mut self, ends: Ends)
+        requires serving { IsServing self.old }
+        requires ends { IsWithin ends }
+        ensures settled { (h : List LargeItem) → IsHeapOf self.old.heap h → (k : List LargeItem) × SettlesAt ends self.old h self.new k }
+        ensures room { HasRoom 2 3 self.new }
+    {
+        if !self.is_at_end(ends) {
+            return;
+        }
+        self.pause(true);
+        self.heap.renew();
+    }
+
+    /// Whether a pause is due before an object is made.
+    fn is_due(&self) -> bool
+        ensures { (h : List LargeItem) → IsHeapOf self.now.heap h → IsTrue result ↔ IsDue self.now h }
+    {
+        is_reached(self.every, self.heap.young())
+    }
+
+    /// Makes a plain pause where one is due before an object is made.
+    fn pause_if_due(&mut self)
+        requires room { HasRoom 2 3 self.old }
+        ensures pauses { (h : List LargeItem) → IsHeapOf self.old.heap h → (k : List LargeItem) × PausesWhere (IsDue self.old h) false self.old h self.new k }
+        ensures room { HasRoom 2 2 self.new }
+    {
+        if !self.is_due() {
+            return;
+        }
+        self.pause(false);
+    }
+
+    /// Does an operation that needs no pause before it, since one was just made for it.
+    fn act_behind(&mut self, op: LargeOp) -> LargeReply
+        requires made { self.old.heap.made < 2 ^ 32 - 1 }
+        requires op { MayBeCalled op }
+        requires ready { ∥ ((h : List LargeItem) × WantsNoPause self.old.heap h op) ∥₁ }
+        ensures { (h : List LargeItem) → WantsNoPause self.old.heap h op → Replies self.old self.new h op result }
+    {
+        match self.heap.act(op) {
+            Acted::Replied(reply) => reply,
+            Acted::Room | Acted::Log => unreachable!(),
+        }
+    }
+
+    /// Does an operation, behind the pause that it needs.
+    fn act(&mut self, op: LargeOp) -> LargeReply
+        requires room { HasRoom 2 2 self.old }
+        requires op { MayBeCalled op }
+        ensures acts { (h : List LargeItem) → IsHeapOf self.old.heap h → Acts self.old self.new h op result }
+        ensures serving { IsServing self.new }
+    {
+        match self.heap.act(op) {
+            Acted::Replied(reply) => reply,
+            Acted::Room => {
+                self.pause(true);
+                self.act_behind(op)
+            }
+            Acted::Log => {
+                self.pause(false);
+                self.act_behind(op)
+            }
+        }
+    }
+
+    /// Does an operation that makes no object and stores no reference.
+    #[inline(always)]
+    pub(crate) fn reply(&mut self, op: LargeOp) -> LargeReply
+        requires serving { IsServing self.old }
+        requires op { IsQuiet op }
+        ensures replies { (h : List LargeItem) → IsHeapOf self.old.heap h → Replies self.old self.new h op result }
+        ensures serving { IsServing self.new }
+    {
+        match self.heap.act(op) {
+            Acted::Replied(reply) => reply,
+            Acted::Room | Acted::Log => unreachable!(),
+        }
+    }
+
+    /// Stores a reference.
+    pub(crate) fn store(&mut self, op: LargeOp) -> LargeReply
+        requires serving { IsServing self.old }
+        requires op { IsStoring op }
+        ensures stores { (h : List LargeItem) → IsHeapOf self.old.heap h → Stores self.old self.new h op result }
+        ensures serving { IsServing self.new }
+    {
+        self.settle(ENDS);
+        self.act(op)
+    }
+
+    /// Makes an object.
+    pub(crate) fn make(&mut self, op: LargeOp) -> LargeReply
+        requires serving { IsServing self.old }
+        requires op { IsMaking op }
+        ensures makes { (h : List LargeItem) → IsHeapOf self.old.heap h → Makes self.old self.new h op result }
+        ensures serving { IsServing self.new }
+    {
+        self.settle(ENDS);
+        self.pause_if_due();
+        self.act(op)
+    }
+
+    /// Sets how many objects are made between two pauses at most.
+    pub(crate) fn set_every(&mut self, every: u32)
+        requires serving { IsServing self.old }
+        ensures set { self.new ≡ record self.old { every = every } }
+        ensures serving { IsServing self.new }
+    {
+        self.every = every;
+    }
+
+    /// Makes a pause that was asked for.
+    pub(crate) fn pause_asked(&mut self, collect: bool)
+        requires serving { IsServing self.old }
+        ensures pauses { (h : List LargeItem) → IsHeapOf self.old.heap h → PausesAsked self.old self.new h collect }
+        ensures serving { IsServing self.new }
+    {
+        self.settle(ENDS);
+        self.pause(collect);
+    }
+}

@@ -1,0 +1,167 @@
+//! The operation that a call asks for, by the numbers that a program in C gives: its registers are looked at first, then its sizes.
+ghost use Rattle.std.specs.Prelude.{◌≡◌, IfOk};
+ghost use Rattle.lxr_c.specs.Requests as asking;
+ghost use Rattle.lxr_c.specs.Requests.{IsMaking, IsQuiet, IsStoring, index_of as is_index_of, register_of as is_register_of, size_of};
+
+use crate::codes::Code;
+use lxr_graph::Op;
+use lxr_large_model::{LargeOp, MOST_BODY_BLOCKS};
+use lxr_layout::Shape;
+
+/// The most references, and the most data words, of an object.
+const MOST_FIELDS: u32 = 1023;
+
+/// The register of this number.
+pub(crate) fn register_of(number: u32) -> Result<u8, Code>
+    ensures { result ≡ is_register_of number }
+{
+    if number < 16 {
+        Ok(number as u8)
+    } else {
+        Err(Code::Register)
+    }
+}
+
+/// An index as an operation has it: a greater one than 65,535 finds nothing, as that one does.
+fn index_of(index: u32) -> u16
+    ensures { result ≡ is_index_of index }
+{
+    if index < 65_536 { index as u16 } else { 65_535 }
+}
+
+/// So many references, or data words, as a shape has them.
+fn fields_of(count: u32) -> Result<u16, Code>
+    ensures { result ≡ size_of count }
+{
+    if count <= MOST_FIELDS {
+        Ok(count as u16)
+    } else {
+        Err(Code::Size)
+    }
+}
+
+/// A new object with so many references and data words.
+pub(crate) fn new(dest: u32, refs: u32, words: u32) -> Result<LargeOp, Code>
+    ensures asked { result ≡ asking.new dest refs words }
+    ensures may { IfOk result IsMaking }
+{
+    let dest = register_of(dest)?;
+    let refs = fields_of(refs)?;
+    let values = fields_of(words)?;
+    Ok(LargeOp::Small(Op::New {
+        dest,
+        shape: Shape { refs, values },
+    }))
+}
+
+/// A new large object whose body has so many blocks.
+pub(crate) fn big(dest: u32, blocks: u32) -> Result<LargeOp, Code>
+    ensures asked { result ≡ asking.big dest blocks }
+    ensures may { IfOk result IsMaking }
+{
+    let dest = register_of(dest)?;
+    if blocks == 0 || blocks > MOST_BODY_BLOCKS {
+        return Err(Code::Size);
+    }
+    Ok(LargeOp::Big { dest, blocks })
+}
+
+/// A reference is stored.
+pub(crate) fn set_reference(base: u32, index: u32, source: u32) -> Result<LargeOp, Code>
+    ensures asked { result ≡ asking.store base index source }
+    ensures may { IfOk result IsStoring }
+{
+    let base = register_of(base)?;
+    let source = register_of(source)?;
+    Ok(LargeOp::Small(Op::Store {
+        base,
+        index: index_of(index),
+        source,
+    }))
+}
+
+/// A reference is loaded.
+pub(crate) fn load(dest: u32, base: u32, index: u32) -> Result<LargeOp, Code>
+    ensures asked { result ≡ asking.load dest base index }
+    ensures may { IfOk result IsQuiet }
+{
+    let dest = register_of(dest)?;
+    let base = register_of(base)?;
+    Ok(LargeOp::Small(Op::Load {
+        dest,
+        base,
+        index: index_of(index),
+    }))
+}
+
+/// A data word is read.
+pub(crate) fn get(base: u32, index: u32) -> Result<LargeOp, Code>
+    ensures asked { result ≡ asking.get base index }
+    ensures may { IfOk result IsQuiet }
+{
+    let base = register_of(base)?;
+    Ok(LargeOp::Small(Op::Get {
+        base,
+        index: index_of(index),
+    }))
+}
+
+/// A data word is written.
+pub(crate) fn put(base: u32, index: u32, value: u64) -> Result<LargeOp, Code>
+    ensures asked { result ≡ asking.put base index value }
+    ensures may { IfOk result IsQuiet }
+{
+    let base = register_of(base)?;
+    Ok(LargeOp::Small(Op::Put {
+        base,
+        index: index_of(index),
+        value,
+    }))
+}
+
+/// Two registers are compared.
+pub(crate) fn same(left: u32, right: u32) -> Result<LargeOp, Code>
+    ensures asked { result ≡ asking.same left right }
+    ensures may { IfOk result IsQuiet }
+{
+    let left = register_of(left)?;
+    let right = register_of(right)?;
+    Ok(LargeOp::Small(Op::Same { left, right }))
+}
+
+/// A register gets what another one holds.
+pub(crate) fn copy(dest: u32, source: u32) -> Result<LargeOp, Code>
+    ensures asked { result ≡ asking.copy dest source }
+    ensures may { IfOk result IsQuiet }
+{
+    let dest = register_of(dest)?;
+    let source = register_of(source)?;
+    Ok(LargeOp::Small(Op::Move { dest, source }))
+}
+
+/// A register becomes nil.
+pub(crate) fn nil(dest: u32) -> Result<LargeOp, Code>
+    ensures asked { result ≡ asking.nil dest }
+    ensures may { IfOk result IsQuiet }
+{
+    let dest = register_of(dest)?;
+    Ok(LargeOp::Small(Op::Nil { dest }))
+}
+
+/// A word of a body is read.
+pub(crate) fn big_get(base: u32, index: u32) -> Result<LargeOp, Code>
+    ensures asked { result ≡ asking.big_get base index }
+    ensures may { IfOk result IsQuiet }
+{
+    let base = register_of(base)?;
+    Ok(LargeOp::BigGet { base, index })
+}
+
+/// A word of a body is written.
+pub(crate) fn big_put(base: u32, index: u32, value: u64) -> Result<LargeOp, Code>
+    ensures asked { result ≡ asking.big_put base index value }
+    ensures may { IfOk result IsQuiet }
+{
+    let base = register_of(base)?;
+    Ok(LargeOp::BigPut { base, index, value })
+}

@@ -1,0 +1,23 @@
+-- What a heap tells of what a register holds.
+use Rattle.std.specs.Prelude.{ℕ, ◌/◌, Bool, true, false, Option, Some, None, List, length}
+use Rattle.lxr_layout.specs.declared.Name.{Name}
+use Rattle.lxr_layout.specs.declared.Shape.{Shape}
+use Rattle.lxr_layout.specs.declared.TheConstants.{WORDS_IN_BLOCK}
+use Rattle.lxr_graph.specs.State.{object_at}
+use Rattle.lxr_direct.specs.Operating.{shape_found}
+use Rattle.lxr_large_model.specs.State.{LargeState, body_of}
+
+-- how many blocks a body has, where there is one
+abbrev pub body_blocks : Option (List ℕ) → ℕ
+body_blocks None = 0
+body_blocks (Some words) = length words / WORDS_IN_BLOCK
+
+-- the shape of what is held, and how many blocks its body has, 0 where it has none; nothing of nil
+abbrev pub shape_held : LargeState → Option Name → Option (Shape × ℕ)
+shape_held s None = None
+shape_held s (Some n) = Some (shape_found (object_at s.small.graph n), body_blocks (body_of s.large n))
+
+-- one where a test holds
+abbrev pub one_if : Bool → ℕ
+one_if true = 1
+one_if false = 0

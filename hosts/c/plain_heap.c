@@ -1,0 +1,329 @@
+/*
+ * plain_heap.c: the functions of lxr.h over malloc, for tests. SPDX: MIT OR Apache-2.0
+ *
+ * A plain graph: objects have addresses, never move, and are freed when the heap is closed and not before. So it is a model of what a host
+ * sees, and what a host is held against that is told to be slow or wrong: link it in the archive's place, or beside it (tests/calls.h).
+ * LXR_FULL comes only where malloc has no memory. A pause does nothing; a collecting one counts the objects that can be reached
+ * (LXR_LIVE).
+ */
+#include "plain_heap.h"
+
+#include <stdlib.h>
+#include <string.h>
+
+/* An object. Behind it stand its references, and then its data words or the words of its body. */
+struct object {
+    struct object *older; /* the object made before it, or null */
+    struct object *gray;  /* the next object whose references are to be followed, while what can be reached is counted */
+    uint64_t seen;        /* the number of the count that has met it */
+    uint32_t refs, words, blocks;
+    uint64_t fields[];
+};
+
+struct heap {
+    struct object *registers[LXR_REGISTERS];
+    struct object *world, *newest;
+    uint32_t blocks, body_blocks;
+    uint64_t pauses, counts, made, live, promoted;
+};
+
+/* ---- Objects ---- */
+
+static struct object **refs_of(struct object *it) { return (struct object **)(void *)it->fields; }
+
+static uint64_t *words_of(struct object *it) { return it->fields + it->refs; }
+
+static struct object *make(struct heap *heap, uint32_t refs, uint32_t words, uint32_t blocks) {
+    size_t fields = (size_t)refs + words + (size_t)blocks * LXR_BLOCK_WORDS;
+    struct object *made = calloc(1, sizeof *made + fields * sizeof made->fields[0]);
+    if (!made) return NULL;
+    for (uint32_t index = 0; index < refs; index++) refs_of(made)[index] = NULL;
+    made->refs = refs;
+    made->words = words;
+    made->blocks = blocks;
+    made->older = heap->newest;
+    heap->newest = made;
+    return made;
+}
+
+/* ---- What can be reached ---- */
+
+/* Puts an object in front of the gray ones, where this count hasn't met it. */
+static void meet(struct heap *heap, struct object *it, struct object **gray) {
+    if (!it || it->seen == heap->counts) return;
+    it->seen = heap->counts;
+    it->gray = *gray;
+    *gray = it;
+}
+
+typedef void each_object(void *with, uint32_t refs, uint32_t words, uint32_t blocks);
+
+/* Calls `each` for every object that can be reached from the world and the registers, but the world. */
+static void each_reachable(struct heap *heap, each_object *each, void *with) {
+    struct object *gray = NULL;
+    heap->counts++;
+    meet(heap, heap->world, &gray);
+    for (uint32_t at = 0; at < LXR_REGISTERS; at++) meet(heap, heap->registers[at], &gray);
+    while (gray) {
+        struct object *it = gray;
+        gray = it->gray;
+        if (it != heap->world) each(with, it->refs, it->words, it->blocks);
+        for (uint32_t index = 0; index < it->refs; index++) meet(heap, refs_of(it)[index], &gray);
+    }
+}
+
+static void count_one(void *count, uint32_t refs, uint32_t words, uint32_t blocks) {
+    (void)refs, (void)words, (void)blocks;
+    ++*(uint64_t *)count;
+}
+
+/* ---- Codes ---- */
+
+static struct heap *heap_of(const lxr_heap *handle) { return handle->live ? handle->block : NULL; }
+
+/* Finds the heap of a handle, and the object in a register of it. */
+static uint32_t find_base(const lxr_heap *handle, uint32_t base, struct object **found) {
+    struct heap *heap = heap_of(handle);
+    if (!heap) return LXR_NO_HEAP;
+    if (base >= LXR_REGISTERS) return LXR_REGISTER;
+    *found = heap->registers[base];
+    return *found ? LXR_OK : LXR_NIL;
+}
+
+static uint32_t find_registers(const lxr_heap *handle, uint32_t left, uint32_t right, struct heap **found) {
+    *found = heap_of(handle);
+    if (!*found) return LXR_NO_HEAP;
+    return left < LXR_REGISTERS && right < LXR_REGISTERS ? LXR_OK : LXR_REGISTER;
+}
+
+/* Finds one of the data words of an object. */
+static uint32_t find_word(const lxr_heap *handle, uint32_t base, uint32_t index, uint64_t **found) {
+    struct object *it = NULL;
+    uint32_t code = find_base(handle, base, &it);
+    if (code != LXR_OK) return code;
+    if (index >= it->words) return LXR_INDEX;
+    *found = words_of(it) + index;
+    return LXR_OK;
+}
+
+/* Finds `count` words of the body of an object. */
+static uint32_t find_body(const lxr_heap *handle, uint32_t base, uint32_t index, size_t count, uint64_t **found) {
+    struct object *it = NULL;
+    uint32_t code = find_base(handle, base, &it);
+    if (code != LXR_OK) return code;
+    size_t words = (size_t)it->blocks * LXR_BLOCK_WORDS;
+    if (!words || index > words || count > words - index) return LXR_INDEX;
+    *found = words_of(it) + index;
+    return LXR_OK;
+}
+
+/* Makes an object and lets a register hold it. */
+static uint32_t hold_new(struct heap *heap, uint32_t dest, uint32_t refs, uint32_t words, uint32_t blocks) {
+    struct object *made = make(heap, refs, words, blocks);
+    if (!made) return LXR_FULL;
+    heap->made++;
+    heap->live++;
+    heap->registers[dest] = made;
+    return LXR_OK;
+}
+
+void plain_each_reachable(lxr_heap *handle, each_object *each, void *with) {
+    struct heap *heap = heap_of(handle);
+    if (heap) each_reachable(heap, each, with);
+}
+
+/* ---- The functions of lxr.h ---- */
+
+uint32_t lxr_version(void) { return LXR_VERSION; }
+
+uint32_t lxr_open(lxr_heap *handle, uint32_t blocks, uint32_t body_blocks) {
+    if (heap_of(handle)) return LXR_IN_USE;
+    if (!blocks || blocks > LXR_MOST_BLOCKS || !body_blocks || body_blocks > LXR_MOST_BLOCKS) return LXR_SIZE;
+    struct heap *heap = calloc(1, sizeof *heap);
+    if (!heap) return LXR_MEMORY;
+    heap->world = make(heap, LXR_WORLD_REFS, 0, 0);
+    if (!heap->world) {
+        free(heap);
+        return LXR_MEMORY;
+    }
+    heap->registers[0] = heap->world;
+    heap->blocks = blocks;
+    heap->body_blocks = body_blocks;
+    handle->live = 1;
+    handle->block = heap;
+    return LXR_OK;
+}
+
+uint32_t lxr_close(lxr_heap *handle) {
+    struct heap *heap = heap_of(handle);
+    if (!heap) return LXR_NO_HEAP;
+    while (heap->newest) {
+        struct object *it = heap->newest;
+        heap->newest = it->older;
+        free(it);
+    }
+    free(heap);
+    handle->live = 0;
+    handle->block = NULL;
+    return LXR_OK;
+}
+
+uint32_t lxr_new(lxr_heap *handle, uint32_t dest, uint32_t refs, uint32_t words) {
+    struct heap *heap = NULL;
+    uint32_t code = find_registers(handle, dest, dest, &heap);
+    if (code != LXR_OK) return code;
+    if (refs > LXR_MOST_REFS || words > LXR_MOST_WORDS) return LXR_SIZE;
+    return hold_new(heap, dest, refs, words, 0);
+}
+
+uint32_t lxr_big(lxr_heap *handle, uint32_t dest, uint32_t blocks) {
+    struct heap *heap = NULL;
+    uint32_t code = find_registers(handle, dest, dest, &heap);
+    if (code != LXR_OK) return code;
+    if (!blocks || blocks > LXR_MOST_BODY_BLOCKS) return LXR_SIZE;
+    return hold_new(heap, dest, 0, 0, blocks);
+}
+
+uint32_t lxr_load(lxr_heap *handle, uint32_t dest, uint32_t base, uint32_t index) {
+    struct heap *heap = NULL;
+    struct object *it = NULL;
+    uint32_t code = find_registers(handle, dest, base, &heap);
+    if (code == LXR_OK) code = find_base(handle, base, &it);
+    if (code != LXR_OK) return code;
+    if (index >= it->refs) return LXR_INDEX;
+    heap->registers[dest] = refs_of(it)[index];
+    return LXR_OK;
+}
+
+uint32_t lxr_store(lxr_heap *handle, uint32_t base, uint32_t index, uint32_t source) {
+    struct heap *heap = NULL;
+    struct object *it = NULL;
+    uint32_t code = find_registers(handle, base, source, &heap);
+    if (code == LXR_OK) code = find_base(handle, base, &it);
+    if (code != LXR_OK) return code;
+    if (index >= it->refs) return LXR_INDEX;
+    refs_of(it)[index] = heap->registers[source];
+    return LXR_OK;
+}
+
+uint32_t lxr_get(lxr_heap *handle, uint32_t base, uint32_t index, uint64_t *word) {
+    uint64_t *found = NULL;
+    uint32_t code = find_word(handle, base, index, &found);
+    if (code == LXR_OK) *word = *found;
+    return code;
+}
+
+uint32_t lxr_put(lxr_heap *handle, uint32_t base, uint32_t index, uint64_t word) {
+    uint64_t *found = NULL;
+    uint32_t code = find_word(handle, base, index, &found);
+    if (code == LXR_OK) *found = word;
+    return code;
+}
+
+uint32_t lxr_bget(lxr_heap *handle, uint32_t base, uint32_t index, uint64_t *word) {
+    uint64_t *found = NULL;
+    uint32_t code = find_body(handle, base, index, 1, &found);
+    if (code == LXR_OK) *word = *found;
+    return code;
+}
+
+uint32_t lxr_bput(lxr_heap *handle, uint32_t base, uint32_t index, uint64_t word) {
+    uint64_t *found = NULL;
+    uint32_t code = find_body(handle, base, index, 1, &found);
+    if (code == LXR_OK) *found = word;
+    return code;
+}
+
+uint32_t lxr_bread(lxr_heap *handle, uint32_t base, uint32_t index, uint64_t *into, size_t count) {
+    uint64_t *found = NULL;
+    uint32_t code = find_body(handle, base, index, count, &found);
+    if (code == LXR_OK && count) memcpy(into, found, count * sizeof *into);
+    return code;
+}
+
+uint32_t lxr_bwrite(lxr_heap *handle, uint32_t base, uint32_t index, const uint64_t *from, size_t count) {
+    uint64_t *found = NULL;
+    uint32_t code = find_body(handle, base, index, count, &found);
+    if (code == LXR_OK && count) memcpy(found, from, count * sizeof *from);
+    return code;
+}
+
+uint32_t lxr_same(lxr_heap *handle, uint32_t left, uint32_t right, uint32_t *same) {
+    struct heap *heap = NULL;
+    uint32_t code = find_registers(handle, left, right, &heap);
+    if (code == LXR_OK) *same = heap->registers[left] == heap->registers[right];
+    return code;
+}
+
+uint32_t lxr_move(lxr_heap *handle, uint32_t dest, uint32_t source) {
+    struct heap *heap = NULL;
+    uint32_t code = find_registers(handle, dest, source, &heap);
+    if (code == LXR_OK) heap->registers[dest] = heap->registers[source];
+    return code;
+}
+
+uint32_t lxr_nil(lxr_heap *handle, uint32_t dest) {
+    struct heap *heap = NULL;
+    uint32_t code = find_registers(handle, dest, dest, &heap);
+    if (code == LXR_OK) heap->registers[dest] = NULL;
+    return code;
+}
+
+uint32_t lxr_is_nil(lxr_heap *handle, uint32_t source, uint32_t *is_nil) {
+    struct heap *heap = NULL;
+    uint32_t code = find_registers(handle, source, source, &heap);
+    if (code == LXR_OK) *is_nil = heap->registers[source] == NULL;
+    return code;
+}
+
+uint32_t lxr_shape(lxr_heap *handle, uint32_t base, uint32_t *refs, uint32_t *words, uint32_t *blocks) {
+    struct object *it = NULL;
+    uint32_t code = find_base(handle, base, &it);
+    if (code != LXR_OK) return code;
+    *refs = it->refs;
+    *words = it->words;
+    *blocks = it->blocks;
+    return LXR_OK;
+}
+
+/* All objects made since the last pause are kept. */
+static uint32_t pause_heap(struct heap *heap) {
+    heap->pauses++;
+    heap->promoted = heap->made;
+    heap->made = 0;
+    return LXR_OK;
+}
+
+uint32_t lxr_pause(lxr_heap *handle) {
+    struct heap *heap = heap_of(handle);
+    return heap ? pause_heap(heap) : LXR_NO_HEAP;
+}
+
+uint32_t lxr_collect(lxr_heap *handle) {
+    struct heap *heap = heap_of(handle);
+    if (!heap) return LXR_NO_HEAP;
+    heap->live = 0;
+    each_reachable(heap, count_one, &heap->live);
+    return pause_heap(heap);
+}
+
+uint32_t lxr_pause_every(lxr_heap *handle, uint32_t news) {
+    (void)news;
+    return heap_of(handle) ? LXR_OK : LXR_NO_HEAP;
+}
+
+uint32_t lxr_count(lxr_heap *handle, uint32_t what, uint64_t *number) {
+    struct heap *heap = heap_of(handle);
+    if (!heap) return LXR_NO_HEAP;
+    switch (what) {
+    case LXR_PAUSES: *number = heap->pauses; return LXR_OK;
+    case LXR_PROMOTED: *number = heap->promoted; return LXR_OK;
+    case LXR_LIVE: *number = heap->live; return LXR_OK;
+    case LXR_DEAD:
+    case LXR_STUCK:
+    case LXR_SWEPT: *number = 0; return LXR_OK;
+    case LXR_FREE_BLOCKS: *number = heap->blocks - 1; return LXR_OK;
+    case LXR_FREE_BODY_BYTES: *number = (uint64_t)heap->body_blocks * LXR_BLOCK_WORDS * sizeof(uint64_t); return LXR_OK;
+    default: return LXR_WHAT;
+    }
+}

@@ -1,0 +1,24 @@
+/* plain_names.h: other names for the functions of lxr.h, so that plain_heap.c stands beside the archive. SPDX: MIT OR Apache-2.0 */
+#define PLAIN_NAMES 1
+#define lxr_version plain_version
+#define lxr_open plain_open
+#define lxr_close plain_close
+#define lxr_new plain_new
+#define lxr_load plain_load
+#define lxr_store plain_store
+#define lxr_get plain_get
+#define lxr_put plain_put
+#define lxr_same plain_same
+#define lxr_move plain_move
+#define lxr_nil plain_nil
+#define lxr_is_nil plain_is_nil
+#define lxr_shape plain_shape
+#define lxr_big plain_big
+#define lxr_bget plain_bget
+#define lxr_bput plain_bput
+#define lxr_bread plain_bread
+#define lxr_bwrite plain_bwrite
+#define lxr_pause plain_pause
+#define lxr_collect plain_collect
+#define lxr_pause_every plain_pause_every
+#define lxr_count plain_count

@@ -1,0 +1,295 @@
+/*
+ * random.c: random calls on the archive and on plain_heap.c, which have to agree. SPDX: MIT OR Apache-2.0
+ *
+ * usage: random SECONDS [SEED]     rounds for so long, each from a number of its own on; with 0 seconds one round, from SEED
+ *
+ * A round opens both heaps and makes some ten thousand calls on both; most are sensible, some are wild. Each code and each word that is
+ * answered has to be the same. Where the archive says that it is full, the other heap isn't called, and what it can reach has to be enough
+ * to leave no room. Behind a collecting pause both have as many objects.
+ */
+#include "../plain_heap.h"
+#include "calls.h"
+
+#include <inttypes.h>
+#include <stdarg.h>
+#include <stdbool.h>
+#include <stdio.h>
+#include <stdlib.h>
+#include <string.h>
+#include <time.h>
+
+#define CALLS  20000u
+#define BUFFER 64u
+
+static struct {
+    uint64_t rounds, calls, full, pauses;
+} sums;
+
+/* A round: its two heaps, and the sizes of the archive's. */
+static struct {
+    uint64_t seed, calls;
+    uint32_t blocks, body_blocks;
+    lxr_heap lxr, plain;
+} now;
+
+static void differ(const char *form, ...) {
+    va_list parts;
+    va_start(parts, form);
+    fprintf(stderr, "random: seed %" PRIu64 ", call %" PRIu64 ": ", now.seed, now.calls);
+    vfprintf(stderr, form, parts);
+    fputc('\n', stderr);
+    va_end(parts);
+    exit(1);
+}
+
+static void agree(const char *what, uint64_t on_lxr, uint64_t on_plain) {
+    if (on_lxr != on_plain) differ("%s: %" PRIu64 " of the archive, and %" PRIu64, what, on_lxr, on_plain);
+}
+
+/* ---- Numbers ---- */
+
+static uint64_t state;
+
+static uint64_t draw(void) {
+    state = state * 6364136223846793005u + 1442695040888963407u;
+    return state >> 33;
+}
+
+static uint32_t below(uint32_t end) { return (uint32_t)(draw() % end); }
+
+static bool one_in(uint32_t times) { return below(times) == 0; }
+
+static uint32_t wild(void) {
+    static const uint32_t numbers[] = { 0, 1, 15, 16, 17, 1023, 1024, 4095, 4096, 65535, 65536, UINT32_MAX - 1, UINT32_MAX };
+    return numbers[below(sizeof numbers / sizeof *numbers)];
+}
+
+static uint32_t some_register(void) { return one_in(200) ? wild() : below(LXR_REGISTERS); }
+
+/* A register to be overwritten: seldom the one that has the world. */
+static uint32_t some_dest(void) { return one_in(50) ? some_register() : 1 + below(LXR_REGISTERS - 1); }
+
+/* ---- What a base has ---- */
+
+enum field { REFS, WORDS, BODY };
+
+/* How many fields of a sort the object in a register has; 0 where it holds none. */
+static uint32_t fields_of(uint32_t base, enum field sort) {
+    uint32_t refs = 0, words = 0, blocks = 0;
+    if (calls_plain.shape(&now.plain, base, &refs, &words, &blocks) != LXR_OK) return 0;
+    return sort == REFS ? refs : sort == WORDS ? words : blocks * LXR_BLOCK_WORDS;
+}
+
+/* A register, mostly one whose object has such fields. */
+static uint32_t some_base(enum field sort) {
+    uint32_t base = some_register();
+    for (int tries = 0; tries < 12 && !one_in(30) && fields_of(base, sort) == 0; tries++) base = below(LXR_REGISTERS);
+    return base;
+}
+
+/* An index, mostly of such a field: one of the first, the last, or any. */
+static uint32_t some_index(uint32_t base, enum field sort) {
+    uint32_t end = fields_of(base, sort);
+    if (end == 0 || one_in(60)) return wild();
+    if (one_in(40)) return end;
+    return one_in(3) ? end - 1 : one_in(2) ? below(end) : below(end < 4 ? end : 4);
+}
+
+static uint64_t some_word(void) { return (draw() << 33) ^ (draw() << 11) ^ draw(); }
+
+/* ---- Full ---- */
+
+/* Sums over what can be reached: how many runs of `lines` lines objects can spoil, and how many of `blocks` blocks bodies can. */
+struct spoiled {
+    uint32_t lines, blocks;
+    uint64_t of_lines, of_blocks;
+};
+
+static uint64_t divided_up(uint64_t number, uint64_t by) { return (number + by - 1) / by; }
+
+static uint32_t lines_of(uint32_t refs, uint32_t words) { return (uint32_t)divided_up(1 + refs + words, 32); }
+
+static void spoil(void *with, uint32_t refs, uint32_t words, uint32_t blocks) {
+    struct spoiled *spoiled = with;
+    spoiled->of_lines += divided_up(lines_of(refs, words), spoiled->lines) + 1;
+    if (blocks) spoiled->of_blocks += divided_up(blocks, spoiled->blocks) + 1;
+}
+
+/* Whether what can be reached can leave no room for an object of such a shape, or such a body. The world has 3 of the 128 lines of a
+ * block. */
+static void may_be_full(uint32_t refs, uint32_t words, uint32_t blocks) {
+    struct spoiled spoiled = { lines_of(refs, words), blocks ? blocks : 1, 0, 0 };
+    plain_each_reachable(&now.plain, spoil, &spoiled);
+    uint64_t runs = 125 / spoiled.lines + (uint64_t)(now.blocks - 1) * (128 / spoiled.lines);
+    bool no_run = spoiled.of_lines >= runs, no_blocks = blocks && spoiled.of_blocks >= now.body_blocks / blocks;
+    if (!no_run && !no_blocks) differ("full, where what can be reached leaves room");
+    sums.full++;
+}
+
+/* ---- Calls on both heaps ---- */
+
+static void call_new(void) {
+    uint32_t dest = some_dest(), large = below(20);
+    uint32_t refs = one_in(300) ? wild() : large == 0 ? below(1024) : below(6);
+    uint32_t words = one_in(300) ? wild() : large == 0 ? below(1024) : large < 4 ? below(64) : below(5);
+    uint32_t code = calls_lxr.new(&now.lxr, dest, refs, words);
+    if (code == LXR_FULL)
+        may_be_full(refs, words, 0);
+    else
+        agree("new", code, calls_plain.new(&now.plain, dest, refs, words));
+}
+
+static void call_big(void) {
+    uint32_t dest = some_dest(), blocks = one_in(100) ? wild() : one_in(10) ? below(129) : 1 + below(4);
+    uint32_t code = calls_lxr.big(&now.lxr, dest, blocks);
+    if (code == LXR_FULL)
+        may_be_full(0, 0, blocks);
+    else
+        agree("big", code, calls_plain.big(&now.plain, dest, blocks));
+}
+
+static void call_load(void) {
+    uint32_t base = some_base(REFS), index = some_index(base, REFS), dest = some_dest();
+    agree("load", calls_lxr.load(&now.lxr, dest, base, index), calls_plain.load(&now.plain, dest, base, index));
+}
+
+static void call_store(void) {
+    uint32_t base = some_base(REFS), index = some_index(base, REFS), source = some_register();
+    agree("store", calls_lxr.store(&now.lxr, base, index, source), calls_plain.store(&now.plain, base, index, source));
+}
+
+static void call_get(void) {
+    uint32_t base = some_base(WORDS), index = some_index(base, WORDS);
+    uint64_t on_lxr = 1, on_plain = 1;
+    agree("get", calls_lxr.get(&now.lxr, base, index, &on_lxr), calls_plain.get(&now.plain, base, index, &on_plain));
+    agree("the word of get", on_lxr, on_plain);
+}
+
+static void call_put(void) {
+    uint32_t base = some_base(WORDS), index = some_index(base, WORDS);
+    uint64_t word = some_word();
+    agree("put", calls_lxr.put(&now.lxr, base, index, word), calls_plain.put(&now.plain, base, index, word));
+}
+
+static void call_bget(void) {
+    uint32_t base = some_base(BODY), index = some_index(base, BODY);
+    uint64_t on_lxr = 1, on_plain = 1;
+    agree("bget", calls_lxr.bget(&now.lxr, base, index, &on_lxr), calls_plain.bget(&now.plain, base, index, &on_plain));
+    agree("the word of bget", on_lxr, on_plain);
+}
+
+static void call_bput(void) {
+    uint32_t base = some_base(BODY), index = some_index(base, BODY);
+    uint64_t word = some_word();
+    agree("bput", calls_lxr.bput(&now.lxr, base, index, word), calls_plain.bput(&now.plain, base, index, word));
+}
+
+static void call_bread(void) {
+    uint32_t base = some_base(BODY), index = some_index(base, BODY), count = below(BUFFER + 1);
+    uint64_t on_lxr[BUFFER] = { 0 }, on_plain[BUFFER] = { 0 };
+    agree("bread", calls_lxr.bread(&now.lxr, base, index, on_lxr, count), calls_plain.bread(&now.plain, base, index, on_plain, count));
+    if (memcmp(on_lxr, on_plain, sizeof on_lxr) != 0) differ("bread: other words");
+}
+
+static void call_bwrite(void) {
+    uint32_t base = some_base(BODY), index = some_index(base, BODY), count = below(BUFFER + 1);
+    uint64_t words[BUFFER];
+    for (uint32_t at = 0; at < BUFFER; at++) words[at] = some_word();
+    agree("bwrite", calls_lxr.bwrite(&now.lxr, base, index, words, count), calls_plain.bwrite(&now.plain, base, index, words, count));
+}
+
+static void call_same(void) {
+    uint32_t left = some_register(), right = some_register(), on_lxr = 7, on_plain = 7;
+    agree("same", calls_lxr.same(&now.lxr, left, right, &on_lxr), calls_plain.same(&now.plain, left, right, &on_plain));
+    agree("what same says", on_lxr, on_plain);
+}
+
+static void call_move(void) {
+    uint32_t dest = some_dest(), source = some_register();
+    agree("move", calls_lxr.move(&now.lxr, dest, source), calls_plain.move(&now.plain, dest, source));
+}
+
+static void call_nil(void) {
+    uint32_t dest = some_dest();
+    agree("nil", calls_lxr.nil(&now.lxr, dest), calls_plain.nil(&now.plain, dest));
+}
+
+static void call_pause(void) {
+    agree("pause", calls_lxr.pause(&now.lxr), calls_plain.pause(&now.plain));
+}
+
+static void call_collect(void) {
+    uint64_t on_lxr = 0, on_plain = 0;
+    agree("collect", calls_lxr.collect(&now.lxr), calls_plain.collect(&now.plain));
+    agree("count", calls_lxr.count(&now.lxr, LXR_LIVE, &on_lxr), calls_plain.count(&now.plain, LXR_LIVE, &on_plain));
+    agree("the objects that are left", on_lxr, on_plain);
+}
+
+static void call_pause_every(void) {
+    uint32_t news = one_in(2) ? 0 : below(500);
+    agree("pause_every", calls_lxr.pause_every(&now.lxr, news), calls_plain.pause_every(&now.plain, news));
+}
+
+/* Whether all registers hold the like on both heaps. */
+static void agree_on_registers(void) {
+    for (uint32_t at = 0; at < LXR_REGISTERS; at++) {
+        uint32_t on_lxr[5] = { 0 }, on_plain[5] = { 0 }, with = below(LXR_REGISTERS);
+        on_lxr[0] = calls_lxr.shape(&now.lxr, at, &on_lxr[1], &on_lxr[2], &on_lxr[3]);
+        on_plain[0] = calls_plain.shape(&now.plain, at, &on_plain[1], &on_plain[2], &on_plain[3]);
+        for (size_t part = 0; part < 4; part++) agree("shape", on_lxr[part], on_plain[part]);
+        agree("same", calls_lxr.same(&now.lxr, at, with, &on_lxr[4]), calls_plain.same(&now.plain, at, with, &on_plain[4]));
+        agree("what same says", on_lxr[4], on_plain[4]);
+        agree("is_nil", calls_lxr.is_nil(&now.lxr, at, &on_lxr[4]), calls_plain.is_nil(&now.plain, at, &on_plain[4]));
+        agree("what is_nil says", on_lxr[4], on_plain[4]);
+    }
+}
+
+/* Each call with how often it is made, of all their sum. */
+static const struct {
+    void (*call)(void);
+    uint32_t share;
+} kinds[] = {
+    { call_new, 200 }, { call_load, 200 }, { call_store, 250 }, { call_get, 80 }, { call_put, 80 }, { call_move, 40 }, { call_nil, 60 },
+    { call_same, 20 }, { call_big, 20 }, { call_bget, 20 }, { call_bput, 20 }, { call_bread, 10 }, { call_bwrite, 10 }, { call_pause, 4 },
+    { call_collect, 2 }, { call_pause_every, 1 }, { agree_on_registers, 2 },
+};
+
+static void make_call(void) {
+    uint32_t all = 0, at = 0;
+    for (size_t kind = 0; kind < sizeof kinds / sizeof *kinds; kind++) all += kinds[kind].share;
+    for (uint32_t drawn = below(all); drawn >= kinds[at].share; at++) drawn -= kinds[at].share;
+    kinds[at].call();
+    now.calls++;
+}
+
+static void play_round(uint64_t seed) {
+    uint64_t pauses = 0;
+    now.seed = state = seed;
+    now.calls = 0;
+    now.blocks = one_in(3) ? 1 + below(3) : 1 + below(64);
+    now.body_blocks = one_in(3) ? 1 + below(6) : 1 + below(200);
+    uint32_t calls = 1 + below(CALLS);
+    agree("open", calls_lxr.open(&now.lxr, now.blocks, now.body_blocks), calls_plain.open(&now.plain, now.blocks, now.body_blocks));
+    while (now.calls < calls) make_call();
+    agree_on_registers();
+    call_collect();
+    agree("count", calls_lxr.count(&now.lxr, LXR_PAUSES, &pauses), LXR_OK);
+    agree("close", calls_lxr.close(&now.lxr), calls_plain.close(&now.plain));
+    sums.rounds++;
+    sums.calls += now.calls;
+    sums.pauses += pauses;
+}
+
+int main(int count, char **words) {
+    if (count < 2 || count > 3) {
+        fputs("usage: random SECONDS [SEED]\n", stderr);
+        return 2;
+    }
+    time_t end = time(NULL) + strtol(words[1], NULL, 10);
+    uint64_t seed = count == 3 ? strtoull(words[2], NULL, 10) : 1;
+    do play_round(seed++);
+    while (time(NULL) < end);
+    printf("random: %" PRIu64 " rounds, %" PRIu64 " calls, %" PRIu64 " times full, ", sums.rounds, sums.calls, sums.full);
+    printf("%" PRIu64 " pauses\n", sums.pauses);
+    return 0;
+}

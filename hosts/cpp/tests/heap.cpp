@@ -1,0 +1,176 @@
+// heap.cpp: tests of lxr.hpp. SPDX: MIT OR Apache-2.0
+#include "lxr.hpp"
+
+#include <cstdint>
+#include <iostream>
+#include <stdexcept>
+#include <string>
+#include <type_traits>
+#include <utility>
+#include <vector>
+
+static_assert(!std::is_copy_constructible_v<lxr::heap> && !std::is_copy_assignable_v<lxr::heap>);
+static_assert(std::is_nothrow_move_constructible_v<lxr::heap> && std::is_nothrow_move_assignable_v<lxr::heap>);
+static_assert(!std::is_copy_constructible_v<lxr::root> && !std::is_copy_assignable_v<lxr::root>);
+static_assert(std::is_nothrow_move_constructible_v<lxr::root> && std::is_nothrow_move_assignable_v<lxr::root>);
+static_assert(std::is_nothrow_destructible_v<lxr::heap> && std::is_nothrow_destructible_v<lxr::root>);
+
+namespace {
+
+int checks = 0;
+
+void check(bool holds, const char* what, int line) {
+    ++checks;
+    if (!holds) throw std::logic_error("heap.cpp:" + std::to_string(line) + ": " + what);
+}
+
+#define CHECK(what) check(static_cast<bool>(what), #what, __LINE__)
+
+/// Whether a call throws an error of such a code.
+template <typename Call>
+bool throws(lxr::errc code, Call call) {
+    try {
+        call();
+    } catch (const lxr::error& thrown) {
+        return thrown.reason() == code && thrown.code() == code && thrown.code().category() == lxr::category();
+    }
+    return false;
+}
+
+/// A list of the numbers from 0 to below an end, the last one first.
+lxr::root list_of(lxr::heap& heap, std::uint64_t end) {
+    lxr::root list;
+    for (std::uint64_t number = 0; number < end; ++number) {
+        lxr::root pair = heap.make(1, 1);
+        pair.put(0, number);
+        pair.store(0, list);
+        list = std::move(pair);
+    }
+    return list;
+}
+
+void lists() {
+    lxr::heap heap(2);
+    lxr::root list = list_of(heap, 200);
+    for (int garbage = 0; garbage < 20000; ++garbage) heap.make(1, 8);
+    CHECK(heap.pauses() > 0);
+    lxr::root at = list.copy();
+    CHECK(at.same(list));
+    for (std::uint64_t number = 200; number-- > 0; at.load_from(at, 0)) CHECK(at.get(0) == number);
+    CHECK(!at);
+    heap.collect();
+    CHECK(heap.live() == 200);
+    list.reset();
+    heap.collect();
+    CHECK(heap.live() == 0 && heap.dead() + heap.swept() == 200);
+}
+
+void roots() {
+    lxr::heap heap(1);
+    std::vector<lxr::root> held;
+    for (int at = 0; at < 14; ++at) held.push_back(heap.make(0, 1));
+    CHECK(throws(lxr::errc::no_register, [&] { heap.make(0, 1); }));
+    held.pop_back();
+    lxr::root made = heap.make(2, 0);
+    lxr::root moved = std::move(made);
+    CHECK(!made && moved);
+    made = std::move(moved);
+    CHECK(made && !moved && made.same(made) && moved.same(lxr::root()) && !made.same(moved));
+    made.store(0, made);
+    made.store(1, held.front());
+    made.clear(1);
+    held.clear();
+    CHECK(made.load(0).same(made) && !made.load(1));
+    heap.collect();
+    CHECK(heap.live() == 1);
+}
+
+void world() {
+    lxr::heap heap(1);
+    CHECK(heap.world().shape().refs == LXR_WORLD_REFS);
+    {
+        lxr::root kept = heap.make(0, 1);
+        kept.put(0, 9);
+        heap.world().store(63, kept);
+    }
+    heap.collect();
+    lxr::root world = heap.world();
+    world.load_from(world, 63);
+    CHECK(world.get(0) == 9);
+    CHECK(heap.world().load(63).same(world));
+}
+
+void large_objects() {
+    lxr::heap heap(1, 5);
+    lxr::root body = heap.make_large(2);
+    std::vector<std::uint64_t> words(5000, 3), found(5000);
+    CHECK(body.shape().blocks == 2);
+    body.body_write(3000, words.data(), words.size());
+    body.body_put(3001, 4);
+    body.body_read(3000, found.data(), found.size());
+    CHECK(found[0] == 3 && found[1] == 4 && found[4999] == 3 && body.body_get(2999) == 0);
+    CHECK(throws(lxr::errc::index, [&] { body.body_write(3193, words.data(), words.size()); }));
+    CHECK(throws(lxr::errc::full, [&] { heap.make_large(4); }));
+    CHECK(!heap.try_make_large(4) && heap.try_make_large(3));
+    CHECK(heap.free_body_bytes() == 0);
+}
+
+void errors() {
+    lxr::heap heap(1), other(1);
+    lxr::root nil, pair = heap.make(1, 1), foreign = other.make(1, 1);
+    CHECK(throws(lxr::errc::size, [] { lxr::heap none(0); }));
+    CHECK(throws(lxr::errc::size, [&] { heap.make(1024, 0); }));
+    CHECK(throws(lxr::errc::nil, [&] { nil.load(0); }));
+    CHECK(throws(lxr::errc::nil, [&] { pair.load(0).get(0); }));
+    CHECK(throws(lxr::errc::index, [&] { pair.get(1); }));
+    CHECK(throws(lxr::errc::index, [&] { pair.load(1); }));
+    CHECK(throws(lxr::errc::no_register, [&] { pair.store(0, foreign); }));
+    CHECK(!pair.same(foreign) && !pair.load(0));
+    CHECK(make_error_code(lxr::errc::full) == std::errc::not_enough_memory);
+    CHECK(lxr::error(lxr::errc::full).code().message() == lxr_message(LXR_FULL));
+}
+
+void moved_heaps() {
+    lxr::heap heap(1);
+    lxr::root kept = heap.make(0, 1);
+    kept.put(0, 5);
+    lxr::heap moved = std::move(heap);
+    CHECK(throws(lxr::errc::no_heap, [&] { heap.make(0, 0); }));
+    moved.collect();
+    CHECK(moved.live() == 1 && kept.get(0) == 5);
+    kept.reset();
+    moved = lxr::heap(2);
+    CHECK(moved.live() == 0 && moved.free_blocks() == 1);
+}
+
+void full_heaps() {
+    lxr::heap heap(1);
+    lxr::root list;
+    std::uint64_t made = 0;
+    for (lxr::root pair; made < 1000 && (pair = heap.try_make(1, 30)); ++made) {
+        pair.store(0, list);
+        list = std::move(pair);
+    }
+    CHECK(made == 125 && heap.live() == made);
+    heap.pause_every(10);
+    list.reset();
+    CHECK(heap.try_make(1023, 1023));
+}
+
+}  // namespace
+
+int main() {
+    try {
+        lists();
+        roots();
+        world();
+        large_objects();
+        errors();
+        moved_heaps();
+        full_heaps();
+    } catch (const std::exception& wrong) {
+        std::cerr << wrong.what() << '\n';
+        return 1;
+    }
+    std::cout << "heap.cpp: " << checks << " checks\n";
+}

@@ -1,0 +1,293 @@
+//! A garbage-collected heap for one thread, whose collector is proved.
+//!
+//! Objects have references and data words of 64 bits, and live in a [`Heap`]. A program holds them by sixteen registers: what a
+//! [`Register`] holds is kept, and what kept objects refer to. All else is reclaimed by pauses, which the heap makes where it needs room,
+//! and the program where it likes. Objects have no addresses here, since pauses move them.
+//!
+//! ```
+//! use kogyulen::{Heap, R1, R2};
+//!
+//! # fn main() -> Result<(), kogyulen::Error> {
+//! let mut heap = Heap::open(64, 1)?; // 64 blocks of 32 KB for objects
+//! for number in 0..10 {
+//!     heap.make(R1, 1, 1)?; // one reference, one data word
+//!     heap.put(R1, 0, number)?;
+//!     heap.store(R1, 0, R2)?;
+//!     heap.copy(R2, R1);
+//! }
+//! heap.load(R1, R2, 0)?;
+//! assert_eq!(heap.get(R1, 0)?, 8);
+//! heap.clear(R1);
+//! heap.clear(R2);
+//! heap.collect();
+//! assert_eq!(heap.live(), 0);
+//! # Ok(())
+//! # }
+//! ```
+//!
+//! **What is proved** is the library behind this crate: what each of its functions answers and changes. This crate is some hundred lines of
+//! plain Rust over it; it owns the handle, so nothing that a safe caller does breaks what the library asks of a host.
+//!
+//! Linking: the build script takes `liblxr.a` from the folder that the environment variable `LXR_LIB_DIR` names, or else from the
+//! repository.
+
+#![warn(missing_docs)]
+
+mod error;
+mod raw;
+mod register;
+
+pub use error::Error;
+pub use register::{Register, R0, R1, R10, R11, R12, R13, R14, R15, R2, R3, R4, R5, R6, R7, R8, R9};
+
+use error::done;
+
+/// The references of the world.
+pub const WORLD_REFS: u32 = 64;
+
+/// The words of a block of a body.
+pub const BLOCK_WORDS: u32 = 4096;
+
+/// How many fields an object has.
+#[derive(Clone, Copy, Debug, PartialEq, Eq, Hash)]
+pub struct Shape {
+    /// References.
+    pub refs: u32,
+    /// Data words.
+    pub words: u32,
+    /// Blocks of the body, of 4,096 words each: 0 where it isn't a large object.
+    pub blocks: u32,
+}
+
+/// A heap and its sixteen registers. It has one owner, is freed when that lets go of it, and stays on the thread that opened it.
+///
+/// At first [`R0`] holds the world, an object with [`WORLD_REFS`] references that is kept for good, and the other registers are nil.
+///
+/// ```compile_fail
+/// let heap = kogyulen::Heap::open(1, 1).unwrap();
+/// std::thread::spawn(move || drop(heap)); // it isn't `Send`
+/// ```
+///
+/// ```compile_fail
+/// let heap = kogyulen::Heap::open(1, 1).unwrap();
+/// let other = heap.clone(); // it has one owner
+/// ```
+pub struct Heap {
+    handle: raw::Handle,
+}
+
+impl Heap {
+    /// Opens a heap of so many blocks of 32 KB for objects, and so many for the bodies of large ones, 1 to 65,536 each. All memory that it
+    /// will ever use is reserved now.
+    ///
+    /// # Errors
+    /// [`Error::Size`] and [`Error::Memory`].
+    pub fn open(blocks: u32, body_blocks: u32) -> Result<Heap, Error> {
+        let mut heap = Heap { handle: raw::Handle::EMPTY };
+        // SAFETY: the handle is empty, this thread's, and written by the library alone; so it is in each call below.
+        done(unsafe { raw::lxr_open(&mut heap.handle, blocks, body_blocks) })?;
+        Ok(heap)
+    }
+
+    /// The register holds a new object with nil references and words of 0; at most 1,023 of each. Where there is no room, the heap makes a
+    /// collecting pause first.
+    ///
+    /// # Errors
+    /// [`Error::Size`], and [`Error::Full`] where what can be reached leaves no room even so.
+    pub fn make(&mut self, dest: Register, refs: u32, words: u32) -> Result<(), Error> {
+        done(unsafe { raw::lxr_new(&mut self.handle, dest.number(), refs, words) })
+    }
+
+    /// The register holds a new large object, with a body of 1 to 128 blocks whose words are 0.
+    ///
+    /// # Errors
+    /// [`Error::Size`] and [`Error::Full`].
+    pub fn make_large(&mut self, dest: Register, blocks: u32) -> Result<(), Error> {
+        done(unsafe { raw::lxr_big(&mut self.handle, dest.number(), blocks) })
+    }
+
+    /// The register holds what a reference of the base's object refers to, or becomes nil.
+    ///
+    /// # Errors
+    /// [`Error::Nil`] and [`Error::Index`].
+    pub fn load(&mut self, dest: Register, base: Register, index: u32) -> Result<(), Error> {
+        done(unsafe { raw::lxr_load(&mut self.handle, dest.number(), base.number(), index) })
+    }
+
+    /// A reference of the base's object becomes what the source holds, or nil.
+    ///
+    /// # Errors
+    /// [`Error::Nil`] and [`Error::Index`].
+    pub fn store(&mut self, base: Register, index: u32, source: Register) -> Result<(), Error> {
+        done(unsafe { raw::lxr_store(&mut self.handle, base.number(), index, source.number()) })
+    }
+
+    /// A data word of the base's object.
+    ///
+    /// # Errors
+    /// [`Error::Nil`] and [`Error::Index`].
+    pub fn get(&mut self, base: Register, index: u32) -> Result<u64, Error> {
+        let mut word = 0;
+        done(unsafe { raw::lxr_get(&mut self.handle, base.number(), index, &mut word) })?;
+        Ok(word)
+    }
+
+    /// Writes a data word of the base's object.
+    ///
+    /// # Errors
+    /// [`Error::Nil`] and [`Error::Index`].
+    pub fn put(&mut self, base: Register, index: u32, word: u64) -> Result<(), Error> {
+        done(unsafe { raw::lxr_put(&mut self.handle, base.number(), index, word) })
+    }
+
+    /// A word of the body of the base's object.
+    ///
+    /// # Errors
+    /// [`Error::Nil`] and [`Error::Index`].
+    pub fn body_get(&mut self, base: Register, index: u32) -> Result<u64, Error> {
+        let mut word = 0;
+        done(unsafe { raw::lxr_bget(&mut self.handle, base.number(), index, &mut word) })?;
+        Ok(word)
+    }
+
+    /// Writes a word of the body of the base's object.
+    ///
+    /// # Errors
+    /// [`Error::Nil`] and [`Error::Index`].
+    pub fn body_put(&mut self, base: Register, index: u32, word: u64) -> Result<(), Error> {
+        done(unsafe { raw::lxr_bput(&mut self.handle, base.number(), index, word) })
+    }
+
+    /// Reads words of the body from an index on: all that fit the slice, or none.
+    ///
+    /// # Errors
+    /// [`Error::Nil`], and [`Error::Index`] where the body doesn't have them all.
+    pub fn body_read(&mut self, base: Register, index: u32, into: &mut [u64]) -> Result<(), Error> {
+        done(unsafe { raw::lxr_bread(&mut self.handle, base.number(), index, into.as_mut_ptr(), into.len()) })
+    }
+
+    /// Writes words of the body from an index on: all of the slice, or none.
+    ///
+    /// # Errors
+    /// [`Error::Nil`], and [`Error::Index`] where the body doesn't have them all.
+    pub fn body_write(&mut self, base: Register, index: u32, from: &[u64]) -> Result<(), Error> {
+        done(unsafe { raw::lxr_bwrite(&mut self.handle, base.number(), index, from.as_ptr(), from.len()) })
+    }
+
+    /// How many fields the base's object has; `None` where the register is nil.
+    pub fn shape(&mut self, base: Register) -> Option<Shape> {
+        let mut shape = Shape { refs: 0, words: 0, blocks: 0 };
+        let code = unsafe { raw::lxr_shape(&mut self.handle, base.number(), &mut shape.refs, &mut shape.words, &mut shape.blocks) };
+        done(code).ok().map(|()| shape)
+    }
+
+    /// Whether both registers are nil or hold one object.
+    pub fn same(&mut self, left: Register, right: Register) -> bool {
+        let mut same = 0;
+        sure(unsafe { raw::lxr_same(&mut self.handle, left.number(), right.number(), &mut same) });
+        same != 0
+    }
+
+    /// Whether the register is nil.
+    pub fn is_nil(&mut self, source: Register) -> bool {
+        let mut is_nil = 0;
+        sure(unsafe { raw::lxr_is_nil(&mut self.handle, source.number(), &mut is_nil) });
+        is_nil != 0
+    }
+
+    /// A register holds what another holds, or becomes nil.
+    pub fn copy(&mut self, dest: Register, source: Register) {
+        sure(unsafe { raw::lxr_move(&mut self.handle, dest.number(), source.number()) });
+    }
+
+    /// The register becomes nil.
+    pub fn clear(&mut self, dest: Register) {
+        sure(unsafe { raw::lxr_nil(&mut self.handle, dest.number()) });
+    }
+
+    /// Makes a plain pause, by reference counts alone: cycles and objects with fifteen or more references wait for [`Heap::collect`].
+    pub fn pause(&mut self) {
+        sure(unsafe { raw::lxr_pause(&mut self.handle) });
+    }
+
+    /// Makes a collecting pause: exactly what can be reached is left.
+    pub fn collect(&mut self) {
+        sure(unsafe { raw::lxr_collect(&mut self.handle) });
+    }
+
+    /// From now on a plain pause is made once so many objects were made since the last; 0: only where it is asked for or needed.
+    pub fn pause_every(&mut self, news: u32) {
+        sure(unsafe { raw::lxr_pause_every(&mut self.handle, news) });
+    }
+
+    /// Pauses so far.
+    pub fn pauses(&mut self) -> u64 {
+        self.count(0)
+    }
+
+    /// Objects made before the last pause and behind the one before it that the last pause kept.
+    pub fn promoted(&mut self) -> u64 {
+        self.count(1)
+    }
+
+    /// Objects that counts reclaimed at the last pause.
+    pub fn dead(&mut self) -> u64 {
+        self.count(2)
+    }
+
+    /// Objects whose count stands from the last pause on, since it has reached fifteen.
+    pub fn stuck(&mut self) -> u64 {
+        self.count(3)
+    }
+
+    /// Objects that only a collecting pause reclaims, and the last one did.
+    pub fn swept(&mut self) -> u64 {
+        self.count(4)
+    }
+
+    /// Objects that the last pause left, and those made since; without the world.
+    pub fn live(&mut self) -> u64 {
+        self.count(5)
+    }
+
+    /// Wholly free blocks for objects.
+    pub fn free_blocks(&mut self) -> u64 {
+        self.count(6)
+    }
+
+    /// Bytes of the free blocks for bodies.
+    pub fn free_body_bytes(&mut self) -> u64 {
+        self.count(7)
+    }
+
+    fn count(&mut self, what: u32) -> u64 {
+        let mut number = 0;
+        sure(unsafe { raw::lxr_count(&mut self.handle, what, &mut number) });
+        number
+    }
+}
+
+impl Drop for Heap {
+    fn drop(&mut self) {
+        // An empty handle, of a heap that couldn't be opened, is answered by a code, and nothing happens.
+        unsafe { raw::lxr_close(&mut self.handle) };
+    }
+}
+
+impl std::fmt::Debug for Heap {
+    fn fmt(&self, f: &mut std::fmt::Formatter<'_>) -> std::fmt::Result {
+        f.debug_struct("Heap").finish_non_exhaustive()
+    }
+}
+
+/// The version of the library, major, minor and patch.
+pub fn version() -> (u32, u32, u32) {
+    // SAFETY: it takes nothing, and answers a number.
+    let version = unsafe { raw::lxr_version() };
+    (version >> 16, version >> 8 & 0xff, version & 0xff)
+}
+
+/// A call on an open heap with registers below 16 is never refused.
+fn sure(code: u32) {
+    debug_assert_eq!(done(code), Ok(()));
+}

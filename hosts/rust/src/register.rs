@@ -1,0 +1,75 @@
+//! The registers of a heap.
+
+use std::fmt;
+
+/// One of the sixteen registers of a heap.
+///
+/// ```
+/// use kogyulen::{Register, R3};
+///
+/// assert_eq!(Register::new(3), Some(R3));
+/// assert_eq!(Register::new(16), None);
+/// assert_eq!(R3.to_string(), "r3");
+/// assert_eq!(Register::all().count(), 16);
+/// ```
+#[derive(Clone, Copy, PartialEq, Eq, PartialOrd, Ord, Hash)]
+pub struct Register(u8);
+
+impl Register {
+    /// The register of a number from 0 to 15.
+    pub const fn new(number: u32) -> Option<Register> {
+        if number < 16 {
+            Some(Register(number as u8))
+        } else {
+            None
+        }
+    }
+
+    /// Its number, from 0 to 15.
+    pub const fn number(self) -> u32 {
+        self.0 as u32
+    }
+
+    /// All sixteen, in order.
+    pub fn all() -> impl DoubleEndedIterator<Item = Register> + ExactSizeIterator {
+        (0..16).map(Register)
+    }
+}
+
+impl fmt::Display for Register {
+    fn fmt(&self, f: &mut fmt::Formatter<'_>) -> fmt::Result {
+        write!(f, "r{}", self.0)
+    }
+}
+
+impl fmt::Debug for Register {
+    fn fmt(&self, f: &mut fmt::Formatter<'_>) -> fmt::Result {
+        fmt::Display::fmt(self, f)
+    }
+}
+
+macro_rules! name_registers {
+    ($($name:ident $number:literal $note:literal),+ $(,)?) => {$(
+        #[doc = $note]
+        pub const $name: Register = Register($number);
+    )+};
+}
+
+name_registers! {
+    R0 0 "Register 0, which holds the world at first.",
+    R1 1 "Register 1.",
+    R2 2 "Register 2.",
+    R3 3 "Register 3.",
+    R4 4 "Register 4.",
+    R5 5 "Register 5.",
+    R6 6 "Register 6.",
+    R7 7 "Register 7.",
+    R8 8 "Register 8.",
+    R9 9 "Register 9.",
+    R10 10 "Register 10.",
+    R11 11 "Register 11.",
+    R12 12 "Register 12.",
+    R13 13 "Register 13.",
+    R14 14 "Register 14.",
+    R15 15 "Register 15.",
+}

@@ -1,0 +1,32 @@
+/*
+ * Faults of a program: where one stands, and what is said of it. SPDX: MIT OR Apache-2.0
+ */
+#ifndef FAULT_H
+#define FAULT_H
+
+#include <setjmp.h>
+#include <stddef.h>
+#include <stdint.h>
+
+/* Where something stands in a source: from line 1 and column 1 on. Line 0: in no source. */
+typedef struct position {
+    uint32_t line, column;
+} Position;
+
+/* Names the source in which faults stand from now on. */
+void fault_source(const char *name);
+
+/* Where a fault goes to, once it is told. */
+extern jmp_buf fault_exit;
+
+/* Writes `SOURCE:LINE:COLUMN: ` to the standard error output. */
+void fault_begin(Position at);
+__attribute__((noreturn)) void fault_end(void);
+
+/* Tells a fault in one line, and goes to `fault_exit`. */
+__attribute__((noreturn, format(printf, 2, 3))) void fault(Position at, const char *format, ...);
+
+/* Memory of C that is at least so large, or the end of the program. */
+void *more_memory(void *old, size_t bytes);
+
+#endif

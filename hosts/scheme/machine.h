@@ -1,0 +1,177 @@
+/*
+ * The machine that runs compiled programs. SPDX: MIT OR Apache-2.0
+ *
+ * Its registers are the sixteen of the heap, each with a word of C's memory beside it: a value in register r is `word[r]`, and where that
+ * says so what the heap's register r holds. Operands from 16 on have a word alone, which is constant. So arithmetic and tests ask nothing
+ * of the heap, and a program's variables stand in registers while its procedure runs.
+ *
+ * A call that isn't a tail call makes a frame: an object that has the frame before it, where to go on, and the registers that are needed
+ * then. Frames never change, so a continuation is a reference to a frame. Code and the words of globals and constants are C's; what globals
+ * and constants refer to is held by the table, an object that register 0 holds.
+ */
+#ifndef MACHINE_H
+#define MACHINE_H
+
+#include "fault.h"
+#include "memory.h"
+#include "symbols.h"
+#include "value.h"
+
+enum {
+    REGISTER_TABLE = 0,     /* references of globals and constants; it has no word */
+    REGISTER_FRAME = 1,     /* the frame that a return goes to; it has no word */
+    REGISTER_PROCEDURE = 2, /* the procedure that runs */
+    REGISTER_SCRATCH = 3,   /* free within an instruction */
+    REGISTER_FIRST = 4,     /* a procedure finds its arguments from here on, and variables stand here */
+    REGISTER_NIL = 15,      /* always nil */
+    REGISTER_END = 15,
+    REGISTERS = MEMORY_REGISTERS,
+    OPERANDS = 256,
+    ARGUMENTS_MOST = 8
+};
+
+typedef enum opcode {
+    OP_HALT,
+    OP_WORD,        /* a becomes words[n] */
+    OP_TABLE_GET,   /* a becomes entry n of the table */
+    OP_TABLE_SET,   /* entry n of the table becomes a */
+    OP_MOVE,        /* a becomes b */
+    OP_CAPTURED,    /* a becomes what the procedure that runs captured as its n-th */
+    OP_CLOSURE,     /* a becomes a procedure with code n that captures b values */
+    OP_CLOSURE_PUT, /* what procedure a captured as its n-th becomes b */
+    OP_SLOTS,       /* a becomes n undefined slots */
+    OP_SLOT_GET,    /* a becomes slot n of b */
+    OP_SLOT_SET,    /* slot n of a becomes b */
+    OP_JUMP,        /* go on n instructions further */
+    OP_UNLESS,      /* jump where a is false; so do the tests where they fail */
+    OP_LESS,
+    OP_NOT_GREATER,
+    OP_NUMBERS_EQUAL,
+    OP_SAME,
+    OP_IS,  /* a is of kind b */
+    OP_ADD, /* a becomes b + c */
+    OP_SUBTRACT,
+    OP_MULTIPLY,
+    OP_QUOTIENT,
+    OP_REMAINDER,
+    OP_MODULO,
+    OP_CONS,
+    OP_CAR,
+    OP_CDR,
+    OP_SET_CAR, /* that of a becomes b */
+    OP_SET_CDR,
+    OP_VECTOR_REF,  /* a becomes element c of b */
+    OP_VECTOR_SET,  /* element b of a becomes c */
+    OP_FUNCTION,    /* a becomes what function n (bits 0 to 15) makes of b, c and n (from bit 16 on) */
+    OP_FRAME,       /* a call begins that returns n instructions further, to a; registers b + 256 c are needed then */
+    OP_CALL,        /* call the procedure with b arguments */
+    OP_APPLY,       /* call the procedure with the list of arguments in the first register */
+    OP_RETURN,      /* return a */
+    OP_CONTINUATION /* a becomes what returns to the frame */
+} Opcode;
+
+typedef struct instruction {
+    uint8_t op, a, b, c;
+    int32_t n;
+} Instruction;
+
+/* What is called: where its code begins, and which arguments it takes. */
+typedef struct code {
+    size_t entry;
+    unsigned parameters;
+    bool has_rest;
+    Symbol name;
+} Code;
+
+typedef struct machine {
+    Word word[OPERANDS];
+    unsigned holding;  /* the registers that may hold an object */
+    unsigned operands; /* how many operands there are */
+    size_t at;         /* the instruction that runs, where it may fault */
+    size_t called_at;  /* the last call that stands in a source */
+    Instruction *instructions;
+    Position *positions; /* of instructions */
+    size_t instruction_count, instruction_room;
+    Code *codes;
+    size_t code_count, code_room;
+    Word *words; /* constants that aren't operands */
+    size_t word_count, word_room;
+    Word *table; /* words of the table */
+    Symbol *table_names;
+    size_t table_count, table_room;
+    char *text; /* bytes of strings that are worked on */
+    size_t text_room;
+    FILE *output;
+    int exit_status; /* -1 while the program goes on */
+} Machine;
+
+void machine_open(Machine *machine);
+void machine_close(Machine *machine);
+
+/* Adds what a compiled program consists of. */
+size_t machine_add_instruction(Machine *machine, Instruction instruction, Position at);
+unsigned machine_add_code(Machine *machine, Code code);
+size_t machine_add_word(Machine *machine, Word word);
+unsigned machine_add_entry(Machine *machine, Symbol name);
+
+/* An entry of the table becomes what a register holds. */
+void machine_set_entry(Machine *machine, unsigned entry, unsigned source);
+
+/* The operand of a constant, or 0 where all operands are taken. */
+unsigned machine_constant(Machine *machine, Word word);
+
+/* Runs code without parameters to its end. */
+void machine_run(Machine *machine, unsigned code);
+
+/* Tells a fault of the instruction that runs. */
+__attribute__((noreturn, format(printf, 2, 3))) void machine_fault(const Machine *machine, const char *format, ...);
+Position machine_position(const Machine *machine);
+
+/* A register becomes a word without a reference. */
+static inline void machine_set(Machine *machine, unsigned dest, Word word) { machine->word[dest] = word; }
+
+/* A register has got a value whose reference the heap's register holds. */
+static inline void machine_hold(Machine *machine, unsigned dest, Word word) {
+    machine->word[dest] = word;
+    machine->holding |= 1u << dest;
+}
+
+static inline void machine_move(Machine *machine, unsigned dest, unsigned source) {
+    machine->word[dest] = machine->word[source];
+    if (is_reference(machine->word[dest]) && dest != source) {
+        memory_move(dest, source);
+        machine->holding |= 1u << dest;
+    }
+}
+
+/* A register becomes a field of an object: its word, and its reference of the same number where that has one. */
+static inline void machine_load(Machine *machine, unsigned dest, unsigned base, unsigned field) {
+    const Word word = memory_get(base, field);
+    machine->word[dest] = word;
+    if (is_reference(word)) {
+        memory_load(dest, base, field);
+        machine->holding |= 1u << dest;
+    }
+}
+
+/* A field of a new object becomes a value. */
+static inline void machine_begin(const Machine *machine, unsigned base, unsigned field, unsigned source) {
+    memory_put(base, field, machine->word[source]);
+    if (is_reference(machine->word[source])) memory_store(base, field, source);
+}
+
+/* A field of an object becomes a value; what it referred to is let go. */
+static inline void machine_store(Machine *machine, unsigned base, unsigned field, unsigned source) {
+    if (is_reference(machine->word[source])) {
+        memory_store(base, field, source);
+    } else if (is_reference(memory_get(base, field))) {
+        memory_store(base, field, REGISTER_NIL);
+    }
+    memory_put(base, field, machine->word[source]);
+}
+
+static inline void machine_new(const Machine *machine, unsigned dest, unsigned references, unsigned words) {
+    if (!memory_new(dest, references, words)) machine_fault(machine, "the heap is full");
+}
+
+#endif

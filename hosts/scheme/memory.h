@@ -1,0 +1,48 @@
+/*
+ * The heap, as the interpreter sees it. SPDX: MIT OR Apache-2.0
+ *
+ * It has one of three versions, chosen at build: memory_lxr.c on the proved collector, memory_boehm.c on Boehm's, and memory_malloc.c,
+ * which never frees. An object has up to OBJECT_MOST references and as many data words; a large object has a body of words alone. Objects
+ * are held by sixteen registers, by number. What a register, or an object that a register leads to, holds is kept.
+ */
+#ifndef MEMORY_H
+#define MEMORY_H
+
+#include "value.h"
+#include <stddef.h>
+#include <stdio.h>
+
+enum { MEMORY_REGISTERS = 16, OBJECT_MOST = 1023, BLOCK_BYTES = 32768, BODY_BLOCK_WORDS = 4096, BODY_BLOCKS_MOST = 128 };
+
+typedef struct memory_options {
+    uint32_t blocks;      /* the heap's size, in blocks of 32 KB */
+    uint32_t body_blocks; /* room for bodies of large objects, in such blocks */
+    uint32_t every;       /* bytes of new objects between two plain pauses; 0: the version's own choice */
+    bool pauses;          /* whether pauses are timed */
+} MemoryOptions;
+
+/* Whether there is memory for such a heap. */
+bool memory_open(const MemoryOptions *options);
+void memory_close(void);
+
+/* A new object, whose references are nil and whose words are 0. Whether there is room. */
+bool memory_new(unsigned dest, unsigned references, unsigned words);
+void memory_load(unsigned dest, unsigned base, unsigned index);
+void memory_store(unsigned base, unsigned index, unsigned source);
+Word memory_get(unsigned base, unsigned index);
+void memory_put(unsigned base, unsigned index, Word word);
+void memory_move(unsigned dest, unsigned source);
+void memory_nil(unsigned dest);
+bool memory_same(unsigned left, unsigned right);
+
+/* A new large object, whose words are 0. Whether there is room. */
+bool memory_big(unsigned dest, unsigned blocks);
+void memory_read(unsigned base, size_t index, Word *into, size_t count);
+void memory_write(unsigned base, size_t index, const Word *from, size_t count);
+
+void memory_collect(void);
+
+/* How many pauses there were, by kind, and how long they took. */
+void memory_report(FILE *to);
+
+#endif

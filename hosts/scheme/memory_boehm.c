@@ -1,0 +1,88 @@
+/*
+ * The heap on Boehm's collector. SPDX: MIT OR Apache-2.0
+ *
+ * The heap has its whole size from the beginning and never grows, as that of the proved collector. The registers are static, so that the
+ * collector finds them. Objects without references are said to have none.
+ */
+#include "memory.h"
+#include "pauses.h"
+#include <gc/gc.h>
+#include <stdlib.h>
+#include <string.h>
+
+/* An object's header; its references stand behind it, and then its words. */
+typedef struct object {
+    uint32_t references;
+    uint32_t words;
+} Object;
+
+static Object *registers[MEMORY_REGISTERS];
+static uint64_t pause_began;
+
+static Object **references_of(Object *object) { return (Object **)(void *)(object + 1); }
+
+static Word *words_of(Object *object) { return (Word *)(void *)(references_of(object) + object->references); }
+
+static void time_pause(GC_EventType event) {
+    if (event == GC_EVENT_START) pause_began = pauses_clock();
+    if (event == GC_EVENT_END) pauses_add(PAUSE_COLLECTING, pauses_clock() - pause_began);
+}
+
+static void keep_silent(char *message, GC_word argument) {
+    (void)message;
+    (void)argument;
+}
+
+bool memory_open(const MemoryOptions *options) {
+    const size_t bytes = ((size_t)options->blocks + options->body_blocks) * BLOCK_BYTES;
+    GC_INIT();
+    GC_set_warn_proc(keep_silent);
+    GC_set_max_heap_size(bytes);
+    const size_t has = GC_get_heap_size();
+    if (has < bytes) GC_expand_hp(bytes - has);
+    if (options->pauses) GC_set_on_collection_event(time_pause);
+    return true;
+}
+
+void memory_close(void) {}
+
+static bool make(unsigned dest, size_t references, size_t words) {
+    const size_t bytes = sizeof(Object) + references * sizeof(Object *) + words * sizeof(Word);
+    Object *const object = references ? GC_MALLOC(bytes) : GC_MALLOC_ATOMIC(bytes);
+    if (!object) return false;
+    if (!references) memset(object, 0, bytes);
+    object->references = (uint32_t)references;
+    object->words = (uint32_t)words;
+    registers[dest] = object;
+    return true;
+}
+
+bool memory_new(unsigned dest, unsigned references, unsigned words) { return make(dest, references, words); }
+
+void memory_load(unsigned dest, unsigned base, unsigned index) { registers[dest] = references_of(registers[base])[index]; }
+
+void memory_store(unsigned base, unsigned index, unsigned source) { references_of(registers[base])[index] = registers[source]; }
+
+Word memory_get(unsigned base, unsigned index) { return words_of(registers[base])[index]; }
+
+void memory_put(unsigned base, unsigned index, Word word) { words_of(registers[base])[index] = word; }
+
+void memory_move(unsigned dest, unsigned source) { registers[dest] = registers[source]; }
+
+void memory_nil(unsigned dest) { registers[dest] = NULL; }
+
+bool memory_same(unsigned left, unsigned right) { return registers[left] == registers[right]; }
+
+bool memory_big(unsigned dest, unsigned blocks) { return make(dest, 0, (size_t)blocks * BODY_BLOCK_WORDS); }
+
+void memory_read(unsigned base, size_t index, Word *into, size_t count) {
+    memcpy(into, words_of(registers[base]) + index, count * sizeof *into);
+}
+
+void memory_write(unsigned base, size_t index, const Word *from, size_t count) {
+    memcpy(words_of(registers[base]) + index, from, count * sizeof *from);
+}
+
+void memory_collect(void) { GC_gcollect(); }
+
+void memory_report(FILE *to) { pauses_report(to); }

@@ -1,0 +1,135 @@
+/*
+ * The heap on the proved collector. SPDX: MIT OR Apache-2.0
+ *
+ * Each call is one of the collector's, whose registers are the machine's. A plain pause, which goes by counts of references, comes once
+ * half of what was free after the last one is used; what it leaves, cycles for instance, goes at the collecting pause that the collector
+ * makes by itself where a new object finds no room.
+ */
+#include "memory.h"
+#include "pauses.h"
+#include <lxr.h>
+#include <stdlib.h>
+
+enum { HEADER_BYTES = 8, FIELD_BYTES = 8, LEAST_BETWEEN = 2 * BLOCK_BYTES };
+
+static lxr_heap heap = LXR_HEAP_INIT;
+static uint64_t chosen_bytes; /* of new objects between two plain pauses; 0: half of what is free */
+static uint64_t bytes_left;   /* of new objects until the next plain pause */
+static bool is_timed;
+static uint64_t pauses_known;
+
+/* A code that tells a mistake of the interpreter. */
+__attribute__((noreturn, cold)) static void refuse(uint32_t code) {
+    fprintf(stderr, "scheme: the heap refused a call, with code %u\n", (unsigned)code);
+    abort();
+}
+
+static inline void want(uint32_t code) {
+    if (code != LXR_OK) refuse(code);
+}
+
+static uint64_t count(uint32_t what) {
+    uint64_t number = 0;
+    want(lxr_count(&heap, what, &number));
+    return number;
+}
+
+static void plan_pause(void) {
+    const uint64_t half = count(LXR_FREE_BLOCKS) * BLOCK_BYTES / 2;
+    bytes_left = chosen_bytes ? chosen_bytes : half > LEAST_BETWEEN ? half : LEAST_BETWEEN;
+}
+
+static void pause_plainly(void) {
+    const uint64_t began = is_timed ? pauses_clock() : 0;
+    want(lxr_pause(&heap));
+    if (is_timed) pauses_add(PAUSE_PLAIN, pauses_clock() - began);
+    pauses_known++;
+    plan_pause();
+}
+
+/* A call may have paused by itself: a new object that found no room has collected, and a store that found its log full has not. */
+static void note_pauses(PauseKind kind, uint64_t began) {
+    const uint64_t pauses = count(LXR_PAUSES);
+    if (pauses == pauses_known) return;
+    pauses_add(kind, pauses_clock() - began);
+    pauses_known = pauses;
+    plan_pause();
+}
+
+bool memory_open(const MemoryOptions *options) {
+    chosen_bytes = options->every;
+    is_timed = options->pauses;
+    if (lxr_open(&heap, options->blocks, options->body_blocks) != LXR_OK) return false;
+    plan_pause();
+    return true;
+}
+
+void memory_close(void) { want(lxr_close(&heap)); }
+
+static bool is_done(uint32_t code) {
+    if (code == LXR_FULL) return false;
+    want(code);
+    return true;
+}
+
+bool memory_new(unsigned dest, unsigned references, unsigned words) {
+    const uint64_t bytes = HEADER_BYTES + FIELD_BYTES * ((uint64_t)references + words);
+    if (bytes_left < bytes) pause_plainly();
+    bytes_left = bytes_left < bytes ? 0 : bytes_left - bytes;
+    if (!is_timed) return is_done(lxr_new(&heap, dest, references, words));
+    const uint64_t began = pauses_clock();
+    const uint32_t code = lxr_new(&heap, dest, references, words);
+    note_pauses(PAUSE_COLLECTING, began);
+    return is_done(code);
+}
+
+void memory_load(unsigned dest, unsigned base, unsigned index) { want(lxr_load(&heap, dest, base, index)); }
+
+void memory_store(unsigned base, unsigned index, unsigned source) {
+    const uint64_t began = is_timed ? pauses_clock() : 0;
+    want(lxr_store(&heap, base, index, source));
+    if (is_timed) note_pauses(PAUSE_PLAIN, began);
+}
+
+Word memory_get(unsigned base, unsigned index) {
+    Word word;
+    want(lxr_get(&heap, base, index, &word));
+    return word;
+}
+
+void memory_put(unsigned base, unsigned index, Word word) { want(lxr_put(&heap, base, index, word)); }
+
+void memory_move(unsigned dest, unsigned source) { want(lxr_move(&heap, dest, source)); }
+
+void memory_nil(unsigned dest) { want(lxr_nil(&heap, dest)); }
+
+bool memory_same(unsigned left, unsigned right) {
+    uint32_t same;
+    want(lxr_same(&heap, left, right, &same));
+    return same;
+}
+
+bool memory_big(unsigned dest, unsigned blocks) {
+    const uint64_t began = is_timed ? pauses_clock() : 0;
+    const uint32_t code = lxr_big(&heap, dest, blocks);
+    if (is_timed) note_pauses(PAUSE_COLLECTING, began);
+    return is_done(code);
+}
+
+void memory_read(unsigned base, size_t index, Word *into, size_t count_of_words) {
+    want(lxr_bread(&heap, base, (uint32_t)index, into, count_of_words));
+}
+
+void memory_write(unsigned base, size_t index, const Word *from, size_t count_of_words) {
+    want(lxr_bwrite(&heap, base, (uint32_t)index, from, count_of_words));
+}
+
+void memory_collect(void) {
+    const uint64_t began = is_timed ? pauses_clock() : 0;
+    want(lxr_collect(&heap));
+    if (is_timed) pauses_add(PAUSE_COLLECTING, pauses_clock() - began);
+    pauses_known++;
+    plan_pause();
+}
+
+void memory_report(FILE *to) { pauses_report(to); }

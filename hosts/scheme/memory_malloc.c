@@ -1,0 +1,64 @@
+/*
+ * The heap on plain malloc, which never frees. SPDX: MIT OR Apache-2.0
+ */
+#include "memory.h"
+#include <stdlib.h>
+#include <string.h>
+
+/* An object's header; its references stand behind it, and then its words. */
+typedef struct object {
+    uint32_t references;
+    uint32_t words;
+} Object;
+
+static Object *registers[MEMORY_REGISTERS];
+
+static Object **references_of(Object *object) { return (Object **)(void *)(object + 1); }
+
+static Word *words_of(Object *object) { return (Word *)(void *)(references_of(object) + object->references); }
+
+static bool make(unsigned dest, size_t references, size_t words) {
+    Object *const object = calloc(1, sizeof *object + references * sizeof(Object *) + words * sizeof(Word));
+    if (!object) return false;
+    object->references = (uint32_t)references;
+    object->words = (uint32_t)words;
+    registers[dest] = object;
+    return true;
+}
+
+bool memory_open(const MemoryOptions *options) {
+    (void)options;
+    return true;
+}
+
+void memory_close(void) {}
+
+bool memory_new(unsigned dest, unsigned references, unsigned words) { return make(dest, references, words); }
+
+void memory_load(unsigned dest, unsigned base, unsigned index) { registers[dest] = references_of(registers[base])[index]; }
+
+void memory_store(unsigned base, unsigned index, unsigned source) { references_of(registers[base])[index] = registers[source]; }
+
+Word memory_get(unsigned base, unsigned index) { return words_of(registers[base])[index]; }
+
+void memory_put(unsigned base, unsigned index, Word word) { words_of(registers[base])[index] = word; }
+
+void memory_move(unsigned dest, unsigned source) { registers[dest] = registers[source]; }
+
+void memory_nil(unsigned dest) { registers[dest] = NULL; }
+
+bool memory_same(unsigned left, unsigned right) { return registers[left] == registers[right]; }
+
+bool memory_big(unsigned dest, unsigned blocks) { return make(dest, 0, (size_t)blocks * BODY_BLOCK_WORDS); }
+
+void memory_read(unsigned base, size_t index, Word *into, size_t count) {
+    memcpy(into, words_of(registers[base]) + index, count * sizeof *into);
+}
+
+void memory_write(unsigned base, size_t index, const Word *from, size_t count) {
+    memcpy(words_of(registers[base]) + index, from, count * sizeof *from);
+}
+
+void memory_collect(void) {}
+
+void memory_report(FILE *to) { fputs("pauses: none\n", to); }

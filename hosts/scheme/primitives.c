@@ -1,0 +1,324 @@
+/*
+ * The procedures that the machine has itself. SPDX: MIT OR Apache-2.0
+ */
+#include "primitives.h"
+#include <ctype.h>
+#include <inttypes.h>
+#include <stdlib.h>
+#include <string.h>
+
+/* What a function does not ask for. */
+#define UNUSED(operand) (void)(operand)
+
+size_t want_index(const Machine *machine, const char *name, Word word, uint64_t limit) {
+    if (!is_integer(word)) machine_fault(machine, "%s: not an integer", name);
+    if (number(word) < 0 || (uint64_t)number(word) >= limit) machine_fault(machine, "%s: %" PRId64 " is out of range", name, number(word));
+    return (size_t)number(word);
+}
+
+static int64_t want_integer(const Machine *machine, const char *name, unsigned operand) {
+    if (!is_integer(machine->word[operand])) machine_fault(machine, "%s: not an integer", name);
+    return number(machine->word[operand]);
+}
+
+static int want_character(const Machine *machine, const char *name, unsigned operand) {
+    if (kind_of(machine->word[operand]) != KIND_CHARACTER) machine_fault(machine, "%s: not a character", name);
+    return (int)payload(machine->word[operand]);
+}
+
+static void minimum(Machine *machine, unsigned dest, unsigned a, unsigned b, unsigned c) {
+    UNUSED(c);
+    const int64_t left = want_integer(machine, "min", a), right = want_integer(machine, "min", b);
+    machine_set(machine, dest, integer(left < right ? left : right));
+}
+
+static void maximum(Machine *machine, unsigned dest, unsigned a, unsigned b, unsigned c) {
+    UNUSED(c);
+    const int64_t left = want_integer(machine, "max", a), right = want_integer(machine, "max", b);
+    machine_set(machine, dest, integer(left > right ? left : right));
+}
+
+static void bitwise_and(Machine *machine, unsigned dest, unsigned a, unsigned b, unsigned c) {
+    UNUSED(c);
+    machine_set(machine, dest, integer(want_integer(machine, "bitwise-and", a) & want_integer(machine, "bitwise-and", b)));
+}
+
+static void bitwise_or(Machine *machine, unsigned dest, unsigned a, unsigned b, unsigned c) {
+    UNUSED(c);
+    machine_set(machine, dest, integer(want_integer(machine, "bitwise-or", a) | want_integer(machine, "bitwise-or", b)));
+}
+
+static void bitwise_xor(Machine *machine, unsigned dest, unsigned a, unsigned b, unsigned c) {
+    UNUSED(c);
+    machine_set(machine, dest, integer(want_integer(machine, "bitwise-xor", a) ^ want_integer(machine, "bitwise-xor", b)));
+}
+
+static void is_even(Machine *machine, unsigned dest, unsigned a, unsigned b, unsigned c) {
+    UNUSED(b);
+    UNUSED(c);
+    machine_set(machine, dest, boolean(want_integer(machine, "even?", a) % 2 == 0));
+}
+
+static void is_odd(Machine *machine, unsigned dest, unsigned a, unsigned b, unsigned c) {
+    UNUSED(b);
+    UNUSED(c);
+    machine_set(machine, dest, boolean(want_integer(machine, "odd?", a) % 2 != 0));
+}
+
+static void is_boolean(Machine *machine, unsigned dest, unsigned a, unsigned b, unsigned c) {
+    UNUSED(b);
+    UNUSED(c);
+    machine_set(machine, dest, boolean(machine->word[a] == TRUE || machine->word[a] == FALSE));
+}
+
+static void is_procedure(Machine *machine, unsigned dest, unsigned a, unsigned b, unsigned c) {
+    UNUSED(b);
+    UNUSED(c);
+    const Kind kind = kind_of(machine->word[a]);
+    machine_set(machine, dest, boolean(kind == KIND_PROCEDURE || kind == KIND_CONTINUATION));
+}
+
+static void character_to_integer(Machine *machine, unsigned dest, unsigned a, unsigned b, unsigned c) {
+    UNUSED(b);
+    UNUSED(c);
+    machine_set(machine, dest, integer(want_character(machine, "char->integer", a)));
+}
+
+static void integer_to_character(Machine *machine, unsigned dest, unsigned a, unsigned b, unsigned c) {
+    UNUSED(b);
+    UNUSED(c);
+    machine_set(machine, dest, PLAIN(KIND_CHARACTER, want_index(machine, "integer->char", machine->word[a], 256)));
+}
+
+static void character_equal(Machine *machine, unsigned dest, unsigned a, unsigned b, unsigned c) {
+    UNUSED(c);
+    machine_set(machine, dest, boolean(want_character(machine, "char=?", a) == want_character(machine, "char=?", b)));
+}
+
+static void character_less(Machine *machine, unsigned dest, unsigned a, unsigned b, unsigned c) {
+    UNUSED(c);
+    machine_set(machine, dest, boolean(want_character(machine, "char<?", a) < want_character(machine, "char<?", b)));
+}
+
+static void is_alphabetic(Machine *machine, unsigned dest, unsigned a, unsigned b, unsigned c) {
+    UNUSED(b);
+    UNUSED(c);
+    machine_set(machine, dest, boolean(isalpha(want_character(machine, "char-alphabetic?", a))));
+}
+
+static void is_numeric(Machine *machine, unsigned dest, unsigned a, unsigned b, unsigned c) {
+    UNUSED(b);
+    UNUSED(c);
+    machine_set(machine, dest, boolean(isdigit(want_character(machine, "char-numeric?", a))));
+}
+
+static void is_whitespace(Machine *machine, unsigned dest, unsigned a, unsigned b, unsigned c) {
+    UNUSED(b);
+    UNUSED(c);
+    machine_set(machine, dest, boolean(isspace(want_character(machine, "char-whitespace?", a))));
+}
+
+static void upcase(Machine *machine, unsigned dest, unsigned a, unsigned b, unsigned c) {
+    UNUSED(b);
+    UNUSED(c);
+    machine_set(machine, dest, PLAIN(KIND_CHARACTER, toupper(want_character(machine, "char-upcase", a))));
+}
+
+static void downcase(Machine *machine, unsigned dest, unsigned a, unsigned b, unsigned c) {
+    UNUSED(b);
+    UNUSED(c);
+    machine_set(machine, dest, PLAIN(KIND_CHARACTER, tolower(want_character(machine, "char-downcase", a))));
+}
+
+static void write_constant(const Machine *machine, Word word) {
+    const char *const text = word == EMPTY_LIST ? "()" : word == TRUE ? "#t" : word == FALSE ? "#f" : "#<unspecified>";
+    fputs(text, machine->output);
+}
+
+static void write_character(const Machine *machine, Word word, bool is_quoted) {
+    const int code = (int)payload(word);
+    if (!is_quoted) {
+        fputc(code, machine->output);
+    } else if (code == ' ' || code == '\n' || code == '\t' || code == '\r' || code == '\0') {
+        const char *const name = code == ' ' ? "space" : code == '\n' ? "newline" : code == '\t' ? "tab" : code == '\r' ? "return" : "null";
+        fprintf(machine->output, "#\\%s", name);
+    } else {
+        fprintf(machine->output, "#\\%c", code);
+    }
+}
+
+static void write_quoted(const Machine *machine, size_t length) {
+    static const char escaped[] = "\"\\\n\t\r", letters[] = "\"\\ntr";
+    fputc('"', machine->output);
+    for (size_t i = 0; i < length; i++) {
+        const char c = machine->text[i];
+        const char *const found = c ? strchr(escaped, c) : NULL;
+        if (found) fputc('\\', machine->output);
+        fputc(found ? letters[found - escaped] : c, machine->output);
+    }
+    fputc('"', machine->output);
+}
+
+static void write_string(Machine *machine, unsigned string, bool is_quoted) {
+    const size_t length = (size_t)payload(machine->word[string]);
+    read_string_text(machine, string, 0, length, 0);
+    if (is_quoted) {
+        write_quoted(machine, length);
+    } else if (length) {
+        fwrite(machine->text, 1, length, machine->output);
+    }
+}
+
+/* Writes a value that is neither a pair nor a vector; whether as a source has it. */
+static void write_atom(Machine *machine, unsigned dest, unsigned a, unsigned b, unsigned c) {
+    UNUSED(c);
+    UNUSED(dest);
+    const Word word = machine->word[a];
+    const bool is_quoted = machine->word[b] != FALSE;
+    switch (kind_of(word)) {
+    case KIND_INTEGER: fprintf(machine->output, "%" PRId64, number(word)); break;
+    case KIND_CONSTANT: write_constant(machine, word); break;
+    case KIND_CHARACTER: write_character(machine, word, is_quoted); break;
+    case KIND_SYMBOL: fputs(symbol_name((Symbol)payload(word)), machine->output); break;
+    case KIND_PROCEDURE: fprintf(machine->output, "#<procedure %s>", symbol_name(machine->codes[payload(word)].name)); break;
+    case KIND_STRING: write_string(machine, a, is_quoted); break;
+    case KIND_CONTINUATION: fputs("#<continuation>", machine->output); break;
+    case KIND_PAIR:
+    case KIND_VECTOR:
+    case KIND_SLOTS: machine_fault(machine, "not an atom");
+    }
+}
+
+static void write_char(Machine *machine, unsigned dest, unsigned a, unsigned b, unsigned c) {
+    UNUSED(dest);
+    UNUSED(b);
+    UNUSED(c);
+    fputc(want_character(machine, "write-char", a), machine->output);
+}
+
+/* A fault of the program begins: what is written from now on tells it. */
+static void begin_fault(Machine *machine, unsigned dest, unsigned a, unsigned b, unsigned c) {
+    UNUSED(dest);
+    UNUSED(a);
+    UNUSED(b);
+    UNUSED(c);
+    fault_begin(machine_position(machine));
+    machine->output = stderr;
+}
+
+static void end_fault(Machine *machine, unsigned dest, unsigned a, unsigned b, unsigned c) {
+    UNUSED(machine);
+    UNUSED(dest);
+    UNUSED(a);
+    UNUSED(b);
+    UNUSED(c);
+    fault_end();
+}
+
+static void leave(Machine *machine, unsigned dest, unsigned a, unsigned b, unsigned c) {
+    UNUSED(dest);
+    UNUSED(b);
+    UNUSED(c);
+    machine->exit_status = (int)want_index(machine, "exit", machine->word[a], 256);
+}
+
+static void collect(Machine *machine, unsigned dest, unsigned a, unsigned b, unsigned c) {
+    UNUSED(machine);
+    UNUSED(dest);
+    UNUSED(a);
+    UNUSED(b);
+    UNUSED(c);
+    memory_collect();
+}
+
+#define VALUE(text, arguments, code) \
+    { .name = text, .shape = SHAPE_VALUE, .least = arguments, .most = arguments, .op = code }
+#define FOLD(text, code, does) \
+    { .name = text, .shape = SHAPE_VALUE, .least = 2, .most = 2, .op = code, .folds = true, .function = does }
+#define EFFECT(text, arguments, code) \
+    { .name = text, .shape = SHAPE_EFFECT, .least = arguments, .most = arguments, .op = code }
+#define COMPARE(text, code, turned) \
+    { .name = text, .shape = SHAPE_TEST, .least = 2, .most = 2, .op = code, .swaps = turned }
+#define COMPARE_WITH(text, code, word, turned) \
+    { .name = text, .shape = SHAPE_TEST, .least = 1, .most = 1, .op = code, .adds_other = true, .swaps = turned, .other = word }
+#define IS(text, which) \
+    { .name = text, .shape = SHAPE_TEST, .least = 1, .most = 1, .op = OP_IS, .kind = which }
+#define CALL(text, from, to, word, does) \
+    { .name = text, .shape = SHAPE_VALUE, .least = from, .most = to, .op = OP_FUNCTION, .other = word, .function = does }
+#define CALL_EFFECT(text, arguments, does) \
+    { .name = text, .shape = SHAPE_EFFECT, .least = arguments, .most = arguments, .op = OP_FUNCTION, .function = does }
+
+const Primitive primitives[] = {
+    FOLD("+", OP_ADD, NULL),
+    FOLD("-", OP_SUBTRACT, NULL),
+    FOLD("*", OP_MULTIPLY, NULL),
+    VALUE("quotient", 2, OP_QUOTIENT),
+    VALUE("remainder", 2, OP_REMAINDER),
+    VALUE("modulo", 2, OP_MODULO),
+    VALUE("cons", 2, OP_CONS),
+    VALUE("car", 1, OP_CAR),
+    VALUE("cdr", 1, OP_CDR),
+    VALUE("vector-ref", 2, OP_VECTOR_REF),
+    EFFECT("set-car!", 2, OP_SET_CAR),
+    EFFECT("set-cdr!", 2, OP_SET_CDR),
+    EFFECT("vector-set!", 3, OP_VECTOR_SET),
+    COMPARE("<", OP_LESS, false),
+    COMPARE(">", OP_LESS, true),
+    COMPARE("<=", OP_NOT_GREATER, false),
+    COMPARE(">=", OP_NOT_GREATER, true),
+    COMPARE("=", OP_NUMBERS_EQUAL, false),
+    COMPARE("eq?", OP_SAME, false),
+    COMPARE("eqv?", OP_SAME, false),
+    COMPARE_WITH("zero?", OP_NUMBERS_EQUAL, 0, false),
+    COMPARE_WITH("negative?", OP_LESS, 0, false),
+    COMPARE_WITH("positive?", OP_LESS, 0, true),
+    COMPARE_WITH("null?", OP_SAME, EMPTY_LIST, false),
+    COMPARE_WITH("not", OP_SAME, FALSE, false),
+    IS("pair?", KIND_PAIR),
+    IS("vector?", KIND_VECTOR),
+    IS("string?", KIND_STRING),
+    IS("symbol?", KIND_SYMBOL),
+    IS("char?", KIND_CHARACTER),
+    IS("integer?", KIND_INTEGER),
+    IS("number?", KIND_INTEGER),
+    CALL("boolean?", 1, 1, 0, is_boolean),
+    CALL("procedure?", 1, 1, 0, is_procedure),
+    CALL("even?", 1, 1, 0, is_even),
+    CALL("odd?", 1, 1, 0, is_odd),
+    FOLD("min", OP_FUNCTION, minimum),
+    FOLD("max", OP_FUNCTION, maximum),
+    FOLD("bitwise-and", OP_FUNCTION, bitwise_and),
+    FOLD("bitwise-or", OP_FUNCTION, bitwise_or),
+    FOLD("bitwise-xor", OP_FUNCTION, bitwise_xor),
+    CALL("char->integer", 1, 1, 0, character_to_integer),
+    CALL("integer->char", 1, 1, 0, integer_to_character),
+    CALL("char=?", 2, 2, 0, character_equal),
+    CALL("char<?", 2, 2, 0, character_less),
+    CALL("char-alphabetic?", 1, 1, 0, is_alphabetic),
+    CALL("char-numeric?", 1, 1, 0, is_numeric),
+    CALL("char-whitespace?", 1, 1, 0, is_whitespace),
+    CALL("char-upcase", 1, 1, 0, upcase),
+    CALL("char-downcase", 1, 1, 0, downcase),
+    CALL("make-vector", 1, 2, 0, make_vector),
+    CALL("vector-length", 1, 1, 0, vector_length),
+    CALL("make-string", 1, 2, PLAIN(KIND_CHARACTER, ' '), make_string),
+    CALL("string-length", 1, 1, 0, string_length),
+    CALL("string-ref", 2, 2, 0, string_ref),
+    CALL_EFFECT("string-set!", 3, string_set),
+    FOLD("string-append", OP_FUNCTION, string_append),
+    CALL("substring", 2, 3, UNSPECIFIED, substring),
+    CALL("string=?", 2, 2, 0, string_equal),
+    CALL("string<?", 2, 2, 0, string_less),
+    CALL("symbol->string", 1, 1, 0, symbol_to_string),
+    CALL("string->symbol", 1, 1, 0, string_to_symbol),
+    CALL("number->string", 1, 2, (Word)10 << 2, number_to_string),
+    CALL("string->number", 1, 2, (Word)10 << 2, string_to_number),
+    CALL_EFFECT("write-char", 1, write_char),
+    CALL_EFFECT("%write-atom", 2, write_atom),
+    CALL_EFFECT("%begin-fault", 0, begin_fault),
+    CALL_EFFECT("%end-fault", 0, end_fault),
+    CALL_EFFECT("%exit", 1, leave),
+    CALL_EFFECT("collect", 0, collect),
+};
+
+const unsigned primitive_count = sizeof primitives / sizeof *primitives;

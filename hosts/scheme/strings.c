@@ -1,0 +1,204 @@
+/*
+ * Strings, and what is made of them and into them. SPDX: MIT OR Apache-2.0
+ *
+ * A string is an object of words, eight bytes in each; one that takes more words than an object may have has a body. Its length stands in
+ * its word. What works on many bytes copies them to the machine's text, works there, and makes a string of it.
+ */
+#include "primitives.h"
+#include "reader.h"
+#include <string.h>
+
+enum { WORD_BYTES = 8, STRING_MOST = BODY_BLOCKS_MOST * BODY_BLOCK_WORDS * WORD_BYTES, CHUNK_WORDS = 64 };
+
+static size_t words_of(size_t length) { return (length + WORD_BYTES - 1) / WORD_BYTES; }
+
+static bool is_large(size_t length) { return words_of(length) > OBJECT_MOST; }
+
+static size_t want_string(const Machine *machine, const char *name, unsigned operand) {
+    if (kind_of(machine->word[operand]) != KIND_STRING) machine_fault(machine, "%s: not a string", name);
+    return (size_t)payload(machine->word[operand]);
+}
+
+static unsigned char want_character(const Machine *machine, const char *name, unsigned operand) {
+    if (kind_of(machine->word[operand]) != KIND_CHARACTER) machine_fault(machine, "%s: not a character", name);
+    return (unsigned char)payload(machine->word[operand]);
+}
+
+static void want_text(Machine *machine, size_t bytes) {
+    if (machine->text_room >= bytes) return;
+    machine->text_room = 2 * bytes;
+    machine->text = more_memory(machine->text, machine->text_room);
+}
+
+static void read_words(unsigned string, bool is_body, size_t index, Word *into, size_t count) {
+    if (is_body) {
+        memory_read(string, index, into, count);
+    } else {
+        for (size_t i = 0; i < count; i++) into[i] = memory_get(string, (unsigned)(index + i));
+    }
+}
+
+static void write_words(unsigned string, bool is_body, size_t index, const Word *from, size_t count) {
+    if (is_body) {
+        memory_write(string, index, from, count);
+    } else {
+        for (size_t i = 0; i < count; i++) memory_put(string, (unsigned)(index + i), from[i]);
+    }
+}
+
+void read_string_text(Machine *machine, unsigned string, size_t from, size_t to, size_t at) {
+    const bool is_body = is_large((size_t)payload(machine->word[string]));
+    Word chunk[CHUNK_WORDS];
+    want_text(machine, at + (to - from));
+    while (from < to) {
+        const size_t first = from / WORD_BYTES, left = words_of(to) - first;
+        const size_t count = left < CHUNK_WORDS ? left : CHUNK_WORDS;
+        const size_t end = (first + count) * WORD_BYTES < to ? (first + count) * WORD_BYTES : to;
+        read_words(string, is_body, first, chunk, count);
+        memcpy(machine->text + at, (const char *)chunk + from % WORD_BYTES, end - from);
+        at += end - from;
+        from = end;
+    }
+}
+
+static void make_string_object(const Machine *machine, unsigned dest, size_t length) {
+    if (length > STRING_MOST) machine_fault(machine, "a string of more than %d bytes", STRING_MOST);
+    if (!is_large(length)) {
+        machine_new(machine, dest, 0, (unsigned)words_of(length));
+    } else if (!memory_big(dest, (unsigned)((words_of(length) + BODY_BLOCK_WORDS - 1) / BODY_BLOCK_WORDS))) {
+        machine_fault(machine, "the heap is full");
+    }
+}
+
+void make_string_of(Machine *machine, unsigned dest, const char *text, size_t length) {
+    Word chunk[CHUNK_WORDS];
+    make_string_object(machine, dest, length);
+    for (size_t from = 0; from < length; from += sizeof chunk) {
+        const size_t bytes = length - from < sizeof chunk ? length - from : sizeof chunk;
+        chunk[words_of(bytes) - 1] = 0;
+        memcpy(chunk, text + from, bytes);
+        write_words(dest, is_large(length), from / WORD_BYTES, chunk, words_of(bytes));
+    }
+    machine_hold(machine, dest, REFERENCE(KIND_STRING, length));
+}
+
+void make_string_of_text(Machine *machine, unsigned dest, size_t length) { make_string_of(machine, dest, machine->text, length); }
+
+void make_string(Machine *machine, unsigned dest, unsigned length_operand, unsigned fill, unsigned unused) {
+    (void)unused;
+    const size_t length = want_index(machine, "make-string", machine->word[length_operand], STRING_MOST + 1);
+    want_text(machine, length);
+    if (length) memset(machine->text, want_character(machine, "make-string", fill), length);
+    make_string_of_text(machine, dest, length);
+}
+
+void string_length(Machine *machine, unsigned dest, unsigned string, unsigned unused, unsigned unused_too) {
+    (void)unused;
+    (void)unused_too;
+    machine_set(machine, dest, integer((int64_t)want_string(machine, "string-length", string)));
+}
+
+void string_ref(Machine *machine, unsigned dest, unsigned string, unsigned index, unsigned unused) {
+    (void)unused;
+    const size_t length = want_string(machine, "string-ref", string);
+    const size_t at = want_index(machine, "string-ref", machine->word[index], length);
+    Word word;
+    read_words(string, is_large(length), at / WORD_BYTES, &word, 1);
+    machine_set(machine, dest, PLAIN(KIND_CHARACTER, ((const unsigned char *)&word)[at % WORD_BYTES]));
+}
+
+void string_set(Machine *machine, unsigned dest, unsigned string, unsigned index, unsigned value) {
+    (void)dest;
+    const size_t length = want_string(machine, "string-set!", string);
+    const size_t at = want_index(machine, "string-set!", machine->word[index], length);
+    Word word;
+    read_words(string, is_large(length), at / WORD_BYTES, &word, 1);
+    ((unsigned char *)&word)[at % WORD_BYTES] = want_character(machine, "string-set!", value);
+    write_words(string, is_large(length), at / WORD_BYTES, &word, 1);
+}
+
+void string_append(Machine *machine, unsigned dest, unsigned left, unsigned right, unsigned unused) {
+    (void)unused;
+    const size_t left_length = want_string(machine, "string-append", left), right_length = want_string(machine, "string-append", right);
+    read_string_text(machine, left, 0, left_length, 0);
+    read_string_text(machine, right, 0, right_length, left_length);
+    make_string_of_text(machine, dest, left_length + right_length);
+}
+
+void substring(Machine *machine, unsigned dest, unsigned string, unsigned from_operand, unsigned to_operand) {
+    const size_t length = want_string(machine, "substring", string);
+    const size_t to =
+        machine->word[to_operand] == UNSPECIFIED ? length : want_index(machine, "substring", machine->word[to_operand], length + 1);
+    const size_t from = want_index(machine, "substring", machine->word[from_operand], to + 1);
+    read_string_text(machine, string, from, to, 0);
+    make_string_of_text(machine, dest, to - from);
+}
+
+/* Below, at or above 0 as the left string stands before, with or behind the right one. */
+static int compare(Machine *machine, const char *name, unsigned left, unsigned right) {
+    const size_t left_length = want_string(machine, name, left), right_length = want_string(machine, name, right);
+    const size_t shorter = left_length < right_length ? left_length : right_length;
+    read_string_text(machine, left, 0, left_length, 0);
+    read_string_text(machine, right, 0, right_length, left_length);
+    const int order = shorter ? memcmp(machine->text, machine->text + left_length, shorter) : 0;
+    return order ? order : (left_length > right_length) - (left_length < right_length);
+}
+
+void string_equal(Machine *machine, unsigned dest, unsigned left, unsigned right, unsigned unused) {
+    (void)unused;
+    machine_set(machine, dest, boolean(compare(machine, "string=?", left, right) == 0));
+}
+
+void string_less(Machine *machine, unsigned dest, unsigned left, unsigned right, unsigned unused) {
+    (void)unused;
+    machine_set(machine, dest, boolean(compare(machine, "string<?", left, right) < 0));
+}
+
+void symbol_to_string(Machine *machine, unsigned dest, unsigned symbol, unsigned unused, unsigned unused_too) {
+    (void)unused;
+    (void)unused_too;
+    if (kind_of(machine->word[symbol]) != KIND_SYMBOL) machine_fault(machine, "symbol->string: not a symbol");
+    const char *const name = symbol_name((Symbol)payload(machine->word[symbol]));
+    make_string_of(machine, dest, name, strlen(name));
+}
+
+void string_to_symbol(Machine *machine, unsigned dest, unsigned string, unsigned unused, unsigned unused_too) {
+    (void)unused;
+    (void)unused_too;
+    const size_t length = want_string(machine, "string->symbol", string);
+    read_string_text(machine, string, 0, length, 0);
+    machine_set(machine, dest, PLAIN(KIND_SYMBOL, symbol_of(length ? machine->text : "", length)));
+}
+
+static int want_base(const Machine *machine, const char *name, unsigned base) {
+    const Word word = machine->word[base];
+    if (!is_integer(word) || number(word) < 2 || number(word) > 36) machine_fault(machine, "%s: a base is 2 to 36", name);
+    return (int)number(word);
+}
+
+void number_to_string(Machine *machine, unsigned dest, unsigned operand, unsigned base_operand, unsigned unused) {
+    (void)unused;
+    const int base = want_base(machine, "number->string", base_operand);
+    if (!is_integer(machine->word[operand])) machine_fault(machine, "number->string: not an integer");
+    int64_t left = number(machine->word[operand]);
+    const bool is_negative = left < 0;
+    char digits[64];
+    size_t at = sizeof digits;
+    do {
+        const int64_t digit = left % base;
+        digits[--at] = "0123456789abcdefghijklmnopqrstuvwxyz"[digit < 0 ? -digit : digit];
+        left /= base;
+    } while (left);
+    if (is_negative) digits[--at] = '-';
+    make_string_of(machine, dest, digits + at, sizeof digits - at);
+}
+
+void string_to_number(Machine *machine, unsigned dest, unsigned string, unsigned base_operand, unsigned unused) {
+    (void)unused;
+    const int base = want_base(machine, "string->number", base_operand);
+    const size_t length = want_string(machine, "string->number", string);
+    Word word;
+    bool fits;
+    read_string_text(machine, string, 0, length, 0);
+    machine_set(machine, dest, read_integer(length ? machine->text : "", length, base, &word, &fits) && fits ? word : FALSE);
+}

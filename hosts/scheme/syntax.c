@@ -1,0 +1,876 @@
+/*
+ * The syntax: from data to a tree of expressions, in which each name is resolved. SPDX: MIT OR Apache-2.0
+ */
+#include "syntax.h"
+#include "arena.h"
+#include <stdio.h>
+#include <stdlib.h>
+#include <string.h>
+
+enum { PATH_MOST = 4 };
+
+/* The local variables that a place sees, the innermost first. */
+typedef struct scope {
+    const struct scope *outer;
+    Variable *variable;
+} Scope;
+
+/* The loops whose call is the last thing that is done where it stands at a place, the innermost first. */
+typedef struct tail {
+    const struct tail *outer;
+    Loop *loop;
+} Tail;
+
+typedef struct place {
+    const Scope *scope;
+    const Tail *tail;
+} Place;
+
+typedef Node *Form(const Datum *form, Place place);
+
+/* What a symbol is where no local variable has its name. */
+typedef struct global {
+    bool has_entry;
+    unsigned entry;
+    Form *form;
+    bool is_keyword; /* the form has no value of its own */
+    const Primitive *primitive;
+} Global;
+
+static Machine *machine;
+static Global *globals;
+static size_t global_room;
+static bool is_prelude = true;
+static Node **constants; /* of the form that is read: each sets an entry of the table */
+static size_t constant_count, constant_room;
+
+static Node *parse(const Datum *datum, Place place);
+static Node *parse_body(const Datum *form, size_t from, Place place);
+
+static Node *node_at(Position at, NodeKind kind, size_t count) {
+    Node *const node = arena_take(sizeof *node);
+    node->kind = kind;
+    if (!is_prelude) node->at = at; /* what stands in no source of the program has no position */
+    node->count = (unsigned)count;
+    node->nodes = count ? arena_take(count * sizeof *node->nodes) : NULL;
+    return node;
+}
+
+static Node *word_node(Position at, Word word) {
+    Node *const node = node_at(at, NODE_WORD, 0);
+    node->word = word;
+    return node;
+}
+
+static Node *local_node(Position at, Variable *variable) {
+    Node *const node = node_at(at, NODE_LOCAL, 0);
+    node->variable = variable;
+    return node;
+}
+
+static Variable *variable_of(Symbol name, bool is_defined) {
+    Variable *const variable = arena_take(sizeof *variable);
+    variable->name = name;
+    variable->is_defined = is_defined;
+    return variable;
+}
+
+static Symbol symbol(const char *name) { return symbol_of(name, strlen(name)); }
+
+static Global *global_of(Symbol name) {
+    if (name >= global_room) {
+        const size_t room = 2 * ((size_t)name + 512);
+        globals = more_memory(globals, room * sizeof *globals);
+        for (size_t i = global_room; i < room; i++) globals[i] = (Global){0};
+        global_room = room;
+    }
+    return &globals[name];
+}
+
+static unsigned entry_of(Symbol name) {
+    Global *const global = global_of(name);
+    if (!global->has_entry) {
+        global->has_entry = true;
+        global->entry = machine_add_entry(machine, name);
+    }
+    return global->entry;
+}
+
+static Node *global_node(Position at, Symbol name) {
+    Node *const node = node_at(at, NODE_TABLE, 0);
+    node->entry = entry_of(name);
+    return node;
+}
+
+static bool is_symbol(const Datum *datum) { return datum->kind == DATUM_WORD && kind_of(datum->word) == KIND_SYMBOL; }
+
+static Symbol name_of(const Datum *datum) { return (Symbol)payload(datum->word); }
+
+static bool is_named(const Datum *datum, const char *name) { return is_symbol(datum) && strcmp(symbol_name(name_of(datum)), name) == 0; }
+
+static bool is_form(const Datum *datum, const char *name) {
+    return datum->kind == DATUM_LIST && datum->count && is_named(datum->items[0], name);
+}
+
+static Symbol want_name(const Datum *datum) {
+    if (!is_symbol(datum)) fault(datum->at, "a name is wanted here");
+    return name_of(datum);
+}
+
+/* A form is a list of so many items, the first of which is its keyword. */
+static void want_items(const Datum *form, size_t least, size_t most) {
+    if (form->tail) fault(form->at, "a form with a dot");
+    if (form->count < least || form->count > most) fault(form->at, "%s: a wrong number of parts", symbol_name(name_of(form->items[0])));
+}
+
+static const Datum *want_list(const Datum *datum) {
+    if (datum->kind != DATUM_LIST || datum->tail) fault(datum->at, "a list is wanted here");
+    return datum;
+}
+
+static Variable *find_variable(const Scope *scope, Symbol name) {
+    while (scope && scope->variable->name != name) scope = scope->outer;
+    return scope ? scope->variable : NULL;
+}
+
+static Place inner(Place place, Variable *variable) {
+    Scope *const scope = arena_take(sizeof *scope);
+    *scope = (Scope){.outer = place.scope, .variable = variable};
+    return (Place){.scope = scope, .tail = place.tail};
+}
+
+static Place not_last(Place place) { return (Place){.scope = place.scope, .tail = NULL}; }
+
+/* Whether a symbol stands for a form, a primitive or a global, and for no local variable. */
+static bool is_global(const Datum *datum, Place place) { return is_symbol(datum) && !find_variable(place.scope, name_of(datum)); }
+
+static Node *parse_reference(const Datum *datum, Place place) {
+    Variable *const variable = find_variable(place.scope, name_of(datum));
+    if (!variable) {
+        if (global_of(name_of(datum))->is_keyword) fault(datum->at, "%s is a keyword", symbol_name(name_of(datum)));
+        return global_node(datum->at, name_of(datum));
+    }
+    if (variable->loop) variable->loop->is_broken = true;
+    if (!variable->is_defined) variable->is_assigned = true;
+    return local_node(datum->at, variable);
+}
+
+/* Constants */
+
+static Node *quote(const Datum *datum);
+
+static Node *list_of_items(const Datum *datum) {
+    Node *const list = node_at(datum->at, NODE_LIST, datum->count + 1);
+    for (size_t i = 0; i < datum->count; i++) list->nodes[i] = quote(datum->items[i]);
+    list->nodes[datum->count] = datum->tail ? quote(datum->tail) : word_node(datum->at, EMPTY_LIST);
+    return list;
+}
+
+static Node *call_of_global(const char *global, Node *argument) {
+    Node *const call = node_at(argument->at, NODE_CALL, 2);
+    call->nodes[0] = global_node(argument->at, symbol(global));
+    call->nodes[1] = argument;
+    return call;
+}
+
+void syntax_define(const char *name, Word word) {
+    const unsigned entry = entry_of(symbol(name));
+    machine->table[entry] = word;
+}
+
+static void add_constant(Node *set) {
+    if (constant_count == constant_room) {
+        constant_room = constant_room ? 2 * constant_room : 64;
+        constants = more_memory(constants, constant_room * sizeof(Node *));
+    }
+    constants[constant_count++] = set;
+}
+
+/* A constant with a reference has an entry of the table, which is set before its form runs. */
+static Node *quote(const Datum *datum) {
+    if (datum->kind == DATUM_WORD) return word_node(datum->at, datum->word);
+    if (datum->kind == DATUM_LIST && !datum->count) return word_node(datum->at, EMPTY_LIST);
+    Node *const node = node_at(datum->at, NODE_TABLE, 0);
+    node->entry = machine_add_entry(machine, symbol("constant"));
+    if (datum->kind == DATUM_STRING) {
+        make_string_of(machine, REGISTER_FIRST, datum->text, datum->count);
+        machine_set_entry(machine, node->entry, REGISTER_FIRST);
+        return node;
+    }
+    Node *const set = node_at(datum->at, NODE_SET_TABLE, 1);
+    set->defines = true;
+    set->entry = node->entry;
+    set->nodes[0] = list_of_items(datum);
+    if (datum->kind == DATUM_VECTOR) set->nodes[0] = call_of_global("list->vector", set->nodes[0]);
+    add_constant(set);
+    return node;
+}
+
+static Node *parse_quote(const Datum *form, Place place) {
+    (void)place;
+    want_items(form, 2, 2);
+    return quote(form->items[1]);
+}
+
+static Node *quasi(const Datum *datum, unsigned depth, Place place);
+
+static Node *list_node(Position at, Node *first, Node *second, Node *tail) {
+    Node *const list = node_at(at, NODE_LIST, second ? 3 : 2);
+    list->nodes[0] = first;
+    if (second) list->nodes[1] = second;
+    list->nodes[second ? 2 : 1] = tail;
+    return list;
+}
+
+static Node *append_node(Node *first, Node *second) {
+    Node *const call = node_at(first->at, NODE_CALL, 3);
+    call->nodes[0] = global_node(first->at, symbol("%append"));
+    call->nodes[1] = first;
+    call->nodes[2] = second;
+    return call;
+}
+
+/* The items of a list within a quasi-quotation, from the last to the first. */
+static Node *quasi_items(const Datum *datum, unsigned depth, Place place) {
+    Node *list = datum->tail ? quasi(datum->tail, depth, place) : word_node(datum->at, EMPTY_LIST);
+    for (size_t i = datum->count; i > 0; i--) {
+        const Datum *const item = datum->items[i - 1];
+        if (is_form(item, "unquote-splicing") && item->count == 2 && depth == 1) {
+            list = append_node(parse(item->items[1], not_last(place)), list);
+        } else {
+            list = list_node(item->at, quasi(item, depth, place), NULL, list);
+        }
+    }
+    return list;
+}
+
+static Node *quasi(const Datum *datum, unsigned depth, Place place) {
+    if (datum->kind == DATUM_VECTOR) return call_of_global("list->vector", quasi_items(datum, depth, place));
+    if (datum->kind != DATUM_LIST || !datum->count) return quote(datum);
+    const bool is_unquote = is_form(datum, "unquote") && datum->count == 2;
+    if (is_unquote && depth == 1) return parse(datum->items[1], not_last(place));
+    if (is_unquote) return quasi_items(datum, depth - 1, place);
+    if (is_form(datum, "quasiquote") && datum->count == 2) return quasi_items(datum, depth + 1, place);
+    return quasi_items(datum, depth, place);
+}
+
+static Node *parse_quasiquote(const Datum *form, Place place) {
+    want_items(form, 2, 2);
+    return quasi(form->items[1], 1, place);
+}
+
+/* Bindings and bodies */
+
+static Node *parse_lambda_of(Position at, Symbol name, const Datum *parameters, size_t from, const Datum *form, size_t body, Place place) {
+    Node *const lambda = node_at(at, NODE_LAMBDA, 1);
+    const bool is_list = parameters->kind == DATUM_LIST;
+    const Datum *const rest = is_list ? parameters->tail : parameters;
+    const size_t count = is_list ? parameters->count - from : 0;
+    if (parameters->kind == DATUM_VECTOR || parameters->kind == DATUM_STRING) fault(parameters->at, "parameters are wanted here");
+    if (count > ARGUMENTS_MOST) fault(parameters->at, "more than %d parameters", ARGUMENTS_MOST);
+    lambda->name = name;
+    lambda->has_rest = rest != NULL;
+    lambda->variable_count = (unsigned)count + lambda->has_rest;
+    lambda->variables = arena_take((lambda->variable_count + 1) * sizeof(Variable *));
+    for (size_t i = 0; i < lambda->variable_count; i++) {
+        const Datum *const parameter = i < count ? parameters->items[from + i] : rest;
+        lambda->variables[i] = variable_of(want_name(parameter), true);
+        place = inner(place, lambda->variables[i]);
+    }
+    lambda->nodes[0] = parse_body(form, body, place);
+    return lambda;
+}
+
+static Node *parse_lambda(const Datum *form, Place place) {
+    want_items(form, 3, SIZE_MAX);
+    return parse_lambda_of(form->at, symbol("lambda"), form->items[1], 0, form, 2, not_last(place));
+}
+
+/* What a definition defines: its second part is a name, or a list that begins with one. */
+static Symbol defined_name(const Datum *form) {
+    if (form->count < 2 || form->tail) fault(form->at, "define: a wrong number of parts");
+    const Datum *const what = form->items[1];
+    if (what->kind == DATUM_LIST && what->count) return want_name(what->items[0]);
+    want_items(form, 2, 3);
+    return want_name(what);
+}
+
+static bool defines_procedure(const Datum *form) {
+    return form->items[1]->kind == DATUM_LIST || (form->count == 3 && is_form(form->items[2], "lambda"));
+}
+
+static Node *defined_value(const Datum *form, Place place) {
+    const Datum *const what = form->items[1];
+    if (what->kind == DATUM_LIST) {
+        if (form->count < 3) fault(form->at, "define: a procedure without a body");
+        return parse_lambda_of(form->at, name_of(what->items[0]), what, 1, form, 2, not_last(place));
+    }
+    if (form->count == 2) return word_node(form->at, UNSPECIFIED);
+    Node *const value = parse(form->items[2], not_last(place));
+    if (value->kind == NODE_LAMBDA) value->name = name_of(what);
+    return value;
+}
+
+static bool is_definition(const Datum *item, Place place) { return is_form(item, "define") && is_global(item->items[0], place); }
+
+static Node *parse_sequence(Position at, Datum **items, size_t count, Place place) {
+    if (!count) fault(at, "an expression is wanted here");
+    if (count == 1) return parse(items[0], place);
+    Node *const sequence = node_at(at, NODE_SEQUENCE, count);
+    for (size_t i = 0; i < count; i++) sequence->nodes[i] = parse(items[i], i + 1 < count ? not_last(place) : place);
+    return sequence;
+}
+
+/* What stands before the last definition of a body; an expression there is the value of a variable that nothing knows. */
+static Node *parse_definitions(const Datum *form, size_t from, size_t count, Place place) {
+    Node *const letrec = node_at(form->at, NODE_LETREC, count + 1);
+    letrec->variable_count = (unsigned)count;
+    letrec->variables = arena_take(count * sizeof(Variable *));
+    for (size_t i = 0; i < count; i++) {
+        const Datum *const item = form->items[from + i];
+        letrec->variables[i] = variable_of(is_definition(item, place) ? defined_name(item) : symbol(" "), false);
+    }
+    for (size_t i = 0; i < count; i++) place = inner(place, letrec->variables[i]);
+    for (size_t i = 0; i < count; i++) {
+        const Datum *const item = form->items[from + i];
+        const bool is_defined = letrec->variables[i]->name != symbol(" ");
+        /* procedures that stand one behind another may refer to each other */
+        for (size_t k = i; k < count && is_defined && defines_procedure(item); k++) {
+            const Datum *const next = form->items[from + k];
+            if (letrec->variables[k]->name == symbol(" ") || !defines_procedure(next)) break;
+            letrec->variables[k]->is_defined = true;
+        }
+        letrec->nodes[i] = is_defined ? defined_value(item, not_last(place)) : parse(item, not_last(place));
+        letrec->variables[i]->is_defined = true;
+    }
+    letrec->nodes[count] = parse_sequence(form->at, form->items + from + count, form->count - from - count, place);
+    return letrec;
+}
+
+static Node *parse_body(const Datum *form, size_t from, Place place) {
+    size_t end = form->count;
+    if (form->tail) fault(form->at, "a form with a dot");
+    while (end > from && !is_definition(form->items[end - 1], place)) end--;
+    if (end > from) return parse_definitions(form, from, end - from, place);
+    return parse_sequence(form->at, form->items + from, form->count - from, place);
+}
+
+/* A binding is a list of a name and an expression. */
+static const Datum *want_binding(const Datum *binding) {
+    want_list(binding);
+    if (binding->count != 2) fault(binding->at, "a name and its value are wanted here");
+    want_name(binding->items[0]);
+    return binding;
+}
+
+static Node *let_node(Position at, size_t count) {
+    Node *const let = node_at(at, NODE_LET, count + 1);
+    let->variable_count = (unsigned)count;
+    let->variables = arena_take((count + 1) * sizeof(Variable *));
+    return let;
+}
+
+static Node *parse_letrec(const Datum *form, Place place) {
+    want_items(form, 3, SIZE_MAX);
+    const Datum *const bindings = want_list(form->items[1]);
+    Node *const letrec = let_node(form->at, bindings->count);
+    letrec->kind = NODE_LETREC;
+    bool are_procedures = true;
+    for (size_t i = 0; i < bindings->count; i++) {
+        const Datum *const binding = want_binding(bindings->items[i]);
+        letrec->variables[i] = variable_of(name_of(binding->items[0]), false);
+        are_procedures = are_procedures && is_form(binding->items[1], "lambda");
+        place = inner(place, letrec->variables[i]);
+    }
+    for (size_t i = 0; i < bindings->count; i++) letrec->variables[i]->is_defined = are_procedures;
+    for (size_t i = 0; i < bindings->count; i++) {
+        letrec->nodes[i] = parse(bindings->items[i]->items[1], not_last(place));
+        if (letrec->nodes[i]->kind == NODE_LAMBDA) letrec->nodes[i]->name = letrec->variables[i]->name;
+        letrec->variables[i]->is_defined = true;
+    }
+    letrec->nodes[bindings->count] = parse_body(form, 2, place);
+    return letrec;
+}
+
+/* A loop has been read. Where it is a procedure, a loop around it that is called within it is one too. */
+static Node *finish_loop(Node *node, const Tail *tail) {
+    for (; tail && node->loop->is_broken && node->loop->is_left; tail = tail->outer) tail->loop->is_broken = true;
+    return node;
+}
+
+static Node *loop_node(Position at, Symbol name, size_t count) {
+    Node *const node = node_at(at, NODE_LOOP, count + 1);
+    node->loop = arena_take(sizeof *node->loop);
+    node->loop->variable = variable_of(name, true);
+    node->loop->variable->loop = node->loop;
+    node->loop->parameters = (unsigned)count;
+    node->loop->is_broken = count > ARGUMENTS_MOST - 1;
+    return node;
+}
+
+static Node *lambda_node(Position at, Symbol name, size_t count) {
+    Node *const lambda = node_at(at, NODE_LAMBDA, 1);
+    lambda->name = name;
+    lambda->variable_count = (unsigned)count;
+    lambda->variables = arena_take((count + 1) * sizeof(Variable *));
+    return lambda;
+}
+
+static Node *parse_named_let(const Datum *form, Place place) {
+    want_items(form, 4, SIZE_MAX);
+    const Datum *const bindings = want_list(form->items[2]);
+    if (bindings->count > ARGUMENTS_MOST) fault(bindings->at, "more than %d variables of a named let", ARGUMENTS_MOST);
+    Node *const node = loop_node(form->at, name_of(form->items[1]), bindings->count);
+    Node *const lambda = lambda_node(form->at, name_of(form->items[1]), bindings->count);
+    const Tail tail = {.outer = place.tail, .loop = node->loop};
+    Place body = inner(place, node->loop->variable);
+    for (size_t i = 0; i < bindings->count; i++) {
+        const Datum *const binding = want_binding(bindings->items[i]);
+        node->nodes[i] = parse(binding->items[1], not_last(place));
+        lambda->variables[i] = variable_of(name_of(binding->items[0]), true);
+        body = inner(body, lambda->variables[i]);
+    }
+    body.tail = &tail;
+    lambda->nodes[0] = parse_body(form, 3, body);
+    node->nodes[bindings->count] = lambda;
+    return finish_loop(node, place.tail);
+}
+
+static Node *parse_let(const Datum *form, Place place) {
+    want_items(form, 3, SIZE_MAX);
+    if (is_symbol(form->items[1])) return parse_named_let(form, place);
+    const Datum *const bindings = want_list(form->items[1]);
+    if (!bindings->count) return parse_body(form, 2, place);
+    Node *const let = let_node(form->at, bindings->count);
+    Place body = place;
+    for (size_t i = 0; i < bindings->count; i++) {
+        const Datum *const binding = want_binding(bindings->items[i]);
+        let->nodes[i] = parse(binding->items[1], not_last(place));
+        let->variables[i] = variable_of(name_of(binding->items[0]), true);
+        body = inner(body, let->variables[i]);
+    }
+    let->nodes[bindings->count] = parse_body(form, 2, body);
+    return let;
+}
+
+static Node *parse_let_in_order(const Datum *form, Place place) {
+    want_items(form, 3, SIZE_MAX);
+    const Datum *const bindings = want_list(form->items[1]);
+    Node *outermost = NULL, **into = &outermost;
+    for (size_t i = 0; i < bindings->count; i++) {
+        const Datum *const binding = want_binding(bindings->items[i]);
+        Node *const let = let_node(binding->at, 1);
+        let->nodes[0] = parse(binding->items[1], not_last(place));
+        let->variables[0] = variable_of(name_of(binding->items[0]), true);
+        place = inner(place, let->variables[0]);
+        *into = let;
+        into = &let->nodes[1];
+    }
+    *into = parse_body(form, 2, place);
+    return outermost;
+}
+
+/* Conditions */
+
+static Node *if_node(Position at, Node *test, Node *then, Node *otherwise) {
+    Node *const node = node_at(at, NODE_IF, 3);
+    node->nodes[0] = test;
+    node->nodes[1] = then;
+    node->nodes[2] = otherwise;
+    return node;
+}
+
+static Node *or_node(Node *first, Node *second) {
+    Node *const node = node_at(first->at, NODE_OR, 2);
+    node->nodes[0] = first;
+    node->nodes[1] = second;
+    return node;
+}
+
+static Node *parse_if(const Datum *form, Place place) {
+    want_items(form, 3, 4);
+    Node *const test = parse(form->items[1], not_last(place));
+    Node *const then = parse(form->items[2], place);
+    return if_node(form->at, test, then, form->count == 4 ? parse(form->items[3], place) : word_node(form->at, UNSPECIFIED));
+}
+
+static Node *parse_and(const Datum *form, Place place) {
+    if (form->count == 1) return word_node(form->at, TRUE);
+    Node *node = parse(form->items[form->count - 1], place);
+    for (size_t i = form->count - 1; i > 1; i--) {
+        node = if_node(form->items[i - 1]->at, parse(form->items[i - 1], not_last(place)), node, word_node(form->at, FALSE));
+    }
+    return node;
+}
+
+static Node *parse_or(const Datum *form, Place place) {
+    if (form->count == 1) return word_node(form->at, FALSE);
+    Node *node = parse(form->items[form->count - 1], place);
+    for (size_t i = form->count - 1; i > 1; i--) node = or_node(parse(form->items[i - 1], not_last(place)), node);
+    return node;
+}
+
+static Node *parse_begin(const Datum *form, Place place) {
+    if (form->tail) fault(form->at, "a form with a dot");
+    return parse_sequence(form->at, form->items + 1, form->count - 1, place);
+}
+
+static Node *parse_when(const Datum *form, Place place) {
+    want_items(form, 3, SIZE_MAX);
+    Node *const test = parse(form->items[1], not_last(place));
+    Node *const body = parse_sequence(form->at, form->items + 2, form->count - 2, place);
+    Node *const nothing = word_node(form->at, UNSPECIFIED);
+    return is_named(form->items[0], "when") ? if_node(form->at, test, body, nothing) : if_node(form->at, test, nothing, body);
+}
+
+/* (test => procedure): the procedure is called with the test's value, where that isn't false. */
+static Node *parse_arrow(const Datum *clause, Node *otherwise, Place place) {
+    Node *const let = let_node(clause->at, 1);
+    Node *const call = node_at(clause->at, NODE_CALL, 2);
+    let->variables[0] = variable_of(symbol(" "), true);
+    let->nodes[0] = parse(clause->items[0], not_last(place));
+    call->nodes[0] = parse(clause->items[2], not_last(place));
+    call->nodes[1] = local_node(clause->at, let->variables[0]);
+    let->nodes[1] = if_node(clause->at, local_node(clause->at, let->variables[0]), call, otherwise);
+    return let;
+}
+
+static Node *parse_clause(const Datum *clause, Node *otherwise, Place place) {
+    if (clause->count == 1) return or_node(parse(clause->items[0], not_last(place)), otherwise);
+    if (clause->count == 3 && is_named(clause->items[1], "=>")) return parse_arrow(clause, otherwise, place);
+    Node *const test = parse(clause->items[0], not_last(place));
+    return if_node(clause->at, test, parse_sequence(clause->at, clause->items + 1, clause->count - 1, place), otherwise);
+}
+
+static Node *parse_cond(const Datum *form, Place place) {
+    want_items(form, 2, SIZE_MAX);
+    Node *node = word_node(form->at, UNSPECIFIED);
+    for (size_t i = form->count; i > 1; i--) {
+        const Datum *const clause = want_list(form->items[i - 1]);
+        if (!clause->count) fault(clause->at, "a clause without a test");
+        if (is_named(clause->items[0], "else")) {
+            if (i != form->count) fault(clause->at, "else must be the last clause");
+            node = parse_sequence(clause->at, clause->items + 1, clause->count - 1, place);
+        } else {
+            node = parse_clause(clause, node, place);
+        }
+    }
+    return node;
+}
+
+static const Primitive *primitive_named(const char *name) {
+    for (unsigned i = 0; i < primitive_count; i++) {
+        if (strcmp(primitives[i].name, name) == 0) return &primitives[i];
+    }
+    return NULL;
+}
+
+static Node *same_node(const Datum *datum, Variable *key) {
+    Node *const same = node_at(datum->at, NODE_PRIMITIVE, 2);
+    same->primitive = primitive_named("eqv?");
+    same->nodes[0] = local_node(datum->at, key);
+    same->nodes[1] = quote(datum);
+    return same;
+}
+
+static Node *parse_case(const Datum *form, Place place) {
+    want_items(form, 3, SIZE_MAX);
+    Node *const let = let_node(form->at, 1);
+    Node *node = word_node(form->at, UNSPECIFIED);
+    let->nodes[0] = parse(form->items[1], not_last(place));
+    let->variables[0] = variable_of(symbol(" "), true);
+    for (size_t i = form->count; i > 2; i--) {
+        const Datum *const clause = want_list(form->items[i - 1]);
+        if (clause->count < 2) fault(clause->at, "a clause of case has data and an expression");
+        Node *const body = parse_sequence(clause->at, clause->items + 1, clause->count - 1, place);
+        if (is_named(clause->items[0], "else")) {
+            if (i != form->count) fault(clause->at, "else must be the last clause");
+            node = body;
+            continue;
+        }
+        const Datum *const data = want_list(clause->items[0]);
+        Node *test = word_node(clause->at, FALSE);
+        for (size_t k = data->count; k > 0; k--) {
+            Node *const same = same_node(data->items[k - 1], let->variables[0]);
+            test = k == data->count ? same : or_node(same, test);
+        }
+        node = if_node(clause->at, test, body, node);
+    }
+    let->nodes[1] = node;
+    return let;
+}
+
+/* (do ((name first next) ..) (test result ..) body ..) */
+static Node *parse_do(const Datum *form, Place place) {
+    want_items(form, 3, SIZE_MAX);
+    const Datum *const bindings = want_list(form->items[1]), *const end = want_list(form->items[2]);
+    if (bindings->count > ARGUMENTS_MOST) fault(bindings->at, "more than %d variables of a do", ARGUMENTS_MOST);
+    if (!end->count) fault(end->at, "a test is wanted here");
+    Node *const node = loop_node(form->at, symbol("do"), bindings->count);
+    Node *const lambda = lambda_node(form->at, symbol("do"), bindings->count);
+    Node *const again = node_at(form->at, NODE_CALL, bindings->count + 1);
+    const Tail tail = {.outer = place.tail, .loop = node->loop};
+    Place body = place;
+    for (size_t i = 0; i < bindings->count; i++) {
+        const Datum *const binding = want_list(bindings->items[i]);
+        if (binding->count != 2 && binding->count != 3) fault(binding->at, "a name, a value and the next value are wanted here");
+        node->nodes[i] = parse(binding->items[1], not_last(place));
+        lambda->variables[i] = variable_of(want_name(binding->items[0]), true);
+        body = inner(body, lambda->variables[i]);
+    }
+    for (size_t i = 0; i < bindings->count; i++) {
+        const Datum *const binding = bindings->items[i];
+        again->nodes[i + 1] = parse(binding->items[binding->count == 3 ? 2 : 0], not_last(body));
+    }
+    again->nodes[0] = local_node(form->at, node->loop->variable);
+    again->loop = node->loop;
+    Node *then = again;
+    if (form->count > 3) {
+        then = node_at(form->at, NODE_SEQUENCE, 2);
+        then->nodes[0] = parse_sequence(form->at, form->items + 3, form->count - 3, not_last(body));
+        then->nodes[1] = again;
+    }
+    body.tail = &tail;
+    Node *const result = end->count == 1 ? word_node(end->at, UNSPECIFIED) : parse_sequence(end->at, end->items + 1, end->count - 1, body);
+    lambda->nodes[0] = if_node(form->at, parse(end->items[0], not_last(body)), result, then);
+    node->nodes[bindings->count] = lambda;
+    return finish_loop(node, place.tail);
+}
+
+static Node *parse_set(const Datum *form, Place place) {
+    want_items(form, 3, 3);
+    Variable *const variable = find_variable(place.scope, want_name(form->items[1]));
+    Node *const set = node_at(form->at, variable ? NODE_SET_LOCAL : NODE_SET_TABLE, 1);
+    if (variable) {
+        variable->is_assigned = true;
+        if (variable->loop) variable->loop->is_broken = true;
+    } else {
+        global_of(name_of(form->items[1]))->primitive = NULL;
+        set->entry = entry_of(name_of(form->items[1]));
+    }
+    set->variable = variable;
+    set->nodes[0] = parse(form->items[2], not_last(place));
+    return set;
+}
+
+static Node *parse_define(const Datum *form, Place place) {
+    if (place.scope || place.tail) fault(form->at, "a definition can't stand here");
+    const Symbol name = defined_name(form);
+    Global *const global = global_of(name);
+    if (!is_prelude) {
+        global->primitive = NULL;
+        global->form = NULL;
+        global->is_keyword = false;
+    }
+    Node *const set = node_at(form->at, NODE_SET_TABLE, 1);
+    set->defines = true;
+    set->entry = entry_of(name);
+    set->nodes[0] = defined_value(form, place);
+    return set;
+}
+
+static Node *parse_else(const Datum *form, Place place) {
+    (void)place;
+    fault(form->at, "%s: can't stand here", symbol_name(name_of(form->items[0])));
+}
+
+/* Calls */
+
+static Node *parse_list(const Datum *form, Place place) {
+    Node *const list = node_at(form->at, NODE_LIST, form->count);
+    for (size_t i = 1; i < form->count; i++) list->nodes[i - 1] = parse(form->items[i], not_last(place));
+    list->nodes[form->count - 1] = word_node(form->at, EMPTY_LIST);
+    return list;
+}
+
+/* Arguments from some item on, the last of which is the tail. */
+static Node *parse_spread(const Datum *form, size_t from, Place place) {
+    if (from + 1 == form->count) return parse(form->items[from], not_last(place));
+    Node *const list = node_at(form->at, NODE_LIST, form->count - from);
+    for (size_t i = from; i < form->count; i++) list->nodes[i - from] = parse(form->items[i], not_last(place));
+    return list;
+}
+
+static Node *parse_call(const Datum *form, Place place);
+
+static Node *parse_cons_all(const Datum *form, Place place) {
+    return form->count < 2 ? parse_call(form, place) : parse_spread(form, 1, place);
+}
+
+static Node *parse_vector(const Datum *form, Place place) { return call_of_global("list->vector", parse_list(form, place)); }
+
+static Node *parse_append(const Datum *form, Place place) {
+    if (form->count != 3) return parse_call(form, place);
+    Node *const first = parse(form->items[1], not_last(place));
+    Node *const call = append_node(first, parse(form->items[2], not_last(place)));
+    call->at = form->at;
+    return call;
+}
+
+static Node *apply_node(Position at, Node *procedure, Node *list) {
+    Node *const apply = node_at(at, NODE_APPLY, 2);
+    apply->nodes[0] = procedure;
+    apply->nodes[1] = list;
+    return apply;
+}
+
+static Node *parse_apply(const Datum *form, Place place) {
+    want_items(form, 3, SIZE_MAX);
+    return apply_node(form->at, parse(form->items[1], not_last(place)), parse_spread(form, 2, place));
+}
+
+/* (cadr x) and its like: `car` and `cdr` by the letters between the first and the last, from the last on. */
+static Node *parse_path(const Datum *form, Place place) {
+    if (form->count != 2) return parse_call(form, place);
+    const char *const name = symbol_name(name_of(form->items[0]));
+    Node *node = parse(form->items[1], not_last(place));
+    for (size_t i = strlen(name) - 2; i > 0; i--) {
+        Node *const step = node_at(form->at, NODE_PRIMITIVE, 1);
+        step->primitive = primitive_named(name[i] == 'a' ? "car" : "cdr");
+        step->nodes[0] = node;
+        node = step;
+    }
+    return node;
+}
+
+/* A loop whose call can be a jump here: each loop between knows that it is left. */
+static Loop *loop_here(const Datum *form, Place place) {
+    Variable *const variable = is_symbol(form->items[0]) ? find_variable(place.scope, name_of(form->items[0])) : NULL;
+    if (!variable || !variable->loop || variable->loop->parameters != form->count - 1) return NULL;
+    const Tail *tail = place.tail;
+    while (tail && tail->loop != variable->loop) tail = tail->outer;
+    if (!tail) return NULL;
+    for (const Tail *between = place.tail; between != tail; between = between->outer) between->loop->is_left = true;
+    return variable->loop;
+}
+
+static Node *parse_call(const Datum *form, Place place) {
+    Loop *const loop = loop_here(form, place);
+    if (form->count - 1 > ARGUMENTS_MOST) {
+        Node *const list = parse_list(form, place);
+        return apply_node(form->at, parse(form->items[0], not_last(place)), list);
+    }
+    Node *const call = node_at(form->at, NODE_CALL, form->count);
+    call->loop = loop;
+    call->nodes[0] = loop ? local_node(form->at, loop->variable) : parse(form->items[0], not_last(place));
+    for (size_t i = 1; i < form->count; i++) call->nodes[i] = parse(form->items[i], not_last(place));
+    return call;
+}
+
+static Node *primitive_node(Position at, const Primitive *primitive, Node **operands, size_t count) {
+    const size_t all = count < primitive->most || primitive->adds_other ? count + 1 : count;
+    Node *const node = node_at(at, NODE_PRIMITIVE, all);
+    node->primitive = primitive;
+    for (size_t i = 0; i < count; i++) node->nodes[i] = operands[i];
+    if (all > count) node->nodes[count] = word_node(at, primitive->other);
+    if (primitive->swaps) {
+        Node *const first = node->nodes[0];
+        node->nodes[0] = node->nodes[1];
+        node->nodes[1] = first;
+    }
+    return node;
+}
+
+/* A call of a primitive; of one with another number of arguments than the machine's, where it folds; else it is a call as any other. */
+static Node *parse_primitive(const Datum *form, const Primitive *primitive, Place place) {
+    const size_t count = form->count - 1;
+    const bool fits = count >= primitive->least && count <= primitive->most;
+    if (!fits && !(primitive->folds && count > 2)) return parse_call(form, place);
+    Node **const operands = arena_take((count + 1) * sizeof *operands);
+    for (size_t i = 0; i < count; i++) operands[i] = parse(form->items[i + 1], not_last(place));
+    if (fits) return primitive_node(form->at, primitive, operands, count);
+    Node *node = operands[0];
+    for (size_t i = 1; i < count; i++) {
+        Node *pair[] = {node, operands[i]};
+        node = primitive_node(form->at, primitive, pair, 2);
+    }
+    return node;
+}
+
+static Node *parse(const Datum *datum, Place place) {
+    if (is_symbol(datum)) return parse_reference(datum, place);
+    if (datum->kind != DATUM_LIST) return quote(datum);
+    if (!datum->count) fault(datum->at, "() is no expression");
+    if (is_global(datum->items[0], place)) {
+        const Global *const global = global_of(name_of(datum->items[0]));
+        if (global->form) return global->form(datum, place);
+        if (datum->tail) fault(datum->at, "a call with a dot");
+        if (global->primitive) return parse_primitive(datum, global->primitive, place);
+    }
+    if (datum->tail) fault(datum->at, "a call with a dot");
+    return parse_call(datum, place);
+}
+
+static const struct {
+    const char *name;
+    Form *form;
+    bool is_keyword;
+} forms[] = {
+    {"quote", parse_quote, true},       {"quasiquote", parse_quasiquote, true},
+    {"lambda", parse_lambda, true},     {"define", parse_define, true},
+    {"set!", parse_set, true},          {"if", parse_if, true},
+    {"cond", parse_cond, true},         {"case", parse_case, true},
+    {"and", parse_and, true},           {"or", parse_or, true},
+    {"when", parse_when, true},         {"unless", parse_when, true},
+    {"begin", parse_begin, true},       {"let", parse_let, true},
+    {"let*", parse_let_in_order, true}, {"letrec", parse_letrec, true},
+    {"letrec*", parse_letrec, true},    {"do", parse_do, true},
+    {"else", parse_else, true},         {"=>", parse_else, true},
+    {"unquote", parse_else, true},      {"unquote-splicing", parse_else, true},
+    {"list", parse_list, false},        {"cons*", parse_cons_all, false},
+    {"vector", parse_vector, false},    {"append", parse_append, false},
+    {"apply", parse_apply, false},
+};
+
+const char *syntax_path(unsigned path) {
+    static char name[] = "c....r";
+    unsigned steps = 2;
+    for (; steps <= PATH_MOST && path >= 1u << steps; steps++) path -= 1u << steps;
+    if (steps > PATH_MOST) return NULL;
+    for (unsigned i = 0; i < steps; i++) name[i + 1] = path >> i & 1 ? 'd' : 'a';
+    name[steps + 1] = 'r';
+    name[steps + 2] = '\0';
+    return name;
+}
+
+void syntax_open(Machine *of) {
+    machine = of;
+    for (size_t i = 0; i < sizeof forms / sizeof *forms; i++) {
+        Global *const global = global_of(symbol(forms[i].name));
+        global->form = forms[i].form;
+        global->is_keyword = forms[i].is_keyword;
+    }
+    for (unsigned path = 0; syntax_path(path); path++) global_of(symbol(syntax_path(path)))->form = parse_path;
+    for (unsigned i = 0; i < primitive_count; i++) global_of(symbol(primitives[i].name))->primitive = &primitives[i];
+}
+
+void syntax_close(void) {
+    free(globals);
+    free(constants);
+}
+
+void syntax_end_prelude(void) { is_prelude = false; }
+
+/* Definitions within a `begin` of the outermost level are of that level too. */
+static Node *parse_outermost(const Datum *form) {
+    const Place outermost = {0};
+    if (!is_form(form, "begin") || form->count < 2 || form->tail) return parse(form, outermost);
+    Node *const sequence = node_at(form->at, NODE_SEQUENCE, form->count - 1);
+    for (size_t i = 1; i < form->count; i++) sequence->nodes[i - 1] = parse_outermost(form->items[i]);
+    return sequence;
+}
+
+Node *syntax_of(const Datum *form) {
+    constant_count = 0;
+    Node *const node = parse_outermost(form);
+    if (!constant_count) return node;
+    Node *const sequence = node_at(form->at, NODE_SEQUENCE, constant_count + 1);
+    memcpy(sequence->nodes, constants, constant_count * sizeof *constants);
+    sequence->nodes[constant_count] = node;
+    return sequence;
+}
+
+Node *syntax_prompt(const Datum *form) {
+    Node *const node = syntax_of(form);
+    return is_definition(form, (Place){0}) ? node : call_of_global("%write-line", node);
+}

@@ -1,0 +1,73 @@
+/*
+ * Vectors. SPDX: MIT OR Apache-2.0
+ *
+ * A vector of up to OBJECT_MOST elements is an object with so many fields; a longer one refers to such objects, its parts. Its length
+ * stands in its word.
+ */
+#include "primitives.h"
+
+enum { VECTOR_MOST = OBJECT_MOST * OBJECT_MOST };
+
+static size_t element_of(const Machine *machine, const char *name, unsigned vector, unsigned index) {
+    const Word word = machine->word[vector];
+    if (kind_of(word) != KIND_VECTOR) machine_fault(machine, "%s: not a vector", name);
+    return want_index(machine, name, machine->word[index], payload(word));
+}
+
+static void load_part(Machine *machine, unsigned vector, size_t element) {
+    memory_load(REGISTER_SCRATCH, vector, (unsigned)(element / OBJECT_MOST));
+    machine->holding |= 1u << REGISTER_SCRATCH;
+}
+
+void vector_ref(Machine *machine, unsigned dest, unsigned vector, unsigned index) {
+    const size_t element = element_of(machine, "vector-ref", vector, index);
+    if (payload(machine->word[vector]) <= OBJECT_MOST) {
+        machine_load(machine, dest, vector, (unsigned)element);
+    } else {
+        load_part(machine, vector, element);
+        machine_load(machine, dest, REGISTER_SCRATCH, (unsigned)(element % OBJECT_MOST));
+    }
+}
+
+void vector_set(Machine *machine, unsigned vector, unsigned index, unsigned value) {
+    const size_t element = element_of(machine, "vector-set!", vector, index);
+    if (payload(machine->word[vector]) <= OBJECT_MOST) {
+        machine_store(machine, vector, (unsigned)element, value);
+    } else {
+        load_part(machine, vector, element);
+        machine_store(machine, REGISTER_SCRATCH, (unsigned)(element % OBJECT_MOST), value);
+    }
+}
+
+static void make_part(Machine *machine, unsigned dest, unsigned length, unsigned fill) {
+    machine_new(machine, dest, length, length);
+    if (!machine->word[fill]) return;
+    for (unsigned i = 0; i < length; i++) machine_begin(machine, dest, i, fill);
+}
+
+void make_vector(Machine *machine, unsigned dest, unsigned length_operand, unsigned fill, unsigned unused) {
+    (void)unused;
+    const size_t length = want_index(machine, "make-vector", machine->word[length_operand], VECTOR_MOST + 1);
+    if (length <= OBJECT_MOST) {
+        make_part(machine, REGISTER_SCRATCH, (unsigned)length, fill);
+    } else {
+        const unsigned parts = (unsigned)((length + OBJECT_MOST - 1) / OBJECT_MOST);
+        machine_new(machine, REGISTER_NIL, parts, 0); /* is nil again below */
+        for (unsigned part = 0; part < parts; part++) {
+            const size_t left = length - (size_t)part * OBJECT_MOST;
+            make_part(machine, REGISTER_SCRATCH, left < OBJECT_MOST ? (unsigned)left : OBJECT_MOST, fill);
+            memory_store(REGISTER_NIL, part, REGISTER_SCRATCH);
+        }
+        memory_move(REGISTER_SCRATCH, REGISTER_NIL);
+        memory_nil(REGISTER_NIL);
+    }
+    machine_hold(machine, REGISTER_SCRATCH, REFERENCE(KIND_VECTOR, length));
+    machine_move(machine, dest, REGISTER_SCRATCH);
+}
+
+void vector_length(Machine *machine, unsigned dest, unsigned vector, unsigned unused, unsigned unused_too) {
+    (void)unused;
+    (void)unused_too;
+    if (kind_of(machine->word[vector]) != KIND_VECTOR) machine_fault(machine, "vector-length: not a vector");
+    machine_set(machine, dest, integer((int64_t)payload(machine->word[vector])));
+}
