@@ -69,8 +69,9 @@ uint32_t lxr_version(void);
 
 /*
  * Opens a heap of `blocks` blocks for objects and `body_blocks` blocks for bodies, 1 to 65,536 each, of 32 KB. All memory that the heap
- * will ever use is reserved here, and returned by lxr_close; no other call asks for memory. What is reserved is written as it is used.
- * Codes: LXR_IN_USE, LXR_SIZE, LXR_MEMORY. Cost: grows with the numbers of blocks; some microseconds for 64 of each.
+ * will ever use is reserved here, and returned by lxr_close; no other call asks for memory. What is reserved for objects is written
+ * here, and for a moment it is there twice; what is reserved for bodies is written as it is used.
+ * Codes: LXR_IN_USE, LXR_SIZE, LXR_MEMORY. Cost: grows with `blocks`; some 40 microseconds for each.
  */
 uint32_t lxr_open(lxr_heap *heap, uint32_t blocks, uint32_t body_blocks);
 

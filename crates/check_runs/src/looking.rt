@@ -15,14 +15,15 @@ fn nanos_since<R: Clock>(clock: &R, start: Instant) -> u64 {
     }
 }
 
-/// Notes when it is first passed, and counts how often, unless it is only to time. It holds thread 1 until thread 2 has passed, for at most so
-/// many turns, and then notes that it gave up and holds nobody any more.
+/// Notes when it is first passed, and counts how often, unless it is only to time. It holds thread 1 until another thread has passed, for at
+/// most so many turns, and then notes that it gave up and holds nobody any more.
 #[derive(Drop)]
 pub struct Meet<'a, R: Clock> {
     clock: &'a R,
     start: Instant,
     counts: bool,
     turns: u32,
+    other: u32,
     first: AtomicU64,
     passes: AtomicU32,
     second: AtomicU32,
@@ -30,13 +31,14 @@ pub struct Meet<'a, R: Clock> {
 }
 
 impl<'a, R: Clock> Meet<'a, R> {
-    /// A gate that holds thread 1 for at most so many turns.
-    pub fn new(clock: &'a R, start: Instant, counts: bool, turns: u32) -> Meet<'a, R> {
+    /// A gate that holds thread 1 for at most so many turns, until the thread of another number has passed.
+    pub fn new(clock: &'a R, start: Instant, counts: bool, turns: u32, other: u32) -> Meet<'a, R> {
         Meet {
             clock,
             start,
             counts,
             turns,
+            other,
             first: AtomicU64::new(0),
             passes: AtomicU32::new(0),
             second: AtomicU32::new(0),
@@ -59,7 +61,7 @@ impl<'a, R: Clock> Meet<'a, R> {
         self.alone.load(Ordering::SeqCst) != 0
     }
 
-    /// Waits for thread 2.
+    /// Waits for the other thread.
     fn hold(&self) {
         for _ in 0..self.turns {
             if self.second.load(Ordering::SeqCst) != 0 {
@@ -75,7 +77,7 @@ impl<'a, R: Clock> Meet<'a, R> {
         self.passes.fetch_add(1, Ordering::SeqCst);
         if thread == 1 && !self.gave_up() {
             self.hold();
-        } else if thread == 2 {
+        } else if u32::from(thread) == self.other {
             self.second.store(1, Ordering::SeqCst);
         }
     }

@@ -8,6 +8,7 @@ use lxr_text_stream::{Bytes, Kept};
 use std::alloc::Global;
 use std::io;
 use std::rt::Clock;
+use std::sync::Wait;
 use std::thread::Threads;
 use std::time::Instant;
 
@@ -31,7 +32,7 @@ pub struct Ran<'a, R: Clock> {
 }
 
 /// Does the run that is asked for.
-pub fn run<'a, R: Clock + Threads + Sync>(
+pub fn run<'a, R: Clock + Threads + Wait + Sync>(
     rt: &'a R,
     alloc: Global,
     asked: &Asked<'_>,
@@ -42,7 +43,13 @@ pub fn run<'a, R: Clock + Threads + Sync>(
     let mut input = Bytes::new(alloc, input, &[asked.number("read")])?;
     let mut output = Kept::new(alloc, &[asked.number("write")])?;
     let mut errors = Kept::new(alloc, &[asked.number("tell")])?;
-    let gate = Meet::new(rt, start, asked.number("times") == 0, asked.number("meet"));
+    let gate = Meet::new(
+        rt,
+        start,
+        asked.number("times") == 0,
+        asked.number("meet"),
+        asked.number("with").max(2),
+    );
     let mut watch = Looking {
         clock: rt,
         start,

@@ -67,7 +67,7 @@ fn tell_numbers(rt: &impl Print, space: &Space) -> io::Result<()> {
     )
 }
 
-/// Tells how often the gate was passed, and whether thread 2 came before it gave up.
+/// Tells how often the gate was passed, and whether the other thread came before it gave up.
 fn tell_gate<R: Clock + Print>(rt: &R, gate: &Meet<'_, R>) -> io::Result<()> {
     let how = if gate.gave_up() { "alone" } else { "met" };
     println!(rt; "-- gate {}\n-- meet {how}", gate.passes())

@@ -1,73 +1,58 @@
 //! Says what tables of text mean, and runs none of it.
 //!
-//! The input is three tables with a line of four equals signs between them. A line of the first is a command line, whose words stand behind a bar
+//! The input is five tables with a line of four equals signs between them. A line of the first is a command line, whose words stand behind a bar
 //! each: `|run|--blocks|2` has three, `|` has one that is empty, and an empty line has none. It is answered by what it sets, or by what is wrong
 //! with it. The second has scripts, with a line of four hyphens between two of them. Each is answered by its operations, thread by thread, or by
 //! its first fault. A line of the third is a seed, which is answered by how many operations one round of one thread has that a load makes, and by the
-//! first of them.
+//! first of them. The fourth has cases of outputs, parted as scripts are. A case is answered by the form of its output, once without counts and once
+//! with them, and by the items of its order, or by the line that refuses it. The fifth is one case, of which each beginning is told by how many items
+//! it has, and else by the line that refuses it, each line once for those that follow one another.
 #![tactic(auto)]
 
-use lxr_text_load::make_load;
-use lxr_text_script::{Script, error_line, read_script};
-use lxr_words::{WordError, read_words};
-use std::alloc::AllocError;
+mod cases;
+mod texts;
+
+use crate::cases::{tell_beginnings, tell_case};
+use crate::texts::{tell_load, tell_script, tell_words};
 use std::io;
 
-/// The words of a line.
-fn words_of<'a>(rt: &impl AllocGlobal, line: &'a str) -> Result<Vec<&'a str>, AllocError> {
-    line.split('|').skip(1).collect(rt.alloc())
-}
-
-/// Prints what a command line sets on one line, or the line that refuses it.
-fn tell_words<R: AllocGlobal + Print>(rt: &R, line: &str) -> io::Result<()> {
-    let words = words_of(rt, line)?;
-    match read_words(rt.alloc(), &words) {
-        Ok(options) => println!(rt; "{options:?}"),
-        Err(WordError::Fault(fault)) => print!(rt; "{}", fault.error_line()),
-        Err(WordError::Memory) => println!(rt; "out of memory"),
+/// Tells the tables of command lines, scripts and loads.
+fn tell_texts<R: AllocGlobal + Print>(
+    rt: &R,
+    lines: &str,
+    scripts: &str,
+    seeds: &str,
+) -> io::Result<()> {
+    for line in lines.split('\n') {
+        tell_words(rt, line)?;
     }
-}
-
-/// Prints the operations of each thread.
-fn print_operations(rt: &impl Print, script: &Script) -> io::Result<()> {
-    for operations in script.operations.as_slice() {
-        println!(rt; "thread")?;
-        for operation in operations.as_slice() {
-            println!(rt; "{operation:?}")?;
-        }
+    for text in scripts.split("\n----\n") {
+        tell_script(rt, text)?;
+    }
+    for seed in seeds.trim_end().split('\n') {
+        tell_load(rt, seed)?;
     }
     Ok(())
 }
 
-/// Prints the operations of a script, or the line that refuses it.
-fn tell_script<R: AllocGlobal + Print>(rt: &R, text: &str) -> io::Result<()> {
-    match read_script(rt.alloc(), text.as_bytes()) {
-        Ok(script) => print_operations(rt, &script),
-        Err(error) => print!(rt; "{}", error_line(rt.alloc(), &error)?),
+/// Tells the table of cases, and what is cut from the last one.
+fn tell_cases<R: AllocGlobal + Print>(rt: &R, cases: &str, whole: &str) -> io::Result<()> {
+    for text in cases.split("\n----\n") {
+        tell_case(rt, text)?;
     }
-}
-
-/// Prints how many operations the first round of a load has, and the first of them.
-fn tell_load<R: AllocGlobal + Print>(rt: &R, seed: &str) -> io::Result<()> {
-    let script = make_load(rt.alloc(), seed.parse().unwrap_or(0), 1, 1)?;
-    for operations in script.operations.as_slice() {
-        println!(rt; "{} operations", operations.len())?;
-        println!(rt; "{:?}", operations.as_slice().first())?;
-    }
-    Ok(())
+    tell_beginnings(rt, whole)
 }
 
 fn main(rt: HostRuntime) -> io::Result<()> {
     let input = io::read_to_string(rt.alloc(), rt.reader())?;
     let mut tables = input.as_str().split("\n====\n");
-    for line in tables.next().unwrap_or("").split('\n') {
-        tell_words(&rt, line)?;
-    }
-    for text in tables.next().unwrap_or("").split("\n----\n") {
-        tell_script(&rt, text)?;
-    }
-    for line in tables.next().unwrap_or("").trim_end().split('\n') {
-        tell_load(&rt, line)?;
-    }
-    Ok(())
+    let (lines, scripts, seeds) = (tables.next(), tables.next(), tables.next());
+    tell_texts(
+        &rt,
+        lines.unwrap_or(""),
+        scripts.unwrap_or(""),
+        seeds.unwrap_or(""),
+    )?;
+    let (cases, whole) = (tables.next(), tables.next());
+    tell_cases(&rt, cases.unwrap_or(""), whole.unwrap_or(""))
 }

@@ -1,75 +1,15 @@
 -- Between two edges of a mask all lines are free, or none is.
 use Rattle.std.proofs.Common.{◌≡◌, ℕ, zero, suc, ◌+◌, ◌-◌, ◌*◌, ◌/◌, ◌%◌, ◌^◌, ◌<◌, ◌≤◌, refl, sym, ap, subst, ◌∙◌, inl, inr, ◌⊎◌, arith, Bool, true, false}
 use Rattle.std.specs.Int.{bit_at, trailing_zeros, w128}
-use Rattle.std.specs.Int.Bits.{bit_and, bit_xor}
+use Rattle.std.specs.Int.Bits.{bit_xor}
 use Rattle.std.proofs.lemmas.Bool.Decides.{eqb_tells, leb_tells}
-use Rattle.std.proofs.lemmas.Nat.{div-add-mod', mod_below, pow_pos}
-use Rattle.std.proofs.lemmas.Nat.Bits.{bit_at-lt, bit_at-suc, bit_at-trailing_zeros, bit_at-zero, bit_at_and, bit_at_cat_high, bit_at_cat_low, bit_at_lowest, bit_at_xor, same_from_bits_below}
+use Rattle.std.proofs.lemmas.Nat.{div-add-mod'}
+use Rattle.std.proofs.lemmas.Nat.Bits.{bit_at-lt, bit_at-suc, bit_at-trailing_zeros, bit_at-zero, bit_at_cat_low, bit_at_lowest, bit_at_xor}
 use Rattle.lxr_layout.specs.declared.TheConstants.{LINES_IN_BLOCK}
 use Rattle.lxr_blocks.specs.Lines.{IsFirstLine, IsNextRun}
 use Rattle.lxr_blocks.specs.Masks.{AreEdges, IsMask, differ, one_if}
+use Rattle.lxr_blocks.proofs.HalvesLemmas.{IsRest}
 use Rattle.lxr_blocks.proofs.MaskLemmas.{told_line, untold_line}
-
--- ---- the lowest bit is taken away
-
--- a number is an odd one before so many zeros
-low_zeros : (n t : ℕ) → ((i : ℕ) → i < t → bit_at n i ≡ 0) → n % 2 ^ t ≡ 0
-low_zeros n t none =
-    same_from_bits_below t (n % 2 ^ t) 0 (mod_below n (2 ^ t) (pow_pos t)) (pow_pos t)
-    (λ i h. sym (bit_at_cat_low (n / 2 ^ t) t (n % 2 ^ t) i h) ∙ ap (λ x. bit_at x i) (div-add-mod' n (2 ^ t)) ∙ none i h ∙ sym (bit_at-zero i))
-
--- the number below it has the same bits above the lowest, and not that one
-below_parts : (n t : ℕ) → bit_at n t ≡ 1 → n % 2 ^ t ≡ 0 → n - 1 ≡ (n / 2 ^ t - 1) * 2 ^ t + (2 ^ t - 1)
-below_parts n t one none =
-    let split = div-add-mod' n (2 ^ t) in
-    let some = pow_pos t in
-    let odd : n / 2 ^ t % 2 ≡ 1 = one in
-    let high : n / 2 ^ t ≡ n / 2 ^ t - 1 + 1 = omega arith in
-    let product : n / 2 ^ t * 2 ^ t ≡ (n / 2 ^ t - 1 + 1) * 2 ^ t = ap (λ x. x * 2 ^ t) high in
-    omega arith
-
-below_bit : (n t i : ℕ) → bit_at n t ≡ 1 → n % 2 ^ t ≡ 0 → t ≤ i → bit_at (n - 1) i ≡ bit_at (n / 2 ^ t - 1) (i - t)
-below_bit n t i one none after =
-    let some = pow_pos t in
-    ap (λ x. bit_at x i) (below_parts n t one none) ∙ bit_at_cat_high (n / 2 ^ t - 1) t (2 ^ t - 1) i (omega arith) after
-
-same_above : (h j : ℕ) → h % 2 ≡ 1 → bit_at (h - 1) (suc j) ≡ bit_at h (suc j)
-same_above h j odd = let half : (h - 1) / 2 ≡ h / 2 = omega arith in bit_at-suc (h - 1) j ∙ ap (λ x. bit_at x j) half ∙ sym (bit_at-suc h j)
-
-whole_bit : (n t i : ℕ) → n % 2 ^ t ≡ 0 → t ≤ i → bit_at n i ≡ bit_at (n / 2 ^ t) (i - t)
-whole_bit n t i none after =
-    let some = pow_pos t in
-    ap (λ x. bit_at x i) (sym (div-add-mod' n (2 ^ t))) ∙ bit_at_cat_high (n / 2 ^ t) t (n % 2 ^ t) i (mod_below n (2 ^ t) some) after
-
-pub lowest_gone : (n i : ℕ) → 0 < n → n < 2 ^ 128 → i ≤ trailing_zeros w128 n → bit_at (bit_and n (n - 1)) i ≡ 0
-lowest_gone n i some fits up_to =
-    let t : ℕ = trailing_zeros w128 n in
-    let lowest = bit_at-trailing_zeros w128 n some fits in
-    let both = bit_at_and n (n - 1) i in
-    let x = bit_at-lt n i in let y = bit_at-lt (n - 1) i in
-    elim (eqb_tells i t) [
-      | inl same ↦
-          let at = same.1 in
-          let zeros = low_zeros n t lowest.2 in
-          let odd : n / 2 ^ t % 2 ≡ 1 = lowest.1 in
-          let even : bit_at (n / 2 ^ t - 1) 0 ≡ 0 = bit_at_lowest (n / 2 ^ t - 1) ∙ omega arith in
-          let start : t - t ≡ 0 = omega arith in
-          let gone : bit_at (n - 1) i ≡ 0 = ap (bit_at (n - 1)) at ∙ below_bit n t t lowest.1 zeros (omega arith) ∙ ap (bit_at (n / 2 ^ t - 1)) start ∙ even in
-          omega arith
-      | inr other ↦ let ne = other.1 in let none = lowest.2 i (omega arith) in omega arith
-    ]
-
-pub others_stay : (n i : ℕ) → 0 < n → n < 2 ^ 128 → trailing_zeros w128 n < i → bit_at (bit_and n (n - 1)) i ≡ bit_at n i
-others_stay n i some fits behind =
-    let t : ℕ = trailing_zeros w128 n in
-    let lowest = bit_at-trailing_zeros w128 n some fits in
-    let zeros = low_zeros n t lowest.2 in
-    let both = bit_at_and n (n - 1) i in
-    let j : ℕ = i - t - 1 in
-    let place : i - t ≡ suc j = omega arith in
-    let same : bit_at (n - 1) i ≡ bit_at n i =
-    below_bit n t i lowest.1 zeros (omega arith) ∙ ap (bit_at (n / 2 ^ t - 1)) place ∙ same_above (n / 2 ^ t) j lowest.1 ∙ ap (bit_at (n / 2 ^ t)) (sym place) ∙ sym (whole_bit n t i zeros (omega arith)) in
-    omega arith
 
 -- ---- the edges of a mask
 
@@ -188,12 +128,8 @@ first_edge e free from some fits is =
       ];
     }
 
--- the edges without the first
-abbrev pub IsRest : ℕ → ℕ → Type 0
-IsRest e rest = ((i : ℕ) → i ≤ trailing_zeros w128 e → bit_at rest i ≡ 0) × ((i : ℕ) → trailing_zeros w128 e < i → bit_at rest i ≡ bit_at e i)
-
 -- the second edge is where it ends, or it reaches to the block's end
-pub second_edge : (e rest : ℕ) (free : ℕ → Bool) (from end : ℕ) → 0 < e → e < 2 ^ 128 → rest < 2 ^ 128 → AreEdges e free from → IsRest e rest → ((rest ≡ 0) × (end ≡ 128)) ⊎ ((0 < rest) × (end ≡ trailing_zeros w128 rest))
+pub second_edge : (e rest : ℕ) (free : ℕ → Bool) (from end : ℕ) → 0 < e → e < 2 ^ 128 → rest < 2 ^ 128 → AreEdges e free from → IsRest w128 e rest → ((rest ≡ 0) × (end ≡ 128)) ⊎ ((0 < rest) × (end ≡ trailing_zeros w128 rest))
     → (trailing_zeros w128 e < end) × IsFirstLine free false (trailing_zeros w128 e) end
 second_edge e rest free from end some fits rest_fits is rest_is (inl (none, at)) =
     let line : ℕ = trailing_zeros w128 e in
@@ -241,7 +177,7 @@ end_place rest = elim (eqb_tells rest 0) [
 ]
 
 -- behind where it begins
-pub later_edge : (e rest : ℕ) → 0 < e → e < 2 ^ 128 → rest < 2 ^ 128 → IsRest e rest → trailing_zeros w128 e ≤ trailing_zeros w128 rest
+pub later_edge : (e rest : ℕ) → 0 < e → e < 2 ^ 128 → rest < 2 ^ 128 → IsRest w128 e rest → trailing_zeros w128 e ≤ trailing_zeros w128 rest
 later_edge e rest some fits rest_fits rest_is =
     let lowest = bit_at-trailing_zeros w128 e some fits in
     elim (end_place rest) [
@@ -255,8 +191,8 @@ later_edge e rest some fits rest_fits rest_is =
     ]
 
 -- the edges behind the run
-pub edges_behind : (e rest left : ℕ) (free : ℕ → Bool) (from end : ℕ) → AreEdges e free from → from ≤ trailing_zeros w128 e → IsRest e rest → trailing_zeros w128 e < end → (end < 128 → free end ≡ false)
-    → end ≡ trailing_zeros w128 rest → IsRest rest left → AreEdges left free end
+pub edges_behind : (e rest left : ℕ) (free : ℕ → Bool) (from end : ℕ) → AreEdges e free from → from ≤ trailing_zeros w128 e → IsRest w128 e rest → trailing_zeros w128 e < end → (end < 128 → free end ≡ false)
+    → end ≡ trailing_zeros w128 rest → IsRest w128 rest left → AreEdges left free end
 edges_behind e rest left free from end is reached rest_is behind taken at left_is = record {
   below = λ i h. left_is.0 i (omega (arith, h, at));
   here = λ h. left_is.0 end (omega (arith, at)) ∙ sym (ap one_if (taken h));
@@ -264,7 +200,7 @@ edges_behind e rest left free from end is reached rest_is behind taken at left_i
 }
 
 -- a run between its two edges
-pub run_between : (e rest left b : ℕ) → 0 < e → e < 2 ^ 128 → rest < 2 ^ 128 → IsRest e rest → IsRest rest left → (free : ℕ → Bool) (from : ℕ) → AreEdges e free from
+pub run_between : (e rest left b : ℕ) → 0 < e → e < 2 ^ 128 → rest < 2 ^ 128 → IsRest w128 e rest → IsRest w128 rest left → (free : ℕ → Bool) (from : ℕ) → AreEdges e free from
     → IsNextRun free b from (record { block = b; line = trailing_zeros w128 e; lines = trailing_zeros w128 rest - trailing_zeros w128 e })
     × AreEdges left free (trailing_zeros w128 e + (trailing_zeros w128 rest - trailing_zeros w128 e))
 run_between e rest left b some fits rest_fits rest_is left_is free from is =

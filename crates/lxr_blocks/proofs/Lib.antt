@@ -1,6 +1,7 @@
 pub mod BesideLemmas
 mod EdgeLemmas
 pub mod FreeLemmas
+mod HalvesLemmas
 pub mod HandedLemmas
 pub mod HandingLemmas
 pub mod KeptLemmas

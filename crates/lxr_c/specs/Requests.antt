@@ -38,37 +38,48 @@ with_number (Err e) next = Err e
 
 -- ---- calls
 
+-- a new object in register `dest`, with so many references and data words
 abbrev pub new : ℕ → ℕ → ℕ → Request
 new dest refs words =
     with_number (register_of dest) (λ d. with_number (size_of refs) (λ r. with_number (size_of words) (λ w. Ok (large_op.Small (op.New d (record { refs = r; values = w }))))))
 
+-- a new large object in register `dest`, whose body has so many blocks
 abbrev pub big : ℕ → ℕ → Request
 big dest blocks = with_number (register_of dest) (λ d. with_number (blocks_of blocks) (λ b. Ok (large_op.Big d b)))
 
+-- reference `index` of what `base` holds becomes what `source` holds
 abbrev pub store : ℕ → ℕ → ℕ → Request
 store base index source = with_number (register_of base) (λ b. with_number (register_of source) (λ s. Ok (large_op.Small (op.Store b (index_of index) s))))
 
+-- register `dest` gets reference `index` of what `base` holds
 abbrev pub load : ℕ → ℕ → ℕ → Request
 load dest base index = with_number (register_of dest) (λ d. with_number (register_of base) (λ b. Ok (large_op.Small (op.Load d b (index_of index)))))
 
+-- data word `index` of what `base` holds is read
 abbrev pub get : ℕ → ℕ → Request
 get base index = with_number (register_of base) (λ b. Ok (large_op.Small (op.Get b (index_of index))))
 
+-- data word `index` of what `base` holds becomes `value`
 abbrev pub put : ℕ → ℕ → ℕ → Request
 put base index value = with_number (register_of base) (λ b. Ok (large_op.Small (op.Put b (index_of index) value)))
 
+-- whether two registers hold the same
 abbrev pub same : ℕ → ℕ → Request
 same left right = with_number (register_of left) (λ l. with_number (register_of right) (λ r. Ok (large_op.Small (op.Same l r))))
 
+-- register `dest` gets what `source` holds
 abbrev pub copy : ℕ → ℕ → Request
 copy dest source = with_number (register_of dest) (λ d. with_number (register_of source) (λ s. Ok (large_op.Small (op.Move d s))))
 
+-- register `dest` becomes nil
 abbrev pub nil : ℕ → Request
 nil dest = with_number (register_of dest) (λ d. Ok (large_op.Small (op.Nil d)))
 
+-- word `index` of the body of what `base` holds is read
 abbrev pub big_get : ℕ → ℕ → Request
 big_get base index = with_number (register_of base) (λ b. Ok (large_op.BigGet b index))
 
+-- word `index` of the body of what `base` holds becomes `value`
 abbrev pub big_put : ℕ → ℕ → ℕ → Request
 big_put base index value = with_number (register_of base) (λ b. Ok (large_op.BigPut b index value))
 

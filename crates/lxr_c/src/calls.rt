@@ -115,6 +115,7 @@ impl Handle {
     }
 
     /// Stores a reference.
+    #[inline(always)]
     pub(crate) fn store(
         &mut self,
         alloc: Global,
@@ -140,6 +141,7 @@ impl Handle {
     }
 
     /// Makes an object.
+    #[inline(always)]
     pub(crate) fn make(
         &mut self,
         alloc: Global,

@@ -32,6 +32,7 @@ pub enum Code {
 
 impl Code {
     /// The number by which the program knows it.
+    #[inline(always)]
     pub(crate) fn number(self) -> u32
         ensures { result ≡ number_of self }
     {
@@ -51,6 +52,7 @@ impl Code {
 }
 
 /// What the reply of an operation comes to.
+#[inline(always)]
 pub(crate) fn code_of(reply: LargeReply) -> Code
     ensures { result ≡ is_code_of reply }
 {

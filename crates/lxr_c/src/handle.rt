@@ -23,6 +23,7 @@ pub struct Handle {
 
 impl Handle {
     /// No heap.
+    #[inline(always)]
     pub(crate) fn none(alloc: Global) -> Handle
         ensures { result.block.value ≡ None }
     {
@@ -33,6 +34,7 @@ impl Handle {
     }
 
     /// Takes the heap out, if there is one.
+    #[inline(always)]
     pub(crate) fn take(&mut self, alloc: Global) -> Option<Box<HostHeap, Global>>
         ensures found { self.old.block.value ≡ kept_of result }
         ensures serving { IfSome result (λ b. IsServing b.value) }
@@ -46,6 +48,7 @@ impl Handle {
     }
 
     /// Puts a heap in, on the condition that there is none, so that nothing is leaked.
+    #[inline(always)]
     pub(crate) fn put(&mut self, heap: Box<HostHeap, Global>)
         requires none { self.old.block.value ≡ None }
         requires serving { IsServing heap.value }

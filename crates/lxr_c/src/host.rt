@@ -35,6 +35,7 @@ pub struct HostHeap {
 }
 
 /// Whether a number has come to a limit, where there is one; 0 is none.
+#[inline(always)]
 fn is_reached(limit: u32, number: u32) -> bool
     ensures { IsTrue result ↔ ((1 ≤ limit) × (limit ≤ number)) }
 {
@@ -58,6 +59,7 @@ impl HostHeap {
     }
 
     /// Makes a pause.
+    #[inline(never)]
     pub(crate) fn pause(&mut self, collect: bool)
         requires number { self.old.heap.space.pauses + 1 < 2 ^ 32 }
         ensures { (h : List LargeItem) → IsHeapOf self.old.heap h → Pauses self.old self.new h collect }
@@ -67,6 +69,7 @@ impl HostHeap {
     }
 
     /// Whether it has made as many objects, or as many pauses, as it makes before it is renewed.
+    #[inline(always)]
     fn is_at_end(&self, ends: Ends) -> bool
         ensures { IsTrue result ↔ IsAtEnd ends self.now }
     {
@@ -74,6 +77,7 @@ impl HostHeap {
     }
 
     /// Where it is at an end, collects and gives all objects that are left new names.
+    #[inline(always)]
     pub(crate) fn settle(&mut self, ends: Ends)
         requires serving { IsServing self.old }
         requires ends { IsWithin ends }
@@ -88,6 +92,7 @@ impl HostHeap {
     }
 
     /// Whether a pause is due before an object is made.
+    #[inline(always)]
     fn is_due(&self) -> bool
         ensures { (h : List LargeItem) → IsHeapOf self.now.heap h → IsTrue result ↔ IsDue self.now h }
     {
@@ -95,6 +100,7 @@ impl HostHeap {
     }
 
     /// Makes a plain pause where one is due before an object is made.
+    #[inline(always)]
     fn pause_if_due(&mut self)
         requires room { HasRoom 2 3 self.old }
         ensures pauses { (h : List LargeItem) → IsHeapOf self.old.heap h → (k : List LargeItem) × PausesWhere (IsDue self.old h) false self.old h self.new k }
@@ -107,6 +113,8 @@ impl HostHeap {
     }
 
     /// Does an operation that needs no pause before it, since one was just made for it.
+    #[cold]
+    #[inline(never)]
     fn act_behind(&mut self, op: LargeOp) -> LargeReply
         requires made { self.old.heap.made < 2 ^ 32 - 1 }
         requires op { MayBeCalled op }
@@ -120,6 +128,7 @@ impl HostHeap {
     }
 
     /// Does an operation, behind the pause that it needs.
+    #[inline(always)]
     fn act(&mut self, op: LargeOp) -> LargeReply
         requires room { HasRoom 2 2 self.old }
         requires op { MayBeCalled op }
@@ -154,6 +163,7 @@ impl HostHeap {
     }
 
     /// Stores a reference.
+    #[inline(always)]
     pub(crate) fn store(&mut self, op: LargeOp) -> LargeReply
         requires serving { IsServing self.old }
         requires op { IsStoring op }
@@ -165,6 +175,7 @@ impl HostHeap {
     }
 
     /// Makes an object.
+    #[inline(always)]
     pub(crate) fn make(&mut self, op: LargeOp) -> LargeReply
         requires serving { IsServing self.old }
         requires op { IsMaking op }

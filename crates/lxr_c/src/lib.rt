@@ -60,6 +60,7 @@ fn word_in(answer: Result<LargeReply, Code>) -> Option<u64>
 }
 
 /// Whether two registers hold the same, if an answer tells it.
+#[inline(always)]
 fn same_in(answer: Result<LargeReply, Code>) -> Option<bool>
     ensures { result ≡ calling.same_in answer }
 {
@@ -80,6 +81,7 @@ fn tell(place: &mut u64, told: Option<u64>)
 }
 
 /// Writes a test over what a place of the program's has, as 1 or 0, if there is one to tell.
+#[inline(always)]
 fn tell_flag(place: &mut u32, told: Option<bool>)
     ensures { place.new ≡ written_over place.old (option_map is_flag told) }
 {
@@ -89,6 +91,7 @@ fn tell_flag(place: &mut u32, told: Option<bool>)
 }
 
 /// A test as a number.
+#[inline(always)]
 fn flag(test: bool) -> u32
     ensures { result ≡ is_flag test }
 {

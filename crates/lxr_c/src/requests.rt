@@ -12,6 +12,7 @@ use lxr_layout::Shape;
 const MOST_FIELDS: u32 = 1023;
 
 /// The register of this number.
+#[inline(always)]
 pub(crate) fn register_of(number: u32) -> Result<u8, Code>
     ensures { result ≡ is_register_of number }
 {
@@ -23,6 +24,7 @@ pub(crate) fn register_of(number: u32) -> Result<u8, Code>
 }
 
 /// An index as an operation has it: a greater one than 65,535 finds nothing, as that one does.
+#[inline(always)]
 fn index_of(index: u32) -> u16
     ensures { result ≡ is_index_of index }
 {
@@ -30,6 +32,7 @@ fn index_of(index: u32) -> u16
 }
 
 /// So many references, or data words, as a shape has them.
+#[inline(always)]
 fn fields_of(count: u32) -> Result<u16, Code>
     ensures { result ≡ size_of count }
 {
@@ -41,6 +44,7 @@ fn fields_of(count: u32) -> Result<u16, Code>
 }
 
 /// A new object with so many references and data words.
+#[inline(always)]
 pub(crate) fn new(dest: u32, refs: u32, words: u32) -> Result<LargeOp, Code>
     ensures asked { result ≡ asking.new dest refs words }
     ensures may { IfOk result IsMaking }
@@ -55,6 +59,7 @@ pub(crate) fn new(dest: u32, refs: u32, words: u32) -> Result<LargeOp, Code>
 }
 
 /// A new large object whose body has so many blocks.
+#[inline(always)]
 pub(crate) fn big(dest: u32, blocks: u32) -> Result<LargeOp, Code>
     ensures asked { result ≡ asking.big dest blocks }
     ensures may { IfOk result IsMaking }
@@ -67,6 +72,7 @@ pub(crate) fn big(dest: u32, blocks: u32) -> Result<LargeOp, Code>
 }
 
 /// A reference is stored.
+#[inline(always)]
 pub(crate) fn set_reference(base: u32, index: u32, source: u32) -> Result<LargeOp, Code>
     ensures asked { result ≡ asking.store base index source }
     ensures may { IfOk result IsStoring }
@@ -81,6 +87,7 @@ pub(crate) fn set_reference(base: u32, index: u32, source: u32) -> Result<LargeO
 }
 
 /// A reference is loaded.
+#[inline(always)]
 pub(crate) fn load(dest: u32, base: u32, index: u32) -> Result<LargeOp, Code>
     ensures asked { result ≡ asking.load dest base index }
     ensures may { IfOk result IsQuiet }
@@ -95,6 +102,7 @@ pub(crate) fn load(dest: u32, base: u32, index: u32) -> Result<LargeOp, Code>
 }
 
 /// A data word is read.
+#[inline(always)]
 pub(crate) fn get(base: u32, index: u32) -> Result<LargeOp, Code>
     ensures asked { result ≡ asking.get base index }
     ensures may { IfOk result IsQuiet }
@@ -107,6 +115,7 @@ pub(crate) fn get(base: u32, index: u32) -> Result<LargeOp, Code>
 }
 
 /// A data word is written.
+#[inline(always)]
 pub(crate) fn put(base: u32, index: u32, value: u64) -> Result<LargeOp, Code>
     ensures asked { result ≡ asking.put base index value }
     ensures may { IfOk result IsQuiet }
@@ -120,6 +129,7 @@ pub(crate) fn put(base: u32, index: u32, value: u64) -> Result<LargeOp, Code>
 }
 
 /// Two registers are compared.
+#[inline(always)]
 pub(crate) fn same(left: u32, right: u32) -> Result<LargeOp, Code>
     ensures asked { result ≡ asking.same left right }
     ensures may { IfOk result IsQuiet }
@@ -130,6 +140,7 @@ pub(crate) fn same(left: u32, right: u32) -> Result<LargeOp, Code>
 }
 
 /// A register gets what another one holds.
+#[inline(always)]
 pub(crate) fn copy(dest: u32, source: u32) -> Result<LargeOp, Code>
     ensures asked { result ≡ asking.copy dest source }
     ensures may { IfOk result IsQuiet }
@@ -140,6 +151,7 @@ pub(crate) fn copy(dest: u32, source: u32) -> Result<LargeOp, Code>
 }
 
 /// A register becomes nil.
+#[inline(always)]
 pub(crate) fn nil(dest: u32) -> Result<LargeOp, Code>
     ensures asked { result ≡ asking.nil dest }
     ensures may { IfOk result IsQuiet }
@@ -149,6 +161,7 @@ pub(crate) fn nil(dest: u32) -> Result<LargeOp, Code>
 }
 
 /// A word of a body is read.
+#[inline(always)]
 pub(crate) fn big_get(base: u32, index: u32) -> Result<LargeOp, Code>
     ensures asked { result ≡ asking.big_get base index }
     ensures may { IfOk result IsQuiet }
@@ -158,6 +171,7 @@ pub(crate) fn big_get(base: u32, index: u32) -> Result<LargeOp, Code>
 }
 
 /// A word of a body is written.
+#[inline(always)]
 pub(crate) fn big_put(base: u32, index: u32, value: u64) -> Result<LargeOp, Code>
     ensures asked { result ≡ asking.big_put base index value }
     ensures may { IfOk result IsQuiet }

@@ -4,7 +4,7 @@ use Rattle.std.specs.Str.Lines.{lines}
 use Rattle.std.proofs.lemmas.Bool.{cond-true, cond-false}
 use Rattle.std.proofs.lemmas.List.{map_push}
 use Rattle.lxr_text_script.specs.Lines.{Text, Line, text_line, words_of}
-use Rattle.lxr_case.specs.declared.Item.{Item}
+use Rattle.lxr_graph.specs.declared.Item.{Item}
 use Rattle.lxr_case.specs.Items.{item_of, has_words, worded_from, SayItems, ReadsLine, IsFirstWithoutItem}
 
 -- the lines so far said these items, and what is left has these lines

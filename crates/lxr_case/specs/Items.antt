@@ -5,8 +5,8 @@ use Rattle.std.specs.Str.Lines.{lines}
 use Rattle.lxr_base.specs.Roomy.{Roomy}
 use Rattle.lxr_text_script.specs.Lines.{Text, Line, numbered}
 use Rattle.lxr_text_script.specs.Numbers.{number_of}
-use Rattle.lxr_case.specs.declared.Item.{Item}
-use Rattle.lxr_case.specs.declared.Item.TheVariants as item
+use Rattle.lxr_graph.specs.declared.Item.{Item}
+use Rattle.lxr_graph.specs.declared.Item.TheVariants as item
 use Rattle.lxr_case.specs.declared.fault.CaseError.{CaseError}
 use Rattle.lxr_case.specs.declared.fault.CaseError.TheVariants as error
 

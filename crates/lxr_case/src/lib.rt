@@ -13,23 +13,12 @@ mod reading;
 
 pub use fault::{CaseError, case_error_line};
 use lxr_base::Listed;
+pub use lxr_graph::{Item, Items};
 use lxr_text_script::Script;
 pub use reading::read_case;
 
-/// An item of an order.
-#[derive(Clone, Copy, Debug, PartialEq, Eq)]
-pub enum Item {
-    /// The next call of this thread; after its last operation its end.
-    Call(u8),
-    /// The next pause.
-    Pause,
-}
-
 /// A list of bytes.
 pub type Octets = Listed<u8>;
-
-/// A list of items.
-pub type Items = Listed<Item>;
 
 /// The numbers of a run that its output is judged by.
 #[derive(Clone, Copy, Debug, PartialEq, Eq)]

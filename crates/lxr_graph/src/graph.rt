@@ -1,11 +1,11 @@
 //! The graph with the registers of its threads, and one step of it.
-ghost use Rattle.std.specs.Prelude.{◌≡◌, ◌+◌, ◌-◌, ◌*◌, ◌^◌, ◌<◌, ◌≤◌, ◌++◌, [], IfOk, OnErr, OnOk, length};
+ghost use Rattle.std.specs.Prelude.{◌≡◌, ◌+◌, ◌-◌, ◌*◌, ◌^◌, ◌<◌, ◌≤◌, ◌++◌, [], IfOk, OnErr, OnOk, length, option_map};
 ghost use Rattle.lxr_graph.specs.declared.Reply.TheVariants as reply;
 ghost use Rattle.lxr_graph.specs.Names.{same_held};
-ghost use Rattle.lxr_graph.specs.State.{next_name, opening, opening_row, register_at, row_of, with_register};
+ghost use Rattle.lxr_graph.specs.State.{next_name, object_at, opening, opening_row, refs_of, register_at, row_of, shape_of, values_of, with_register};
 ghost use Rattle.lxr_graph.specs.Step.{IsWellFormed, add_to, cleared, fresh, get_from, load_from, make, put_to, step, store_to, swap_in};
 
-use crate::rows::{Body, Row, reference_of, set_reference, set_value, value_of};
+use crate::rows::{Body, Row, body_of, reference_of, set_reference, set_value, value_of};
 use crate::{Op, Reply};
 use lxr_layout::{Name, Shape, WORLD_REFS};
 use std::alloc::{AllocError, Global};
@@ -79,12 +79,50 @@ impl Graph {
         Ok(Graph { rows, registers })
     }
 
-    fn register(&self, thread: u8, register: u8) -> Option<Name>
+    /// What a register of a thread holds; none is nil.
+    pub fn register(&self, thread: u8, register: u8) -> Option<Name>
         requires thread { (0 < thread) × (thread < length self.now.graph) }
         requires register { register < 16 }
         ensures { result ≡ register_at self.now thread register }
     {
         self.registers[16 * usize::from(thread - 1) + usize::from(register)]
+    }
+
+    /// What the registers of all threads hold, those of thread 1 first.
+    pub fn registers(&self) -> &[Option<Name>]
+        ensures { result.now ≡ self.now.registers }
+    {
+        &self.registers
+    }
+
+    /// The references of a name's object, each nil or a name; none where there is no object.
+    pub fn references(&self, name: Name) -> &[Option<Name>]
+        ensures { result.now ≡ refs_of (object_at self.now.graph name) }
+    {
+        match body_of(&self.rows, name) {
+            None => &[],
+            Some(body) => body.references(),
+        }
+    }
+
+    /// The data words of a name's object; none where there is no object.
+    pub fn values(&self, name: Name) -> &[u64]
+        ensures { result.now ≡ values_of (object_at self.now.graph name) }
+    {
+        match body_of(&self.rows, name) {
+            None => &[],
+            Some(body) => body.values(),
+        }
+    }
+
+    /// How many references and data words a name's object has, where there is one.
+    pub fn shape(&self, name: Name) -> Option<Shape>
+        ensures { result ≡ option_map shape_of (object_at self.now.graph name) }
+    {
+        match body_of(&self.rows, name) {
+            None => None,
+            Some(body) => Some(body.shape()),
+        }
     }
 
     fn set_register(&mut self, thread: u8, register: u8, name: Option<Name>)

@@ -1,7 +1,7 @@
 //! Objects, and the rows of objects of threads. The index in a row gives the serial, so a lookup is two index steps.
 ghost use Rattle.std.specs.Prelude.{◌≡◌, ◌+◌, ◌-◌, ◌<◌, ◌++◌, ◌∷◌, [], IfOk, OnErr, length, slice_get, slice_set};
 ghost use Rattle.std.specs.Option.{option_copied};
-ghost use Rattle.lxr_graph.specs.State.{object_at, refs_of, values_of, with_reference, with_reference_at, with_value, with_value_at};
+ghost use Rattle.lxr_graph.specs.State.{object_at, refs_of, shape_of, values_of, with_reference, with_reference_at, with_value, with_value_at};
 ghost use Rattle.lxr_graph.specs.State as serial;
 ghost use Rattle.lxr_graph.specs.Step.{fresh};
 
@@ -22,6 +22,10 @@ impl Model for Body {
     ghost Value = { Object };
 
     ghost view = { λ a. record { refs = a.refs.items; values = a.values.items } };
+
+    ghost use Rattle.std.specs.Prelude.{◌^◌, ◌<◌, length};
+
+    ghost invariant = { λ a. (length a.refs.items < 2 ^ 16) × (length a.values.items < 2 ^ 16) };
 }
 
 /// The objects of one thread, oldest first.
@@ -47,6 +51,27 @@ impl Body {
             refs: vec![in alloc; None; usize::from(shape.refs)]?,
             values: vec![in alloc; 0; usize::from(shape.values)]?,
         })
+    }
+
+    pub(crate) fn references(&self) -> &[Option<Name>]
+        ensures { result.now ≡ self.now.refs }
+    {
+        &self.refs
+    }
+
+    pub(crate) fn values(&self) -> &[u64]
+        ensures { result.now ≡ self.now.values }
+    {
+        &self.values
+    }
+
+    pub(crate) fn shape(&self) -> Shape
+        ensures { result ≡ shape_of self.now }
+    {
+        Shape {
+            refs: self.refs.len() as u16,
+            values: self.values.len() as u16,
+        }
     }
 
     pub(crate) fn reference(&self, index: u16) -> Option<Option<Name>>

@@ -1,6 +1,6 @@
 -- The bodies that entries stand for.
 use Rattle.std.proofs.Common.{◌≡◌, ◌≢◌, ℕ, zero, suc, ◌+◌, ◌*◌, ◌^◌, ◌<◌, ◌≤◌, ◌⊎◌, inl, inr, refl, sym, ap, ◌∙◌, arith, Bool, true, false, cond, not, ◌&&◌, replicate, List, [], ◌∷◌, ◌++◌, length, get_or, set, take, drop, map, filter, Option, Some, None, leb, ltb, ◌||◌, subst}
-use Rattle.std.specs.Prelude.{slice_get}
+use Rattle.std.specs.Prelude.{IfNone, IfSome, slice_get}
 use Rattle.std.specs.Option.{option_map}
 use Rattle.std.specs.List.{AllByRecursion, list_any}
 use Rattle.std.proofs.lemmas.Bool.{leb-true, or_parts}
@@ -434,6 +434,16 @@ pub run_told : (h : Held) (ws : List ℕ) (es : List Entry) (taken : List Bool) 
 run_told h ws es taken first count view are run =
     let mine : IsFreeRun (held_by (length taken) ws es) first count = subst (λ h. IsFreeRun h first count) (sym view) run in
     (mine.within, λ k from below. seen ws es taken are k ∙ mine.free k from below)
+
+pub no_run_seen : (h : Held) (ws : List ℕ) (es : List Entry) (taken : List Bool) (found : Option ℕ) (count : ℕ) → held_by (length taken) ws es ≡ h → AreTaken taken es
+    → IfNone found ((first : ℕ) → first + count ≤ length taken → AreFree taken first count → ⊥) → IfNone found ((first : ℕ) → IsFreeRun h first count → ⊥)
+no_run_seen h ws es taken None count view are none = λ first run. let told = run_told h ws es taken first count view are run in none first told.0 told.1
+no_run_seen h ws es taken (Some first) count view are none = none
+
+pub some_run_seen : (h : Held) (ws : List ℕ) (es : List Entry) (taken : List Bool) (found : Option ℕ) (count : ℕ) → held_by (length taken) ws es ≡ h → AreTaken taken es
+    → IfSome found (λ first. (first + count ≤ length taken) × AreFree taken first count) → IfSome found (λ first. IsFreeRun h first count)
+some_run_seen h ws es taken None count view are run = run
+some_run_seen h ws es taken (Some first) count view are run = run_seen h ws es taken first count view are run.0 run.1
 
 pub placed_is : (h : Held) (blocks : ℕ) (old new : List ℕ) (es : List Entry) (n : Name) (first count : ℕ) → held_by blocks old es ≡ h → ClearsBlocks old new first count → AreWritten old es → IsNewEntry es (entry_for n first count)
     → held_by blocks new (inserted es (entry_for n first count)) ≡ record h { bodies = with_placed h.bodies (fresh n first count) }

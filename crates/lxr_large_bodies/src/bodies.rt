@@ -1,5 +1,5 @@
 //! Bodies by name.
-ghost use Rattle.std.specs.Prelude.{◌≡◌, ◌↔◌, ℕ, ◌+◌, ◌*◌, ◌≤◌, IfOk, IfNone, IfSome, IsTrue, None, List, length, map, take, drop, is_some, if◌then◌else◌, slice_set, unwrap_or, vec_capacity};
+ghost use Rattle.std.specs.Prelude.{◌≡◌, ℕ, ◌+◌, ◌*◌, ◌≤◌, IfOk, IfNone, IfSome, None, List, length, map, take, drop, is_some, if◌then◌else◌, slice_set, unwrap_or, vec_capacity};
 ghost use Rattle.lxr_layout.specs.declared.TheConstants.{MOST_BLOCKS};
 ghost use Rattle.lxr_layout.specs.declared.Name.{Name as NameOf};
 ghost use Rattle.lxr_graph.specs.History.{report_of};
@@ -84,17 +84,22 @@ impl Bodies {
         })
     }
 
-    /// Places a body of so many blocks, 1 to 128, for a name that has none: zeros, in the first run of free blocks that is long
-    /// enough. Its first block; none exactly where there is no such run, and then nothing changes.
-    pub fn place(&mut self, name: Name, blocks: u32) -> Option<u32>
+    /// The first block of a run of so many free blocks; none exactly where there is no such run.
+    pub fn free_run(&self, blocks: u32) -> Option<u32>
+        requires { 1 ≤ blocks }
+        ensures none { IfNone result ((first : ℕ) → IsFreeRun self.now first blocks → ⊥) }
+        ensures run { IfSome result (λ first. IsFreeRun self.now first blocks) }
+    {
+        free_run(&self.taken, blocks)
+    }
+
+    /// Places a body of so many blocks, 1 to 128, for a name that has none: zeros, in blocks that are free.
+    pub fn place(&mut self, name: Name, first: u32, blocks: u32)
         requires name { body_of self.old.bodies name ≡ None }
         requires blocks { (1 ≤ blocks) × (blocks ≤ MOST_BODY_BLOCKS) }
-        ensures none { IfNone result ((first : ℕ) → IsFreeRun self.old first blocks → ⊥) }
-        ensures unchanged { IfNone result (self.new ≡ self.old) }
-        ensures run { IfSome result (λ first. IsFreeRun self.old first blocks) }
-        ensures placed { IfSome result (λ first. self.new ≡ record self.old { bodies = with_placed self.old.bodies (fresh name first blocks) }) }
+        requires run { IsFreeRun self.old first blocks }
+        ensures { self.new ≡ record self.old { bodies = with_placed self.old.bodies (fresh name first blocks) } }
     {
-        let first = free_run(&self.taken, blocks)?;
         let entry = Entry {
             name,
             first,
@@ -104,18 +109,6 @@ impl Bodies {
         take_run(&mut self.taken, first, blocks);
         clear_blocks(&mut self.words, first, blocks);
         insert(&mut self.entries, entry);
-        Some(first)
-    }
-
-    /// Whether a run of so many blocks is free, so that a body of so many would be placed.
-    pub fn fits(&self, blocks: u32) -> bool
-        requires { 1 ≤ blocks }
-        ensures { IsTrue result ↔ ((first : ℕ) × IsFreeRun self.now first blocks) }
-    {
-        match free_run(&self.taken, blocks) {
-            None => false,
-            Some(_) => true,
-        }
     }
 
     /// How many blocks the body of a name has; 0 where it has none.

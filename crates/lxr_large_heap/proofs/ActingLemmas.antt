@@ -1,6 +1,6 @@
 -- What comes of an operation, by what has come of its parts.
 use Rattle.std.proofs.Common.{◌≡◌, ℕ, ◌+◌, ◌<◌, ◌≤◌, refl, sym, ap, subst, ◌∙◌, inl, inr, Bool, true, false, cond, List, [], ◌∷◌, Option, Some, None}
-use Rattle.std.specs.Prelude.{IfNone, IfSome, IsTrue, is_some, if◌then◌else◌, slice_set}
+use Rattle.std.specs.Prelude.{IsTrue, is_some, if◌then◌else◌, slice_set}
 use Rattle.std.specs.List.{AllByRecursion}
 use Rattle.lxr_layout.specs.declared.Name.{Name}
 use Rattle.lxr_graph.specs.Names.{same_name}
@@ -26,7 +26,7 @@ use Rattle.lxr_large_model.specs.State.{LargeState, body_of as large_of, handle}
 use Rattle.lxr_large_model.specs.Step.{get_from, got, put_at, put_to, word_in as word_of}
 use Rattle.lxr_large_bodies.specs.Bodies.{Body, Held, IsFreeRun, body_of, fresh, with_placed, with_words, word_at}
 use Rattle.lxr_large_heap.specs.declared.heap.Heap.{Heap}
-use Rattle.lxr_large_heap.specs.Acting.{Acts, FindsNoPlace, HasRun, IsReplied, made_by}
+use Rattle.lxr_large_heap.specs.Acting.{Acts, FindsNoPlace, IsReplied, made_by}
 use Rattle.lxr_large_heap.specs.Holding.{IsHeapOf, abstract_after, made_with, terms_of}
 use Rattle.lxr_large_heap.proofs.CallLemmas.{done_get, done_large, done_no_put, done_put, done_small, held_is_kept, held_word, lines_full, refused_big, refused_new}
 use Rattle.lxr_large_heap.proofs.FullLemmas.{blocks_full}
@@ -115,12 +115,6 @@ no_place_big x h is dest blocks small range none = elim x.fresh as (λ c. x.fres
     may : IsTrue x.fresh → FindsNoPlace x (large_op.Big dest blocks) → (ns : List Name) × AreReachable (large_state h) ns × LeaveNoBody (terms_of x) (large_state h) ns blocks
     may fresh (inl full) = let a = lines_full x h is handle fresh full in (a.0, a.1, inl a.2)
     may fresh (inr gone) = let a = blocks_full x h blocks is range.0 fresh gone in (a.0, a.1, inr a.2)
-
--- where a run is free, a body is placed
-pub is_placed : (held held' : Held) (n : Name) (blocks : ℕ) (first : Option ℕ) → HasRun held blocks → IfNone first ((k : ℕ) → IsFreeRun held k blocks → ⊥) → IfSome first (λ k. IsFreeRun held k blocks)
-    → IfSome first (λ k. held' ≡ record held { bodies = with_placed held.bodies (fresh n k blocks) }) → (k : ℕ) × IsFreeRun held k blocks × (held' ≡ record held { bodies = with_placed held.bodies (fresh n k blocks) })
-is_placed held held' n blocks None run none free placed = absurd (none run.0 run.1)
-is_placed held held' n blocks (Some k) run none free placed = (k, free, placed)
 
 pub replied_big : (x : Heap) (h : List LargeItem) (is : IsHeapOf x h) (space : Space) (held' : Held) (n : Name) (dest blocks first : ℕ) → dest < 16 → (1 ≤ blocks) × (blocks ≤ MOST_BODY_BLOCKS)
     → IsFreeRun x.bodies first blocks → held' ≡ record x.bodies { bodies = with_placed x.bodies.bodies (fresh n first blocks) } → ¬ FindsNoPlace x (large_op.Big dest blocks) → n ≡ record { thread = 1; serial = x.made + 1 }

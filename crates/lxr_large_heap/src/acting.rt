@@ -73,9 +73,9 @@ fn make_large(heap: &mut Heap, dest: u8, blocks: u32) -> Acted
     requires blocks { (1 ≤ blocks) × (blocks ≤ MOST_BODY_BLOCKS) }
     ensures { (h : List LargeItem) → IsHeapOf heap.old h → Acts heap.old heap.new h (large_op.Big dest blocks) result }
 {
-    if !heap.bodies.fits(blocks) {
+    let Some(first) = heap.bodies.free_run(blocks) else {
         return refused(heap.fresh, LargeReply::Full);
-    }
+    };
     let name = Name {
         thread: MUTATOR,
         serial: heap.made + 1,
@@ -83,8 +83,7 @@ fn make_large(heap: &mut Heap, dest: u8, blocks: u32) -> Acted
     match serve(&mut heap.space, name, dest, HANDLE) {
         None => refused(heap.fresh, LargeReply::Full),
         Some(_) => {
-            // A run of free blocks is there, so this places the body.
-            let _first = heap.bodies.place(name, blocks);
+            heap.bodies.place(name, first, blocks);
             heap.made += 1;
             heap.fresh = false;
             Acted::Replied(LargeReply::Big(name))

@@ -1,8 +1,8 @@
 //! A heap for one thread that is called directly: `act` does one operation and answers, `pause` reclaims.
 //!
 //! Nothing runs beside the caller, so all is on plain words: no step is atomic, and no operation is kept. Objects are those of a space
-//! (`lxr_direct`, `lxr_run_pause`), and large ones have a body beside it that never moves (`lxr_large_bodies`). The heap is always that of a
-//! legal history of calls and pauses, so there is no order of calls by which a caller loses an object. The scheme is that of LXR (Zhao,
+//! (`lxr_direct`, `lxr_run_pause`), and large ones have a body beside it that never moves (`lxr_large_bodies`). The heap is always that of
+//! a legal history of calls and pauses, so there is no order of calls by which a caller loses an object. The scheme is that of LXR (Zhao,
 //! Blackburn and McKinley, 2022).
 #![tactic(auto)]
 
@@ -62,8 +62,8 @@ impl Model for LargeHeap {
 }
 
 impl LargeHeap {
-    /// A heap of so many blocks, and so many for bodies, 1 to 65,536 each: it has the world alone, which r0 holds. What is reserved is written
-    /// as it is used, but for a word a block and the tables.
+    /// A heap of so many blocks, and so many for bodies, 1 to 65,536 each: it has the world alone, which r0 holds. What is reserved for
+    /// objects is written here; what is reserved for bodies is written as it is used, but for the tables.
     pub fn open(alloc: Global, blocks: u32, bodies: u32) -> Result<LargeHeap, AllocError>
         requires blocks { (1 ≤ blocks) × (blocks ≤ MOST_BLOCKS) }
         requires bodies { (1 ≤ bodies) × (bodies ≤ MOST_BLOCKS) }
@@ -74,9 +74,9 @@ impl LargeHeap {
     }
 
     /// Does one operation of the thread. `Replied` has its reply: that of a step, or that the heap is full, exactly where it finds no place
-    /// right behind a pause that collected, or such refusals alone. `Room` comes exactly where it finds no place and no such pause stands before it, and
-    /// `Log` exactly where a store has to record what it overwrites and the log has 1,024 entries; then nothing has changed, and the operation
-    /// may be done again behind a pause: one that collects for `Room`, any for `Log`.
+    /// right behind a pause that collected, or such refusals alone. `Room` comes exactly where it finds no place and no such pause stands
+    /// before it, and `Log` exactly where a store has to record what it overwrites and the log has 1,024 entries; then nothing has changed,
+    /// and the operation may be done again behind a pause: one that collects for `Room`, any for `Log`.
     #[inline(always)]
     pub fn act(&mut self, op: LargeOp) -> Acted
         requires made { self.old.made < 2 ^ 32 - 1 }
@@ -115,8 +115,8 @@ impl LargeHeap {
         bulk::read(&self.heap, base, index, into)
     }
 
-    /// Writes words over those of the body of what `base` holds, from word `index` on: all of them or none. In the history that is one `bput` for
-    /// each of them, in order.
+    /// Writes words over those of the body of what `base` holds, from word `index` on: all of them or none. In the history that is one
+    /// `bput` for each of them, in order.
     #[inline(always)]
     pub fn write(&mut self, base: u8, index: u32, from: &[u64]) -> BodyReply
         requires base { base < 16 }
@@ -125,8 +125,8 @@ impl LargeHeap {
         bulk::write(&mut self.heap, base, index, from)
     }
 
-    /// Makes a pause, which collects all that is unreachable, or counts alone. Of the bodies it leaves exactly those whose names it leaves. There
-    /// are fewer than 2^32 pauses, since a report has its number.
+    /// Makes a pause, which collects all that is unreachable, or counts alone. Of the bodies it leaves exactly those whose names it leaves.
+    /// There are fewer than 2^32 pauses, since a report has its number.
     pub fn pause(&mut self, collect: bool)
         requires number { self.old.space.pauses + 1 < 2 ^ 32 }
         ensures { (h : List LargeItem) → IsHeapOf self.old h → PausesHeap self.old self.new h collect }
@@ -134,10 +134,11 @@ impl LargeHeap {
         pausing::pause(&mut self.heap, collect)
     }
 
-    /// Gives each object that is left a new name, 1.1, 1.2, 1.3, .., in order of the old ones, and counts pauses from 0 again, so that a heap lives
-    /// for ever though names and pauses have 32 bits. It stands right behind a pause that collected, or such refusals alone, and not twice behind
-    /// one pause. What registers and objects refer to and the words of bodies are as they were, and nothing moves. The last pause's report stays,
-    /// with the old names. It takes no memory: it goes once over the heap's start bits, and looks up each name that is left.
+    /// Gives each object that is left a new name, 1.1, 1.2, 1.3, .., in order of the old ones, and counts pauses from 0 again, so that a
+    /// heap lives for ever though names and pauses have 32 bits. It stands right behind a pause that collected, or such refusals alone, and
+    /// not twice behind one pause. What registers and objects refer to and the words of bodies are as they were, and nothing moves. The
+    /// last pause's report stays, with the old names. It takes no memory: it goes once over the heap's start bits, and looks up each name
+    /// that is left.
     pub fn renew(&mut self)
         requires fresh { IsTrue self.old.fresh }
         requires paused { 1 ≤ self.old.space.pauses }

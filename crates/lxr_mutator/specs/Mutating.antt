@@ -88,6 +88,17 @@ made m = count_by is_new m.replies.items
 abbrev pub next_name : Mutating → Name
 next_name m = record { thread = m.thread; serial = made m + 1 }
 
+-- how many of its operations stand in the history, by its phase: each that has a reply, and a load or a swap that has taken its
+-- reference and is yet to tell the name of what that refers to
+abbrev pub placed_in : Mutating → MutatorPhase → ℕ
+placed_in m (phase.Referent place) = length m.replies.items + 1
+placed_in m p = length m.replies.items
+
+-- how many of its operations stand in the history, the thread's end among them: those whose step that counts was made, or that were served or
+-- refused
+abbrev pub placed_count : Mutating → ℕ
+placed_count m = placed_in m m.phase
+
 -- no unit is in progress
 abbrev pub rests_in : MutatorPhase → Bool
 rests_in phase.Ready = true

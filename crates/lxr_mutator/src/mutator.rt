@@ -5,7 +5,7 @@ ghost use Rattle.lxr_layout.specs.Objects.{FitsShape};
 ghost use Rattle.lxr_layout.specs.Spaces.{AreLimits};
 ghost use Rattle.lxr_base.specs.Roomy.{emptied};
 ghost use Rattle.lxr_graph.specs.Step.{IsWellFormed};
-ghost use Rattle.lxr_mutator.specs.Mutating.{IsWaiting, has_collected, last_reply, next_name, op_now, register, rests_in, tally_of, waiting_by};
+ghost use Rattle.lxr_mutator.specs.Mutating.{IsWaiting, has_collected, last_reply, next_name, op_now, placed_count, register, rests_in, tally_of, waiting_by};
 ghost use Rattle.lxr_mutator.specs.Steps.{shape_now, with_register};
 ghost use Rattle.lxr_mutator.specs.Mutators.{IsHeld, IsMutator, IsOperation, again, answered, first, held_place, no_spans, served};
 
@@ -180,6 +180,20 @@ impl Mutator {
         ensures sound { IsMutator self.now }
     {
         self.replies.len() as u32
+    }
+
+    /// How many operations stand in the history, the thread's end among them: those that have a reply, and a load or a swap that has
+    /// taken its reference and is yet to tell the name.
+    pub fn placed(&self) -> u32
+        ensures count { result ≡ placed_count self.now }
+        // What holds of each mutator.
+        ensures sound { IsMutator self.now }
+    {
+        let told = self.operation();
+        match self.phase {
+            MutatorPhase::Referent { .. } => told + 1,
+            _ => told,
+        }
     }
 
     /// Whether its last operation was a `collect` that it did in this epoch.

@@ -164,4 +164,6 @@ renews_names s mid g ns may heads =
           (subst (λ (x : Moment). IsAtRest (uncounted s mid) (record { moment = x; at = renewed_at ns g.at; reported = g.reported })) (sym (ap (renewed_moment ns) is))
           (still_rests s mid m.state m.number ns m.stuck g.at g.reported may.rows may.counted.few rests same writes));
       space = whole;
+      tables = heads.tables;
+      others = λ w other. heads.others w (λ n h below. other n h);
     }

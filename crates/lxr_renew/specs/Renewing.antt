@@ -1,9 +1,11 @@
 -- When the names of what is left of a heap may be renewed, and what that does to a space.
-use Rattle.std.specs.Prelude.{◌≡◌, ℕ, None, List, ◌∷◌, IsTrue, length}
+use Rattle.std.specs.Prelude.{◌≡◌, ◌≢◌, ℕ, None, List, ◌∷◌, IsTrue, length}
 use Rattle.lxr_layout.specs.declared.Name.{Name}
+use Rattle.lxr_layout.specs.Places.{first_word}
 use Rattle.lxr_graph.specs.Names.{has}
 use Rattle.lxr_graph.specs.State.{world_name}
 use Rattle.lxr_image.specs.declared.space.Space.{Space}
+use Rattle.lxr_image.specs.Spaces.{tables_of}
 use Rattle.lxr_invariant.specs.AbstractState.{AbstractState}
 use Rattle.lxr_invariant.specs.Quiescent.{IsAtRest}
 use Rattle.lxr_invariant.specs.Settled.{IsSettled}
@@ -20,9 +22,12 @@ pub record MayRenew (s : Space) (g : AbstractState) (ns : List Name) : Type 0 wh
   pub counted : AreCounted s.report.counts.items ns
 
 -- Names were renewed: the space is at rest for the moment with its names renewed, each object stands where it stood, and nothing but words and the
--- number of pauses has changed.
+-- number of pauses has changed. No table but the heap has changed, and of that the headers of what is left alone.
 pub record Renews (before after : Space) (g : AbstractState) (ns : List Name) : Type 0 where
   pub at : Name → ℕ
   pub stay : (n : Name) → IsTrue (has g.moment.unreclaimed n) → at (renewed_name ns n) ≡ g.at n
   pub rests : IsAtRest after (record { moment = renewed_moment ns g.moment; at = at; reported = g.reported })
   pub space : after ≡ record before { words = after.words; tally = record before.tally { pauses = 0 }; pauses = 0 }
+  pub tables : tables_of after ≡ record (tables_of before) { heap = (tables_of after).heap }
+  pub others : (word : ℕ) → ((n : Name) → IsTrue (has g.moment.unreclaimed n) → word ≢ first_word (g.at n))
+      → (tables_of after).heap word ≡ (tables_of before).heap word

@@ -16,7 +16,7 @@ use Rattle.lxr_model.specs.Belongs.{Script}
 use Rattle.lxr_large_model.specs.declared.LargeOp.{LargeOp}
 use Rattle.lxr_large_script.specs.Reading.{large_reading_of}
 use Rattle.lxr_words.specs.declared.Command.{Command}
-use Rattle.lxr_words.specs.declared.Command.TheVariants.{Large, Load, Map, Run}
+use Rattle.lxr_words.specs.declared.Command.TheVariants.{Judge, Large, Load, Map, Order, Run}
 use Rattle.lxr_words.specs.declared.Options.{Options}
 use Rattle.lxr_words.specs.declared.WordFault.{WordFault}
 use Rattle.lxr_words.specs.declared.WordError.{WordError}
@@ -45,13 +45,13 @@ judged_front n left None read takes end limited = subst (λ z. IfSome z (λ byte
 judged_front n left (Some rest) read takes end limited = subst (λ z. IfSome z (λ bytes. take (n + 1) bytes ≡ read)) (sym takes) (front_is n read rest end limited)
 
 -- what is judged of an input is what was read of it
-judged_is : (left left' : Option (List ℕ)) (read : List ℕ) → Takes left left' read → (length read ≤ MOST_BYTES → IsAtEnd left') → length read ≤ MOST_BYTES + 1
+pub judged_is : (left left' : Option (List ℕ)) (read : List ℕ) → Takes left left' read → (length read ≤ MOST_BYTES → IsAtEnd left') → length read ≤ MOST_BYTES + 1
     → IfSome left (λ bytes. judged_part bytes ≡ read)
 unfolding judged_part
 judged_is left left' read takes end limited = judged_front MOST_BYTES left left' read takes end limited
 
 -- what follows from a fact of a value holds where there is one
-if_some-weaker : {X : Type 0} (o : Option X) (P Q : X → Type 0) → IfSome o P → ((x : X) → P x → Q x) → IfSome o Q
+pub if_some-weaker : {X : Type 0} (o : Option X) (P Q : X → Type 0) → IfSome o P → ((x : X) → P x → Q x) → IfSome o Q
 if_some-weaker None P Q h f = tt
 if_some-weaker (Some x) P Q h f = f x h
 
@@ -84,25 +84,27 @@ pub judged_whole : (bytes : List ℕ) → length bytes ≤ MOST_BYTES → judged
 unfolding judged_part
 judged_whole bytes short = take_all (MOST_BYTES + 1) bytes (omega arith)
 
+-- In the following, says tells what bytes are, and they are no more than a script may have.
+module _ (says : List ℕ → Type 0) (limited : (bytes : List ℕ) → says bytes → length bytes ≤ MOST_BYTES) where
+  -- such bytes were read to their end, and are all that was left of the input
+  pub said_whole : (left left' : Option (List ℕ)) (read : List ℕ) → Takes left left' read → (length read ≤ MOST_BYTES → IsAtEnd left') → says read → IsAtEnd left' × IfSome left says
+  said_whole left None read takes end said = (tt, subst (λ z. IfSome z says) (sym takes) tt)
+  said_whole left (Some rest) read takes end said =
+      let none : rest ≡ [] = end (limited read said) in
+      let whole : read ++ rest ≡ read = ap (λ z. read ++ z) none ∙ append-nil read in
+      (none, subst (λ z. IfSome z says) (sym takes) (subst says (sym whole) said))
+
 -- a way of reading accepts no more bytes than a script may have
 abbrev pub AcceptsShort : {X : Type 0} → (List ℕ → Read X) → Type 0
 AcceptsShort {X} reading = (bytes : List ℕ) (script : X) → reading bytes ≡ Ok script → length bytes ≤ MOST_BYTES
 
 -- In the following, reading is such a way.
 module _ {X : Type 0} (reading : List ℕ → Read X) (short : AcceptsShort reading) where
-  -- a script was read to its end, and is all that was left of the input
-  read_whole : (left left' : Option (List ℕ)) (read : List ℕ) (script : X) → Takes left left' read → (length read ≤ MOST_BYTES → IsAtEnd left')
-      → reading read ≡ Ok script → IsAtEnd left' × IfSome left (λ bytes. reading bytes ≡ Ok script)
-  read_whole left None read script takes end accepted = (tt, subst (λ z. IfSome z (λ bytes. reading bytes ≡ Ok script)) (sym takes) tt)
-  read_whole left (Some rest) read script takes end accepted =
-      let none : rest ≡ [] = end (short read script accepted) in
-      let whole : read ++ rest ≡ read = ap (λ z. read ++ z) none ∙ append-nil read in
-      (none, subst (λ z. IfSome z (λ bytes. reading bytes ≡ Ok script)) (sym takes) (subst (λ z. reading z ≡ Ok script) (sym whole) accepted))
-
   pub read_from : {I : Type 0} (input : Stream I) (read : List ℕ) (script : X) → Takes (input.bytes input.before) (input.bytes input.after) read
       → (length read ≤ MOST_BYTES → IsAtEnd (input.bytes input.after)) → reading read ≡ Ok script → IsReadFrom reading input script
   read_from input read script takes end accepted =
-      let whole = read_whole (input.bytes input.before) (input.bytes input.after) read script takes end accepted in record { bytes = whole.1; end = whole.0 }
+      let whole = said_whole (λ bytes. reading bytes ≡ Ok script) (λ bytes is. short bytes script is) (input.bytes input.before) (input.bytes input.after) read takes end accepted in
+      record { bytes = whole.1; end = whole.0 }
 
   -- what was read is right
   pub read_right : {I : Type 0} (input : Stream I) (script : X) (bytes : List ℕ) (wrong : ScriptFault) → IsReadFrom reading input script → input.bytes input.before ≡ Some bytes → IsNoScript reading bytes wrong → ⊥
@@ -134,6 +136,8 @@ words_cause words input word_error.Memory answers = tt
 never_words : {I : Type 0} (command : Command) (input : Stream I) (wrong : WordFault) → GivesNoScript command (refusal.Words wrong) input → ⊥
 never_words Run input wrong none = none
 never_words Map input wrong none = none
+never_words Order input wrong none = none
+never_words Judge input wrong none = none
 never_words Large input wrong none = none
 never_words (Load seed) input wrong none = let e : refusal.Words wrong ≡ refusal.Memory = none in absurd (cc)
 
@@ -141,6 +145,8 @@ never_words (Load seed) input wrong none = let e : refusal.Words wrong ≡ refus
 pub input_cause : {I : Type 0} (words : List (List ℕ)) (input : Stream I) (options : Options) (why : Refusal) → words_read words ≡ Ok options → GivesNoScript options.command why input → HasCause why words input
 input_cause words input options (refusal.Words wrong) accepted none = absurd (never_words options.command input wrong none)
 input_cause words input options (refusal.Script wrong) accepted none = (options, accepted, none)
+input_cause words input options refusal.CaseParts accepted none = (options, accepted, none)
+input_cause words input options (refusal.CaseItem line) accepted none = (options, accepted, none)
 input_cause words input options refusal.ReadFault accepted none = (options, accepted, none)
 input_cause words input options refusal.Memory accepted none = tt
 

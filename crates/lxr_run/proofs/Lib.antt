@@ -1,2 +1,3 @@
 pub mod InputLemmas
+pub mod CaseLemmas
 pub mod OutcomeLemmas

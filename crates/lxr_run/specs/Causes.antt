@@ -1,4 +1,6 @@
 -- What the errors of a run's parts are to the run.
+use Rattle.lxr_case.specs.declared.fault.CaseError.{CaseError}
+use Rattle.lxr_case.specs.declared.fault.CaseError.TheVariants as case_error
 use Rattle.lxr_text_script.specs.declared.fault.ScriptError.{ScriptError}
 use Rattle.lxr_text_script.specs.declared.fault.ScriptError.TheVariants as script_error
 use Rattle.lxr_text_stream.specs.declared.transfer.ReadError.{ReadError}
@@ -21,6 +23,13 @@ refusal_of_read read_error.Memory = refusal.Memory
 abbrev pub refusal_of_script : ScriptError → Refusal
 refusal_of_script (script_error.Fault wrong) = refusal.Script wrong
 refusal_of_script script_error.Memory = refusal.Memory
+
+-- bytes that gave no case
+abbrev pub refusal_of_case : CaseError → Refusal
+refusal_of_case case_error.Parts = refusal.CaseParts
+refusal_of_case (case_error.Script wrong) = refusal.Script wrong
+refusal_of_case (case_error.Item line) = refusal.CaseItem line
+refusal_of_case case_error.Memory = refusal.Memory
 
 -- words that gave no options
 abbrev pub refusal_of_words : WordError → Refusal

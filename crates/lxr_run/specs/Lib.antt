@@ -4,5 +4,6 @@ pub mod Causes
 pub mod Runs
 pub mod Script
 pub mod LargeRuns
+pub mod Judgings
 pub mod Outcome
 pub mod Replayed

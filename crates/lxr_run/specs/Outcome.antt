@@ -6,7 +6,6 @@ use Rattle.lxr_graph.specs.Names.{has}
 use Rattle.lxr_model.specs.Belongs.{IsHistorySoFar, Script}
 use Rattle.lxr_model.specs.Moments.{moment}
 use Rattle.lxr_model.specs.Reachable.{Reachable}
-use Rattle.lxr_text_script.specs.declared.fault.ScriptFault.{ScriptFault}
 use Rattle.lxr_words.specs.declared.Options.{Options}
 use Rattle.lxr_words.specs.declared.WordFault.{WordFault}
 use Rattle.lxr_run_history.specs.Left.{IsLeftBy}
@@ -14,6 +13,7 @@ use Rattle.lxr_run_history.specs.Run.{IsHistoryOf, script_terms}
 use Rattle.lxr_run_history.specs.Sights.{Sees}
 use Rattle.lxr_run_history.specs.Tally.{Evacuated, evacuated_in}
 use Rattle.lxr_run_history.specs.Texts.{run_text, told_text}
+use Rattle.lxr_run.specs.Judgings.{IsJudged, IsPartlyJudged}
 use Rattle.lxr_run.specs.LargeRuns.{IsLargeCutOff, IsLargeDone}
 use Rattle.lxr_run.specs.Lines.{refusal_text}
 use Rattle.lxr_run.specs.Runs.{IsUntouched, HasFailed, IsPartlyWritten, IsWritten, Run, Stream}
@@ -41,9 +41,9 @@ pub record IsThreadsDone {I O W : Type 0} (run : Run I O W) : Type 0 where
   pub sights : Sees (length script) history (run.watch.seen run.watch.before) (run.watch.seen run.watch.after) (evacuated_in run.space.tally)
   pub reachable : (n : Name) → IsTrue (has (moment (length script) history).unreclaimed n) ↔ Reachable (moment (length script) history).state n
 
--- a run is done: its threads have ended, or its script with large objects was played
+-- a run is done: its threads have ended, or its script with large objects was played, or its case was judged
 abbrev pub IsDone : {I O W : Type 0} → Run I O W → Type 0
-IsDone run = IsThreadsDone run ⊎ IsLargeDone run
+IsDone run = IsThreadsDone run ⊎ IsLargeDone run ⊎ IsJudged run
 
 -- A run that was cut off at a report: a prefix of what is told pause by pause of a history so far was written, the space is left by it, and the
 -- watch has seen its pauses.
@@ -69,9 +69,9 @@ pub record IsCutOffLate {I O W : Type 0} (run : Run I O W) : Type 0 where
   pub space_left : IsLeftBy options (length script) history run.space
   pub sights : Sees (length script) history (run.watch.seen run.watch.before) (run.watch.seen run.watch.after) (evacuated_in run.space.tally)
 
--- a run of threads was cut off at a report, or at what it prints last; or one with large objects was
+-- a run of threads was cut off at a report, or at what it prints last; or one with large objects was, or a verdict
 abbrev pub IsCutOff : {I O W : Type 0} → Run I O W → Type 0
-IsCutOff run = IsCutOffEarly run ⊎ IsCutOffLate run ⊎ IsLargeCutOff run
+IsCutOff run = IsCutOffEarly run ⊎ IsCutOffLate run ⊎ IsLargeCutOff run ⊎ IsPartlyJudged run
 
 -- A run that lost its space, since no memory was left as an epoch was to begin: what is told of a history so far was written, and the watch
 -- has seen its pauses.
@@ -109,6 +109,8 @@ HasStopped stop.Output run = HasFailed run.output × IsCutOff run
 abbrev pub status_of : Refusal → Status
 status_of (refusal.Words wrong) = status.Words
 status_of (refusal.Script wrong) = status.Script
+status_of refusal.CaseParts = status.Script
+status_of (refusal.CaseItem line) = status.Script
 status_of refusal.ReadFault = status.ReadFault
 status_of refusal.Memory = status.Memory
 
@@ -135,7 +137,7 @@ pub record IsPartlyTold {I O W E : Type 0} (run : Run I O W) (errors : Stream E)
 abbrev pub HasEnded : {I O W E : Type 0} → Run I O W → Stream E → Status → Type 0
 HasEnded run errors status.Done = IsDone run × IsUntouched errors
 HasEnded run errors status.Words = (wrong : WordFault) × IsTold (refusal.Words wrong) run errors
-HasEnded run errors status.Script = (wrong : ScriptFault) × IsTold (refusal.Script wrong) run errors
+HasEnded run errors status.Script = (wrong : Refusal) × (status_of wrong ≡ status.Script) × IsTold wrong run errors
 HasEnded run errors status.ReadFault = IsTold refusal.ReadFault run errors
 HasEnded run errors status.WriteFault = (HasFailed run.output × IsCutOff run × IsUntouched errors) ⊎ (HasFailed errors × IsPartlyTold run errors)
 HasEnded run errors status.Memory = IsTold refusal.Memory run errors ⊎ IsPartlyTold run errors

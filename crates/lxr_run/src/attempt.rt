@@ -1,11 +1,12 @@
-//! A run from its words to its end, but for the line that tells why it was refused.
+//! What is done from the words to the end, but for the line that tells why it was refused.
 ghost use Rattle.std.specs.Prelude.{◌≡◌, [], IfErr, OnOk, map};
 ghost use Rattle.lxr_text_stream.specs.Streams.{TakesSome};
 ghost use Rattle.lxr_run.specs.Outcome.{HasStopped, IsDone};
 ghost use Rattle.lxr_run.specs.Replayed.{IsReplayed};
 ghost use Rattle.lxr_run.specs.Runs.{run_of, stream, watcher};
-ghost use Rattle.lxr_run.specs.Script.{AsksForLarge, AsksToRead};
+ghost use Rattle.lxr_run.specs.Script.{AsksForThreads, AsksToRead};
 
+use crate::judging::{print_verdict, verdict_on};
 use crate::refusal::Refusal;
 use crate::script::{AnyScript, script_for};
 use lxr_image::Space;
@@ -15,6 +16,7 @@ use lxr_run_watch::{Gate, Watch};
 use lxr_text_stream::{Sink, Source, WriteError};
 use lxr_words::{WordError, read_words};
 use std::alloc::{AllocError, Global};
+use std::sync::Wait;
 use std::thread::Threads;
 
 /// Why a run wasn't done.
@@ -74,8 +76,9 @@ impl From<WriteError> for Stop {
     }
 }
 
-/// Reads the words and then the script, opens a space for it and runs or plays it in that; tells nothing of a refusal.
-pub(crate) fn attempt<R: Threads + Sync, I: Source, O: Sink, G: Gate, W: Watch>(
+/// Reads the words and then the script, opens a space for it and runs or plays it in that; or reads a case and judges it. Tells nothing of
+/// a refusal.
+pub(crate) fn attempt<R: Threads + Wait + Sync, I: Source, O: Sink, G: Gate, W: Watch>(
     rt: &R,
     alloc: Global,
     words: &[&str],
@@ -87,7 +90,7 @@ pub(crate) fn attempt<R: Threads + Sync, I: Source, O: Sink, G: Gate, W: Watch>(
 ) -> Result<(), Stop>
     requires { space.old.words ≡ [] }
     ensures done { OnOk result (IsDone (run_of (map (λ word. word.now) words.now) (stream I.left I.faults input.old input.new) (stream O.written O.faults output.old output.new) (watcher W.seen watch.old watch.new) space.new)) }
-    ensures replayed { OnOk result (¬ AsksForLarge (map (λ word. word.now) words.now) → IsReplayed (run_of (map (λ word. word.now) words.now) (stream I.left I.faults input.old input.new) (stream O.written O.faults output.old output.new) (watcher W.seen watch.old watch.new) space.new)) }
+    ensures replayed { OnOk result (AsksForThreads (map (λ word. word.now) words.now) → IsReplayed (run_of (map (λ word. word.now) words.now) (stream I.left I.faults input.old input.new) (stream O.written O.faults output.old output.new) (watcher W.seen watch.old watch.new) space.new)) }
     ensures stopped { IfErr result (λ why. HasStopped why (run_of (map (λ word. word.now) words.now) (stream I.left I.faults input.old input.new) (stream O.written O.faults output.old output.new) (watcher W.seen watch.old watch.new) space.new)) }
     ensures taken { TakesSome (I.left input.old) (I.left input.new) }
     ensures unread { ¬ AsksToRead (map (λ word. word.now) words.now) → input.new ≡ input.old }
@@ -103,6 +106,11 @@ pub(crate) fn attempt<R: Threads + Sync, I: Source, O: Sink, G: Gate, W: Watch>(
         AnyScript::Large(operations) => {
             let run = open_large(alloc, options.blocks, options.bodies, operations)?;
             *space = play_large(run, options.counts, output)?;
+            Ok(())
+        }
+        AnyScript::Case(case) => {
+            let verdict = verdict_on(alloc, &case, options)?;
+            print_verdict(verdict, output)?;
             Ok(())
         }
     }

@@ -3,12 +3,14 @@
 //! Words, scripts and streams are refused in crates that don't know of each other; here their faults become one line
 //! each, in one function. A line takes no memory, so that want of memory can be told too.
 ghost use Rattle.std.specs.Prelude.{◌≡◌, ◌≤◌, length};
+ghost use Rattle.lxr_case.specs.Faults.{case_error_text};
 ghost use Rattle.lxr_text_script.specs.Faults.{fault_text, of_line};
 ghost use Rattle.lxr_run.specs.Lines.{refusal_text};
 ghost use Rattle.lxr_run.specs.Outcome.{IsToldBy, status_of};
 ghost use Rattle.lxr_run.specs.Runs.{stream};
 
 use crate::Status;
+use lxr_case::CaseError;
 use lxr_text_print::{LINE, Page};
 use lxr_text_script::{ScriptError, ScriptFault};
 use lxr_text_stream::{ReadError, Sink, WriteError};
@@ -19,8 +21,12 @@ use lxr_words::WordFault;
 pub enum Refusal {
     /// The words of the command line.
     Words(WordFault),
-    /// The bytes of the script.
+    /// The bytes of the script, alone or in a case.
     Script(ScriptFault),
+    /// The dividing lines of a case.
+    CaseParts,
+    /// A line of the order of a case.
+    CaseItem { line: u32 },
     /// Reading the input failed.
     ReadFault,
     /// Memory ran out.
@@ -35,6 +41,8 @@ impl Refusal {
         match self {
             Refusal::Words(_) => Status::Words,
             Refusal::Script(_) => Status::Script,
+            Refusal::CaseParts => Status::Script,
+            Refusal::CaseItem { .. } => Status::Script,
             Refusal::ReadFault => Status::ReadFault,
             Refusal::Memory => Status::Memory,
         }
@@ -47,6 +55,8 @@ impl Refusal {
         match self {
             Refusal::Words(fault) => page_of(fault.error_line()),
             Refusal::Script(fault) => fault_line(fault),
+            Refusal::CaseParts => page_of("lxr: case: parts\n"),
+            Refusal::CaseItem { line } => item_line(line),
             Refusal::ReadFault => page_of("lxr: read fault\n"),
             Refusal::Memory => page_of("lxr: out of memory\n"),
         }
@@ -95,6 +105,16 @@ fn of_line(line: u32, what: &str) -> Page
     page
 }
 
+/// The line of a fault of the order of a case.
+fn item_line(line: u32) -> Page
+    ensures { result ≡ case_error_text (CaseError.Item line) }
+{
+    let mut page = page_of("lxr: case line ");
+    page.number(line.into());
+    page.push(b": item\n");
+    page
+}
+
 /// Tells why a run was refused, and answers the status with which it ends: that of the refusal, or that of a fault of writing or of
 /// want of memory where the stream answers these to the line.
 pub fn tell<E: Sink>(refusal: Refusal, errors: &mut E) -> Status
@@ -116,6 +136,21 @@ impl From<ReadError> for Refusal {
         match error {
             ReadError::Fault => Refusal::ReadFault,
             ReadError::Memory => Refusal::Memory,
+        }
+    }
+}
+
+impl From<CaseError> for Refusal {
+    ghost use Rattle.lxr_run.specs.Causes.{refusal_of_case};
+
+    ghost from_gives = { λ error why. why ≡ refusal_of_case error };
+
+    fn from(error: CaseError) -> Refusal {
+        match error {
+            CaseError::Parts => Refusal::CaseParts,
+            CaseError::Script(fault) => Refusal::Script(fault),
+            CaseError::Item { line } => Refusal::CaseItem { line },
+            CaseError::Memory => Refusal::Memory,
         }
     }
 }

@@ -1,4 +1,4 @@
-//! The script of a run: read from the input, or made from a seed.
+//! What is run or judged: a script that is read from the input or made from a seed, or a case that is read.
 ghost use Rattle.std.specs.Prelude.{◌≡◌, false, IfErr, IfOk};
 ghost use Rattle.lxr_text_load.specs.Load.{load};
 ghost use Rattle.lxr_text_script.specs.Limits.{IsScript};
@@ -9,9 +9,10 @@ ghost use Rattle.lxr_large_script.specs.Reading.{large_reading_of};
 ghost use Rattle.lxr_words.specs.Options.{script_commands};
 ghost use Rattle.lxr_words.specs.Ranges.{AreInRange};
 ghost use Rattle.lxr_run.specs.Runs.{stream};
-ghost use Rattle.lxr_run.specs.Script.{GivesNone, GivesNoScript, IsAnyGivenBy, IsReadFrom, IsWithinLimits};
+ghost use Rattle.lxr_run.specs.Script.{CanBeJudged, GivesNoCase, GivesNone, GivesNoScript, IsAnyGivenBy, IsCaseReadFrom, IsReadFrom, IsWithinLimits};
 
 use crate::refusal::Refusal;
+use lxr_case::{Case, read_case};
 use lxr_large_script::{LargeOperations, read_large};
 use lxr_text_load::make_load;
 use lxr_text_script::{Lists, MOST_BYTES, read_script};
@@ -19,16 +20,19 @@ use lxr_text_stream::{Source, read_all};
 use lxr_words::{Command, Options};
 use std::alloc::Global;
 
-/// The script of a run, by how it is run.
+/// What the program takes, by what is done with it.
 #[derive(Drop)]
 pub(crate) enum AnyScript {
     /// The operations of each of its threads.
     Threads(Lists),
     /// The operations of one thread that has large objects.
     Large(LargeOperations),
+    /// A script with a finished output, which is judged.
+    Case(Case),
 }
 
-/// The script of a command: for `run`, `map` and `large` that on the input, for `load` the one that its seed makes.
+/// What a command takes: `run`, `map`, `order` and `large` the script on the input, `judge` the case there, and `load` the script that its
+/// seed makes.
 pub(crate) fn script_for<I: Source>(
     alloc: Global,
     options: Options,
@@ -42,7 +46,10 @@ pub(crate) fn script_for<I: Source>(
     ensures unread { script_commands options.command ≡ false → input.new ≡ input.old }
 {
     match options.command {
-        Command::Run | Command::Map => Ok(AnyScript::Threads(read_threads(alloc, input)?)),
+        Command::Run | Command::Map | Command::Order => {
+            Ok(AnyScript::Threads(read_threads(alloc, input)?))
+        }
+        Command::Judge => Ok(AnyScript::Case(read_judged(alloc, input)?)),
         Command::Large => Ok(AnyScript::Large(read_operations(alloc, input)?)),
         Command::Load(seed) => Ok(AnyScript::Threads(make_threads(alloc, seed, options)?)),
     }
@@ -70,6 +77,18 @@ fn read_operations<I: Source>(alloc: Global, input: &mut I) -> Result<LargeOpera
     let bytes = read_all(alloc, input, MOST_BYTES)?;
     let operations = read_large(alloc, &bytes)?;
     Ok(operations)
+}
+
+/// Reads a case that is to be judged.
+fn read_judged<I: Source>(alloc: Global, input: &mut I) -> Result<Case, Refusal>
+    ensures read { IfOk result (IsCaseReadFrom (stream I.left I.faults input.old input.new)) }
+    ensures limits { IfOk result CanBeJudged }
+    ensures refused { IfErr result (λ why. GivesNoCase why (stream I.left I.faults input.old input.new)) }
+    ensures taken { TakesSome (I.left input.old) (I.left input.new) }
+{
+    let bytes = read_all(alloc, input, MOST_BYTES)?;
+    let case = read_case(alloc, &bytes)?;
+    Ok(case)
 }
 
 /// Makes the operations of each thread of a `load`.

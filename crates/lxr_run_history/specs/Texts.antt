@@ -1,12 +1,14 @@
--- What a run of threads prints, by its command. `large` runs none, and nothing is printed of them.
+-- What a run of threads prints, by its command. `judge` and `large` run none, and nothing is printed of them.
 use Rattle.std.specs.Prelude.{ℕ, Bool, List, [], ◌++◌}
 use Rattle.lxr_graph.specs.History.{Item, PauseReport}
+use Rattle.lxr_graph.specs.Order.{order_of}
 use Rattle.lxr_image.specs.declared.space.Space.{Space}
+use Rattle.lxr_text_print.specs.Orders.{order_text}
 use Rattle.lxr_text_print.specs.Reports.{report_text}
 use Rattle.lxr_text_print.specs.Summary.{summary_text}
 use Rattle.lxr_text_map.specs.Map.{map_text}
 use Rattle.lxr_words.specs.declared.Command.{Command}
-use Rattle.lxr_words.specs.declared.Command.TheVariants.{Large, Load, Map, Run}
+use Rattle.lxr_words.specs.declared.Command.TheVariants.{Judge, Large, Load, Map, Order, Run}
 use Rattle.lxr_words.specs.declared.Options.{Options}
 use Rattle.lxr_run_history.specs.Run.{history_text, reports_text}
 use Rattle.lxr_run_history.specs.Sums.{sums_of}
@@ -15,6 +17,8 @@ use Rattle.lxr_run_history.specs.Sums.{sums_of}
 abbrev pub told_report : Command → Bool → PauseReport → List ℕ
 told_report Run counts report = report_text counts report
 told_report Map counts report = report_text counts report
+told_report Order counts report = report_text counts report
+told_report Judge counts report = []
 told_report Large counts report = []
 told_report (Load seed) counts report = []
 
@@ -22,6 +26,8 @@ told_report (Load seed) counts report = []
 abbrev pub told_by : Command → Bool → List Item → List ℕ
 told_by Run counts h = reports_text counts h
 told_by Map counts h = reports_text counts h
+told_by Order counts h = reports_text counts h
+told_by Judge counts h = []
 told_by Large counts h = []
 told_by (Load seed) counts h = []
 
@@ -30,10 +36,12 @@ abbrev pub told_text : Options → List Item → List ℕ
 told_text options h = told_by options.command options.counts h
 
 -- The whole text of a history of so many threads that leaves a space. `run` prints the reports and the replies, `map` the heap behind
--- them, and `load` nine sums alone.
+-- them, `order` the order of the history behind them, and `load` nine sums alone.
 abbrev pub text_by : Command → Bool → ℕ → List Item → Space → List ℕ
 text_by Run counts threads h space = history_text counts threads h
 text_by Map counts threads h space = history_text counts threads h ++ map_text space
+text_by Order counts threads h space = history_text counts threads h ++ order_text (order_of h)
+text_by Judge counts threads h space = []
 text_by Large counts threads h space = []
 text_by (Load seed) counts threads h space = summary_text (sums_of threads h)
 

@@ -3,6 +3,7 @@ use Rattle.std.proofs.Common.{◌≡◌, ℕ, refl, sym, ap, subst, ◌∙◌, a
 use Rattle.std.specs.Prelude.{Option}
 use Rattle.std.proofs.lemmas.List.{length-map}
 use Rattle.lxr_graph.specs.History.{Item}
+use Rattle.lxr_graph.specs.declared.Item as kept
 use Rattle.lxr_image.specs.declared.space.Space.{Space}
 use Rattle.lxr_invariant.specs.AbstractState.{AbstractState}
 use Rattle.lxr_actor.specs.declared.Core.{Core}
@@ -29,7 +30,9 @@ use Rattle.lxr_run_invariant.proofs.ActorLemmas.{as_many}
 use Rattle.lxr_run_invariant.proofs.EpochLemmas.{epochs_run, may_open as epoch_begins}
 use Rattle.lxr_run_invariant.proofs.PauseLemmas.{few_threads}
 use Rattle.lxr_run_loop.specs.Drawing.{GoesOn}
-use Rattle.lxr_run_loop.specs.Progress.{HasMadeEpoch}
+use Rattle.lxr_run_loop.specs.Orders.{NotesCalls}
+use Rattle.lxr_run_loop.specs.Progress.{HasMadeEpochInOrder}
+use Rattle.lxr_run_loop.proofs.OrderLemmas.{calls_follow}
 use Rattle.lxr_run_loop.proofs.ThreadLemmas.{as_many_helpers}
 use Rattle.lxr_run_loop.proofs.TracerLemmas.{tracers_run}
 
@@ -99,8 +102,9 @@ module _ (task : Task) (space : Space) (written : Option (List ℕ)) (seen : Opt
     closed_many after actors' closes = ap length closes.gave ∙ length-map execution_on.core.actors actor_given_up ∙ ap (λ (k : Core AnyActor). length k.actors) core_is
 
     -- once it is closed the run has made an epoch
-    pub has_made_epoch : (after : Space) (actors' : List AnyActor) → Closes (beginning_of task space h g) execution_on gone after actors' → HasMadeEpoch task space after written seen actors actors' h x x'
-    has_made_epoch after actors' closes =
+    pub has_made_epoch : (after : Space) (actors' : List AnyActor) → Closes (beginning_of task space h g) execution_on gone after actors' → (order order' : Option (List kept.Item)) → NotesCalls (core_of opened.words started) on.events order order'
+        → HasMadeEpochInOrder task space after written seen actors actors' h x x' order order'
+    has_made_epoch after actors' closes order order' notes =
         let words : gone ≡ record space { words = gone.words } = on.rest ∙ ap (λ (s : Space). record s { words = gone.words }) opens.space.rest in
         let workers = as_many_helpers actors execution_on.core.actors task.script many_on tracers_on amid.actors_rest.mutators.script script_on ∙ amid.actors_rest.workers in
         let (m, ran, totals) = epochs_run task space gone after written seen actors actors' h g execution_on amid (record {
@@ -110,28 +114,30 @@ module _ (task : Task) (space : Space) (written : Option (List ℕ)) (seen : Opt
           tracers = tracers_on ∙ amid.actors_rest.tracers;
           finished = subst AreFinished (sym (ap (λ (k : Core AnyActor). mutators_in k.actors) core_is)) on.finished;
           closes = closes;
-        }) in
-        record {
-          history = execution_on.history;
-          abstract_state = m;
-          ran = ran;
-          makes = record {
-            script = amid.actors_rest.mutators.script;
-            workers = amid.actors_rest.workers;
-            tracers = amid.actors_rest.tracers;
-            abstract_state = g;
-            begins = epoch_begins task space written seen actors h g amid;
-            all_listed = amid.all_listed;
-            unwaiting = amid.served.unwaiting;
-            opened = opened;
-            started = started;
-            opens = opens;
-            gone = gone;
-            moved = moved;
-            on = on;
-            closes = closes;
-            history = refl;
-          };
-          totals = totals;
-          pauses = ap (λ (s : Space). s.pauses) closes.rest ∙ ap (λ (s : Space). s.pauses) words;
-        }
+        }) in (
+          record {
+            history = execution_on.history;
+            abstract_state = m;
+            ran = ran;
+            makes = record {
+              script = amid.actors_rest.mutators.script;
+              workers = amid.actors_rest.workers;
+              tracers = amid.actors_rest.tracers;
+              abstract_state = g;
+              begins = epoch_begins task space written seen actors h g amid;
+              all_listed = amid.all_listed;
+              unwaiting = amid.served.unwaiting;
+              opened = opened;
+              started = started;
+              opens = opens;
+              gone = gone;
+              moved = moved;
+              on = on;
+              closes = closes;
+              history = refl;
+            };
+            totals = totals;
+            pauses = ap (λ (s : Space). s.pauses) closes.rest ∙ ap (λ (s : Space). s.pauses) words;
+          },
+          calls_follow (core_of opened.words started) on.events order order' notes (beginning_of task space h g) (execution_at (beginning_of task space h g) opened started) refl,
+        )

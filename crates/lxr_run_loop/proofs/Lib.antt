@@ -9,3 +9,4 @@ pub mod SummingLemmas
 pub mod PrintedLemmas
 pub mod ThreadLemmas
 pub mod TracerLemmas
+pub mod OrderLemmas

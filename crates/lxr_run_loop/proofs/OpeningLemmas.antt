@@ -34,12 +34,14 @@ use Rattle.lxr_invariant.specs.Quiescent.{IsQuiescent}
 use Rattle.lxr_invariant.specs.Listed.{IsListedWhole}
 use Rattle.lxr_run_placing.specs.Opening.{opening_abstract_state}
 use Rattle.lxr_run_watch.specs.Sights.{Sight}
+use Rattle.lxr_words.specs.declared.Command.{Command}
+use Rattle.lxr_words.specs.declared.Command.TheVariants.{Order}
 use Rattle.lxr_words.specs.declared.Options.{Options}
 use Rattle.lxr_run_history.specs.Left.{run_limits}
-use Rattle.lxr_run_history.specs.Sums.{no_totals}
 use Rattle.lxr_run_invariant.specs.LoopInvariant.{Task, task_limits, threads_of}
 use Rattle.lxr_run_invariant.proofs.OpeningLemmas.{between_opened}
-use Rattle.lxr_run_loop.specs.Courses.{AreTotals}
+use Rattle.lxr_run_loop.specs.Courses.{IsCourseOf, opening_course}
+use Rattle.lxr_run_loop.specs.Orders.{IsOrderOf, opening_order}
 use Rattle.lxr_run_loop.specs.Drawing.{at_opening}
 use Rattle.lxr_run_loop.specs.Made.{AreMade, MutatorsAreMade}
 use Rattle.lxr_run_loop.specs.Opening.{IsOpenedRun}
@@ -268,9 +270,14 @@ run_fits options script ranges is =
     let greatest = is.greatest in
     record { blocks = (ranges.blocks.0, let few = ranges.blocks.1 in omega (arith, few)); threads = (omega arith, omega arith); log = ranges.log; remember = ranges.remember }
 
--- nothing is reported yet
-none_told : (space : Space) → AreTotals no_totals space []
-none_told space = record { are = refl; few = record { promoted = omega arith; dead = omega arith; swept = omega arith; stuck = omega arith } }
+-- nothing is noted yet
+none_noted : (command : Command) → IsOrderOf (opening_order command) []
+none_noted Order = refl
+none_noted command = tt
+
+-- and nothing is reported
+none_told : (options : Options) (space : Space) → IsCourseOf (opening_course options) space []
+none_told options space = record { are = refl; few = record { promoted = omega arith; dead = omega arith; swept = omega arith; stuck = omega arith }; order = none_noted options.command }
 
 -- between two epochs, with the empty history, before the first draw
 pub opened_run : (options : Options) (script : List (Roomy Op)) (limits : Limits) (space : Space) (actors : List AnyActor) → limits ≡ run_limits options (length script)
@@ -305,4 +312,4 @@ opened_run options script limits space actors same ranges is made opened between
       tracers = tracers_made limits options.every options.workers options.workers task.script actors made;
       few = ranges.workers.1;
     }) in
-    ([], opening_abstract_state limits.threads, between_epochs, at_opening space actors (subst (IsOpened space) of_task opened) (subst (λ l. AreMade l options.every options.workers options.workers task.script actors) of_task made), none_told space)
+    ([], opening_abstract_state limits.threads, between_epochs, at_opening space actors (subst (IsOpened space) of_task opened) (subst (λ l. AreMade l options.every options.workers options.workers task.script actors) of_task made), none_told options space)

@@ -8,6 +8,9 @@ use Rattle.lxr_text_stream.specs.Streams.{Appends, AppendsFront}
 use Rattle.lxr_text_stream.proofs.StreamLemmas.{Appends-append, AppendsFront-after}
 use Rattle.lxr_run_watch.specs.Sights.{Sight}
 use Rattle.lxr_graph.specs.History.{Item}
+use Rattle.lxr_graph.specs.Order.{order_of}
+use Rattle.lxr_graph.specs.declared.Item as kept
+use Rattle.lxr_text_print.specs.Orders.{order_text}
 use Rattle.lxr_text_print.specs.Replies.{replies_text}
 use Rattle.lxr_core.specs.declared.actors.AnyActor.{AnyActor}
 use Rattle.lxr_core.specs.declared.actors.AnyActor.TheVariants as any
@@ -24,7 +27,7 @@ use Rattle.lxr_text_map.specs.Map.{CanBeMapped, map_text}
 use Rattle.lxr_text_print.specs.Summary.{summary_text}
 use Rattle.lxr_text_print.specs.declared.summary.Sums.{Sums}
 use Rattle.lxr_words.specs.declared.Command.{Command}
-use Rattle.lxr_words.specs.declared.Command.TheVariants.{Large, Load, Map, Run}
+use Rattle.lxr_words.specs.declared.Command.TheVariants.{Judge, Large, Load, Map, Order, Run}
 use Rattle.lxr_run_history.specs.Sums.{sums_of}
 use Rattle.lxr_run_history.specs.Texts.{run_text, text_by, told_by, told_text}
 use Rattle.lxr_run_history.proofs.RoomLemmas.{none_chosen}
@@ -81,11 +84,11 @@ printable_by task space written seen actors h run i (any.Tracer d) at = tt
 
 -- the replies of a run can be printed
 pub printable : (task : Task) (space : Space) (written : Option (List ℕ)) (seen : Option (List Sight)) (actors : List AnyActor) (course : Course) → IsComplete task space written seen actors course → CanBePrinted actors
-printable task space written seen actors course (h, run, drawn, totals) = printable_by task space written seen actors h run
+printable task space written seen actors course (h, run, drawn, totals, noted) = printable_by task space written seen actors h run
 
 -- its last pause collected, so no block is Chosen, and its heap can be printed
 pub mappable : (task : Task) (space : Space) (written : Option (List ℕ)) (seen : Option (List Sight)) (actors : List AnyActor) (course : Course) → IsComplete task space written seen actors course → CanBeMapped space
-mappable task space written seen actors course (h, run, drawn, totals) =
+mappable task space written seen actors course (h, run, drawn, totals, noted) =
     let (g, left) = run.left in
     let holds = left.between.safepoint.holds in
     record {
@@ -97,49 +100,55 @@ mappable task space written seen actors course (h, run, drawn, totals) =
 -- ---- by its command
 
 -- what is printed last
-abbrev pub last_by : Command → List Mutating → Space → Sums → List ℕ
-last_by Run mutators space sums = mutators_text mutators
-last_by Map mutators space sums = mutators_text mutators ++ map_text space
-last_by Large mutators space sums = []
-last_by (Load seed) mutators space sums = summary_text sums
+abbrev pub last_by : Command → List Mutating → List kept.Item → Space → Sums → List ℕ
+last_by Run mutators items space sums = mutators_text mutators
+last_by Map mutators items space sums = mutators_text mutators ++ map_text space
+last_by Order mutators items space sums = mutators_text mutators ++ order_text items
+last_by Judge mutators items space sums = []
+last_by Large mutators items space sums = []
+last_by (Load seed) mutators items space sums = summary_text sums
 
 -- the text of a run is what was told of it, and this
 text_by_command : (task : Task) (space : Space) (written : Option (List ℕ)) (seen : Option (List Sight)) (actors : List AnyActor) (h : List Item) → HasRunTo task space written seen actors h
-    → (command : Command) → told_by command task.options.counts h ++ last_by command (mutators_in actors) space (sums_of (threads_of task) h) ≡ text_by command task.options.counts (threads_of task) h space
+    → (command : Command) → told_by command task.options.counts h ++ last_by command (mutators_in actors) (order_of h) space (sums_of (threads_of task) h) ≡ text_by command task.options.counts (threads_of task) h space
 text_by_command task space written seen actors h run Run = text_of_run task space written seen actors h run
 text_by_command task space written seen actors h run Map =
     sym (append_assoc (reports_text task.options.counts h) (mutators_text (mutators_in actors)) (map_text space)) ∙ ap (λ z. z ++ map_text space) (text_of_run task space written seen actors h run)
+text_by_command task space written seen actors h run Order =
+    sym (append_assoc (reports_text task.options.counts h) (mutators_text (mutators_in actors)) (order_text (order_of h))) ∙ ap (λ z. z ++ order_text (order_of h)) (text_of_run task space written seen actors h run)
+text_by_command task space written seen actors h run Judge = refl
 text_by_command task space written seen actors h run Large = refl
 text_by_command task space written seen actors h run (Load seed) = refl
 
 module _ (task : Task) (space : Space) (written written' : Option (List ℕ)) (seen : Option (List Sight)) (actors : List AnyActor) (course : Course) (h : List Item) (run : HasRunTo task space written seen actors h)
-    (command : Command) (is : task.options.command ≡ command) (sums : Sums) (sums_are : sums ≡ sums_of (threads_of task) h) where
-  whole_text : told_text task.options h ++ last_by command (mutators_in actors) space sums ≡ run_text task.options (threads_of task) h space
+    (command : Command) (is : task.options.command ≡ command) (sums : Sums) (sums_are : sums ≡ sums_of (threads_of task) h) (items : List kept.Item) (items_are : items ≡ order_of h) where
+  whole_text : told_text task.options h ++ last_by command (mutators_in actors) items space sums ≡ run_text task.options (threads_of task) h space
   whole_text =
-      ap (λ c. told_text task.options h ++ last_by c (mutators_in actors) space sums) (sym is)
-      ∙ ap (λ (x : Sums). told_text task.options h ++ last_by task.options.command (mutators_in actors) space x) sums_are
+      ap (λ c. told_text task.options h ++ last_by c (mutators_in actors) items space sums) (sym is)
+      ∙ ap (λ xs. told_text task.options h ++ last_by task.options.command (mutators_in actors) xs space sums) items_are
+      ∙ ap (λ (x : Sums). told_text task.options h ++ last_by task.options.command (mutators_in actors) (order_of h) space x) sums_are
       ∙ text_by_command task space written seen actors h run task.options.command
 
   -- a run whose end was printed
-  pub printed_whole : IsDrawn task h course.generator space actors → Appends written written' (last_by command (mutators_in actors) space sums) → IsPrinted task space written' seen
+  pub printed_whole : IsDrawn task h course.generator space actors → Appends written written' (last_by command (mutators_in actors) items space sums) → IsPrinted task space written' seen
   printed_whole drawn text = record {
     history = h;
     run = run.history;
     last = course.generator;
     drawn = (actors, drawn);
     text = subst (Appends task.written written') whole_text
-        (Appends-append task.written written written' (told_text task.options h) (last_by command (mutators_in actors) space sums) run.text text);
+        (Appends-append task.written written written' (told_text task.options h) (last_by command (mutators_in actors) items space sums) run.text text);
     space_left = run.left;
     sights = run.sights;
   }
 
   -- one whose end was cut off
-  pub printed_front : AppendsFront written written' (last_by command (mutators_in actors) space sums) → IsPartlyPrinted task space written' seen
+  pub printed_front : AppendsFront written written' (last_by command (mutators_in actors) items space sums) → IsPartlyPrinted task space written' seen
   printed_front text = record {
     history = h;
     run = run.history;
     text_front = subst (AppendsFront task.written written') whole_text
-        (AppendsFront-after task.written written written' (told_text task.options h) (last_by command (mutators_in actors) space sums) run.text text);
+        (AppendsFront-after task.written written written' (told_text task.options h) (last_by command (mutators_in actors) items space sums) run.text text);
     space_left = run.left;
     sights = run.sights;
   }

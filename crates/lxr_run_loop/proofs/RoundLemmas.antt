@@ -4,6 +4,7 @@ use Rattle.std.proofs.Common.{◌≡◌, ◌↔◌, IsTrue, ℕ, ◌+◌, ◌*�
 use Rattle.std.specs.Prelude.{Option}
 use Rattle.std.specs.List.{All, list_any}
 use Rattle.lxr_graph.specs.History.{Item, Pause, PauseReport, report_of}
+use Rattle.lxr_graph.specs.declared.Item as kept
 use Rattle.lxr_image.specs.declared.space.Space.{Space}
 use Rattle.lxr_invariant.specs.AbstractState.{AbstractState}
 use Rattle.lxr_model.specs.Kinds.{MustCollect}
@@ -27,6 +28,7 @@ use Rattle.lxr_run_invariant.proofs.PauseLemmas.{can_pause, counts_fit}
 use Rattle.lxr_run_invariant.proofs.TurnLemmas.{runs_go_on}
 use Rattle.lxr_run_loop.specs.Answering.{AnswersWaiting}
 use Rattle.lxr_run_loop.specs.Courses.{AreFew}
+use Rattle.lxr_run_loop.specs.Orders.{IsOrderOf}
 use Rattle.lxr_run_loop.specs.Drawing.{IsDrawn, by_answers, by_epoch, by_listing}
 use Rattle.lxr_run_loop.specs.Pausing.{HasComeToPause, MakesPause, PausesBehind, with_logs_counted}
 use Rattle.lxr_run_loop.specs.Progress.{HasMadeEpoch, IsNearer, IsThere, NoneGoesOn, actor_collected}
@@ -104,14 +106,15 @@ module _ (task : Task) (options : Options) (with_options : task.options ≡ opti
     totals_on = told ∙ totals_paused task then written' seen' made.history asked report g' totals paused (are ∙ sym made.totals)
 
     -- where all have ended, it is the last
-    pub all_done : ended ≡ true → IsThere task then written' seen' before actors (record { generator = x'; totals = totals' })
-    all_done e = record {
+    pub all_done : ended ≡ true → (order : Option (List kept.Item)) → IsOrderOf order (Pause report ∷ made.history) → IsThere task then written' seen' before actors (record { generator = x'; totals = totals'; order = order })
+    all_done e order noted = record {
       complete = (
         Pause report ∷ made.history,
         run_to task after then written written' seen seen' before actors made.history made.abstract_state g' asked report made.ran
             (have_all_ended task made.history actors made.ran.actors_rest (means.0 e)) paused,
         drawn_on,
         totals_on,
+        noted,
       );
       no_more = left_no_more task h made.history (mutators_in before) (mutators_in actors) amid.actors_rest.mutators made.ran.actors_rest.mutators made.ran.grows;
     }
@@ -124,8 +127,9 @@ module _ (task : Task) (options : Options) (with_options : task.options ≡ opti
     pub goes_on : (e : ended ≡ false) → then.pauses ≡ after.pauses + 1 → (full again : Space) (written'' : Option (List ℕ)) (seen'' : Option (List Sight)) (answered : List AnyActor) (collected served : Bool) (k : List Item) (g'' : AbstractState)
         → IsServing task full written'' seen'' (mutators_in actors) then.pauses collected (mutators_in answered) (length (mutators_in answered)) served k g''
         → AnswersWaiting (pace_of options) collects (mutators_in actors) then (Pause report ∷ made.history) (mutators_in answered) full k → KeepsHelpers actors answered → ListsAnew full again g'' → ListsAll full again
-        → (totals'' : Totals) → totals'' ≡ totals_of k → AreFew totals'' full.pauses → IsNearer task again written'' seen'' before answered (record { generator = x'; totals = totals'' })
-    goes_on e one full again written'' seen'' answered collected served k g'' serving answers keeps lists lists_all totals'' sums few =
+        → (totals'' : Totals) → totals'' ≡ totals_of k → AreFew totals'' full.pauses → (order : Option (List kept.Item)) → IsOrderOf order k
+        → IsNearer task again written'' seen'' before answered (record { generator = x'; totals = totals''; order = order })
+    goes_on e one full again written'' seen'' answered collected served k g'' serving answers keeps lists lists_all totals'' sums few order noted =
         let anew = runs_go_on task after full again written written'' seen seen'' before actors answered then.pauses (length (mutators_in answered)) collected served made.history k made.abstract_state g'' made.ran one serving refl keeps lists in
         record {
           under_way = (
@@ -136,7 +140,7 @@ module _ (task : Task) (options : Options) (with_options : task.options ≡ opti
                 (by_answers (Pause report ∷ made.history) k x' g' collects then full actors answered written' seen' drawn_on (begun e)
                 (subst (λ o. AnswersWaiting (pace_of o) collects (mutators_in actors) then (Pause report ∷ made.history) (mutators_in answered) full k) (sym with_options) answers) keeps)
                 lists_all,
-            record { are = sums; few = subst (AreFew totals'') (sym lists.pauses) few },
+            record { are = sums; few = subst (AreFew totals'') (sym lists.pauses) few; order = noted },
           );
           less = left_less task h k (mutators_in before) (mutators_in answered) amid.actors_rest.mutators anew.amid.actors_rest.mutators anew.more;
         }

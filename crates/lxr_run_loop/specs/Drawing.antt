@@ -1,6 +1,7 @@
 -- That a run's history is the one that its epochs and pauses make from one space; with a generator, the one that it draws.
 use Rattle.std.specs.Prelude.{◌≡◌, ◌↔◌, ℕ, ⊤, Bool, Option, Some, None, List, [], ◌∷◌, is_some, map, length, slice_get}
 use Rattle.lxr_graph.specs.History.{Item, Pause, report_of}
+use Rattle.lxr_graph.specs.declared.Item as kept
 use Rattle.lxr_image.specs.declared.space.Space.{Space}
 use Rattle.lxr_image.specs.Opened.{IsOpened}
 use Rattle.lxr_model.specs.Kinds.{MustCollect}
@@ -25,6 +26,7 @@ use Rattle.lxr_run_invariant.specs.LoopInvariant.{Task, pace_of, task_limits, te
 use Rattle.lxr_run_invariant.specs.Laws.{beginning_of}
 use Rattle.lxr_run_watch.specs.Sights.{Sight}
 use Rattle.lxr_run_loop.specs.Made.{AreMade}
+use Rattle.lxr_run_loop.specs.Orders.{NotesCalls}
 use Rattle.lxr_run_loop.specs.Pausing.{PausesBehind}
 use Rattle.lxr_run_loop.specs.Answering.{AnswersWaiting}
 use Rattle.lxr_run_loop.specs.Serving.{BeginsServing}
@@ -46,6 +48,15 @@ pub record GoesOn (before after : Space) (actors actors' : List AnyActor) (x x' 
   pub finished : AreFinished (mutators_in actors')
   pub resting : AreResting actors'
   pub rest : after ≡ record before { words = after.words }
+
+-- They went on so, and what came into the history was noted.
+pub record GoesOnInOrder (before after : Space) (actors actors' : List AnyActor) (x x' : Option ℕ) (order order' : Option (List kept.Item)) : Type 0 where
+  pub goes : GoesOn before after actors actors' x x'
+  pub notes : NotesCalls (core_of before.words actors) goes.events order order'
+
+-- A replay has gone on so from a generator's x to x', and what came into the history was noted.
+abbrev pub ReplaysInOrder : (before after : Space) → (actors actors' : List AnyActor) → (x x' : ℕ) → (order order' : Option (List kept.Item)) → Type 0
+ReplaysInOrder before after actors actors' x x' order order' = GoesOnInOrder before after actors actors' (Some x) (Some x') order order'
 
 -- An epoch of this space and these actors, behind a history h, was made: all free blocks were listed and no `new` waited, the mutators have
 -- the operations of the task, and there are as many decrementers as its options ask for, and as many tracers. It was opened, its actors went

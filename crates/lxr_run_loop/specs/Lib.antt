@@ -1,3 +1,4 @@
+pub mod Orders
 pub mod Courses
 pub mod Made
 pub mod Opening

@@ -1,6 +1,7 @@
 -- What a run has written once its replies are printed, or as it was cut off.
 use Rattle.std.specs.Prelude.{◌≡◌, ℕ, ◌⊎◌, Option, List}
 use Rattle.lxr_graph.specs.History.{Item}
+use Rattle.lxr_graph.specs.declared.Item as kept
 use Rattle.lxr_image.specs.declared.space.Space.{Space}
 use Rattle.lxr_text_stream.specs.Streams.{Appends, AppendsFront}
 use Rattle.lxr_run_watch.specs.Sights.{Sight}
@@ -18,10 +19,10 @@ use Rattle.lxr_run_loop.specs.declared.course.Course.{Course}
 use Rattle.lxr_run_loop.specs.Drawing.{IsDrawnTo}
 use Rattle.lxr_run_loop.specs.Progress.{IsComplete}
 
--- some run with these options is complete, and its reports have these totals
-abbrev pub SomeIsComplete : Options → Space → Option (List ℕ) → List AnyActor → Totals → Type 0
-SomeIsComplete options space written actors totals =
-    (task : Task) × (task.options ≡ options) × (seen : Option (List Sight)) × (course : Course) × (course.totals ≡ totals) × IsComplete task space written seen actors course
+-- some run with these options is complete, its reports have these totals, and this is its order
+abbrev pub SomeIsComplete : Options → Space → Option (List ℕ) → List AnyActor → Totals → Option (List kept.Item) → Type 0
+SomeIsComplete options space written actors totals order =
+    (task : Task) × (task.options ≡ options) × (seen : Option (List Sight)) × (course : Course) × (course.totals ≡ totals) × (course.order ≡ order) × IsComplete task space written seen actors course
 
 -- the text of a whole history was written, as the command of the run has it, which its generator has drawn where there is one
 pub record IsPrinted (task : Task) (space : Space) (written : Option (List ℕ)) (seen : Option (List Sight)) : Type 0 where
@@ -42,14 +43,14 @@ pub record IsPartlyPrinted (task : Task) (space : Space) (written : Option (List
   pub sights : Sees (threads_of task) history task.seen seen (evacuated_in space.tally)
 
 -- the whole text of each such run was written
-abbrev pub AllArePrinted : Options → Space → Option (List ℕ) → List AnyActor → Totals → Option (List ℕ) → Type 0
-AllArePrinted options space written actors totals written' =
-    (task : Task) → task.options ≡ options → (seen : Option (List Sight)) (course : Course) → course.totals ≡ totals → IsComplete task space written seen actors course → IsPrinted task space written' seen
+abbrev pub AllArePrinted : Options → Space → Option (List ℕ) → List AnyActor → Totals → Option (List kept.Item) → Option (List ℕ) → Type 0
+AllArePrinted options space written actors totals order written' =
+    (task : Task) → task.options ≡ options → (seen : Option (List Sight)) (course : Course) → course.totals ≡ totals → course.order ≡ order → IsComplete task space written seen actors course → IsPrinted task space written' seen
 
 -- a prefix of it was
-abbrev pub AllArePartlyPrinted : Options → Space → Option (List ℕ) → List AnyActor → Totals → Option (List ℕ) → Type 0
-AllArePartlyPrinted options space written actors totals written' =
-    (task : Task) → task.options ≡ options → (seen : Option (List Sight)) (course : Course) → course.totals ≡ totals → IsComplete task space written seen actors course → IsPartlyPrinted task space written' seen
+abbrev pub AllArePartlyPrinted : Options → Space → Option (List ℕ) → List AnyActor → Totals → Option (List kept.Item) → Option (List ℕ) → Type 0
+AllArePartlyPrinted options space written actors totals order written' =
+    (task : Task) → task.options ≡ options → (seen : Option (List Sight)) (course : Course) → course.totals ≡ totals → course.order ≡ order → IsComplete task space written seen actors course → IsPartlyPrinted task space written' seen
 
 -- the run was stopped for this cause: at a report, at an epoch, or at what it prints last
 abbrev pub IsCutShort : WriteError → Task → Space → Option (List ℕ) → Option (List Sight) → Type 0

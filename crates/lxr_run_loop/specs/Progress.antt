@@ -1,6 +1,7 @@
 -- How a run goes on from one epoch to the next.
 use Rattle.std.specs.Prelude.{◌≡◌, ℕ, ◌<◌, ◌≤◌, ⊤, Bool, true, false, Option, Some, List}
 use Rattle.lxr_graph.specs.History.{Item}
+use Rattle.lxr_graph.specs.declared.Item as kept
 use Rattle.lxr_image.specs.declared.space.Space.{Space}
 use Rattle.lxr_invariant.specs.AbstractState.{AbstractState}
 use Rattle.lxr_run_watch.specs.Sights.{Sight}
@@ -14,8 +15,9 @@ use Rattle.lxr_text_stream.specs.declared.transfer.WriteError.{WriteError}
 use Rattle.lxr_run_history.specs.Sums.{totals_of}
 use Rattle.lxr_run_invariant.specs.LoopInvariant.{HasRunEpoch, HasRunTo, IsBetweenEpochs, Task, WasStopped, left_of}
 use Rattle.lxr_run_loop.specs.declared.course.Course.{Course}
-use Rattle.lxr_run_loop.specs.Courses.{AreTotals}
+use Rattle.lxr_run_loop.specs.Courses.{IsCourseOf}
 use Rattle.lxr_run_loop.specs.Drawing.{IsDrawn, MakesEpoch}
+use Rattle.lxr_run_loop.specs.Orders.{FollowsOrder, IsOrderOf}
 
 -- its end is done
 abbrev pub HasEnded : Mutating → Type 0
@@ -38,7 +40,7 @@ actor_collected (any.Tracer d) = false
 -- the run is between two epochs, and has come so far in its course
 abbrev pub IsUnderWay : Task → Space → Option (List ℕ) → Option (List Sight) → List AnyActor → Course → Type 0
 IsUnderWay task space written seen actors course =
-    (h : List Item) × (g : AbstractState) × IsBetweenEpochs task space written seen actors h g × IsDrawn task h course.generator space actors × AreTotals course.totals space h
+    (h : List Item) × (g : AbstractState) × IsBetweenEpochs task space written seen actors h g × IsDrawn task h course.generator space actors × IsCourseOf course space h
 
 -- some run with these options is
 abbrev pub SomeIsUnderWay : Options → Space → Option (List ℕ) → Option (List Sight) → List AnyActor → Course → Type 0
@@ -47,7 +49,7 @@ SomeIsUnderWay options space written seen actors course = (task : Task) × (task
 -- all threads have ended, the last pause is made, and the run has come so far in its course
 abbrev pub IsComplete : Task → Space → Option (List ℕ) → Option (List Sight) → List AnyActor → Course → Type 0
 IsComplete task space written seen actors course =
-    (h : List Item) × HasRunTo task space written seen actors h × IsDrawn task h course.generator space actors × (course.totals ≡ totals_of h)
+    (h : List Item) × HasRunTo task space written seen actors h × IsDrawn task h course.generator space actors × (course.totals ≡ totals_of h) × IsOrderOf course.order h
 
 -- each run with these options that was under way so was stopped for this cause
 abbrev pub IsStoppedUnderWay : WriteError → Options → Space → Option (List ℕ) → Option (List Sight) → List AnyActor → Course → Space → Option (List ℕ) → Option (List Sight) → Type 0
@@ -70,10 +72,15 @@ pub record HasMadeEpoch (task : Task) (space after : Space) (written : Option (L
   pub totals : totals_of history ≡ totals_of h
   pub pauses : after.pauses ≡ space.pauses
 
+-- it has, and where the order was that of its history it still is
+abbrev pub HasMadeEpochInOrder : Task → Space → Space → Option (List ℕ) → Option (List Sight) → List AnyActor → List AnyActor → List Item → (x x' : Option ℕ) → (order order' : Option (List kept.Item)) → Type 0
+HasMadeEpochInOrder task space after written seen before actors h x x' order order' =
+    (made : HasMadeEpoch task space after written seen before actors h x x') × FollowsOrder order h order' made.history
+
 -- each such run has
-abbrev pub RunsEpoch : Options → Space → List AnyActor → Option ℕ → Space → List AnyActor → Option ℕ → Type 0
-RunsEpoch options space actors x space' actors' x' = (task : Task) → task.options ≡ options → (written : Option (List ℕ)) (seen : Option (List Sight)) (h : List Item) (g : AbstractState)
-    → IsBetweenEpochs task space written seen actors h g → HasMadeEpoch task space space' written seen actors actors' h x x'
+abbrev pub RunsEpoch : Options → Space → List AnyActor → Option ℕ → Option (List kept.Item) → Space → List AnyActor → Option ℕ → Option (List kept.Item) → Type 0
+RunsEpoch options space actors x order space' actors' x' order' = (task : Task) → task.options ≡ options → (written : Option (List ℕ)) (seen : Option (List Sight)) (h : List Item) (g : AbstractState)
+    → IsBetweenEpochs task space written seen actors h g → HasMadeEpochInOrder task space space' written seen actors actors' h x x' order order'
 
 -- ---- a round: an epoch and the pause behind it
 

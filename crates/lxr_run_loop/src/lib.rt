@@ -17,6 +17,7 @@ ghost use Rattle.lxr_run_loop.specs.Printed.{IsCutShort, IsPrinted};
 
 mod course;
 mod opening;
+mod order;
 mod pauses;
 mod printing;
 mod run;
@@ -29,15 +30,18 @@ use lxr_run_watch::{Gate, Watch};
 use lxr_text_stream::{Sink, WriteError};
 use lxr_words::Options;
 pub use opening::open;
+pub use order::Order;
 use printing::print_end;
 use run::run_threads;
 use std::alloc::Global;
+use std::sync::Wait;
 use std::thread::Threads;
 
 /// Runs the threads in a space that was just opened, and prints by the command of the options: the reports of the pauses as they come
-/// and then the replies; these and the heap; or the sums of the run. Without a replay epochs run on threads of the machine; with one a
-/// generator draws who makes the next step. Where it begins, and when traces do, the options say.
-pub fn run_and_print<R: Threads + Sync, G: Gate, W: Watch, O: Sink>(
+/// and then the replies; these and the heap; these and the order of calls and pauses; or the sums of the run. Without a replay epochs
+/// run on threads of the machine; with one a generator draws who makes the next step. Where it begins, and when traces do, the options
+/// say.
+pub fn run_and_print<R: Threads + Wait + Sync, G: Gate, W: Watch, O: Sink>(
     rt: &R,
     alloc: Global,
     space: &mut Space,
@@ -54,7 +58,7 @@ pub fn run_and_print<R: Threads + Sync, G: Gate, W: Watch, O: Sink>(
     ensures cause { result ≡ Err WriteError.Fault → Rose (O.faults output.old) (O.faults output.new) }
 {
     let mut actors = actors;
-    let mut course = Course::begin(options);
+    let mut course = Course::begin(alloc, options);
     run_threads(
         rt,
         alloc,
@@ -66,5 +70,5 @@ pub fn run_and_print<R: Threads + Sync, G: Gate, W: Watch, O: Sink>(
         watch,
         output,
     )?;
-    print_end(space, &actors, options, &course.totals, output)
+    print_end(space, &actors, options, &course, output)
 }

@@ -1,5 +1,5 @@
 //! The pauses between epochs.
-ghost use Rattle.std.specs.Prelude.{◌≡◌, ◌+◌, ◌≤◌, OnErr, OnOk, length};
+ghost use Rattle.std.specs.Prelude.{◌≡◌, ◌+◌, ◌≤◌, [], ◌∷◌, OnErr, OnOk, length};
 ghost use Rattle.lxr_text_stream.specs.Streams.{Appends, AppendsFront, Rose};
 ghost use Rattle.lxr_words.specs.Ranges.{AreInRange};
 ghost use Rattle.lxr_run_invariant.specs.LoopInvariant.{FitsCounts, pace_of};
@@ -7,9 +7,11 @@ ghost use Rattle.lxr_graph.specs.History.{report_of};
 ghost use Rattle.lxr_run_history.specs.Sums.{with_report};
 ghost use Rattle.lxr_run_history.specs.Texts.{told_report};
 ghost use Rattle.lxr_run_loop.specs.Courses.{AreFew};
+ghost use Rattle.lxr_run_loop.specs.Orders.{Notes};
 ghost use Rattle.lxr_run_loop.specs.Pausing.{GoesOnByPause, IsCutOffByPause, MakesPause, SomePauseIsDue};
 
-use lxr_graph::Report;
+use crate::order::Order;
+use lxr_graph::{Item, Report};
 use lxr_image::Space;
 use lxr_run_history::Totals;
 use lxr_run_pause::{Ask, Pace, one_pause};
@@ -29,7 +31,7 @@ fn pace_of(options: Options) -> Pace
 }
 
 /// Prints what is told of a pause by the command: its report, with counts where the options want them; `load` tells nothing, and `large`
-/// runs no threads. After an error a prefix of the text is written.
+/// and `judge` run no threads. After an error a prefix of the text is written.
 fn tell<O: Sink>(report: &Report, options: &Options, output: &mut O) -> Result<(), WriteError>
     ensures ok { OnOk result (Appends (O.written output.old) (O.written output.new) (told_report options.now.command options.now.counts (report_of report.now))) }
     ensures err { OnErr result (AppendsFront (O.written output.old) (O.written output.new) (told_report options.now.command options.now.counts (report_of report.now))) }
@@ -39,18 +41,21 @@ fn tell<O: Sink>(report: &Report, options: &Options, output: &mut O) -> Result<(
     match options.command {
         Command::Run => print_pause(report, options.counts, output),
         Command::Map => print_pause(report, options.counts, output),
+        Command::Order => print_pause(report, options.counts, output),
         Command::Load(_) => Ok(()),
+        Command::Judge => Ok(()),
         Command::Large => Ok(()),
     }
 }
 
 /// Makes a pause that is asked for so, at which the watch looks right before and right after it. Then its report is added to the
-/// totals and told by the command.
+/// totals and told by the command; and it is noted in the order.
 pub(crate) fn pause<W: Watch, O: Sink>(
     space: &mut Space,
     ask: Ask,
     options: Options,
     totals: &mut Totals,
+    order: &mut Order,
     watch: &mut W,
     output: &mut O,
 ) -> Result<(), WriteError>
@@ -64,6 +69,7 @@ pub(crate) fn pause<W: Watch, O: Sink>(
     ensures tally { space.new.tally ≡ record space.old.tally { logs = space.old.tally.logs + length space.old.logged.items; pauses = space.old.tally.pauses + 1; moved = space.new.tally.moved; kept = space.new.tally.kept } }
     ensures totals { totals.new ≡ with_report totals.old (report_of space.new.report) }
     ensures few { AreFew totals.new space.new.pauses }
+    ensures order { Notes order.old (Item.Pause ∷ []) order.new }
     ensures pauses { space.new.pauses ≡ space.old.pauses + 1 }
     ensures faults { O.faults output.old ≤ O.faults output.new }
     ensures cause { result ≡ Err WriteError.Fault → Rose (O.faults output.old) (O.faults output.new) }
@@ -73,5 +79,6 @@ pub(crate) fn pause<W: Watch, O: Sink>(
     one_pause(space, ask, pace_of(options));
     watch.look(space);
     totals.add(&space.report);
+    order.note(Item::Pause);
     tell(&space.report, &options, output)
 }

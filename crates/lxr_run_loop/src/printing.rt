@@ -3,16 +3,18 @@ ghost use Rattle.std.specs.Prelude.{◌≡◌, ◌≤◌, ◌<◌, ◌^◌, [], 
 ghost use Rattle.lxr_text_stream.specs.Streams.{Appends, AppendsFront, Rose};
 ghost use Rattle.lxr_core.specs.Actors.{mutators_in};
 ghost use Rattle.lxr_text_map.specs.Map.{CanBeMapped, map_text};
+ghost use Rattle.lxr_text_print.specs.Orders.{order_text};
 ghost use Rattle.lxr_run_loop.specs.Printed.{AllArePartlyPrinted, AllArePrinted, SomeIsComplete};
 ghost use Rattle.lxr_run_loop.specs.Printing.{CanBePrinted, IsPrintable, mutators_text};
 ghost use Rattle.lxr_run_loop.specs.Summing.{AreSums, SomeHasRun, calls_by, refusals_by, is_full};
 
+use crate::course::Course;
 use lxr_core::AnyActor;
-use lxr_graph::Reply;
+use lxr_graph::{Items, Reply};
 use lxr_image::Space;
 use lxr_run_history::Totals;
 use lxr_text_map::print_map;
-use lxr_text_print::{Sums, print_replies, print_summary};
+use lxr_text_print::{Sums, print_order, print_replies, print_summary};
 use lxr_text_stream::{Sink, WriteError};
 use lxr_words::{Command, Options};
 
@@ -142,25 +144,46 @@ fn print_heap_too<O: Sink>(
     print_map(space, output)
 }
 
-/// Prints what a run tells at its end, by its command: the replies of all threads; these and the heap; or the sums of the run. `large`
-/// runs no threads.
+/// Prints the replies of all threads, and then the order of calls and pauses. After an error a prefix of these is written.
+fn print_order_too<O: Sink>(
+    actors: &[AnyActor],
+    order: &Items,
+    output: &mut O,
+) -> Result<(), WriteError>
+    requires { CanBePrinted actors.now }
+    ensures ok { OnOk result (Appends (O.written output.old) (O.written output.new) (mutators_text (mutators_in actors.now) ++ order_text order.now.items)) }
+    ensures err { OnErr result (AppendsFront (O.written output.old) (O.written output.new) (mutators_text (mutators_in actors.now) ++ order_text order.now.items)) }
+    ensures faults { O.faults output.old ≤ O.faults output.new }
+    ensures cause { result ≡ Err WriteError.Fault → Rose (O.faults output.old) (O.faults output.new) }
+{
+    print_threads(actors, output)?;
+    print_order(order, output)
+}
+
+/// Prints what a run tells at its end, by its command: the replies of all threads; these and the heap; these and the order of calls and
+/// pauses; or the sums of the run. `large` and `judge` run no threads. Where the order was given up, memory ran out.
 pub(crate) fn print_end<O: Sink>(
     space: &Space,
     actors: &[AnyActor],
     options: Options,
-    totals: &Totals,
+    course: &Course,
     output: &mut O,
 ) -> Result<(), WriteError>
-    requires { SomeIsComplete options space.now (O.written output.old) actors.now totals.now }
-    ensures ok { OnOk result (AllArePrinted options space.now (O.written output.old) actors.now totals.now (O.written output.new)) }
-    ensures err { OnErr result (AllArePartlyPrinted options space.now (O.written output.old) actors.now totals.now (O.written output.new)) }
+    requires { SomeIsComplete options space.now (O.written output.old) actors.now course.now.totals course.now.order }
+    ensures ok { OnOk result (AllArePrinted options space.now (O.written output.old) actors.now course.now.totals course.now.order (O.written output.new)) }
+    ensures err { OnErr result (AllArePartlyPrinted options space.now (O.written output.old) actors.now course.now.totals course.now.order (O.written output.new)) }
     ensures faults { O.faults output.old ≤ O.faults output.new }
     ensures cause { result ≡ Err WriteError.Fault → Rose (O.faults output.old) (O.faults output.new) }
 {
     match options.command {
         Command::Run => print_threads(actors, output),
         Command::Map => print_heap_too(space, actors, output),
-        Command::Load(_) => print_summary(&sums(space, actors, totals), output),
+        Command::Order => match course.order.items() {
+            Some(items) => print_order_too(actors, items, output),
+            None => Err(WriteError::Memory),
+        },
+        Command::Load(_) => print_summary(&sums(space, actors, &course.totals), output),
+        Command::Judge => Ok(()),
         Command::Large => Ok(()),
     }
 }

@@ -50,7 +50,7 @@ finishing_both core amid core' first second = record {
 }
 
 -- an actor that doesn't rest where all mutators are through is a helper, whose step leaves them
-busy_leaves : (core : Core AnyActor) (number : ℕ) (a : AnyActor) → AreInOrder core.actors → AreFinished (mutators_in core.actors) → slice_get core.actors number ≡ Some a → any_machine.rests a ≡ false
+pub busy_leaves : (core : Core AnyActor) (number : ℕ) (a : AnyActor) → AreInOrder core.actors → AreFinished (mutators_in core.actors) → slice_get core.actors number ≡ Some a → any_machine.rests a ≡ false
     → mutators_in (event any_machine core (Step number)).actors ≡ mutators_in core.actors
 busy_leaves core number (any.Mutator m) order finished at busy =
     let rests : rests_in m.phase ≡ true = ap rests_in (finished number m (mutator_at core.actors number m order at)) in

@@ -7,3 +7,5 @@ pub mod FinishLemmas
 pub mod ShiftLemmas
 pub mod ClosingLemmas
 pub mod GateLemmas
+pub mod PlacingLemmas
+pub mod RecordLemmas

@@ -46,11 +46,11 @@ pub record IsUnderWay (tracing : Bool) (x : ℕ) (core : Core AnyActor) (x' : �
   pub core_is : core' ≡ run any_machine core (map Step schedule)
 
 -- it begins with no step
-pub begins : (tracing : Bool) (x : ℕ) (core : Core AnyActor) → IsUnderWay tracing x core x core
+abbrev pub begins : (tracing : Bool) (x : ℕ) (core : Core AnyActor) → IsUnderWay tracing x core x core
 begins tracing x core = record { schedule = []; picks = refl; core_is = refl }
 
 -- it goes on by one step
-pub goes_on : (tracing : Bool) (x : ℕ) (core : Core AnyActor) (y : ℕ) (c : Core AnyActor) (y' : ℕ) (c' : Core AnyActor) (number : ℕ)
+abbrev pub goes_on : (tracing : Bool) (x : ℕ) (core : Core AnyActor) (y : ℕ) (c : Core AnyActor) (y' : ℕ) (c' : Core AnyActor) (number : ℕ)
     → IsUnderWay tracing x core y c → some_act (mutators_in c.actors) ≡ true → y' ≡ step y → IsPicked tracing y' c.actors number → c' ≡ event any_machine c (Step number) → IsUnderWay tracing x core y' c'
 goes_on tracing x core y c y' c' number under some y_is picked c_is = record {
   schedule = under.schedule ++ number ∷ [];
@@ -101,7 +101,7 @@ pub record HasReplayedTo (tracing : Bool) (x : ℕ) (core : Core AnyActor) (x' :
   pub replays : Replays tracing x core schedule x'
   pub core_is : core' ≡ run any_machine core (map Step schedule)
 
-pub replayed : (tracing : Bool) (x : ℕ) (core : Core AnyActor) (y : ℕ) (drawn : List ℕ) (amid core' : Core AnyActor) → Draws tracing x core drawn y → amid ≡ run any_machine core (map Step drawn)
+abbrev pub replayed : (tracing : Bool) (x : ℕ) (core : Core AnyActor) (y : ℕ) (drawn : List ℕ) (amid core' : Core AnyActor) → Draws tracing x core drawn y → amid ≡ run any_machine core (map Step drawn)
     → IsFinishing amid core' → AreResting core'.actors → HasReplayedTo tracing x core y core'
 replayed tracing x core y drawn amid core' draws amid_is finishing resting = record {
   schedule = drawn ++ finishing.schedule;

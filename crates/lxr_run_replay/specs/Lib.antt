@@ -1,3 +1,4 @@
 pub mod Replaying
 pub mod Finishing
 pub mod Working
+pub mod Recording

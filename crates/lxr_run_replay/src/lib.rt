@@ -3,17 +3,20 @@
 //! While some mutator has a next action, a draw picks one of the actors that have one, and it makes a single atomic step;
 //! tracers are drawn only while a trace runs. Then helpers finish the units that they are in. So a number determines the
 //! schedule, and the same number gives the same run again. What is proved is that the replay ends with all mutators finished
-//! and all actors at rest, and that its words and actors are those of the fold over the schedule that the generator picks.
+//! and all actors at rest, and that its words and actors are those of the fold over the schedule that the generator picks. A replay may
+//! also record whose calls come to stand in the history, in order.
 #![tactic(auto)]
 
 mod numbers;
+mod recording;
 mod replaying;
 
 ghost use Rattle.lxr_core_invariant.specs.EpochStates.{Beginning};
 ghost use Rattle.lxr_core.specs.Executions.{HoldsExecution, Execution};
 ghost use Rattle.lxr_run_replay.specs.Replaying.{CanBeReplayed, SchedulesMayClose};
 
-pub use replaying::replay_epoch;
+pub use recording::placed_by;
+pub use replaying::{order_epoch, replay_epoch};
 
 /// The core of each execution of which the invariant of its epoch holds can be replayed.
 pub fn executions_can_be_replayed()

@@ -1,5 +1,6 @@
 //! The loops of a replay.
-ghost use Rattle.std.specs.Prelude.{◌≡◌, ℕ, ◌+◌, ◌<◌, ◌≤◌, [], ◌∷◌, List, is_some, length, map};
+ghost use Rattle.std.specs.Prelude.{◌≡◌, ℕ, ◌+◌, ◌<◌, ◌≤◌, [], ◌∷◌, ◌++◌, List, OnErr, OnOk, is_some, length, map};
+ghost use Rattle.lxr_graph.specs.declared.Item.{Item};
 ghost use Rattle.lxr_base.specs.Draws.{step as stepped_on};
 ghost use Rattle.lxr_actor.specs.declared.Event.TheVariants.{Step};
 ghost use Rattle.lxr_mutator.specs.Mutating.{Mutating};
@@ -10,14 +11,21 @@ ghost use Rattle.lxr_core.specs.Closing.{AreFinished, AreResting};
 ghost use Rattle.lxr_run_watch.specs.Gates.{HavePassed, IsLetPass};
 ghost use Rattle.lxr_run_replay.specs.Replaying.{CanBeReplayed, Draws, IsPicked, LetsPass, Replays, may_be_drawn, unfinished};
 ghost use Rattle.lxr_run_replay.specs.Finishing.{IsFinishing, RestBefore};
+ghost use Rattle.lxr_run_replay.specs.Recording.{AreCallsOf, HasRoom, all_left, call_at, call_by, calls_in, recorded};
 
 use crate::numbers::{Unfinished, may_be_drawn};
+use crate::recording::{Calls, all_left, placed_by};
 use lxr_actor::{Actor, step};
 use lxr_base::draw;
 use lxr_core::AnyActor;
+use lxr_graph::Items;
 use lxr_image::Space;
 use lxr_run_watch::{Gate, pass_gate};
 use lxr_tables::PlainWords;
+use std::alloc::{AllocError, Global};
+
+/// Room for what stands between two epochs: a `new` of each thread at most that was served or refused, as many pauses, and one.
+const BETWEEN: usize = 33;
 
 /// Replays an epoch: while some mutator has a next action, a draw modulo how many actors have one picks one of these by its
 /// place among them, from 0, and it makes one atomic step. Tracers count among them only while a trace runs. Then each helper
@@ -33,45 +41,77 @@ pub fn replay_epoch<G: Gate>(space: &mut Space, actors: &mut [AnyActor], x: &mut
     ensures rest { space.new ≡ record space.old { words = space.new.words } }
 {
     let tracing = space.trace.is_some();
-    replay(&mut space.words, actors, tracing, x, gate);
+    let mut none = Calls::none();
+    replay(&mut space.words, actors, tracing, x, gate, &mut none);
 }
 
-/// Replays an epoch on the words of its space, while a trace runs or none does.
+/// Replays an epoch as `replay_epoch` does, and adds to an order whose calls have come to stand in the history, one after another, the
+/// ends of threads among them. It makes the room for these first, and some for what stands in front of the next epoch; at a refusal
+/// nothing has changed.
+pub fn order_epoch<G: Gate>(
+    alloc: Global,
+    space: &mut Space,
+    actors: &mut [AnyActor],
+    x: &mut u64,
+    gate: &G,
+    items: &mut Items,
+) -> Result<(), AllocError>
+    requires few { length actors.old ≤ 32 }
+    requires replayable { CanBeReplayed (core_of space.old.words actors.old) }
+    ensures schedule { OnOk result ((schedule : List ℕ) × (calls : List Item) × Replays (is_some space.old.trace) x.old (core_of space.old.words actors.old) schedule x.new × (core_of space.new.words actors.new ≡ run any_machine (core_of space.old.words actors.old) (map Step schedule)) × AreCallsOf (core_of space.old.words actors.old) (map Step schedule) calls × (items.new.items ≡ items.old.items ++ calls)) }
+    ensures finished { OnOk result (AreFinished (mutators_in actors.new)) }
+    ensures resting { OnOk result (AreResting actors.new) }
+    ensures passed { OnOk result (HavePassed (G.passed gate.now) (mutators_in actors.old) (mutators_in actors.new)) }
+    ensures rest { OnOk result (space.new ≡ record space.old { words = space.new.words }) }
+    ensures refused { OnErr result ((space.new ≡ space.old) × (actors.new ≡ actors.old) × (x.new ≡ x.old) × (items.new.items ≡ items.old.items)) }
+{
+    let mut calls = Calls::behind(alloc, items, all_left(actors) + BETWEEN)?;
+    let tracing = space.trace.is_some();
+    replay(&mut space.words, actors, tracing, x, gate, &mut calls);
+    *items = calls.into_items(alloc);
+    Ok(())
+}
+
+/// Replays an epoch on the words of its space, while a trace runs or none does, and records its calls.
 fn replay<G: Gate>(
     words: &mut PlainWords,
     actors: &mut [AnyActor],
     tracing: bool,
     x: &mut u64,
     gate: &G,
+    calls: &mut Calls,
 )
     requires few { length actors.old ≤ 32 }
     requires replayable { CanBeReplayed (core_of words.old actors.old) }
-    ensures schedule { (schedule : List ℕ) × Replays tracing x.old (core_of words.old actors.old) schedule x.new × (core_of words.new actors.new ≡ run any_machine (core_of words.old actors.old) (map Step schedule)) }
+    requires room { HasRoom calls.old (all_left actors.old) }
+    ensures schedule { (schedule : List ℕ) × (more : List Item) × Replays tracing x.old (core_of words.old actors.old) schedule x.new × (core_of words.new actors.new ≡ run any_machine (core_of words.old actors.old) (map Step schedule)) × AreCallsOf (core_of words.old actors.old) (map Step schedule) more × (calls.new ≡ recorded calls.old more) }
     ensures passed { HavePassed (G.passed gate.now) (mutators_in actors.old) (mutators_in actors.new) }
     ensures finished { AreFinished (mutators_in actors.new) }
     ensures resting { AreResting actors.new }
 {
-    draw_steps(words, actors, tracing, x, gate);
+    draw_steps(words, actors, tracing, x, gate, calls);
     finish_units(words, actors);
 }
 
-/// Makes the steps that draws pick, while some mutator has a next action.
+/// Makes the steps that draws pick, while some mutator has a next action, and records the calls that these bring into the history.
 fn draw_steps<G: Gate>(
     words: &mut PlainWords,
     actors: &mut [AnyActor],
     tracing: bool,
     x: &mut u64,
     gate: &G,
+    calls: &mut Calls,
 )
     requires few { length actors.old ≤ 32 }
     requires replayable { CanBeReplayed (core_of words.old actors.old) }
+    requires room { HasRoom calls.old (all_left actors.old) }
     ensures passed { HavePassed (G.passed gate.now) (mutators_in actors.old) (mutators_in actors.new) }
-    ensures draws { (drawn : List ℕ) × Draws tracing x.old (core_of words.old actors.old) drawn x.new × (core_of words.new actors.new ≡ run any_machine (core_of words.old actors.old) (map Step drawn)) }
+    ensures draws { (drawn : List ℕ) × Draws tracing x.old (core_of words.old actors.old) drawn x.new × (core_of words.new actors.new ≡ run any_machine (core_of words.old actors.old) (map Step drawn)) × (calls.new ≡ recorded calls.old (calls_in (core_of words.old actors.old) drawn)) }
 {
     let mutators = mutators_among(actors);
     let mut numbers = Unfinished::of(actors, tracing);
     while numbers.begin_below(mutators) {
-        turn(words, actors, tracing, x, &mut numbers, gate);
+        turn(words, actors, tracing, x, &mut numbers, gate, calls);
     }
 }
 
@@ -98,7 +138,7 @@ fn count_mutator(actor: &AnyActor) -> usize
     }
 }
 
-/// One step, of the actor that the next draw picks.
+/// One step, of the actor that the next draw picks. The call that it brings into the history, if it brings one, is recorded.
 #[inline(always)]
 fn turn<G: Gate>(
     words: &mut PlainWords,
@@ -107,31 +147,43 @@ fn turn<G: Gate>(
     x: &mut u64,
     numbers: &mut Unfinished,
     gate: &G,
+    calls: &mut Calls,
 )
     requires fits { (number : ℕ) → FitsAt any_machine (core_of words.old actors.old) number }
     requires numbers { numbers.old ≡ unfinished tracing actors.old }
     requires some { 0 < length numbers.old }
-    ensures step { (number : ℕ) × IsPicked tracing x.new actors.old number × (core_of words.new actors.new ≡ event any_machine (core_of words.old actors.old) (Step number)) × LetsPass (G.passed gate.now) actors.old number }
+    requires room { (number : ℕ) → HasRoom calls.old (length (call_at (core_of words.old actors.old) number)) }
+    ensures step { (number : ℕ) × IsPicked tracing x.new actors.old number × (core_of words.new actors.new ≡ event any_machine (core_of words.old actors.old) (Step number)) × LetsPass (G.passed gate.now) actors.old number × (calls.new ≡ recorded calls.old (call_at (core_of words.old actors.old) number)) }
     ensures state { x.new ≡ stepped_on x.old }
     ensures numbers { numbers.new ≡ unfinished tracing actors.new }
 {
     let place = draw(x) as usize % numbers.len();
     let number = usize::from(numbers.at(place));
-    if !advance(words, &mut actors[number], tracing, gate) {
+    if !advance(words, &mut actors[number], tracing, gate, calls) {
         numbers.remove(place);
     }
 }
 
-/// One step of an actor. Whether it may be drawn again.
+/// One step of an actor. The call that it brings into the history, if it brings one, is recorded. Whether it may be drawn again.
 #[inline(always)]
-fn advance<G: Gate>(words: &mut PlainWords, actor: &mut AnyActor, tracing: bool, gate: &G) -> bool
-    requires { Fits any_machine words.old actor.old }
+fn advance<G: Gate>(
+    words: &mut PlainWords,
+    actor: &mut AnyActor,
+    tracing: bool,
+    gate: &G,
+    calls: &mut Calls,
+) -> bool
+    requires fits { Fits any_machine words.old actor.old }
+    requires room { HasRoom calls.old (length (call_by words.old actor.old)) }
     ensures done { (words.new, actor.new) ≡ stepped any_machine words.old actor.old }
     ensures passed { (m : Mutating) → actor.old ≡ AnyActor.Mutator m → IsLetPass (G.passed gate.now) m }
     ensures goes_on { result ≡ may_be_drawn tracing actor.new }
+    ensures calls { calls.new ≡ recorded calls.old (call_by words.old actor.old) }
 {
     call_gate(actor, gate);
+    let placed = placed_by(actor);
     step(words, actor);
+    calls.note(actor, placed);
     may_be_drawn(actor, tracing)
 }
 

@@ -1,11 +1,12 @@
 -- Turns of passes call the gate before each operation, so mutators have replies to operations alone that it let pass.
 use Rattle.std.proofs.Common.{◌≡◌, ℕ, zero, suc, ◌+◌, ◌++◌, map, true, false, Bool, List, [], ◌∷◌, arith, refl, sym, subst, ap, ◌∙◌, All}
-use Rattle.std.specs.Prelude.{Some, slice_get}
+use Rattle.std.specs.Prelude.{None, Some, if◌then◌else◌, is_none, length, slice_get}
+use Rattle.lxr_actor.specs.declared.Action.{Action}
 use Rattle.lxr_actor.specs.declared.Core.{Core}
 use Rattle.lxr_actor.specs.declared.Event.{Event}
 use Rattle.lxr_actor.specs.Run.{core_of, run, stepped}
 use Rattle.lxr_barrier.proofs.ViewLemmas.{all_at}
-use Rattle.lxr_mutator.specs.Mutating.{Mutating, rests_in}
+use Rattle.lxr_mutator.specs.Mutating.{Mutating}
 use Rattle.lxr_core.specs.declared.actors.AnyActor.{AnyActor}
 use Rattle.lxr_core.specs.declared.actors.AnyActor.TheVariants as any
 use Rattle.lxr_core.specs.Actors.{AreInOrder, any_machine, mutators_in}
@@ -18,7 +19,8 @@ use Rattle.lxr_shared.specs.Sharing.{Sharing}
 use Rattle.lxr_run_replay.specs.Replaying.{CanBeReplayed}
 use Rattle.lxr_run_replay.proofs.GateLemmas.{acted_is, acted_passed, mutator_acted}
 use Rattle.lxr_run_threads.specs.Dealing.{numbers_from, numbers_of}
-use Rattle.lxr_run_threads.specs.Working.{HasPassed}
+use Rattle.lxr_run_threads.specs.Standing.{IsLetTurn, next_operation}
+use Rattle.lxr_run_threads.specs.Working.{HasPassed, is_finished}
 use Rattle.lxr_run_threads.proofs.EpochLemmas.{actor_at}
 
 -- ---- a turn
@@ -54,13 +56,13 @@ goes_same : (olds : List ℕ) (p q : Passing AnyActor) → GoesOn any_machine p 
 goes_same [] p q same = (ap (λ (r : Passing AnyActor). r.opening) same, ap (λ (r : Passing AnyActor). r.number) same)
 goes_same (old ∷ olds) p q (busy, (r, does, rest)) =
     let first = does_same old p r does in
-    let then = goes_same olds r q rest in (then.0 ∙ first.0, then.1 ∙ first.1)
+    let later = goes_same olds r q rest in (later.0 ∙ first.0, later.1 ∙ first.1)
 
 turned_same : (olds : List ℕ) (p q : Passing AnyActor) → Turned any_machine p olds q → (q.opening ≡ p.opening) × (q.number ≡ p.number)
 turned_same [] p q (none, same) = (ap (λ (r : Passing AnyActor). r.opening) same, ap (λ (r : Passing AnyActor). r.number) same)
 turned_same (old ∷ olds) p q (r, does, rest, rests) =
     let first = does_same old p r does in
-    let then = goes_same olds r q rest in (then.0 ∙ first.0, then.1 ∙ first.1)
+    let later = goes_same olds r q rest in (later.0 ∙ first.0, later.1 ∙ first.1)
 
 -- whoever stands at its number at opening
 same_opening : (p q : Passing AnyActor) → q.opening ≡ p.opening → q.number ≡ p.number → (a : AnyActor) → slice_get q.opening.actors q.number ≡ Some a → slice_get p.opening.actors p.number ≡ Some a
@@ -70,6 +72,25 @@ pub turn_passed : (passed : ℕ → ℕ → Type 0) (olds : List ℕ) (p q : Pas
 turn_passed passed olds p q lets turned passes m at =
     let same = turned_same olds p q turned in
     unit_passed passed m olds p q lets turned (passes m (same_opening p q same.0 same.1 (any.Mutator m) at))
+
+-- a unit that makes a step is one of an actor that isn't finished
+acting_goes : (a : AnyActor) (act : Action) → any_machine.action a ≡ Some act → is_finished a ≡ false
+acting_goes (any.Mutator m) act does = ap is_none does
+acting_goes (any.Decrementer d) act does = refl
+acting_goes (any.Tracer t) act does = refl
+
+-- the operation of a mutator that isn't finished
+next_is : (m : Mutating) → is_finished (any.Mutator m) ≡ false → next_operation (any.Mutator m) ≡ Some (m.thread, length m.replies.items)
+next_is m going = ap (λ (b : Bool). if b then None else Some (m.thread, length m.replies.items)) going
+
+-- so it is where the operation that the pass's actor begins was let pass
+pub let_turn_passed : (passed : ℕ → ℕ → Type 0) (olds : List ℕ) (p q : Passing AnyActor) → IsLetTurn passed p.actor → Turned any_machine p olds q → HasPassed passed p → HasPassed passed q
+let_turn_passed passed [] p q lets (none, same) passes = subst (HasPassed passed) (sym same) passes
+let_turn_passed passed (old ∷ olds) p q lets turned passes =
+    let going = acting_goes p.actor turned.1.0 turned.1.2 in
+    turn_passed passed (old ∷ olds) p q
+    (λ n is rests. lets n.thread (length n.replies.items) (ap next_operation is ∙ next_is n (sym (ap is_finished is) ∙ going)))
+    turned passes
 
 -- ---- all passes
 

@@ -6,3 +6,4 @@ pub mod RoundLemmas
 pub mod EpochLemmas
 mod GateLemmas
 pub mod OpenedLemmas
+pub mod StandingLemmas

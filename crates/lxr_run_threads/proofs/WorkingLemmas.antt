@@ -92,6 +92,37 @@ less_left (any.Tracer d) b going (inr (e, is)) = subst (λ (x : AnyActor). work_
 pub turn_leaves : (olds : List ℕ) (p q : Passing AnyActor) → CanBeReplayed p.opening → Turned any_machine p olds q → is_finished p.actor ≡ false → work_of q.actor + one_if (goes_on q.actor) ≤ work_of p.actor
 turn_leaves olds p q can turned going = less_left p.actor q.actor going (turn_nearer olds p q can turned)
 
+-- a finished actor doesn't go on
+finished_stays : (a : AnyActor) → is_finished a ≡ true → goes_on a ≡ false
+finished_stays (any.Mutator m) done = some_none (any_machine.action (any.Mutator m)) done
+  where
+    some_none : {X : Type 0} (o : Option X) → is_none o ≡ true → is_some o ≡ false
+    some_none None e = refl
+    some_none (Some x) e = absurd (cc)
+finished_stays (any.Decrementer d) done = absurd (cc)
+finished_stays (any.Tracer d) done = absurd (cc)
+
+-- and has no step
+finished_rests : (a : AnyActor) (act : Action) → is_finished a ≡ true → any_machine.action a ≡ Some act → true ≡ false
+finished_rests (any.Mutator m) act done does = sym done ∙ ap is_none does
+finished_rests (any.Decrementer d) act done does = absurd (cc)
+finished_rests (any.Tracer d) act done does = absurd (cc)
+
+finished_leaves : (olds : List ℕ) (p q : Passing AnyActor) → is_finished p.actor ≡ true → Turned any_machine p olds q → work_of q.actor + one_if (goes_on q.actor) ≤ work_of p.actor
+finished_leaves [] p q done (none, same) =
+    let stays : goes_on p.actor ≡ false = finished_stays p.actor done in
+    subst (λ (r : Passing AnyActor). work_of r.actor + one_if (goes_on r.actor) ≤ work_of p.actor) (sym same)
+    (subst (λ (b : Bool). work_of p.actor + one_if b ≤ work_of p.actor) (sym stays) (omega arith))
+finished_leaves (old ∷ olds) p q done (r, does, rest, rests) = let both = finished_rests p.actor does.0 done does.2 in absurd (cc)
+
+-- and so does one of a finished mutator, which stays as it is
+pub any_turn_leaves : (olds : List ℕ) (p q : Passing AnyActor) → CanBeReplayed p.opening → Turned any_machine p olds q → work_of q.actor + one_if (goes_on q.actor) ≤ work_of p.actor
+any_turn_leaves olds p q can turned = by (is_finished p.actor) refl
+  where
+    by : (b : Bool) → is_finished p.actor ≡ b → work_of q.actor + one_if (goes_on q.actor) ≤ work_of p.actor
+    by false going = turn_leaves olds p q can turned going
+    by true done = finished_leaves olds p q done turned
+
 -- a turn makes no helper of a mutator, and no mutator of a helper
 kind_left : (a b : AnyActor) → ((any_machine.action a ≡ None) × (b ≡ a)) ⊎ IsNearer a b → is_helper b ≡ is_helper a
 kind_left a b (inl (none, same)) = ap is_helper same

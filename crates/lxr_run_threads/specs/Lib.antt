@@ -3,3 +3,4 @@ pub mod Working
 pub mod Helping
 pub mod Running
 pub mod Keeping
+pub mod Standing

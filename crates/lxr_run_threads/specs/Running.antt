@@ -1,5 +1,5 @@
 -- An epoch that ran on threads: what it needs and what it leaves.
-use Rattle.std.specs.Prelude.{◌≡◌, ℕ, ◌<◌, ◌≤◌, Some, List, [], IsSome, length, slice_get}
+use Rattle.std.specs.Prelude.{◌≡◌, ℕ, ◌*◌, ◌<◌, ◌≤◌, Some, List, [], IsSome, length, slice_get}
 use Rattle.lxr_actor.specs.declared.Event.{Event}
 use Rattle.lxr_actor.specs.Run.{core_of, run}
 use Rattle.lxr_image.specs.declared.space.Space.{Space}
@@ -49,6 +49,12 @@ pub record HasRun (space after : Space) (actors actors' : List AnyActor) : Type 
   pub ends : HelpersHaveEnds actors'
   pub offers : OffersAreWorkedOn actors'
   pub rest : after ≡ record space { words = after.words }
+
+-- among so many passes, and not too many, are two helpers for each of one worker or more
+pub record HaveHelpers (options : Options) (count : ℕ) : Type 0 where
+  pub few : count ≤ 32
+  pub workers : (1 ≤ options.workers) × (options.workers ≤ 8)
+  pub helpers : 2 * options.workers ≤ count
 
 -- ---- behind the opening of an epoch
 

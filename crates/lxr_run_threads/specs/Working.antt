@@ -1,5 +1,5 @@
 -- What workers do with their passes.
-use Rattle.std.specs.Prelude.{◌≡◌, ℕ, Bool, true, false, Option, None, Some, List, [], IsSome, is_none, is_some, slice_get}
+use Rattle.std.specs.Prelude.{◌≡◌, ℕ, Bool, true, false, Option, None, Some, List, [], All, IsSome, is_none, is_some, slice_get}
 use Rattle.std.specs.List.{sum_by}
 use Rattle.lxr_layout.specs.declared.Place.{Place}
 use Rattle.lxr_decrement.specs.declared.phases.DecEnd.TheVariants as dec_end
@@ -12,6 +12,7 @@ use Rattle.lxr_shared_passes.specs.Passing.{Opened, Passing}
 use Rattle.lxr_shared.specs.Sharing.{Sharing}
 use Rattle.lxr_run_watch.specs.Gates.{IsLetPassSince}
 use Rattle.lxr_run_replay.specs.Working.{work}
+use Rattle.lxr_run_threads.specs.Dealing.{numbers_of}
 
 -- the table of an epoch
 abbrev pub table_of : Sharing → Opened AnyActor
@@ -69,3 +70,9 @@ work_in passes = sum_by (λ p. work_of p.actor) passes
 -- and its actor has served
 abbrev pub IsDoneOf : Opened AnyActor → Passing AnyActor → Type 0
 IsDoneOf table pass = IsPassOf table pass × HasServed pass.actor
+
+-- Passes have worked: each is done and has the number that it had, and mutators have gained replies to operations alone that were let pass.
+pub record HaveWorked (table : Opened AnyActor) (passed : ℕ → ℕ → Type 0) (before after : List (Passing AnyActor)) : Type 0 where
+  pub done : All (IsDoneOf table) after
+  pub numbers : numbers_of after ≡ numbers_of before
+  pub passed_on : All (HasPassed passed) before → All (HasPassed passed) after

@@ -5,9 +5,10 @@
 //!
 //! A helper with nothing to do costs a round next to nothing: it looks for a hint as soon as it runs out of work, and after a
 //! look in vain again only some rounds later.
-ghost use Rattle.std.specs.Prelude.{◌≡◌, ℕ, ◌+◌, ◌-◌, ◌≤◌, List, IfOk, cond, is_some, min, nat_eq, true, vec_len};
+ghost use Rattle.std.specs.Prelude.{◌≡◌, ℕ, ◌+◌, ◌-◌, ◌≤◌, List, IfOk, Some, cond, is_some, min, nat_eq, true, vec_len};
 ghost use Rattle.lxr_core.specs.Actors.{any_machine};
 ghost use Rattle.lxr_shared_passes.specs.Passing.{Turned};
+ghost use Rattle.lxr_shared.specs.Ends.{end_of};
 ghost use Rattle.lxr_run_replay.specs.Replaying.{CanBeReplayed};
 ghost use Rattle.lxr_run_threads.specs.Helping.{Shares, TakesHint, given, places_in, takes_in, wait_after};
 ghost use Rattle.lxr_run_threads.specs.Working.{HasServed, IsPassOf, is_helper};
@@ -17,7 +18,7 @@ use lxr_core::AnyActor;
 use lxr_decrement::Decrementer;
 use lxr_hints::{AnyPlace, Hinter, Shared, hinters_under};
 use lxr_layout::Place;
-use lxr_shared::Pass;
+use lxr_shared::{Pass, Turn};
 use lxr_shared_passes::Epoch;
 use lxr_trace::Tracer;
 use std::alloc::{AllocError, Global};
@@ -169,8 +170,8 @@ fn help<K>(table: &Epoch<AnyActor>, pass: &mut Pass, exchange: &mut Exchange<K>)
     give_hint(table, pass, exchange);
 }
 
-/// One turn of a helper of any kind.
-fn make_turn(table: &Epoch<AnyActor>, pass: &mut Pass)
+/// One turn of a helper of any kind, and how it ended.
+pub(crate) fn make_turn(table: &Epoch<AnyActor>, pass: &mut Pass) -> Turn
     requires can { CanBeReplayed table.now.opening }
     requires pass { IsPassOf table.now pass.old }
     requires helper { is_helper pass.old.actor ≡ true }
@@ -179,8 +180,9 @@ fn make_turn(table: &Epoch<AnyActor>, pass: &mut Pass)
     ensures helper { is_helper pass.new.actor ≡ true }
     ensures served { HasServed pass.new.actor }
     ensures turns { (olds : List ℕ) × Turned any_machine pass.old olds pass.new }
+    ensures end { Some result ≡ end_of pass.new.actor }
 {
-    pass.turn_at(table);
+    pass.turn_at(table)
 }
 
 /// Offers a helper that has no further step a place that was spared, if there is one. No clause says that the place which is offered is the one that was taken.

@@ -1,33 +1,65 @@
 //! Workers: each lets its mutators and its helpers take turns.
-ghost use Rattle.std.specs.Prelude.{◌≡◌, ◌+◌, ◌≤◌, false, map, All};
+ghost use Rattle.std.specs.Prelude.{◌≡◌, ℕ, ◌+◌, ◌*◌, ◌≤◌, List, IfOk, false, map, All, vec_len};
 ghost use Rattle.std.specs.Thread.{IsSync};
 ghost use Rattle.lxr_actor.specs.Run.{one_if};
 ghost use Rattle.lxr_mutator.specs.Mutating.{Mutating};
+ghost use Rattle.lxr_core.specs.Actors.{any_machine};
+ghost use Rattle.lxr_shared_passes.specs.Passing.{Turned};
 ghost use Rattle.lxr_run_replay.specs.Replaying.{CanBeReplayed};
-ghost use Rattle.lxr_run_threads.specs.Dealing.{numbers_of};
+ghost use Rattle.lxr_run_threads.specs.Dealing.{numbers_from, numbers_of};
 ghost use Rattle.lxr_run_watch.specs.Gates.{IsLetPass};
 ghost use Rattle.lxr_run_threads.specs.Keeping.{KeepsOthers};
-ghost use Rattle.lxr_run_threads.specs.Working.{HasPassed, HasServed, IsDoneOf, IsPassOf, goes_on, is_finished, is_helper, work_in, work_of};
+ghost use Rattle.lxr_run_threads.specs.Working.{HasPassed, HasServed, HaveWorked, IsDoneOf, IsPassOf, goes_on, is_finished, is_helper, work_in, work_of};
 
-use crate::dealing::Hand;
-use crate::helping::{Hints, let_help};
+use crate::dealing::{Dealing, Hand};
+use crate::helping::{Hints, let_help, make_hints};
 use lxr_actor::Actor;
 use lxr_core::AnyActor;
 use lxr_run_watch::{Gate, pass_gate};
 use lxr_shared::Pass;
 use lxr_shared_passes::Epoch;
+use std::alloc::{AllocError, Global};
 use std::thread;
 use std::thread::Threads;
 
 /// How many helpers each worker has. Their passes stand before those of its mutators.
 const HELPERS: usize = 2;
 
+/// Lets all passes of an epoch work, dealt to as many workers.
+pub(crate) fn let_dealt_work<R: Threads + Sync, G: Gate>(
+    rt: &R,
+    alloc: Global,
+    table: &Epoch<AnyActor>,
+    mut passes: Vec<Pass>,
+    workers: u8,
+    gate: &G,
+) -> Result<Vec<Pass>, AllocError>
+    requires can { CanBeReplayed table.now.opening }
+    requires passes { All (IsPassOf table.now) passes.items }
+    requires order { numbers_of passes.items ≡ numbers_from 0 (vec_len passes) }
+    requires workers { (1 ≤ workers) × (workers ≤ 8) }
+    requires helpers { 2 * workers ≤ vec_len passes }
+    ensures { IfOk result (λ after. HaveWorked table.now (G.passed gate.now) passes.items after.items) }
+{
+    let hints = make_hints(alloc, workers)?;
+    let count = passes.len();
+    let workers = usize::from(workers);
+    let dealing = Dealing {
+        mutators: count - 2 * workers,
+        workers,
+    };
+    let mut hands = dealing.deal(alloc, &mut passes, hints)?;
+    let_work(rt, table, hands.as_mut_slice(), gate);
+    dealing.gather(hands.as_mut_slice(), count, &mut passes);
+    Ok(passes)
+}
+
 /// Lets each worker work, the last one on this thread and each other on a thread that is started from this one, where one can be
 /// started.
 ///
 /// A thread that another one starts as soon as it runs may be left on its maker's processor for the whole of an epoch.
 #[cycle(hands)]
-pub fn let_work<R: Threads + Sync, G: Gate>(
+fn let_work<R: Threads + Sync, G: Gate>(
     rt: &R,
     table: &Epoch<AnyActor>,
     hands: &mut [Hand],
@@ -215,6 +247,23 @@ fn let_mutate<G: Gate>(table: &Epoch<AnyActor>, pass: &mut Pass, gate: &G) -> bo
         return false;
     }
     call_gate(pass.actor(), gate);
+    mutate(table, pass)
+}
+
+/// One turn of a mutator, whose operation was let pass. Whether it goes on.
+#[inline(always)]
+pub(crate) fn mutate(table: &Epoch<AnyActor>, pass: &mut Pass) -> bool
+    requires can { CanBeReplayed table.now.opening }
+    requires pass { IsPassOf table.now pass.old }
+    requires mutator { is_helper pass.old.actor ≡ false }
+    ensures pass { IsPassOf table.now pass.new }
+    ensures number { pass.new.number ≡ pass.old.number }
+    ensures mutator { is_helper pass.new.actor ≡ false }
+    ensures unit { (olds : List ℕ) × Turned any_machine pass.old olds pass.new }
+    ensures answer { result ≡ goes_on pass.new.actor }
+    ensures done { result ≡ false → HasServed pass.new.actor }
+    ensures nearer { work_of pass.new.actor + one_if result ≤ work_of pass.old.actor }
+{
     pass.turn_at(table);
     goes_on(pass.actor())
 }

@@ -1,5 +1,6 @@
 pub mod Lines
 pub mod Replies
+pub mod Orders
 pub mod Reports
 pub mod Summary
 pub mod Pages

@@ -5,12 +5,14 @@
 #![tactic(auto)]
 
 mod laws;
+mod orders;
 mod pages;
 mod pauses;
 mod replies;
 mod summary;
 
 pub use laws::{text_grows_by_calls, text_is_of_operations};
+pub use orders::print_order;
 pub use pages::{LINE, PAGE, Page};
 pub use pauses::print_pause;
 pub use replies::{print_replies, push_answer, push_thread, push_word};

@@ -1,14 +1,14 @@
 -- The two spellings of a number are read alike. Where an option waits for its value, both are read as
 -- that value, and neither is a number; so what is compared is the settings that fit.
-use Rattle.std.proofs.Common.{◌≡◌, ◌≢◌, ◌∙◌, ◌&&◌, ◌||◌, ◌++◌, ℕ, Bool, cond, true, false, refl, sym, ap, ap₂, List, [], ◌∷◌, Option, Some, None, option_and_then, is_some, Result, Ok, Err, codes}
+use Rattle.std.proofs.Common.{◌≡◌, ◌≢◌, ◌∙◌, ◌&&◌, ◌||◌, ◌++◌, ℕ, Bool, cond, true, false, refl, sym, ap, ap₂, List, [], ◌∷◌, Option, Some, None, option_and_then, is_some, Result, Ok, Err, codes, true≢false}
 use Rattle.std.specs.List.{list_all, list_any}
 use Rattle.std.specs.Str.{bytes_eq}
 use Rattle.lxr_words.specs.Grammar.{joined_word, name_word}
 use Rattle.lxr_words.specs.Number.{Text, is_number, value_of}
-use Rattle.lxr_words.specs.Options.{accepted, load_in, options_from, options_in, reading_of, table_of}
+use Rattle.lxr_words.specs.Options.{accepted, agreeing, load_in, options_from, options_in, reading_of, table_of}
 use Rattle.lxr_words.specs.Settings.{KnownOption, Settings, Table, Word, after_word, each_once, fits, is_equals, opens, option_named, settings_in, stray, whole, with_setting, word_for, word_of}
 use Rattle.lxr_words.specs.declared.Command.{Command}
-use Rattle.lxr_words.specs.declared.Command.TheVariants.{Large, Load, Map, Run}
+use Rattle.lxr_words.specs.declared.Command.TheVariants.{Judge, Large, Load, Map, Order, Run}
 use Rattle.lxr_words.specs.declared.Options.{Options}
 use Rattle.lxr_words.specs.declared.WordFault.{WordFault}
 use Rattle.lxr_words.specs.declared.WordFault.TheVariants as fault
@@ -18,15 +18,17 @@ use Rattle.lxr_words.proofs.Lists.{hyphen_no_number, same_text}
 use Rattle.lxr_words.proofs.Rules.{hyphen_no_fit, named}
 use Rattle.lxr_words.proofs.Spellings.{joined_word_is, name_word_is}
 
--- every flag of the table has that name
-abbrev is_number_or : Text → KnownOption → Bool
-is_number_or flag k = is_some k.range || bytes_eq k.name flag
+-- every flag of the table is one of two
+abbrev is_number_or_flag : KnownOption → Bool
+is_number_or_flag k = is_some k.range || (bytes_eq k.name (codes "counts") || bytes_eq k.name (codes "stand"))
 
-one_flag : (command : Command) → list_all (is_number_or (codes "counts")) (table_of command) ≡ true
-one_flag Run = refl
-one_flag Map = refl
-one_flag Large = refl
-one_flag (Load seed) = refl
+two_flags : (command : Command) → list_all is_number_or_flag (table_of command) ≡ true
+two_flags Run = refl
+two_flags Map = refl
+two_flags Large = refl
+two_flags Order = refl
+two_flags Judge = refl
+two_flags (Load seed) = refl
 
 -- the settings, if each of them fits
 abbrev fitting : Table → Option Settings → Option Settings
@@ -52,9 +54,9 @@ accepts_fitting command (Some s) = go (list_all (fits (table_of command)) s) ref
   where
     go : (b : Bool) → list_all (fits (table_of command)) s ≡ b → accepted command (Some s) ≡ accepted command (cond b (Some s) None)
     go true e = refl
-    go false e = ap (λ b. cond b (Ok (options_from command s)) (Err fault.Options)) (ap (λ b. each_once s && b) e ∙ and-false (each_once s))
+    go false e = ap (λ b. cond b (agreeing (options_from command s)) (Err fault.Options)) (ap (λ b. each_once s && b) e ∙ and-false (each_once s))
 
-module _ (name value : Text) (after : List Text) (free : list_any is_equals name ≡ false) (other : name ≢ codes "counts") where
+module _ (name value : Text) (after : List Text) (free : list_any is_equals name ≡ false) (other : name ≢ codes "counts") (unlike : name ≢ codes "stand") where
   -- the rest of the words in the one spelling and in the other
   abbrev apart : List Text
   apart = name_word name ∷ value ∷ after
@@ -72,10 +74,16 @@ module _ (name value : Text) (after : List Text) (free : list_any is_equals name
     abbrev t : Table
     t = table_of command
 
-    no_flag : (k : KnownOption) → option_named t name ≡ Some k → k.range ≡ None → name ≡ codes "counts"
-    no_flag k e none =
-        sym (named t name k e) ∙ same_text k.name (codes "counts")
-        (ap (λ r. is_some r || bytes_eq k.name (codes "counts")) (sym none) ∙ passes_at t (is_number_or (codes "counts")) t name k e (one_flag command))
+    no_flag : (k : KnownOption) → option_named t name ≡ Some k → k.range ≡ None → ⊥
+    no_flag k e none = by (bytes_eq k.name (codes "counts")) refl (bytes_eq k.name (codes "stand")) refl
+      where
+        by : (c : Bool) → bytes_eq k.name (codes "counts") ≡ c → (s : Bool) → bytes_eq k.name (codes "stand") ≡ s → ⊥
+        by true p s q = other (sym (named t name k e) ∙ same_text k.name (codes "counts") p)
+        by false p true q = unlike (sym (named t name k e) ∙ same_text k.name (codes "stand") q)
+        by false p false q =
+            true≢false (sym (passes_at t is_number_or_flag t name k e (two_flags command))
+            ∙ ap (λ r. is_some r || (bytes_eq k.name (codes "counts") || bytes_eq k.name (codes "stand"))) none
+            ∙ ap₂ (λ c s. c || s) p q)
 
     -- where no option waits
     same_here : settings_in t apart None ≡ settings_in t joined None
@@ -87,7 +95,7 @@ module _ (name value : Text) (after : List Text) (free : list_any is_equals name
             → after_word (word_for (Some (record { name = k.name; range = r })) None) (settings_in t (value ∷ after))
             ≡ after_word (word_for (Some (record { name = k.name; range = r })) (Some value)) (settings_in t after)
         ranged k e (Some r) q = refl
-        ranged k e None q = absurd (other (no_flag k e q))
+        ranged k e None q = absurd (no_flag k e q)
 
         go : (o : Option KnownOption) → option_named t name ≡ o
             → after_word (word_for o None) (settings_in t (value ∷ after)) ≡ after_word (word_for o (Some value)) (settings_in t after)
@@ -127,12 +135,14 @@ module _ (name value : Text) (after : List Text) (free : list_any is_equals name
   same_load (seed ∷ before) = ap (λ r. cond (is_number seed) r (Err fault.Seed)) (same_options (Load (value_of seed)) before)
 
   -- what is read by the first word
-  abbrev by_word : Text → Result Options WordFault → Result Options WordFault → Result Options WordFault → Result Options WordFault → Result Options WordFault
-  by_word word r m b l =
-      cond (bytes_eq word (codes "run")) r (cond (bytes_eq word (codes "map")) m (cond (bytes_eq word (codes "large")) b (cond (bytes_eq word (codes "load")) l (Err fault.Command))))
+  abbrev by_word : Text → (r m b o j l : Result Options WordFault) → Result Options WordFault
+  by_word word r m b o j l =
+      cond (bytes_eq word (codes "run")) r
+      (cond (bytes_eq word (codes "map")) m (cond (bytes_eq word (codes "large")) b (cond (bytes_eq word (codes "order")) o (cond (bytes_eq word (codes "judge")) j (cond (bytes_eq word (codes "load")) l (Err fault.Command))))))
 
   pub same_reading : (before : List Text) → reading_of (before ++ apart) ≡ reading_of (before ++ joined)
   same_reading [] = refl
   same_reading (word ∷ before) =
-      ap₂ (λ r m. by_word word r m (options_in Large (before ++ apart)) (load_in (before ++ apart))) (same_options Run before) (same_options Map before)
-      ∙ ap₂ (λ b l. by_word word (options_in Run (before ++ joined)) (options_in Map (before ++ joined)) b l) (same_options Large before) (same_load before)
+      ap₂ (λ r m. by_word word r m (options_in Large (before ++ apart)) (options_in Order (before ++ apart)) (options_in Judge (before ++ apart)) (load_in (before ++ apart))) (same_options Run before) (same_options Map before)
+      ∙ ap₂ (λ b o. by_word word (options_in Run (before ++ joined)) (options_in Map (before ++ joined)) b o (options_in Judge (before ++ apart)) (load_in (before ++ apart))) (same_options Large before) (same_options Order before)
+      ∙ ap₂ (λ j l. by_word word (options_in Run (before ++ joined)) (options_in Map (before ++ joined)) (options_in Large (before ++ joined)) (options_in Order (before ++ joined)) j l) (same_options Judge before) (same_load before)

@@ -1,5 +1,6 @@
 -- From what `clap` finds to what the words say.
-use Rattle.std.proofs.Common.{◌≡◌, ◌∙◌, ◌&&◌, ◌⊎◌, Bool, cond, not, true, false, refl, sym, ap, subst, List, [], map, Option, Some, None, Result, Ok, Err, find, option_map, option_and_then, is_some, codes, inl, inr, true≢false}
+use Rattle.std.proofs.Common.{◌≡◌, ◌∙◌, ◌&&◌, ◌⊎◌, Bool, cond, not, true, false, refl, sym, ap, ap₂, subst, List, [], map, Option, Some, None, Result, Ok, Err, find, option_map, option_and_then, is_some, codes, inl, inr, true≢false}
+use Rattle.std.specs.Prelude.{IsErrAnd}
 use Rattle.std.specs.List.{list_all, list_any}
 use Rattle.std.specs.Str.{bytes_eq}
 use Rattle.clap.specs.Kinds.{HasKind, IsAmong, Kinds}
@@ -17,7 +18,7 @@ use Rattle.clap.specs.declared.parser.matches.Found.{Found}
 use Rattle.clap.proofs.WalkLemmas.{first_value-rows, list_any-map, one_text-rows}
 use Rattle.lxr_words.specs.Number.{Text}
 use Rattle.lxr_words.specs.Settings.{Settings, Table, dashes, settings_in, is_accepted, is_set, option_named, text_of, each_once}
-use Rattle.lxr_words.specs.Options.{Answers, accepted, options_by, options_from, options_in, table_of}
+use Rattle.lxr_words.specs.Options.{Answers, accepted, agreeing, options_by, options_from, options_in, table_of}
 use Rattle.lxr_words.specs.Arguments.{ReadsIfFine, all_fine, number_options}
 use Rattle.lxr_words.specs.Arguments.{FlagReads, Holds, app_for}
 use Rattle.lxr_words.specs.declared.Command.{Command}
@@ -40,99 +41,122 @@ named_all : (which : Command) → option_named (table_of which) [] ≡ None
 named_all command.Run = refl
 named_all command.Map = refl
 named_all command.Large = refl
+named_all command.Order = refl
+named_all command.Judge = refl
 named_all (command.Load seed) = refl
 
 pub simple_is : (which : Command) → is_simple_and_free (app_for title (table_of which)) ≡ true
 simple_is command.Run = refl
 simple_is command.Map = refl
 simple_is command.Large = refl
+simple_is command.Order = refl
+simple_is command.Judge = refl
 simple_is (command.Load seed) = refl
 
-plain : (which : Command) (n : Text) → bytes_eq (codes "counts") n ≡ false → list_all (not_flag n) (table_of which) ≡ true
-plain command.Run n e = ap (λ b. not b && true) e
-plain command.Map n e = ap (λ b. not b && true) e
-plain command.Large n e = ap (λ b. not b && true) e
-plain (command.Load seed) n e = refl
+plain : (which : Command) (n : Text) → bytes_eq (codes "counts") n ≡ false → bytes_eq (codes "stand") n ≡ false → list_all (not_flag n) (table_of which) ≡ true
+plain command.Run n c s = ap₂ (λ x y. not x && (not y && true)) s c
+plain command.Map n c s = ap₂ (λ x y. not x && (not y && true)) s c
+plain command.Large n c s = ap (λ b. not b && true) c
+plain command.Order n c s = ap₂ (λ x y. not x && (not y && true)) s c
+plain command.Judge n c s = ap (λ b. not b && true) c
+plain (command.Load seed) n c s = ap (λ b. not b && true) s
 
 owns : (which : Command) → list_all (is_own (table_of which)) number_options ≡ true
 owns command.Run = refl
 owns command.Map = refl
 owns command.Large = refl
+owns command.Order = refl
+owns command.Judge = refl
 owns (command.Load seed) = refl
 
 within : (which : Command) → list_all (is_within (table_of which) number_options) (table_of which) ≡ true
 within command.Run = refl
 within command.Map = refl
 within command.Large = refl
+within command.Order = refl
+within command.Judge = refl
 within (command.Load seed) = refl
 
 -- ---- texts
 
-same_fine : (f h : Text → Option Text) → ((n : Text) → bytes_eq (codes "counts") n ≡ false → f n ≡ h n) → all_fine f ≡ all_fine h
+same_fine : (f h : Text → Option Text) → ((n : Text) → bytes_eq (codes "counts") n ≡ false → bytes_eq (codes "stand") n ≡ false → f n ≡ h n) → all_fine f ≡ all_fine h
 same_fine f h e = rw (
-  e (codes "blocks") refl,
-  e (codes "workers") refl,
-  e (codes "every") refl,
-  e (codes "log") refl,
-  e (codes "trace") refl,
-  e (codes "within") refl,
-  e (codes "remember") refl,
-  e (codes "replay") refl,
-  e (codes "threads") refl,
-  e (codes "rounds") refl,
-  e (codes "bodies") refl,
+  e (codes "blocks") refl refl,
+  e (codes "workers") refl refl,
+  e (codes "every") refl refl,
+  e (codes "log") refl refl,
+  e (codes "trace") refl refl,
+  e (codes "within") refl refl,
+  e (codes "remember") refl refl,
+  e (codes "replay") refl refl,
+  e (codes "threads") refl refl,
+  e (codes "rounds") refl refl,
+  e (codes "bodies") refl refl,
 ) refl
 
-same_options : (f h : Text → Option Text) (b : Bool) (which : Command) → ((n : Text) → bytes_eq (codes "counts") n ≡ false → f n ≡ h n) → options_by f b which ≡ options_by h b which
-same_options f h b which e = rw (
-  e (codes "blocks") refl,
-  e (codes "workers") refl,
-  e (codes "every") refl,
-  e (codes "log") refl,
-  e (codes "trace") refl,
-  e (codes "within") refl,
-  e (codes "remember") refl,
-  e (codes "replay") refl,
-  e (codes "threads") refl,
-  e (codes "rounds") refl,
-  e (codes "bodies") refl,
+same_options : (f h : Text → Option Text) (b s : Bool) (which : Command) → ((n : Text) → bytes_eq (codes "counts") n ≡ false → bytes_eq (codes "stand") n ≡ false → f n ≡ h n)
+    → options_by f b s which ≡ options_by h b s which
+same_options f h b s which e = rw (
+  e (codes "blocks") refl refl,
+  e (codes "workers") refl refl,
+  e (codes "every") refl refl,
+  e (codes "log") refl refl,
+  e (codes "trace") refl refl,
+  e (codes "within") refl refl,
+  e (codes "remember") refl refl,
+  e (codes "replay") refl refl,
+  e (codes "threads") refl refl,
+  e (codes "rounds") refl refl,
+  e (codes "bodies") refl refl,
 ) refl
 
--- ---- the flag
+-- ---- the flags
 
-module _ (words : List Text) (g : Settings) (found : Found) (b : Bool) (says : FlagReads (one_text found (codes "counts")) b) where
-  flag_known : (t : Table) → option_named t (codes "counts") ≡ Some (record { name = codes "counts"; range = None }) → list_all (sound t) g ≡ true
-      → rows_of found ≡ matches_of (app_for title t) words → end_rows title t (walk_from nothing_held) words ≡ rows_for g → b ≡ is_set (codes "counts") g
+module _ (flag : Text) (words : List Text) (g : Settings) (found : Found) (b : Bool) (says : FlagReads (one_text found flag) b) where
+  flag_known : (t : Table) → option_named t flag ≡ Some (record { name = flag; range = None }) → list_all (sound t) g ≡ true
+      → rows_of found ≡ matches_of (app_for title t) words → end_rows title t (walk_from nothing_held) words ≡ rows_for g → b ≡ is_set flag g
   flag_known t own good rows end =
-      let is : one_text found (codes "counts") ≡ Some (flag_text (is_set (codes "counts") g))
-      = one_text-rows found (codes "counts") ∙ ap (one_of (codes "counts")) rows ∙ flag_is title t words g (codes "counts") end own (λ x e. flag_says t (codes "counts") x g own good e) in
-      go (is_set (codes "counts") g) is
+      let is : one_text found flag ≡ Some (flag_text (is_set flag g))
+      = one_text-rows found flag ∙ ap (one_of flag) rows ∙ flag_is title t words g flag end own (λ x e. flag_says t flag x g own good e) in
+      go (is_set flag g) is
     where
-      go : (given : Bool) → one_text found (codes "counts") ≡ Some (flag_text given) → b ≡ given
+      go : (given : Bool) → one_text found flag ≡ Some (flag_text given) → b ≡ given
       go true e = says.yes e
       go false e = says.no e
 
-  flag_absent : (t : Table) → option_named t (codes "counts") ≡ None → list_all (not_flag (codes "counts")) t ≡ true → list_all (sound t) g ≡ true
-      → rows_of found ≡ matches_of (app_for title t) words → end_rows title t (walk_from nothing_held) words ≡ rows_for g → b ≡ is_set (codes "counts") g
+  flag_absent : (t : Table) → option_named t flag ≡ None → list_all (not_flag flag) t ≡ true → list_all (sound t) g ≡ true
+      → rows_of found ≡ matches_of (app_for title t) words → end_rows title t (walk_from nothing_held) words ≡ rows_for g → b ≡ is_set flag g
   flag_absent t own none good rows end =
-      let no_entry : find (λ p. bytes_eq p.0 (codes "counts")) g ≡ None = absent t (codes "counts") g own good in
-      let is : one_text found (codes "counts") ≡ None
-      = one_text-rows found (codes "counts") ∙ ap (one_of (codes "counts")) (rows ∙ matches_are title t words)
-      ∙ ap (option_and_then row_text) (no_default (codes "counts") t none (end_rows title t (walk_from nothing_held) words) ∙ ap (find (λ (r : Row). bytes_eq r.id (codes "counts"))) end ∙ row_given (codes "counts") g ∙ ap (option_map row_for) no_entry) in
-      says.none is ∙ sym (list_any-find (λ (p : Text × Text). bytes_eq p.0 (codes "counts")) g ∙ ap is_some no_entry)
+      let no_entry : find (λ p. bytes_eq p.0 flag) g ≡ None = absent t flag g own good in
+      let is : one_text found flag ≡ None
+      = one_text-rows found flag ∙ ap (one_of flag) (rows ∙ matches_are title t words)
+      ∙ ap (option_and_then row_text) (no_default flag t none (end_rows title t (walk_from nothing_held) words) ∙ ap (find (λ (r : Row). bytes_eq r.id flag)) end ∙ row_given flag g ∙ ap (option_map row_for) no_entry) in
+      says.none is ∙ sym (list_any-find (λ (p : Text × Text). bytes_eq p.0 flag) g ∙ ap is_some no_entry)
 
-  flag_right : (which : Command) → list_all (sound (table_of which)) g ≡ true → rows_of found ≡ matches_of (app_for title (table_of which)) words
+module _ (words : List Text) (g : Settings) (found : Found) (b : Bool) where
+  counts_right : (which : Command) → FlagReads (one_text found (codes "counts")) b → list_all (sound (table_of which)) g ≡ true → rows_of found ≡ matches_of (app_for title (table_of which)) words
       → end_rows title (table_of which) (walk_from nothing_held) words ≡ rows_for g → b ≡ is_set (codes "counts") g
-  flag_right command.Run good rows end = flag_known (table_of command.Run) refl good rows end
-  flag_right command.Map good rows end = flag_known (table_of command.Map) refl good rows end
-  flag_right command.Large good rows end = flag_known (table_of command.Large) refl good rows end
-  flag_right (command.Load seed) good rows end = flag_absent (table_of (command.Load seed)) refl refl good rows end
+  counts_right command.Run says good rows end = flag_known (codes "counts") words g found b says (table_of command.Run) refl good rows end
+  counts_right command.Map says good rows end = flag_known (codes "counts") words g found b says (table_of command.Map) refl good rows end
+  counts_right command.Large says good rows end = flag_known (codes "counts") words g found b says (table_of command.Large) refl good rows end
+  counts_right command.Order says good rows end = flag_known (codes "counts") words g found b says (table_of command.Order) refl good rows end
+  counts_right command.Judge says good rows end = flag_known (codes "counts") words g found b says (table_of command.Judge) refl good rows end
+  counts_right (command.Load seed) says good rows end = flag_absent (codes "counts") words g found b says (table_of (command.Load seed)) refl refl good rows end
+
+  stand_right : (which : Command) → FlagReads (one_text found (codes "stand")) b → list_all (sound (table_of which)) g ≡ true → rows_of found ≡ matches_of (app_for title (table_of which)) words
+      → end_rows title (table_of which) (walk_from nothing_held) words ≡ rows_for g → b ≡ is_set (codes "stand") g
+  stand_right command.Run says good rows end = flag_known (codes "stand") words g found b says (table_of command.Run) refl good rows end
+  stand_right command.Map says good rows end = flag_known (codes "stand") words g found b says (table_of command.Map) refl good rows end
+  stand_right command.Large says good rows end = flag_absent (codes "stand") words g found b says (table_of command.Large) refl refl good rows end
+  stand_right command.Order says good rows end = flag_known (codes "stand") words g found b says (table_of command.Order) refl good rows end
+  stand_right command.Judge says good rows end = flag_absent (codes "stand") words g found b says (table_of command.Judge) refl refl good rows end
+  stand_right (command.Load seed) says good rows end = flag_known (codes "stand") words g found b says (table_of (command.Load seed)) refl good rows end
 
 -- ---- answers
 
 refused_given : (which : Command) (o : Option Settings) → ((g : Settings) → o ≡ Some g → is_accepted (table_of which) g ≡ false) → accepted which o ≡ Err fault.Options
 refused_given which None h = refl
-refused_given which (Some g) h = ap (λ b. cond b (Ok (options_from which g)) (Err fault.Options)) (h g refl)
+refused_given which (Some g) h = ap (λ b. cond b (agreeing (options_from which g)) (Err fault.Options)) (h g refl)
 
 refused_kinds : (kinds : Kinds) → refuses kinds ≡ true → kinds ≡ [] → ⊥
 refused_kinds kinds e f = true≢false (sym e ∙ ap refuses f)
@@ -154,18 +178,20 @@ found_holds which words m clear no_fault matches = go (reads title (table_of whi
     go (inl y) =
         let g : Settings = y.more in
         let good : list_all (sound (table_of which)) g ≡ true = all_sound (table_of which) words None g tt y.read_is in
-        let texts : (n : Text) → bytes_eq (codes "counts") n ≡ false → first_value (found_of m) n ≡ text_of n g
-        = λ n e. first_value-rows (found_of m) n ∙ ap (first_of n) rows ∙ text_is title (table_of which) words g n y.rows_are (plain which n e) in
+        let texts : (n : Text) → bytes_eq (codes "counts") n ≡ false → bytes_eq (codes "stand") n ≡ false → first_value (found_of m) n ≡ text_of n g
+        = λ n c s. first_value-rows (found_of m) n ∙ ap (first_of n) rows ∙ text_is title (table_of which) words g n y.rows_are (plain which n c s) in
         let fine_is : all_fine (first_value (found_of m)) ≡ list_all (is_right g) number_options = same_fine (first_value (found_of m)) (λ n. text_of n g) texts in
         record {
-          fine = λ e b says.
+          fine = λ e b s says stands.
               let accept : is_accepted (table_of which) g ≡ true = right_accepted (table_of which) g good y.once (right_within (table_of which) g number_options (table_of which) (within which) (sym fine_is ∙ e)) in
               ap (accepted which) y.read_is
-              ∙ ap (λ x. cond x (Ok (options_from which g)) (Err fault.Options)) accept
-              ∙ ap Ok (ap (λ x. options_by (λ n. text_of n g) x which) (sym (flag_right words g (found_of m) b says which good rows y.rows_are)) ∙ sym (same_options (first_value (found_of m)) (λ n. text_of n g) b which texts));
+              ∙ ap (λ x. cond x (agreeing (options_from which g)) (Err fault.Options)) accept
+              ∙ ap agreeing (ap (λ x. options_by (λ n. text_of n g) x (is_set (codes "stand") g) which) (sym (counts_right words g (found_of m) b which says good rows y.rows_are))
+              ∙ ap (λ x. options_by (λ n. text_of n g) b x which) (sym (stand_right words g (found_of m) s which stands good rows y.rows_are))
+              ∙ sym (same_options (first_value (found_of m)) (λ n. text_of n g) b s which texts));
           wrong = λ e.
               let refuse : is_accepted (table_of which) g ≡ false = wrong_one (table_of which) g good number_options (owns which) (sym fine_is ∙ e) in
-              ap (accepted which) y.read_is ∙ ap (λ x. cond x (Ok (options_from which g)) (Err fault.Options)) refuse;
+              ap (accepted which) y.read_is ∙ ap (λ x. cond x (agreeing (options_from which g)) (Err fault.Options)) refuse;
         }
 
 -- words that `clap` refuses are not accepted
@@ -190,7 +216,18 @@ pub has_fault : (kinds : Kinds) (e : Error) → HasKind kinds e → (kind_of e �
 has_fault kinds e (inl memory) other none = other memory
 has_fault kinds e (inr among) other none = subst (IsAmong (kind_of e)) none among
 
-pub answers : (which : Command) (words : List Text) (found : Found) (b : Bool) → FlagReads (one_text found (codes "counts")) b → Holds which words found
-    → (r : Result Options WordError) → ReadsIfFine (all_fine (first_value found)) (options_by (first_value found) b which) r → Answers (options_in which words) r
-answers which words found b says h (Ok o) w = h.fine w.0 b says ∙ ap Ok (sym w.1)
-answers which words found b says h (Err e) w = subst (λ x. Answers (options_in which words) (Err x)) (sym w.1) (h.wrong w.0)
+-- texts that are fine are answered by their options, where these go together
+pub answers_fine : (which : Command) (words : List Text) (found : Found) (b s : Bool) → FlagReads (one_text found (codes "counts")) b → FlagReads (one_text found (codes "stand")) s → Holds which words found
+    → (o : Options) → ReadsIfFine (all_fine (first_value found)) (options_by (first_value found) b s which) (Ok o)
+    → (r : Result Options WordError) → Answers (agreeing o) r → Answers (options_in which words) r
+answers_fine which words found b s says stands h o w r a = subst (λ x. Answers x r) (sym (h.fine w.0 b s says stands ∙ ap agreeing (sym w.1))) a
+
+-- texts that aren't are refused
+pub answers_wrong : (which : Command) (words : List Text) (found : Found) (x : Options) → Holds which words found
+    → (e : WordError) → ReadsIfFine (all_fine (first_value found)) x (Err e) → Answers (options_in which words) (Err e)
+answers_wrong which words found x h e w = subst (λ z. Answers (options_in which words) (Err z)) (sym w.1) (h.wrong w.0)
+
+-- an error that is passed on is answered as the one that there was
+pub passed_on : (P : Result Options WordError → Type 0) (r : Result Options WordError) (e : WordError) → IsErrAnd r (λ x. x ≡ e) → P (Err e) → P r
+passed_on P (Ok o) e is holds = absurd is
+passed_on P (Err x) e is holds = subst (λ z. P (Err z)) (sym is) holds

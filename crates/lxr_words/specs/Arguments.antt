@@ -10,8 +10,9 @@ use Rattle.clap.specs.declared.parser.matches.ArgMatches.{ArgMatches}
 use Rattle.clap.specs.declared.parser.matches.Found.{Found}
 use Rattle.lxr_words.specs.Number.{Text}
 use Rattle.lxr_words.specs.Settings.{KnownOption, Table, is_in}
-use Rattle.lxr_words.specs.Options.{options_by, options_in, option_rows}
+use Rattle.lxr_words.specs.Options.{agreeing, options_by, options_in, option_rows, table_of}
 use Rattle.lxr_words.specs.declared.Command.{Command}
+use Rattle.lxr_words.specs.declared.Command.TheVariants.{Judge}
 use Rattle.lxr_words.specs.declared.WordError.{WordError}
 use Rattle.lxr_words.specs.declared.WordError.TheVariants as error
 use Rattle.lxr_words.specs.declared.WordFault.TheVariants as fault
@@ -40,9 +41,13 @@ app_for title table = record {
 abbrev pub common_options : Table
 common_options = map (λ row. row.option) (take 1 option_rows)
 
--- those of every command that runs threads: the table up to the flag
+-- those of every command that runs threads: the table up to the flag `--stand`
 abbrev pub thread_options : Table
-thread_options = map (λ row. row.option) (take 8 option_rows)
+thread_options = map (λ row. row.option) (take 9 option_rows)
+
+-- those of `judge`, which are about calls and pauses, up to the flag `--counts`
+abbrev pub pause_options : Table
+pause_options = take 5 (table_of Judge)
 
 -- the options of all commands together
 abbrev pub every_option : Table
@@ -72,11 +77,12 @@ pub record FlagReads (text : Option Text) (answer : Bool) : Type 0 where
   pub yes : text ≡ Some (codes "true") → answer ≡ true
   pub no : text ≡ Some (codes "false") → answer ≡ false
 
--- the words are accepted just where each text that was found is fine, and then say those texts
+-- the words are accepted just where each text that was found is fine and these texts' options go together, and then say those
+-- options
 pub record Holds (command : Command) (words : List Text) (found : Found) : Type 0 where
   pub fine : all_fine (first_value found) ≡ true
-      → (counts : Bool) → FlagReads (one_text found (codes "counts")) counts
-      → options_in command words ≡ Ok (options_by (first_value found) counts command)
+      → (counts stand : Bool) → FlagReads (one_text found (codes "counts")) counts → FlagReads (one_text found (codes "stand")) stand
+      → options_in command words ≡ agreeing (options_by (first_value found) counts stand command)
   pub wrong : all_fine (first_value found) ≡ false → options_in command words ≡ Err fault.Options
 
 -- the matches hold what the words say, or the words are refused, or memory ran out

@@ -1,12 +1,12 @@
 -- What the words of a command line say: the command, and its options by the table of options.
-use Rattle.std.specs.Prelude.{◌≡◌, ⊤, List, [], ◌∷◌, ℕ, Bool, true, false, Option, Some, None, filter, map}
+use Rattle.std.specs.Prelude.{◌≡◌, ◌&&◌, ⊤, List, [], ◌∷◌, ℕ, Bool, true, false, Option, Some, None, filter, map}
 use Rattle.std.specs.Prelude.{Result, Ok, Err, option_map, if◌then◌else◌, codes}
 use Rattle.std.specs.Option.{option_map_or}
 use Rattle.std.specs.Str.{bytes_eq}
 use Rattle.lxr_words.specs.Number.{Text, is_number, value_of}
 use Rattle.lxr_words.specs.Settings.{KnownOption, Settings, Table, is_accepted, is_set, settings_in, text_of}
 use Rattle.lxr_words.specs.declared.Command.{Command}
-use Rattle.lxr_words.specs.declared.Command.TheVariants.{Large, Load, Map, Run}
+use Rattle.lxr_words.specs.declared.Command.TheVariants.{Judge, Large, Load, Map, Order, Run}
 use Rattle.lxr_words.specs.declared.Options.{Options}
 use Rattle.lxr_words.specs.declared.WordError.{WordError}
 use Rattle.lxr_words.specs.declared.WordError.TheVariants.{Fault, Memory}
@@ -24,10 +24,12 @@ pub record OptionRow : Type 0 where
 abbrev pub all_commands : Command → Bool
 all_commands command = true
 
--- the commands that take a script
+-- the commands that take a script, alone or in a case
 abbrev pub script_commands : Command → Bool
 script_commands Run = true
 script_commands Map = true
+script_commands Order = true
+script_commands Judge = true
 script_commands Large = true
 script_commands (Load seed) = false
 
@@ -35,8 +37,15 @@ script_commands (Load seed) = false
 abbrev pub thread_commands : Command → Bool
 thread_commands Run = true
 thread_commands Map = true
+thread_commands Order = true
+thread_commands Judge = false
 thread_commands Large = false
 thread_commands (Load seed) = true
+
+-- the commands that have to do with calls of threads between pauses
+abbrev pub pause_commands : Command → Bool
+pause_commands Large = false
+pause_commands _ = true
 
 -- the command `load` alone
 abbrev pub load_command : Command → Bool
@@ -63,12 +72,13 @@ flag_row name is_of = record { option = record { name = name; range = None }; is
 abbrev pub option_rows : List OptionRow
 option_rows = number_row (codes "blocks") 1 1024 all_commands
     ∷ number_row (codes "workers") 1 8 thread_commands
-    ∷ number_row (codes "every") 1 1048576 thread_commands
-    ∷ number_row (codes "log") 1 65536 thread_commands
-    ∷ number_row (codes "trace") 1 1000000 thread_commands
-    ∷ number_row (codes "within") 1 1000000 thread_commands
+    ∷ number_row (codes "every") 1 1048576 pause_commands
+    ∷ number_row (codes "log") 1 65536 pause_commands
+    ∷ number_row (codes "trace") 1 1000000 pause_commands
+    ∷ number_row (codes "within") 1 1000000 pause_commands
     ∷ number_row (codes "remember") 1 1048576 thread_commands
     ∷ number_row (codes "replay") 0 18446744073709551615 thread_commands
+    ∷ flag_row (codes "stand") thread_commands
     ∷ flag_row (codes "counts") script_commands
     ∷ number_row (codes "threads") 1 16 load_command
     ∷ number_row (codes "rounds") 1 100000 load_command
@@ -86,8 +96,8 @@ abbrev pub number_or : ℕ → Option Text → ℕ
 number_or default text = option_map_or value_of text default
 
 -- the options by the texts that they are set to, each with its default where there is none
-abbrev pub options_by : (Text → Option Text) → Bool → Command → Options
-options_by text counts command = record {
+abbrev pub options_by : (Text → Option Text) → (counts stand : Bool) → Command → Options
+options_by text counts stand command = record {
   command = command;
   blocks = number_or 64 (text (codes "blocks"));
   workers = number_or 2 (text (codes "workers"));
@@ -98,6 +108,7 @@ options_by text counts command = record {
   remember = number_or 4096 (text (codes "remember"));
   counts = counts;
   replay = option_map value_of (text (codes "replay"));
+  stand = stand;
   threads = number_or 4 (text (codes "threads"));
   rounds = number_or 1000 (text (codes "rounds"));
   bodies = number_or 64 (text (codes "bodies"));
@@ -106,15 +117,35 @@ options_by text counts command = record {
 -- the options of the command by the settings
 abbrev pub options_from : Command → Settings → Options
 options_from command settings =
-    options_by (λ name. text_of name settings) (is_set (codes "counts") settings) command
+    options_by (λ name. text_of name settings) (is_set (codes "counts") settings) (is_set (codes "stand") settings) command
+
+-- ---- options that go together
+
+-- whether there is a schedule where the command needs one: `order` tells the order of a run that can be had again
+abbrev pub is_scheduled : Command → Option ℕ → Bool
+is_scheduled Order None = false
+is_scheduled command replay = true
+
+-- threads that stand run as they come, so nothing is replayed by them
+abbrev pub may_stand : Bool → Option ℕ → Bool
+may_stand true (Some seed) = false
+may_stand stand replay = true
+
+-- whether the options go together
+abbrev pub agree : Options → Bool
+agree options = is_scheduled options.command options.replay && may_stand options.stand options.replay
+
+-- the options, where they go together
+abbrev pub agreeing : Options → Result Options WordFault
+agreeing options = if agree options then Ok options else Err fault.Options
 
 -- ---- the words
 
--- the options by the settings, if there are any and they are accepted
+-- the options by the settings, if there are any, they are accepted, and the options go together
 abbrev pub accepted : Command → Option Settings → Result Options WordFault
 accepted command None = Err fault.Options
 accepted command (Some settings) =
-    if is_accepted (table_of command) settings then Ok (options_from command settings)
+    if is_accepted (table_of command) settings then agreeing (options_from command settings)
     else Err fault.Options
 
 -- the words after the command and its seed
@@ -134,7 +165,9 @@ reading_of (word ∷ words) =
     if bytes_eq word (codes "run") then options_in Run words
     else (if bytes_eq word (codes "map") then options_in Map words
     else (if bytes_eq word (codes "large") then options_in Large words
-    else (if bytes_eq word (codes "load") then load_in words else Err fault.Command)))
+    else (if bytes_eq word (codes "order") then options_in Order words
+    else (if bytes_eq word (codes "judge") then options_in Judge words
+    else (if bytes_eq word (codes "load") then load_in words else Err fault.Command)))))
 
 -- the answer is that reading, unless memory ran out
 abbrev pub Answers : Result Options WordFault → Result Options WordError → Type 0

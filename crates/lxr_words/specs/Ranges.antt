@@ -1,7 +1,7 @@
 -- The ranges of the options that words ask for.
 use Rattle.std.specs.Prelude.{ℕ, ◌^◌, ◌<◌, ◌≤◌, ⊤, Option, IfSome}
 use Rattle.lxr_words.specs.declared.Command.{Command}
-use Rattle.lxr_words.specs.declared.Command.TheVariants.{Large, Load, Map, Run}
+use Rattle.lxr_words.specs.declared.Command.TheVariants.{Judge, Large, Load, Map, Order, Run}
 use Rattle.lxr_words.specs.declared.Options.{Options}
 
 -- the seed of a command is below 2^64
@@ -9,6 +9,8 @@ abbrev pub IsCommand : Command → Type 0
 IsCommand Run = ⊤
 IsCommand Map = ⊤
 IsCommand Large = ⊤
+IsCommand Order = ⊤
+IsCommand Judge = ⊤
 IsCommand (Load seed) = seed < 2 ^ 64
 
 -- each option has a number in its range

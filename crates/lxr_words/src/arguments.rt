@@ -7,11 +7,11 @@ ghost use Rattle.std.specs.Str.{bytes_eq};
 ghost use Rattle.clap.specs.Simple.{app_of};
 ghost use Rattle.lxr_words.specs.Settings.{dashes};
 ghost use Rattle.lxr_words.specs.Options.{table_of};
-ghost use Rattle.lxr_words.specs.Arguments.{Finds, app_for, common_options, thread_options};
+ghost use Rattle.lxr_words.specs.Arguments.{Finds, app_for, common_options, pause_options, thread_options};
 
 use crate::table::{
-    BLOCKS, BODIES, COUNTS, EVERY, LOG, REMEMBER, REPLAY, ROUNDS, THREADS, TRACE, WITHIN, WORKERS,
-    flag,
+    BLOCKS, BODIES, COUNTS, EVERY, LOG, REMEMBER, REPLAY, ROUNDS, STAND, THREADS, TRACE, WITHIN,
+    WORKERS, flag,
 };
 use crate::{Command, WordError, WordFault};
 use clap::ArgMatches;
@@ -52,7 +52,10 @@ fn arguments_of<'a>(alloc: Global, command: Command) -> Result<clap::Command<'a>
     ensures { IfOk result (λ r. app_of r ≡ app_for (codes "lxr") (table_of command)) }
 {
     match command {
-        Command::Run | Command::Map => thread_arguments(alloc)?.arg(flag(alloc, COUNTS)),
+        Command::Run | Command::Map | Command::Order => thread_arguments(alloc)?.arg(flag(
+            alloc, COUNTS,
+        )),
+        Command::Judge => pause_arguments(alloc)?.arg(flag(alloc, COUNTS)),
         Command::Large => common_arguments(alloc)?
             .arg(flag(alloc, COUNTS))?
             .arg(BODIES.argument(alloc)),
@@ -72,6 +75,17 @@ fn common_arguments<'a>(alloc: Global) -> Result<clap::Command<'a>, AllocError>
         .arg(BLOCKS.argument(alloc))
 }
 
+// The arguments by which a finished output is judged, but for the flag.
+fn pause_arguments<'a>(alloc: Global) -> Result<clap::Command<'a>, AllocError>
+    ensures { IfOk result (λ r. app_of r ≡ app_for (codes "lxr") pause_options) }
+{
+    common_arguments(alloc)?
+        .arg(EVERY.argument(alloc))?
+        .arg(LOG.argument(alloc))?
+        .arg(TRACE.argument(alloc))?
+        .arg(WITHIN.argument(alloc))
+}
+
 // The arguments of every command that runs threads.
 fn thread_arguments<'a>(alloc: Global) -> Result<clap::Command<'a>, AllocError>
     ensures { IfOk result (λ r. app_of r ≡ app_for (codes "lxr") thread_options) }
@@ -83,5 +97,6 @@ fn thread_arguments<'a>(alloc: Global) -> Result<clap::Command<'a>, AllocError>
         .arg(TRACE.argument(alloc))?
         .arg(WITHIN.argument(alloc))?
         .arg(REMEMBER.argument(alloc))?
-        .arg(REPLAY.argument(alloc))
+        .arg(REPLAY.argument(alloc))?
+        .arg(flag(alloc, STAND))
 }

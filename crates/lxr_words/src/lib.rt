@@ -1,23 +1,24 @@
 //! The words of the command line: which command the program carries out, and under which options.
 //!
 //! [`read_words`] takes the words after the program's own name. The first is the command, `run`,
-//! `map`, `large` or `load`; after `load` comes the seed; all others are options. Each option is given at
+//! `map`, `order`, `judge`, `large` or `load`; after `load` comes the seed; all others are options. Each option is given at
 //! most once, in any order, as `--name value` or as `--name=value`, where the value is a number in
-//! the option's range; the flag `--counts` has no value. Nothing else is accepted: no `--`, no
+//! the option's range; the flags `--counts` and `--stand` have no value. Nothing else is accepted: no `--`, no
 //! `--help`, no shortened name. A number is one decimal digit or more, without a sign; leading
-//! zeros are allowed.
+//! zeros are allowed. `order` needs `--replay`, and `--stand` isn't given beside that.
 //!
 //! | Option | Range | Default | Commands |
 //! |---|---|---|---|
 //! | `--blocks` | 1 to 1,024 | 64 | all |
-//! | `--workers` | 1 to 8 | 2 | `run`, `map`, `load` |
-//! | `--every` | 1 to 1,048,576 | 1,024 | `run`, `map`, `load` |
-//! | `--log` | 1 to 65,536 | 1,024 | `run`, `map`, `load` |
-//! | `--trace` | 1 to 1,000,000 | 8 | `run`, `map`, `load` |
-//! | `--within` | 1 to 1,000,000 | 4 | `run`, `map`, `load` |
-//! | `--remember` | 1 to 1,048,576 | 4,096 | `run`, `map`, `load` |
-//! | `--replay` | below 2^64 | absent | `run`, `map`, `load` |
-//! | `--counts` | no value | off | `run`, `map`, `large` |
+//! | `--workers` | 1 to 8 | 2 | `run`, `map`, `order`, `load` |
+//! | `--every` | 1 to 1,048,576 | 1,024 | `run`, `map`, `order`, `judge`, `load` |
+//! | `--log` | 1 to 65,536 | 1,024 | `run`, `map`, `order`, `judge`, `load` |
+//! | `--trace` | 1 to 1,000,000 | 8 | `run`, `map`, `order`, `judge`, `load` |
+//! | `--within` | 1 to 1,000,000 | 4 | `run`, `map`, `order`, `judge`, `load` |
+//! | `--remember` | 1 to 1,048,576 | 4,096 | `run`, `map`, `order`, `load` |
+//! | `--replay` | below 2^64 | absent | `run`, `map`, `order`, `load` |
+//! | `--stand` | no value | off | `run`, `map`, `load` |
+//! | `--counts` | no value | off | `run`, `map`, `order`, `judge`, `large` |
 //! | `--threads` | 1 to 16 | 4 | `load` |
 //! | `--rounds` | 1 to 100,000 | 1,000 | `load` |
 //! | `--bodies` | 1 to 1,024 | 64 | `large` |
@@ -47,6 +48,10 @@ pub enum Command {
     Map,
     /// Runs a script of one thread with large objects.
     Large,
+    /// Runs a script, and prints in which order its calls and pauses stood.
+    Order,
+    /// Judges a finished output by the order of its calls and pauses.
+    Judge,
 }
 
 /// The command and its options. An option that the words leave out, or that the command does not
@@ -73,6 +78,8 @@ pub struct Options {
     pub counts: bool,
     /// The seed of the one schedule to be replayed. With none the threads run as they come.
     pub replay: Option<u64>,
+    /// Whether the threads of an epoch stand and take turns at all mutators and helpers.
+    pub stand: bool,
     /// The number of threads of a generated script.
     pub threads: u8,
     /// The number of rounds of each thread of a generated script.
@@ -89,7 +96,8 @@ pub enum WordFault {
     /// There is no word after `load`, or it is no number below 2^64.
     Seed,
     /// A word after these is not part of an option that the command has, or an option is given
-    /// twice, without a value, or with one out of its range.
+    /// twice, without a value, or with one out of its range, or beside one that it doesn't go with; or
+    /// one that the command needs isn't given.
     Options,
 }
 

@@ -6,13 +6,14 @@ ghost use Rattle.std.specs.Str.{bytes_eq};
 ghost use Rattle.clap.specs.Matches.{first_value, found_of};
 ghost use Rattle.lxr_words.specs.Settings.{dashes};
 ghost use Rattle.lxr_words.specs.Arguments.{ReadsIfFine, all_fine};
-ghost use Rattle.lxr_words.specs.Options.{Answers, load_in, options_by, options_in, reading_of};
+ghost use Rattle.lxr_words.specs.Options.{Answers, agreeing, is_scheduled, load_in, may_stand, options_by, options_in, reading_of};
 ghost use Rattle.lxr_words.specs.Ranges.{AreInRange};
 
 use crate::arguments::matches_among;
 use crate::digits::number_in;
 use crate::table::{
-    BLOCKS, BODIES, COUNTS, EVERY, LOG, REMEMBER, REPLAY, ROUNDS, THREADS, TRACE, WITHIN, WORKERS,
+    BLOCKS, BODIES, COUNTS, EVERY, LOG, REMEMBER, REPLAY, ROUNDS, STAND, THREADS, TRACE, WITHIN,
+    WORKERS,
 };
 use crate::{Command, Options, WordError, WordFault};
 use clap::ArgMatches;
@@ -32,6 +33,8 @@ pub fn read_words(alloc: Global, words: &[&str]) -> Result<Options, WordError>
         "run" => read_options(alloc, Command::Run, rest),
         "map" => read_options(alloc, Command::Map, rest),
         "large" => read_options(alloc, Command::Large, rest),
+        "order" => read_options(alloc, Command::Order, rest),
+        "judge" => read_options(alloc, Command::Judge, rest),
         "load" => read_load(alloc, rest),
         _ => Err(WordError::Fault(WordFault::Command)),
     }
@@ -65,7 +68,44 @@ fn read_options<'a>(
         return Err(WordError::Fault(WordFault::Options));
     }
     let matches = matches_among(alloc, command, words)?;
-    options_among(command, matches.get_flag(COUNTS), &matches)
+    let counts = matches.get_flag(COUNTS);
+    let stand = matches.get_flag(STAND);
+    let options = options_among(command, counts, stand, &matches)?;
+    agreeing(options)
+}
+
+// The options, where they go together.
+fn agreeing(options: Options) -> Result<Options, WordError>
+    requires { AreInRange options }
+    ensures answers { Answers (agreeing options) result }
+    ensures range { IfOk result AreInRange }
+{
+    if is_scheduled(options.command, options.replay) && may_stand(options.stand, options.replay) {
+        Ok(options)
+    } else {
+        Err(WordError::Fault(WordFault::Options))
+    }
+}
+
+// Whether there is a schedule where the command needs one.
+fn is_scheduled(command: Command, replay: Option<u64>) -> bool
+    ensures { result ≡ is_scheduled command replay }
+{
+    match command {
+        Command::Order => replay.is_some(),
+        _ => true,
+    }
+}
+
+// Whether nothing is replayed where threads stand.
+fn may_stand(stand: bool, replay: Option<u64>) -> bool
+    ensures { result ≡ may_stand stand replay }
+{
+    match (stand, replay) {
+        (true, Some(_)) => false,
+        (true, None) => true,
+        (false, _) => true,
+    }
 }
 
 // Whether a word is `--`.
@@ -79,10 +119,11 @@ fn has_dashes(words: &[&str]) -> bool
 fn options_among(
     command: Command,
     counts: bool,
+    stand: bool,
     matches: &ArgMatches<'_>,
 ) -> Result<Options, WordError>
     ensures value { let text = first_value (found_of matches.now) in
-        ReadsIfFine (all_fine text) (options_by text counts command) result }
+        ReadsIfFine (all_fine text) (options_by text counts stand command) result }
     ensures range { IfOk result AreInRange }
 {
     Ok(Options {
@@ -96,6 +137,7 @@ fn options_among(
         remember: REMEMBER.number_or(matches, 4096)? as u32,
         counts,
         replay: REPLAY.number(matches)?,
+        stand,
         threads: THREADS.number_or(matches, 4)? as u8,
         rounds: ROUNDS.number_or(matches, 1000)? as u32,
         bodies: BODIES.number_or(matches, 64)? as u32,

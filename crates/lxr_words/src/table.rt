@@ -87,8 +87,10 @@ pub(crate) const BODIES: NumberOption = NumberOption {
     greatest: 1024,
 };
 
-// The flag, by its name.
+// The flags, by their names.
 pub(crate) const COUNTS: &str = "counts";
+
+pub(crate) const STAND: &str = "stand";
 
 impl NumberOption {
     // The option as an argument that takes one text.

@@ -1,5 +1,5 @@
 use Rattle.std.proofs.Common.{arith}
-use Rattle.lxr_blocks.proofs.EdgeLemmas.{lowest_gone, others_stay}
+use Rattle.lxr_blocks.proofs.HalvesLemmas.{lowest_gone, others_stay}
 use Rattle.lxr_blocks.proofs.masks.without_lowest.Goals as goal
 
 pub returns-else-bits-eq0-clause-lowest : goal.returns-else-bits-eq0-clause-lowest

@@ -8,7 +8,7 @@ use Rattle.lxr_run.specs.Runs.{run_of, stream, watcher}
 use Rattle.lxr_run.specs.Replayed.{IsReplayed, task_of}
 use Rattle.lxr_run.specs.Script.{IsAnyGivenBy}
 use Rattle.lxr_run.proofs.InputLemmas.{unread_where}
-use Rattle.lxr_run.proofs.OutcomeLemmas.{asks_for_large, done_by, done_by_playing, replayed_by, stopped_at, stopped_at_playing}
+use Rattle.lxr_run.proofs.OutcomeLemmas.{done_by, done_by_playing, not_for_cases, not_for_threads, replayed_by, stopped_at, stopped_at_judging, stopped_at_playing}
 use Rattle.lxr_run.proofs.attempt.attempt.Goals as goal
 
 pub run_and_print-requires-clause-opened : goal.run_and_print-requires-clause-opened
@@ -56,8 +56,8 @@ pub returns-in_ok-space-in-Large-clause-replayed : goal.returns-in_ok-space-in-L
 returns-in_ok-space-in-Large-clause-replayed g c =
     let run = run_of (map (λ (word : Bor (List ℕ)). word.now) c.args.words.now) (stream g.I.Source.left g.I.Source.faults c.args.input.now c.script_for.new.input) (stream g.O.Sink.written g.O.Sink.faults c.args.output.now c.play_large.new.output)
     (watcher g.W.Watch.seen c.args.watch.now c.args.watch.now) c.in_ok-space-in-Large.field-0 in
-    λ none. absurd {A = IsReplayed run} (none (asks_for_large run.words run.input c.in_ok-options.options c.in-Large.operations.items
-    (record { accepted = c.in_ok-options.ensures.answers; given = subst (IsAnyGivenBy c.in_ok-options.options run.input) c.in-Large.is c.in_ok-script.ensures.given })))
+    λ threads. absurd {A = IsReplayed run} (not_for_threads run.words run.input c.in_ok-options.options c.in-Large.operations.items
+    (record { accepted = c.in_ok-options.ensures.answers; given = subst (IsAnyGivenBy c.in_ok-options.options run.input) c.in-Large.is c.in_ok-script.ensures.given }) threads)
 
 pub returns-in_err-space-in-Large-clause-stopped : goal.returns-in_err-space-in-Large-clause-stopped
 returns-in_err-space-in-Large-clause-stopped g c =

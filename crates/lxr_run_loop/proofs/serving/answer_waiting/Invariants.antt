@@ -6,6 +6,7 @@ use Rattle.lxr_run_serve.specs.Serving.{KeepsHelpers}
 use Rattle.lxr_run_invariant.specs.LoopInvariant.{IsServing, Task, left_of, pace_of}
 use Rattle.lxr_run_history.specs.Sums.{totals_of}
 use Rattle.lxr_run_loop.specs.Courses.{AreFew}
+use Rattle.lxr_run_loop.specs.Orders.{FollowsOrder}
 use Rattle.lxr_run_loop.specs.Serving.{BeginsServing}
 use Rattle.lxr_run_loop.proofs.ServeLemmas.{AnswersOn}
 use Rattle.lxr_run_loop.proofs.serving.answer_waiting.Given as goal
@@ -17,7 +18,8 @@ invariant-loop-space g l =
           → (h' : List Item) × (m' : AbstractState)
           × IsServing task l.space (g.O.Sink.written l.output) (g.W.Watch.seen l.watch) (mutators_in l.fn.actors) l.fn.space.pauses l.collected (mutators_in l.actors) 0 false h' m'
           × AnswersOn (pace_of l.fn.options) l.fn.collected (mutators_in l.fn.actors) l.fn.space h l.collected (mutators_in l.actors) l.space h'
-          × (l.fn.totals ≡ totals_of h → l.totals ≡ totals_of h');
+          × (l.fn.totals ≡ totals_of h → l.totals ≡ totals_of h')
+          × FollowsOrder l.fn.order h l.order h';
       few : AreFew l.totals l.space.pauses;
       helpers : KeepsHelpers l.fn.actors l.actors;
       faults : g.O.Sink.faults l.fn.output ≤ g.O.Sink.faults l.output;

@@ -4,12 +4,12 @@ use Rattle.lxr_core.specs.Actors.{mutators_in}
 use Rattle.lxr_run_replay.specs.Replaying.{unfinished}
 use Rattle.lxr_run_replay.proofs.GateLemmas.{AreLetPass}
 use Rattle.lxr_run_replay.proofs.PickLemmas.{draws_left}
-use Rattle.lxr_run_replay.proofs.ReplayLemmas.{IsUnderWay}
+use Rattle.lxr_run_replay.proofs.RecordLemmas.{IsRecording}
 use Rattle.lxr_run_replay.proofs.replaying.draw_steps.Given as goal
 
 abbrev pub invariant-loop-numbers : goal.invariant-loop-numbers
 invariant-loop-numbers g l = record {
-  under_way : IsUnderWay l.tracing l.fn.x (core_of l.fn.words l.fn.actors) l.x (core_of l.words l.actors);
+  recording : IsRecording l.tracing l.fn.x (core_of l.fn.words l.fn.actors) l.fn.calls l.x (core_of l.words l.actors) l.calls;
   numbers : l.numbers ≡ unfinished l.tracing l.actors;
   mutators : l.mutators ≡ length (mutators_in l.actors);
   let_pass : AreLetPass (g.G.Gate.passed l.gate) (mutators_in l.fn.actors) (mutators_in l.actors);

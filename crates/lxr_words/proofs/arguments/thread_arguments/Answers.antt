@@ -1,4 +1,4 @@
--- Each argument that is added is one rule more of the command, so the seven make the table of the commands that run threads.
+-- Each argument that is added is one rule more of the command, so the eight make the table of the commands that run threads.
 use Rattle.std.proofs.Common.{ap₂, ◌∙◌}
 use Rattle.std.proofs.lemmas.Result.{IfOk-weaker}
 use Rattle.clap.specs.Simple.{with_rule}
@@ -13,4 +13,5 @@ returns c =
     let five = c.in_ok-arg-4.ensures.shape c.argument-4.ensures.local ∙ ap₂ with_rule four c.argument-4.ensures.rule in
     let six = c.in_ok-arg-5.ensures.shape c.argument-5.ensures.local ∙ ap₂ with_rule five c.argument-5.ensures.rule in
     let seven = c.in_ok-arg-6.ensures.shape c.argument-6.ensures.local ∙ ap₂ with_rule six c.argument-6.ensures.rule in
-    IfOk-weaker c.arg-7.result _ _ (λ r h. h.shape c.argument-7.ensures.local ∙ ap₂ with_rule seven c.argument-7.ensures.rule) c.arg-7.ensures
+    let eight = c.in_ok-arg-7.ensures.shape c.argument-7.ensures.local ∙ ap₂ with_rule seven c.argument-7.ensures.rule in
+    IfOk-weaker c.arg-8.result _ _ (λ r h. h.shape c.flag.ensures.local ∙ ap₂ with_rule eight c.flag.ensures.rule) c.arg-8.ensures

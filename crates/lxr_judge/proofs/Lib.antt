@@ -1,0 +1,9 @@
+pub mod GoodLemmas
+pub mod WholeLemmas
+pub mod OneLemmas
+pub mod GroupLemmas
+pub mod AheadLemmas
+pub mod ProgressLemmas
+pub mod RoomLemmas
+pub mod JudgingLemmas
+pub mod TryLemmas

@@ -1,0 +1,27 @@
+-- Laws of verdicts, each the contract of a function with an empty body.
+use Rattle.std.specs.Prelude.{◌≡◌, List, length}
+use Rattle.lxr_graph.specs.History.{Item}
+use Rattle.lxr_case.specs.declared.Case.{Case}
+use Rattle.lxr_case.specs.declared.Terms as given
+use Rattle.lxr_model.specs.Legal.{IsLegal}
+use Rattle.lxr_model.specs.Belongs.{EndsWithPause, Belongs}
+use Rattle.lxr_judge.specs.declared.verdict.Verdict.{Verdict}
+use Rattle.lxr_judge.specs.Evidence.{Evidence}
+use Rattle.lxr_judge.specs.Taking.{TakesAll, IsHistoryOf}
+use Rattle.lxr_judge.specs.Passing.{AllPass}
+use Rattle.lxr_judge.specs.Verdicts.{IsVerdict}
+
+-- a case has one verdict
+abbrev pub VerdictsAreOne : Type 0
+VerdictsAreOne = (case : Case) (terms : given.Terms) (v w : Verdict) → IsVerdict case terms v → IsVerdict case terms w → v ≡ w
+
+-- the items of a history that is legal and belongs pass, one after the other
+abbrev pub GoodItemsPass : Type 0
+GoodItemsPass =
+    (e : Evidence) (h : List Item) → IsHistoryOf e h → IsLegal e.terms h → Belongs e.terms e.script h → AllPass e h
+
+-- where all items of a case pass and nothing is left over, and the last is the first pause behind all ends, its history is legal and belongs
+abbrev pub PassingIsGood : Type 0
+PassingIsGood =
+    (e : Evidence) (h : List Item) → AllPass e h → length h ≡ length e.order → TakesAll e h → EndsWithPause e.terms h
+    → IsHistoryOf e h × IsLegal e.terms h × Belongs e.terms e.script h

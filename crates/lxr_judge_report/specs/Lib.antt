@@ -1,0 +1,4 @@
+pub mod LastPauses
+pub mod Fields
+pub mod Positions
+pub mod Stages

@@ -1,0 +1,5 @@
+mod ByNameLemmas
+mod NameSetLemmas
+mod LeadingLemmas
+mod TallyLemmas
+mod DyingLemmas

@@ -1,0 +1,4 @@
+pub mod ByName
+pub mod NameSets
+pub mod Leading
+pub mod Dying

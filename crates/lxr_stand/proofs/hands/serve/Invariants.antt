@@ -1,0 +1,11 @@
+use Rattle.std.proofs.Common.{◌-◌}
+use Rattle.crossbeam_channel.specs.Claims.{view}
+use Rattle.lxr_stand.specs.Relaying.{most_taken}
+use Rattle.lxr_stand.specs.Working.{IsHand}
+use Rattle.lxr_stand.proofs.hands.serve.Given as goal
+
+abbrev pub invariant-loop-baton : goal.invariant-loop-baton
+invariant-loop-baton g l = IsHand g.L.Channel.made g.L.Channel.values (g.L.Channel.seats l.line) l.hand
+
+abbrev pub decreases-loop-baton : goal.decreases-loop-baton
+decreases-loop-baton g l = most_taken g.L.Channel.left g.L.Channel.values - (view l.hand.pass).taken
