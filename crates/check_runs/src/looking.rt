@@ -15,33 +15,42 @@ fn nanos_since<R: Clock>(clock: &R, start: Instant) -> u64 {
     }
 }
 
-/// Notes when it is first passed, and counts how often, unless it is only to time. It holds thread 1 until another thread has passed, for at
-/// most so many turns, and then notes that it gave up and holds nobody any more.
+/// Whom thread 1 meets: for at most so many turns it is held until the thread of another number has come, and so is that one until thread 1 has,
+/// where both are.
+#[derive(Clone, Copy)]
+pub struct Meeting {
+    pub turns: u32,
+    pub other: u32,
+    pub both: bool,
+}
+
+/// Notes when it is first passed, and counts how often, unless it is only to time. It holds threads that are to meet, and where one of them has
+/// waited in vain it notes that it gave up and holds nobody any more.
 #[derive(Drop)]
 pub struct Meet<'a, R: Clock> {
     clock: &'a R,
     start: Instant,
     counts: bool,
-    turns: u32,
-    other: u32,
+    meeting: Meeting,
     first: AtomicU64,
     passes: AtomicU32,
-    second: AtomicU32,
+    one: AtomicU32,
+    other: AtomicU32,
     alone: AtomicU32,
 }
 
 impl<'a, R: Clock> Meet<'a, R> {
-    /// A gate that holds thread 1 for at most so many turns, until the thread of another number has passed.
-    pub fn new(clock: &'a R, start: Instant, counts: bool, turns: u32, other: u32) -> Meet<'a, R> {
+    /// A gate for a meeting.
+    pub fn new(clock: &'a R, start: Instant, counts: bool, meeting: Meeting) -> Meet<'a, R> {
         Meet {
             clock,
             start,
             counts,
-            turns,
-            other,
+            meeting,
             first: AtomicU64::new(0),
             passes: AtomicU32::new(0),
-            second: AtomicU32::new(0),
+            one: AtomicU32::new(0),
+            other: AtomicU32::new(0),
             alone: AtomicU32::new(0),
         }
     }
@@ -61,10 +70,13 @@ impl<'a, R: Clock> Meet<'a, R> {
         self.alone.load(Ordering::SeqCst) != 0
     }
 
-    /// Waits for the other thread.
-    fn hold(&self) {
-        for _ in 0..self.turns {
-            if self.second.load(Ordering::SeqCst) != 0 {
+    /// Waits for a thread to come, unless it gave up before.
+    fn hold_until(&self, come: &AtomicU32) {
+        if self.gave_up() {
+            return;
+        }
+        for _ in 0..self.meeting.turns {
+            if come.load(Ordering::SeqCst) != 0 {
                 return;
             }
             hint::spin_loop();
@@ -75,10 +87,14 @@ impl<'a, R: Clock> Meet<'a, R> {
     /// Counts a thread, and holds it where it is to be held.
     fn count(&self, thread: u8) {
         self.passes.fetch_add(1, Ordering::SeqCst);
-        if thread == 1 && !self.gave_up() {
-            self.hold();
-        } else if u32::from(thread) == self.other {
-            self.second.store(1, Ordering::SeqCst);
+        if thread == 1 {
+            self.one.store(1, Ordering::SeqCst);
+            self.hold_until(&self.other);
+        } else if u32::from(thread) == self.meeting.other {
+            self.other.store(1, Ordering::SeqCst);
+            if self.meeting.both {
+                self.hold_until(&self.one);
+            }
         }
     }
 }

@@ -8,6 +8,7 @@
 //! | `read=N`, `write=N`, `tell=N` | the call of this number of the input, the output or the errors fails |
 //! | `meet=N` | thread 1 is held for at most so many turns until thread 2 has come |
 //! | `with=N` | with `meet`: until the thread of this number has come, and not thread 2 |
+//! | `both` | with `meet`: that thread is held too, until thread 1 has come |
 //! | `sights=N` | a watch keeps the first so many spaces that it sees |
 //! | `heap` | the objects of the heap, the first entries of the remembered set and their number, and what the watch has kept, are told |
 //! | `at=N` | with `heap`: the word of this number of the space is told; it may stand several times |

@@ -1,6 +1,6 @@
 //! The run.
 use crate::asked::Asked;
-use crate::looking::{Looking, Meet};
+use crate::looking::{Looking, Meet, Meeting};
 use lxr_image::Space;
 use lxr_layout::Limits;
 use lxr_run::{Seen, lxr};
@@ -43,13 +43,12 @@ pub fn run<'a, R: Clock + Threads + Wait + Sync>(
     let mut input = Bytes::new(alloc, input, &[asked.number("read")])?;
     let mut output = Kept::new(alloc, &[asked.number("write")])?;
     let mut errors = Kept::new(alloc, &[asked.number("tell")])?;
-    let gate = Meet::new(
-        rt,
-        start,
-        asked.number("times") == 0,
-        asked.number("meet"),
-        asked.number("with").max(2),
-    );
+    let meeting = Meeting {
+        turns: asked.number("meet"),
+        other: asked.number("with").max(2),
+        both: asked.number("both") != 0,
+    };
+    let gate = Meet::new(rt, start, asked.number("times") == 0, meeting);
     let mut watch = Looking {
         clock: rt,
         start,
