@@ -69,9 +69,10 @@ uint32_t lxr_version(void);
 
 /*
  * Opens a heap of `blocks` blocks for objects and `body_blocks` blocks for bodies, 1 to 65,536 each, of 32 KB. All memory that the heap
- * will ever use is reserved here, and returned by lxr_close; no other call asks for memory. What is reserved for objects is written
- * here, and for a moment it is there twice; what is reserved for bodies is written as it is used.
- * Codes: LXR_IN_USE, LXR_SIZE, LXR_MEMORY. Cost: grows with `blocks`; some 40 microseconds for each.
+ * will ever use is reserved here, and returned by lxr_close; no other call asks for memory. What is reserved is written as it is used,
+ * 32 KB at a time, so a system that promises more than it has may find out later, and end the process then.
+ * Codes: LXR_IN_USE, LXR_SIZE, LXR_MEMORY. Cost: grows with both; a word and a byte are written for
+ * each of `blocks`, and a byte for each of `body_blocks`.
  */
 uint32_t lxr_open(lxr_heap *heap, uint32_t blocks, uint32_t body_blocks);
 

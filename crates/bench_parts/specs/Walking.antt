@@ -43,4 +43,5 @@ walking = record {
   left = λ w. steps_left w.phase;
   offered = λ w place. (w, false);
   spared = λ w. (w, None);
+  ordered = λ w o. (w, false);
 }

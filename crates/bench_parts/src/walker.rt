@@ -3,6 +3,7 @@ ghost use Rattle.std.specs.Prelude.{◌≡◌};
 ghost use Rattle.bench_parts.specs.Walking.{word_of};
 
 use lxr_actor::{Action, Actor, Kindred};
+use lxr_graph::Op;
 use lxr_layout::Place;
 
 /// The next step at a word.
@@ -112,5 +113,9 @@ impl Actor for Walker {
 
     fn surplus(&mut self) -> Option<Place> {
         None
+    }
+
+    fn order(&mut self, _op: Op) -> bool {
+        false
     }
 }

@@ -6,7 +6,7 @@ use mathlib.Core.List.{map-append}
 use Rattle.std.proofs.Math.Seq.{take-suc}
 use Rattle.lxr_actor.specs.declared.Action.{Action}
 use Rattle.lxr_actor.specs.declared.Event.{Event}
-use Rattle.lxr_actor.specs.declared.Event.TheVariants.{Step, Give, Out}
+use Rattle.lxr_actor.specs.declared.Event.TheVariants.{Step, Give, Out, Order}
 use Rattle.lxr_actor.specs.declared.Core.{Core}
 use Rattle.lxr_actor.specs.Machine.{Machine}
 use Rattle.lxr_actor.specs.Run.{core_of, acted, stepped, of_event, change, happened, event, run, one_if, times, FitsAt, AlwaysFits, ReplayFits}
@@ -63,6 +63,7 @@ module _ {A : Type 0} (m : Machine A) where
   change-length (Step number) words a = acted-length words a (m.action a)
   change-length (Give number place) words a = refl
   change-length (Out number) words a = refl
+  change-length (Order number op) words a = refl
 
   happened-lengths : (core : Core A) (e : Event) (o : Option A)
       → (length (happened m core e o).words ≡ length core.words) × (length (happened m core e o).actors ≡ length core.actors)

@@ -1,6 +1,7 @@
 -- What an actor means: a machine that acts on shared words, one atomic step at a time.
 use Rattle.std.specs.Prelude.{◌≡◌, ℕ, ◌<◌, List, length, Bool, Option, Some, if◌then◌else◌}
 use Rattle.lxr_layout.specs.declared.Place.{Place}
+use Rattle.lxr_graph.specs.declared.Op.{Op}
 use Rattle.lxr_actor.specs.declared.Action.{Action}
 
 -- What an actor does, one access to a word a step.
@@ -17,6 +18,8 @@ pub record Machine (A : Type 0) : Type 0 where
   pub offered : A → Place → A × Bool
   -- its state once it gave up a place, and the place, if it had one
   pub spared : A → A × Option Place
+  -- its state once it is ordered an operation, and whether it took the operation
+  pub ordered : A → Op → A × Bool
 
 module _ {A : Type 0} (m : Machine A) where
   -- a bound on the steps before it next rests

@@ -2,7 +2,7 @@
 use Rattle.std.specs.Prelude.{◌≡◌, ℕ, ◌+◌, ◌<◌, ◌==◌, List, [], ◌∷◌, length, map, take, Option, Some, None, Bool, true, false, slice_get, slice_index, slice_set}
 use Rattle.lxr_actor.specs.declared.Action.{Action}
 use Rattle.lxr_actor.specs.declared.Event.{Event}
-use Rattle.lxr_actor.specs.declared.Event.TheVariants.{Step, Give, Out}
+use Rattle.lxr_actor.specs.declared.Event.TheVariants.{Step, Give, Out, Order}
 use Rattle.lxr_actor.specs.declared.Core.{Core}
 use Rattle.lxr_actor.specs.Change.{changed}
 use Rattle.lxr_actor.specs.Machine.{Machine, Fits}
@@ -16,6 +16,7 @@ abbrev pub of_event : Event → ℕ
 of_event (Step number) = number
 of_event (Give number place) = number
 of_event (Out number) = number
+of_event (Order number op) = number
 
 module _ {A : Type 0} (m : Machine A) where
   -- the words and the actor after this action, which is done on its word, and the actor is told what the word was
@@ -32,6 +33,7 @@ module _ {A : Type 0} (m : Machine A) where
   change (Step number) words a = stepped words a
   change (Give number place) words a = (words, (m.offered a place).0)
   change (Out number) words a = (words, (m.spared a).0)
+  change (Order number op) words a = (words, (m.ordered a op).0)
 
   -- the core after an event of this actor; nothing changes where there is no such actor
   abbrev pub happened : Core A → Event → Option A → Core A

@@ -14,6 +14,7 @@ ghost use Rattle.lxr_actor.specs.Change.{changed};
 ghost use Rattle.lxr_actor.specs.Machine.{Machine, to_go, Fits};
 ghost use Rattle.lxr_actor.specs.Run.{core_of, stepped, run, ReplayFits};
 
+use lxr_graph::Op;
 use lxr_layout::Place;
 use lxr_tables::{PlainWords, Words};
 use std::collections::LinkedList;
@@ -121,15 +122,20 @@ pub trait Actor {
     /// Gives up one of the places that it was to work on, if it has one.
     fn surplus(&mut self) -> Option<Place>
         ensures { (self.new, result) ≡ machine.spared self.old };
+
+    /// Orders an operation, behind those that it has. Whether it was taken.
+    fn order(&mut self, op: Op) -> bool
+        ensures { (self.new, result) ≡ machine.ordered self.old op };
 }
 
-/// What can happen to the actor of a number: it does its next step, it is offered a place, or it gives one up.
-/// A schedule is a list of these. Only contracts speak of them.
+/// What can happen to the actor of a number: it does its next step, it is offered a place, it gives one up, or it is ordered an
+/// operation. A schedule is a list of these. Only contracts speak of them.
 #[derive(Clone, Copy, Debug, PartialEq, Eq)]
 pub enum Event {
     Step(usize),
     Give(usize, Place),
     Out(usize),
+    Order(usize, Op),
 }
 
 /// Shared words and the actors that act on them. Only contracts speak of it.

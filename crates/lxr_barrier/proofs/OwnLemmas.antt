@@ -13,7 +13,7 @@ use Rattle.lxr_base.specs.Roomy.{Roomy, pushed}
 use Rattle.lxr_actor.specs.declared.Action.{Action}
 use Rattle.lxr_actor.specs.declared.Core.{Core}
 use Rattle.lxr_actor.specs.declared.Event.{Event}
-use Rattle.lxr_actor.specs.declared.Event.TheVariants.{Step, Give, Out}
+use Rattle.lxr_actor.specs.declared.Event.TheVariants.{Step, Give, Out, Order}
 use Rattle.lxr_actor.specs.Run.{acted, stepped, of_event, change, happened, event, run}
 use Rattle.lxr_actor.proofs.Runs.{run-lengths, run-keeps, slice_get-set_same, slice_get-set_other}
 use Rattle.lxr_barrier.specs.declared.machines.LastStep.{LastStep}
@@ -76,6 +76,7 @@ change_keeps_log s t (Step n) words h = acted_keeps_log (next_action t.store)
     acted_keeps_log (Some act) = told s t.store.unlogged t.store.place t.store.index t.store.value t.store.last t.log t.store.phase (slice_index words act.word) h
 change_keeps_log s t (Give n p) words h = h
 change_keeps_log s t (Out n) words h = h
+change_keeps_log s t (Order n o) words h = h
 
 module _ (start : List Logging) where
   set_keeps_logs : (storers : List Logging) (n : ℕ) (x y : Logging) → slice_get storers n ≡ Some x → ((s : Logging) → KeepsOwnLog s x → KeepsOwnLog s y) → KeepOwnLogs start storers → KeepOwnLogs start (set storers n y)
@@ -144,6 +145,7 @@ change_past t (Step n) words past = acted_past (next_action t.store)
     acted_past (Some act) = past_after t.store t.log (slice_index words act.word) t.store.phase past
 change_past t (Give n p) words past = past
 change_past t (Out n) words past = past
+change_past t (Order n o) words past = past
 
 module _ (r : Regions) (start : List ℕ) where
   pub record LeavesIn (core : Core Logging) : Type 0 where
@@ -162,6 +164,7 @@ module _ (r : Regions) (start : List ℕ) where
       subst Leaves (sym is.bits) (step_leaves r words has s.store.place s.store.index s.store.value s.store.last s.log is.heap at lt s.store.phase) yet
   change_leaves words has s is (Give n p) at lt yet = (refl, refl)
   change_leaves words has s is (Out n) at lt yet = (refl, refl)
+  change_leaves words has s is (Order n o) at lt yet = (refl, refl)
 
   happened_leaves : (core : Core Logging) (e : Event) (o : Option Logging) → slice_get core.actors (of_event e) ≡ o → HasBits r (happened storer_machine core e o).words → LeavesIn core → LeavesIn (happened storer_machine core e o)
   happened_leaves core e None at has h = h

@@ -17,7 +17,7 @@ use Rattle.lxr_layout.specs.declared.runs.LogEntry.{LogEntry}
 use Rattle.lxr_base.specs.Roomy.{Roomy, pushed}
 use Rattle.lxr_actor.specs.declared.Core.{Core}
 use Rattle.lxr_actor.specs.declared.Event.{Event}
-use Rattle.lxr_actor.specs.declared.Event.TheVariants.{Step, Give, Out}
+use Rattle.lxr_actor.specs.declared.Event.TheVariants.{Step, Give, Out, Order}
 use Rattle.lxr_actor.specs.Change.{changed}
 use Rattle.lxr_actor.specs.Run.{stepped, of_event, change, happened, event, run}
 use Rattle.lxr_actor.proofs.Runs.{run-lengths, run-keeps}
@@ -144,6 +144,7 @@ module _ (r : Regions) (opening : List ℕ) where
       (step_keeps r opening core.words h.has (map store_view core.actors) n s (all_at (λ x. IsStoreIn r x.store) core.actors n s at h.stores) view h.kept)
   change_keeps core (Give n p) s at h = subst (λ actors. UnloggedBitsAndLogs r opening core.words (map store_view actors)) (sym (set_itself core.actors n s at)) h.kept
   change_keeps core (Out n) s at h = subst (λ actors. UnloggedBitsAndLogs r opening core.words (map store_view actors)) (sym (set_itself core.actors n s at)) h.kept
+  change_keeps core (Order n o) s at h = subst (λ actors. UnloggedBitsAndLogs r opening core.words (map store_view actors)) (sym (set_itself core.actors n s at)) h.kept
 
   happened_keeps : (core : Core Logging) (e : Event) (o : Option Logging) → slice_get core.actors (of_event e) ≡ o → HasBits r (happened storer_machine core e o).words
       → HoldsIn r opening core → HoldsIn r opening (happened storer_machine core e o)

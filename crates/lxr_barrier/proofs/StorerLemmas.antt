@@ -9,7 +9,7 @@ use Rattle.lxr_actor.specs.declared.Action.{Action}
 use Rattle.lxr_actor.specs.declared.Kindred.TheVariants.{Load, And}
 use Rattle.lxr_actor.specs.declared.Core.{Core}
 use Rattle.lxr_actor.specs.declared.Event.{Event}
-use Rattle.lxr_actor.specs.declared.Event.TheVariants.{Step, Give, Out}
+use Rattle.lxr_actor.specs.declared.Event.TheVariants.{Step, Give, Out, Order}
 use Rattle.lxr_actor.specs.Change.{changed}
 use Rattle.lxr_actor.specs.Run.{acted, of_event, change, happened, event, FitsAt, AlwaysFits}
 use Rattle.lxr_actor.proofs.Runs.{run-lengths, always-fits}
@@ -40,6 +40,7 @@ pub change_same : (e : Event) (words : List ℕ) (s : Logging) → IsSameStore s
 change_same (Step n) words s = acted_same words s (next_action s.store)
 change_same (Give n p) words s = record { bits = refl; target = refl }
 change_same (Out n) words s = record { bits = refl; target = refl }
+change_same (Order n o) words s = record { bits = refl; target = refl }
 
 -- the words of a storer exist
 abbrev pub HasWords : List ℕ → Logging → Type 0

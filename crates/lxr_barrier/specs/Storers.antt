@@ -49,4 +49,5 @@ storer_machine = record {
   left = λ s. steps_left s.store.phase;
   offered = λ s place. (s, false);
   spared = λ s. (s, None);
+  ordered = λ s o. (s, false);
 }

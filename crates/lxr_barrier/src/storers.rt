@@ -10,6 +10,7 @@ ghost use Rattle.lxr_barrier.specs.Unlogged.{AreStorersIn, ChangesOnlyBehindBarr
 use crate::logs::Log;
 use crate::machines::StoreMachine;
 use lxr_actor::{Action, Actor, replay};
+use lxr_graph::Op;
 use lxr_layout::Place;
 use lxr_tables::PlainWords;
 use std::marker::Model;
@@ -74,6 +75,10 @@ impl Actor for Storer {
 
     fn surplus(&mut self) -> Option<Place> {
         None
+    }
+
+    fn order(&mut self, _op: Op) -> bool {
+        false
     }
 }
 

@@ -1,11 +1,11 @@
--- From actors at rest in an epoch to the epoch's safepoint before a pause; where all are through, that pause has a cause.
-use Rattle.std.proofs.Common.{◌≡◌, ℕ, ◌+◌, ◌*◌, ◌≤◌, refl, sym, ap, subst, ◌∙◌, inl, inr, arith, false, true, List, [], ◌∷◌, length, map, take}
+-- From actors at rest in an epoch to the epoch's safepoint before a pause; where that pause is wanted, it has a cause.
+use Rattle.std.proofs.Common.{◌≡◌, ◌≢◌, ℕ, zero, suc, ◌+◌, ◌*◌, ◌≤◌, refl, sym, ap, subst, ◌∙◌, inl, inr, ◌⊎◌, arith, false, true, List, [], ◌∷◌, length, map, take}
 use Rattle.std.specs.Prelude.{Option, Some, None, ◌||◌, slice_get}
 use Rattle.std.specs.List.{list_any}
 use Rattle.std.proofs.lemmas.List.{length-map}
 use Rattle.std.proofs.lemmas.List.Folds.{flat_map-map}
 use Rattle.std.proofs.lemmas.Option.{slice_get_within}
-use Rattle.lxr_layout.specs.declared.TheConstants.{REMEMBERED_CURSOR}
+use Rattle.lxr_layout.specs.declared.TheConstants.{PAUSE_WORD, REMEMBERED_CURSOR}
 use Rattle.lxr_layout.specs.declared.limits.Limits.{Limits}
 use Rattle.lxr_layout.specs.declared.runs.LogEntry.{LogEntry}
 use Rattle.lxr_layout.specs.declared.Place.{Place}
@@ -43,15 +43,15 @@ use Rattle.lxr_core_invariant.specs.ThreadStates as why
 use Rattle.lxr_core_invariant.specs.EpochStates.{Beginning, EpochState, limits_of}
 use Rattle.lxr_core_invariant.specs.Called.{IsWithinTurn, HasReason}
 use Rattle.lxr_core_invariant.specs.Logged.{logs_of}
-use Rattle.lxr_core_invariant.specs.Epoch.{AreResting as StatesRest, AreThrough, DecrementersRest, IsEpoch, IsResting, TracersRest}
+use Rattle.lxr_core_invariant.specs.Epoch.{AreResting as StatesRest, DecrementersRest, IsEpoch, IsResting, TracersRest}
 use Rattle.lxr_core_invariant.specs.Laws.{AllRest}
-use Rattle.lxr_core_invariant.specs.Through.{IsAsHistory}
+use Rattle.lxr_core_invariant.specs.Through.{IsAsHistory, IsPauseWanted as StateWantsPause}
 use Rattle.lxr_core_inv_counts.proofs.KeepingLemmas.{closing_counts}
 use Rattle.lxr_core_inv_inside.proofs.KeepingLemmas.{closing_inside}
 use Rattle.lxr_core_inv_remembered.proofs.SafepointLemmas.{closing_remembered}
 use Rattle.lxr_core_inv_snapshot.proofs.SafepointLemmas.{closing_cover}
 use Rattle.lxr_core_inv_history.proofs.EndLemmas.{ends_are_counted}
-use Rattle.lxr_core_inv_history.proofs.ThroughLemmas.{rest_is_history, through_has_cause}
+use Rattle.lxr_core_inv_history.proofs.ThroughLemmas.{rest_is_history, wanted_has_cause}
 use Rattle.lxr_core_inv_memory.proofs.ClosingLemmas.{all_blocks_are_taken}
 use Rattle.lxr_core_inv_logs.proofs.ClosingLemmas.{closing_logs}
 use Rattle.lxr_core_close.specs.HandingOut.{AreHandedOut, DrawnIsOut, IsDrawnLine, MayHandOut, drawn_blocks, drawn_runs}
@@ -70,11 +70,13 @@ use Rattle.lxr_core.specs.Actors.{AreInOrder, decrementers_in, mutators_in, scri
 use Rattle.lxr_core.specs.Executions.{IsExecution, Execution, epoch_state_of}
 use Rattle.lxr_core.specs.Resting.{ActorsRestAfter, HelperRests, RestAfter, RestsAfter, TracerRests}
 use Rattle.lxr_core.specs.Collecting.{HaveGiven, MayAllGive, actor_given_up, all_entries, all_registers, given_up, holding, loads_of, news_of, stores_of, tally_with}
-use Rattle.lxr_core.specs.Closing.{AreFinished, AreResting, Closes, HasProgress, MayClose}
+use Rattle.lxr_core.specs.Closing.{AreFinished, AreResting, Closes, HasProgress, IsPauseExplained, IsPauseWanted, MayClose}
+use Rattle.lxr_core.specs.Ordering.{AreFull, ordered_in, orders_of}
 use Rattle.lxr_core.proofs.CollectedLemmas.{collected_is_told}
 use Rattle.lxr_core.proofs.CollectingLemmas.{all_given}
 use Rattle.lxr_core.proofs.MappedLemmas.{first_item, mapped, mapped_from, same_by_index}
 use Rattle.lxr_core.proofs.OpenedLemmas.{waits_for_new}
+use Rattle.lxr_core.proofs.ScriptLemmas.{full_as, one_script}
 use Rattle.lxr_core.proofs.OrderLemmas.{SameKind, alike_order, helper_from, mutator_from, tracer_from, two_helpers, two_mutators, two_tracers}
 
 -- ---- what is known where an epoch may be closed
@@ -170,12 +172,6 @@ all_actors_rest b s space actors is = record { mutators = states_rest b s space 
 stage_end : (m : Mutating) → m.phase ≡ phase.Finished → (thread_state_of m).stage ≡ Through (reason_by m.end)
 stage_end m finished = ap (stage_in m) finished
 
--- where all mutators are, all are through
-all_through : (b : Beginning) (s : EpochState) (space : Space) (actors : List AnyActor) → IsEnd b s space actors → AreFinished (mutators_in actors) → AreThrough s
-all_through b s space actors is finished i v shown =
-    let (m, there, same) = shown_of b s space actors i v is shown in
-    (reason_by m.end, ap (λ (w : ThreadState). w.stage) same ∙ stage_end m (finished i m there))
-
 -- why it is through is so
 reason_so : (b : Beginning) (s : EpochState) (space : Space) (actors : List AnyActor) (i : ℕ) (m : Mutating) → IsEnd b s space actors → slice_get (mutators_in actors) i ≡ Some m → m.phase ≡ phase.Finished
     → HasReason s (thread_state_of m) (reason_by m.end)
@@ -255,7 +251,7 @@ may_hand_out b s space now actors is has = drawn_may_be_handed_out b s now is.ep
 -- ---- the actors
 
 -- all actors have given up what they had
-all_gave : (start : Space) (before : List AnyActor) (now : Space) (after : List AnyActor) → HaveGiven start before now after (length before) → after ≡ map actor_given_up before
+pub all_gave : (start : Space) (before : List AnyActor) (now : Space) (after : List AnyActor) → HaveGiven start before now after (length before) → after ≡ map actor_given_up before
 all_gave start before now after is = same_by_index after (map actor_given_up before) (is.as_many ∙ sym (length-map before actor_given_up)) (λ i x e.
     let (a, there, same) = mapped_from actor_given_up before i x e in
     is.given i a there (slice_get_within before i a there) ∙ ap Some (sym same))
@@ -292,9 +288,9 @@ given_order actors order = alike_order actors (map actor_given_up actors) (recor
     of_kind (any.Tracer d) = two_tracers d d
 
 -- their operations and what those did are what they were
-same_script : (ms : List Mutating) → script_of (map given_up ms) ≡ script_of ms
-same_script [] = refl
-same_script (m ∷ ms) = ap (λ z. m.operations ∷ z) (same_script ms)
+same_orders : (ms : List Mutating) → orders_of (map given_up ms) ≡ orders_of ms
+same_orders [] = refl
+same_orders (m ∷ ms) = ap (λ z. ordered_in m ∷ z) (same_orders ms)
 
 shown_script : (ms : List Mutating) → script_of ms ≡ script_in (map thread_state_of ms)
 shown_script [] = refl
@@ -417,11 +413,17 @@ all_rest b s space actors is = record {
   };
 }
 
--- the operations are those that they were
-pub given_script : (actors : List AnyActor) → script_of (mutators_in (map actor_given_up actors)) ≡ script_of (mutators_in actors)
-given_script actors = ap script_of (given_mutators actors) ∙ same_script (mutators_in actors)
+-- the operations are those that they were, and where there was no room for others, there is none
+given_orders : (actors : List AnyActor) → orders_of (mutators_in (map actor_given_up actors)) ≡ orders_of (mutators_in actors)
+given_orders actors = ap orders_of (given_mutators actors) ∙ same_orders (mutators_in actors)
 
--- ---- progress
+pub given_script : (actors : List AnyActor) → script_of (mutators_in (map actor_given_up actors)) ≡ script_of (mutators_in actors)
+given_script actors = one_script (mutators_in (map actor_given_up actors)) (mutators_in actors) (given_orders actors)
+
+pub given_full : (actors : List AnyActor) → AreFull (mutators_in actors) → AreFull (mutators_in (map actor_given_up actors))
+given_full actors = full_as (mutators_in (map actor_given_up actors)) (mutators_in actors) (given_orders actors)
+
+-- ---- what a pause is wanted for
 
 -- who is through for want of lines waits; who has ended has
 no_run : (e : Option MutEnd) → reason_by e ≡ why.NoRun → e ≡ Some ends.NoRun
@@ -453,33 +455,80 @@ some_turns b s space actors is =
     let same = (is.epoch.called.each 0 (thread_state_of m) (shown_end b s space actors 0 m is there)).every in
     omega (arith, turns, same)
 
--- its stage tells why it is through
-reason_told : (m : Mutating) (v : ThreadState) (reason : Reason) → m.phase ≡ phase.Finished → v ≡ thread_state_of m → v.stage ≡ Through reason → reason_by m.end ≡ reason
-reason_told m v reason finished same stage =
-    let e : Through (reason_by m.end) ≡ Through reason = sym (stage_end m finished) ∙ ap (λ (w : ThreadState). w.stage) (sym same) ∙ stage in
-    cc
+-- one thing holds, or each item has another
+all_or_one : {X : Type 0} (P : Type 0) (Q : X → Type 0) (xs : List X) → ((i : ℕ) (x : X) → slice_get xs i ≡ Some x → P ⊎ Q x) → P ⊎ ((i : ℕ) (x : X) → slice_get xs i ≡ Some x → Q x)
+all_or_one P Q [] each = inr (λ i x e. absurd (cc))
+all_or_one P Q (y ∷ xs) each = elim (each 0 y refl) [
+  | inl p ↦ inl p
+  | inr q ↦ elim (all_or_one P Q xs (λ i x e. each (suc i) x e)) [ inl p ↦ inl p | inr all ↦ inr (each_more Q y xs q all) ]
+]
+  where
+    each_more : {X : Type 0} (Q : X → Type 0) (y : X) (xs : List X) → Q y → ((i : ℕ) (x : X) → slice_get xs i ≡ Some x → Q x) → (i : ℕ) (x : X) → slice_get (y ∷ xs) i ≡ Some x → Q x
+    each_more Q y xs q all zero x e = subst Q (let k : y ≡ x = cc in k) q
+    each_more Q y xs q all (suc i) x e = all i x e
+
+-- its last unit ended with its end, or not
+ended_or_not : (e : Option MutEnd) → (e ≡ Some ends.Ended) ⊎ (e ≢ Some ends.Ended)
+ended_or_not (Some ends.Ended) = inl refl
+ended_or_not (Some ends.NoRun) = inr (λ e. cc)
+ended_or_not (Some ends.LogFull) = inr (λ e. cc)
+ended_or_not (Some ends.Asked) = inr (λ e. cc)
+ended_or_not (Some ends.Turns) = inr (λ e. cc)
+ended_or_not (Some (ends.OpDone r)) = inr (λ e. cc)
+ended_or_not None = inr (λ e. cc)
+
+-- where all mutators are through, a pause is wanted
+finished_want : (space : Space) (mutators : List Mutating) → AreFinished mutators → IsPauseWanted space mutators
+finished_want space mutators finished = inr (all_or_one _ IsThrough mutators (λ i m there. elim (ended_or_not m.end) [
+  | inl ended ↦ inr (finished i m there, ended)
+  | inr unended ↦ inl (i, m, there, (finished i m there, unended))
+]))
+
+-- what is wanted of the space and the mutators is wanted of the epoch state
+state_wants : (b : Beginning) (s : EpochState) (space : Space) (actors : List AnyActor) → IsEnd b s space actors → IsPauseWanted space (mutators_in actors) → StateWantsPause s
+state_wants b s space actors is (inl set) = inl (ap (λ (t : Tables). t.cursors PAUSE_WORD) (sym is.tables) ∙ set)
+state_wants b s space actors is (inr (inl (i, m, there, short))) = inr (inl (i, thread_state_of m, shown_end b s space actors i m is there, (reason_by m.end, stage_end m short.0, λ e. short.1 (has_ended m.end e))))
+state_wants b s space actors is (inr (inr through)) = inr (inr (λ i v shown.
+    let (m, there, same) = shown_of b s space actors i v is shown in
+    let (finished, ended) = through i m there in
+    ap (λ (w : ThreadState). w.stage) same ∙ stage_end m finished ∙ ap (λ e. Through (reason_by e)) ended))
+
+-- a stage of rest tells whether a mutator is through, and why
+through_told : (m : Mutating) (p : MutatorPhase) (reason : Reason) → rests_in p ≡ true → stage_in m p ≡ Through reason → (p ≡ phase.Finished) × (reason_by m.end ≡ reason)
+through_told m phase.Ready reason rests stage = absurd (cc)
+through_told m phase.Finished reason rests stage = (refl, (let e : Through (reason_by m.end) ≡ Through reason = stage in cc))
+through_told m p reason rests stage = absurd (cc)
 
 -- the epoch has done something
-has_progress : (b : Beginning) (execution : Execution) (cleared : List Field) (space : Space) (actors : List AnyActor) → IsEnd b (epoch_state_of b execution cleared) space actors → AreFinished (mutators_in actors)
+has_progress : (b : Beginning) (execution : Execution) (cleared : List Field) (space : Space) (actors : List AnyActor) → IsEnd b (epoch_state_of b execution cleared) space actors → IsPauseWanted space (mutators_in actors)
     → ((t : ℕ) → has_asked t b.history ≡ false) → HasProgress b execution (map given_up (mutators_in actors))
-has_progress b execution cleared space actors is finished unasked =
+has_progress b execution cleared space actors is wanted unasked =
     let s : EpochState = epoch_state_of b execution cleared in
-    elim (epoch_has_progress b s is.epoch (all_through b s space actors is finished) (closing_logs b s is.epoch (states_rest b s space actors is)) unasked (some_turns b s space actors is)) [
+    elim (epoch_has_progress b s is.epoch (state_wants b s space actors is wanted) (closing_logs b s is.epoch (states_rest b s space actors is)) unasked (some_turns b s space actors is)) [
       | inl longer ↦ inl longer
       | inr (inl lacks) ↦
-          let m = shown_of b s space actors lacks.number lacks.thread_state is lacks.shows in
-          inr (inl (
-            lacks.number,
-            given_up m.0,
-            mapped given_up (mutators_in actors) lacks.number m.0 m.1,
-            (no_run m.0.end (reason_told m.0 lacks.thread_state why.NoRun (finished lacks.number m.0 m.1) m.2 lacks.stage), mutator_rests b s space actors lacks.number m.0 is m.1),
-          ))
+          let (m, there, same) = shown_of b s space actors lacks.number lacks.thread_state is lacks.shows in
+          let rests = mutator_rests b s space actors lacks.number m is there in
+          let told = through_told m m.phase why.NoRun rests (ap (λ (w : ThreadState). w.stage) (sym same) ∙ lacks.stage) in
+          inr (inl (lacks.number, given_up m, mapped given_up (mutators_in actors) lacks.number m there, (no_run m.end told.1, rests)))
       | inr (inr ended) ↦ inr (inr (λ i x e.
-          let m = mapped_from given_up (mutators_in actors) i x e in
-          let stage = ended i (thread_state_of m.0) (shown_end b s space actors i m.0 is m.1) in
-          let end = has_ended m.0.end (reason_told m.0 (thread_state_of m.0) why.Ended (finished i m.0 m.1) refl stage) in
-          subst IsThrough (sym m.2) (finished i m.0 m.1, end)))
+          let (m, there, same) = mapped_from given_up (mutators_in actors) i x e in
+          let stage = ended i (thread_state_of m) (shown_end b s space actors i m is there) in
+          let told = through_told m m.phase why.Ended (mutator_rests b s space actors i m is there) stage in
+          subst IsThrough (sym same) (told.0, has_ended m.end told.1)))
     ]
+
+-- a pause that is wanted is due
+pub pause_due : (b : Beginning) (execution : Execution) (cleared : List Field) (space : Space) (actors : List AnyActor) → IsEnd b (epoch_state_of b execution cleared) space actors → IsPauseWanted space (mutators_in actors)
+    → IsPauseExplained b execution (map actor_given_up actors)
+pause_due b execution cleared space actors is wanted =
+    let s : EpochState = epoch_state_of b execution cleared in
+    let rest = states_rest b s space actors is in
+    record {
+      cause = λ listed terms are legal. subst (λ z. HasCause terms z s.history) (ap script_in is.thread_states ∙ sym (given_script actors ∙ shown_script (mutators_in actors)))
+          (cause_follows wanted_has_cause ends_are_counted all_blocks_are_taken b s terms is.epoch listed rest (state_wants b s space actors is wanted) (closing_logs b s is.epoch rest) are legal);
+      progress = λ unasked. subst (HasProgress b execution) (sym (given_mutators actors)) (has_progress b execution cleared space actors is wanted unasked);
+    }
 
 -- what waits is a `new`
 news_wait : (b : Beginning) (s : EpochState) (space : Space) (actors : List AnyActor) → IsEnd b s space actors → (i : ℕ) (m : Mutating) → slice_get (map given_up (mutators_in actors)) i ≡ Some m → IsWaiting m → IsNew m
@@ -530,6 +579,7 @@ closes b execution space now after before given may gave out =
     let closed = closing_reaches_safepoint b s now after is.epoch logs counts trace (is_collected b s space now before is has) out in
     let held : execution.core.actors ≡ before = ap (λ (c : Core AnyActor). c.actors) may.core in
     let gives = given_mutators before in
+    let due : AreFinished (mutators_in before) → IsPauseExplained b execution (map actor_given_up before) = λ finished. pause_due b execution cleared space before is (finished_want space (mutators_in before) finished) in
     subst (Closes b execution space after) (sym (all_gave space before now given gave)) (record {
       safepoint = closed.safepoint;
       hands_out = subst (λ t. AreHandedOut (IsDrawnLine (tables_of b.space) b.space.limits.blocks (drawn_runs t) (drawn_blocks t)) t (tables_of after)) (ap tables_of has) out.hands;
@@ -539,9 +589,8 @@ closes b execution space now after before given may gave out =
       gave = ap (map actor_given_up) (sym held);
       actors_rest = all_rest b s space before is;
       news = subst (λ ms. (i : ℕ) (m : Mutating) → slice_get ms i ≡ Some m → IsWaiting m → IsNew m) (sym gives) (news_wait b s space before is);
-      cause = λ finished whole terms are legal. subst (λ z. HasCause terms z s.history) (ap script_in is.thread_states ∙ sym (given_script before ∙ shown_script (mutators_in before)))
-          (cause_follows through_has_cause ends_are_counted all_blocks_are_taken b s terms is.epoch whole (all_through b s space before is (subst (λ z. AreFinished (mutators_in z)) held finished)) logs are legal);
-      progress = λ finished unasked. subst (HasProgress b execution) (sym gives) (has_progress b execution cleared space before is (subst (λ z. AreFinished (mutators_in z)) held finished) unasked);
+      cause = λ finished. (due (subst (λ z. AreFinished (mutators_in z)) held finished)).cause;
+      progress = λ finished. (due (subst (λ z. AreFinished (mutators_in z)) held finished)).progress;
       collects = λ none. collects b s space before is none ∙ ap (list_any has_collected) (sym gives);
       states = closed.states;
       remembered = none_remembered b s now after is.epoch (ap tables_of has ∙ is.tables) out;

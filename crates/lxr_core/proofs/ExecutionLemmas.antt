@@ -5,13 +5,14 @@ use Rattle.std.specs.Prelude.{Option, Some, None, IsSome, map, slice_get, slice_
 use Rattle.std.proofs.lemmas.List.{map-set}
 use Rattle.lxr_layout.specs.declared.Name.{Name}
 use Rattle.lxr_layout.specs.declared.Place.{Place}
+use Rattle.lxr_graph.specs.declared.Op.{Op}
 use Rattle.lxr_graph.specs.History.{Item}
 use Rattle.lxr_image.specs.Tables.{Tables, tables_in}
 use Rattle.lxr_model.specs.Moments.{Field}
 use Rattle.lxr_actor.specs.declared.Action.{Action}
 use Rattle.lxr_actor.specs.declared.Core.{Core}
 use Rattle.lxr_actor.specs.declared.Event.{Event}
-use Rattle.lxr_actor.specs.declared.Event.TheVariants.{Step, Give, Out}
+use Rattle.lxr_actor.specs.declared.Event.TheVariants.{Step, Give, Out, Order}
 use Rattle.lxr_actor.specs.Machine.{Fits}
 use Rattle.lxr_actor.specs.Run.{AlwaysFits, FitsAt, core_of, happened, run, stepped}
 use Rattle.lxr_mutator.specs.declared.phases.MutatorPhase.{MutatorPhase}
@@ -47,6 +48,7 @@ use Rattle.lxr_core.specs.declared.actors.AnyActor.{AnyActor}
 use Rattle.lxr_core.specs.declared.actors.AnyActor.TheVariants as any
 use Rattle.lxr_core.specs.Actors.{any_machine, decrementers_in, mutators_in, tracers_in}
 use Rattle.lxr_core.specs.Executions.{HoldsExecution, IsExecution, EpochInvariantHolds, Execution, epoch_state_of, tell, tell_all}
+use Rattle.lxr_core.proofs.OrderedLemmas.{OrdersStep, order_step}
 use Rattle.lxr_core.proofs.KeptLemmas.{decrementers_keep_epoch, epoch_is_kept, tracers_keep_epoch}
 use Rattle.lxr_core.proofs.MappedLemmas.{each_set, mapped, set_itself}
 use Rattle.lxr_core.proofs.OrderLemmas.{IsHelperAt, IsTracerAt, helper_at, helpers_beside, helpers_stay, mutator_at, mutators_before, mutators_put, mutators_stay, put_order, tracer_at, tracers_beside, tracers_stay, two_helpers, two_mutators, two_tracers}
@@ -391,11 +393,52 @@ module _ (b : Beginning) where
       let stay = (tracer_hints_stay (limits_of b) d (holds.1.tracers at.number d at.stands)).spared in
       (tracer_hint_kept b execution n d (tracer_machine.spared d).0 holds e stay.0 stay.1, λ c. omega arith)
 
+  -- an operation that a mutator takes
+  taken_kept : (execution : Execution) (cleared : List Field) (n : ℕ) (m m' : Mutating) → IsExecution b execution cleared → slice_get execution.core.actors n ≡ Some (any.Mutator m)
+      → OrdersStep b (epoch_state_of b execution cleared) n m' → HoldsExecution b (record execution { core = core_of execution.core.words (slice_set execution.core.actors n (any.Mutator m')) })
+  taken_kept execution cleared n m m' is there by =
+      let s : EpochState = epoch_state_of b execution cleared in
+      let actors : List AnyActor = execution.core.actors in
+      let put = mutators_put actors n m m' is.order there in
+      let stay = helpers_stay actors n m m' there in
+      let beside = tracers_stay actors n m m' there in
+      let thread_states = sym (map-set thread_state_of (mutators_in actors) n m') ∙ ap (map thread_state_of) (sym put) in
+      let same = epoch_state_same (record s { thread_states = slice_set s.thread_states n (thread_state_of m') }) s.tables (map thread_state_of (mutators_in (slice_set actors n (any.Mutator m'))))
+      (map decrementing_of (decrementers_in (slice_set actors n (any.Mutator m')))) (map tracing_of (tracers_in (slice_set actors n (any.Mutator m'))))
+      s.history s.at refl thread_states (ap (map decrementing_of) (sym stay)) (ap (map tracing_of) (sym beside)) refl refl in (
+        cleared,
+        record {
+          epoch = subst (IsEpoch b) same by.epoch;
+          size = is.size;
+          order = put_order actors n (any.Mutator m) (any.Mutator m') there (two_mutators m m') is.order;
+          mutators = subst (λ ms. (i : ℕ) (x : Mutating) → slice_get ms i ≡ Some x → IsMutatorOf (limits_of b) x) (sym put) (each_set (IsMutatorOf (limits_of b)) (mutators_in actors) n m' by.mutator is.mutators);
+          decrementers = subst (λ ds. (i : ℕ) (x : DecrementerState) → slice_get ds i ≡ Some x → IsDecrementerOf (limits_of b) x) (sym stay) is.decrementers;
+          tracers = subst (λ ts. (i : ℕ) (x : TracerState) → slice_get ts i ≡ Some x → IsTracerOf (limits_of b) x) (sym beside) is.tracers;
+        },
+      )
+
+  -- an operation that the actor of a number is ordered keeps it
+  order_kept : (execution : Execution) (n : ℕ) (op : Op) (o : Option AnyActor) → slice_get execution.core.actors n ≡ o → HoldsExecution b execution
+      → HoldsRisen b execution (record execution { core = happened any_machine execution.core (Order n op) o })
+  order_kept execution n op None e holds = (holds, λ c. omega arith)
+  order_kept execution n op (Some (any.Mutator m)) e holds =
+      let shows = shows_as b execution holds.0 n m holds.1 e in (
+        taken_kept execution holds.0 n m (mutator_machine.ordered m op).0 holds.1 e (order_step b (epoch_state_of b execution holds.0) execution.core.words n m op shows),
+        λ c. omega arith,
+      )
+  order_kept execution n op (Some (any.Decrementer d)) e holds =
+      stays_risen b execution (record execution { core = happened any_machine execution.core (Order n op) (Some (any.Decrementer d)) })
+      (ap (λ actors. record execution { core = core_of execution.core.words actors }) (set_itself execution.core.actors n (any.Decrementer d) e)) holds
+  order_kept execution n op (Some (any.Tracer d)) e holds =
+      stays_risen b execution (record execution { core = happened any_machine execution.core (Order n op) (Some (any.Tracer d)) })
+      (ap (λ actors. record execution { core = core_of execution.core.words actors }) (set_itself execution.core.actors n (any.Tracer d) e)) holds
+
   -- each event keeps it
   event_kept : (execution : Execution) (e : Event) → HoldsExecution b execution → HoldsRisen b execution (tell b execution e)
   event_kept execution (Step n) holds = number_kept execution n (slice_get execution.core.actors n) refl holds
   event_kept execution (Give n place) holds = offer_kept execution n place (slice_get execution.core.actors n) refl holds
   event_kept execution (Out n) holds = spare_kept execution n (slice_get execution.core.actors n) refl holds
+  event_kept execution (Order n op) holds = order_kept execution n op (slice_get execution.core.actors n) refl holds
 
   -- each schedule keeps it
   pub all_kept : (execution : Execution) (schedule : List Event) → HoldsExecution b execution → HoldsRisen b execution (tell_all b execution schedule)

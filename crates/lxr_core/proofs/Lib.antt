@@ -13,4 +13,6 @@ pub mod CollectedLemmas
 pub mod ClosingLemmas
 pub mod KeptLemmas
 pub mod TurnLemmas
+pub mod EpochOrderLemmas
+pub mod OrderedLemmas
 pub mod ExecutionLemmas

@@ -80,6 +80,12 @@ spared_by (any.Mutator m) = (any.Mutator m, None)
 spared_by (any.Decrementer d) = (any.Decrementer (decrementer_machine.spared d).0, (decrementer_machine.spared d).1)
 spared_by (any.Tracer d) = (any.Tracer (tracer_machine.spared d).0, (tracer_machine.spared d).1)
 
+-- the actor once it is ordered an operation, and whether it took it; a helper takes none
+abbrev pub ordered_of : AnyActor → Op → AnyActor × Bool
+ordered_of (any.Mutator m) o = (any.Mutator (mutator_machine.ordered m o).0, (mutator_machine.ordered m o).1)
+ordered_of (any.Decrementer d) o = (any.Decrementer d, false)
+ordered_of (any.Tracer d) o = (any.Tracer d, false)
+
 -- the machine of an actor of any kind
 abbrev pub any_machine : Machine AnyActor
 any_machine = record {
@@ -89,6 +95,7 @@ any_machine = record {
   left = steps_left;
   offered = offered_to;
   spared = spared_by;
+  ordered = ordered_of;
 }
 
 -- the operations of each thread

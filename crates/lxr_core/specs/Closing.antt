@@ -1,7 +1,7 @@
 -- The closing of an epoch.
-use Rattle.std.specs.Prelude.{◌≡◌, ℕ, ◌<◌, ◌⊎◌, false, true, Some, List, IsTrue, length, map, slice_get}
+use Rattle.std.specs.Prelude.{◌≡◌, ◌≢◌, ℕ, ◌<◌, ◌⊎◌, false, true, Some, List, IsTrue, length, map, slice_get}
 use Rattle.std.specs.List.{list_any}
-use Rattle.lxr_layout.specs.declared.TheConstants.{REMEMBERED_CURSOR}
+use Rattle.lxr_layout.specs.declared.TheConstants.{PAUSE_WORD, REMEMBERED_CURSOR}
 use Rattle.lxr_layout.specs.declared.Name.{Name}
 use Rattle.lxr_graph.specs.Names.{has}
 use Rattle.lxr_image.specs.declared.space.Space.{Space}
@@ -17,6 +17,7 @@ use Rattle.lxr_invariant.specs.AbstractState.{AbstractState, members}
 use Rattle.lxr_invariant.specs.Lines.{NoneChosen}
 use Rattle.lxr_invariant.specs.Listed.{FreeBlocksAreListed}
 use Rattle.lxr_invariant.specs.Quiescent.{IsAtSafepoint}
+use Rattle.lxr_mutator.specs.declared.phases.MutEnd.TheVariants as ends
 use Rattle.lxr_mutator.specs.declared.phases.MutatorPhase.TheVariants as phase
 use Rattle.lxr_mutator.specs.Mutating.{IsWaiting, Mutating, has_collected}
 use Rattle.lxr_mutator.specs.Mutators.{IsThrough}
@@ -46,6 +47,22 @@ pub record MayClose (b : Beginning) (execution : Execution) (space : Space) (act
   pub core : execution.core ≡ core_of space.words actors
   pub space_is : space ≡ record b.space { words = space.words }
   pub resting : AreResting actors
+
+-- ---- when a pause is wanted
+
+-- a mutator is through with the epoch for another reason than its end: it lacks room, saw that a pause is asked for, or had its turn
+abbrev pub IsHeldUp : Mutating → Type 0
+IsHeldUp m = (m.phase ≡ phase.Finished) × (m.end ≢ Some ends.Ended)
+
+-- A pause is wanted: the pause word of the space is set, or some mutator is through for another reason than its end, or all have done their
+-- end. So others may rest with nothing to do.
+abbrev pub IsPauseWanted : Space → List Mutating → Type 0
+IsPauseWanted space mutators =
+    ((tables_of space).cursors PAUSE_WORD ≡ 1)
+    ⊎ ((i : ℕ) × (m : Mutating) × (slice_get mutators i ≡ Some m) × IsHeldUp m)
+    ⊎ ((i : ℕ) (m : Mutating) → slice_get mutators i ≡ Some m → IsThrough m)
+
+-- ---- what closing does
 
 -- what the space stands for once an epoch is closed
 abbrev pub closed_state : Beginning → Execution → AbstractState
@@ -95,3 +112,9 @@ pub record Closes (b : Beginning) (execution : Execution) (before after : Space)
     logged = after.logged;
     tally = after.tally;
   }
+
+-- What `Closes` says of epochs that all mutators are through with, for each epoch at whose end a pause is wanted: where all free blocks were
+-- listed as the epoch opened, the pause has a cause; where nobody had asked for a pause before, the epoch has done something.
+pub record IsPauseExplained (b : Beginning) (execution : Execution) (actors : List AnyActor) : Type 0 where
+  pub cause : FreeBlocksAreListed b.space → (terms : Terms) → AreTermsOf b terms → IsLegalSoFar terms b.history → HasCause terms (script_of (mutators_in actors)) execution.history
+  pub progress : ((t : ℕ) → has_asked t b.history ≡ false) → HasProgress b execution (mutators_in actors)

@@ -8,7 +8,7 @@ use Rattle.lxr_image.specs.Tables.{tables_in}
 use Rattle.lxr_model.specs.Moments.{Field}
 use Rattle.lxr_actor.specs.declared.Core.{Core}
 use Rattle.lxr_actor.specs.declared.Event.{Event}
-use Rattle.lxr_actor.specs.declared.Event.TheVariants.{Step, Give, Out}
+use Rattle.lxr_actor.specs.declared.Event.TheVariants.{Step, Give, Out, Order}
 use Rattle.lxr_actor.specs.Run.{AlwaysFits, event, run, stepped}
 use Rattle.lxr_mutator.specs.Mutating.{Mutating}
 use Rattle.lxr_mutator.specs.Steps.{mutator_machine}
@@ -57,6 +57,7 @@ abbrev pub told_of : Beginning → Execution → Event → List Item × (Name �
 told_of b execution (Step number) = after_step b execution (slice_get execution.core.actors number)
 told_of b execution (Give number place) = (execution.history, execution.at)
 told_of b execution (Out number) = (execution.history, execution.at)
+told_of b execution (Order number op) = (execution.history, execution.at)
 
 -- the execution after an event
 abbrev pub tell : Beginning → Execution → Event → Execution

@@ -1,5 +1,6 @@
 pub mod Actors
 pub mod Executions
+pub mod Ordering
 pub mod Resting
 pub mod Starting
 pub mod Filling

@@ -11,7 +11,7 @@ use Rattle.lxr_invariant.specs.Listed.{IsListed}
 use Rattle.lxr_invariant.specs.Quiescent.{IsQuiescent}
 use Rattle.lxr_core_invariant.specs.EpochStates.{Beginning, IsBeginning, limits_of}
 use Rattle.lxr_core.specs.declared.actors.AnyActor.{AnyActor}
-use Rattle.lxr_core.specs.Actors.{mutators_in, tracers_in}
+use Rattle.lxr_core.specs.Actors.{tracers_in}
 use Rattle.lxr_core.specs.Executions.{Execution}
 use Rattle.lxr_core.specs.Filling.{FillsPockets, unfilled}
 use Rattle.lxr_core.specs.Resting.{ActorsRestAfter, FitSpace}

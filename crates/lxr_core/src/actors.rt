@@ -15,6 +15,7 @@ use crate::filling::fill_pocket;
 use crate::opening::registers_of;
 use lxr_actor::{Action, Actor};
 use lxr_decrement::Decrementer;
+use lxr_graph::Op;
 use lxr_image::Space;
 use lxr_layout::Place;
 use lxr_mutator::Mutator;
@@ -122,6 +123,15 @@ impl Actor for AnyActor {
             AnyActor::Mutator(mutator) => mutator.surplus(),
             AnyActor::Decrementer(decrementer) => decrementer.surplus(),
             AnyActor::Tracer(tracer) => tracer.surplus(),
+        }
+    }
+
+    #[inline(always)]
+    fn order(&mut self, op: Op) -> bool {
+        match self {
+            AnyActor::Mutator(mutator) => mutator.order(op),
+            AnyActor::Decrementer(decrementer) => decrementer.order(op),
+            AnyActor::Tracer(tracer) => tracer.order(op),
         }
     }
 }

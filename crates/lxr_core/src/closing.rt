@@ -1,7 +1,8 @@
 //! The closing of an epoch.
 ghost use Rattle.std.specs.Prelude.{◌≡◌, ◌+◌, ◌^◌, ◌++◌, ◌<◌, ◌≤◌, length};
 ghost use Rattle.lxr_core_invariant.specs.EpochStates.{Beginning};
-ghost use Rattle.lxr_core.specs.Closing.{Closes, MayClose};
+ghost use Rattle.lxr_core.specs.Actors.{mutators_in};
+ghost use Rattle.lxr_core.specs.Closing.{Closes, IsPauseExplained, IsPauseWanted, MayClose};
 ghost use Rattle.lxr_core.specs.Collecting.{HaveGiven, MayAllGive, MayGive, MayTake, given_up, taken_of, tallied};
 ghost use Rattle.lxr_core.specs.Executions.{Execution};
 
@@ -12,10 +13,11 @@ use lxr_image::{Entries, Places, Space, Tally};
 use lxr_mutator::{MutTally, Mutator};
 
 /// Closes an epoch in which all actors rest: the space takes each mutator's registers, log and tally, and hands out what
-/// mutators drew. Then it is at a safepoint before a pause.
+/// mutators drew. Then it is at a safepoint before a pause, which has a cause where it was wanted: mutators may rest with nothing to do.
 pub fn close_epoch(space: &mut Space, actors: &mut [AnyActor])
     requires { (b : Beginning) × (execution : Execution) × MayClose b execution space.old actors.old }
-    ensures { (b : Beginning) (execution : Execution) → MayClose b execution space.old actors.old → Closes b execution space.old space.new actors.new }
+    ensures closes { (b : Beginning) (execution : Execution) → MayClose b execution space.old actors.old → Closes b execution space.old space.new actors.new }
+    ensures due { (b : Beginning) (execution : Execution) → MayClose b execution space.old actors.old → IsPauseWanted space.old (mutators_in actors.old) → IsPauseExplained b execution actors.new }
 {
     collect_all(space, actors);
     hand_out_drawn(space);

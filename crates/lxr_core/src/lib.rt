@@ -11,6 +11,7 @@ mod filling;
 mod opening;
 
 ghost use Rattle.lxr_core.specs.Executions.{EpochInvariantHolds};
+ghost use Rattle.lxr_core.specs.Ordering.{OrdersAreAsked, OrdersKeepEpochs, ScriptsGoOn, ScriptsStay};
 
 pub use actors::AnyActor;
 pub use closing::close_epoch;
@@ -19,4 +20,25 @@ pub use opening::open_epoch;
 /// After every schedule of an epoch its invariant holds, no cursor has fallen, and each next step fits.
 pub fn epoch_invariant_holds()
     ensures { EpochInvariantHolds }
+{}
+
+/// An operation that a mutator is ordered while the epoch runs keeps all of the epoch's invariant.
+pub fn orders_keep_epochs()
+    ensures { OrdersKeepEpochs }
+{}
+
+/// Over a schedule a mutator is asked for what it was ordered and took, in order, behind what it was asked for, and for nothing else.
+pub fn orders_are_asked()
+    ensures { OrdersAreAsked }
+{}
+
+/// Over a schedule the script goes on: each thread keeps what it was asked for, and is asked for more behind it at most.
+pub fn scripts_go_on()
+    ensures { ScriptsGoOn }
+{}
+
+/// Where no mutator has room for an order, as those of a script, which are made with all their operations, a schedule changes the
+/// operations of no thread, whatever orders are in it.
+pub fn scripts_stay()
+    ensures { ScriptsStay }
 {}

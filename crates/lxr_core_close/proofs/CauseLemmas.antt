@@ -1,4 +1,4 @@
--- What a mutator is through for is a cause of a pause by the script.
+-- What a pause is wanted for is a cause of it by the script.
 use Rattle.std.proofs.Common.{◌≡◌, ℕ, ◌+◌, ◌-◌, ◌≤◌, sym, ap, subst, ◌∙◌, inl, inr, arith, List, [], ◌∷◌, ◌++◌, length}
 use Rattle.std.specs.Prelude.{Some, option_map, slice_get, slice_index_or}
 use Rattle.std.proofs.lemmas.Option.{get_or_from_slice_get, slice_get-map}
@@ -12,7 +12,7 @@ use Rattle.lxr_layout.specs.Spaces.{most_chosen}
 use Rattle.lxr_invariant.specs.Listed.{FreeBlocksAreListed}
 use Rattle.lxr_core_invariant.specs.ThreadStates.{ThreadState}
 use Rattle.lxr_core_invariant.specs.EpochStates.{Beginning, EpochState, moment_of}
-use Rattle.lxr_core_invariant.specs.Epoch.{AreThrough, IsEpoch}
+use Rattle.lxr_core_invariant.specs.Epoch.{AreResting, IsEpoch}
 use Rattle.lxr_core_invariant.specs.Laws.{AllBlocksAreTaken, HasClosingLogs}
 use Rattle.lxr_core_invariant.specs.Through.{CausesPause, next_by}
 use Rattle.lxr_core_close.specs.Cause.{AreTermsOf, CauseFollows, script_in}
@@ -30,13 +30,13 @@ next_is s i v shown thread =
     ∙ ap (λ z. slice_get (z ++ op.End ∷ []) (length (calls_of v.thread s.history))) (script_has s.thread_states i v shown)
 
 -- each cause of a mutator is one of its thread
-cause_of : (b : Beginning) (s : EpochState) (terms : Terms) (i : ℕ) (v : ThreadState) → AllBlocksAreTaken → IsEpoch b s → FreeBlocksAreListed b.space → AreThrough s → HasClosingLogs b s → AreTermsOf b terms → slice_get s.thread_states i ≡ Some v
+cause_of : (b : Beginning) (s : EpochState) (terms : Terms) (i : ℕ) (v : ThreadState) → AllBlocksAreTaken → IsEpoch b s → FreeBlocksAreListed b.space → AreResting s → HasClosingLogs b s → AreTermsOf b terms → slice_get s.thread_states i ≡ Some v
     → CausesPause b s v → IsCauseOf terms (script_in s.thread_states) s.history v.thread
-cause_of b s terms i v taken is whole through closing are shown (inl asked) = inl asked
-cause_of b s terms i v taken is whole through closing are shown (inr (inl turn)) = inr (inl (subst (λ z. z ≤ calls_since_pause v.thread s.history) (sym are.every) turn))
-cause_of b s terms i v taken is whole through closing are shown (inr (inr (inl block))) =
+cause_of b s terms i v taken is whole rest closing are shown (inl asked) = inl asked
+cause_of b s terms i v taken is whole rest closing are shown (inr (inl turn)) = inr (inl (subst (λ z. z ≤ calls_since_pause v.thread s.history) (sym are.every) turn))
+cause_of b s terms i v taken is whole rest closing are shown (inr (inr (inl block))) =
     let next = next_is s i v shown (is.called.threads i v shown) in
-    let all = taken b s is whole through block.1 in
+    let all = taken b s is whole rest block.1 in
     let blocks = are.blocks in
     let at : moment terms.threads s.history ≡ moment_of b s = ap (λ z. moment z s.history) are.threads in
     inr (inr (inl (
@@ -44,7 +44,7 @@ cause_of b s terms i v taken is whole through closing are shown (inr (inr (inl b
       subst (λ m. terms.blocks - most_chosen terms.blocks ≤ length m.unreclaimed + length m.made) (sym at)
           (subst (λ n. n - most_chosen n ≤ length (moment_of b s).unreclaimed + length (moment_of b s).made) (sym blocks) all),
     )))
-cause_of b s terms i v taken is whole through closing are shown (inr (inr (inr entry))) =
+cause_of b s terms i v taken is whole rest closing are shown (inr (inr (inr entry))) =
     let next = next_is s i v shown (is.called.threads i v shown) in
     let few = closing.few i v shown in
     let room = (is.logged.rooms i v shown).0 in
@@ -58,12 +58,12 @@ cause_of b s terms i v taken is whole through closing are shown (inr (inr (inr e
 
 -- all have ended, or some thread is a cause
 pub cause_follows : CauseFollows
-cause_follows has_cause counted taken b s terms is whole through closing are legal = elim (has_cause b s is through) [
-  | inl ended ↦ inl ((counted b s terms is through are.threads legal).1 ended ∙ sym are.threads)
+cause_follows has_cause counted taken b s terms is whole rest wanted closing are legal = elim (has_cause b s is wanted) [
+  | inl ended ↦ inl ((counted b s terms is are.threads legal).1 ended ∙ sym are.threads)
   | inr cause ↦ inr (
     cause.thread_state.thread,
     cause.thread.0,
     subst (λ z. cause.thread_state.thread ≤ z) (sym are.threads) cause.thread.1,
-    cause_of b s terms cause.number cause.thread_state taken is whole through closing are cause.shows cause.causes,
+    cause_of b s terms cause.number cause.thread_state taken is whole rest closing are cause.shows cause.causes,
   )
 ]

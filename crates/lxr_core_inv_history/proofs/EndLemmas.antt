@@ -12,14 +12,13 @@ use Rattle.lxr_model.specs.Belongs.{writes_reference}
 use Rattle.lxr_model.specs.Kinds.{ends}
 use Rattle.lxr_model.specs.Legal.{IsLegalSoFar}
 use Rattle.lxr_model.specs.Terms.{Terms}
-use Rattle.lxr_core_invariant.specs.ThreadStates.{Reason, ThreadState, all_of, is_end, op_now, Through}
+use Rattle.lxr_core_invariant.specs.ThreadStates.{Stage, ThreadState, all_of, is_end, op_now, GivesUp, Rests, Works, Names, Through}
 use Rattle.lxr_core_invariant.specs.ThreadStates as why
 use Rattle.lxr_core_invariant.specs.EpochStates.{Beginning, Extends, EpochState, called, limits_of, same}
-use Rattle.lxr_core_invariant.specs.Called.{IsWithinTurn}
+use Rattle.lxr_core_invariant.specs.Called.{IsWithinTurn, waiting_in}
 use Rattle.lxr_core_invariant.specs.Epoch.{IsEpoch}
 use Rattle.lxr_core_invariant.specs.Through.{EndsAreCounted}
 use Rattle.lxr_core_inv_history.proofs.BusyLemmas.{ends_by, others_before_end}
-use Rattle.lxr_core_inv_history.proofs.ThroughLemmas.{through_calls}
 
 -- ---- sums over numbers
 
@@ -234,48 +233,46 @@ writer_before_end : (v : ThreadState) (now : Option Op) → op_now v ≡ now →
 writer_before_end v None is writes = absurd (cc)
 writer_before_end v (Some o) is writes = others_before_end v.operations (length v.replies) o is (no_writer_ends o writes)
 
--- one who is through has done its end, or has it to come
-ended_or_not : (s : EpochState) (v : ThreadState) (reason : Reason) → IsWithinTurn s v (Through reason)
-    → ((reason ≡ why.Ended) × (length v.replies ≡ length v.operations + 1)) ⊎ (length v.replies ≤ length v.operations)
-ended_or_not s v why.NoRun on = let k = others_before_end v.operations (length v.replies) (op.New on.2.0.1.0 on.2.0.0) on.2.0.1.1 refl in inr (omega (arith, k))
-ended_or_not s v why.LogFull on =
+-- a mutator has done its end, or has it to come behind what stands in the history
+ended_or_not : (s : EpochState) (v : ThreadState) (stage : Stage) → IsWithinTurn s v stage
+    → ((stage ≡ Through why.Ended) × (length v.replies ≡ length v.operations + 1)) ⊎ (length v.replies + waiting_in stage ≤ length v.operations)
+ended_or_not s v Rests on = let few = on.1 in inr (omega (arith, few))
+ended_or_not s v (Works (GivesUp reason)) on = let few = on.1 in inr (omega (arith, few))
+ended_or_not s v (Works intent) on = let few = on.1 in inr (omega (arith, few))
+ended_or_not s v (Names place) on = let few = on.1 in inr (omega (arith, few))
+ended_or_not s v (Through why.NoRun) on = let k = others_before_end v.operations (length v.replies) (op.New on.2.0.1.0 on.2.0.0) on.2.0.1.1 refl in inr (omega (arith, k))
+ended_or_not s v (Through why.LogFull) on =
     let k = writer_before_end v (op_now v) refl on.2.0 in inr (omega (arith, k))
-ended_or_not s v why.Asked on = inr on.2.1
-ended_or_not s v why.Turns on = inr on.2.1
-ended_or_not s v why.Ended on = inl (refl, on.2)
+ended_or_not s v (Through why.Asked) on = let few = on.2.1 in inr (omega (arith, few))
+ended_or_not s v (Through why.Turns) on = let few = on.2.1 in inr (omega (arith, few))
+ended_or_not s v (Through why.Ended) on = inl (refl, on.2)
+
+-- how many ends it has in the history, by what stands there of its operations
+ends_told : (b : Beginning) (s : EpochState) (i : ℕ) (v : ThreadState) → IsEpoch b s → slice_get s.thread_states i ≡ Some v → ends_of s.history i ≡ ends_in (take (length v.replies + waiting_in v.stage) (all_of v.operations))
+unfolding ends_of
+ends_told b s i v is shown =
+    let number : i + 1 ≡ v.thread = sym (is.called.threads i v shown) in
+    ap (λ t. ends_in (calls_of t s.history)) number ∙ ap ends_in (is.called.each i v shown).calls
 
 -- one who has done its end has one
-ended_has_one : (b : Beginning) (s : EpochState) (i : ℕ) (v : ThreadState) (reason : Reason) → IsEpoch b s → slice_get s.thread_states i ≡ Some v → v.stage ≡ Through reason
-    → length v.replies ≡ length v.operations + 1 → ends_of s.history i ≡ 1
-unfolding ends_of
-ended_has_one b s i v reason is shown stage all =
-    let has = is.called.each i v shown in
-    let number : i + 1 ≡ v.thread = sym (is.called.threads i v shown) in
-    ap (λ t. ends_in (calls_of t s.history)) number ∙ ap ends_in (through_calls b s i v reason is shown stage).calls ∙ ap (λ k. ends_in (take k (all_of v.operations))) all
-    ∙ one_in_all v.operations has.endless
-
--- one whose end is to come has none
-other_has_none : (b : Beginning) (s : EpochState) (i : ℕ) (v : ThreadState) (reason : Reason) → IsEpoch b s → slice_get s.thread_states i ≡ Some v → v.stage ≡ Through reason
-    → length v.replies ≤ length v.operations → ends_of s.history i ≡ 0
-unfolding ends_of
-other_has_none b s i v reason is shown stage few =
-    let has = is.called.each i v shown in
-    let number : i + 1 ≡ v.thread = sym (is.called.threads i v shown) in
-    ap (λ t. ends_in (calls_of t s.history)) number ∙ ap ends_in (through_calls b s i v reason is shown stage).calls ∙ none_before v.operations (length v.replies) has.endless few
+ended_has_one : (b : Beginning) (s : EpochState) (i : ℕ) (v : ThreadState) → IsEpoch b s → slice_get s.thread_states i ≡ Some v → v.stage ≡ Through why.Ended → length v.replies ≡ length v.operations + 1 → ends_of s.history i ≡ 1
+ended_has_one b s i v is shown stage all =
+    let none : waiting_in v.stage ≡ 0 = ap waiting_in stage in
+    ends_told b s i v is shown ∙ ap (λ k. ends_in (take k (all_of v.operations))) (omega (arith, none, all)) ∙ one_in_all v.operations (is.called.each i v shown).endless
 
 -- so each has at most one, and has it only where it has ended
 record HasEnds (s : EpochState) (i : ℕ) (v : ThreadState) : Type 0 where
   few : ends_of s.history i ≤ 1
   ended : ends_of s.history i ≡ 1 → v.stage ≡ Through why.Ended
 
--- so it is of each that is through
-has_ends : (b : Beginning) (s : EpochState) (i : ℕ) (v : ThreadState) (reason : Reason) → IsEpoch b s → slice_get s.thread_states i ≡ Some v → v.stage ≡ Through reason → HasEnds s i v
-has_ends b s i v reason is shown stage = elim (ended_or_not s v reason (subst (IsWithinTurn s v) stage (is.called.each i v shown).within_turn)) [
+-- so it is of each
+has_ends : (b : Beginning) (s : EpochState) (i : ℕ) (v : ThreadState) → IsEpoch b s → slice_get s.thread_states i ≡ Some v → HasEnds s i v
+has_ends b s i v is shown = elim (ended_or_not s v v.stage (is.called.each i v shown).within_turn) [
   | inl k ↦
-      let one = ended_has_one b s i v reason is shown stage k.1 in
-      record { few = omega (arith, one); ended = λ e. stage ∙ ap Through k.0 }
+      let one = ended_has_one b s i v is shown k.0 k.1 in
+      record { few = omega (arith, one); ended = λ e. k.0 }
   | inr k ↦
-      let none = other_has_none b s i v reason is shown stage k in
+      let none = ends_told b s i v is shown ∙ none_before v.operations (length v.replies + waiting_in v.stage) (is.called.each i v shown).endless k in
       record { few = omega (arith, none); ended = λ e. absurd (omega (arith, none, e)) }
 ]
 
@@ -285,15 +282,15 @@ some_at [] j within = absurd (omega (arith, within))
 some_at (x ∷ xs) zero within = (x, refl)
 some_at (x ∷ xs) (suc j) within = some_at xs j (omega (arith, within))
 
--- as many ends as threads, exactly where all have ended
+-- as many ends as threads stand in the history exactly where all have ended
 pub ends_are_counted : EndsAreCounted
-ends_are_counted b s terms is through same_threads legal =
+ends_are_counted b s terms is same_threads legal =
     let threads : ℕ = (limits_of b).threads in
     let many = is.called.as_many in
     let sum : ends s.history ≡ sum_below (ends_of s.history) threads =
     ends_are_sum threads s.history (extended_of threads b.every b.history s.history is.extends (legal_of terms threads b.history same_threads legal)) in
     let thread_state_at : (j : ℕ) → j < threads → (v : ThreadState) × (slice_get s.thread_states j ≡ Some v) = λ j within. some_at s.thread_states j (omega (arith, within, many)) in
-    let each : (j : ℕ) (v : ThreadState) → slice_get s.thread_states j ≡ Some v → HasEnds s j v = λ j v shown. has_ends b s j v (through j v shown).0 is shown (through j v shown).1 in (
+    let each : (j : ℕ) (v : ThreadState) → slice_get s.thread_states j ≡ Some v → HasEnds s j v = λ j v shown. has_ends b s j v is shown in (
       λ all i v shown.
           let within = slice_get_within s.thread_states i v shown in
           (each i v shown).ended (each_one (ends_of s.history) threads (λ j small. (each j (thread_state_at j small).0 (thread_state_at j small).1).few) (sym sum ∙ all) i (omega (arith, within, many))),
@@ -302,5 +299,5 @@ ends_are_counted b s terms is through same_threads legal =
           let v : ThreadState = (thread_state_at j small).0 in
           let shown = (thread_state_at j small).1 in
           let on : IsWithinTurn s v (Through why.Ended) = subst (IsWithinTurn s v) (ended j v shown) (is.called.each j v shown).within_turn in
-          ended_has_one b s j v why.Ended is shown (ended j v shown) on.2),
+          ended_has_one b s j v is shown (ended j v shown) on.2),
     )

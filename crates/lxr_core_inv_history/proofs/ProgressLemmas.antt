@@ -1,5 +1,5 @@
--- Right after a pause each epoch brings a call, or a mutator finds no block.
-use Rattle.std.proofs.Common.{◌≡◌, ℕ, zero, suc, ◌<◌, ◌≤◌, refl, sym, ap, subst, ◌∙◌, inl, inr, ◌⊎◌, arith, false, List, [], ◌∷◌, IsTrue, length, length-append, map}
+-- Right after a pause each epoch at whose end a pause is wanted brings a call, or a mutator finds no block.
+use Rattle.std.proofs.Common.{◌≡◌, ℕ, zero, suc, ◌≤◌, refl, sym, ap, subst, ◌∙◌, inl, inr, arith, false, List, [], ◌∷◌, IsTrue, length, length-append, map}
 use Rattle.std.specs.Prelude.{Some, slice_get}
 use Rattle.std.proofs.lemmas.List.{length-map}
 use Rattle.std.proofs.lemmas.List.Sorted.{length_permutation}
@@ -9,20 +9,13 @@ use Rattle.lxr_model.specs.Moments.{Field, moment}
 use Rattle.lxr_model_counting.specs.Distinct.{has_field}
 use Rattle.lxr_model_counting.proofs.DistinctLemmas.{first_field}
 use Rattle.lxr_invariant.specs.Standing.{entry_of}
-use Rattle.lxr_core_invariant.specs.ThreadStates.{Stores, ThreadState, Works, Through}
-use Rattle.lxr_core_invariant.specs.EpochStates.{Beginning, Extends, EpochState, called, limits_of, moment_of, same}
+use Rattle.lxr_core_invariant.specs.ThreadStates.{Stores, ThreadState, Works}
+use Rattle.lxr_core_invariant.specs.EpochStates.{Beginning, EpochState, limits_of, moment_of}
 use Rattle.lxr_core_invariant.specs.Logged.{logs_of, with_cleared}
-use Rattle.lxr_core_invariant.specs.Epoch.{AreThrough, IsEpoch}
+use Rattle.lxr_core_invariant.specs.Epoch.{AreResting, IsEpoch, IsResting}
 use Rattle.lxr_core_invariant.specs.Through.{EpochProgresses, HasCause, JustPaused, LacksSomeBlock}
-use Rattle.lxr_core_inv_history.proofs.ThroughLemmas.{through_has_cause}
-
--- a history that goes on is the same or longer
-same_or_longer : (threads every : ℕ) (h k : List Item) → Extends threads every h k → (k ≡ h) ⊎ (length h < length k)
-same_or_longer threads every h k (same) = inl refl
-same_or_longer threads every h k (called l t o r before is) = elim (same_or_longer threads every h l before) [
-  | inl e ↦ let as_long = ap length e in inr (omega (arith, as_long))
-  | inr longer ↦ inr (omega (arith, longer))
-]
+use Rattle.lxr_core_invariant.proofs.ActingLemmas.{same_or_longer}
+use Rattle.lxr_core_inv_history.proofs.ThroughLemmas.{wanted_has_cause}
 
 -- right after a pause no thread has asked for one or had a call
 fresh_asked : (h : List Item) (t : ℕ) → JustPaused h → has_asked t h ≡ false
@@ -49,9 +42,9 @@ log_within (w ∷ thread_states) (suc i) v e =
     let rest = log_within thread_states i v e in
     omega (arith, all, rest)
 
--- where all are through and nothing was stored to, logs are empty
-logs_empty : (b : Beginning) (s : EpochState) → IsEpoch b s → AreThrough s → (moment_of b s).written ≡ [] → length (logs_of s.thread_states) ≡ 0
-logs_empty b s is through none =
+-- where all rest and nothing was stored to, logs are empty
+logs_empty : (b : Beginning) (s : EpochState) → IsEpoch b s → AreResting s → (moment_of b s).written ≡ [] → length (logs_of s.thread_states) ≡ 0
+logs_empty b s is rest none =
     length_permutation (map (entry_of (with_cleared (moment_of b s) s.cleared) s.at) s.cleared) (logs_of s.thread_states) is.logged.logs
     ∙ length-map s.cleared (entry_of (with_cleared (moment_of b s) s.cleared) s.at) ∙ none_cleared s.cleared refl
   where
@@ -59,12 +52,12 @@ logs_empty b s is through none =
     none_cleared [] e = refl
     none_cleared (w ∷ fields) e = absurd (elim (is.logged.cleared w.0 w.1 (subst (λ z. IsTrue (has_field z w)) (sym e) (first_field w fields))) [
       | inl written ↦ (let no : IsTrue (has_field [] w) = subst (λ z. IsTrue (has_field z w)) none written in cc)
-      | inr being ↦ (let at = through being.number being.thread_state being.shows in let both : Through at.0 ≡ Works (Stores (s.at w.0) w.1) = sym at.1 ∙ being.stage in cc)
+      | inr being ↦ (let none : IsResting (Works (Stores (s.at w.0) w.1)) = subst IsResting being.stage (rest being.number being.thread_state being.shows) in none)
     ])
 
 -- a cause without a call is the want of a block
-idle_cause : (b : Beginning) (s : EpochState) → IsEpoch b s → AreThrough s → JustPaused b.history → 1 ≤ b.every → 1 ≤ (limits_of b).log → s.history ≡ b.history → HasCause b s → LacksSomeBlock s
-idle_cause b s is through fresh turn room idle cause = elim cause.causes [
+idle_cause : (b : Beginning) (s : EpochState) → IsEpoch b s → AreResting s → JustPaused b.history → 1 ≤ b.every → 1 ≤ (limits_of b).log → s.history ≡ b.history → HasCause b s → LacksSomeBlock s
+idle_cause b s is rest fresh turn room idle cause = elim cause.causes [
   | inl asked ↦ absurd (let no = fresh_asked b.history cause.thread_state.thread fresh in let yes = subst (λ h. IsTrue (has_asked cause.thread_state.thread h)) idle asked in cc)
   | inr others ↦ elim others [
     | inl full ↦ absurd (let none = ap (calls_since_pause cause.thread_state.thread) idle ∙ fresh_calls b.history cause.thread_state.thread fresh in omega (arith, full, none, turn))
@@ -73,7 +66,7 @@ idle_cause b s is through fresh turn room idle cause = elim cause.causes [
       | inr entry ↦ absurd (
           let none : (moment_of b s).written ≡ [] =
           ap (λ h. (moment (limits_of b).threads h).written) idle ∙ ap (λ m. m.written) (sym is.begins.moment) ∙ is.begins.between.unwritten in
-          let empty = logs_empty b s is through none in
+          let empty = logs_empty b s is rest none in
           let within = log_within s.thread_states cause.number cause.thread_state cause.shows in
           let rooms = (is.logged.rooms cause.number cause.thread_state cause.shows).0 in
           let full = entry.1 in
@@ -84,10 +77,10 @@ idle_cause b s is through fresh turn room idle cause = elim cause.causes [
 
 -- all have ended, or one lacks a block, or a call came
 pub epoch_progresses : EpochProgresses
-epoch_progresses b s is through fresh turn room = elim (through_has_cause b s is through) [
+epoch_progresses b s is rest wanted fresh turn room = elim (wanted_has_cause b s is wanted) [
   | inl ended ↦ inl ended
   | inr cause ↦ elim (same_or_longer (limits_of b).threads b.every b.history s.history is.extends) [
     | inr longer ↦ inr (inr longer)
-    | inl idle ↦ inr (inl (idle_cause b s is through fresh turn room idle cause))
+    | inl idle ↦ inr (inl (idle_cause b s is rest fresh turn room idle cause))
   ]
 ]

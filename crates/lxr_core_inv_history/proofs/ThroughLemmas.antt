@@ -1,8 +1,9 @@
--- Where all mutators rest: what the history has of each thread. Where all are through: the cause of the pause.
-use Rattle.std.proofs.Common.{◌≡◌, ℕ, zero, suc, refl, sym, ap, subst, ◌∙◌, inl, inr, ◌⊎◌, arith, List, [], ◌∷◌, length, take}
+-- Where all mutators rest: what the history has of each thread. Where a pause is wanted: its cause.
+use Rattle.std.proofs.Common.{◌≡◌, ◌≢◌, ℕ, refl, sym, ap, subst, ◌∙◌, inl, inr, arith, length, take}
 use Rattle.std.specs.Prelude.{Option, Some, None, IsTrue, slice_get}
 use Rattle.std.proofs.lemmas.List.{length-take-le}
 use Rattle.std.proofs.lemmas.Option.{slice_get_within}
+use Rattle.lxr_layout.specs.declared.TheConstants.{PAUSE_WORD}
 use Rattle.lxr_graph.specs.declared.Op.{Op}
 use Rattle.lxr_graph.specs.declared.Op.TheVariants as op
 use Rattle.lxr_graph.specs.History.{replies_of}
@@ -13,7 +14,7 @@ use Rattle.lxr_core_invariant.specs.EpochStates.{Beginning, EpochState}
 use Rattle.lxr_core_invariant.specs.Events.{Does}
 use Rattle.lxr_core_invariant.specs.Called.{AreReplies, IsWithinTurn, SetsPauseWord, waiting_in}
 use Rattle.lxr_core_invariant.specs.Epoch.{IsEpoch, IsResting}
-use Rattle.lxr_core_invariant.specs.Through.{CallsAreBeginnings, CausesPause, HasCause, IsAsHistory, RestIsHistory, ThroughHasCause, next_by}
+use Rattle.lxr_core_invariant.specs.Through.{CallsAreBeginnings, CausesPause, HasCause, IsAsHistory, RestIsHistory, WantedHasCause, next_by}
 use Rattle.lxr_core_inv_history.proofs.StandingLemmas.{thread_within}
 
 -- ---- calls and replies
@@ -44,7 +45,7 @@ rest_calls b s i v is shown rests =
     record { calls = has.calls ∙ ap (λ k. take k (all_of v.operations)) (omega (arith, none)); replies = all_replied b s v v.stage rests has.replies }
 
 -- so it is of one that is through
-pub through_calls : (b : Beginning) (s : EpochState) (i : ℕ) (v : ThreadState) (reason : Reason) → IsEpoch b s → slice_get s.thread_states i ≡ Some v → v.stage ≡ Through reason → IsAsHistory s v
+through_calls : (b : Beginning) (s : EpochState) (i : ℕ) (v : ThreadState) (reason : Reason) → IsEpoch b s → slice_get s.thread_states i ≡ Some v → v.stage ≡ Through reason → IsAsHistory s v
 through_calls b s i v reason is shown stage = rest_calls b s i v is shown (subst IsResting (sym stage) tt)
 
 -- so it is where all rest
@@ -102,36 +103,22 @@ setter_causes b s i v Rests is shown e sets = causes b s i v is shown (inl sets)
 setter_causes b s i v (Works intent) is shown e sets = causes b s i v is shown (inl sets)
 setter_causes b s i v (Names place) is shown e sets = causes b s i v is shown (inl sets)
 
--- one who is through has ended, or there is a cause
-ended_or_cause : (b : Beginning) (s : EpochState) (i : ℕ) (v : ThreadState) (reason : Reason) → IsEpoch b s → slice_get s.thread_states i ≡ Some v → v.stage ≡ Through reason → (v.stage ≡ Through why.Ended) ⊎ HasCause b s
-ended_or_cause b s i v why.NoRun is shown stage = inr (no_run_causes b s i v is shown stage)
-ended_or_cause b s i v why.LogFull is shown stage = inr (log_full_causes b s i v is shown stage)
-ended_or_cause b s i v why.Asked is shown stage =
+-- where the pause word is set, there is a cause
+word_causes : (b : Beginning) (s : EpochState) → IsEpoch b s → s.tables.cursors PAUSE_WORD ≡ 1 → HasCause b s
+word_causes b s is set = let by = is.called.word set in setter_causes b s by.0 by.1 by.1.stage is by.2 refl by.3
+
+-- one who is through for another reason than its end tells of one
+cut_short_causes : (b : Beginning) (s : EpochState) (i : ℕ) (v : ThreadState) (reason : Reason) → IsEpoch b s → slice_get s.thread_states i ≡ Some v → v.stage ≡ Through reason → reason ≢ why.Ended → HasCause b s
+cut_short_causes b s i v why.NoRun is shown stage unended = no_run_causes b s i v is shown stage
+cut_short_causes b s i v why.LogFull is shown stage unended = log_full_causes b s i v is shown stage
+cut_short_causes b s i v why.Asked is shown stage unended =
     let on : IsWithinTurn s v (Through why.Asked) = subst (IsWithinTurn s v) stage (is.called.each i v shown).within_turn in
-    let by = is.called.word on.2.0 in
-    inr (setter_causes b s by.0 by.1 by.1.stage is by.2 refl by.3)
-ended_or_cause b s i v why.Turns is shown stage = inr (turn_causes b s i v is shown stage)
-ended_or_cause b s i v why.Ended is shown stage = inl stage
+    word_causes b s is on.2.0
+cut_short_causes b s i v why.Turns is shown stage unended = turn_causes b s i v is shown stage
+cut_short_causes b s i v why.Ended is shown stage unended = absurd (unended refl)
 
--- either all of a list are so, or there is something else
-all_or : {A : Type 0} (P : A → Type 0) (Q : Type 0) (xs : List A) → ((i : ℕ) (x : A) → slice_get xs i ≡ Some x → P x ⊎ Q) → ((i : ℕ) (x : A) → slice_get xs i ≡ Some x → P x) ⊎ Q
-all_or P Q [] each = inl (λ i x e. absurd (cc))
-all_or P Q (y ∷ ys) each = elim (each zero y refl) [
-  | inr q ↦ inr q
-  | inl p ↦ elim (all_or P Q ys (λ i x e. each (suc i) x e)) [
-    | inr q ↦ inr q
-    | inl ps ↦ inl (all_of_both P y ys p ps)
-  ]
-]
-  where
-    all_of_both : {A : Type 0} (P : A → Type 0) (y : A) (ys : List A) → P y → ((i : ℕ) (x : A) → slice_get ys i ≡ Some x → P x) → (i : ℕ) (x : A) → slice_get (y ∷ ys) i ≡ Some x → P x
-    all_of_both P y ys p ps zero x e = subst P (same_of y x e) p
-      where
-        same_of : {A : Type 0} (a c : A) → ◌≡◌ {A = Option A} (Some a) (Some c) → a ≡ c
-        same_of a c e = cc
-    all_of_both P y ys p ps (suc i) x e = ps i x e
-
--- all have ended, or there is a cause
-pub through_has_cause : ThroughHasCause
-through_has_cause b s is through =
-    all_or (λ v. v.stage ≡ Through why.Ended) (HasCause b s) s.thread_states (λ i v shown. ended_or_cause b s i v (through i v shown).0 is shown (through i v shown).1)
+-- where a pause is wanted, all have ended, or there is a cause
+pub wanted_has_cause : WantedHasCause
+wanted_has_cause b s is (inl set) = inr (word_causes b s is set)
+wanted_has_cause b s is (inr (inl (i, v, shown, cut))) = inr (cut_short_causes b s i v cut.0 is shown cut.1 cut.2)
+wanted_has_cause b s is (inr (inr ended)) = inl ended

@@ -9,7 +9,7 @@
 mod replies;
 
 ghost use Rattle.lxr_core_invariant.specs.Laws.{HistoryIsKept, HistoryIsLeft, RepliesAreSteps};
-ghost use Rattle.lxr_core_invariant.specs.Through.{CallsAreBeginnings, EndsAreCounted, EpochProgresses, RestIsHistory, ThroughHasCause};
+ghost use Rattle.lxr_core_invariant.specs.Through.{CallsAreBeginnings, EndsAreCounted, EpochProgresses, RestIsHistory, WantedHasCause};
 
 pub use replies::{registers_are_kept, registers_are_left, replies_are_steps};
 
@@ -23,9 +23,9 @@ pub fn history_is_left()
     ensures { HistoryIsLeft }
 {}
 
-/// Where all threads are through, all have ended or one of them is a cause for a pause.
-pub fn through_has_cause()
-    ensures { ThroughHasCause }
+/// Where a pause is wanted, all threads have ended or one of them is a cause for it.
+pub fn wanted_has_cause()
+    ensures { WantedHasCause }
 {}
 
 /// At each moment a thread's calls are a beginning of its operations.
@@ -38,12 +38,12 @@ pub fn rest_is_history()
     ensures { RestIsHistory }
 {}
 
-/// Where all threads are through, the history counts who has ended.
+/// At each moment the history counts who has ended.
 pub fn ends_are_counted()
     ensures { EndsAreCounted }
 {}
 
-/// Right after a pause each epoch brings an operation or an end, or a thread finds no block.
+/// Right after a pause each epoch at whose end a pause is wanted brings an operation or an end, or a thread finds no block.
 pub fn epoch_progresses()
     ensures { EpochProgresses }
 {}

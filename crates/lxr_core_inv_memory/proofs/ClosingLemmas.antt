@@ -24,11 +24,11 @@ use Rattle.lxr_invariant.specs.Listed.{FreeBlocksAreListed}
 use Rattle.lxr_invariant.proofs.NameLemmas.{in_either, in_first, in_second}
 use Rattle.lxr_full.proofs.TakenLines.{all_or_one}
 use Rattle.lxr_full.proofs.RoomLemmas.{member_takes, pigeonhole}
-use Rattle.lxr_core_invariant.specs.ThreadStates.{Reason, Stage, ThreadState, GivesUp, Rests, Works, Names, Through}
+use Rattle.lxr_core_invariant.specs.ThreadStates.{Stage, ThreadState, GivesUp, Rests, Works, Names, Through}
 use Rattle.lxr_core_invariant.specs.EpochStates.{Beginning, Extends, EpochState, same, called, limits_of, moment_of, opening_tables}
 use Rattle.lxr_core_invariant.specs.Drawn.{HasMadeInBlock, IsHandOf, IsUsed, MakesInBlock, block_draws, run_draws, total}
 use Rattle.lxr_core_invariant.specs.Called.{IsWithinTurn}
-use Rattle.lxr_core_invariant.specs.Epoch.{AreThrough, IsEpoch}
+use Rattle.lxr_core_invariant.specs.Epoch.{AreResting, IsEpoch, IsResting}
 use Rattle.lxr_core_invariant.specs.Laws.{AllBlocksAreTaken, CursorsAreFar}
 use Rattle.lxr_core_inv_memory.proofs.ThreadStateLemmas.{total_bound}
 use Rattle.lxr_core_inv_memory.proofs.FixedLemmas.{few_blocks, few_runs}
@@ -135,13 +135,19 @@ free_or_taken b s n is some below not_chosen =
 
 -- ---- a Free block has an object by now
 
--- who is through has no block in hand
-no_hand : (stage : Stage) (why : Reason) (k : ℕ) → stage ≡ Through why → IsHandOf stage k → ⊥
-no_hand stage why k through hand = subst (λ z. IsHandOf z k) through hand
+-- who rests has no block in hand
+no_hand : (stage : Stage) (k : ℕ) → IsResting stage → IsHandOf stage k → ⊥
+no_hand Rests k rests hand = hand
+no_hand (Through why) k rests hand = hand
+no_hand (Works intent) k rests hand = rests
+no_hand (Names place) k rests hand = rests
 
--- who is through makes no object
-no_making : (b : Beginning) (stage : Stage) (why : Reason) (k : ℕ) → stage ≡ Through why → MakesInBlock b stage k → ⊥
-no_making b stage why k through making = subst (λ z. MakesInBlock b z k) through making
+-- who rests makes no object
+no_making : (b : Beginning) (stage : Stage) (k : ℕ) → IsResting stage → MakesInBlock b stage k → ⊥
+no_making b Rests k rests making = making
+no_making b (Through why) k rests making = making
+no_making b (Works intent) k rests making = rests
+no_making b (Names place) k rests making = rests
 
 -- a granule between a block's first and the next block's is of the block
 block_at : (g found n : ℕ) → GRANULES_IN_BLOCK * found ≤ g → g < GRANULES_IN_BLOCK * (found + 1) → found ≡ n → g / GRANULES_IN_BLOCK ≡ n
@@ -155,35 +161,35 @@ made_in b s k n found made = (
   block_at (granule_of (s.at made.name)) ((opening_tables b).frees k) n made.granule.first made.granule.behind found,
 )
 
--- a drawn block has an object once all mutators are through
-used_has : (b : Beginning) (s : EpochState) (k n : ℕ) → AreThrough s → (opening_tables b).frees k ≡ n → IsUsed b s k → HasObjectIn b s n
-used_has b s k n through found (inl x) = let why = through x.0 x.1.0 x.1.1 in absurd (no_hand x.1.0.stage why.0 k why.1 x.1.2)
-used_has b s k n through found (inr (inl x)) = let why = through x.0 x.1.0 x.1.1 in absurd (no_making b x.1.0.stage why.0 k why.1 x.1.2)
-used_has b s k n through found (inr (inr made)) = made_in b s k n found made
+-- a drawn block has an object where all mutators rest
+used_has : (b : Beginning) (s : EpochState) (k n : ℕ) → AreResting s → (opening_tables b).frees k ≡ n → IsUsed b s k → HasObjectIn b s n
+used_has b s k n rest found (inl x) = absurd (no_hand x.1.0.stage k (rest x.0 x.1.0 x.1.1) x.1.2)
+used_has b s k n rest found (inr (inl x)) = absurd (no_making b x.1.0.stage k (rest x.0 x.1.0 x.1.1) x.1.2)
+used_has b s k n rest found (inr (inr made)) = made_in b s k n found made
 
 -- ---- each block
 
--- each block that isn't Chosen has an object once all are through and each listed block is drawn
-block_has : (b : Beginning) (s : EpochState) → IsEpoch b s → FreeBlocksAreListed b.space → AreThrough s → s.tables.cursors FREE_BLOCK_COUNT ≤ s.tables.cursors FREE_BLOCK_CURSOR → (n : ℕ) → n < (limits_of b).blocks → state_in (opening_tables b) n ≢ Chosen
+-- each block that isn't Chosen has an object where all rest and each listed block is drawn
+block_has : (b : Beginning) (s : EpochState) → IsEpoch b s → FreeBlocksAreListed b.space → AreResting s → s.tables.cursors FREE_BLOCK_COUNT ≤ s.tables.cursors FREE_BLOCK_CURSOR → (n : ℕ) → n < (limits_of b).blocks → state_in (opening_tables b) n ≢ Chosen
     → HasObjectIn b s n
-block_has b s is whole through drawn zero below unchosen = (
+block_has b s is whole rest drawn zero below unchosen = (
   world_name,
   in_first (moment_of b s).unreclaimed (moment_of b s).made world_name (is.lives.stuck world_name is.lives.world),
   (let place = is.image.placed.world in omega (arith, place)),
 )
-block_has b s is whole through drawn (suc n) below unchosen = elim (free_or_taken b s (suc n) is (omega arith) below unchosen) [
+block_has b s is whole rest drawn (suc n) below unchosen = elim (free_or_taken b s (suc n) is (omega arith) below unchosen) [
   | inr taken ↦ taken
   | inl free ↦
       let k = whole (suc n) below free in
       let fixed = is.fixed.cursors FREE_BLOCK_COUNT (λ e. cc) (λ e. cc) (λ e. cc) (λ e. cc) (λ e. cc) in
       let listed = k.1 in
-      used_has b s k.0 (suc n) through k.2 (is.drawn.used k.0 (omega (arith, listed, fixed, drawn)) listed)
+      used_has b s k.0 (suc n) rest k.2 (is.drawn.used k.0 (omega (arith, listed, fixed, drawn)) listed)
 ]
 
 -- so objects are at least as many as such blocks, and at most an eighth of all is Chosen
 pub all_blocks_are_taken : AllBlocksAreTaken
-all_blocks_are_taken b s is whole through drawn =
-    let many = pigeonhole (opening_tables b) (λ n. granule_of (s.at n) / GRANULES_IN_BLOCK) (members (moment_of b s)) (limits_of b).blocks (block_has b s is whole through drawn) in
+all_blocks_are_taken b s is whole rest drawn =
+    let many = pigeonhole (opening_tables b) (λ n. granule_of (s.at n) / GRANULES_IN_BLOCK) (members (moment_of b s)) (limits_of b).blocks (block_has b s is whole rest drawn) in
     let few = is.begins.between.safepoint.holds.blocks.few in
     let sum = length-append (moment_of b s).unreclaimed (moment_of b s).made in
     omega (arith, many, few, sum)

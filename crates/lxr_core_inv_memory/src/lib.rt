@@ -48,7 +48,7 @@ pub fn cursors_dont_fall()
     ensures { CursorsDontFall }
 {}
 
-/// Where all mutators are through and each listed block is drawn, there are at least as many objects as blocks that aren't Chosen, and these
+/// Where all mutators rest and each listed block is drawn, there are at least as many objects as blocks that aren't Chosen, and these
 /// are all but an eighth.
 pub fn all_blocks_are_taken()
     ensures { AllBlocksAreTaken }

@@ -1,5 +1,5 @@
 -- What is known of a mutator as an event happens to it.
-use Rattle.std.proofs.Common.{◌≡◌, ◌≢◌, ℕ, ◌+◌, ◌-◌, ◌*◌, ◌<◌, ◌≤◌, refl, sym, ap, subst, ◌∙◌, arith, List, length}
+use Rattle.std.proofs.Common.{◌≡◌, ◌≢◌, ℕ, ◌+◌, ◌-◌, ◌*◌, ◌<◌, ◌≤◌, refl, sym, ap, subst, ◌∙◌, inl, inr, ◌⊎◌, arith, List, length}
 use Rattle.std.specs.Prelude.{All, Option, Some, None, IsTrue, slice_get}
 use Rattle.std.specs.Option.{option_map_or}
 use Rattle.std.proofs.lemmas.List.{length-map}
@@ -42,6 +42,14 @@ pub record Acts (t : Tables) (blocks : ℕ) (at : Name → ℕ) (m : Moment) (v 
 pub last_stays : (threads every : ℕ) (h k : List Item) → Extends threads every h k → (moment threads k).last ≡ (moment threads h).last
 last_stays threads every h k (same) = refl
 last_stays threads every h k (called l t o r before is) = last_stays threads every h l before
+
+-- a history that goes on is the same, or longer
+pub same_or_longer : (threads every : ℕ) (h k : List Item) → Extends threads every h k → (k ≡ h) ⊎ (length h < length k)
+same_or_longer threads every h k (same) = inl refl
+same_or_longer threads every h k (called l t o r before is) = elim (same_or_longer threads every h l before) [
+  | inl e ↦ let as_long = ap length e in inr (omega (arith, as_long))
+  | inr longer ↦ inr (omega (arith, longer))
+]
 
 -- rows are counted by registers, sixteen for each but the world's
 as_many_rows : (registers before now last threads : ℕ) → registers ≡ 16 * threads → registers ≡ 16 * (before - 1) → now ≡ last → before ≡ last → 1 ≤ threads → now ≡ threads + 1

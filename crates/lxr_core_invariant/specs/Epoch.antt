@@ -5,7 +5,7 @@ use Rattle.lxr_core_access.specs.Decrementers.{Decrementing}
 use Rattle.lxr_core_access.specs.Decrementers as decrementing
 use Rattle.lxr_core_access.specs.Tracers.{Tracing}
 use Rattle.lxr_core_access.specs.Tracers as tracing
-use Rattle.lxr_core_invariant.specs.ThreadStates.{Reason, Rests, Stage, ThreadState, Through}
+use Rattle.lxr_core_invariant.specs.ThreadStates.{Rests, Stage, ThreadState, Through}
 use Rattle.lxr_core_invariant.specs.EpochStates.{Beginning, Extends, IsBeginning, EpochState, limits_of, moment_of}
 use Rattle.lxr_core_invariant.specs.Imaged.{IsImagedIn}
 use Rattle.lxr_core_invariant.specs.Logged.{AreBitsAndLogs}
@@ -60,7 +60,3 @@ TracersRest s = (i : ℕ) (d : Tracing) → slice_get s.tracers i ≡ Some d →
 -- all mutators rest
 abbrev pub AreResting : EpochState → Type 0
 AreResting s = (i : ℕ) (v : ThreadState) → slice_get s.thread_states i ≡ Some v → IsResting v.stage
-
--- all mutators are through
-abbrev pub AreThrough : EpochState → Type 0
-AreThrough s = (i : ℕ) (v : ThreadState) → slice_get s.thread_states i ≡ Some v → (why : Reason) × (v.stage ≡ Through why)

@@ -39,7 +39,7 @@ use Rattle.lxr_core_invariant.specs.Inside.{MarksStayInsideIn}
 use Rattle.lxr_core_invariant.specs.Remembered.{AreRememberedIn}
 use Rattle.lxr_core_invariant.specs.Drawn.{AreFixed, IsDrawnMemory}
 use Rattle.lxr_core_invariant.specs.Called.{AreCalled}
-use Rattle.lxr_core_invariant.specs.Epoch.{AreResting, AreThrough, DecrementersRest, IsEpoch, TracersRest}
+use Rattle.lxr_core_invariant.specs.Epoch.{AreResting, DecrementersRest, IsEpoch, TracersRest}
 
 -- Every event keeps this, where all parts hold before it.
 abbrev pub IsKept : (Beginning → EpochState → Type 0) → Type 0
@@ -293,10 +293,10 @@ pub record CursorsDontFall : Type 0 where
   pub decrementers : (b : Beginning) (s : EpochState) (i : ℕ) (access : Access) (after : Decrementing) → MayDecrement b s i access after → HaveNotFallen s.tables (decremented s i access after).tables
   pub tracers : (b : Beginning) (s : EpochState) (i : ℕ) (access : Access) (after : Tracing) → MayTrace b s i access after → HaveNotFallen s.tables (traced s i access after).tables
 
--- Where all free blocks were listed as the epoch opened, all mutators are through and each listed block is drawn, each block that isn't Chosen
--- has an object. So objects are at least as many as these blocks.
+-- Where all free blocks were listed as the epoch opened, all mutators rest and each listed block is drawn, each block that isn't Chosen has
+-- an object. So objects are at least as many as these blocks.
 abbrev pub AllBlocksAreTaken : Type 0
-AllBlocksAreTaken = (b : Beginning) (s : EpochState) → IsEpoch b s → FreeBlocksAreListed b.space → AreThrough s → s.tables.cursors FREE_BLOCK_COUNT ≤ s.tables.cursors FREE_BLOCK_CURSOR
+AllBlocksAreTaken = (b : Beginning) (s : EpochState) → IsEpoch b s → FreeBlocksAreListed b.space → AreResting s → s.tables.cursors FREE_BLOCK_COUNT ≤ s.tables.cursors FREE_BLOCK_CURSOR
     → (limits_of b).blocks - most_chosen (limits_of b).blocks ≤ length (moment_of b s).unreclaimed + length (moment_of b s).made
 
 -- all of it

@@ -1,6 +1,6 @@
--- What follows where all mutators are through: why a pause comes, and what the history has of each thread.
-use Rattle.std.specs.Prelude.{◌≡◌, ℕ, ◌+◌, ◌<◌, ◌≤◌, ◌⊎◌, ◌↔◌, ⊤, Option, Some, List, [], ◌∷◌, length, slice_get, take, IsTrue}
-use Rattle.lxr_layout.specs.declared.TheConstants.{FREE_BLOCK_COUNT, FREE_BLOCK_CURSOR}
+-- When a pause is wanted and why it comes, what the history has of each thread where all mutators rest, and that an epoch does something.
+use Rattle.std.specs.Prelude.{◌≡◌, ◌≢◌, ℕ, ◌+◌, ◌<◌, ◌≤◌, ◌⊎◌, ◌↔◌, ⊤, Option, Some, List, [], ◌∷◌, length, slice_get, take, IsTrue}
+use Rattle.lxr_layout.specs.declared.TheConstants.{FREE_BLOCK_COUNT, FREE_BLOCK_CURSOR, PAUSE_WORD}
 use Rattle.lxr_layout.specs.declared.Shape.{Shape}
 use Rattle.lxr_graph.specs.declared.Op.{Op}
 use Rattle.lxr_graph.specs.declared.Op.TheVariants as op
@@ -9,15 +9,29 @@ use Rattle.lxr_model.specs.Belongs.{calls_since_pause, has_asked, writes_referen
 use Rattle.lxr_model.specs.Kinds.{ends}
 use Rattle.lxr_model.specs.Legal.{IsLegalSoFar}
 use Rattle.lxr_model.specs.Terms.{Terms}
-use Rattle.lxr_core_invariant.specs.ThreadStates.{ThreadState, Through, all_of}
+use Rattle.lxr_core_invariant.specs.ThreadStates.{Reason, ThreadState, Through, all_of}
 use Rattle.lxr_core_invariant.specs.ThreadStates as why
 use Rattle.lxr_core_invariant.specs.EpochStates.{Beginning, EpochState, limits_of}
 use Rattle.lxr_core_invariant.specs.Called.{waiting_in}
-use Rattle.lxr_core_invariant.specs.Epoch.{AreResting, AreThrough, IsEpoch}
+use Rattle.lxr_core_invariant.specs.Epoch.{AreResting, IsEpoch}
 
 -- every mutator has done its end
 abbrev pub AllEnded : EpochState → Type 0
 AllEnded s = (i : ℕ) (v : ThreadState) → slice_get s.thread_states i ≡ Some v → v.stage ≡ Through why.Ended
+
+-- ---- when a pause is wanted
+
+-- it is through with the epoch for another reason than its end: it lacks room, saw that a pause is asked for, or had its turn
+abbrev pub IsHeldUp : ThreadState → Type 0
+IsHeldUp v = (reason : Reason) × (v.stage ≡ Through reason) × (reason ≢ why.Ended)
+
+-- A pause is wanted: the pause word is set, or some mutator is through for another reason than its end, or all have done their end. So others
+-- may rest with nothing to do.
+abbrev pub IsPauseWanted : EpochState → Type 0
+IsPauseWanted s =
+    (s.tables.cursors PAUSE_WORD ≡ 1)
+    ⊎ ((i : ℕ) × (v : ThreadState) × (slice_get s.thread_states i ≡ Some v) × IsHeldUp v)
+    ⊎ AllEnded s
 
 -- ---- why a pause comes
 
@@ -43,9 +57,9 @@ pub record HasCause (b : Beginning) (s : EpochState) : Type 0 where
   pub thread : (1 ≤ thread_state.thread) × (thread_state.thread ≤ (limits_of b).threads)
   pub causes : CausesPause b s thread_state
 
--- all have ended, or some mutator is a cause
-abbrev pub ThroughHasCause : Type 0
-ThroughHasCause = (b : Beginning) (s : EpochState) → IsEpoch b s → AreThrough s → AllEnded s ⊎ HasCause b s
+-- where a pause is wanted, all have ended, or some mutator is a cause
+abbrev pub WantedHasCause : Type 0
+WantedHasCause = (b : Beginning) (s : EpochState) → IsEpoch b s → IsPauseWanted s → AllEnded s ⊎ HasCause b s
 
 -- ---- what the history has of each thread
 
@@ -62,9 +76,9 @@ CallsAreBeginnings = (b : Beginning) (s : EpochState) (i : ℕ) (v : ThreadState
 abbrev pub RestIsHistory : Type 0
 RestIsHistory = (b : Beginning) (s : EpochState) (i : ℕ) (v : ThreadState) → IsEpoch b s → AreResting s → slice_get s.thread_states i ≡ Some v → IsAsHistory s v
 
--- as many ends as threads stand in the history exactly where all have ended
+-- at each moment as many ends as threads stand in the history exactly where all have ended
 abbrev pub EndsAreCounted : Type 0
-EndsAreCounted = (b : Beginning) (s : EpochState) (terms : Terms) → IsEpoch b s → AreThrough s
+EndsAreCounted = (b : Beginning) (s : EpochState) (terms : Terms) → IsEpoch b s
     → terms.threads ≡ (limits_of b).threads → IsLegalSoFar terms b.history → (ends s.history ≡ (limits_of b).threads) ↔ AllEnded s
 
 -- ---- progress
@@ -82,8 +96,8 @@ pub record LacksSomeBlock (s : EpochState) : Type 0 where
   pub shows : slice_get s.thread_states number ≡ Some thread_state
   pub lacks : LacksBlock s thread_state
 
--- An epoch that began right after a pause has brought an operation or an end at least, if not all had ended before or some
--- mutator has found no block. A mutator may do an operation between two pauses, and logs have room for an entry.
+-- An epoch that began right after a pause, and at whose end a pause is wanted, has brought an operation or an end at least, if not all had
+-- ended before or some mutator has found no block. A mutator may do an operation between two pauses, and logs have room for an entry.
 abbrev pub EpochProgresses : Type 0
-EpochProgresses = (b : Beginning) (s : EpochState) → IsEpoch b s → AreThrough s → JustPaused b.history → 1 ≤ b.every → 1 ≤ (limits_of b).log
+EpochProgresses = (b : Beginning) (s : EpochState) → IsEpoch b s → AreResting s → IsPauseWanted s → JustPaused b.history → 1 ≤ b.every → 1 ≤ (limits_of b).log
     → AllEnded s ⊎ LacksSomeBlock s ⊎ (length b.history < length s.history)

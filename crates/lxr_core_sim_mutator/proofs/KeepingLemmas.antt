@@ -35,7 +35,7 @@ pub record GoesOn (m : Mutating) : Type 0 where
   pub held : All IsHeld m.registers
   pub spans : AreInHeap m.spans
   pub indexes : HaveIndexes m.regions
-  pub room : m.replies.room ≡ length m.operations + 1
+  pub room : length m.operations + 1 ≤ m.replies.room
   pub replies : length m.replies.items ≤ length m.operations
   pub since : m.since < m.every
 

@@ -1,7 +1,7 @@
 //! Empty spaces, and how a space is opened.
 //!
-//! A space takes all its memory when it is opened: its words, each written once by their allocation, and the room of
-//! its lists. Then the world is placed and the blocks are listed.
+//! A space takes all its memory when it is opened: the room of its words and of its lists, of which nothing is written.
+//! Then the world is placed and the blocks are listed, a word each.
 ghost use Rattle.std.specs.Prelude.{◌≡◌, ◌+◌, ◌*◌, ◌^◌, ◌≤◌, ◌++◌, ◌↔◌, [], IfOk, IsTrue, OnErr, OnOk, length, map};
 ghost use Rattle.lxr_graph.specs.State.{opening_registers, opening_row};
 ghost use Rattle.lxr_image.specs.Image.{IsOpeningImage};

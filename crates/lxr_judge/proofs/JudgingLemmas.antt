@@ -34,7 +34,8 @@ use Rattle.lxr_model_decide.specs.Legality.{must_collect, only_news_since_pause,
 use Rattle.lxr_model_decide.specs.Belonging.{last_pause_was_early, ends_with_pause}
 use Rattle.lxr_model_decide.specs.Reports.{report_at, CanBe}
 use Rattle.lxr_model_decide.specs.Sets.{reachable_names}
-use Rattle.lxr_model_decide.proofs.LegalityLemmas.{collect_kind, must_right, others_reachable}
+use Rattle.lxr_model_decide.proofs.LegalityLemmas.{must_right}
+use Rattle.lxr_model_decide.proofs.TestLemmas.{full_iff, must_test, run_iff, stand_iff}
 use Rattle.lxr_judge_report.specs.LastPauses.{running_of, began_of}
 use Rattle.lxr_judge_report.specs.Positions.{Present, IsAt, kept_leave_no_run, reached_leave_no_run}
 use Rattle.lxr_judge_report.specs.Positions as position
@@ -103,84 +104,6 @@ took_iff e h t ops calls lines all count had has more = (
   λ took. eq-eqb lines ops (let e = took.1 in omega (arith, e, has, count)),
 )
 
--- ---- what is tested is what is meant
-
-only_news_iff : (h : List Item) → IsTrue (only_news_since_pause h) ↔ OnlyNewsSincePause h
-only_news_iff [] = (λ e. true≢false (sym e), λ e. absurd e)
-only_news_iff (Pause report ∷ h) = (λ e. tt, λ e. refl)
-only_news_iff (Call t (op.New dest shape) r ∷ h) = only_news_iff h
-only_news_iff (Call t o r ∷ h) = (λ e. true≢false (sym e), λ e. absurd e)
-
-after_iff : (h : List Item) → IsTrue (is_right_after_collecting h) ↔ IsRightAfterCollecting h
-after_iff [] = (λ e. true≢false (sym e), λ e. absurd e)
-after_iff (Pause report ∷ h) = (collect_kind report.kind, λ e. ap is_collect e)
-after_iff (Call t (op.New dest shape) reply.Full ∷ h) = after_iff h
-after_iff (Call t o r ∷ h) = (λ e. true≢false (sym e), λ e. absurd e)
-
-run_iff : (g : Graph) (ns : List Name) (blocks k : ℕ) → IsTrue (leave_no_run g ns blocks k) ↔ LeaveNoRun g ns blocks k
-run_iff g ns blocks k = (leb-true (slots_in k (blocks - 1)) (slots_taken g k ns), le-leb (slots_in k (blocks - 1)) (slots_taken g k ns))
-
-full_iff : (terms : Terms) (h : List Item) (shape : Shape) → (is_right_after_collecting h ≡ true) × (reached_leave_no_run terms.blocks (line_count shape) (moment terms.threads h) ≡ true) ↔ MayBeFull terms h shape
-full_iff terms h shape =
-    let s = (moment terms.threads h).state in
-    let ns = without (reachable_names s) (world_name ∷ []) in (
-      λ both. ((after_iff h).0 both.0, ns, others_reachable s, (run_iff s.graph ns terms.blocks (line_count shape)).0 both.1),
-      λ full.
-          let same : full.1 ≡ ns = one_set full.2 (others_reachable s) in
-          ((after_iff h).1 full.0, (run_iff s.graph ns terms.blocks (line_count shape)).1 (subst (λ (ms : List Name). LeaveNoRun s.graph ms terms.blocks (line_count shape)) same full.3)),
-    )
-
-must_holds : (terms : Terms) (h : List Item) → MustCollect terms h → must_collect terms h ≡ true
-must_holds terms h (inl called) = or_left (collect_called h) (nat_eq (ends h) terms.threads) called
-must_holds terms h (inr ended) = or_right (collect_called h) (nat_eq (ends h) terms.threads) (eq-eqb (ends h) terms.threads ended)
-
-must_not_iff : (terms : Terms) (h : List Item) → IsTrue (not (must_collect terms h)) ↔ (¬ MustCollect terms h)
-must_not_iff terms h = (
-  λ out. λ must. true≢false (sym (must_holds terms h must) ∙ not-true (must_collect terms h) out),
-  λ none. not_from_false (must_collect terms h) (false_from_ne_true (must_collect terms h) (λ holds. none (must_right terms h holds))),
-)
-
-and_iff : {P Q : Type 0} (a b : Bool) → (IsTrue a ↔ P) → (IsTrue b ↔ Q) → IsTrue (a && b) ↔ (P × Q)
-and_iff a b p q = (λ e. let both = and_parts a b e in (p.0 both.0, q.0 both.1), λ e. and_from a b (p.1 e.0) (q.1 e.1))
-
-or_iff : {P Q : Type 0} (a b : Bool) → (IsTrue a ↔ P) → (IsTrue b ↔ Q) → IsTrue (a || b) ↔ (P ⊎ Q)
-or_iff a b p q = (
-  λ e. elim (or_cases a b e) [ inl x ↦ inl (p.0 x) | inr y ↦ inr (q.0 y) ],
-  λ e. elim e [ inl x ↦ or_left a b (p.1 x) | inr y ↦ or_right a b (q.1 y) ],
-)
-
-eq_iff : (a b : ℕ) → IsTrue (nat_eq a b) ↔ (a ≡ b)
-eq_iff a b = (eqb-true a b, eq-eqb a b)
-
-ne_iff : (a b : ℕ) → IsTrue (not (nat_eq a b)) ↔ (a ≢ b)
-ne_iff a b = (
-  λ out. λ same. true≢false (sym (eq-eqb a b same) ∙ not-true (nat_eq a b) out),
-  λ differ. not_from_false (nat_eq a b) (false_from_ne_true (nat_eq a b) (λ same. differ (eqb-true a b same))),
-)
-
-must_iff : (terms : Terms) (h : List Item) → IsTrue (must_collect terms h) ↔ MustCollect terms h
-must_iff terms h = (must_right terms h, must_holds terms h)
-
-running_iff : (j : ℕ) (trace : Option Trace) → IsTrue (is_running j trace) ↔ IsRunning j trace
-running_iff j None = (λ e. true≢false (sym e), λ e. absurd e)
-running_iff j (Some trace) = eq_iff trace.began j
-
-begin_iff : (terms : Terms) (n : ℕ) (trace : Option Trace) → IsTrue (may_begin terms n trace) ↔ ((trace ≡ None) × (n % terms.trace ≡ 0))
-begin_iff terms n None = (λ e. (refl, eqb-true (n % terms.trace) 0 e), λ e. eq-eqb (n % terms.trace) 0 e.1)
-begin_iff terms n (Some trace) = (λ e. absurd (true≢false (sym e)), λ e. absurd (none-some trace (sym e.0)))
-
-no_trace_iff : (terms : Terms) (n : ℕ) (trace : Option Trace) → IsTrue (needs_no_trace terms n trace) ↔ NeedsNoTrace terms n trace
-no_trace_iff terms n None = ne_iff (n % terms.trace) 0
-no_trace_iff terms n (Some trace) = (ltb-true n (trace.began + terms.within), lt-ltb n (trace.began + terms.within))
-
-stand_iff : (terms : Terms) (h : List Item) (m : Moment) (n : ℕ) (k : Kind) → IsTrue (may_stand terms h m.trace n k) ↔ MayStand terms h m n k
-stand_iff terms h m n kind.Collect = or_iff (must_collect terms h) (only_news_since_pause h) (must_iff terms h) (only_news_iff h)
-stand_iff terms h m n (kind.End j) = and_iff (not (must_collect terms h)) (is_running j m.trace) (must_not_iff terms h) (running_iff j m.trace)
-stand_iff terms h m n kind.Begin =
-    let both = and_iff (not (must_collect terms h)) (may_begin terms n m.trace) (must_not_iff terms h) (begin_iff terms n m.trace) in
-    (λ e. let x = both.0 e in (x.0, x.1.0, x.1.1), λ e. both.1 (e.0, (e.1, e.2)))
-stand_iff terms h m n kind.Plain = and_iff (not (must_collect terms h)) (needs_no_trace terms n m.trace) (must_not_iff terms h) (no_trace_iff terms n m.trace)
-
 -- ---- kinds
 
 stands_as : (terms : Terms) (h : List Item) (trace : Option Trace) (n : ℕ) (k : Kind)
@@ -217,7 +140,10 @@ stands_told e h j answer must began n trace within k keeps is must_is began_is n
 pub not_full_here : (e : Evidence) (h : List Item) (j : Judging) (shape : Shape) → Keeps e j h → j.progress.collected ≡ false → (IsTrue false → MayBeFull e.terms h shape) × (MayBeFull e.terms h shape → IsTrue false)
 not_full_here e h j shape keeps out = (
   λ never. absurd (true≢false (sym never)),
-  λ full. sym out ∙ (keeps.progress.collected ∙ ((full_iff e.terms h shape).1 full).0),
+  λ full.
+      let m = moment e.terms.threads h in
+      let tested = and_parts (is_right_after_collecting h) (reached_leave_no_run e.terms.blocks (line_count shape) m) ((full_iff e.terms h shape).1 full) in
+      sym out ∙ (keeps.progress.collected ∙ tested.0),
 )
 
 pub full_here : (e : Evidence) (h : List Item) (j : Judging) (shape : Shape) (full : Bool) (blocks lines : ℕ) → Keeps e j h → position.Tells j.position (reached_leave_no_run blocks lines) full → blocks ≡ e.terms.blocks
@@ -226,8 +152,8 @@ full_here e h j shape full blocks lines keeps tells blocks_is lines_is here =
     let m = moment e.terms.threads h in
     let same : full ≡ reached_leave_no_run e.terms.blocks (line_count shape) m = tells m keeps.position ∙ (rw (blocks_is, lines_is) refl) in
     let after : is_right_after_collecting h ≡ true = sym keeps.progress.collected ∙ here in (
-      λ is. (full_iff e.terms h shape).0 (after, sym same ∙ is),
-      λ may. same ∙ ((full_iff e.terms h shape).1 may).1,
+      λ is. (full_iff e.terms h shape).0 (and_from (is_right_after_collecting h) (reached_leave_no_run e.terms.blocks (line_count shape) m) after (sym same ∙ is)),
+      λ may. same ∙ (and_parts (is_right_after_collecting h) (reached_leave_no_run e.terms.blocks (line_count shape) m) ((full_iff e.terms h shape).1 may)).1,
     )
 
 -- where a `new` may not reply `full`, and its line says that, no reply is right
@@ -284,28 +210,13 @@ none_further e h n t b before out holds high reason = elim (cases_lt n t) [
   | inl next ↦ let is : t ≡ n + 1 = omega (arith, next, high) in never b out holds (subst (λ (u : ℕ). IsReason e h u) is reason)
 ]
 
--- ---- the end
-
-early_iff : (terms : Terms) (h : List Item) → IsTrue (last_pause_was_early terms h) ↔ LastPauseWasEarly terms h
-early_iff terms [] = (λ e. tt, λ e. refl)
-early_iff terms (Call t o r ∷ h) = early_iff terms h
-early_iff terms (Pause report ∷ h) = (ltb-true (ends h) terms.threads, lt-ltb (ends h) terms.threads)
-
-pub end_iff : (terms : Terms) (h : List Item) → IsTrue (ends_with_pause terms h) ↔ EndsWithPause terms h
-end_iff terms [] = (λ e. true≢false (sym e), λ e. absurd e)
-end_iff terms (Call t o r ∷ h) = (λ e. true≢false (sym e), λ e. absurd e)
-end_iff terms (Pause report ∷ h) = (
-  λ e. let both = and_parts (nat_eq (ends h) terms.threads) (last_pause_was_early terms h) e in (eqb-true (ends h) terms.threads both.0, (early_iff terms h).0 both.1),
-  λ e. and_from (nat_eq (ends h) terms.threads) (last_pause_was_early terms h) (eq-eqb (ends h) terms.threads e.0) ((early_iff terms h).1 e.1),
-)
-
 -- ---- a collecting pause
 
 pub collects_here : (e : Evidence) (h : List Item) (must : Bool) → must ≡ true → must ≡ must_collect e.terms h → IsTrue true ↔ MayCollectHere e h
 collects_here e h must holds is = (λ a. λ never_must. absurd (never_must (must_right e.terms h (sym is ∙ holds))), λ may. refl)
 
 pub waits_here : (e : Evidence) (h : List Item) (must waits : Bool) → must ≡ false → must ≡ must_collect e.terms h → (IsTrue waits ↔ ((t : ℕ) × (o : Op) × IsWaiting e h t o)) → IsTrue waits ↔ MayCollectHere e h
-waits_here e h must waits out is told = (λ a. λ never_must. told.0 a, λ may. told.1 (may (λ asked. true≢false (sym (must_holds e.terms h asked) ∙ (sym is ∙ out)))))
+waits_here e h must waits out is told = (λ a. λ never_must. told.0 a, λ may. told.1 (may (λ asked. true≢false (sym (must_test e.terms h asked) ∙ (sym is ∙ out)))))
 
 pub pause_collects : (e : Evidence) (h : List Item) (k : Kind) (stands reason may : Bool) → k ≡ kind.Collect → stands ≡ true → reason ≡ true
     → (IsTrue stands ↔ MayStand e.terms h (moment e.terms.threads h) ((moment e.terms.threads h).number + 1) k) → (IsTrue reason ↔ HasReason e h) → (IsTrue may ↔ MayCollectHere e h) → IsTrue may ↔ MayPause e h k

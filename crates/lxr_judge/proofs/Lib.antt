@@ -7,3 +7,11 @@ pub mod ProgressLemmas
 pub mod RoomLemmas
 pub mod JudgingLemmas
 pub mod TryLemmas
+pub mod GatheredLemmas
+pub mod PartLemmas
+pub mod OwnLemmas
+pub mod FormedLemmas
+pub mod ModestLemmas
+pub mod SmallLemmas
+pub mod TextLemmas
+pub mod OwnOutputLemmas

@@ -17,7 +17,7 @@ use Rattle.lxr_judge.specs.Taking.{pauses_in}
 use Rattle.lxr_judge.specs.Passing.{AllPass}
 
 -- a call leaves the state, or takes a step
-after_cases : (s : State) (t : ℕ) (o : Op) (r : Reply) → (state_after s t o r ≡ s) ⊎ (state_after s t o r ≡ (step s t o).0)
+pub after_cases : (s : State) (t : ℕ) (o : Op) (r : Reply) → (state_after s t o r ≡ s) ⊎ (state_after s t o r ≡ (step s t o).0)
 after_cases s t (op.New dest shape) reply.Full = inl refl
 after_cases s t (op.New dest shape) r = inr refl
 after_cases s t o r = inr refl
@@ -32,7 +32,7 @@ rows_are threads (Call t o r ∷ h) =
       | inr next ↦ ap (λ (z : State). length z.graph) next ∙ ((step_rows s t o).rows ∙ rows_are threads h)
     ]
 
-empty_row : (n k : ℕ) → slice_index_or (replicate n (let none : List Object = [] in none)) k [] ≡ []
+pub empty_row : (n k : ℕ) → slice_index_or (replicate n (let none : List Object = [] in none)) k [] ≡ []
 empty_row zero zero = refl
 empty_row zero (suc k) = refl
 empty_row (suc n) zero = refl

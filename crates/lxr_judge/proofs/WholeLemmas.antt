@@ -35,7 +35,7 @@ taken_at : (e : Evidence) (above h : List Item) → AreTaken e (onto above h) �
 taken_at e [] h all = all
 taken_at e (x ∷ above) h all = (taken_at e above (x ∷ h) all).0
 
-legal_at : (terms : Terms) (above h : List Item) → IsLegalSoFar terms (onto above h) → IsLegalSoFar terms h
+pub legal_at : (terms : Terms) (above h : List Item) → IsLegalSoFar terms (onto above h) → IsLegalSoFar terms h
 legal_at terms [] h all = all
 legal_at terms (x ∷ above) h all = (legal_at terms above (x ∷ h) all).0
 

@@ -19,7 +19,7 @@ mod sources;
 mod verdict;
 
 use judging::Judging;
-pub use laws::{good_items_pass, passing_is_good, verdicts_are_one};
+pub use laws::{good_items_pass, own_output_is_good, passing_is_good, verdicts_are_one};
 use lxr_case::{Case, Terms};
 use lxr_judge_output::{Output, read_output};
 use sources::Sources;

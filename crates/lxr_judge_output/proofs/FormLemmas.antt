@@ -31,7 +31,7 @@ onto counts threads p g line x [] = refl
 onto counts threads p g line x (part ∷ parts) = refl
 
 -- a part that others follow is a line
-more_parts : (counts : Bool) (threads : ℕ) (p : Place) (g : Gathered Text) (line rest : Text)
+pub more_parts : (counts : Bool) (threads : ℕ) (p : Place) (g : Gathered Text) (line rest : Text)
     → parts_read counts threads p g (line ∷ slice_split (λ b. nat_eq b 10) rest) ≡ option_and_then (λ kind. parts_read counts threads (place_behind counts p kind) (with_line g line kind) (slice_split (λ b. nat_eq b 10) rest)) (kind_at threads p (fields_of line))
 unfolding parts_read
 more_parts counts threads p g line [] = refl

@@ -1,2 +1,5 @@
-mod FieldLemmas
-mod FormLemmas
+pub mod FieldLemmas
+pub mod FormLemmas
+pub mod PrintedLemmas
+pub mod LeadingLemmas
+pub mod ReadingLemmas

@@ -62,8 +62,8 @@ impl Model for LargeHeap {
 }
 
 impl LargeHeap {
-    /// A heap of so many blocks, and so many for bodies, 1 to 65,536 each: it has the world alone, which r0 holds. What is reserved for
-    /// objects is written here; what is reserved for bodies is written as it is used, but for the tables.
+    /// A heap of so many blocks, and so many for bodies, 1 to 65,536 each: it has the world alone, which r0 holds. All its memory
+    /// is reserved here, and written as it is used, but for a word of each block.
     pub fn open(alloc: Global, blocks: u32, bodies: u32) -> Result<LargeHeap, AllocError>
         requires blocks { (1 ≤ blocks) × (blocks ≤ MOST_BLOCKS) }
         requires bodies { (1 ≤ bodies) × (bodies ≤ MOST_BLOCKS) }

@@ -1,6 +1,6 @@
 -- Each test of belonging holds exactly where its point does.
 use Rattle.std.proofs.Common.{◌≡◌, ℕ, zero, suc, ◌+◌, ◌-◌, ◌≤◌, refl, sym, subst, inl, inr, arith, Bool, true, false, List, [], ◌∷◌, IsTrue, nat_eq, length}
-use Rattle.std.specs.Prelude.{nat_le, not, ◌&&◌, ◌||◌}
+use Rattle.std.specs.Prelude.{◌↔◌, nat_le, not, ◌&&◌, ◌||◌}
 use Rattle.std.proofs.lemmas.Bool.{or_cases, or_left, or_right, and_parts, and_from, not-true, not_from_false}
 use Rattle.lxr_layout.specs.Spaces.{most_chosen}
 use Rattle.lxr_graph.specs.declared.Op.{Op}
@@ -173,6 +173,9 @@ end_test : (terms : Terms) (h : List Item) → EndsWithPause terms h → IsTrue 
 end_test terms [] e = absurd e
 end_test terms (Call t o r ∷ h) e = absurd e
 end_test terms (Pause report ∷ h) e = and_from (nat_eq (ends h) terms.threads) (last_pause_was_early terms h) (test_from_eq (ends h) terms.threads e.0) (early_test terms h e.1)
+
+pub end_iff : (terms : Terms) (h : List Item) → IsTrue (ends_with_pause terms h) ↔ EndsWithPause terms h
+end_iff terms h = (end_right terms h, end_test terms h)
 
 -- ---- all points
 

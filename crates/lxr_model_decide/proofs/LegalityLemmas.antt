@@ -14,8 +14,10 @@ use Rattle.lxr_graph.specs.declared.report.Kind.{Kind}
 use Rattle.lxr_graph.specs.declared.report.Kind.TheVariants as kind
 use Rattle.lxr_graph.specs.Names.{has, without, union, IsSetOf}
 use Rattle.lxr_graph.specs.State.{Graph, State, world_name}
+use Rattle.lxr_graph.specs.Forms.{is_well_formed}
 use Rattle.lxr_graph.specs.Step.{IsWellFormed}
 use Rattle.lxr_graph.specs.History.{PauseReport, Item, Call, Pause}
+use Rattle.lxr_graph.proofs.FormLemmas.{well_formed}
 use Rattle.lxr_graph.proofs.NameSets.{not_both, has_one, in_order-without, without_parts, in_without}
 use Rattle.lxr_model.specs.Reachable.{Reachable}
 use Rattle.lxr_model.specs.Terms.{Terms}
@@ -26,7 +28,7 @@ use Rattle.lxr_model.specs.Full.{LeaveNoRun, IsRightAfterCollecting, MayBeFull, 
 use Rattle.lxr_model.specs.Legal.{Replies, StandsForWaiting, IsWaitedFor, KeepsPromise, MayFollow, IsLegalSoFar, IsLegal, OwesNoCall}
 use Rattle.lxr_model_decide.specs.Sets.{reachable_names}
 use Rattle.lxr_model_decide.specs.Reports.{CanBe}
-use Rattle.lxr_model_decide.specs.Legality.{must_collect, only_news_since_pause, may_collect, is_running, may_begin, needs_no_trace, may_stand, fits_shape, is_well_formed, is_collect, leave_no_run, is_right_after_collecting, may_be_full, may_reply, stands_for_waiting, is_waited_for, keeps_promise, owes_no_call, may_follow, all_may_stand, reply_again, item_again, again, IsFoundLegal}
+use Rattle.lxr_model_decide.specs.Legality.{must_collect, only_news_since_pause, may_collect, is_running, may_begin, needs_no_trace, may_stand, is_collect, leave_no_run, is_right_after_collecting, may_be_full, may_reply, stands_for_waiting, is_waited_for, keeps_promise, owes_no_call, may_follow, all_may_stand, reply_again, item_again, again, IsFoundLegal}
 use Rattle.lxr_model_decide.proofs.SetLemmas.{reachable_right}
 use Rattle.lxr_model_decide.proofs.PartLemmas.{reports_right, le_from_test}
 
@@ -84,7 +86,7 @@ no_trace_right : (terms : Terms) (k : ℕ) (trace : Option Trace) → IsTrue (ne
 no_trace_right terms k None e = ne_from_test (k % terms.trace) 0 e
 no_trace_right terms k (Some trace) e = lt_from_test k (trace.began + terms.within) e
 
-stand_right : (terms : Terms) (h : List Item) (m : Moment) (k : ℕ) (i : Kind) → IsTrue (may_stand terms h m.trace k i) → MayStand terms h m k i × CanBe m i
+pub stand_right : (terms : Terms) (h : List Item) (m : Moment) (k : ℕ) (i : Kind) → IsTrue (may_stand terms h m.trace k i) → MayStand terms h m k i × CanBe m i
 stand_right terms h m k kind.Collect e = (collect_right terms h e, tt)
 stand_right terms h m k (kind.End j) e =
     let a = and_parts (not (must_collect terms h)) (is_running j m.trace) e in
@@ -98,27 +100,6 @@ stand_right terms h m k kind.Plain e =
     ((must_not terms h a.0, no_trace_right terms k m.trace a.1), tt)
 
 -- ---- calls
-
-below_two : (a b : ℕ) → IsTrue (nat_lt a 16 && nat_lt b 16) → (a < 16) × (b < 16)
-below_two a b e = let c = and_parts (nat_lt a 16) (nat_lt b 16) e in (lt_from_test a 16 c.0, lt_from_test b 16 c.1)
-
-shape_right : (shape : Shape) → IsTrue (fits_shape shape) → FitsShape shape
-shape_right shape e = let c = and_parts (nat_le shape.refs 1023) (nat_le shape.values 1023) e in (le_from_test shape.refs 1023 c.0, le_from_test shape.values 1023 c.1)
-
-formed_right : (o : Op) → IsTrue (is_well_formed o) → IsWellFormed o
-formed_right (op.New dest shape) e = let c = and_parts (nat_lt dest 16) (fits_shape shape) e in (lt_from_test dest 16 c.0, shape_right shape c.1)
-formed_right (op.Load dest base index) e = below_two dest base e
-formed_right (op.Store base index source) e = below_two base source e
-formed_right (op.Put base index value) e = lt_from_test base 16 e
-formed_right (op.Get base index) e = lt_from_test base 16 e
-formed_right (op.Swap dest base index source) e = let c = and_parts (nat_lt dest 16) (nat_lt base 16 && nat_lt source 16) e in let d = below_two base source c.1 in (lt_from_test dest 16 c.0, d.0, d.1)
-formed_right (op.Add base index value) e = lt_from_test base 16 e
-formed_right (op.Move dest source) e = below_two dest source e
-formed_right (op.Nil dest) e = lt_from_test dest 16 e
-formed_right (op.Same left right) e = below_two left right e
-formed_right op.Pause e = tt
-formed_right op.Collect e = tt
-formed_right op.End e = tt
 
 pub collect_kind : (k : Kind) → IsTrue (is_collect k) → k ≡ kind.Collect
 collect_kind kind.Collect e = refl
@@ -142,10 +123,10 @@ others_reachable s = record {
   );
 }
 
-run_right : (g : Graph) (ns : List Name) (blocks k : ℕ) → IsTrue (leave_no_run g ns blocks k) → LeaveNoRun g ns blocks k
+pub run_right : (g : Graph) (ns : List Name) (blocks k : ℕ) → IsTrue (leave_no_run g ns blocks k) → LeaveNoRun g ns blocks k
 run_right g ns blocks k e = le_from_test (slots_in k (blocks - 1)) (slots_taken g k ns) e
 
-full_right : (terms : Terms) (h : List Item) (shape : Shape) → IsTrue (may_be_full terms h (moment terms.threads h) shape) → MayBeFull terms h shape
+pub full_right : (terms : Terms) (h : List Item) (shape : Shape) → IsTrue (may_be_full terms h (moment terms.threads h) shape) → MayBeFull terms h shape
 full_right terms h shape e =
     let s = (moment terms.threads h).state in
     let ns = without (reachable_names s) (world_name ∷ []) in
@@ -208,7 +189,7 @@ follow_right terms h (Call t o r) e same =
     let c = and_parts (is_well_formed o) (may_reply terms h (moment terms.threads h) o r) a.1 in
     record {
       thread = (le_from_test 1 t b.0, le_from_test t terms.threads b.1);
-      operation = formed_right o c.0;
+      operation = (well_formed o).0 c.0;
       reply = replies_right terms h t o r c.1 (same_reply same);
     }
 follow_right terms h (Pause report) e same =

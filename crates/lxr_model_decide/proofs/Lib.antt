@@ -6,5 +6,6 @@ pub mod BelongingLemmas
 pub mod TestLemmas
 mod RunLemmas
 mod MissLemmas
+mod ScriptLemmas
 pub mod SwapLemmas
 mod RememberedLemmas

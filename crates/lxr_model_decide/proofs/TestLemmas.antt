@@ -1,7 +1,7 @@
 -- The tests of an item hold wherever what they stand for does, and the replies and reports of a legal history are those
 -- computed again, since a moment gives one report of a kind.
 use Rattle.std.proofs.Common.{◌≡◌, ◌≢◌, ℕ, ◌+◌, ◌-◌, ◌%◌, ◌<◌, refl, ap, subst, inl, inr, arith, true, false, List, [], ◌∷◌, IsTrue, nat_eq, nat_lt}
-use Rattle.std.specs.Prelude.{Option, Some, None, nat_le, not, ◌&&◌, ◌||◌}
+use Rattle.std.specs.Prelude.{◌↔◌, Option, Some, None, nat_le, not, ◌&&◌, ◌||◌}
 use Rattle.std.proofs.lemmas.Bool.{or_left, or_right, and_parts, and_from, not-true, not_from_false, false_from_ne_true}
 use Rattle.lxr_layout.specs.declared.Name.{Name}
 use Rattle.lxr_layout.specs.declared.Shape.{Shape}
@@ -15,8 +15,10 @@ use Rattle.lxr_graph.specs.declared.report.Kind.{Kind}
 use Rattle.lxr_graph.specs.declared.report.Kind.TheVariants as kind
 use Rattle.lxr_graph.specs.Names.{without, union}
 use Rattle.lxr_graph.specs.State.{Graph, world_name}
+use Rattle.lxr_graph.specs.Forms.{is_well_formed}
 use Rattle.lxr_graph.specs.Step.{IsWellFormed}
 use Rattle.lxr_graph.specs.History.{PauseReport, Item, Call, Pause}
+use Rattle.lxr_graph.proofs.FormLemmas.{well_formed}
 use Rattle.lxr_graph.proofs.NameSets.{not_both}
 use Rattle.lxr_model.specs.Terms.{Terms}
 use Rattle.lxr_model.specs.Moments.{Trace, Moment, moment}
@@ -25,13 +27,13 @@ use Rattle.lxr_model.specs.Full.{LeaveNoRun, IsRightAfterCollecting, MayBeFull, 
 use Rattle.lxr_model.specs.Legal.{Replies, StandsForWaiting, IsWaitedFor, KeepsPromise, MayFollow, IsLegalSoFar, OwesNoCall}
 use Rattle.lxr_model_decide.specs.Sets.{reachable_names}
 use Rattle.lxr_model_decide.specs.Reports.{report_at, CanBe}
-use Rattle.lxr_model_decide.specs.Legality.{must_collect, only_news_since_pause, may_collect, is_running, may_begin, needs_no_trace, may_stand, fits_shape, is_well_formed, is_collect, leave_no_run, is_right_after_collecting, may_be_full, may_reply, stands_for_waiting, is_waited_for, keeps_promise, owes_no_call, may_follow, all_may_stand, reply_again, item_again, again}
+use Rattle.lxr_model_decide.specs.Legality.{must_collect, only_news_since_pause, may_collect, is_running, may_begin, needs_no_trace, may_stand, is_collect, leave_no_run, is_right_after_collecting, may_be_full, may_reply, stands_for_waiting, is_waited_for, keeps_promise, owes_no_call, may_follow, all_may_stand, reply_again, item_again, again}
 use Rattle.lxr_model_decide.proofs.PartLemmas.{reports_right}
 use Rattle.lxr_graph.proofs.NameSets.{one_set}
 use Rattle.lxr_model_laws.proofs.ReportLemmas.{report_determined}
 use Rattle.lxr_model_decide.specs.Laws.{LegalityIsComputed}
 use Rattle.lxr_model_decide.proofs.PartLemmas.{test_from_le}
-use Rattle.lxr_model_decide.proofs.LegalityLemmas.{eq_from_test, test_from_eq, must_right, collect_kind, others_reachable, legal_by_tests}
+use Rattle.lxr_model_decide.proofs.LegalityLemmas.{eq_from_test, test_from_eq, must_right, stand_right, collect_kind, others_reachable, run_right, full_right, legal_by_tests}
 
 -- ---- numbers
 
@@ -43,7 +45,7 @@ test_from_ne a b h = not_from_false (nat_eq a b) (false_from_ne_true (nat_eq a b
 
 -- ---- where a kind may stand
 
-must_test : (terms : Terms) (h : List Item) → MustCollect terms h → IsTrue (must_collect terms h)
+pub must_test : (terms : Terms) (h : List Item) → MustCollect terms h → IsTrue (must_collect terms h)
 must_test terms h (inl k) = or_left (collect_called h) (nat_eq (ends h) terms.threads) k
 must_test terms h (inr k) = or_right (collect_called h) (nat_eq (ends h) terms.threads) (test_from_eq (ends h) terms.threads k)
 
@@ -79,27 +81,6 @@ stand_test terms h m k kind.Begin e = and_from (not (must_collect terms h)) (may
 stand_test terms h m k kind.Plain e = and_from (not (must_collect terms h)) (needs_no_trace terms k m.trace) (must_not_test terms h e.0) (no_trace_test terms k m.trace e.1)
 
 -- ---- calls
-
-both_below : (a b : ℕ) → a < 16 → b < 16 → IsTrue (nat_lt a 16 && nat_lt b 16)
-both_below a b p q = and_from (nat_lt a 16) (nat_lt b 16) (test_from_lt a 16 p) (test_from_lt b 16 q)
-
-shape_test : (shape : Shape) → FitsShape shape → IsTrue (fits_shape shape)
-shape_test shape e = and_from (nat_le shape.refs 1023) (nat_le shape.values 1023) (test_from_le shape.refs 1023 e.0) (test_from_le shape.values 1023 e.1)
-
-formed_test : (o : Op) → IsWellFormed o → IsTrue (is_well_formed o)
-formed_test (op.New dest shape) e = and_from (nat_lt dest 16) (fits_shape shape) (test_from_lt dest 16 e.0) (shape_test shape e.1)
-formed_test (op.Load dest base index) e = both_below dest base e.0 e.1
-formed_test (op.Store base index source) e = both_below base source e.0 e.1
-formed_test (op.Put base index value) e = test_from_lt base 16 e
-formed_test (op.Get base index) e = test_from_lt base 16 e
-formed_test (op.Swap dest base index source) e = and_from (nat_lt dest 16) (nat_lt base 16 && nat_lt source 16) (test_from_lt dest 16 e.0) (both_below base source e.1 e.2)
-formed_test (op.Add base index value) e = test_from_lt base 16 e
-formed_test (op.Move dest source) e = both_below dest source e.0 e.1
-formed_test (op.Nil dest) e = test_from_lt dest 16 e
-formed_test (op.Same left right) e = both_below left right e.0 e.1
-formed_test op.Pause e = refl
-formed_test op.Collect e = refl
-formed_test op.End e = refl
 
 after_test : (h : List Item) → IsRightAfterCollecting h → IsTrue (is_right_after_collecting h)
 after_test [] e = absurd e
@@ -176,7 +157,7 @@ follow_test terms h (Call t o r) e =
     let m = moment terms.threads h in
     let a = replies_test terms h t o r e.reply in
     let low = and_from (nat_le 1 t) (nat_le t terms.threads) (test_from_le 1 t e.thread.0) (test_from_le t terms.threads e.thread.1) in
-    let formed = and_from (is_well_formed o) (may_reply terms h m o r) (formed_test o e.operation) a.0 in
+    let formed = and_from (is_well_formed o) (may_reply terms h m o r) ((well_formed o).1 e.operation) a.0 in
     (and_from (nat_le 1 t && nat_le t terms.threads) (is_well_formed o && may_reply terms h m o r) low formed, ap (Call t o) a.1)
 follow_test terms h (Pause report) e =
     let m = moment terms.threads h in
@@ -200,3 +181,14 @@ legality_right terms h = (
   λ legal. let a = tests_so_far terms h legal.0 in record { stand = a.0; owes = owes_test terms h legal.1; same = a.1 },
   legal_by_tests terms h,
 )
+
+-- ---- both ways
+
+pub stand_iff : (terms : Terms) (h : List Item) (m : Moment) (k : ℕ) (i : Kind) → IsTrue (may_stand terms h m.trace k i) ↔ MayStand terms h m k i
+stand_iff terms h m k i = (λ e. (stand_right terms h m k i e).0, stand_test terms h m k i)
+
+pub run_iff : (g : Graph) (ns : List Name) (blocks k : ℕ) → IsTrue (leave_no_run g ns blocks k) ↔ LeaveNoRun g ns blocks k
+run_iff g ns blocks k = (run_right g ns blocks k, run_test g ns blocks k)
+
+pub full_iff : (terms : Terms) (h : List Item) (shape : Shape) → IsTrue (may_be_full terms h (moment terms.threads h) shape) ↔ MayBeFull terms h shape
+full_iff terms h shape = (full_right terms h shape, full_test terms h shape)

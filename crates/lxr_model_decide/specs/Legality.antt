@@ -13,6 +13,7 @@ use Rattle.lxr_graph.specs.declared.report.Kind.{Kind}
 use Rattle.lxr_graph.specs.declared.report.Kind.TheVariants as kind
 use Rattle.lxr_graph.specs.Names.{without, union}
 use Rattle.lxr_graph.specs.State.{Graph, world_name}
+use Rattle.lxr_graph.specs.Forms.{is_well_formed}
 use Rattle.lxr_graph.specs.Step.{step}
 use Rattle.lxr_graph.specs.History.{PauseReport, Item, Call, Pause}
 use Rattle.lxr_model.specs.Terms.{Terms}
@@ -62,26 +63,6 @@ may_stand terms h trace k kind.Begin = not (must_collect terms h) && may_begin t
 may_stand terms h trace k kind.Plain = not (must_collect terms h) && needs_no_trace terms k trace
 
 -- ---- calls
-
--- at most 1,023 references and at most 1,023 data words
-abbrev pub fits_shape : Shape → Bool
-fits_shape shape = nat_le shape.refs 1023 && nat_le shape.values 1023
-
--- the registers of an operation are below 16, and its shape fits
-abbrev pub is_well_formed : Op → Bool
-is_well_formed (op.New dest shape) = nat_lt dest 16 && fits_shape shape
-is_well_formed (op.Load dest base index) = nat_lt dest 16 && nat_lt base 16
-is_well_formed (op.Store base index source) = nat_lt base 16 && nat_lt source 16
-is_well_formed (op.Put base index value) = nat_lt base 16
-is_well_formed (op.Get base index) = nat_lt base 16
-is_well_formed (op.Swap dest base index source) = nat_lt dest 16 && (nat_lt base 16 && nat_lt source 16)
-is_well_formed (op.Add base index value) = nat_lt base 16
-is_well_formed (op.Move dest source) = nat_lt dest 16 && nat_lt source 16
-is_well_formed (op.Nil dest) = nat_lt dest 16
-is_well_formed (op.Same left right) = nat_lt left 16 && nat_lt right 16
-is_well_formed op.Pause = true
-is_well_formed op.Collect = true
-is_well_formed op.End = true
 
 -- these objects can leave no run of k lines in so many blocks
 abbrev pub leave_no_run : Graph → List Name → ℕ → ℕ → Bool

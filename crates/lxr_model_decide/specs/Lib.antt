@@ -8,4 +8,5 @@ pub mod ExampleWords
 pub mod ExampleHistories
 pub mod NearMisses
 pub mod ExampleSwaps
+pub mod ExampleScripts
 pub mod Remembered

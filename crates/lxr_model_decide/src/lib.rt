@@ -11,6 +11,7 @@ mod near_misses;
 mod remembered;
 mod reports;
 mod runs;
+mod scripts;
 mod sets;
 mod swaps;
 
@@ -26,6 +27,7 @@ pub use runs::{
     overwritten_is_not_promoted, store_waits_for_log, stored_again_counts_once, stuck_is_swept,
     trace_sweeps_cycle,
 };
+pub use scripts::{done_is_asked_for_once, ended_is_asked_no_more, script_grows};
 pub use sets::{dead_names, promoted_names, reachable_names};
 pub use swaps::{
     add_does_not_stop_at_the_largest, add_does_not_tell_the_sum, add_fills_no_log,

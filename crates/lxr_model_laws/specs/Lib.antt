@@ -1,3 +1,4 @@
 pub mod OnceLaws
 pub mod ReportLaws
 pub mod UnreclaimedLaws
+pub mod ScriptLaws

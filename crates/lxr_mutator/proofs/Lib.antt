@@ -1,4 +1,5 @@
 pub mod RunLemmas
+pub mod OrderLemmas
 pub mod NowLemmas
 pub mod StraightLemmas
 pub mod PlacedLemmas

@@ -1,6 +1,7 @@
 -- How long units are, and when they give up. Each law is the contract of a function with an empty body.
-use Rattle.std.specs.Prelude.{◌≡◌, ◌≢◌, ℕ, ◌+◌, ◌≤◌, ◌⊎◌, false, Some, IsSome, IsTrue}
+use Rattle.std.specs.Prelude.{◌≡◌, ◌≢◌, ℕ, ◌+◌, ◌≤◌, ◌⊎◌, ◌↔◌, false, true, Some, IsSome, IsTrue}
 use Rattle.lxr_layout.specs.declared.TheConstants.{FREE_BLOCK_CURSOR, RUN_CURSOR}
+use Rattle.lxr_graph.specs.declared.Op.{Op}
 use Rattle.lxr_graph.specs.declared.Op.TheVariants as op
 use Rattle.lxr_graph.specs.declared.Reply.{Reply}
 use Rattle.lxr_barrier.specs.declared.StoreEnd.TheVariants as store_end
@@ -11,7 +12,8 @@ use Rattle.lxr_mutator.specs.declared.phases.Stop.{Stop}
 use Rattle.lxr_mutator.specs.declared.phases.Stop.TheVariants as stop
 use Rattle.lxr_mutator.specs.Mutating.{Mutating, op_now, rests_in}
 use Rattle.lxr_mutator.specs.Steps.{action, after, done_with, drawing, end_by, ended, finished, is_medium, left_in, shape_now, storing}
-use Rattle.lxr_mutator.specs.Mutators.{IsMutator}
+use Rattle.lxr_mutator.specs.Mutators.{IsMutator, MayTakeOrder}
+use Rattle.lxr_mutator.specs.Orders.{ordered, with_order}
 
 -- a unit has at most 8,192 steps
 abbrev pub UnitsAreShort : Type 0
@@ -73,3 +75,15 @@ MutatorsDrawByRule = (m : Mutating) (old : ℕ) → DrawsByRule m old
 -- what holds of a mutator holds of it after each step, whatever the word was
 abbrev pub MutatorsStaySo : Type 0
 MutatorsStaySo = (m : Mutating) (old : ℕ) → IsMutator m → IsSome (action m) → IsMutator (after m old)
+
+-- An order is taken exactly where it may be. Then the operation stands behind those that the mutator has, and else nothing changes. Either way it
+-- is a mutator again.
+pub record TakesOrdersByRule (m : Mutating) (o : Op) : Type 0 where
+  pub taken : (ordered m o).1 ≡ true ↔ MayTakeOrder m o
+  pub may : MayTakeOrder m o → (ordered m o).0 ≡ with_order m o
+  pub may_not : ¬ MayTakeOrder m o → (ordered m o).0 ≡ m
+  pub stays : IsMutator m → IsMutator (ordered m o).0
+
+-- it is so with each order
+abbrev pub MutatorsTakeOrdersByRule : Type 0
+MutatorsTakeOrdersByRule = (m : Mutating) (o : Op) → TakesOrdersByRule m o

@@ -1,5 +1,6 @@
 pub mod Operating
 pub mod Mutating
+pub mod Orders
 pub mod Steps
 pub mod Mutators
 pub mod Seen

@@ -101,7 +101,7 @@ pub record IsMutator (m : Mutating) : Type 0 where
   pub spans : AreInHeap m.spans
   pub indexes : HaveIndexes m.regions
   -- there is room for each reply, that of the thread's end too
-  pub room : m.replies.room ≡ length m.operations + 1
+  pub room : length m.operations + 1 ≤ m.replies.room
   pub few_replies : length m.replies.items ≤ length m.operations + 1
   pub replies : IsThrough m ⊎ (length m.replies.items ≤ length m.operations)
   -- a unit that is in progress, or that ended for want of lines, is that of an operation
@@ -117,9 +117,9 @@ pub record IsBusy (m : Mutating) (p : MutatorPhase) : Type 0 where
   pub operation : length m.replies.items < length m.operations
   pub may : MayBeIn m p
 
--- a mutator as it is made
-abbrev pub first : ℕ → List Op → Limits → ℕ → Mutating
-first thread operations limits every = record {
+-- a mutator as it is made, with these operations and with room for so many in all
+abbrev pub first_of : ℕ → List Op → Limits → ℕ → ℕ → Mutating
+first_of thread operations limits every most = record {
   thread = thread;
   operations = operations;
   regions = regions_of limits;
@@ -127,11 +127,27 @@ first thread operations limits every = record {
   log = record { items = []; room = limits.log };
   registers = replicate 16 nil;
   spans = no_spans;
-  replies = record { items = []; room = length operations + 1 };
+  replies = record { items = []; room = most + 1 };
   since = 0;
   phase = phase.Ready;
   end = None;
 }
+
+-- one of a script: it has all its operations, and no room for others
+abbrev pub first : ℕ → List Op → Limits → ℕ → Mutating
+first thread operations limits every = first_of thread operations limits every (length operations)
+
+-- one that is yet to be ordered its operations, at most so many
+abbrev pub first_live : ℕ → Limits → ℕ → ℕ → Mutating
+first_live thread limits every most = first_of thread [] limits every most
+
+-- It takes an order where it is between two operations and may do a further one in this epoch, for an operation as those of a script,
+-- and while there is room for that and its reply.
+pub record MayTakeOrder (m : Mutating) (o : Op) : Type 0 where
+  pub ready : m.phase ≡ phase.Ready
+  pub operation : IsOperation o
+  pub room : length m.operations + 1 < m.replies.room
+  pub few : length m.operations < 1048576
 
 -- its `new` is done from outside with this reply, in no turn of its own
 abbrev pub answered : Mutating → Reply → Mutating

@@ -1,5 +1,5 @@
 -- A mutator's fields: what contracts see of them, and what holds of them.
-use Rattle.std.specs.Prelude.{◌≡◌, ℕ}
+use Rattle.std.specs.Prelude.{◌≡◌, ℕ, ◌+◌, ◌≤◌}
 use Rattle.lxr_layout.specs.declared.Shape.{Shape}
 use Rattle.lxr_layout.specs.Objects.{word_count}
 use Rattle.lxr_mutator.specs.declared.mutator.Mutator.TheInside.{Inside}
@@ -35,3 +35,6 @@ pub record IsKept (m : Inside) : Type 0 where
   pub sound : IsMutator (seen m)
   pub tally : m.tally ≡ tally_of m.replies.items
   pub words : AreWords m.words (shape_now (seen m)) m.phase
+  -- there is room for so many operations, for their replies and for that of the thread's end
+  pub for_operations : m.most ≤ m.operations.room
+  pub for_replies : m.replies.room ≡ m.most + 1

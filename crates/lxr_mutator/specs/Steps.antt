@@ -32,6 +32,7 @@ use Rattle.lxr_mutator.specs.declared.phases.Stop.{Stop}
 use Rattle.lxr_mutator.specs.declared.phases.Stop.TheVariants as stop
 use Rattle.lxr_mutator.specs.Operating.{dest_of, index_of, value_of, shape_made, indexed_fields, found_reply, asked_reply}
 use Rattle.lxr_mutator.specs.Mutating.{Mutating, nil, op_now, register, next_name, rests_in}
+use Rattle.lxr_mutator.specs.Orders.{ordered}
 
 -- the shape of the object that it makes
 abbrev pub shape_now : Mutating → Shape
@@ -305,4 +306,5 @@ mutator_machine = record {
   left = λ m. left_in m m.phase;
   offered = λ m place. (m, false);
   spared = λ m. (m, None);
+  ordered = ordered;
 }

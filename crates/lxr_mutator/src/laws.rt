@@ -1,6 +1,6 @@
 //! What holds of every mutator. The functions do nothing: the contract of each is the law, and whoever calls one knows
 //! it.
-ghost use Rattle.lxr_mutator.specs.Laws.{MutatorsDrawByRule, MutatorsGiveUpByRules, MutatorsStaySo, MutatorsStepByRule, UnitsAreShort};
+ghost use Rattle.lxr_mutator.specs.Laws.{MutatorsDrawByRule, MutatorsGiveUpByRules, MutatorsStaySo, MutatorsStepByRule, MutatorsTakeOrdersByRule, UnitsAreShort};
 ghost use Rattle.lxr_mutator.specs.Found.{AddsTellWhatTheyFind, SwapsTellWhatTheyFind};
 ghost use Rattle.lxr_mutator.specs.Units.{CausesEndUnits, UnitsEndByRules};
 
@@ -42,6 +42,13 @@ pub fn units_end_by_rules()
 /// And the other way round: a unit whose steps were so ended so.
 pub fn causes_end_units()
     ensures { CausesEndUnits }
+{}
+
+/// A mutator takes an order exactly where it is between two operations and may do a further one in this epoch, for an operation as
+/// those of a script, and while there is room for that and its reply. Then the operation stands behind those that it has; else
+/// nothing changes.
+pub fn mutators_take_orders_by_rule()
+    ensures { MutatorsTakeOrdersByRule }
 {}
 
 /// A unit of a swap tells what its step that swapped has found, and leaves that in its register; it replies `bad` or `range` only where its base is

@@ -12,7 +12,8 @@ mod phases;
 
 pub use laws::{
     causes_end_units, mutators_draw_by_rule, mutators_give_up_by_rules, mutators_stay_so,
-    mutators_step_by_rule, swaps_and_adds_tell_what_they_find, units_are_short, units_end_by_rules,
+    mutators_step_by_rule, mutators_take_orders_by_rule, swaps_and_adds_tell_what_they_find,
+    units_are_short, units_end_by_rules,
 };
 pub use mutator::Mutator;
 pub use phases::{MutEnd, MutTally, MutatorPhase, Stop, Waiting};

@@ -7,7 +7,7 @@ ghost use Rattle.lxr_base.specs.Roomy.{emptied};
 ghost use Rattle.lxr_graph.specs.Step.{IsWellFormed};
 ghost use Rattle.lxr_mutator.specs.Mutating.{IsWaiting, has_collected, last_reply, next_name, op_now, placed_count, register, rests_in, tally_of, waiting_by};
 ghost use Rattle.lxr_mutator.specs.Steps.{shape_now, with_register};
-ghost use Rattle.lxr_mutator.specs.Mutators.{IsHeld, IsMutator, IsOperation, again, answered, first, held_place, no_spans, served};
+ghost use Rattle.lxr_mutator.specs.Mutators.{IsHeld, IsMutator, IsOperation, again, answered, first, first_live, first_of, held_place, no_spans, served};
 
 use crate::operating::{dest_of, shape_made};
 use crate::phases::{MutEnd, MutTally, MutatorPhase, Waiting};
@@ -22,6 +22,7 @@ use std::marker::Model;
 
 mod drawing;
 mod fields;
+mod orders;
 mod straight;
 mod units;
 
@@ -30,6 +31,8 @@ mod units;
 pub struct Mutator {
     thread: u8,
     operations: Operations,
+    /// For how many operations, with their replies, there is room.
+    most: u32,
     regions: Regions,
     every: u32,
     log: Log,
@@ -57,8 +60,8 @@ impl Model for Mutator {
 }
 
 impl Mutator {
-    /// The mutator of a thread, with its operations, which do not name the end, in a space of these limits. It does at
-    /// most `every` operations in an epoch. It takes the memory for its log and all replies.
+    /// The mutator of a thread of a script, with all its operations, which do not name the end, in a space of these limits. It does at
+    /// most `every` operations in an epoch. It takes the memory for its log and all replies, and has no room for orders.
     pub fn new(
         alloc: Global,
         thread: u8,
@@ -73,11 +76,51 @@ impl Mutator {
         requires every { (1 ≤ every) × (every ≤ 1048576) }
         ensures { IfOk result (λ m. m ≡ first thread operations.items limits every) }
     {
+        let most = operations.len() as u32;
+        Mutator::with_room(alloc, thread, operations, limits, every, most)
+    }
+
+    /// The mutator of a thread that is yet to be ordered its operations, at most `most`, in a space of these limits. It does at most
+    /// `every` operations in an epoch. It takes the memory for its operations, its log and all replies.
+    pub fn live(
+        alloc: Global,
+        thread: u8,
+        limits: Limits,
+        every: u32,
+        most: u32,
+    ) -> Result<Mutator, AllocError>
+        requires limits { AreLimits limits }
+        requires thread { (1 ≤ thread) × (thread ≤ limits.threads) }
+        requires every { (1 ≤ every) × (every ≤ 1048576) }
+        requires most { most ≤ 1048576 }
+        ensures { IfOk result (λ m. m ≡ first_live thread limits every most) }
+    {
+        let operations = Listed::with_room(alloc, most as usize)?;
+        Mutator::with_room(alloc, thread, operations, limits, every, most)
+    }
+
+    /// The mutator of a thread, with these operations and with room for `most` in all.
+    fn with_room(
+        alloc: Global,
+        thread: u8,
+        operations: Operations,
+        limits: Limits,
+        every: u32,
+        most: u32,
+    ) -> Result<Mutator, AllocError>
+        requires limits { AreLimits limits }
+        requires thread { (1 ≤ thread) × (thread ≤ limits.threads) }
+        requires operations { All IsOperation operations.items }
+        requires every { (1 ≤ every) × (every ≤ 1048576) }
+        requires most { (length operations.items ≤ most) × (most ≤ operations.room) × (most ≤ 1048576) }
+        ensures { IfOk result (λ m. m ≡ first_of thread operations.items limits every most) }
+    {
         let log = Log::new(alloc, limits.log)?;
-        let replies = Listed::with_room(alloc, operations.len() + 1)?;
+        let replies = Listed::with_room(alloc, most as usize + 1)?;
         Ok(Mutator {
             thread,
             operations,
+            most,
             regions: regions(limits),
             every,
             log,

@@ -114,6 +114,8 @@ module _ {P E : Type 0} (w : Work P E) where
     left = left;
     offered = offered;
     spared = spared;
+    -- a helper takes no orders
+    ordered = λ h o. (h, false);
   }
 
   -- ---- what holds of it

@@ -8,6 +8,7 @@ use crate::pocket::Pocket;
 use crate::states::HelperState;
 use crate::words::is_in_heap;
 use lxr_actor::{Action, Actor};
+use lxr_graph::Op;
 use lxr_layout::{Limits, Place, regions};
 use std::alloc::{AllocError, Global};
 use std::marker::Model;
@@ -152,5 +153,9 @@ impl<P: Unit<E>, E: Copy> Actor for Helper<P, E> {
 
     fn surplus(&mut self) -> Option<Place> {
         self.state.pocket.take()
+    }
+
+    fn order(&mut self, _op: Op) -> bool {
+        false
     }
 }

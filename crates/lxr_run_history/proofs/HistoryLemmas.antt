@@ -16,6 +16,8 @@ use Rattle.lxr_model.specs.Kinds.{ends}
 use Rattle.lxr_model.specs.Legal.{IsLegalSoFar, IsPause, KeepsPromise, OwesNoCall, Replies}
 use Rattle.lxr_model.specs.Terms.{Terms}
 use Rattle.lxr_model.specs.Belongs.{AskedPausesComeFirst, CallsBeginOperations, EarlierPausesWereEarly, HasCause, IsHistorySoFar, LastPauseWasEarly, PausesHaveCauses, Script, TurnsAreShort, calls_since_pause, has_asked, next_operation, operations_of}
+use Rattle.lxr_model_laws.specs.ScriptLaws.{GoesOn}
+use Rattle.lxr_model_laws.proofs.ScriptLemmas.{as_many_go_on, causes_on}
 use Rattle.lxr_core_invariant.specs.EpochStates.{Extends, same, called}
 use Rattle.lxr_words.specs.declared.Options.{Options}
 use Rattle.lxr_run_history.specs.Growing.{CallsBeginScript, HasEnded}
@@ -90,19 +92,21 @@ calls_begin options script h begun = λ t low high.
     let (n, calls) = begun t low high in
     (drop n (operations_of script t), ap (λ z. z ++ drop n (operations_of script t)) calls ∙ take-append-drop n (operations_of script t))
 
--- after an epoch it is a history so far
-pub history_extends : (options : Options) (script : Script) (h k : List Item) → IsHistorySoFar (script_terms options script) script h → OwesNoCall (script_terms options script) h
-    → Extends (length script) options.every h k → CallsBeginScript script k → IsHistorySoFar (script_terms options script) script k
-history_extends options script h k (legal, belongs) none extends begun = (
-  legal_extends options (length script) options.every h k extends legal none,
-  record {
-    calls = calls_begin options script k begun;
-    asked = asked_extends (length script) options.every h k extends belongs.asked;
-    turns = turns_extend options (length script) h k extends belongs.turns;
-    causes = causes_extend options script options.every h k extends belongs.causes;
-    early = earlier_extends options script options.every h k extends belongs.early;
-  },
-)
+-- after an epoch it is a history so far of all that was asked by then
+pub history_extends : (options : Options) (script script' : Script) (h k : List Item) → IsHistorySoFar (script_terms options script) script h → OwesNoCall (script_terms options script) h
+    → GoesOn script script' → Extends (length script) options.every h k → CallsBeginScript script' k → IsHistorySoFar (script_terms options script') script' k
+history_extends options script script' h k (legal, belongs) none on extends begun =
+    let many = as_many_go_on script script' on in
+    subst (λ n. IsHistorySoFar (run_terms options n) script' k) (sym many) (
+      legal_extends options (length script) options.every h k extends legal none,
+      record {
+        calls = subst (λ n. CallsBeginOperations (run_terms options n) script' k) many (calls_begin options script' k begun);
+        asked = asked_extends (length script) options.every h k extends belongs.asked;
+        turns = turns_extend options (length script) h k extends belongs.turns;
+        causes = causes_on (script_terms options script) script script' k on (causes_extend options script options.every h k extends belongs.causes);
+        early = earlier_extends options script options.every h k extends belongs.early;
+      },
+    )
 
 -- ---- a call between two epochs
 

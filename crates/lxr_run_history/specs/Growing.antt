@@ -4,6 +4,7 @@ use Rattle.lxr_graph.specs.History.{Item, Pause, PauseReport, calls_of}
 use Rattle.lxr_model.specs.Belongs.{HasCause, IsHistorySoFar, LastPauseWasEarly, Script, operations_of}
 use Rattle.lxr_model.specs.Kinds.{ends}
 use Rattle.lxr_model.specs.Legal.{IsPause, OwesNoCall}
+use Rattle.lxr_model_laws.specs.ScriptLaws.{GoesOn}
 use Rattle.lxr_core_invariant.specs.EpochStates.{Extends}
 use Rattle.lxr_words.specs.declared.Options.{Options}
 use Rattle.lxr_run_history.specs.Run.{IsHistoryOf, script_terms}
@@ -12,11 +13,12 @@ use Rattle.lxr_run_history.specs.Run.{IsHistoryOf, script_terms}
 abbrev pub CallsBeginScript : Script → List Item → Type 0
 CallsBeginScript script h = (t : ℕ) → 1 ≤ t → t ≤ length script → (n : ℕ) × (calls_of t h ≡ take n (operations_of script t))
 
--- The calls of an epoch lead from a history so far to one, where no pause stands at its end for a `new` that is still to come.
+-- The calls of an epoch lead from a history so far to one, where no pause stands at its end for a `new` that is still to come. Threads may be
+-- asked for more while it runs: the history before is one of what was asked by then, and the one behind it of all that was asked.
 abbrev pub EpochsKeepHistories : Type 0
-EpochsKeepHistories = (options : Options) (script : Script) (h k : List Item) → IsHistorySoFar (script_terms options script) script h → OwesNoCall (script_terms options script) h
-    → Extends (length script) options.every h k → CallsBeginScript script k
-    → IsHistorySoFar (script_terms options script) script k
+EpochsKeepHistories = (options : Options) (script script' : Script) (h k : List Item) → IsHistorySoFar (script_terms options script) script h → OwesNoCall (script_terms options script) h
+    → GoesOn script script' → Extends (length script) options.every h k → CallsBeginScript script' k
+    → IsHistorySoFar (script_terms options script') script' k
 
 -- so does a pause that has a cause and is of a kind that may stand there, where at the last one not all threads had ended
 abbrev pub PausesKeepHistories : Type 0

@@ -3,6 +3,7 @@ use Rattle.std.specs.Prelude.{ℕ, Bool, List, [], ◌++◌}
 use Rattle.lxr_graph.specs.History.{Item, PauseReport}
 use Rattle.lxr_graph.specs.Order.{order_of}
 use Rattle.lxr_image.specs.declared.space.Space.{Space}
+use Rattle.lxr_text_print.specs.Histories.{history_text, reports_text}
 use Rattle.lxr_text_print.specs.Orders.{order_text}
 use Rattle.lxr_text_print.specs.Reports.{report_text}
 use Rattle.lxr_text_print.specs.Summary.{summary_text}
@@ -10,7 +11,6 @@ use Rattle.lxr_text_map.specs.Map.{map_text}
 use Rattle.lxr_words.specs.declared.Command.{Command}
 use Rattle.lxr_words.specs.declared.Command.TheVariants.{Judge, Large, Load, Map, Order, Run}
 use Rattle.lxr_words.specs.declared.Options.{Options}
-use Rattle.lxr_run_history.specs.Run.{history_text, reports_text}
 use Rattle.lxr_run_history.specs.Sums.{sums_of}
 
 -- what is printed of one pause: its report; `load` prints none

@@ -1,5 +1,5 @@
 -- What mutators that rest have done, as the history has it.
-use Rattle.std.proofs.Common.{◌≡◌, ◌≢◌, ℕ, zero, suc, ◌+◌, ◌-◌, ◌*◌, ◌<◌, ◌≤◌, ◌⊎◌, refl, sym, ap, subst, ◌∙◌, inl, inr, ⊎_elim, arith, List, [], ◌∷◌, ◌++◌, length, take}
+use Rattle.std.proofs.Common.{◌≡◌, ◌≢◌, ℕ, zero, suc, ◌+◌, ◌-◌, ◌*◌, ◌<◌, ◌≤◌, ◌⊎◌, refl, sym, ap, subst, ◌∙◌, inl, inr, ⊎_elim, arith, List, [], ◌∷◌, ◌++◌, length, map, take}
 use Rattle.std.specs.Prelude.{Bool, Some, slice_get, slice_set, slice_index_or}
 use Rattle.std.specs.Option.{option_map}
 use Rattle.std.specs.List.{All, count_by}
@@ -228,13 +228,13 @@ done_more (x ∷ mutators) zero a b at one =
     omega arith
 done_more (x ∷ mutators) (suc i) a b at one = let rest = done_more mutators i a b at one in omega arith
 
--- and has the operations that it had
-pub script_put : (mutators : List Mutating) (i : ℕ) (a b : Mutating) → slice_get mutators i ≡ Some a → b.operations ≡ a.operations → script_of (slice_set mutators i b) ≡ script_of mutators
-script_put [] i a b at same = refl
-script_put (x ∷ mutators) zero a b at same =
+-- and what it has still it had before
+pub kept_put : {X : Type 0} (f : Mutating → X) (mutators : List Mutating) (i : ℕ) (a b : Mutating) → slice_get mutators i ≡ Some a → f b ≡ f a → map f (slice_set mutators i b) ≡ map f mutators
+kept_put f [] i a b at same = refl
+kept_put f (x ∷ mutators) zero a b at same =
     let is : x ≡ a = cc in
-    ap (λ os. os ∷ script_of mutators) (same ∙ ap (λ (z : Mutating). z.operations) (sym is))
-script_put (x ∷ mutators) (suc i) a b at same = ap (λ s. x.operations ∷ s) (script_put mutators i a b at same)
+    ap (λ y. y ∷ map f mutators) (same ∙ ap f (sym is))
+kept_put f (x ∷ mutators) (suc i) a b at same = ap (λ ys. f x ∷ ys) (kept_put f mutators i a b at same)
 
 -- ---- pauses
 

@@ -12,7 +12,7 @@ use Rattle.lxr_mutator.specs.Mutating.{Mutating}
 use Rattle.lxr_core_invariant.specs.ThreadStates.{all_of}
 use Rattle.lxr_core.specs.declared.actors.AnyActor.{AnyActor}
 use Rattle.lxr_core.specs.Actors.{mutators_in}
-use Rattle.lxr_run_history.specs.Run.{threads_text}
+use Rattle.lxr_text_print.specs.Histories.{threads_text}
 use Rattle.lxr_run_history.proofs.HistoryLemmas.{history_whole}
 use Rattle.lxr_run_history.proofs.ReplyLemmas.{printable, text_of_thread}
 use Rattle.lxr_run_invariant.specs.LoopInvariant.{HasPaused, HasRunEpoch, HasRunTo, HaveEnded, Task, threads_of}

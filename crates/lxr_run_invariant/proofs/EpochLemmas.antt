@@ -11,9 +11,12 @@ use Rattle.lxr_graph.specs.declared.Reply.TheVariants as reply
 use Rattle.lxr_graph.specs.History.{Item, Call}
 use Rattle.lxr_image.specs.declared.space.Space.{Space}
 use Rattle.lxr_image.specs.declared.space.Tally.{Tally}
-use Rattle.lxr_model.specs.Belongs.{HasCause, IsHistorySoFar}
+use Rattle.lxr_model.specs.Belongs.{HasCause, IsHistorySoFar, Script}
 use Rattle.lxr_model.specs.Kinds.{ends}
+use Rattle.lxr_model.specs.Legal.{IsLegalSoFar, OwesNoCall}
 use Rattle.lxr_model.specs.Moments.{Moment, moment}
+use Rattle.lxr_model_laws.specs.ScriptLaws.{GoesOn}
+use Rattle.lxr_model_laws.proofs.ScriptLemmas.{as_many_go_on}
 use Rattle.lxr_invariant.specs.AbstractState.{AbstractState}
 use Rattle.lxr_invariant.proofs.NameLemmas.{in_first}
 use Rattle.lxr_text_stream.specs.Streams.{Appends}
@@ -24,13 +27,14 @@ use Rattle.lxr_core_invariant.proofs.ObjectLemmas.{legal_counts}
 use Rattle.lxr_core.specs.declared.actors.AnyActor.{AnyActor}
 use Rattle.lxr_core.specs.declared.actors.AnyActor.TheVariants as any
 use Rattle.lxr_core.specs.Actors.{decrementers_in, mutators_in, script_of, tracers_in}
-use Rattle.lxr_core.specs.Closing.{AreFinished, Closes, HasProgress}
+use Rattle.lxr_core.specs.Closing.{Closes, HasProgress}
 use Rattle.lxr_core.specs.Collecting.{actor_given_up, loads_of, news_of, stores_of, tally_with}
 use Rattle.lxr_core.specs.Opening.{Begins}
 use Rattle.lxr_core.specs.Resting.{ActorsRestAfter, HelpersRest, RestAfter}
 use Rattle.lxr_core.specs.Executions.{Execution}
 use Rattle.lxr_core.proofs.ClosingLemmas.{given_script}
-use Rattle.lxr_run_history.specs.Left.{last_report}
+use Rattle.lxr_run_history.specs.Left.{last_report, run_limits}
+use Rattle.lxr_run_history.specs.Run.{run_terms}
 use Rattle.lxr_run_history.specs.Sums.{totals_of}
 use Rattle.lxr_run_history.specs.Sights.{SeesTo}
 use Rattle.lxr_run_history.specs.Tally.{HasNumbersOf, counted, evacuated_in, tally_of}
@@ -38,8 +42,8 @@ use Rattle.lxr_run_history.proofs.HistoryLemmas.{early_extends, history_extends,
 use Rattle.lxr_run_history.proofs.SightLemmas.{same_evacuated, sees_epoch}
 use Rattle.lxr_run_history.proofs.TallyLemmas.{has_numbers, loads_are, news_are, stores_are}
 use Rattle.lxr_run_history.proofs.ThreadSums.{counted_in, one}
-use Rattle.lxr_run_invariant.specs.LoopInvariant.{HasCome, HasEvacuatedFew, HasMore, HasRunEpoch, HaveActors, HaveEnded, HaveMutators, IsBetweenEpochs, SomeWait, Task, done_of, task_limits, terms_of, threads_of}
-use Rattle.lxr_run_invariant.specs.Laws.{EpochsRun, beginning_of}
+use Rattle.lxr_run_invariant.specs.LoopInvariant.{HasCome, HasEvacuatedFew, HasRunEpoch, HaveActors, HaveMutators, IsBetweenEpochs, SomeWait, Task, done_of, task_limits, terms_of, threads_of}
+use Rattle.lxr_run_invariant.specs.Laws.{EpochsRun, HasClosed, asked_for, beginning_of}
 use Rattle.lxr_run_invariant.proofs.ActorLemmas.{calls_are_done, ends_are_all, ends_are_fewer, has_begun, kind_is}
 use Rattle.lxr_run_invariant.proofs.EvacuatedLemmas.{evacuated_still}
 use Rattle.lxr_run_invariant.proofs.KindLemmas.{unasked_uncalled}
@@ -134,12 +138,9 @@ given_tracers (any.Decrementer d ∷ actors) = given_tracers actors
 given_tracers (any.Tracer d ∷ actors) = ap (λ z. d ∷ z) (given_tracers actors)
 
 -- once all are through, and not all were before, something was done
-all_through_did : (task : Task) (h k : List Item) (before mutators : List Mutating) → IsHistorySoFar (terms_of task) task.script h → IsHistorySoFar (terms_of task) task.script k
-    → Extends (threads_of task) task.options.every h k → HaveMutators task h before → HaveMutators task k mutators → HasMore before → HaveEnded mutators → length h < length k
-all_through_did task h k before mutators history history' extends have have' more ended =
-    let fewer = ends_are_fewer task h before history.0 have more in
-    let all = ends_are_all task k mutators history'.0 have' ended in
-    let grow = ends_extend (threads_of task) task.options.every h k extends in
+all_through_did : (threads every : ℕ) (h k : List Item) → Extends threads every h k → ends h < threads → ends k ≡ threads → length h < length k
+all_through_did threads every h k extends fewer all =
+    let grow = ends_extend threads every h k extends in
     omega arith
   where
     -- each call more is one end at most
@@ -151,125 +152,149 @@ all_through_did task h k before mutators history history' extends have have' mor
         ends_one t op.End r l = omega arith
         ends_one t o r l = omega arith
 
-module _ (task : Task) (space mid after : Space) (written : Option (List ℕ)) (seen : Option (List Sight)) (before actors : List AnyActor) (h : List Item) (g : AbstractState) (execution : Execution)
-    (amid : IsBetweenEpochs task space written seen before h g) (mid_is : mid ≡ record space { words = mid.words }) (script : script_of (mutators_in execution.core.actors) ≡ task.script)
-    (workers : length (decrementers_in execution.core.actors) ≡ task.options.workers) (tracers : length (tracers_in execution.core.actors) ≡ task.options.workers) (finished : AreFinished (mutators_in execution.core.actors)) (closes : Closes (beginning_of task space h g) execution mid after actors) where
-  -- the limits, the threads and the calls of the epoch are those of the run
-  limits : space.limits ≡ task_limits task
-  limits = amid.come.limits
+module _ (task : Task) (script : Script) (space mid after : Space) (written : Option (List ℕ)) (seen : Option (List Sight)) (before actors : List AnyActor) (h : List Item) (g : AbstractState) (execution : Execution)
+    (amid : IsBetweenEpochs task space written seen before h g) (on : GoesOn task.script script) (closed : HasClosed (asked_for task script) space mid after actors h g execution) where
+  -- the task with what was asked by the end of the epoch, which is for as many threads
+  abbrev pub asked : Task
+  asked = asked_for task script
 
-  threads : space.limits.threads ≡ threads_of task
+  many : threads_of asked ≡ threads_of task
+  many = as_many_go_on task.script script on
+
+  -- so what was said of the one is said of the other
+  for_asked : (P : ℕ → Type 0) → P (threads_of task) → P (threads_of asked)
+  for_asked P = subst P (sym many)
+
+  closes : Closes (beginning_of asked space h g) execution mid after actors
+  closes = closed.closes
+
+  -- the limits, the threads and the calls of the epoch are those of the run
+  limits : space.limits ≡ task_limits asked
+  limits = for_asked (λ n. space.limits ≡ run_limits task.options n) amid.come.limits
+
+  threads : space.limits.threads ≡ threads_of asked
   threads = ap (λ (l : Limits). l.threads) limits
 
-  extends : Extends (threads_of task) task.options.every h execution.history
+  extends : Extends (threads_of asked) task.options.every h execution.history
   extends = subst (λ n. Extends n task.options.every h execution.history) threads closes.extends
+
+  owes_none : OwesNoCall (terms_of asked) h
+  owes_none = for_asked (λ n. OwesNoCall (run_terms task.options n) h) amid.owes_none
 
   -- the abstract state of the space at the safepoint
   abbrev pub safepoint_state : AbstractState
   safepoint_state = record g { moment = moment space.limits.threads execution.history; at = execution.at }
 
   -- it is that of the history
-  moment_is : safepoint_state.moment ≡ moment (threads_of task) execution.history
+  moment_is : safepoint_state.moment ≡ moment (threads_of asked) execution.history
   moment_is = ap (λ n. moment n execution.history) threads
 
-  -- the actors are those of the script still
-  have : HaveActors task execution.history actors
+  -- the actors are those of all that was asked
+  have : HaveActors asked execution.history actors
   have = record {
     mutators = record {
       rest = subst (λ l. RestAfter l task.options.every execution.history (mutators_in actors)) limits closes.actors_rest.mutators;
-      script = ap (λ z. script_of (mutators_in z)) closes.gave ∙ given_script execution.core.actors ∙ script;
+      script = ap (λ z. script_of (mutators_in z)) closes.gave ∙ given_script execution.core.actors ∙ closed.script;
     };
     helpers = subst (λ l. HelpersRest l actors) limits closes.actors_rest.helpers;
-    workers = ap (λ z. length (decrementers_in z)) closes.gave ∙ ap length (given_helpers execution.core.actors) ∙ workers;
-    tracers = ap (λ z. length (tracers_in z)) closes.gave ∙ ap length (given_tracers execution.core.actors) ∙ tracers;
+    workers = ap (λ z. length (decrementers_in z)) closes.gave ∙ ap length (given_helpers execution.core.actors) ∙ closed.workers;
+    tracers = ap (λ z. length (tracers_in z)) closes.gave ∙ ap length (given_tracers execution.core.actors) ∙ closed.tracers;
     few = amid.actors_rest.few;
   }
 
-  -- the history is one so far
-  history : IsHistorySoFar (terms_of task) task.script execution.history
-  history = history_extends task.options task.script h execution.history amid.come.history amid.owes_none extends (has_begun task execution.history (mutators_in actors) have.mutators)
+  -- the history is one so far of that
+  history : IsHistorySoFar (terms_of asked) script execution.history
+  history = history_extends task.options task.script script h execution.history amid.come.history amid.owes_none on
+      (subst (λ n. Extends n task.options.every h execution.history) many extends) (has_begun asked execution.history (mutators_in actors) have.mutators)
 
   same_limits : after.limits ≡ space.limits
-  same_limits = ap (λ (s : Space). s.limits) closes.rest ∙ ap (λ (s : Space). s.limits) mid_is
+  same_limits = ap (λ (s : Space). s.limits) closes.rest ∙ ap (λ (s : Space). s.limits) closed.words
 
   -- the tally has the numbers of the history
-  tally : HasNumbersOf (threads_of task) execution.history after.tally
+  tally : HasNumbersOf (threads_of asked) execution.history after.tally
   tally =
-      has_numbers (threads_of task) execution.history after.tally space.tally.moved space.tally.kept (
+      has_numbers (threads_of asked) execution.history after.tally space.tally.moved space.tally.kept (
       closes.tally
-      ∙ ap (λ (t : Tally). tally_with t (mutators_in actors)) (ap (λ (s : Space). s.tally) mid_is ∙ amid.come.tally)
-      ∙ ap (λ (t : Tally). record t { moved = space.tally.moved; kept = space.tally.kept }) (tally_told task h execution.history (mutators_in actors) history extends have.mutators)
+      ∙ ap (λ (t : Tally). tally_with t (mutators_in actors)) (ap (λ (s : Space). s.tally) closed.words ∙ for_asked (λ n. HasNumbersOf n h space.tally) amid.come.tally)
+      ∙ ap (λ (t : Tally). record t { moved = space.tally.moved; kept = space.tally.kept }) (tally_told asked h execution.history (mutators_in actors) history extends have.mutators)
       )
 
   -- it evacuates nothing
   moved_still : after.tally.moved ≡ space.tally.moved
-  moved_still = ap (λ (t : Tally). t.moved) closes.tally ∙ ap (λ (s : Space). s.tally.moved) mid_is
+  moved_still = ap (λ (t : Tally). t.moved) closes.tally ∙ ap (λ (s : Space). s.tally.moved) closed.words
 
   kept_still : after.tally.kept ≡ space.tally.kept
-  kept_still = ap (λ (t : Tally). t.kept) closes.tally ∙ ap (λ (s : Space). s.tally.kept) mid_is
+  kept_still = ap (λ (t : Tally). t.kept) closes.tally ∙ ap (λ (s : Space). s.tally.kept) closed.words
 
   evacuated : HasEvacuatedFew after
   evacuated = evacuated_still space after moved_still kept_still
-      same_limits (ap (λ (s : Space). s.pauses) closes.rest ∙ ap (λ (s : Space). s.pauses) mid_is) amid.come.evacuated
+      same_limits (ap (λ (s : Space). s.pauses) closes.rest ∙ ap (λ (s : Space). s.pauses) closed.words) amid.come.evacuated
 
   -- a member then was a member before
   still : (n : Name) → IsTrue (has safepoint_state.moment.unreclaimed n) → IsTrue (has g.moment.unreclaimed n)
   still n member = subst (λ ns. IsTrue (has ns n))
-      (ap (λ (m : Moment). m.unreclaimed) moment_is ∙ unreclaimed_extends (threads_of task) task.options.every h execution.history extends ∙ ap (λ (m : Moment). m.unreclaimed) (sym amid.come.stands.moment)) member
+      (ap (λ (m : Moment). m.unreclaimed) moment_is ∙ unreclaimed_extends (threads_of asked) task.options.every h execution.history extends
+      ∙ ap (λ (m : Moment). m.unreclaimed) (sym (for_asked (λ n. g.moment ≡ moment n h) amid.come.stands.moment))) member
 
   -- all that holds of the run at the safepoint
-  come : HasCome task after written seen execution.history safepoint_state
+  come : HasCome asked after written seen execution.history safepoint_state
   come = record {
     history = history;
-    stands = record { moment = moment_is; reported = amid.come.stands.reported ∙ sym (report_extends (threads_of task) task.options.every h execution.history extends) };
+    stands = record { moment = moment_is; reported = amid.come.stands.reported ∙ sym (report_extends (threads_of asked) task.options.every h execution.history extends) };
     safepoint = closes.safepoint;
     limits = same_limits ∙ limits;
     tally = tally;
     evacuated = evacuated;
-    text = subst (Appends task.written written) (sym (told_extends task.options.command task.options.counts (threads_of task) task.options.every h execution.history extends)) amid.come.text;
+    text = subst (Appends task.written written) (sym (told_extends task.options.command task.options.counts (threads_of asked) task.options.every h execution.history extends)) amid.come.text;
     places = amid.come.places;
-    sights = sees_epoch (threads_of task) task.options.every h execution.history task.seen seen amid.come.places (evacuated_in after.tally) extends
-        (subst (SeesTo (threads_of task) h task.seen seen amid.come.places) (sym (same_evacuated space.tally after.tally moved_still kept_still)) amid.come.sights);
+    sights = sees_epoch (threads_of asked) task.options.every h execution.history task.seen seen amid.come.places (evacuated_in after.tally) extends
+        (subst (SeesTo (threads_of asked) h task.seen seen amid.come.places) (sym (same_evacuated space.tally after.tally moved_still kept_still))
+        (for_asked (λ n. SeesTo n h task.seen seen amid.come.places (evacuated_in space.tally)) amid.come.sights));
     kept = λ n member. closes.unmoved n (in_first g.moment.unreclaimed g.moment.made n (still n member)) ∙ amid.come.kept n (still n member);
   }
 
   -- the actors have done as many calls more as the history is longer
   grown : length h + done_of (mutators_in actors) ≡ length execution.history + done_of (mutators_in before)
   grown =
-      let now = calls_are_done task execution.history (mutators_in actors) history.0 have.mutators in
+      let now = calls_are_done asked execution.history (mutators_in actors) history.0 have.mutators in
       let was = calls_are_done task h (mutators_in before) amid.come.history.0 amid.actors_rest.mutators in
-      let more = calls_extend (threads_of task) task.options.every h execution.history extends in
+      let more = calls_extend (threads_of asked) task.options.every h execution.history extends in
       omega arith
 
+  -- not all threads had ended
+  fewer : ends h < threads_of asked
+  fewer = for_asked (λ n. ends h < n) (ends_are_fewer task h (mutators_in before) amid.come.history.0 amid.actors_rest.mutators amid.more)
+
   -- the epoch has done something, or a `new` waits
-  progress : HasProgress (beginning_of task space h g) execution (mutators_in actors) → (done_of (mutators_in before) < done_of (mutators_in actors)) ⊎ SomeWait (mutators_in actors)
+  progress : HasProgress (beginning_of asked space h g) execution (mutators_in actors) → (done_of (mutators_in before) < done_of (mutators_in actors)) ⊎ SomeWait (mutators_in actors)
   progress (inl longer) = inl (let more = grown in omega arith)
   progress (inr (inl waits)) = inr waits
   progress (inr (inr ended)) =
-      let longer = all_through_did task h execution.history (mutators_in before) (mutators_in actors) amid.come.history history extends amid.actors_rest.mutators have.mutators amid.more ended in
+      let all = ends_are_all asked execution.history (mutators_in actors) history.0 have.mutators ended in
+      let longer = all_through_did (threads_of asked) task.options.every h execution.history extends fewer all in
       inl (let more = grown in omega arith)
 
   -- and reports nothing
   pub totals_stay : totals_of execution.history ≡ totals_of h
-  totals_stay = totals_extend (threads_of task) task.options.every h execution.history extends
+  totals_stay = totals_extend (threads_of asked) task.options.every h execution.history extends
 
   -- an epoch has run
-  pub epoch_run : HasRunEpoch task after written seen before actors execution.history safepoint_state
+  pub epoch_run : HasRunEpoch asked after written seen before actors execution.history safepoint_state
   epoch_run = record {
     come = come;
     actors_rest = have;
     news = closes.news;
     due = record {
-      cause = subst (λ s. HasCause (terms_of task) s execution.history) have.mutators.script
-          (closes.cause finished amid.all_listed (terms_of task) (record { threads = sym threads; blocks = ap (λ (l : Limits). l.blocks) (sym limits); log = ap (λ (l : Limits). l.log) (sym limits); every = refl }) amid.come.history.0);
-      early = early_extends task.options task.script task.options.every h execution.history extends
-          (was_early task.options task.script h (ends_are_fewer task h (mutators_in before) amid.come.history.0 amid.actors_rest.mutators amid.more));
-      owes_none = owes_extends (terms_of task) (threads_of task) task.options.every h execution.history extends amid.owes_none;
+      cause = subst (λ s. HasCause (terms_of asked) s execution.history) have.mutators.script
+          (closed.due.cause amid.all_listed (terms_of asked) (record { threads = sym threads; blocks = ap (λ (l : Limits). l.blocks) (sym limits); log = ap (λ (l : Limits). l.log) (sym limits); every = refl })
+          (for_asked (λ n. IsLegalSoFar (run_terms task.options n) h) amid.come.history.0));
+      early = early_extends task.options script task.options.every h execution.history extends (was_early task.options script h fewer);
+      owes_none = owes_extends (terms_of asked) (threads_of asked) task.options.every h execution.history extends owes_none;
     };
     collects = closes.collects (unasked_uncalled h amid.served.unasked);
-    progress = progress (closes.progress finished amid.served.unasked);
-    grows = let more = grown in let longer = length_extends (threads_of task) task.options.every h execution.history extends in omega arith;
-    few = let few = amid.few in let same = ap (λ (s : Space). s.pauses) closes.rest ∙ ap (λ (s : Space). s.pauses) mid_is in omega arith;
+    progress = progress (closed.due.progress amid.served.unasked);
+    grows = let more = grown in let longer = length_extends (threads_of asked) task.options.every h execution.history extends in omega arith;
+    few = let few = amid.few in let same = ap (λ (s : Space). s.pauses) closes.rest ∙ ap (λ (s : Space). s.pauses) closed.words in omega arith;
   }
     where
       length_extends : (threads every : ℕ) (h k : List Item) → Extends threads every h k → length h ≤ length k
@@ -278,8 +303,8 @@ module _ (task : Task) (space mid after : Space) (written : Option (List ℕ)) (
 
 -- so it is of each epoch
 pub epochs_run : EpochsRun
-epochs_run task space mid after written seen before actors h g execution amid closed = (
-  safepoint_state task space mid after written seen before actors h g execution amid closed.words closed.script closed.workers closed.tracers closed.finished closed.closes,
-  epoch_run task space mid after written seen before actors h g execution amid closed.words closed.script closed.workers closed.tracers closed.finished closed.closes,
-  totals_stay task space mid after written seen before actors h g execution amid closed.words closed.script closed.workers closed.tracers closed.finished closed.closes,
+epochs_run task script space mid after written seen before actors h g execution amid on closed = (
+  safepoint_state task script space mid after written seen before actors h g execution amid on closed,
+  epoch_run task script space mid after written seen before actors h g execution amid on closed,
+  totals_stay task script space mid after written seen before actors h g execution amid on closed,
 )

@@ -27,6 +27,7 @@ use Rattle.lxr_mutator.specs.Mutators.{IsAnswered, IsThrough, answered}
 use Rattle.lxr_core_sim_mutator.specs.Showing.{IsNew}
 use Rattle.lxr_core.specs.declared.actors.AnyActor.{AnyActor}
 use Rattle.lxr_core.specs.Actors.{mutators_in}
+use Rattle.lxr_core.specs.Ordering.{ordered_in}
 use Rattle.lxr_core.specs.Resting.{HelpersRest, RestsAfter}
 use Rattle.lxr_run_pause.specs.declared.Ask.{Ask}
 use Rattle.lxr_run_pause.specs.declared.Ask.TheVariants as ask
@@ -38,7 +39,7 @@ use Rattle.lxr_run_history.specs.Tally.{HasNumbersOf, evacuated_in}
 use Rattle.lxr_run_history.proofs.HistoryLemmas.{promise_kept, since_call, was_early}
 use Rattle.lxr_run_invariant.specs.LoopInvariant.{HasCome, HasMore, HasPaused, HasRunEpoch, HaveMutators, IsAskedRight, IsBetweenEpochs, IsCollectedSince, IsPauseDue, IsServing, OwesNone, OwesOne, SomeWait, Task, asked_by, done_of, task_limits, terms_of, threads_of}
 use Rattle.lxr_run_invariant.specs.Laws.{ListsAnew, RunsGoOn}
-use Rattle.lxr_run_invariant.proofs.ActorLemmas.{as_many, done_more, ends_are_fewer, operations_at, pauses_stay_few, script_put}
+use Rattle.lxr_run_invariant.proofs.ActorLemmas.{as_many, done_more, ends_are_fewer, kept_put, operations_at, pauses_stay_few}
 use Rattle.lxr_run_invariant.proofs.EvacuatedLemmas.{evacuated_still}
 use Rattle.lxr_run_invariant.proofs.PauseLemmas.{mutators_paused}
 use Rattle.lxr_run_invariant.proofs.ServingLemmas.{MayServe, full_cause, full_promise, rests_answered, rests_beside}
@@ -72,6 +73,7 @@ serving_begins task space written seen mutators h asked collected report g have 
   unserved = λ none collects. paused.collects.1 (by ∙ ap asked_by collects);
   more = more;
   owes = inl (record { none = λ waiting. waiting.1 (right.0 (paused.collects.0 waiting.0)); few = omega arith });
+  asked = refl;
   progress = inr refl;
 }
 
@@ -150,6 +152,7 @@ module _ (task : Task) (space : Space) (written : Option (List ℕ)) (seen : Opt
     unserved = serving.unserved;
     more = serving.more;
     owes = serving.owes;
+    asked = serving.asked;
     progress = serving.progress;
   }
 
@@ -206,6 +209,7 @@ module _ (task : Task) (space : Space) (written : Option (List ℕ)) (seen : Opt
           unserved = refl;
           few = let few = owes_none.few in omega arith;
         });
+        asked = serving.asked;
         progress = serving.progress;
       }
 
@@ -263,7 +267,7 @@ module _ (task : Task) (space space' : Space) (written : Option (List ℕ)) (see
           (rests_answered (task_limits task) task.options.every h (first + 1) a answers.registers r (serving.mutators_rest.rest.each first a at) waits answers.sixteen answers.held))
           (λ i c other here. rests_beside (task_limits task) task.options.every h (first + 1) (i + 1) c (op_now a) r (λ e. other (omega arith)) (serving.mutators_rest.rest.each i c here));
     };
-    script = script_put mutators first a b at (ap (λ (m : Mutating). m.operations) is) ∙ serving.mutators_rest.script;
+    script = kept_put (λ (m : Mutating). m.operations) mutators first a b at (ap (λ (m : Mutating). m.operations) is) ∙ serving.mutators_rest.script;
   }
 
   -- one operation more is done
@@ -313,6 +317,7 @@ module _ (task : Task) (space space' : Space) (written : Option (List ℕ)) (see
     unserved = unserved;
     more = (first, b, slice_get-set_same mutators first b within, λ through. not_through given r (subst IsThrough is through));
     owes = inl (owes same);
+    asked = kept_put ordered_in mutators first a b at (ap ordered_in is) ∙ serving.asked;
     progress = inl (⊎_elim
         (λ (some : done_of before < done_of mutators). let more = more_done in omega arith)
         (λ (none : mutators ≡ before). let was : done_of mutators ≡ done_of before = ap done_of none in let more = more_done in omega arith)

@@ -1,6 +1,8 @@
 -- What a run keeps from step to step, each law the contract of a function with an empty body.
 use Rattle.std.specs.Prelude.{◌≡◌, ℕ, ◌+◌, ◌<◌, Bool, Option, List, length}
 use Rattle.lxr_graph.specs.History.{Item}
+use Rattle.lxr_model.specs.Belongs.{Script}
+use Rattle.lxr_model_laws.specs.ScriptLaws.{GoesOn}
 use Rattle.lxr_image.specs.declared.space.Space.{Space}
 use Rattle.lxr_invariant.specs.AbstractState.{AbstractState}
 use Rattle.lxr_invariant.specs.Quiescent.{IsQuiescent}
@@ -9,7 +11,7 @@ use Rattle.lxr_run_watch.specs.Sights.{Sight}
 use Rattle.lxr_core_invariant.specs.EpochStates.{Beginning}
 use Rattle.lxr_core.specs.declared.actors.AnyActor.{AnyActor}
 use Rattle.lxr_core.specs.Actors.{decrementers_in, mutators_in, script_of, tracers_in}
-use Rattle.lxr_core.specs.Closing.{AreFinished, Closes}
+use Rattle.lxr_core.specs.Closing.{Closes, IsPauseExplained}
 use Rattle.lxr_core.specs.Opening.{Begins}
 use Rattle.lxr_core.specs.Executions.{Execution}
 use Rattle.lxr_run_pause.specs.declared.Ask.{Ask}
@@ -28,19 +30,26 @@ abbrev pub EpochsMayOpen : Type 0
 EpochsMayOpen = (task : Task) (space : Space) (written : Option (List ℕ)) (seen : Option (List Sight)) (actors : List AnyActor) (h : List Item) (g : AbstractState)
     → IsBetweenEpochs task space written seen actors h g → Begins (beginning_of task space h g) space actors
 
--- an epoch that began so, in which nothing but words changed, is closed once all threads are through with it
+-- An epoch that began so, in which nothing but words changed, is closed, and a pause is due behind it: all threads are through with it, or one
+-- wants a pause and others rest with nothing to do.
 pub record HasClosed (task : Task) (space mid after : Space) (actors : List AnyActor) (h : List Item) (g : AbstractState) (execution : Execution) : Type 0 where
   pub words : mid ≡ record space { words = mid.words }
   pub script : script_of (mutators_in execution.core.actors) ≡ task.script
   pub workers : length (decrementers_in execution.core.actors) ≡ task.options.workers
   pub tracers : length (tracers_in execution.core.actors) ≡ task.options.workers
-  pub finished : AreFinished (mutators_in execution.core.actors)
   pub closes : Closes (beginning_of task space h g) execution mid after actors
+  pub due : IsPauseExplained (beginning_of task space h g) execution actors
 
--- then a pause has a cause, and the history goes on by calls alone
+-- a task whose threads were asked for this
+abbrev pub asked_for : Task → Script → Task
+asked_for task script = record task { script = script }
+
+-- Then a pause has a cause, and the history goes on by calls alone. Threads may have been asked for more while the epoch ran; where a script is
+-- known from the start it stays.
 abbrev pub EpochsRun : Type 0
-EpochsRun = (task : Task) (space mid after : Space) (written : Option (List ℕ)) (seen : Option (List Sight)) (before actors : List AnyActor) (h : List Item) (g : AbstractState) (execution : Execution)
-    → IsBetweenEpochs task space written seen before h g → HasClosed task space mid after actors h g execution → (m : AbstractState) × HasRunEpoch task after written seen before actors execution.history m × (totals_of execution.history ≡ totals_of h)
+EpochsRun = (task : Task) (script : Script) (space mid after : Space) (written : Option (List ℕ)) (seen : Option (List Sight)) (before actors : List AnyActor) (h : List Item) (g : AbstractState) (execution : Execution)
+    → IsBetweenEpochs task space written seen before h g → GoesOn task.script script → HasClosed (asked_for task script) space mid after actors h g execution
+    → (m : AbstractState) × HasRunEpoch (asked_for task script) after written seen before actors execution.history m × (totals_of execution.history ≡ totals_of h)
 
 -- ---- the way to the next epoch
 

@@ -24,6 +24,7 @@ use Rattle.lxr_mutator.specs.Mutating.{IsWaiting, Mutating, has_collected, op_no
 use Rattle.lxr_mutator.specs.Mutators.{IsThrough}
 use Rattle.lxr_core.specs.declared.actors.AnyActor.{AnyActor}
 use Rattle.lxr_core.specs.Actors.{decrementers_in, mutators_in, script_of, tracers_in}
+use Rattle.lxr_core.specs.Ordering.{orders_of}
 use Rattle.lxr_core.specs.Resting.{AreServed, HelpersRest, RestAfter}
 use Rattle.lxr_run_pause.specs.declared.Ask.{Ask}
 use Rattle.lxr_run_pause.specs.declared.Ask.TheVariants as ask
@@ -36,7 +37,8 @@ use Rattle.lxr_run_history.specs.Sights.{SamePlaces, Sees, SeesTo}
 use Rattle.lxr_run_history.specs.Tally.{Evacuated, HasNumbersOf, evacuated_in}
 use Rattle.lxr_run_history.specs.Texts.{told_text}
 
--- What a run begins with: its options and script, and what was written and seen before it, where it is told.
+-- What a run goes by: its options, what its threads were asked for so far, and what was written and seen before it, where it is told. A run of
+-- a script is asked for all of it from the start.
 pub record Task : Type 0 where
   pub options : Options
   pub script : Script
@@ -86,7 +88,7 @@ pub record FitsCounts (space : Space) : Type 0 where
   pub loads : space.tally.loads < 2 ^ 63
   pub stores : space.tally.stores < 2 ^ 63
 
--- the mutators are those of the script's threads, and rest for a history
+-- the mutators are those of the script's threads, each with what its thread was asked for, and rest for a history
 pub record HaveMutators (task : Task) (h : List Item) (mutators : List Mutating) : Type 0 where
   pub rest : RestAfter (task_limits task) task.options.every h mutators
   pub script : script_of mutators ≡ task.script
@@ -215,6 +217,8 @@ pub record IsServing (task : Task) (space : Space) (written : Option (List ℕ))
   pub unserved : served ≡ false → collected ≡ true → IsCollectedSince h
   pub more : HasMore mutators
   pub owes : OwesNone task space before paused mutators h ⊎ OwesOne task space before paused collected served mutators h
+  -- nobody is asked for anything meanwhile
+  pub asked : orders_of mutators ≡ orders_of before
   -- something was done, or all wait that did
   pub progress : (done_of before < done_of mutators) ⊎ (mutators ≡ before)
 

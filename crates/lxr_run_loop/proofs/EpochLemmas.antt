@@ -6,6 +6,7 @@ use Rattle.lxr_graph.specs.History.{Item}
 use Rattle.lxr_graph.specs.declared.Item as kept
 use Rattle.lxr_image.specs.declared.space.Space.{Space}
 use Rattle.lxr_invariant.specs.AbstractState.{AbstractState}
+use Rattle.lxr_model_laws.proofs.ScriptLemmas.{goes_on_itself}
 use Rattle.lxr_actor.specs.declared.Core.{Core}
 use Rattle.lxr_actor.specs.Run.{core_of}
 use Rattle.lxr_actor.proofs.Runs.{run-lengths}
@@ -16,29 +17,31 @@ use Rattle.lxr_core.specs.Collecting.{actor_given_up}
 use Rattle.lxr_core.specs.Executions.{Execution, HoldsExecution, tell_all}
 use Rattle.lxr_core.specs.Filling.{unfilled}
 use Rattle.lxr_core.specs.Opening.{Opens, execution_at}
+use Rattle.lxr_core.specs.Ordering.{AreFull, KeepsScript}
+use Rattle.lxr_core.proofs.ClosingLemmas.{given_full}
 use Rattle.lxr_core.proofs.OrderLemmas.{lengths_add}
-use Rattle.lxr_core.proofs.ScriptLemmas.{opened_script, script_runs}
+use Rattle.lxr_core.proofs.ScriptLemmas.{opened_full, opened_script, scripts_stay}
 use Rattle.lxr_run_replay.proofs.ClosingLemmas.{may_close}
 use Rattle.lxr_run_threads.specs.Running.{CanRun}
 use Rattle.lxr_run_threads.proofs.OpenedLemmas.{opened_can_run, started_helpers}
 use Rattle.lxr_run_watch.specs.Sights.{Sight}
 use Rattle.lxr_words.specs.declared.Options.{Options}
 use Rattle.lxr_words.specs.Ranges.{AreInRange}
-use Rattle.lxr_run_invariant.specs.LoopInvariant.{IsBetweenEpochs, Task}
+use Rattle.lxr_run_invariant.specs.LoopInvariant.{Task}
 use Rattle.lxr_run_invariant.specs.Laws.{beginning_of}
 use Rattle.lxr_run_invariant.proofs.ActorLemmas.{as_many}
 use Rattle.lxr_run_invariant.proofs.EpochLemmas.{epochs_run, may_open as epoch_begins}
 use Rattle.lxr_run_invariant.proofs.PauseLemmas.{few_threads}
 use Rattle.lxr_run_loop.specs.Drawing.{GoesOn}
 use Rattle.lxr_run_loop.specs.Orders.{NotesCalls}
-use Rattle.lxr_run_loop.specs.Progress.{HasMadeEpochInOrder}
+use Rattle.lxr_run_loop.specs.Progress.{HasMadeEpochInOrder, IsBetweenRounds}
 use Rattle.lxr_run_loop.proofs.OrderLemmas.{calls_follow}
 use Rattle.lxr_run_loop.proofs.ThreadLemmas.{as_many_helpers}
 use Rattle.lxr_run_loop.proofs.TracerLemmas.{tracers_run}
 
 -- ---- an epoch of a run
 
-module _ (task : Task) (space : Space) (written : Option (List ℕ)) (seen : Option (List Sight)) (actors : List AnyActor) (h : List Item) (g : AbstractState) (amid : IsBetweenEpochs task space written seen actors h g)
+module _ (task : Task) (space : Space) (written : Option (List ℕ)) (seen : Option (List Sight)) (actors : List AnyActor) (h : List Item) (g : AbstractState) (amid : IsBetweenRounds task space written seen actors h g)
     (opened : Space) (started : List AnyActor) (opens : Opens space opened actors started) (holds : HoldsExecution (beginning_of task space h g) (execution_at (beginning_of task space h g) opened started)) where
   -- there are as many actors as before
   pub started_many : length started ≡ length actors
@@ -46,7 +49,11 @@ module _ (task : Task) (space : Space) (written : Option (List ℕ)) (seen : Opt
 
   -- with the operations of the script
   started_script : script_of (mutators_in started) ≡ task.script
-  started_script = opened_script space opened actors started opens ∙ amid.actors_rest.mutators.script
+  started_script = opened_script space opened actors started opens ∙ amid.epochs.actors_rest.mutators.script
+
+  -- and with room for no others
+  started_full : AreFull (mutators_in started)
+  started_full = opened_full space opened actors started opens amid.full
 
   same_tracers : length (tracers_in started) ≡ length (tracers_in actors)
   same_tracers = (started_helpers space.registers.items actors started opens.actors).tracers
@@ -56,15 +63,15 @@ module _ (task : Task) (space : Space) (written : Option (List ℕ)) (seen : Opt
   can_run options with_options range = opened_can_run options (beginning_of task space h g) space opened actors started (record {
     few =
         let all = lengths_add actors in
-        let mutators = as_many task h (mutators_in actors) amid.actors_rest.mutators in
-        let threads = few_threads task space written seen h g amid.come in
-        let workers = amid.actors_rest.workers in
-        let few = amid.actors_rest.few in
-        let tracers = amid.actors_rest.tracers in
+        let mutators = as_many task h (mutators_in actors) amid.epochs.actors_rest.mutators in
+        let threads = few_threads task space written seen h g amid.epochs.come in
+        let workers = amid.epochs.actors_rest.workers in
+        let few = amid.epochs.actors_rest.few in
+        let tracers = amid.epochs.actors_rest.tracers in
         omega arith;
     workers = range.workers;
-    decrementers = amid.actors_rest.workers ∙ ap (λ (o : Options). o.workers) with_options;
-    tracers = amid.actors_rest.tracers ∙ ap (λ (o : Options). o.workers) with_options;
+    decrementers = amid.epochs.actors_rest.workers ∙ ap (λ (o : Options). o.workers) with_options;
+    tracers = amid.epochs.actors_rest.tracers ∙ ap (λ (o : Options). o.workers) with_options;
   }) opens holds
 
   module _ (gone : Space) (moved : List AnyActor) (x x' : Option ℕ) (on : GoesOn opened gone started moved x x') where
@@ -88,8 +95,15 @@ module _ (task : Task) (space : Space) (written : Option (List ℕ)) (seen : Opt
     core_is : execution_on.core ≡ core_of gone.words moved
     core_is = may_be_closed.core
 
+    -- orders are taken by none
+    stays : KeepsScript (core_of opened.words started) on.events
+    stays = scripts_stay (core_of opened.words started) on.events started_full
+
     script_on : script_of (mutators_in execution_on.core.actors) ≡ task.script
-    script_on = ap (λ (k : Core AnyActor). script_of (mutators_in k.actors)) (core_is ∙ on.run) ∙ script_runs (core_of opened.words started) on.events ∙ started_script
+    script_on = ap (λ (k : Core AnyActor). script_of (mutators_in k.actors)) (core_is ∙ on.run) ∙ stays.script ∙ started_script
+
+    full_on : AreFull (mutators_in execution_on.core.actors)
+    full_on = subst (λ (k : Core AnyActor). AreFull (mutators_in k.actors)) (sym (core_is ∙ on.run)) stays.full
 
     many_on : length execution_on.core.actors ≡ length actors
     many_on = ap (λ (k : Core AnyActor). length k.actors) (core_is ∙ on.run) ∙ (run-lengths any_machine (core_of opened.words started) on.events).1 ∙ started_many
@@ -106,27 +120,28 @@ module _ (task : Task) (space : Space) (written : Option (List ℕ)) (seen : Opt
         → HasMadeEpochInOrder task space after written seen actors actors' h x x' order order'
     has_made_epoch after actors' closes order order' notes =
         let words : gone ≡ record space { words = gone.words } = on.rest ∙ ap (λ (s : Space). record s { words = gone.words }) opens.space.rest in
-        let workers = as_many_helpers actors execution_on.core.actors task.script many_on tracers_on amid.actors_rest.mutators.script script_on ∙ amid.actors_rest.workers in
-        let (m, ran, totals) = epochs_run task space gone after written seen actors actors' h g execution_on amid (record {
+        let finished : AreFinished (mutators_in execution_on.core.actors) = subst AreFinished (sym (ap (λ (k : Core AnyActor). mutators_in k.actors) core_is)) on.finished in
+        let workers = as_many_helpers actors execution_on.core.actors task.script many_on tracers_on amid.epochs.actors_rest.mutators.script script_on ∙ amid.epochs.actors_rest.workers in
+        let (m, ran, totals) = epochs_run task task.script space gone after written seen actors actors' h g execution_on amid.epochs (goes_on_itself task.script) (record {
           words = words;
           script = script_on;
           workers = workers;
-          tracers = tracers_on ∙ amid.actors_rest.tracers;
-          finished = subst AreFinished (sym (ap (λ (k : Core AnyActor). mutators_in k.actors) core_is)) on.finished;
+          tracers = tracers_on ∙ amid.epochs.actors_rest.tracers;
           closes = closes;
+          due = record { cause = closes.cause finished; progress = closes.progress finished };
         }) in (
           record {
             history = execution_on.history;
             abstract_state = m;
             ran = ran;
             makes = record {
-              script = amid.actors_rest.mutators.script;
-              workers = amid.actors_rest.workers;
-              tracers = amid.actors_rest.tracers;
+              script = amid.epochs.actors_rest.mutators.script;
+              workers = amid.epochs.actors_rest.workers;
+              tracers = amid.epochs.actors_rest.tracers;
               abstract_state = g;
-              begins = epoch_begins task space written seen actors h g amid;
-              all_listed = amid.all_listed;
-              unwaiting = amid.served.unwaiting;
+              begins = epoch_begins task space written seen actors h g amid.epochs;
+              all_listed = amid.epochs.all_listed;
+              unwaiting = amid.epochs.served.unwaiting;
               opened = opened;
               started = started;
               opens = opens;
@@ -136,6 +151,7 @@ module _ (task : Task) (space : Space) (written : Option (List ℕ)) (seen : Opt
               closes = closes;
               history = refl;
             };
+            full = subst (λ z. AreFull (mutators_in z)) (sym closes.gave) (given_full execution_on.core.actors full_on);
             totals = totals;
             pauses = ap (λ (s : Space). s.pauses) closes.rest ∙ ap (λ (s : Space). s.pauses) words;
           },

@@ -17,6 +17,7 @@ use Rattle.lxr_mutator.specs.Mutators.{HaveIndexes, IsHeld, IsMutator, IsOperati
 use Rattle.lxr_core.specs.declared.actors.AnyActor.{AnyActor}
 use Rattle.lxr_core.specs.declared.actors.AnyActor.TheVariants as any
 use Rattle.lxr_core.specs.Actors.{decrementers_in, in_order, mutators_in, tracers_in}
+use Rattle.lxr_core.specs.Ordering.{IsFull}
 use Rattle.lxr_core.specs.Resting.{HelperRests, HelpersRest, TracerRests}
 use Rattle.lxr_core.proofs.OrderLemmas.{decrementers_of_order, mutators_of_both, tracers_of_order}
 use Rattle.lxr_decrement.specs.Decrementing.{DecrementerState}
@@ -72,7 +73,7 @@ first_is l every t operations limits thread each few range = record {
   held = All-replicate IsHeld 16 (record { 0 = 0 }) (omega arith);
   spans = (omega arith, omega arith);
   indexes = indexes l limits;
-  room = refl;
+  room = omega arith;
   few_replies = omega arith;
   replies = inr (omega arith);
   busy = λ e. absurd (cc);
@@ -312,4 +313,4 @@ opened_run options script limits space actors same ranges is made opened between
       tracers = tracers_made limits options.every options.workers options.workers task.script actors made;
       few = ranges.workers.1;
     }) in
-    ([], opening_abstract_state limits.threads, between_epochs, at_opening space actors (subst (IsOpened space) of_task opened) (subst (λ l. AreMade l options.every options.workers options.workers task.script actors) of_task made), none_told options space)
+    ([], opening_abstract_state limits.threads, record { epochs = between_epochs; full = λ i m at. subst IsFull (sym (made.mutators.each i m at)) (omega arith) }, at_opening space actors (subst (IsOpened space) of_task opened) (subst (λ l. AreMade l options.every options.workers options.workers task.script actors) of_task made), none_told options space)

@@ -31,7 +31,7 @@ use Rattle.lxr_words.specs.declared.Command.TheVariants.{Judge, Large, Load, Map
 use Rattle.lxr_run_history.specs.Sums.{sums_of}
 use Rattle.lxr_run_history.specs.Texts.{run_text, text_by, told_by, told_text}
 use Rattle.lxr_run_history.proofs.RoomLemmas.{none_chosen}
-use Rattle.lxr_run_history.specs.Run.{history_text, reports_text, threads_text}
+use Rattle.lxr_text_print.specs.Histories.{history_text, reports_text, threads_text}
 use Rattle.lxr_run_invariant.specs.LoopInvariant.{HasRunTo, Task, threads_of}
 use Rattle.lxr_run_invariant.proofs.ActorLemmas.{as_many, found}
 use Rattle.lxr_run_invariant.proofs.EndLemmas.{replies_printable, text_of_mutator}

@@ -22,12 +22,12 @@ use Rattle.lxr_core.specs.Actors.{mutators_in, script_of}
 use Rattle.lxr_run_history.specs.declared.totals.Totals.{Totals}
 use Rattle.lxr_run_history.specs.Sums.{totals_of, with_report}
 use Rattle.lxr_run_history.specs.Tally.{evacuated_in}
-use Rattle.lxr_run_invariant.specs.LoopInvariant.{HasMore, HasPaused, HasRunEpoch, HaveActors, HaveEnded, HaveMutators, IsBetweenEpochs, Task, WasCutOff, WasStopped, asked_by, done_of, left_of, terms_of}
+use Rattle.lxr_run_invariant.specs.LoopInvariant.{HasMore, HasPaused, HasRunEpoch, HaveActors, HaveEnded, HaveMutators, Task, WasCutOff, WasStopped, asked_by, done_of, left_of, terms_of}
 use Rattle.lxr_run_invariant.proofs.ActorLemmas.{are_within, done_and_left, ends_are_all, ends_are_fewer, steps_of}
 use Rattle.lxr_run_invariant.proofs.KindLemmas.{asked_right}
 use Rattle.lxr_run_loop.specs.declared.course.Course.{Course}
 use Rattle.lxr_run_loop.specs.Pausing.{HasComeToPause}
-use Rattle.lxr_run_loop.specs.Progress.{HasEnded, HasMadeRound, IsComplete, IsUnderWay, NoneGoesOn, actor_collected}
+use Rattle.lxr_run_loop.specs.Progress.{HasEnded, HasMadeRound, IsBetweenRounds, IsComplete, IsUnderWay, NoneGoesOn, actor_collected}
 
 -- ---- whether all have ended
 
@@ -145,10 +145,10 @@ pub cut_off_by : (why : WriteError) (task : Task) (space : Space) (written : Opt
 cut_off_by error.Fault task space written seen cut = cut
 cut_off_by error.Memory task space written seen cut = inl cut
 
--- a run between two epochs that lost its space had written its reports so far
-pub lost_at : (task : Task) (before after : Space) (written : Option (List ℕ)) (seen : Option (List Sight)) (actors : List AnyActor) (h : List Item) (g : AbstractState) → IsBetweenEpochs task before written seen actors h g
+-- a run between two rounds that lost its space had written its reports so far
+pub lost_at : (task : Task) (before after : Space) (written : Option (List ℕ)) (seen : Option (List Sight)) (actors : List AnyActor) (h : List Item) (g : AbstractState) → IsBetweenRounds task before written seen actors h g
     → after.words ≡ [] → WasStopped error.Memory task after written seen
-lost_at task before after written seen actors h g amid gone = inr (h, record { history = amid.come.history; text = amid.come.text; gone = gone; evacuated = evacuated_in before.tally; sights = (amid.come.places, amid.come.sights) })
+lost_at task before after written seen actors h g amid gone = inr (h, let come = amid.epochs.come in record { history = come.history; text = come.text; gone = gone; evacuated = evacuated_in before.tally; sights = (come.places, come.sights) })
 
 -- ---- by whether all have ended
 

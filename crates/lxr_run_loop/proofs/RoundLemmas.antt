@@ -11,6 +11,7 @@ use Rattle.lxr_model.specs.Kinds.{MustCollect}
 use Rattle.lxr_core.specs.declared.actors.AnyActor.{AnyActor}
 use Rattle.lxr_core.specs.Actors.{mutators_in}
 use Rattle.lxr_core.proofs.OrderLemmas.{lengths_add}
+use Rattle.lxr_core.proofs.ScriptLemmas.{full_as}
 use Rattle.lxr_run_pause.specs.declared.Ask.{Ask}
 use Rattle.lxr_run_pause.specs.declared.Ask.TheVariants as ask
 use Rattle.lxr_run_pause.specs.Pausing.{Pauses}
@@ -20,7 +21,7 @@ use Rattle.lxr_run_watch.specs.Sights.{Sight}
 use Rattle.lxr_words.specs.declared.Options.{Options}
 use Rattle.lxr_run_history.specs.declared.totals.Totals.{Totals}
 use Rattle.lxr_run_history.specs.Sums.{totals_of, with_report}
-use Rattle.lxr_run_invariant.specs.LoopInvariant.{FitsCounts, HasPaused, IsBetweenEpochs, IsServing, Task, asked_by, done_of, pace_of, terms_of}
+use Rattle.lxr_run_invariant.specs.LoopInvariant.{FitsCounts, HasPaused, IsServing, Task, asked_by, done_of, pace_of, terms_of}
 use Rattle.lxr_run_invariant.specs.Laws.{ListsAnew}
 use Rattle.lxr_run_invariant.proofs.ActorLemmas.{as_many, left_less}
 use Rattle.lxr_run_invariant.proofs.EndLemmas.{run_to}
@@ -31,14 +32,14 @@ use Rattle.lxr_run_loop.specs.Courses.{AreFew}
 use Rattle.lxr_run_loop.specs.Orders.{IsOrderOf}
 use Rattle.lxr_run_loop.specs.Drawing.{IsDrawn, by_answers, by_epoch, by_listing}
 use Rattle.lxr_run_loop.specs.Pausing.{HasComeToPause, MakesPause, PausesBehind, with_logs_counted}
-use Rattle.lxr_run_loop.specs.Progress.{HasMadeEpoch, IsNearer, IsThere, NoneGoesOn, actor_collected}
+use Rattle.lxr_run_loop.specs.Progress.{HasMadeEpoch, IsBetweenRounds, IsNearer, IsThere, NoneGoesOn, actor_collected}
 use Rattle.lxr_run_loop.specs.Serving.{BeginsServing}
 use Rattle.lxr_run_loop.proofs.ProgressLemmas.{asks_right, comes, has_more, have_all_ended, left_no_more, not_told, totals_paused}
 use Rattle.lxr_run_loop.proofs.ServeLemmas.{begins_serving}
 
 -- of a run that has made an epoch, with what was found of its actors, and what its pause is asked for
 module _ (task : Task) (options : Options) (with_options : task.options ≡ options) (space after : Space) (written : Option (List ℕ)) (seen : Option (List Sight)) (before actors : List AnyActor) (h : List Item) (g : AbstractState)
-    (x x' : Option ℕ) (amid : IsBetweenEpochs task space written seen before h g) (drawn : IsDrawn task h x space before) (made : HasMadeEpoch task space after written seen before actors h x x')
+    (x x' : Option ℕ) (amid : IsBetweenRounds task space written seen before h g) (drawn : IsDrawn task h x space before) (made : HasMadeEpoch task space after written seen before actors h x x')
     (ended collects : Bool) (asked : Ask) (means : IsTrue ended ↔ All NoneGoesOn actors) (shall : collects ≡ (ended || list_any actor_collected actors)) (is : asked ≡ asked_by collects) where
   -- its pause is asked right
   right : (asked ≡ ask.Collect) ↔ MustCollect (terms_of task) made.history
@@ -116,7 +117,7 @@ module _ (task : Task) (options : Options) (with_options : task.options ≡ opti
         totals_on,
         noted,
       );
-      no_more = left_no_more task h made.history (mutators_in before) (mutators_in actors) amid.actors_rest.mutators made.ran.actors_rest.mutators made.ran.grows;
+      no_more = left_no_more task h made.history (mutators_in before) (mutators_in actors) amid.epochs.actors_rest.mutators made.ran.actors_rest.mutators made.ran.grows;
     }
 
     -- else serving begins behind it
@@ -135,12 +136,12 @@ module _ (task : Task) (options : Options) (with_options : task.options ≡ opti
           under_way = (
             k,
             g'',
-            anew.amid,
+            record { epochs = anew.amid; full = full_as (mutators_in answered) (mutators_in actors) serving.asked made.full },
             by_listing k x' full again answered
                 (by_answers (Pause report ∷ made.history) k x' g' collects then full actors answered written' seen' drawn_on (begun e)
                 (subst (λ o. AnswersWaiting (pace_of o) collects (mutators_in actors) then (Pause report ∷ made.history) (mutators_in answered) full k) (sym with_options) answers) keeps)
                 lists_all,
             record { are = sums; few = subst (AreFew totals'') (sym lists.pauses) few; order = noted },
           );
-          less = left_less task h k (mutators_in before) (mutators_in answered) amid.actors_rest.mutators anew.amid.actors_rest.mutators anew.more;
+          less = left_less task h k (mutators_in before) (mutators_in answered) amid.epochs.actors_rest.mutators anew.amid.actors_rest.mutators anew.more;
         }

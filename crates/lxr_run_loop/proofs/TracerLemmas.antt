@@ -4,7 +4,7 @@ use Rattle.std.specs.Prelude.{Option, Some, None, slice_get, slice_set}
 use Rattle.lxr_actor.specs.declared.Action.{Action}
 use Rattle.lxr_actor.specs.declared.Core.{Core}
 use Rattle.lxr_actor.specs.declared.Event.{Event}
-use Rattle.lxr_actor.specs.declared.Event.TheVariants.{Step, Give, Out}
+use Rattle.lxr_actor.specs.declared.Event.TheVariants.{Step, Give, Out, Order}
 use Rattle.lxr_actor.specs.Run.{acted, change, event, happened, of_event, run}
 use Rattle.lxr_core.specs.declared.actors.AnyActor.{AnyActor}
 use Rattle.lxr_core.specs.declared.actors.AnyActor.TheVariants as any
@@ -46,6 +46,9 @@ change_kind (Give number place) words (any.Tracer d) = two_tracers d _
 change_kind (Out number) words (any.Mutator m) = two_mutators m m
 change_kind (Out number) words (any.Decrementer d) = two_helpers d _
 change_kind (Out number) words (any.Tracer d) = two_tracers d _
+change_kind (Order number op) words (any.Mutator m) = two_mutators m _
+change_kind (Order number op) words (any.Decrementer d) = two_helpers d d
+change_kind (Order number op) words (any.Tracer d) = two_tracers d d
 
 happened_tracers : (core : Core AnyActor) (e : Event) (o : Option AnyActor) → slice_get core.actors (of_event e) ≡ o → length (tracers_in (happened any_machine core e o).actors) ≡ length (tracers_in core.actors)
 happened_tracers core e None at = refl

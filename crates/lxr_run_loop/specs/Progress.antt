@@ -10,6 +10,7 @@ use Rattle.lxr_mutator.specs.Mutating.{Mutating, has_collected}
 use Rattle.lxr_core.specs.declared.actors.AnyActor.{AnyActor}
 use Rattle.lxr_core.specs.declared.actors.AnyActor.TheVariants as any
 use Rattle.lxr_core.specs.Actors.{mutators_in}
+use Rattle.lxr_core.specs.Ordering.{AreFull}
 use Rattle.lxr_words.specs.declared.Options.{Options}
 use Rattle.lxr_text_stream.specs.declared.transfer.WriteError.{WriteError}
 use Rattle.lxr_run_history.specs.Sums.{totals_of}
@@ -37,10 +38,15 @@ actor_collected (any.Tracer d) = false
 
 -- ---- the run
 
--- the run is between two epochs, and has come so far in its course
+-- The run is between two rounds: it is between two epochs, and no mutator has room for a further operation. So its script stays what it is.
+pub record IsBetweenRounds (task : Task) (space : Space) (written : Option (List ℕ)) (seen : Option (List Sight)) (actors : List AnyActor) (h : List Item) (g : AbstractState) : Type 0 where
+  pub epochs : IsBetweenEpochs task space written seen actors h g
+  pub full : AreFull (mutators_in actors)
+
+-- the run is between two rounds, and has come so far in its course
 abbrev pub IsUnderWay : Task → Space → Option (List ℕ) → Option (List Sight) → List AnyActor → Course → Type 0
 IsUnderWay task space written seen actors course =
-    (h : List Item) × (g : AbstractState) × IsBetweenEpochs task space written seen actors h g × IsDrawn task h course.generator space actors × IsCourseOf course space h
+    (h : List Item) × (g : AbstractState) × IsBetweenRounds task space written seen actors h g × IsDrawn task h course.generator space actors × IsCourseOf course space h
 
 -- some run with these options is
 abbrev pub SomeIsUnderWay : Options → Space → Option (List ℕ) → Option (List Sight) → List AnyActor → Course → Type 0
@@ -58,17 +64,18 @@ IsStoppedUnderWay why options space written seen actors course space' written' s
 
 -- ---- an epoch
 
--- some run with these options is between two epochs
+-- some run with these options is between two rounds
 abbrev pub CanRunEpoch : Options → Space → List AnyActor → Type 0
-CanRunEpoch options space actors = (task : Task) × (task.options ≡ options) × (written : Option (List ℕ)) × (seen : Option (List Sight)) × (h : List Item) × (g : AbstractState) × IsBetweenEpochs task space written seen actors h g
+CanRunEpoch options space actors = (task : Task) × (task.options ≡ options) × (written : Option (List ℕ)) × (seen : Option (List Sight)) × (h : List Item) × (g : AbstractState) × IsBetweenRounds task space written seen actors h g
 
--- A run that was between two epochs, behind a history h, has made an epoch: by the draws of a generator, which has gone from x to x', or as
--- its threads came. No pause was made in it.
+-- A run that was between two rounds, behind a history h, has made an epoch: by the draws of a generator, which has gone from x to x', or as
+-- its threads came. No pause was made in it, and no order was taken.
 pub record HasMadeEpoch (task : Task) (space after : Space) (written : Option (List ℕ)) (seen : Option (List Sight)) (before actors : List AnyActor) (h : List Item) (x x' : Option ℕ) : Type 0 where
   pub history : List Item
   pub abstract_state : AbstractState
   pub ran : HasRunEpoch task after written seen before actors history abstract_state
   pub makes : MakesEpoch task space before h x after actors history x'
+  pub full : AreFull (mutators_in actors)
   pub totals : totals_of history ≡ totals_of h
   pub pauses : after.pauses ≡ space.pauses
 
@@ -80,11 +87,11 @@ HasMadeEpochInOrder task space after written seen before actors h x x' order ord
 -- each such run has
 abbrev pub RunsEpoch : Options → Space → List AnyActor → Option ℕ → Option (List kept.Item) → Space → List AnyActor → Option ℕ → Option (List kept.Item) → Type 0
 RunsEpoch options space actors x order space' actors' x' order' = (task : Task) → task.options ≡ options → (written : Option (List ℕ)) (seen : Option (List Sight)) (h : List Item) (g : AbstractState)
-    → IsBetweenEpochs task space written seen actors h g → HasMadeEpochInOrder task space space' written seen actors actors' h x x' order order'
+    → IsBetweenRounds task space written seen actors h g → HasMadeEpochInOrder task space space' written seen actors actors' h x x' order order'
 
 -- ---- a round: an epoch and the pause behind it
 
--- the run is between two epochs again, and less is left to do
+-- the run is between two rounds again, and less is left to do
 pub record IsNearer (task : Task) (space : Space) (written : Option (List ℕ)) (seen : Option (List Sight)) (before after : List AnyActor) (course : Course) : Type 0 where
   pub under_way : IsUnderWay task space written seen after course
   pub less : left_of (mutators_in after) < left_of (mutators_in before)

@@ -9,3 +9,4 @@ pub mod ClosingLemmas
 pub mod GateLemmas
 pub mod PlacingLemmas
 pub mod RecordLemmas
+pub mod CallsLemmas

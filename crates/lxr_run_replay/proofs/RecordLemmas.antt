@@ -136,7 +136,7 @@ acted_sound words m None e is = is
 acted_sound words m (Some act) e is = stay_so m (slice_index words act.word) is (subst IsSome (sym e) refl)
 
 -- at most all its operations and its end stand in the history
-placed_few : (m : Mutating) (p : MutatorPhase) → m.phase ≡ p → IsMutator m → placed_in m p ≤ length m.operations + 1
+pub placed_few : (m : Mutating) (p : MutatorPhase) → m.phase ≡ p → IsMutator m → placed_in m p ≤ length m.operations + 1
 placed_few m (phase.Referent place) e is = let busy = is.busy (ap rests_in e) in omega arith
 placed_few m p e is = is.few_replies
 

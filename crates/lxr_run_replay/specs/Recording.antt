@@ -1,6 +1,7 @@
 -- What a replay records: whose calls come to stand in the history, in order.
 use Rattle.std.specs.Prelude.{◌≡◌, ℕ, ◌+◌, ◌-◌, ◌≤◌, ⊤, Option, Some, None, List, [], ◌∷◌, ◌++◌, length, slice_get, if◌then◌else◌, nat_lt}
 use Rattle.lxr_base.specs.Roomy.{Roomy}
+use Rattle.lxr_graph.specs.History.{calls_of}
 use Rattle.lxr_graph.specs.Order.{order_of}
 use Rattle.lxr_graph.specs.declared.Item.{Item}
 use Rattle.lxr_graph.specs.declared.Item.TheVariants as item
@@ -8,15 +9,15 @@ use Rattle.lxr_actor.specs.declared.Core.{Core}
 use Rattle.lxr_actor.specs.declared.Event.{Event}
 use Rattle.lxr_actor.specs.declared.Event.TheVariants.{Step}
 use Rattle.lxr_actor.specs.Run.{event, stepped}
-use Rattle.lxr_mutator.specs.Mutating.{placed_count}
+use Rattle.lxr_mutator.specs.Mutating.{Mutating, placed_count}
 use Rattle.lxr_mutator.specs.Mutators.{IsMutator}
 use Rattle.lxr_mutator.specs.Steps.{mutator_machine}
 use Rattle.lxr_core_invariant.specs.EpochStates.{Beginning}
 use Rattle.lxr_core_sim_mutator.specs.Stepping.{stands_in}
 use Rattle.lxr_core.specs.declared.actors.AnyActor.{AnyActor}
 use Rattle.lxr_core.specs.declared.actors.AnyActor.TheVariants as any
-use Rattle.lxr_core.specs.Actors.{any_machine}
-use Rattle.lxr_core.specs.Executions.{Execution, tell_all}
+use Rattle.lxr_core.specs.Actors.{any_machine, mutators_in}
+use Rattle.lxr_core.specs.Executions.{Execution, HoldsExecution, tell_all}
 
 -- These are the calls that a schedule from this core on brings into the history, in order: in whichever execution of an epoch has come to
 -- the core, the history goes on by just these.
@@ -85,3 +86,10 @@ left_to_place (any.Tracer d) = 0
 abbrev pub all_left : List AnyActor → ℕ
 all_left [] = 0
 all_left (a ∷ actors) = left_to_place a + all_left actors
+
+-- ---- the history
+
+-- in each execution of which the invariant of its epoch holds, as many operations of a mutator are placed as its thread has calls
+abbrev pub PlacedAreCalls : Type 0
+PlacedAreCalls = (b : Beginning) (execution : Execution) (i : ℕ) (m : Mutating) → HoldsExecution b execution → slice_get (mutators_in execution.core.actors) i ≡ Some m
+    → placed_count m ≡ length (calls_of m.thread execution.history)

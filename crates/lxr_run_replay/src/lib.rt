@@ -13,6 +13,7 @@ mod replaying;
 
 ghost use Rattle.lxr_core_invariant.specs.EpochStates.{Beginning};
 ghost use Rattle.lxr_core.specs.Executions.{HoldsExecution, Execution};
+ghost use Rattle.lxr_run_replay.specs.Recording.{PlacedAreCalls};
 ghost use Rattle.lxr_run_replay.specs.Replaying.{CanBeReplayed, SchedulesMayClose};
 
 pub use recording::placed_by;
@@ -26,4 +27,10 @@ pub fn executions_can_be_replayed()
 /// Where a schedule was run to its end, by a replay or by threads, the epoch may be closed: its execution has gone on by the schedule.
 pub fn schedules_may_close()
     ensures { SchedulesMayClose }
+{}
+
+/// What a mutator says is placed are the calls that its thread has in the history: in each execution of which the invariant of its epoch
+/// holds.
+pub fn placed_are_calls()
+    ensures { PlacedAreCalls }
 {}

@@ -1,6 +1,6 @@
 //! Passes that threads take in turn: threads stand for the whole of an epoch, and any of them lets any pass go on.
 //!
-//! A thread takes the pass that waits longest, lets it make some turns, and puts it behind the others again, or keeps it where it is through.
+//! A thread takes the pass that waits longest, lets it make one turn, and puts it behind the others again, or keeps it where it is through.
 //! A mutator is through where it has no further unit in this epoch, and a helper where it found nothing, or has made as many turns as
 //! a thread makes operations in an epoch. Helpers share no hints here.
 ghost use Rattle.std.specs.Prelude.{◌≡◌, ℕ, ◌≤◌, ◌||◌, List, [], All, IfErr, IfOk, map, nat_le, not, true, vec_capacity, vec_len};
@@ -16,6 +16,7 @@ use crate::workers::mutate;
 use lxr_actor::Actor;
 use lxr_core::AnyActor;
 use lxr_decrement::DecEnd;
+use lxr_mutator::MutEnd;
 use lxr_run_watch::Gate;
 use lxr_shared::{Pass, Turn};
 use lxr_shared_passes::Epoch;
@@ -26,9 +27,6 @@ use std::alloc::Global;
 use std::sync::Wait;
 use std::thread::Threads;
 
-/// How many turns a pass makes in a row, before it makes way for the next one: its trip to another thread takes as long as some turns.
-const TURNS_IN_A_TRIP: u32 = 64;
-
 /// A pass with the number of its turns in this epoch.
 #[derive(Drop)]
 pub struct Standing {
@@ -37,7 +35,8 @@ pub struct Standing {
 }
 
 impl Standing {
-    /// One turn: a unit of a mutator, whose operation was let pass, or of a helper. Whether the pass is through with the epoch.
+    /// One turn: a unit of a mutator, whose operation was let pass, or of a helper. Whether the pass is through with the epoch: its unit
+    /// ended with neither `OpDone` nor `Worked` nor `RememberFull`, or was a helper's last one of as many as it may make.
     #[inline(always)]
     fn take_turn(&mut self, table: &Epoch<AnyActor>, most: u32) -> bool
         requires { IsStanding table.now most self.old }
@@ -69,12 +68,12 @@ impl Standing {
     }
 }
 
-/// Whether a helper's turn ended with work that was done.
+/// Whether a turn ended with its operation done, or with work that a helper found.
 fn has_worked(end: Turn) -> bool
     ensures { result ≡ has_worked end }
 {
     match end {
-        Turn::Mutator(_) => false,
+        Turn::Mutator(end) => matches!(end, MutEnd::OpDone(_)),
         Turn::Decrementer(end) => matches!(end, DecEnd::Worked),
         Turn::Tracer(end) => matches!(end, TraceEnd::Worked | TraceEnd::RememberFull),
     }
@@ -106,24 +105,19 @@ struct Work<'a, G: Gate> {
 }
 
 impl<'a, G: Gate> Turns<Standing> for Work<'a, G> {
-    ghost use Rattle.lxr_run_threads.specs.Standing.{IsStanding, MakesTurns, left_of};
+    ghost use Rattle.lxr_run_threads.specs.Standing.{IsStanding, MakesLetTurn, left_of};
 
     ghost fits = { λ work standing. IsStanding work.table.now work.most standing };
 
-    ghost made = { λ work before after through. MakesTurns work.table.now (G.passed work.gate.now) work.most before after through };
+    ghost made = { λ work before after through. MakesLetTurn work.table.now (G.passed work.gate.now) work.most before after through };
 
     ghost left = { λ work standing. left_of work.most standing };
 
     fn turn(&self, standing: &mut Standing) -> bool {
-        for _ in 0..TURNS_IN_A_TRIP {
-            if let Some((thread, operation)) = next_operation(standing.pass.actor()) {
-                self.gate.at(thread, operation);
-            }
-            if standing.take_turn(self.table, self.most) {
-                return true;
-            }
+        if let Some((thread, operation)) = next_operation(standing.pass.actor()) {
+            self.gate.at(thread, operation);
         }
-        false
+        standing.take_turn(self.table, self.most)
     }
 }
 

@@ -1,10 +1,11 @@
 //! Workers: each lets its mutators and its helpers take turns.
-ghost use Rattle.std.specs.Prelude.{◌≡◌, ℕ, ◌+◌, ◌*◌, ◌≤◌, List, IfOk, false, map, All, vec_len};
+ghost use Rattle.std.specs.Prelude.{◌≡◌, ℕ, ◌+◌, ◌*◌, ◌≤◌, List, IfOk, IsSome, false, map, All, vec_len};
 ghost use Rattle.std.specs.Thread.{IsSync};
 ghost use Rattle.lxr_actor.specs.Run.{one_if};
 ghost use Rattle.lxr_mutator.specs.Mutating.{Mutating};
 ghost use Rattle.lxr_core.specs.Actors.{any_machine};
 ghost use Rattle.lxr_shared_passes.specs.Passing.{Turned};
+ghost use Rattle.lxr_shared.specs.Ends.{GoesOnByEnd};
 ghost use Rattle.lxr_run_replay.specs.Replaying.{CanBeReplayed};
 ghost use Rattle.lxr_run_threads.specs.Dealing.{numbers_from, numbers_of};
 ghost use Rattle.lxr_run_watch.specs.Gates.{IsLetPass};
@@ -250,7 +251,7 @@ fn let_mutate<G: Gate>(table: &Epoch<AnyActor>, pass: &mut Pass, gate: &G) -> bo
     mutate(table, pass)
 }
 
-/// One turn of a mutator, whose operation was let pass. Whether it goes on.
+/// One turn of a mutator, whose operation was let pass. Whether it goes on: behind a unit it does exactly where that ended with `OpDone`.
 #[inline(always)]
 pub(crate) fn mutate(table: &Epoch<AnyActor>, pass: &mut Pass) -> bool
     requires can { CanBeReplayed table.now.opening }
@@ -261,6 +262,7 @@ pub(crate) fn mutate(table: &Epoch<AnyActor>, pass: &mut Pass) -> bool
     ensures mutator { is_helper pass.new.actor ≡ false }
     ensures unit { (olds : List ℕ) × Turned any_machine pass.old olds pass.new }
     ensures answer { result ≡ goes_on pass.new.actor }
+    ensures further { IsSome (any_machine.action pass.old.actor) → GoesOnByEnd pass.new.actor }
     ensures done { result ≡ false → HasServed pass.new.actor }
     ensures nearer { work_of pass.new.actor + one_if result ≤ work_of pass.old.actor }
 {

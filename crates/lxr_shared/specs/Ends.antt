@@ -1,5 +1,7 @@
 -- How units of actors end, and what holds of an actor between two of them.
-use Rattle.std.specs.Prelude.{◌≡◌, ℕ, true, Option, Some, None, List, IsSome, option_map, slice_get}
+use Rattle.std.specs.Prelude.{◌≡◌, ℕ, Bool, true, false, Option, Some, None, List, IsSome, is_some, option_map, slice_get}
+use Rattle.lxr_mutator.specs.declared.phases.MutEnd.{MutEnd}
+use Rattle.lxr_mutator.specs.declared.phases.MutEnd.TheVariants as ends
 use Rattle.lxr_core.specs.declared.actors.AnyActor.{AnyActor}
 use Rattle.lxr_core.specs.declared.actors.AnyActor.TheVariants as any
 use Rattle.lxr_core.specs.Actors.{any_machine}
@@ -11,6 +13,17 @@ abbrev pub end_of : AnyActor → Option Turn
 end_of (any.Mutator m) = option_map turn.Mutator m.end
 end_of (any.Decrementer d) = option_map turn.Decrementer d.end
 end_of (any.Tracer d) = option_map turn.Tracer d.end
+
+-- a mutator's unit ended with its operation done, and that wasn't the last one that the thread may do in this epoch
+abbrev pub is_op_done : Option MutEnd → Bool
+is_op_done (Some (ends.OpDone r)) = true
+is_op_done other = false
+
+-- where it is a mutator, it has a further unit before it in this epoch exactly if its last one ended so
+abbrev pub GoesOnByEnd : AnyActor → Type 0
+GoesOnByEnd (any.Mutator m) = is_some (any_machine.action (any.Mutator m)) ≡ is_op_done m.end
+GoesOnByEnd (any.Decrementer d) = Unit {0}
+GoesOnByEnd (any.Tracer d) = Unit {0}
 
 -- if the actor is finished for the epoch, it knows how its last unit ended
 abbrev pub KnowsEnd : AnyActor → Type 0

@@ -7,7 +7,7 @@ use Rattle.lxr_image.specs.declared.space.Space.{Space}
 use Rattle.lxr_core.specs.declared.actors.AnyActor.{AnyActor}
 use Rattle.lxr_core.specs.declared.actors.AnyActor.TheVariants as any
 use Rattle.lxr_core.specs.Actors.{any_machine}
-use Rattle.lxr_shared_passes.specs.Passing.{Passing, Told}
+use Rattle.lxr_shared_passes.specs.Passing.{Opened, Passing, Told}
 use Rattle.lxr_shared.specs.declared.rest.Rest.{Rest}
 
 -- an epoch on a table: its name, the words and actors that it was opened with, and the space that it was opened from
@@ -32,6 +32,15 @@ whole words rest = record {
   rest_next = rest.rest_next;
   rest_end = rest.rest_end;
 }
+
+-- what is kept beside the table: the rest of the space, and for how many passes there is room
+pub record Kept : Type 0 where
+  pub rest : Rest
+  pub room : ℕ
+
+-- the epoch of a table and of what is kept beside it
+abbrev pub sharing : Opened AnyActor → Kept → Sharing
+sharing table kept = record { id = table.id; opening = table.opening; space = whole table.opening.words kept.rest }
 
 -- the event of an offer, or of a place that is taken out, came to a helper; a mutator's pass is left as it is
 abbrev pub ToldOfHelper : AnyActor → Passing AnyActor → Event → Passing AnyActor → Type 0

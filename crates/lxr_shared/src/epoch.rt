@@ -1,15 +1,16 @@
 //! An epoch on running threads, and its passes: what a pass does while the epoch is open.
-ghost use Rattle.std.specs.Prelude.{◌≡◌, ℕ, ◌≤◌, List, length, Some, true};
-ghost use Rattle.lxr_actor.specs.declared.Event.TheVariants.{Give, Out};
-ghost use Rattle.lxr_shared_passes.specs.Passing.{IsSamePass, Turned};
+ghost use Rattle.std.specs.Prelude.{◌≡◌, ℕ, ◌≤◌, List, length, IsSome, Some, true};
+ghost use Rattle.lxr_actor.specs.declared.Event.TheVariants.{Give, Order, Out};
+ghost use Rattle.lxr_shared_passes.specs.Passing.{IsSamePass, Told, Turned};
 ghost use Rattle.lxr_core.specs.Actors.{any_machine};
-ghost use Rattle.lxr_shared.specs.Ends.{end_of};
+ghost use Rattle.lxr_shared.specs.Ends.{GoesOnByEnd, end_of};
 ghost use Rattle.lxr_shared.specs.Sharing.{ToldOfHelper};
 
 use crate::kinds::ByKind;
 use crate::rest::Rest;
 use crate::turns::{Turn, last_turn, unit_is_short};
 use lxr_core::AnyActor;
+use lxr_graph::Op;
 use lxr_layout::Place;
 use std::marker::Model;
 
@@ -81,7 +82,8 @@ impl Pass {
     }
 
     /// Does one unit of the actor, by no more steps than the actor's bound and at most 8,192, and answers how it ended. It takes
-    /// no memory and waits for nobody. A finished actor makes no step, and the answer is its last end again.
+    /// no memory and waits for nobody. A finished actor makes no step, and the answer is its last end again. Behind a unit of its own a
+    /// mutator has a further one in this epoch exactly where the answer is `OpDone`.
     #[inline(always)]
     pub fn turn(&mut self, epoch: &Epoch) -> Turn
         requires { self.old.epoch ≡ epoch.now.id }
@@ -89,6 +91,7 @@ impl Pass {
         ensures unit { (olds : List ℕ) × (length olds ≤ any_machine.left self.old.actor) × Turned any_machine self.old olds self.new }
         ensures short { any_machine.left self.old.actor ≤ 8192 }
         ensures end { Some result ≡ end_of self.new.actor }
+        ensures further { IsSome (any_machine.action self.old.actor) → GoesOnByEnd self.new.actor }
         ensures rests { any_machine.rests self.new.actor ≡ true }
     {
         self.turn_at(epoch.table())
@@ -102,6 +105,7 @@ impl Pass {
         ensures unit { (olds : List ℕ) × (length olds ≤ any_machine.left self.old.actor) × Turned any_machine self.old olds self.new }
         ensures short { any_machine.left self.old.actor ≤ 8192 }
         ensures end { Some result ≡ end_of self.new.actor }
+        ensures further { IsSome (any_machine.action self.old.actor) → GoesOnByEnd self.new.actor }
         ensures rests { any_machine.rests self.new.actor ≡ true }
     {
         unit_is_short(self.pass.actor());
@@ -156,5 +160,28 @@ impl Pass {
             AnyActor::Mutator(_) => None,
             AnyActor::Decrementer(_) | AnyActor::Tracer(_) => self.pass.surplus(table),
         }
+    }
+
+    /// Orders an operation of the actor, behind those that it has. Whether it took the operation: a helper takes none. An order is an event
+    /// of the epoch, and stands in its schedule.
+    #[inline(always)]
+    pub fn order(&mut self, epoch: &Epoch, op: Op) -> bool
+        requires { self.old.epoch ≡ epoch.now.id }
+        ensures pass { IsSamePass self.old self.new }
+        ensures answer { (self.new.actor, result) ≡ any_machine.ordered self.old.actor op }
+        ensures event { Told any_machine self.old (Order self.old.number op) self.new }
+    {
+        self.order_at(epoch.table(), op)
+    }
+
+    /// The same, at the table of its epoch.
+    #[inline(always)]
+    pub fn order_at(&mut self, table: &lxr_shared_passes::Epoch<AnyActor>, op: Op) -> bool
+        requires { self.old.epoch ≡ table.now.id }
+        ensures pass { IsSamePass self.old self.new }
+        ensures answer { (self.new.actor, result) ≡ any_machine.ordered self.old.actor op }
+        ensures event { Told any_machine self.old (Order self.old.number op) self.new }
+    {
+        self.pass.order(table, op)
     }
 }

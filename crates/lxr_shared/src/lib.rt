@@ -10,10 +10,12 @@ mod close;
 mod epoch;
 mod kinds;
 mod open;
+mod parts;
 mod rest;
 mod turns;
 
 pub use close::close_shared;
 pub use epoch::{Epoch, Pass};
 pub use open::open_shared;
+pub use parts::Aside;
 pub use turns::Turn;

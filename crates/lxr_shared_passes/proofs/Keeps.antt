@@ -8,10 +8,11 @@ use mathlib.Core.Option.{some, some-injective, some-ne-none}
 use Rattle.atomic_table.specs.Table.{Me, keeps, opening, Allows, Splits, Joins, Enters}
 use Rattle.atomic_table.proofs.Lists.{at_set, at_snoc, set_else}
 use Rattle.lxr_layout.specs.declared.Place.{Place}
+use Rattle.lxr_graph.specs.declared.Op.{Op}
 use Rattle.lxr_actor.specs.declared.Action.{Action}
 use Rattle.lxr_actor.specs.declared.Core.{Core}
 use Rattle.lxr_actor.specs.declared.Event.{Event}
-use Rattle.lxr_actor.specs.declared.Event.TheVariants.{Step, Give, Out}
+use Rattle.lxr_actor.specs.declared.Event.TheVariants.{Step, Give, Out, Order}
 use Rattle.lxr_actor.specs.Change.{changed}
 use Rattle.lxr_actor.specs.Machine.{Machine}
 use Rattle.lxr_actor.specs.Run.{core_of, acted, of_event, change, run}
@@ -19,7 +20,7 @@ use Rattle.lxr_actor.proofs.Runs.{slice_get-set_same, slice_get-set_other, one_i
 use Rattle.lxr_shared_passes.specs.declared.rule.Held.{Held}
 use Rattle.lxr_shared_passes.specs.declared.rule.View.{View}
 use Rattle.lxr_shared_passes.specs.Passing.{Every, IsSeen, IsAt}
-use Rattle.lxr_shared_passes.specs.Rule.{count, held, view, one, entries, whole, without_first, only_first, merged, nobody, numbers, IsHeld, Knows, Runs, Follows, Advanced, TakesOffer, GivesUp}
+use Rattle.lxr_shared_passes.specs.Rule.{count, held, view, one, entries, whole, without_first, only_first, merged, nobody, numbers, IsHeld, Knows, Runs, Follows, Advanced, TakesOffer, TakesOrder, GivesUp}
 use Rattle.lxr_shared_passes.proofs.Places.{every-append, every-map, every-rest, every-first, count-cut, count-joined, entries-once, entries-known, places-set, places-snoc, places-two}
 
 -- an event of another number stands behind what was seen
@@ -136,6 +137,14 @@ module _ {A : Type 0} (m : Machine A) where
       let t = moves start slots id me core number a seen (Out number) 0 (λ n. n) (λ n. (m.spared a).0) mine refl
       (λ ws. ap (λ (l : List ℕ). (l, (m.spared a).0)) (sym (set-get_or ws 0 0))) s r wide at small in
       (t.0, t.1, t.2, t.3, (t.4.0, subst (λ (v : View A). GivesUp m v t.0) (sym mine) (t.4.1.0, t.4.1.2)))
+
+  -- a load of word 0 at which the actor is ordered an operation
+  pub orders : (start : Core A) (slots id : ℕ) (me : M) (core : Core A) (number : ℕ) (a : A) (seen : List Event) (op : Op)
+      → me.0 ≡ one core number a seen → Allows (Runs m start) slots id me 0 (λ n. n) (λ n z. (z.1 ≡ me.1) × TakesOrder m op me.0 z.0)
+  orders start slots id me core number a seen op mine s r wide at small =
+      let t = moves start slots id me core number a seen (Order number op) 0 (λ n. n) (λ n. (m.ordered a op).0) mine refl
+      (λ ws. ap (λ (l : List ℕ). (l, (m.ordered a op).0)) (sym (set-get_or ws 0 0))) s r wide at small in
+      (t.0, t.1, t.2, t.3, (t.4.0, subst (λ (v : View A). TakesOrder m op v t.0) (sym mine) (t.4.1.0, t.4.1.2)))
 
   -- an actor goes to a seat of its own
   pub splits : (start : Core A) (id : ℕ) (v : View A) → Splits (Runs m start) id v (without_first v) (only_first v)

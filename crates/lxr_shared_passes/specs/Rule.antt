@@ -5,8 +5,9 @@ use mathlib.Core.Option.{some}
 use Rattle.atomic_table.specs.Table.{State}
 use Rattle.atomic_table.specs.declared.shared.Seat.{Seat}
 use Rattle.lxr_layout.specs.declared.Place.{Place}
+use Rattle.lxr_graph.specs.declared.Op.{Op}
 use Rattle.lxr_actor.specs.declared.Event.{Event}
-use Rattle.lxr_actor.specs.declared.Event.TheVariants.{Step, Give, Out}
+use Rattle.lxr_actor.specs.declared.Event.TheVariants.{Step, Give, Out, Order}
 use Rattle.lxr_actor.specs.declared.Core.{Core}
 use Rattle.lxr_actor.specs.Machine.{Machine}
 use Rattle.lxr_actor.specs.Run.{core_of, run, one_if, times, AlwaysFits}
@@ -123,6 +124,10 @@ module _ {A : Type 0} (m : Machine A) where
   -- the actor gave up a place
   abbrev pub GivesUp : View A → View A → Type 0
   GivesUp v w = OfOne v (λ core h. (others : List Event) × Follows core h others (Out h.number) (m.spared h.actor).0 w)
+
+  -- the actor was ordered an operation
+  abbrev pub TakesOrder : Op → View A → View A → Type 0
+  TakesOrder op v w = OfOne v (λ core h. (others : List Event) × Follows core h others (Order h.number op) (m.ordered h.actor op).0 w)
 
   -- a pass: its seat holds its actor alone, which a run of the opening core leads to, and each next step fits
   pub record IsSeated (number : ℕ) (actor : A) (s : Seat (Unit {0}) (View A)) : Type 0 where

@@ -5,6 +5,8 @@
 //! is read.
 ghost use Rattle.std.specs.Prelude.{◌≡◌, []};
 ghost use Rattle.lxr_layout.specs.declared.Place.{Place};
+ghost use Rattle.lxr_graph.specs.declared.Op.{Op};
+ghost use Rattle.lxr_graph.specs.declared.Op.TheVariants.{Pause};
 ghost use Rattle.lxr_actor.specs.Run.{core_of};
 
 use atomic_table::{Join, Play, Split, TableRule};
@@ -96,6 +98,26 @@ impl<A: Actor> Play<(), View<A>> for Spared<A> {
     ghost use Rattle.lxr_shared_passes.specs.Rule.{GivesUp};
 
     ghost then = { λ st m r n. (n.1 ≡ m.1) × GivesUp A.machine m.0 n.0 };
+}
+
+/// The operation that an order asks for, for contracts alone.
+pub trait Asking {
+    ghost op: { Op };
+}
+
+impl Asking for Brand {
+    ghost op = { Pause };
+}
+
+/// The one actor that the seat holds is ordered an operation.
+pub struct Ordered<A, O> {
+    actor: PhantomData<(A, O)>,
+}
+
+impl<A: Actor, O: Asking> Play<(), View<A>> for Ordered<A, O> {
+    ghost use Rattle.lxr_shared_passes.specs.Rule.{TakesOrder};
+
+    ghost then = { λ st m r n. (n.1 ≡ m.1) × TakesOrder A.machine O.op m.0 n.0 };
 }
 
 /// The first actor goes to a seat of its own.

@@ -1,13 +1,14 @@
-//! Offers to a pass's actor and what it gives up, each at one load of word 0, so that they stand in the schedule.
+//! Offers to a pass's actor, what it gives up and what it is ordered, each at one load of word 0, so that they stand in the schedule.
 ghost use Rattle.std.specs.Prelude.{◌≡◌, ◌<◌, []};
-ghost use Rattle.lxr_actor.specs.declared.Event.TheVariants.{Give, Out};
-ghost use Rattle.lxr_shared_passes.specs.Rule.{one, seen_in, TakesOffer, GivesUp};
+ghost use Rattle.lxr_actor.specs.declared.Event.TheVariants.{Give, Out, Order};
+ghost use Rattle.lxr_shared_passes.specs.Rule.{one, seen_in, TakesOffer, TakesOrder, GivesUp};
 ghost use Rattle.lxr_shared_passes.specs.Passing.{IsSamePass, Told};
 
 use crate::pass::{Epoch, Pass};
-use crate::rule::{Given, Offering, Spared, View};
+use crate::rule::{Asking, Given, Offering, Ordered, Spared, View};
 use atomic_table::Seat;
 use lxr_actor::Actor;
+use lxr_graph::Op;
 use lxr_layout::Place;
 use std::marker::Brand;
 
@@ -35,6 +36,37 @@ impl<A: Actor> Pass<A> {
         say_spared(epoch, &mut seated.seat, seated.number, &self.actor);
         self.actor.surplus()
     }
+
+    /// Orders an operation of the actor, behind those that it has. Whether it took the operation.
+    #[inline(always)]
+    pub fn order(&mut self, epoch: &Epoch<A>, op: Op) -> bool
+        requires { self.old.epoch ≡ epoch.now.id }
+        ensures pass { IsSamePass self.old self.new }
+        ensures answer { (self.new.actor, result) ≡ A.machine.ordered self.old.actor op }
+        ensures event { Told A.machine self.old (Order self.old.number op) self.new }
+    {
+        let seated = &mut self.seated;
+        say_ordered::<A, Brand>(epoch, &mut seated.seat, seated.number, &self.actor, op);
+        self.actor.order(op)
+    }
+}
+
+/// Notes at the table that the actor is ordered an operation.
+#[inline(always)]
+fn say_ordered<A: Actor, O: Asking>(
+    epoch: &Epoch<A>,
+    seat: &mut Seat<(), View<A>>,
+    number: usize,
+    actor: &A,
+    op: Op,
+)
+    requires epoch { (seat.old.table_id ≡ epoch.now.id) × (0 < seat.old.table_id.words) }
+    requires holds { seat.old.me ≡ (one seat.old.me.0.core number actor.now (seen_in seat.old.me.0), []) }
+    requires op { op ≡ O.op }
+    ensures seat { (seat.new.table_id ≡ seat.old.table_id) × (seat.new.me.1 ≡ []) }
+    ensures told { TakesOrder A.machine op seat.old.me.0 seat.new.me.0 }
+{
+    epoch.table.shared.load::<Ordered<A, O>>(seat, 0);
 }
 
 /// Notes at the table that the actor is offered a place.

@@ -5,6 +5,7 @@ use crate::{Turns, relay};
 use std::alloc::{AllocError, Global};
 use std::process::Abort;
 use std::sync::Wait;
+use std::test::Fail;
 use std::thread::Threads;
 
 /// A number that turns lower to 0, beside one that they raise.
@@ -48,11 +49,15 @@ fn can_count(steps: &[Step]) -> bool
     steps.iter().all(|step| step.down > 0)
 }
 
-/// Relayed by so many threads, values come back with all turns made, in their order; refused ones are as they were.
-fn check<R: Threads + Wait + Abort + Sync>(rt: &R, alloc: Global, turns: &[u32], workers: u8) {
-    let Ok(values) = steps(alloc, turns) else {
-        return;
-    };
+/// Relayed by so many threads, values come back with all turns made, in their order. Where they are refused, they are as they were, and the
+/// refusal is handed on: only a run in which an allocation is made to fail may end so.
+fn check<R: Threads + Wait + Abort + Sync>(
+    rt: &R,
+    alloc: Global,
+    turns: &[u32],
+    workers: u8,
+) -> Result<(), AllocError> {
+    let values = steps(alloc, turns)?;
     assert!(rt; values.len() <= 64 && workers >= 1 && workers <= 8);
     assert!(rt; can_count(values.as_slice()));
     match relay(rt, alloc, values, workers, &Count) {
@@ -61,29 +66,33 @@ fn check<R: Threads + Wait + Abort + Sync>(rt: &R, alloc: Global, turns: &[u32],
             for (step, &down) in after.iter().zip(turns) {
                 assert_eq!(rt; *step, Step { down: 0, up: down });
             }
+            Ok(())
         }
         Err(refused) => {
             assert!(rt; refused.values.len() == turns.len());
             for (step, &down) in refused.values.iter().zip(turns) {
                 assert_eq!(rt; *step, Step { down, up: 0 });
             }
+            Err(AllocError)
         }
     }
 }
 
 #[test]
-fn relays(rt: HostRuntime) {
+fn relays(rt: HostRuntime) -> Result<(), Fail> {
     let rows: [&[u32]; 4] = [&[3, 1, 2], &[], &[1], &[1000, 1, 999, 2]];
     for turns in rows {
         for workers in [1, 2, 8] {
-            check(&rt, rt.alloc(), turns, workers);
+            check(&rt, rt.alloc(), turns, workers)?;
         }
     }
+    Ok(())
 }
 
 #[test]
-fn as_many_as_there_may_be(rt: HostRuntime) {
+fn as_many_as_there_may_be(rt: HostRuntime) -> Result<(), Fail> {
     for workers in 1..9 {
-        check(&rt, rt.alloc(), &[7; 64], workers);
+        check(&rt, rt.alloc(), &[7; 64], workers)?;
     }
+    Ok(())
 }

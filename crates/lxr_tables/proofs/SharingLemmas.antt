@@ -1,15 +1,12 @@
 -- What two full rows own is what threads share of a table and its first seat own, under a rule that holds: here only what is
 -- owned, and no code. Assumes `Logic`.
-use Rattle.atomic_table.proofs.Names.{◌≡◌, ℕ, ◌*◌, ◌^◌, ◌<◌, List, [], ◌∷◌, ◌++◌, length, sym, refl, ◌∙◌, subst, arith, Val, SProp, ent, ‵, ◌⊛◌, later, some, given, ◌$◌, ◌∵◌, !, qed, by, done, move, drop, fsplit, fsplit3, fjoin, fpick, fpack, feq_l, feq_i, use0, use1, use2, await, pick, learn, split, RattleType, Valss, Ptr, block_ptr, u64, Tuple, Logic, sem, Ura, nothing, mem, u64-laws, u64-copy, copy_shared, u64-field, InBlock}
+use Rattle.atomic_table.proofs.Names.{◌≡◌, ℕ, ◌*◌, ◌^◌, ◌<◌, List, [], ◌∷◌, ◌++◌, length, sym, refl, ◌∙◌, subst, arith, Val, SProp, ent, ‵, ◌⊛◌, later, some, given, ◌$◌, ◌∵◌, !, qed, by, move, drop, fsplit, fsplit3, fjoin, fpick, feq_l, use0, use1, use2, await, pick, learn, split, RattleType, Ptr, block_ptr, u64, Tuple, Logic, sem, Ura, mem, u64-laws, u64-copy, copy_shared, u64-field, InBlock}
 use base.Fml.{Fml}
 use base.Logic.{sep, ex, guard}
 use types.Kit.{Goal, Seq, Item, updating, now, show, check}
 use mir.Val.{vstruct, vcons, vnil, of_list}
 use denote.Param.{param}
 use denote.Param.Laws.{of_field}
-use denote.Struct.Struct.{within}
-use denote.Struct.Declared.{shape}
-use denote.Struct.Tuple.{tuple_type}
 use Rattle.core.specs.Mem.Slots.{slots_items, slots_filled, slots_ptr, slots_len, slots_counts, IsFull}
 use Rattle.core.specs.contracts.slots.Slots as slots
 use Rattle.core.specs.contracts.mem.manually_drop.ManuallyDrop as kept
@@ -20,9 +17,10 @@ use Rattle.atomic_table.specs.Seated.{TableId, strip, mine, table_owns}
 use Rattle.atomic_table.specs.contracts.shared.Shared as shared
 use Rattle.atomic_table.specs.contracts.shared.Seat as seat
 use Rattle.atomic_table.specs.declared.shared.TableRule.{Ghosts}
-use Rattle.atomic_table.proofs.Fields.{hand_of, hand_made, token_val, token_made, pair_of}
+use Rattle.atomic_table.proofs.Fields.{HandData, Token, hand_of, hand_made, token_val, token_made, pair_of}
 use Rattle.atomic_table.proofs.Dealing.{deals}
 use Rattle.atomic_table.proofs.Raw.{to_strip}
+use Rattle.lxr_tables.proofs.LayoutLemmas.{paired}
 
 -- the type of a word, with its laws
 abbrev pub words_el : El
@@ -75,9 +73,8 @@ module _ {M : Type 1} {𝓤 : Ura M} (𝓛 : Logic 𝓤) (R W X Y : RattleType) 
   -- a table and a seat that are owned are a value of both types
   both_made : (z : TableId) → ent 𝓤 (sep 𝓤 (sem 𝓛 (table_owns R W.coded.code (g.holds key) w p z)) (sem 𝓛 (mine R W.coded.code z 0 (g.first key, [])))) (sem 𝓛 (Both z))
   both_made z = qed 𝓛 (‵ (table_owns R W.coded.code (g.holds key) w p z) ∷ ‵ (mine R W.coded.code z 0 (g.first key, [])) ∷ []) ∵
-      use0 𝓛 (‵ _) (hand_made R W X Y g 𝓛 w p) $ fjoin ! $ move ! (1 ∷ []) $ use0 𝓛 (‵ _) (token_made R W 𝓛) $ fjoin ! $
-      nothing ! $ move ! (1 ∷ 0 ∷ []) $ fjoin ! $ move ! (1 ∷ 0 ∷ []) $ fjoin ! $ feq_i ! (List Val) (pair_of (hand_of w p) token_val ∷ []) (pair_of (hand_of w p) token_val ∷ []) refl $ fjoin ! $
-      fpack ! (Valss (SharedRow ∷ SeatRow ∷ [])) (within (shape (tuple_type (SharedRow ∷ SeatRow ∷ []))) (Shared-at z, (Seat-at z, tt)) (pair_of (hand_of w p) token_val ∷ [])) (hand_of w p ∷ [], (token_val ∷ [], tt)) $ done !
+      use0 𝓛 (‵ ((HandData R W X Y g).own_val (w, (p, (tt, tt))) (hand_of w p ∷ []))) (hand_made R W X Y g 𝓛 w p) $ fjoin ! $ move ! (1 ∷ []) $ use0 𝓛 (‵ ((Token R W).own_val (tt, tt) (token_val ∷ []))) (token_made R W 𝓛) $ fjoin ! $ move ! (1 ∷ 0 ∷ []) $
+      by ! (paired 𝓛 SharedRow SeatRow (Shared-at z) (Seat-at z) (hand_of w p) token_val)
 
   -- the same, with the counts of the rows
   abbrev pub Made : List ℕ → List R.Denot → TableId → SProp 𝓤

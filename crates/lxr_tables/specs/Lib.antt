@@ -1,4 +1,5 @@
 pub mod Counts
 pub mod Entries
+pub mod Pages
 pub mod Words
 pub mod Gathering

@@ -6,8 +6,10 @@
 //! neither loops nor branches on what it finds.
 //!
 //! The words themselves ([`PlainWords`], over [`ClosedWords`]) lie in the memory of a closed table of atomic words. The library closes
-//! a table in place and opens one only by copying words in; [`reopen`] makes a table of a closed one where it lies, so that words which are
-//! used by turns from threads and from one owner are never copied.
+//! a table in place and opens one only by copying words in. Here a table is made of a closed one where it lies, so that words which are
+//! used by turns from threads and from one owner are never copied. That takes four small functions that are unsafe inside (`closed_fields`,
+//! `closed_rows`, `reserving`): they read a value as that of other types, laid out alike. Their proofs compare the layouts, so a
+//! library that lays its fields otherwise is refused by the check.
 #![tactic(auto)]
 
 mod bits;
@@ -18,7 +20,9 @@ mod counts;
 mod gathering;
 mod key;
 mod lanes;
-mod reopening;
+mod memory;
+mod pages;
+mod reserving;
 mod words;
 
 pub use bits::{bit, clear_bit, set_bit};
@@ -27,5 +31,4 @@ pub use counts::{COUNTS_IN_WORD, Lowered, Raised, four, lower_four, raise_four, 
 pub use gathering::zero_counts;
 pub use key::KeyFrom;
 pub use lanes::{is_uncounted, uncounted_lines, zero_lanes};
-pub use reopening::reopen;
 pub use words::{PlainWords, Words};

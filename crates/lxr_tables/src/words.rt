@@ -2,7 +2,7 @@
 //!
 //! `Words` is what the tables ask of their words. `PlainWords` are words of one owner; contracts see the list of them.
 //! They lie in the memory of a closed table of atomic words, so that an epoch opens that over them, and gives them back at
-//! its end, without a copy.
+//! its end, without a copy. That memory is written where it is touched, and whole once a table was opened over it.
 ghost use Rattle.std.specs.Prelude.{◌≡◌, ℕ, ◌+◌, ◌<◌, List, [], length, slice_index, slice_set, replicate, IfOk};
 ghost use Rattle.atomic_table.specs.Table.{opening, Final, Seen};
 
@@ -55,7 +55,7 @@ impl PlainWords {
         PlainWords { closed: None }
     }
 
-    /// So many words, all 0.
+    /// So many words, all 0. Their room is reserved, and none is written.
     pub fn new(alloc: Global, count: usize) -> Result<PlainWords, AllocError>
         ensures { IfOk result (λ w. w ≡ replicate count 0) }
     {
@@ -66,7 +66,7 @@ impl PlainWords {
     }
 
     /// A table of atomic words over these, where they lie, and its first seat. The condition is that there are words, and
-    /// that the rule holds of them. It copies no word and takes no memory.
+    /// that the rule holds of them. It copies no word and takes no memory; at the first time it fills what isn't written.
     pub fn open<V, K, P: TableRule<(), V, K>, B, Q: KeyFrom<B, K>>(
         self,
         about: &B,
@@ -111,6 +111,7 @@ pub(crate) fn word_at<W: Words>(words: &W, base: usize, offset: usize) -> usize
 impl Words for PlainWords {
     ghost words_of = { λ w. w };
 
+    #[inline(always)]
     fn count(&self) -> usize {
         match &self.closed {
             Some(closed) => closed.count(),
@@ -118,6 +119,7 @@ impl Words for PlainWords {
         }
     }
 
+    #[inline(always)]
     fn get(&self, at: usize) -> u64 {
         match &self.closed {
             Some(closed) => closed.get(at),
@@ -125,6 +127,7 @@ impl Words for PlainWords {
         }
     }
 
+    #[inline(always)]
     fn set(&mut self, at: usize, value: u64) {
         match &mut self.closed {
             Some(closed) => closed.set(at, value),

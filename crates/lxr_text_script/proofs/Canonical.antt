@@ -21,10 +21,10 @@ use Rattle.lxr_text_script.specs.Limits.{IsOperation, IsThread, IsScript}
 use Rattle.lxr_text_script.proofs.Plain.{are_high, are_lines, digits_high, is_line, is_plain, items_are}
 use Rattle.lxr_text_script.proofs.Spelled.{text_taken}
 
-digits_of_number : IsNumeralModel (λ ds. all_ascii_digits ds ≡ true) (digits_value 10)
+pub digits_of_number : IsNumeralModel (λ ds. all_ascii_digits ds ≡ true) (digits_value 10)
 digits_of_number = numerals_by_value (λ ds. all_ascii_digits ds ≡ true) tells_all_ascii_digits
 
-number_written : (n : ℕ) → n < 2 ^ 64 → IsNumber (decimal n) n
+pub number_written : (n : ℕ) → n < 2 ^ 64 → IsNumber (decimal n) n
 number_written n small = record {
   some = (decimal_is_IsNumeral n small).0.0;
   digits = digits_decimal digits_of_number n small;
@@ -38,14 +38,14 @@ register_written r small = record { digits = decimal r; is = refl; number = numb
 size_written : (n : ℕ) → n ≤ 1023 → IsSize (decimal n) n
 size_written n small = record { number = number_written n (omega arith); small = small }
 
-high_number : (n : ℕ) → n < 2 ^ 64 → are_high (decimal n) ≡ true
+pub high_number : (n : ℕ) → n < 2 ^ 64 → are_high (decimal n) ≡ true
 high_number n small = digits_high (decimal n) (digits_decimal digits_of_number n small)
 
-some_plain : (word : Text) → 0 < length word → are_high word ≡ true → is_plain word ≡ true
+pub some_plain : (word : Text) → 0 < length word → are_high word ≡ true → is_plain word ≡ true
 some_plain [] long e = absurd (omega arith)
 some_plain (b ∷ bs) long e = e
 
-plain_number : (n : ℕ) → n < 2 ^ 64 → is_plain (decimal n) ≡ true
+pub plain_number : (n : ℕ) → n < 2 ^ 64 → is_plain (decimal n) ≡ true
 plain_number n small = some_plain (decimal n) (decimal_is_IsNumeral n small).0.0 (high_number n small)
 
 plain_size : (n : ℕ) → n ≤ 1023 → is_plain (decimal n) ≡ true

@@ -2,7 +2,7 @@ pub mod Cutting
 mod Items
 mod Digits
 pub mod Loops
-mod Spelled
-mod Plain
-mod Canonical
+pub mod Spelled
+pub mod Plain
+pub mod Canonical
 pub mod Accepted

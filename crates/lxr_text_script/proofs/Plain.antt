@@ -1,6 +1,6 @@
 -- Plain words: they aren't empty, and their bytes are above '#' and so above blanks and the ends of lines. Lines of
 -- plain words are read as they are written.
-use Rattle.std.proofs.Common.{◌≡◌, ℕ, ◌+◌, ◌-◌, ◌<◌, Bool, true, false, not, ◌&&◌, List, [], ◌∷◌, ◌++◌, length, get_or, refl, ap, ◌∙◌, arith, ltb, leb, eqb, filter, lit<}
+use Rattle.std.proofs.Common.{◌≡◌, ℕ, ◌+◌, ◌-◌, ◌<◌, ◌≤◌, Bool, true, false, not, ◌&&◌, List, [], ◌∷◌, ◌++◌, length, get_or, refl, ap, ◌∙◌, arith, ltb, leb, eqb, filter, lit<}
 use Rattle.std.specs.List.{AllByRecursion, slice_split}
 use Rattle.std.specs.Char.{is_ascii_digit}
 use Rattle.std.specs.Str.{all_ascii_digits}
@@ -43,7 +43,7 @@ digits_high (d ∷ ds) e =
     let low = leb-true 48 d (and_parts (leb 48 d) (leb d 57) parts.0).0 in
     and_from _ _ (lt-ltb 35 d (omega (arith, low))) (digits_high ds parts.1)
 
-plain_high : (word : Text) → is_plain word ≡ true → are_high word ≡ true
+pub plain_high : (word : Text) → is_plain word ≡ true → are_high word ≡ true
 plain_high [] e = cc
 plain_high (b ∷ bs) e = e
 
@@ -70,6 +70,14 @@ words_are (word ∷ next ∷ words) e =
     let parts = and_parts (is_plain word) (are_plain (next ∷ words)) e in
     let cut = slice_split_at is_blank word 32 (joined (next ∷ words)) (All-from_recursion (λ b. is_blank b ≡ false) word (no_blank word (plain_high word parts.0))) refl in
     rw cut (plain_kept word (slice_split is_blank (joined (next ∷ words))) parts.0 ∙ ap (λ (ws : List Text). word ∷ ws) (words_are (next ∷ words) parts.1))
+
+-- high bytes are none of those below
+pub no_byte : (c : ℕ) → c ≤ 35 → (word : Text) → are_high word ≡ true → AllByRecursion (λ b. eqb b c ≡ false) word
+no_byte c low [] e = tt
+no_byte c low (b ∷ bs) e =
+    let parts = and_parts (ltb 35 b) (are_high bs) e in
+    let above = ltb-true 35 b parts.0 in
+    (ne_eqb b c (λ h. absurd (omega (arith, above, h, low))), no_byte c low bs parts.1)
 
 -- no byte of such a line ends it
 abbrev Printed : Text → Type 0
@@ -104,12 +112,15 @@ strip_kept (b ∷ bs) p =
     let other : eqb (get_or (b ∷ bs) (length (b ∷ bs) - 1) 0) 13 ≡ false = ne_eqb _ 13 (λ h. absurd (omega (arith, above, h))) in
     cond-false _ _ _ other
 
+-- such a line is cut off where it stands in front
+pub line_off : (words : List Text) (rest : Text) → are_plain words ≡ true → slice_split (λ b. eqb b 10) (joined words ++ 10 ∷ rest) ≡ joined words ∷ slice_split (λ b. eqb b 10) rest
+line_off words rest e =
+    slice_split_at (λ b. eqb b 10) (joined words) 10 rest (All-from_recursion (λ b. eqb b 10 ≡ false) (joined words) (no_feed (joined words) (joined_printed words e))) refl
+
 -- such a line is the first of a text that begins with it
 line_first : (words : List Text) (rest : Text) → are_plain words ≡ true → lines (joined words ++ 10 ∷ rest) ≡ joined words ∷ lines rest
 line_first words rest e =
-    let printed = joined_printed words e in
-    let cut = slice_split_at (λ b. eqb b 10) (joined words) 10 rest (All-from_recursion (λ b. eqb b 10 ≡ false) (joined words) (no_feed (joined words) printed)) refl in
-    ap lines_of_parts cut ∙ lines_cut (λ b. eqb b 10) (joined words) rest ∙ ap (λ (line : Text). line ∷ lines rest) (strip_kept (joined words) printed)
+    ap lines_of_parts (line_off words rest e) ∙ lines_cut (λ b. eqb b 10) (joined words) rest ∙ ap (λ (line : Text). line ∷ lines rest) (strip_kept (joined words) (joined_printed words e))
 
 first_no_comment : (word : Text) → is_plain word ≡ true → not (eqb (get_or word 0 0) 35) ≡ true
 first_no_comment [] e = cc

@@ -15,7 +15,7 @@ use Rattle.lxr_text_script.specs.Grammar.{IsNumber, IsRegister, IsSize, SpellsOp
 use Rattle.lxr_text_script.specs.Limits.{IsThread, IsScript}
 use Rattle.lxr_text_script.proofs.Accepted.{within}
 
-number_is : {word : Text} {n : ℕ} → IsNumber word n → number_of word ≡ Some n
+pub number_is : {word : Text} {n : ℕ} → IsNumber word n → number_of word ≡ Some n
 unfolding number_of
 number_is is =
     let some = lt-ltb _ _ is.some in

@@ -100,7 +100,7 @@ fn word(rt: &impl Abort, words: &PlainWords, at: u32) -> u64 {
 }
 
 /// Does so many steps.
-fn advance<A: Actor>(rt: &impl Abort, words: &mut PlainWords, actor: &mut A, steps: u32) {
+pub fn advance<A: Actor>(rt: &impl Abort, words: &mut PlainWords, actor: &mut A, steps: u32) {
     for _number in 0..steps {
         let Some(action) = actor.next() else {
             return;
@@ -112,7 +112,7 @@ fn advance<A: Actor>(rt: &impl Abort, words: &mut PlainWords, actor: &mut A, ste
 }
 
 /// The steps of the unit in progress, or of the next one, to its end.
-fn finish<A: Actor>(rt: &impl Abort, words: &mut PlainWords, actor: &mut A) -> u32 {
+pub fn finish<A: Actor>(rt: &impl Abort, words: &mut PlainWords, actor: &mut A) -> u32 {
     for steps in 1..8192_u32 {
         advance(rt, words, actor, 1);
         if actor.resting() {

@@ -45,6 +45,41 @@ fn counts_saturate(rt: HostRuntime) {
     drop(words);
 }
 
+/// The first and the last word of pages of words: two whole ones and one word of a third.
+const ENDS: [usize; 5] = [0, 4095, 4096, 8191, 8192];
+
+/// Each word is 0 before any is written, and after its neighbours are, within a page and across its ends.
+#[test]
+fn pages_are_zeros_at_first(rt: HostRuntime) {
+    let mut words = PlainWords::new(rt.alloc(), 8193).expect(&rt, "memory");
+    assert!(rt; words.count() == 8193);
+    for at in 0..8193 {
+        assert!(rt; words.get(at) == 0);
+    }
+    for at in ENDS {
+        assert!(rt; at < words.count() && words.get(at) == 0);
+        words.set(at, u64::MAX);
+    }
+    assert!(rt; words.count() == 8193);
+    for at in 0..8193 {
+        let wanted = if ENDS.contains(&at) { u64::MAX } else { 0 };
+        assert!(rt; words.get(at) == wanted);
+    }
+    drop(words);
+}
+
+/// Words of which none is written are let go, a gigabyte of them too, and so are no words.
+#[test]
+fn unwritten_words_are_let_go(rt: HostRuntime) {
+    for count in [0, 1, 4096, 1 << 27] {
+        let words = PlainWords::new(rt.alloc(), count).expect(&rt, "memory");
+        assert!(rt; words.count() == count);
+        drop(words);
+    }
+    assert!(rt; PlainWords::new(rt.alloc(), usize::MAX / 8).is_err());
+    assert!(rt; PlainWords::new(rt.alloc(), usize::MAX).is_err());
+}
+
 /// From 7.
 #[test]
 fn first_draw_from_seven(rt: HostRuntime) {

@@ -16,4 +16,5 @@ repeating = record {
   left = λ r. 1;
   offered = λ r place. (r, false);
   spared = λ r. (r, None);
+  ordered = λ r o. (r, false);
 }

@@ -4,6 +4,7 @@
 #![tactic(auto)]
 
 mod fitting;
+mod live;
 mod repeater;
 mod run;
 mod stores;
@@ -11,6 +12,7 @@ mod stores;
 mod tests;
 
 pub use fitting::run_repeaters;
+pub use live::{Host, Seen};
 pub use repeater::Repeater;
 pub use run::run_passes;
 pub use stores::run_storers;

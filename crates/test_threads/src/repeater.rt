@@ -2,6 +2,7 @@
 ghost use Rattle.std.specs.Prelude.{◌≡◌};
 
 use lxr_actor::{Action, Actor, Kindred};
+use lxr_graph::Op;
 use lxr_layout::Place;
 
 /// Does the same step on word 0 so many times, one a unit.
@@ -59,5 +60,9 @@ impl Actor for Repeater {
 
     fn surplus(&mut self) -> Option<Place> {
         None
+    }
+
+    fn order(&mut self, _op: Op) -> bool {
+        false
     }
 }

@@ -87,6 +87,33 @@ fn hints_are_shared(rt: HostRuntime) -> Result<(), Fail> {
     Ok(())
 }
 
+/// Of three pages of words the middle one is written, then all are shared twice: each word is there each time.
+#[test]
+fn partly_written_words_are_shared(rt: HostRuntime) -> Result<(), Fail> {
+    let mut words = PlainWords::new(rt.alloc(), 8193)?;
+    words.set(4096, 5);
+    for found in [0, 3] {
+        let actors = repeaters(rt.alloc(), 1, Kindred::Add, 3, 1)?;
+        assert!(rt; words.count() == 8193);
+        let (after, actors) = run_repeaters(&rt, rt.alloc(), words, actors, 1, 1)?;
+        assert!(rt; actors.len() == 1 && actors[0].found == found);
+        words = after;
+    }
+    assert!(rt; words.count() == 8193);
+    for at in 0..8193 {
+        let wanted = match at {
+            0 => 6,
+            4096 => 5,
+            _ => 0,
+        };
+        assert!(rt; words.get(at) == wanted);
+    }
+    words.set(8192, 9);
+    assert!(rt; words.count() == 8193);
+    assert!(rt; words.get(8191) == 0 && words.get(8192) == 9);
+    Ok(())
+}
+
 #[test]
 fn sums_in_threads(rt: HostRuntime) -> Result<(), Fail> {
     for threads in [2, 8, 32] {

@@ -277,6 +277,15 @@ impl Actor for Mutator {
     fn surplus(&mut self) -> Option<Place> {
         None
     }
+
+    #[inline(always)]
+    fn order(&mut self, op: Op) -> bool {
+        if !self.takes_order(op) {
+            return false;
+        }
+        self.append(op);
+        true
+    }
 }
 
 /// How a unit ends that gives up.

@@ -1,5 +1,5 @@
 use Rattle.std.proofs.Common.{sym, ◌∙◌}
-use Rattle.lxr_judge.proofs.JudgingLemmas.{end_iff}
+use Rattle.lxr_model_decide.proofs.BelongingLemmas.{end_iff}
 use Rattle.lxr_judge.proofs.judging.Judging.is_whole.Goals as goal
 
 pub returns-then-took_all : goal.returns-then-took_all

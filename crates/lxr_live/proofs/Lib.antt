@@ -1,0 +1,4 @@
+pub mod HomeLemmas
+pub mod ReplyLemmas
+pub mod EpochLemmas
+pub mod MakingLemmas

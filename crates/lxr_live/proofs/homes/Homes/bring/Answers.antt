@@ -1,0 +1,6 @@
+use Rattle.std.proofs.Common.{rules}
+use Rattle.lxr_live.proofs.HomeLemmas.{brings}
+use Rattle.lxr_live.proofs.homes.Homes.bring.Goals as goal
+
+pub store-requires : goal.store-requires
+store-requires c = (search rules, search rules, brings c.args.self.now.table.shared.key.id _ _ _ _ _ _ _ c.exchange.ensures.3 c.requires.absence.within c.requires.pass)

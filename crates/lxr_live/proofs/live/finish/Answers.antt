@@ -1,0 +1,57 @@
+use Rattle.std.proofs.Common.{◌≡◌, ◌∙◌, All, ap, length, map, subst, sym}
+use Rattle.std.proofs.lemmas.List.{with_items_is}
+use Rattle.lxr_core.specs.declared.actors.AnyActor.{AnyActor}
+use Rattle.lxr_core.specs.Actors.{any_machine}
+use Rattle.lxr_core.specs.Closing.{Closes, MayClose}
+use Rattle.lxr_core.specs.Executions.{tell_all}
+use Rattle.lxr_shared.specs.Sharing.{Sharing, sharing}
+use Rattle.lxr_shared_passes.specs.Passing.{IsEnd, Passing, dealt}
+use Rattle.lxr_live.specs.Stations.{table_of}
+use Rattle.lxr_live.proofs.EpochLemmas.{closed_many, may_close}
+use Rattle.lxr_live.proofs.HomeLemmas.{all_of_epoch, same_numbers}
+use Rattle.lxr_live.proofs.live.finish.Goals as goal
+
+pub close_shared-space-requires-clause-epoch : goal.close_shared-space-requires-clause-epoch
+close_shared-space-requires-clause-epoch c =
+    let is : c.from_parts-epoch.result ≡ sharing (table_of c.args.last) c.args.aside = c.from_parts-epoch.ensures ∙ ap (λ t. sharing t c.args.aside) c.into_table.ensures in
+    subst (λ (e : Sharing). All (λ (p : Passing AnyActor). p.epoch ≡ e.id) c.args.passes.items) (sym is) (all_of_epoch c.args.last.id 0 c.args.passes.items c.requires.all.each)
+
+pub close_shared-space-requires-clause-order : goal.close_shared-space-requires-clause-order
+close_shared-space-requires-clause-order c =
+    let is : c.from_parts-epoch.result ≡ sharing (table_of c.args.last) c.args.aside = c.from_parts-epoch.ensures ∙ ap (λ t. sharing t c.args.aside) c.into_table.ensures in
+    subst (λ (e : Sharing). map (λ (p : Passing AnyActor). p.number) c.args.passes.items ≡ map (λ (p : Passing AnyActor). p.number) (dealt e.id e.opening 0 e.opening.actors)) (sym is)
+    (same_numbers c.args.last.id c.args.last.opening 0 c.args.passes.items c.args.last.opening.actors c.requires.all.many c.requires.all.each)
+
+pub close_epoch-requires : goal.close_epoch-requires
+close_epoch-requires c =
+    let (b, running) = c.requires.running in
+    let whole : Sharing = sharing (table_of c.args.last) c.args.aside in
+    let is : c.from_parts-epoch.result ≡ whole = c.from_parts-epoch.ensures ∙ ap (λ t. sharing t c.args.aside) c.into_table.ensures in
+    let space = c.close_shared-space.result.0 in
+    let actors = c.close_shared-space.result.1.items in
+    let end = subst (λ (e : Sharing). IsEnd any_machine e.opening space.words actors c.args.passes.items) is c.close_shared-space.ensures.run in
+    let rest = subst (λ (e : Sharing). space ≡ record e.space { words = space.words }) is c.close_shared-space.ensures.rest in (
+      b,
+      tell_all b running.opened end.0,
+      subst (MayClose b (tell_all b running.opened end.0) space) (sym c.deref_mut.ensures.value) (may_close b whole space actors c.args.passes.items running end c.close_shared-space.ensures.actors rest c.requires.all.rest),
+    )
+
+pub returns : goal.returns
+returns c = λ b running.
+    let whole : Sharing = sharing (table_of c.args.last) c.args.aside in
+    let is : c.from_parts-epoch.result ≡ whole = c.from_parts-epoch.ensures ∙ ap (λ t. sharing t c.args.aside) c.into_table.ensures in
+    let space = c.close_shared-space.result.0 in
+    let actors = c.close_shared-space.result.1.items in
+    let end = subst (λ (e : Sharing). IsEnd any_machine e.opening space.words actors c.args.passes.items) is c.close_shared-space.ensures.run in
+    let rest = subst (λ (e : Sharing). space ≡ record e.space { words = space.words }) is c.close_shared-space.ensures.rest in
+    let execution = tell_all b running.opened end.0 in
+    let may = may_close b whole space actors c.args.passes.items running end c.close_shared-space.ensures.actors rest c.requires.all.rest in
+    let closes = c.close_epoch.ensures.closes b execution (subst (MayClose b execution space) (sym c.deref_mut.ensures.value) may) in
+    let many = closed_many b execution space c.close_epoch.new.space actors c.close_epoch.new.actors may closes in
+    let same = with_items_is c.close_shared-space.result.1 c.close_epoch.new.actors (many ∙ ap length (sym c.deref_mut.ensures.value) ∙ c.deref_mut.ensures.len) in
+    record {
+      running = running;
+      schedule = end.0;
+      middle = space;
+      closes = subst (λ actors. Closes b execution space c.close_epoch.new.space actors) (sym same) closes;
+    }

@@ -1,0 +1,101 @@
+-- A mutator takes an order exactly where it may, and is a mutator again.
+use Rattle.std.proofs.Common.{◌≡◌, ◌≢◌, ◌+◌, ◌<◌, [], ◌∷◌, Bool, true, false, arith, refl, sym, subst, inl, inr, length}
+use Rattle.std.specs.Prelude.{◌&&◌, Decides, if◌then◌else◌, nat_lt}
+use Rattle.std.proofs.lemmas.Bool.Decides.{Decides-and, Decides-like, Decides-ltb}
+use Rattle.std.proofs.lemmas.List.{length-append}
+use Rattle.std.proofs.lemmas.List.Elements.{All-append, All-cons, All-nil}
+use Rattle.lxr_graph.specs.declared.Op.{Op}
+use Rattle.lxr_graph.specs.declared.Op.TheVariants as op
+use Rattle.lxr_graph.specs.Forms.{is_well_formed}
+use Rattle.lxr_graph.proofs.FormLemmas.{well_formed}
+use Rattle.lxr_mutator.specs.declared.phases.MutatorPhase.{MutatorPhase}
+use Rattle.lxr_mutator.specs.declared.phases.MutatorPhase.TheVariants as phase
+use Rattle.lxr_mutator.specs.Mutating.{Mutating}
+use Rattle.lxr_mutator.specs.Mutators.{IsMutator, IsOperation, MayBeIn, MayTakeOrder}
+use Rattle.lxr_mutator.specs.Orders.{has_room_for_order, is_operation, is_ready, takes_order, with_order}
+use Rattle.lxr_mutator.specs.Laws.{MutatorsTakeOrdersByRule, TakesOrdersByRule}
+
+-- ---- the test
+
+ready_decides : (p : MutatorPhase) → Decides (is_ready p) (p ≡ phase.Ready)
+ready_decides phase.Ready = (λ e. refl, λ h. refl)
+ready_decides p = (λ e. absurd (cc), λ h. absurd (cc))
+
+-- an operation that is no end is one where it is well formed
+endless : (o : Op) → o ≢ op.End → Decides (is_well_formed o) (IsOperation o)
+endless o no_end = Decides-like (is_well_formed o) (λ formed. (formed, no_end)) (λ is. is.0) (well_formed o)
+
+operation_decides : (o : Op) → Decides (is_operation o) (IsOperation o)
+operation_decides op.End = (λ e. absurd (cc), λ is. absurd (is.1 refl))
+operation_decides o = endless o (λ e. absurd (cc))
+
+module _ (m : Mutating) (o : Op) where
+  room_decides : Decides (has_room_for_order m) ((length m.operations + 1 < m.replies.room) × (length m.operations < 1048576))
+  room_decides =
+      Decides-and (nat_lt (length m.operations + 1) m.replies.room) (nat_lt (length m.operations) 1048576)
+      (Decides-ltb (length m.operations + 1) m.replies.room) (Decides-ltb (length m.operations) 1048576)
+
+  pub takes_order_decides : Decides (takes_order m o) (MayTakeOrder m o)
+  takes_order_decides =
+      Decides-like (takes_order m o)
+      (λ h. record { ready = h.0; operation = h.1.0; room = h.1.1.0; few = h.1.1.1 })
+      (λ may. (may.ready, (may.operation, (may.room, may.few))))
+      (Decides-and (is_ready m.phase) (is_operation o && has_room_for_order m) (ready_decides m.phase)
+      (Decides-and (is_operation o) (has_room_for_order m) (operation_decides o) room_decides))
+
+  -- ---- what becomes of it
+
+  pub with_order_stays : MayTakeOrder m o → IsMutator m → IsMutator (with_order m o)
+  with_order_stays may is =
+      let more = length-append m.operations (o ∷ []) in
+      record {
+        thread = is.thread;
+        operations = All-append IsOperation m.operations (o ∷ []) is.operations (All-cons IsOperation o [] may.operation (All-nil IsOperation));
+        few = let few = may.few in omega (arith, more, few);
+        every = is.every;
+        registers = is.registers;
+        held = is.held;
+        spans = is.spans;
+        indexes = is.indexes;
+        room = let room = may.room in omega (arith, more, room);
+        few_replies = let few = is.few_replies in omega (arith, more, few);
+        replies = elim is.replies [ inl through ↦ inl through | inr few ↦ inr (omega (arith, more, few)) ];
+        busy = λ e. (let few = is.busy e in omega (arith, more, few));
+        waits = λ e. (let few = is.waits e in omega (arith, more, few));
+        since = is.since;
+        phase = subst (MayBeIn (with_order m o)) (sym may.ready) tt;
+      }
+
+  -- what it is then, and whether it took the order, by the test
+  abbrev by : Bool → Mutating × Bool
+  by b = if b then (with_order m o, true) else (m, false)
+
+  taken_by : (b : Bool) → Decides ((by b).1) (b ≡ true)
+  taken_by true = (λ e. e, λ e. e)
+  taken_by false = (λ e. e, λ e. e)
+
+  stays_by : (b : Bool) → (b ≡ true → MayTakeOrder m o) → IsMutator m → IsMutator (by b).0
+  stays_by true may is = with_order_stays (may refl) is
+  stays_by false may is = is
+
+  with_by : (b : Bool) → b ≡ true → (by b).0 ≡ with_order m o
+  with_by true e = refl
+  with_by false e = absurd (cc)
+
+  without_by : (b : Bool) → ¬ (b ≡ true) → (by b).0 ≡ m
+  without_by true other = absurd (other refl)
+  without_by false other = refl
+
+  by_rule : TakesOrdersByRule m o
+  by_rule =
+      let decides = takes_order_decides in
+      let taken = taken_by (takes_order m o) in
+      record {
+        taken = (λ e. decides.0 (taken.0 e), λ may. taken.1 (decides.1 may));
+        may = λ may. with_by (takes_order m o) (decides.1 may);
+        may_not = λ other. without_by (takes_order m o) (λ e. other (decides.0 e));
+        stays = stays_by (takes_order m o) decides.0;
+      }
+
+pub orders_by_rule : MutatorsTakeOrdersByRule
+orders_by_rule = by_rule
