@@ -62,6 +62,25 @@ typedef struct lxr_heap {
 #define LXR_MEMORY   8u /* lxr_open: the machine has no memory for it */
 #define LXR_WHAT     9u /* lxr_count: there is no such number */
 
+/* Codes of heaps that threads share, beside those: of lxr_threads.h .. */
+#define LXR_NUMBER  10u /* there is no such pass, or no place for a further thread */
+#define LXR_RESTS   11u /* the thread rests */
+#define LXR_AWAKE   12u /* the thread doesn't rest */
+#define LXR_USED_UP 13u /* the thread has done as many operations as it may before names are renewed */
+#define LXR_LOST    14u /* there was no memory to go on behind a pause */
+
+/* .. and of lxr_passes.h, which stands below it. */
+#define LXR_WAITS      15u /* the operation is taken up, and waits for a pause */
+#define LXR_HELD       16u /* the operation isn't taken up: a pause is wanted first */
+#define LXR_BUSY       17u /* an operation that waited is still to be answered; or, of a heap, that a pass is coming home */
+#define LXR_AWAY       18u /* the pass, or one of them, is away */
+#define LXR_HOME       19u /* the pass is at home */
+#define LXR_KIND       20u /* the pass is of the other kind: a thread's, or a helper's */
+#define LXR_EPOCH      21u /* an epoch is open, or none is, and the call is of the other time */
+#define LXR_NOT_WANTED 22u /* no pause is wanted */
+#define LXR_NOTHING    23u /* no operation was ordered yet */
+#define LXR_ENDED      24u /* all threads have ended; no call ends one */
+
 /* ---- A heap ---- */
 
 /* The version of the archive: 65,536 times the major, 256 times the minor, and the patch number. */
@@ -237,6 +256,21 @@ static inline const char *lxr_message(uint32_t code) {
     case LXR_FULL: return "the heap is full";
     case LXR_MEMORY: return "out of memory";
     case LXR_WHAT: return "no such number";
+    case LXR_NUMBER: return "no place for a further thread, or no such pass";
+    case LXR_RESTS: return "the thread rests";
+    case LXR_AWAKE: return "the thread doesn't rest";
+    case LXR_USED_UP: return "names are to be renewed first";
+    case LXR_LOST: return "the heap is lost for want of memory";
+    case LXR_WAITS: return "taken up, and waits for a pause";
+    case LXR_HELD: return "not taken up: a pause is wanted first";
+    case LXR_BUSY: return "something is still under way";
+    case LXR_AWAY: return "a pass is away";
+    case LXR_HOME: return "the pass is at home";
+    case LXR_KIND: return "a pass of the other kind";
+    case LXR_EPOCH: return "not while an epoch is open, or only then";
+    case LXR_NOT_WANTED: return "no pause is wanted";
+    case LXR_NOTHING: return "nothing was ordered yet";
+    case LXR_ENDED: return "all threads have ended";
     default: return "no such code";
     }
 }

@@ -34,6 +34,9 @@
 
 namespace lxr {
 
+class heap;
+class thread;
+
 /// What a call of lxr.h answers.
 enum class errc : std::uint32_t {
     no_heap = LXR_NO_HEAP,
@@ -45,6 +48,11 @@ enum class errc : std::uint32_t {
     full = LXR_FULL,
     memory = LXR_MEMORY,
     what = LXR_WHAT,
+    number = LXR_NUMBER,
+    rests = LXR_RESTS,
+    awake = LXR_AWAKE,
+    used_up = LXR_USED_UP,
+    lost = LXR_LOST,
 };
 
 namespace detail {
@@ -56,7 +64,9 @@ public:
     std::error_condition default_error_condition(int code) const noexcept override {
         switch (static_cast<errc>(code)) {
         case errc::full:
-        case errc::memory: return std::errc::not_enough_memory;
+        case errc::memory:
+        case errc::lost: return std::errc::not_enough_memory;
+        case errc::number: return std::errc::resource_unavailable_try_again;
         case errc::size:
         case errc::index: return std::errc::argument_out_of_domain;
         default: return std::errc::invalid_argument;
@@ -102,124 +112,170 @@ inline void done(std::uint32_t code) {
 /// The register that holds the world, and the one that is nil for good.
 inline constexpr std::uint32_t world = 0, nil = LXR_REGISTERS - 1;
 
-/// A handle, where it stays, and which of its registers are taken.
-struct state {
-    lxr_heap handle{};
-    std::uint32_t taken = 1u << world | 1u << nil;
-
-    state(std::uint32_t blocks, std::uint32_t body_blocks) { done(lxr_open(&handle, blocks, body_blocks)); }
-    state(const state&) = delete;
-    state& operator=(const state&) = delete;
-    ~state() {
-        assert(taken == (1u << world | 1u << nil) && "a root outlives its heap");
-        lxr_close(&handle);
-    }
+/// Which of sixteen registers are taken.
+class taken_registers {
+public:
+    bool are_none() const noexcept { return taken_ == kept; }
 
     std::uint32_t take() {
         for (std::uint32_t at = 0; at < LXR_REGISTERS; ++at) {
-            if (taken & 1u << at) continue;
-            taken |= 1u << at;
+            if (taken_ & 1u << at) continue;
+            taken_ |= 1u << at;
             return at;
         }
         throw error(errc::no_register);
     }
 
-    void give_back(std::uint32_t at) noexcept {
-        if (at == world) return;
-        lxr_nil(&handle, at);
-        taken &= ~(1u << at);
+    void give_back(std::uint32_t at) noexcept { taken_ &= ~(1u << at) | kept; }
+
+private:
+    static constexpr std::uint32_t kept = 1u << world | 1u << nil;
+    std::uint32_t taken_ = kept;
+};
+
+/// A heap for one thread: its handle, which stays where it is, and its registers.
+struct state {
+    lxr_heap handle{};
+    taken_registers taken;
+
+    state(std::uint32_t blocks, std::uint32_t body_blocks) { done(lxr_open(&handle, blocks, body_blocks)); }
+    state(const state&) = delete;
+    state& operator=(const state&) = delete;
+    ~state() {
+        assert(taken.are_none() && "a root outlives its heap");
+        lxr_close(&handle);
     }
+
+    std::uint32_t load(std::uint32_t dest, std::uint32_t base, std::uint32_t index) { return lxr_load(&handle, dest, base, index); }
+    std::uint32_t store(std::uint32_t base, std::uint32_t index, std::uint32_t source) { return lxr_store(&handle, base, index, source); }
+    std::uint32_t get(std::uint32_t base, std::uint32_t index, std::uint64_t* word) { return lxr_get(&handle, base, index, word); }
+    std::uint32_t put(std::uint32_t base, std::uint32_t index, std::uint64_t word) { return lxr_put(&handle, base, index, word); }
+    std::uint32_t same(std::uint32_t left, std::uint32_t right, std::uint32_t* same) { return lxr_same(&handle, left, right, same); }
+    std::uint32_t move(std::uint32_t dest, std::uint32_t source) { return lxr_move(&handle, dest, source); }
+    std::uint32_t clear(std::uint32_t dest) { return lxr_nil(&handle, dest); }
+};
+
+/// What a root of a heap and a local of a thread do alike: holds an object, or is nil. `State` has the registers, and the calls on them.
+template <typename Root, typename State>
+class holder {
+public:
+    /// Nil, and of no heap: no register is taken.
+    holder() noexcept = default;
+    holder(holder&& other) noexcept : state_(std::exchange(other.state_, nullptr)), at_(std::exchange(other.at_, nil)) {}
+    holder& operator=(holder&& other) noexcept {
+        holder(std::move(other)).exchange_with(*this);
+        return *this;
+    }
+    holder(const holder&) = delete;
+    holder& operator=(const holder&) = delete;
+    ~holder() {
+        if (!state_ || at_ == world) return;
+        state_->clear(at_);
+        state_->taken.give_back(at_);
+    }
+
+    void swap(Root& other) noexcept { exchange_with(other); }
+    friend void swap(Root& left, Root& right) noexcept { left.swap(right); }
+
+    /// Whether it holds an object.
+    explicit operator bool() const { return !same(Root()); }
+
+    /// Lets go of the object and of the register.
+    void reset() noexcept { Root().swap(itself()); }
+
+    /// Another that holds the same object.
+    Root copy() const {
+        if (!state_) return Root();
+        Root made(*state_);
+        done(state_->move(made.at_, at_));
+        return made;
+    }
+
+    /// Whether both are nil or hold one object; of two heaps, or of two threads, whether both are nil.
+    bool same(const Root& other) const {
+        State* found = state_ ? state_ : other.state_;
+        if (!found) return true;
+        if (!other.is_of(*found)) return !*this && !other;
+        std::uint32_t same = 0;
+        done(found->same(at_, other.at_, &same));
+        return same != 0;
+    }
+
+    /// What a reference refers to.
+    Root load(std::uint32_t index) const {
+        Root found(state());
+        done(state().load(found.at_, at_, index));
+        return found;
+    }
+
+    /// Becomes what a reference of an object refers to, in the register that it has; `base` may be this one. So lists are walked.
+    void load_from(const Root& base, std::uint32_t index) {
+        if (state_ != base.state_ || at_ == world) {
+            itself() = base.load(index);
+            return;
+        }
+        done(state().load(at_, base.at_, index));
+    }
+
+    /// A reference becomes what `source` holds: one of the same registers, or a nil one. Another is `errc::no_register`.
+    void store(std::uint32_t index, const Root& source) { done(state().store(at_, index, register_of(source))); }
+
+    /// A reference becomes nil.
+    void clear(std::uint32_t index) { done(state().store(at_, index, nil)); }
+
+    std::uint64_t get(std::uint32_t index) const {
+        std::uint64_t word = 0;
+        done(state().get(at_, index, &word));
+        return word;
+    }
+
+    void put(std::uint32_t index, std::uint64_t word) { done(state().put(at_, index, word)); }
+
+private:
+    friend Root;
+    friend class lxr::heap;
+    friend class lxr::thread;
+
+    explicit holder(State& state) : state_(&state), at_(state.taken.take()) {}
+    holder(State& state, std::uint32_t at) noexcept : state_(&state), at_(at) {}
+
+    State& state() const {
+        if (!state_) throw error(errc::nil);
+        return *state_;
+    }
+
+    /// The register of what is to be stored.
+    std::uint32_t register_of(const Root& source) const {
+        if (source.is_of(state())) return source.at_;
+        if (source) throw error(errc::no_register);
+        return nil;
+    }
+
+    Root& itself() noexcept { return static_cast<Root&>(*this); }
+
+    bool is_of(const State& state) const noexcept { return !state_ || state_ == &state; }
+
+    void exchange_with(holder& other) noexcept {
+        std::swap(state_, other.state_);
+        std::swap(at_, other.at_);
+    }
+
+    State* state_ = nullptr;
+    std::uint32_t at_ = nil;
 };
 
 }  // namespace detail
 
 /// Holds an object of a heap, or is nil. It is moved for nothing; `copy` takes another register for the same object.
-class root {
+class root : public detail::holder<root, detail::state> {
 public:
-    /// Nil, and of no heap: no register is taken.
-    root() noexcept = default;
-    root(root&& other) noexcept : state_(std::exchange(other.state_, nullptr)), at_(other.at_) {}
-    root& operator=(root&& other) noexcept {
-        root(std::move(other)).swap(*this);
-        return *this;
-    }
-    root(const root&) = delete;
-    root& operator=(const root&) = delete;
-    ~root() {
-        if (state_) state_->give_back(at_);
-    }
-
-    void swap(root& other) noexcept {
-        std::swap(state_, other.state_);
-        std::swap(at_, other.at_);
-    }
-
-    /// Whether it holds an object.
-    explicit operator bool() const noexcept {
-        std::uint32_t is_nil = 1;
-        if (state_) lxr_is_nil(&state_->handle, at_, &is_nil);
-        return is_nil == 0;
-    }
-
-    /// Lets go of the object and of the register.
-    void reset() noexcept { root().swap(*this); }
-
-    /// Another root that holds the same object.
-    root copy() const {
-        if (!state_) return root();
-        root made(*state_);
-        detail::done(lxr_move(&state_->handle, made.at_, at_));
-        return made;
-    }
-
-    /// Whether both are nil or hold one object. Roots of two heaps never hold one object.
-    bool same(const root& other) const noexcept {
-        if (!*this || !other) return !*this && !other;
-        std::uint32_t same = 0;
-        if (state_ == other.state_) lxr_same(&state_->handle, at_, other.at_, &same);
-        return same != 0;
-    }
+    using holder::holder;
 
     lxr::shape shape() const {
         lxr::shape found{};
         detail::done(lxr_shape(handle(), at_, &found.refs, &found.words, &found.blocks));
         return found;
     }
-
-    /// What a reference refers to.
-    root load(std::uint32_t index) const {
-        detail::state& heap = of_heap();
-        root found(heap);
-        detail::done(lxr_load(&heap.handle, found.at_, at_, index));
-        return found;
-    }
-
-    /// Becomes what a reference of an object refers to, in the register that it has; `base` may be this root. So lists are walked.
-    void load_from(const root& base, std::uint32_t index) {
-        if (state_ != base.state_ || at_ == detail::world) {
-            *this = base.load(index);
-            return;
-        }
-        detail::done(lxr_load(handle(), at_, base.at_, index));
-    }
-
-    /// A reference becomes what `source` holds: a root of the same heap, or a nil one. One of another heap is `errc::no_register`.
-    void store(std::uint32_t index, const root& source) {
-        const bool is_ours = source.state_ == state_;
-        if (!is_ours && source) throw error(errc::no_register);
-        detail::done(lxr_store(handle(), at_, index, is_ours ? source.at_ : detail::nil));
-    }
-
-    /// A reference becomes nil.
-    void clear(std::uint32_t index) { detail::done(lxr_store(handle(), at_, index, detail::nil)); }
-
-    std::uint64_t get(std::uint32_t index) const {
-        std::uint64_t word = 0;
-        detail::done(lxr_get(handle(), at_, index, &word));
-        return word;
-    }
-
-    void put(std::uint32_t index, std::uint64_t word) { detail::done(lxr_put(handle(), at_, index, word)); }
 
     /// A word of the body of a large object.
     std::uint64_t body_get(std::uint32_t index) const {
@@ -240,22 +296,8 @@ public:
     }
 
 private:
-    friend class heap;
-
-    explicit root(detail::state& state) : state_(&state), at_(state.take()) {}
-    root(detail::state& state, std::uint32_t at) noexcept : state_(&state), at_(at) {}
-
-    detail::state& of_heap() const {
-        if (!state_) throw error(errc::nil);
-        return *state_;
-    }
-    lxr_heap* handle() const { return &of_heap().handle; }
-
-    detail::state* state_ = nullptr;
-    std::uint32_t at_ = detail::nil;
+    lxr_heap* handle() const { return &state().handle; }
 };
-
-inline void swap(root& left, root& right) noexcept { left.swap(right); }
 
 /// A heap for one thread. It is moved and not copied, and used by one thread at a time.
 class heap {

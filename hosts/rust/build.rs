@@ -19,6 +19,7 @@ fn main() {
     println!("cargo:rerun-if-changed={}", archive.display());
     println!("cargo:rustc-link-search=native={}", folder.display());
     println!("cargo:rustc-link-lib=static=lxr");
+    println!("cargo:rustc-link-lib=pthread");
 }
 
 fn archive(folder: &Path) -> PathBuf {

@@ -15,6 +15,10 @@ use lxr_layout::{
     GRANULES_IN_BLOCK, GRANULES_IN_LINE, Place, Run, Shape, lines_of, place_at, words_of,
 };
 
+/// The most operations that a thread has, and so the most objects that it makes: counts over all threads and serials of names stay
+/// below 2^32.
+pub const MOST_OPERATIONS: u32 = 67_108_864;
+
 /// Granules in a row that one mutator may fill, from `next` up to `end`, which is not among them.
 #[derive(Clone, Copy, Debug, PartialEq, Eq)]
 pub struct Span {
@@ -35,6 +39,7 @@ pub struct Spans {
 
 impl Span {
     /// No granules.
+    #[inline(always)]
     pub fn empty() -> Span
         ensures { result ≡ empty_span }
     {
@@ -54,6 +59,7 @@ impl Span {
     }
 
     /// Takes the front for an object of this shape; none where the rest is too short.
+    #[inline(always)]
     pub fn bump(&mut self, shape: Shape) -> Option<Place>
         requires { FitsShape shape }
         ensures none { IsNone result ↔ (rest_of self.old < granule_count shape) }
@@ -74,6 +80,7 @@ impl Span {
 impl Spans {
     /// Takes the front of `current` for an object of this shape, or, where that is too short and the object has
     /// more than one line, the front of `overflow`; none where these are too short.
+    #[inline(always)]
     pub fn try_place(&mut self, shape: Shape) -> Option<Place>
         requires { FitsShape shape }
         ensures none { IsNone result ↔ (¬ FitsSpan self.old.current shape × (IsMedium shape → ¬ FitsSpan self.old.overflow shape)) }
@@ -120,6 +127,7 @@ impl Spans {
 }
 
 /// Whether an object of this shape has more than one line.
+#[inline(always)]
 fn is_medium(shape: Shape) -> bool
     requires { FitsShape shape }
     ensures { IsTrue result ↔ IsMedium shape }

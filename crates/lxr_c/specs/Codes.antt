@@ -18,6 +18,19 @@ number_of code.Index = 6
 number_of code.Full = 7
 number_of code.Memory = 8
 number_of code.What = 9
+number_of code.Number = 10
+number_of code.UsedUp = 13
+number_of code.Lost = 14
+number_of code.Waits = 15
+number_of code.Held = 16
+number_of code.Busy = 17
+number_of code.Away = 18
+number_of code.Home = 19
+number_of code.Kind = 20
+number_of code.Epoch = 21
+number_of code.NotWanted = 22
+number_of code.Nothing = 23
+number_of code.Ended = 24
 
 -- the code of a reply: an operation was done, but where the reply is one of these
 abbrev pub code_of : LargeReply → Code

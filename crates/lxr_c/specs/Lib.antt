@@ -4,3 +4,6 @@ pub mod Hosting
 pub mod Keeping
 pub mod Calling
 pub mod Looking
+pub mod Holding
+pub mod Sharing
+pub mod Passing

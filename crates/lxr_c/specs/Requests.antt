@@ -1,5 +1,6 @@
 -- The operation that a call asks for, by the numbers that a program in C gives.
 use Rattle.std.specs.Prelude.{ℕ, ◌&&◌, nat_le, nat_lt, if◌then◌else◌, Result, Ok, Err}
+use Rattle.lxr_graph.specs.declared.Op.{Op}
 use Rattle.lxr_graph.specs.declared.Op.TheVariants as op
 use Rattle.lxr_large_model.specs.declared.LargeOp.{LargeOp}
 use Rattle.lxr_large_model.specs.declared.LargeOp.TheVariants as large_op
@@ -82,6 +83,32 @@ big_get base index = with_number (register_of base) (λ b. Ok (large_op.BigGet b
 -- word `index` of the body of what `base` holds becomes `value`
 abbrev pub big_put : ℕ → ℕ → ℕ → Request
 big_put base index value = with_number (register_of base) (λ b. Ok (large_op.BigPut b index value))
+
+-- ---- calls of a station
+
+-- an operation on small objects, or the code of what is wrong with the numbers
+abbrev pub SmallRequest : Type 0
+SmallRequest = Result Op Code
+
+-- the operation on small objects that is asked for; a station has none on large ones
+abbrev pub small_of : Request → SmallRequest
+small_of (Ok (large_op.Small o)) = Ok o
+small_of (Ok o) = Err code.Size
+small_of (Err e) = Err e
+
+-- what follows of a number that fits, or the code of what is wrong with it
+abbrev pub with_register : Result ℕ Code → (ℕ → SmallRequest) → SmallRequest
+with_register (Ok n) next = next n
+with_register (Err e) next = Err e
+
+-- reference `index` of what `base` holds becomes what `source` holds, and register `dest` gets what it was
+abbrev pub swap : ℕ → ℕ → ℕ → ℕ → SmallRequest
+swap dest base index source =
+    with_register (register_of dest) (λ d. with_register (register_of base) (λ b. with_register (register_of source) (λ s. Ok (op.Swap d b (index_of index) s))))
+
+-- `value` is added to data word `index` of what `base` holds
+abbrev pub add : ℕ → ℕ → ℕ → SmallRequest
+add base index value = with_register (register_of base) (λ b. Ok (op.Add b (index_of index) value))
 
 -- ---- which pauses an operation may want
 

@@ -28,6 +28,32 @@ pub enum Code {
     Memory,
     /// Nothing of this number is counted.
     What,
+    /// There is no pass of this number.
+    Number,
+    /// The thread has done as many operations as it may.
+    UsedUp,
+    /// The heap is lost for want of memory.
+    Lost,
+    /// The operation is taken up, and waits for a pause.
+    Waits,
+    /// The operation isn't taken up: a pause is wanted first.
+    Held,
+    /// An operation that waited has no answer yet, or a pass is coming home.
+    Busy,
+    /// The pass, or one of them, is away.
+    Away,
+    /// The pass is at home.
+    Home,
+    /// The pass is of the other kind: a thread's, or a helper's.
+    Kind,
+    /// An epoch is open, or none is, and the call is of the other time.
+    Epoch,
+    /// No pause is wanted.
+    NotWanted,
+    /// No operation was ordered yet.
+    Nothing,
+    /// The thread has ended, or all have.
+    Ended,
 }
 
 impl Code {
@@ -47,6 +73,19 @@ impl Code {
             Code::Full => 7,
             Code::Memory => 8,
             Code::What => 9,
+            Code::Number => 10,
+            Code::UsedUp => 13,
+            Code::Lost => 14,
+            Code::Waits => 15,
+            Code::Held => 16,
+            Code::Busy => 17,
+            Code::Away => 18,
+            Code::Home => 19,
+            Code::Kind => 20,
+            Code::Epoch => 21,
+            Code::NotWanted => 22,
+            Code::Nothing => 23,
+            Code::Ended => 24,
         }
     }
 }

@@ -11,9 +11,16 @@ mod calls;
 mod codes;
 mod counts;
 mod handle;
+mod held;
+mod holder;
 mod host;
 mod looks;
+mod owned;
+mod passes;
+mod passing;
 mod requests;
+mod settings;
+mod sharing;
 
 ghost use Rattle.std.specs.Prelude.{◌≡◌, ℕ, Bool, true, false, Option, OnErr, Result, option_map};
 ghost use Rattle.lxr_c.specs.Calling as calling;

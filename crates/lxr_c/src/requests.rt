@@ -1,7 +1,7 @@
 //! The operation that a call asks for, by the numbers that a program in C gives: its registers are looked at first, then its sizes.
 ghost use Rattle.std.specs.Prelude.{◌≡◌, IfOk};
 ghost use Rattle.lxr_c.specs.Requests as asking;
-ghost use Rattle.lxr_c.specs.Requests.{IsMaking, IsQuiet, IsStoring, index_of as is_index_of, register_of as is_register_of, size_of};
+ghost use Rattle.lxr_c.specs.Requests.{IsMaking, IsQuiet, IsStoring, index_of as is_index_of, register_of as is_register_of, size_of, small_of as is_small_of};
 
 use crate::codes::Code;
 use lxr_graph::Op;
@@ -158,6 +158,47 @@ pub(crate) fn nil(dest: u32) -> Result<LargeOp, Code>
 {
     let dest = register_of(dest)?;
     Ok(LargeOp::Small(Op::Nil { dest }))
+}
+
+/// A reference is swapped.
+#[inline(always)]
+pub(crate) fn swap(dest: u32, base: u32, index: u32, source: u32) -> Result<Op, Code>
+    ensures { result ≡ asking.swap dest base index source }
+{
+    let dest = register_of(dest)?;
+    let base = register_of(base)?;
+    let source = register_of(source)?;
+    Ok(Op::Swap {
+        dest,
+        base,
+        index: index_of(index),
+        source,
+    })
+}
+
+/// A data word is added to.
+#[inline(always)]
+pub(crate) fn add(base: u32, index: u32, value: u64) -> Result<Op, Code>
+    ensures { result ≡ asking.add base index value }
+{
+    let base = register_of(base)?;
+    Ok(Op::Add {
+        base,
+        index: index_of(index),
+        value,
+    })
+}
+
+/// The operation on small objects that is asked for; none other is.
+#[inline(always)]
+pub(crate) fn small_of(request: Result<LargeOp, Code>) -> Result<Op, Code>
+    ensures { result ≡ is_small_of request }
+{
+    match request {
+        Ok(LargeOp::Small(op)) => Ok(op),
+        Ok(_) => Err(Code::Size),
+        Err(code) => Err(code),
+    }
 }
 
 /// A word of a body is read.

@@ -40,7 +40,8 @@ use Rattle.lxr_core_access.specs.Decrementers as decrementing
 use Rattle.lxr_core_access.specs.Tracers as tracing
 use Rattle.lxr_core_invariant.specs.ThreadStates.{Reason, Stage, ThreadState, Through, all_of}
 use Rattle.lxr_core_invariant.specs.ThreadStates as why
-use Rattle.lxr_core_invariant.specs.EpochStates.{Beginning, EpochState, limits_of}
+use Rattle.lxr_core_invariant.proofs.ObjectLemmas.{extends_before}
+use Rattle.lxr_core_invariant.specs.EpochStates.{objects_before, Beginning, EpochState, limits_of}
 use Rattle.lxr_core_invariant.specs.Called.{IsWithinTurn, HasReason}
 use Rattle.lxr_core_invariant.specs.Logged.{logs_of}
 use Rattle.lxr_core_invariant.specs.Epoch.{AreResting as StatesRest, DecrementersRest, IsEpoch, IsResting, TracersRest}
@@ -346,6 +347,7 @@ mutator_still l m is rests =
         registers = sound.registers;
         held = sound.held;
         spans = (omega arith, omega arith);
+        before = sound.before;
         indexes = sound.indexes;
         room = sound.room;
         few_replies = sound.few_replies;
@@ -385,6 +387,7 @@ rests_after b s space actors i m is there =
       rests = rests;
       calls = subst (λ t. calls_of t s.history ≡ take (length m.replies.items) (all_of m.operations)) thread done.calls;
       replies = subst (λ t. replies_of t s.history ≡ m.replies.items) thread done.replies;
+      began = subst (λ t. m.before ≡ objects_before t s.history) thread (has.began ∙ sym (extends_before (limits_of b).threads b.every b.history s.history m.thread is.epoch.extends));
       ended = ended_all b s space actors i m m.phase is there refl rests (is.mutators i m there).steady;
     }
   where

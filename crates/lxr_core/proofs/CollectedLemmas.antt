@@ -18,6 +18,7 @@ use Rattle.lxr_invariant.proofs.EntryLemmas.{equal_numbers, same_number}
 use Rattle.lxr_model.specs.Belongs.{asks_for_pause, calls_since_pause, has_asked}
 use Rattle.lxr_model.specs.Kinds.{collect_called}
 use Rattle.lxr_model.specs.Moments.{moment}
+use Rattle.lxr_mutator.proofs.AgendaLemmas.{last_at}
 use Rattle.lxr_mutator.specs.Mutating.{Mutating, has_collected, is_collected, last_reply}
 use Rattle.lxr_core_invariant.specs.ThreadStates.{Reason, Stage, ThreadState, GivesUp, Names, Rests, Through, Works, all_of}
 use Rattle.lxr_core_invariant.specs.ThreadStates as why
@@ -30,19 +31,7 @@ use Rattle.lxr_core.proofs.CollectingLemmas.{take_one_more}
 
 -- ---- lists
 
--- the last of some items stands behind the others
-last_stands : {X : Type 0} (xs : List X) (x : X) → slice_get (xs ++ x ∷ []) (length xs) ≡ Some x
-last_stands [] x = refl
-last_stands (y ∷ xs) x = last_stands xs x
-
--- at the last index
-last_at : {X : Type 0} (all xs : List X) (x : X) → all ≡ xs ++ x ∷ [] → slice_get all (length all - 1) ≡ Some x
-last_at all xs x e =
-    let one = length-append xs (x ∷ []) in
-    let many : length all - 1 ≡ length xs = (let n = ap length e in omega (arith, n, one)) in
-    ap (slice_get all) many ∙ ap (λ z. slice_get z (length xs)) e ∙ last_stands xs x
-
--- so what stands there is behind the others
+-- what stands at the last index is behind the others
 behind_others : {X : Type 0} (all : List X) (x : X) → slice_get all (length all - 1) ≡ Some x → all ≡ take (length all - 1) all ++ x ∷ []
 behind_others all x there =
     let inside = slice_get_within all (length all - 1) x there in

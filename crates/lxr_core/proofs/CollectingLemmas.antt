@@ -15,6 +15,7 @@ use Rattle.lxr_core.specs.declared.actors.AnyActor.TheVariants as any
 use Rattle.lxr_core.specs.Actors.{AreInOrder, mutators_in}
 use Rattle.lxr_core.specs.Collecting.{ActorMayGive, HaveGiven, MayAllGive, MayGive, MayTakeOf, actor_given_up, all_entries, all_registers, holding, loads_of, news_of, stores_of, taken_of, taken_of_actor}
 use Rattle.lxr_core.proofs.OrderLemmas.{mutator_at, mutator_of_first, mutators_few, mutators_of_both}
+use Rattle.lxr_alloc.specs.declared.TheConstants.{MOST_OPERATIONS}
 use Rattle.lxr_mutator.specs.Mutating.{Mutating, is_loaded, is_new, is_stored, tally_of}
 use Rattle.lxr_actor.proofs.Runs.{slice_get-set_other, slice_get-set_same}
 use Rattle.lxr_layout.specs.declared.limits.Limits.{Limits}
@@ -62,7 +63,7 @@ entries_few room (m ∷ mutators) each =
     one_times a b = grind arith
 
 -- no more replies of a kind than there are
-news_few : (room : ℕ) (mutators : List Mutating) → EachGives room mutators → news_of mutators ≤ 1048577 * length mutators
+news_few : (room : ℕ) (mutators : List Mutating) → EachGives room mutators → news_of mutators ≤ (MOST_OPERATIONS + 1) * length mutators
 news_few room [] each = omega arith
 news_few room (m ∷ mutators) each =
     let here = (each 0 m refl).replies in
@@ -71,7 +72,7 @@ news_few room (m ∷ mutators) each =
     omega (arith, here, few, rest)
 
 -- so it is with loads
-loads_few : (room : ℕ) (mutators : List Mutating) → EachGives room mutators → loads_of mutators ≤ 1048577 * length mutators
+loads_few : (room : ℕ) (mutators : List Mutating) → EachGives room mutators → loads_of mutators ≤ (MOST_OPERATIONS + 1) * length mutators
 loads_few room [] each = omega arith
 loads_few room (m ∷ mutators) each =
     let here = (each 0 m refl).replies in
@@ -80,7 +81,7 @@ loads_few room (m ∷ mutators) each =
     omega (arith, here, few, rest)
 
 -- and with stores
-stores_few : (room : ℕ) (mutators : List Mutating) → EachGives room mutators → stores_of mutators ≤ 1048577 * length mutators
+stores_few : (room : ℕ) (mutators : List Mutating) → EachGives room mutators → stores_of mutators ≤ (MOST_OPERATIONS + 1) * length mutators
 stores_few room [] each = omega arith
 stores_few room (m ∷ mutators) each =
     let here = (each 0 m refl).replies in

@@ -134,6 +134,8 @@ module _ (b : Beginning) (s : EpochState) (i : ℕ) (v : ThreadState) (o : Op) (
         formed = All-append IsWellFormed v.operations (o ∷ []) has.formed (All-cons IsWellFormed o [] may.formed (All-nil IsWellFormed));
         endless = All-append (λ x. x ≢ op.End) v.operations (o ∷ []) has.endless (All-cons (λ x. x ≢ op.End) o [] may.endless (All-nil (λ x. x ≢ op.End)));
         few = let few = may.few in omega (arith, more, few);
+        began = has.began;
+        few_began = has.few_began;
         every = has.every;
         calls = has.calls ∙ same_front (length v.replies + waiting_in v.stage) v.operations o short;
         replies = subst (AreReplies b (after_order s i v o) (with_order v o)) (sym may.stage) (subst (AreReplies b s v) may.stage has.replies);

@@ -1,4 +1,5 @@
 pub mod OrderLemmas
+pub mod RenewedLemmas
 pub mod MappedLemmas
 pub mod FillingLemmas
 pub mod PocketLemmas

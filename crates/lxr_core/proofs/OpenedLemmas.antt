@@ -45,7 +45,7 @@ use Rattle.lxr_core_sim_helpers.proofs.DecrementerHintLemmas.{hints_stay}
 use Rattle.lxr_core_sim_helpers.specs.TracerShowing.{IsTracerOf, tracing_in, tracing_of}
 use Rattle.lxr_core_sim_helpers.proofs.TracerHintLemmas.{hints_stay as tracers_stay}
 use Rattle.lxr_core_invariant.specs.ThreadStates.{ThreadState, Through, all_of}
-use Rattle.lxr_core_invariant.specs.EpochStates.{Beginning, IsBeginning, EpochState, limits_of}
+use Rattle.lxr_core_invariant.specs.EpochStates.{Beginning, IsBeginning, EpochState, limits_of, objects_before}
 use Rattle.lxr_core_invariant.specs.Counted.{IsInHeap}
 use Rattle.lxr_core_invariant.specs.Imaged.{HoldsRegisters}
 use Rattle.lxr_core_invariant.specs.Epoch.{IsEpoch}
@@ -151,6 +151,7 @@ again_mutator l m registers is rests many held = record {
     registers = many;
     held = held;
     spans = sound.spans;
+    before = sound.before;
     indexes = sound.indexes;
     room = sound.room;
     few_replies = sound.few_replies;
@@ -178,6 +179,8 @@ again_starts b places i m are many less rests =
       formed = λ k d h. (sound.operations k d h).0;
       endless = λ k d h. (sound.operations k d h).1;
       few = sound.few;
+      began = subst (λ t. m.before ≡ objects_before t b.history) (sym rests.thread) rests.began;
+      few_began = sound.before;
       every = (rests.every, sound.every.0);
       registers = holds_registers b.abstract_state.moment.state b.abstract_state.at places (limits_of b).threads i (thread_state_of (again m (registers_in places i))) are many less rests.thread refl;
       log = rests.log;
@@ -435,7 +438,9 @@ may_all_fill g before actors begun may is i x there =
 fits_after : (b : Beginning) (t : ℕ) (m : Mutating) → IsBeginning b → 1 ≤ t → t ≤ (limits_of b).threads → RestsAfter (limits_of b) b.every b.history t m → FitsThread (limits_of b) b.abstract_state.moment.state.graph t m
 fits_after b t m begins some few rests =
     let thread = rests.thread in
-    let named = named_after (limits_of b).threads b.history m begins.counted (omega (arith, thread, some)) (omega (arith, thread, few))
+    let first : 1 ≤ m.thread = omega (arith, thread, some) in
+    let last : m.thread ≤ (limits_of b).threads = omega (arith, thread, few) in
+    let named = named_after (limits_of b).threads b.history m begins.counted (subst (λ n. m.before ≡ objects_before n b.history) (sym thread) rests.began) first last
     (subst (λ n. replies_of n b.history ≡ m.replies.items) (sym thread) rests.replies) in
     record {
       mutator = rests.mutator;

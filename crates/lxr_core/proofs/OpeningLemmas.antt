@@ -196,6 +196,8 @@ module _ (b : Beginning) (thread_states : List ThreadState) (ds : List Decrement
         formed = is.formed;
         endless = is.endless;
         few = is.few;
+        began = is.began;
+        few_began = is.few_began;
         every = is.every.0;
         before = one;
         calls = is.calls ∙ ap (λ k. take k (all_of v.operations)) (let e : length v.replies ≡ length v.replies + waiting_in v.stage = omega (arith, none) in e);

@@ -27,7 +27,7 @@ use Rattle.lxr_mutator.specs.declared.phases.MutatorPhase.TheVariants as phase
 use Rattle.lxr_mutator.specs.Mutating.{Mutating, op_now, register}
 use Rattle.lxr_mutator.specs.Operating.{indexed_fields, index_of}
 use Rattle.lxr_mutator.specs.Steps.{accepts_in, after_in, based, has_room, is_medium, loaded, mutator_machine, placed, started, stored}
-use Rattle.lxr_mutator.specs.Mutators.{again}
+use Rattle.lxr_mutator.specs.Mutators.{IsFull, again}
 use Rattle.lxr_mutator.specs.Orders.{ordered, takes_order, with_order}
 use Rattle.lxr_mutator.proofs.OrderLemmas.{orders_by_rule}
 use Rattle.lxr_decrement.specs.Decrementing.{DecrementerState}
@@ -44,7 +44,7 @@ use Rattle.lxr_core.specs.Actors.{any_machine, mutators_in, script_of}
 use Rattle.lxr_core.specs.Starting.{HaveStarted, registers_in, started_again}
 use Rattle.lxr_core.specs.Filling.{unfilled}
 use Rattle.lxr_core.specs.Opening.{Opens}
-use Rattle.lxr_core.specs.Ordering.{AreFull, IsAskedBesides, IsFull, OrdersAreAsked, ScriptsGoOn, ScriptsStay, ordered_in, orders_of, taken, taken_at, taken_by}
+use Rattle.lxr_core.specs.Ordering.{AreFull, IsAskedBesides, OrdersAreAsked, ScriptsGoOn, ScriptsStay, ordered_in, orders_of, taken, taken_at, taken_by}
 use Rattle.lxr_image.specs.declared.space.Space.{Space}
 
 -- the operation whose turn it is stands behind those that have replies

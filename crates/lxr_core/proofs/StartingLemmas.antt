@@ -1,7 +1,7 @@
 -- What mutators show as an epoch opens.
 use Rattle.std.proofs.Common.{◌≡◌, ◌≢◌, ℕ, ◌+◌, ◌^◌, ◌<◌, ◌≤◌, List, [], length}
 use Rattle.std.specs.Prelude.{All, Some, slice_get, take}
-use Rattle.lxr_layout.specs.declared.TheConstants.{PAUSE_WORD}
+use Rattle.lxr_layout.specs.declared.TheConstants.{MOST_GRANULES, PAUSE_WORD}
 use Rattle.lxr_graph.specs.declared.Op.TheVariants as op
 use Rattle.lxr_graph.specs.History.{calls_of, replies_of}
 use Rattle.lxr_graph.specs.Step.{IsWellFormed}
@@ -10,10 +10,11 @@ use Rattle.lxr_core_access.specs.Decrementers as decrementing
 use Rattle.lxr_core_access.specs.Tracers.{Tracing}
 use Rattle.lxr_core_access.specs.Tracers as tracing
 use Rattle.lxr_core_invariant.specs.Happening.{with_cursor}
+use Rattle.lxr_alloc.specs.declared.TheConstants.{MOST_OPERATIONS}
 use Rattle.lxr_alloc.specs.Spans.{empty_span}
 use Rattle.lxr_core_invariant.specs.ThreadStates.{Stage, ThreadState, Rests, Through, Works, Intent, all_of}
 use Rattle.lxr_core_invariant.specs.ThreadStates as why
-use Rattle.lxr_core_invariant.specs.EpochStates.{Beginning, EpochState, limits_of, opening_tables}
+use Rattle.lxr_core_invariant.specs.EpochStates.{Beginning, EpochState, limits_of, objects_before, opening_tables}
 use Rattle.lxr_core_invariant.specs.Imaged.{HoldsRegisters}
 
 -- it rests, with operations or the end left, or it has done its end
@@ -26,7 +27,9 @@ pub record Starts (b : Beginning) (i : ℕ) (v : ThreadState) : Type 0 where
   pub thread : v.thread ≡ i + 1
   pub formed : All IsWellFormed v.operations
   pub endless : All (λ o. o ≢ op.End) v.operations
-  pub few : length v.operations ≤ 1048576
+  pub few : length v.operations ≤ MOST_OPERATIONS
+  pub began : v.before ≡ objects_before v.thread b.history
+  pub few_began : v.before ≤ MOST_GRANULES
   pub every : (v.every ≡ b.every) × (1 ≤ v.every)
   pub registers : HoldsRegisters b.abstract_state.moment.state b.abstract_state.at v
   pub log : v.log ≡ record { items = []; room = (limits_of b).log }

@@ -6,6 +6,7 @@ use Rattle.lxr_layout.specs.declared.Place.{Place}
 use Rattle.lxr_base.specs.Roomy.{emptied}
 use Rattle.lxr_image.specs.declared.space.Space.{Space}
 use Rattle.lxr_image.specs.declared.space.Tally.{Tally}
+use Rattle.lxr_alloc.specs.declared.TheConstants.{MOST_OPERATIONS}
 use Rattle.lxr_mutator.specs.declared.phases.MutTally.{MutTally}
 use Rattle.lxr_mutator.specs.Mutating.{Mutating, rests_in, tally_of}
 use Rattle.lxr_mutator.specs.Mutators.{no_spans}
@@ -48,7 +49,7 @@ pub record MayGive (room : ℕ) (m : Mutating) : Type 0 where
   pub rests : rests_in m.phase ≡ true
   pub sixteen : length m.registers ≡ 16
   pub log : length m.log.items ≤ room
-  pub replies : length m.replies.items ≤ 1048577
+  pub replies : length m.replies.items ≤ MOST_OPERATIONS + 1
 
 -- a space has room for what another mutator gives
 pub record MayTake (s : Space) (m : Mutating) : Type 0 where

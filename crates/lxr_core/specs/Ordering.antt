@@ -10,8 +10,10 @@ use Rattle.lxr_actor.specs.declared.Event.{Event}
 use Rattle.lxr_actor.specs.declared.Event.TheVariants.{Step, Give, Out, Order}
 use Rattle.lxr_actor.specs.Run.{event, of_event, run}
 use Rattle.lxr_mutator.specs.Mutating.{Mutating}
+use Rattle.lxr_mutator.specs.Mutators.{IsFull}
 use Rattle.lxr_core_invariant.specs.ThreadStates.{Rests, ThreadState}
 use Rattle.lxr_core_invariant.specs.EpochStates.{Beginning, EpochState}
+use Rattle.lxr_alloc.specs.declared.TheConstants.{MOST_OPERATIONS}
 use Rattle.lxr_core_invariant.specs.Epoch.{IsEpoch}
 use Rattle.lxr_core.specs.declared.actors.AnyActor.{AnyActor}
 use Rattle.lxr_core.specs.declared.actors.AnyActor.TheVariants as any
@@ -26,7 +28,7 @@ pub record MayBeOrdered (v : ThreadState) (o : Op) : Type 0 where
   pub stage : v.stage ≡ Rests
   pub formed : IsWellFormed o
   pub endless : o ≢ op.End
-  pub few : length v.operations + 1 ≤ 1048576
+  pub few : length v.operations + 1 ≤ MOST_OPERATIONS
 
 -- the epoch's state once the mutator of a number, which showed this, was ordered an operation
 abbrev pub after_order : EpochState → ℕ → ThreadState → Op → EpochState
@@ -79,11 +81,7 @@ OrdersAreAsked = (core : Core AnyActor) (schedule : List Event) (i : ℕ) (m : M
 
 -- ---- mutators of scripts
 
--- it has no room for a further operation, as a mutator of a script, which is made with all of its own
-abbrev pub IsFull : Mutating → Type 0
-IsFull m = m.replies.room ≤ length m.operations + 1
-
--- each of these is so
+-- none of these has room for a further operation
 abbrev pub AreFull : List Mutating → Type 0
 AreFull mutators = (i : ℕ) (m : Mutating) → slice_get mutators i ≡ Some m → IsFull m
 

@@ -13,6 +13,7 @@ use Rattle.lxr_decrement.specs.Steps.{decrementer_machine}
 use Rattle.lxr_trace.specs.Tracing.{TracerState}
 use Rattle.lxr_trace.specs.Steps.{tracer_machine}
 use Rattle.lxr_core_invariant.specs.ThreadStates.{all_of}
+use Rattle.lxr_core_invariant.specs.EpochStates.{objects_before}
 use Rattle.lxr_core_sim_helpers.specs.DecrementerShowing.{IsDecrementerOf}
 use Rattle.lxr_core_sim_helpers.specs.TracerShowing.{IsTracerOf}
 use Rattle.lxr_core_sim_mutator.specs.Showing.{IsMutatorOf}
@@ -62,6 +63,8 @@ pub record RestsAfter (l : Limits) (turns : ℕ) (h : List Item) (t : ℕ) (m : 
   pub rests : rests_in m.phase ≡ true
   pub calls : calls_of t h ≡ take (length m.replies.items) (all_of m.operations)
   pub replies : replies_of t h ≡ m.replies.items
+  -- it counts from the objects that its thread began with
+  pub began : m.before ≡ objects_before t h
   -- where it has ended, all operations and the end have replies
   pub ended : m.end ≡ Some ends.Ended → length m.replies.items ≡ length m.operations + 1
 

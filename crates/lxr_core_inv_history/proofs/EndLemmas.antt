@@ -6,7 +6,7 @@ use Rattle.std.proofs.lemmas.Option.{slice_get_within}
 use Rattle.lxr_graph.specs.declared.Op.{Op}
 use Rattle.lxr_graph.specs.declared.Op.TheVariants as op
 use Rattle.lxr_graph.specs.declared.Reply.{Reply}
-use Rattle.lxr_graph.specs.History.{Call, Item, Pause, calls_of}
+use Rattle.lxr_graph.specs.History.{Call, Item, Pause, Renew, calls_of}
 use Rattle.lxr_invariant.proofs.EntryLemmas.{same_number, unlike_number}
 use Rattle.lxr_model.specs.Belongs.{writes_reference}
 use Rattle.lxr_model.specs.Kinds.{ends}
@@ -153,6 +153,7 @@ one_in_all (x ∷ os) endless =
 -- each call is of one of so many threads
 AreOf : ℕ → List Item → Type 0
 AreOf threads [] = Unit {0}
+AreOf threads (Renew ns ∷ h) = Unit {0}
 AreOf threads (Pause report ∷ h) = AreOf threads h
 AreOf threads (Call t o r ∷ h) = AreOf threads h × (1 ≤ t) × (t ≤ threads)
 
@@ -160,6 +161,7 @@ AreOf threads (Call t o r ∷ h) = AreOf threads h × (1 ≤ t) × (t ≤ thread
 legal_of : (terms : Terms) (threads : ℕ) (h : List Item) → terms.threads ≡ threads → IsLegalSoFar terms h → AreOf threads h
 unfolding AreOf
 legal_of terms threads [] e legal = tt
+legal_of terms threads (Renew ns ∷ h) e legal = tt
 legal_of terms threads (Pause report ∷ h) e legal = legal_of terms threads h e legal.0
 legal_of terms threads (Call t o r ∷ h) e legal = let within = legal.2.thread in (legal_of terms threads h e legal.0, within.0, omega (arith, within.1, e))
 
@@ -210,6 +212,7 @@ all_none (suc n) = let rest = all_none n in omega (arith, rest)
 ends_are_sum : (threads : ℕ) (h : List Item) → AreOf threads h → ends h ≡ sum_below (ends_of h) threads
 unfolding AreOf ends_of ends_in
 ends_are_sum threads [] of = sym (all_none threads)
+ends_are_sum threads (Renew ns ∷ h) of = sym (all_none threads)
 ends_are_sum threads (Pause report ∷ h) of = ends_are_sum threads h of ∙ sum_same (ends_of h) (ends_of (Pause report ∷ h)) threads (λ j within. refl)
 ends_are_sum threads (Call t o r ∷ h) of =
     let rest = ends_are_sum threads h of.0 in

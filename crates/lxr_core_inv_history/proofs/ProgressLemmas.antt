@@ -3,7 +3,7 @@ use Rattle.std.proofs.Common.{◌≡◌, ℕ, zero, suc, ◌≤◌, refl, sym, a
 use Rattle.std.specs.Prelude.{Some, slice_get}
 use Rattle.std.proofs.lemmas.List.{length-map}
 use Rattle.std.proofs.lemmas.List.Sorted.{length_permutation}
-use Rattle.lxr_graph.specs.History.{Call, Item, Pause}
+use Rattle.lxr_graph.specs.History.{Call, Item, Pause, Renew}
 use Rattle.lxr_model.specs.Belongs.{calls_since_pause, has_asked}
 use Rattle.lxr_model.specs.Moments.{Field, moment}
 use Rattle.lxr_model_counting.specs.Distinct.{has_field}
@@ -20,12 +20,14 @@ use Rattle.lxr_core_inv_history.proofs.ThroughLemmas.{wanted_has_cause}
 -- right after a pause no thread has asked for one or had a call
 fresh_asked : (h : List Item) (t : ℕ) → JustPaused h → has_asked t h ≡ false
 fresh_asked [] t fresh = refl
+fresh_asked (Renew ns ∷ h) t fresh = refl
 fresh_asked (Pause report ∷ h) t fresh = refl
 fresh_asked (Call u o r ∷ h) t fresh = absurd fresh
 
 -- nor has it had a call
 fresh_calls : (h : List Item) (t : ℕ) → JustPaused h → calls_since_pause t h ≡ 0
 fresh_calls [] t fresh = refl
+fresh_calls (Renew ns ∷ h) t fresh = refl
 fresh_calls (Pause report ∷ h) t fresh = refl
 fresh_calls (Call u o r ∷ h) t fresh = absurd fresh
 

@@ -124,6 +124,8 @@ done_called b s after v registers o r true last has busy does stood asks is_ende
       formed = has.formed;
       endless = has.endless;
       few = has.few;
+      began = has.began;
+      few_began = has.few_began;
       every = has.every;
       before = has.before;
       calls = stood.calls ∙ ap (λ w. take w (all_of v.operations)) (omega (arith, longer));
@@ -145,6 +147,8 @@ done_called b s after v registers o r false true has busy does stood asks is_end
       formed = has.formed;
       endless = has.endless;
       few = has.few;
+      began = has.began;
+      few_began = has.few_began;
       every = has.every;
       before = has.before;
       calls = stood.calls ∙ ap (λ w. take w (all_of v.operations)) (omega (arith, longer));
@@ -166,6 +170,8 @@ done_called b s after v registers o r false false has busy does stood asks is_en
       formed = has.formed;
       endless = has.endless;
       few = has.few;
+      began = has.began;
+      few_began = has.few_began;
       every = has.every;
       before = has.before;
       calls = stood.calls ∙ ap (λ w. take w (all_of v.operations)) (omega (arith, longer));
@@ -293,6 +299,8 @@ works_history b s after i v log spans intent is shows busy quiet word thread_sta
       formed = has.formed;
       endless = has.endless;
       few = has.few;
+      began = has.began;
+      few_began = has.few_began;
       every = has.every;
       before = has.before;
       calls = same.calls ∙ busy.calls ∙ ap (λ k. take k (all_of v.operations)) (omega arith);

@@ -14,7 +14,7 @@ use Rattle.lxr_graph.specs.declared.Op.{Op}
 use Rattle.lxr_graph.specs.declared.Op.TheVariants as op
 use Rattle.lxr_graph.specs.declared.Reply.{Reply}
 use Rattle.lxr_graph.specs.declared.Reply.TheVariants as reply
-use Rattle.lxr_graph.specs.History.{Item, Call, Pause, calls_of}
+use Rattle.lxr_graph.specs.History.{Item, Call, Pause, Renew, calls_of}
 use Rattle.lxr_graph.specs.Names.{has, insert_name, same_name}
 use Rattle.lxr_graph.specs.State.{Graph, Object, State, first_serial, next_name, object_at, opening, row_of, shape_of, with_new}
 use Rattle.lxr_graph.specs.Step.{fresh, state_after, step}
@@ -34,7 +34,7 @@ use Rattle.lxr_invariant.proofs.MemberLemmas.{member_refers}
 use Rattle.lxr_invariant.proofs.NameLemmas.{in_either, in_first, in_second}
 use Rattle.lxr_invariant.proofs.FrameLemmas.{image_still}
 use Rattle.lxr_core_invariant.specs.ThreadStates.{ThreadState, Makes, Works, all_of}
-use Rattle.lxr_core_invariant.specs.EpochStates.{Beginning, EpochState, limits_of, moment_of, opening_tables}
+use Rattle.lxr_core_invariant.specs.EpochStates.{Beginning, EpochState, limits_of, moment_of, objects_before, opening_tables}
 use Rattle.lxr_core_invariant.specs.Epoch.{IsEpoch}
 use Rattle.lxr_core_invariant.specs.Drawn.{Drawers, LieInDrawn}
 use Rattle.lxr_core_invariant.specs.Called.{waiting_in}
@@ -43,6 +43,7 @@ use Rattle.lxr_core_invariant.specs.Happening.{intends, shows, stands}
 use Rattle.lxr_core_invariant.specs.Imaged.{IsPlacedIn, IsWipedTo, Knows}
 use Rattle.lxr_core_invariant.proofs.TellingLemmas.{stands_there}
 use Rattle.lxr_core_invariant.proofs.ActingLemmas.{acts}
+use Rattle.lxr_core_invariant.proofs.ObjectLemmas.{extends_before, renewed_row}
 use Rattle.lxr_core_inv_image.proofs.KnowLemmas.{KeepsMembers, all_kept, knows_done, still_placed}
 use Rattle.lxr_core_inv_image.proofs.StayLemmas.{call_members, next_moment, opening_member, world_member}
 use Rattle.lxr_core_inv_image.proofs.WordLemmas.{IsWordOf, MakesAt, maker_apart, makers_apart, words_even, wiped_beside, wiped_still, zero_written}
@@ -115,8 +116,9 @@ calls_more t u o r h = elim (eqb_tells t u) [
 ]
 
 -- a thread has made no more objects than it has had calls
-rows_called : (threads t : ℕ) (h : List Item) → 1 ≤ t → length (row_of (moment threads h).state.graph t) ≤ length (calls_of t h)
+rows_called : (threads t : ℕ) (h : List Item) → 1 ≤ t → length (row_of (moment threads h).state.graph t) ≤ objects_before t h + length (calls_of t h)
 rows_called threads t [] some = let e = opening_row threads t some in omega (arith, e)
+rows_called threads t (Renew ns ∷ h) some = let e = renewed_row threads ns (moment threads h).state.graph t some in omega (arith, e)
 rows_called threads t (Pause report ∷ h) some = rows_called threads t h some
 rows_called threads t (Call u o r ∷ h) some =
     let s : State = (moment threads h).state in
@@ -141,12 +143,22 @@ rows_called threads t (Call u o r ∷ h) some =
 first_small : (t : ℕ) → first_serial t ≤ 1
 first_small t = elim (nat_eq t 0) as (λ b. cond b 0 1 ≤ 1) [ true ↦ omega arith | false ↦ omega arith ]
 
+-- a mutator is one of the threads
+few_threads : (b : Beginning) (s : EpochState) (i : ℕ) (v : ThreadState) → IsEpoch b s → slice_get s.thread_states i ≡ Some v → v.thread ≤ (limits_of b).threads
+few_threads b s i v is shown =
+    let number = is.called.threads i v shown in
+    let within = slice_get_within s.thread_states i v shown in
+    let thread_states = is.called.as_many in
+    omega (arith, number, within, thread_states)
+
 -- the name of the next object of a thread is one that a header can say
 name_small : (b : Beginning) (s : EpochState) (i : ℕ) (v : ThreadState) → IsEpoch b s → slice_get s.thread_states i ≡ Some v → IsName (next_name (moment_of b s).state.graph v.thread)
 name_small b s i v is shown =
     let called = is.called.each i v shown in
     let known = acts b s i v is shown in
     let row = rows_called (limits_of b).threads v.thread s.history known.thread in
+    let before = extends_before (limits_of b).threads b.every b.history s.history v.thread is.extends ∙ sym called.began in
+    let few_before = called.few_began in
     let calls : length (calls_of v.thread s.history) ≡ length (take (length v.replies + waiting_in v.stage) (all_of v.operations)) = ap length called.calls in
     let taken : length (take (length v.replies + waiting_in v.stage) (all_of v.operations)) ≤ length (all_of v.operations) =
     let e = length-take (length v.replies + waiting_in v.stage) (all_of v.operations) in omega (arith, e) in
@@ -157,7 +169,7 @@ name_small b s i v is shown =
     let within = slice_get_within s.thread_states i v shown in
     let thread_states = is.called.as_many in
     let threads = is.begins.between.safepoint.holds.space.limits.threads.1 in
-    record { thread = omega (arith, number, within, thread_states, threads); serial = omega (arith, row, calls, taken, all, few, first) }
+    record { thread = omega (arith, number, within, thread_states, threads); serial = omega (arith, row, before, few_before, calls, taken, all, few, first) }
 
 -- ---- the room of a new object
 

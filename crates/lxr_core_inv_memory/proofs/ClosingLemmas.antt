@@ -24,6 +24,7 @@ use Rattle.lxr_invariant.specs.Listed.{FreeBlocksAreListed}
 use Rattle.lxr_invariant.proofs.NameLemmas.{in_either, in_first, in_second}
 use Rattle.lxr_full.proofs.TakenLines.{all_or_one}
 use Rattle.lxr_full.proofs.RoomLemmas.{member_takes, pigeonhole}
+use Rattle.lxr_alloc.specs.declared.TheConstants.{MOST_OPERATIONS}
 use Rattle.lxr_core_invariant.specs.ThreadStates.{Stage, ThreadState, GivesUp, Rests, Works, Names, Through}
 use Rattle.lxr_core_invariant.specs.EpochStates.{Beginning, Extends, EpochState, same, called, limits_of, moment_of, opening_tables}
 use Rattle.lxr_core_invariant.specs.Drawn.{HasMadeInBlock, IsHandOf, IsUsed, MakesInBlock, block_draws, run_draws, total}
@@ -44,8 +45,8 @@ few_replies s v (Names place) on = let few = on.1 in omega (arith, few)
 few_replies s v (Through reason) on = let few = on.1 in omega (arith, few)
 
 -- so its replies and a draw are few
-draws_bound : (b : Beginning) (s : EpochState) (draws : Stage → ℕ) → IsEpoch b s → ((stage : Stage) → draws stage ≤ 1) → total (λ v. length v.replies + draws v.stage) s.thread_states ≤ length s.thread_states * 1048578
-draws_bound b s draws is one = total_bound (λ v. length v.replies + draws v.stage) s.thread_states 1048578 (λ i v there.
+draws_bound : (b : Beginning) (s : EpochState) (draws : Stage → ℕ) → IsEpoch b s → ((stage : Stage) → draws stage ≤ 1) → total (λ v. length v.replies + draws v.stage) s.thread_states ≤ length s.thread_states * (MOST_OPERATIONS + 2)
+draws_bound b s draws is one = total_bound (λ v. length v.replies + draws v.stage) s.thread_states (MOST_OPERATIONS + 2) (λ i v there.
     let called = is.called.each i v there in
     let replies = few_replies s v v.stage called.within_turn in
     let few = called.few in
@@ -53,7 +54,7 @@ draws_bound b s draws is one = total_bound (λ v. length v.replies + draws v.sta
     omega (arith, replies, few, draw))
 
 -- few threads with few replies leave a cursor far below 2^63
-far : (cursor sum thread_states threads : ℕ) → cursor ≤ sum → sum ≤ thread_states * 1048578 → thread_states ≡ threads → threads ≤ 16 → cursor < 2 ^ 63
+far : (cursor sum thread_states threads : ℕ) → cursor ≤ sum → sum ≤ thread_states * (MOST_OPERATIONS + 2) → thread_states ≡ threads → threads ≤ 16 → cursor < 2 ^ 63
 far cursor sum thread_states threads a b c d = omega (arith, a, b, c, d)
 
 -- the cursors of runs and of blocks stay below 2^63

@@ -1,8 +1,9 @@
--- Each thread has as many objects as it has had replies that tell of a new one.
-use Rattle.std.proofs.Common.{◌≡◌, ℕ, zero, suc, ◌+◌, ◌%◌, ◌^◌, ◌<◌, ◌≤◌, Bool, true, false, arith, refl, sym, subst, ap, ◌∙◌, inl, inr, cond, List, [], ◌∷◌, ◌++◌, length, length-append, length-set, nat_eq, replicate}
-use Rattle.std.specs.Prelude.{Option, Some, None, slice_set, if◌then◌else◌}
+-- Each thread has as many objects as it began with and as it has had replies that tell of a new one.
+use Rattle.std.proofs.Common.{◌≡◌, ℕ, zero, suc, ◌+◌, ◌%◌, ◌^◌, ◌<◌, ◌≤◌, Bool, true, false, arith, refl, sym, subst, ap, ◌∙◌, inl, inr, cond, List, [], ◌∷◌, ◌++◌, length, length-append, length-set, map, nat_eq, replicate}
+use Rattle.std.specs.Prelude.{◌-◌, Option, Some, None, slice_set, if◌then◌else◌}
 use Rattle.std.specs.List.{count_by}
 use Rattle.std.proofs.lemmas.Bool.Decides.{eqb_tells}
+use Rattle.std.proofs.lemmas.List.{length-map}
 use Rattle.std.proofs.lemmas.List.Sums.{sum_by-append}
 use Rattle.lxr_layout.specs.declared.Name.{Name}
 use Rattle.lxr_layout.specs.declared.Shape.{Shape}
@@ -10,14 +11,16 @@ use Rattle.lxr_graph.specs.declared.Op.{Op}
 use Rattle.lxr_graph.specs.declared.Op.TheVariants as op
 use Rattle.lxr_graph.specs.declared.Reply.{Reply}
 use Rattle.lxr_graph.specs.declared.Reply.TheVariants as reply
-use Rattle.lxr_graph.specs.History.{Item, Call, Pause, replies_of}
+use Rattle.lxr_graph.specs.History.{Item, Call, Pause, Renew, replies_of}
+use Rattle.lxr_graph.specs.Renewing.{renewed_graph, renewed_object}
 use Rattle.lxr_graph.specs.State.{Graph, Object, State, index_in_row, object_at, register_at, row_of, with_reference_at, with_value_at}
 use Rattle.lxr_graph.specs.Step.{IsReply, add_to, added, fresh, get_from, got, load_from, loaded, put_at, put_to, state_after, step, store_to, stored, swap_in, swapped}
 use Rattle.lxr_graph.proofs.RowLemmas.{row_of-set}
 use Rattle.lxr_model.specs.Legal.{IsCall, IsLegalSoFar, Replies}
 use Rattle.lxr_model.specs.Moments.{moment, opening_moment}
 use Rattle.lxr_model.specs.Terms.{Terms}
-use Rattle.lxr_core_invariant.specs.EpochStates.{CountsObjects, Extends, called, same, tells_new}
+use Rattle.lxr_model.proofs.UnrenewedLemmas.{IsUnrenewed}
+use Rattle.lxr_core_invariant.specs.EpochStates.{CountsObjects, Extends, called, objects_before, same, tells_new}
 
 -- how many objects a reply tells of, and how many of thread u a reply to thread t does
 abbrev news : Reply → ℕ
@@ -184,7 +187,11 @@ call_counts : (threads : ℕ) (h : List Item) (t : ℕ) (o : Op) (r : Reply) →
     → CountsObjects threads (Call t o r ∷ h)
 call_counts threads h t o r counts more = record {
   rows = more.rows ∙ counts.rows;
-  objects = λ u one few. more.objects u ∙ ap (λ k. k + joined u t r) (counts.objects u one few) ∙ sym (replies_counted u t o r h);
+  objects = λ u one few.
+      let old = more.objects u in
+      let before = counts.objects u one few in
+      let told = replies_counted u t o r h in
+      omega (arith, old, before, told);
 }
 
 there_is : (threads t rows : ℕ) → rows ≡ threads + 1 → t ≤ threads → t < rows
@@ -197,14 +204,32 @@ extends_counts threads every h k counts (called l t o r before is) =
     let earlier = extends_counts threads every h l counts before in
     call_counts threads l t o r earlier (after_counts (moment threads l).state t o r (there_is threads t (length (moment threads l).state.graph) earlier.rows is.thread.1) is.reply)
 
+-- nor do threads begin with others
+pub extends_before : (threads every : ℕ) (h k : List Item) (u : ℕ) → Extends threads every h k → objects_before u k ≡ objects_before u h
+extends_before threads every h k u (same) = refl
+extends_before threads every h k u (called l t o r before is) = extends_before threads every h l u before
+
+-- where names are never renewed, no thread begins with an object
+pub none_before : (h : List Item) (u : ℕ) → IsUnrenewed h → objects_before u h ≡ 0
+none_before [] u never = refl
+none_before (Call t o r ∷ h) u never = none_before h u never
+none_before (Pause report ∷ h) u never = none_before h u never
+none_before (Renew ns ∷ h) u never = absurd never
+
+no_objects : (threads u : ℕ) → length (row_of (replicate threads []) u) ≡ 0
+no_objects zero u = refl
+no_objects (suc threads) zero = refl
+no_objects (suc threads) (suc u) = no_objects threads u
+
 opening_row : (threads u : ℕ) → 1 ≤ u → length (row_of (opening_moment threads).state.graph u) ≡ 0
 opening_row threads zero some = absurd (omega arith)
 opening_row threads (suc u) some = no_objects threads u
-  where
-    no_objects : (threads u : ℕ) → length (row_of (replicate threads []) u) ≡ 0
-    no_objects zero u = refl
-    no_objects (suc threads) zero = refl
-    no_objects (suc threads) (suc u) = no_objects threads u
+
+-- once names are renewed, thread 1 has all that are left
+pub renewed_row : (threads : ℕ) (ns : List Name) (g : Graph) (u : ℕ) → 1 ≤ u → length (row_of (renewed_graph threads ns g) u) ≡ (if nat_eq u 1 then length ns else 0)
+renewed_row threads ns g zero some = absurd (omega arith)
+renewed_row threads ns g (suc zero) some = length-map ns (λ n. renewed_object ns (object_at g n))
+renewed_row threads ns g (suc (suc u)) some = no_objects (threads - 1) u ∙ ap (λ (c : Bool). cond {A = ℕ} c (length ns) 0) (let other : false ≡ nat_eq (suc (suc u)) 1 = grind arith in other)
 
 legal_call : (terms : Terms) (h : List Item) (t : ℕ) (o : Op) (r : Reply) → CountsObjects terms.threads h → IsCall terms h t o r → CountsObjects terms.threads (Call t o r ∷ h)
 legal_call terms h t o r counts is = call_counts terms.threads h t o r counts (more o r is.reply)
@@ -236,5 +261,12 @@ legal_counts terms [] legal = record {
 
     rows_of : (threads : ℕ) → length (opening_moment threads).state.graph ≡ threads + 1
     rows_of threads = let e = length-rows threads in omega (arith, e)
+legal_counts terms (Renew ns ∷ h) legal = record {
+  rows = legal.2.sound.rows;
+  objects = λ u one few.
+      let row = renewed_row terms.threads ns (moment terms.threads h).state.graph u one in
+      let none : count_by tells_new [] ≡ 0 = refl in
+      omega (arith, row, none);
+}
 legal_counts terms (Pause report ∷ h) legal = let counts = legal_counts terms h legal.0 in record { rows = counts.rows; objects = counts.objects }
 legal_counts terms (Call t o r ∷ h) legal = legal_call terms h t o r (legal_counts terms h legal.0) legal.2

@@ -1,9 +1,10 @@
 -- The history and what mutators show of it: each has done a beginning of its thread's operations, each once and in order,
 -- with the replies that it keeps.
 use Rattle.std.specs.Prelude.{◌≡◌, ◌≢◌, ℕ, ◌+◌, ◌<◌, ◌≤◌, ⊤, All, false, Some, [], ◌∷◌, ◌++◌, length, slice_get, take, IsTrue}
-use Rattle.lxr_layout.specs.declared.TheConstants.{FREE_BLOCK_COUNT, FREE_BLOCK_CURSOR, PAUSE_WORD}
+use Rattle.lxr_layout.specs.declared.TheConstants.{FREE_BLOCK_COUNT, FREE_BLOCK_CURSOR, MOST_GRANULES, PAUSE_WORD}
 use Rattle.lxr_layout.specs.declared.Name.{Name}
 use Rattle.lxr_layout.specs.declared.Shape.{Shape}
+use Rattle.lxr_alloc.specs.declared.TheConstants.{MOST_OPERATIONS}
 use Rattle.lxr_graph.specs.declared.Op.{Op}
 use Rattle.lxr_graph.specs.declared.Op.TheVariants as op
 use Rattle.lxr_graph.specs.History.{calls_of, replies_of}
@@ -13,7 +14,7 @@ use Rattle.lxr_model.specs.Belongs.{calls_since_pause, has_asked}
 use Rattle.lxr_invariant.specs.AbstractState.{members}
 use Rattle.lxr_core_invariant.specs.ThreadStates.{Intent, Reason, Stage, ThreadState, all_of, op_now, GivesUp, Rests, Works, Names, Through}
 use Rattle.lxr_core_invariant.specs.ThreadStates as why
-use Rattle.lxr_core_invariant.specs.EpochStates.{Beginning, EpochState, limits_of, moment_of}
+use Rattle.lxr_core_invariant.specs.EpochStates.{Beginning, EpochState, limits_of, moment_of, objects_before}
 use Rattle.lxr_core_invariant.specs.Events.{Does, found_reply, takes_reference}
 use Rattle.lxr_core_invariant.specs.Happening.{DoesNew, WritesReference}
 
@@ -71,7 +72,10 @@ uncounted _ = 0
 pub record HasCalled (b : Beginning) (s : EpochState) (v : ThreadState) : Type 0 where
   pub formed : All IsWellFormed v.operations
   pub endless : All (λ o. o ≢ op.End) v.operations
-  pub few : length v.operations ≤ 1048576
+  pub few : length v.operations ≤ MOST_OPERATIONS
+  -- it counts from the objects that its thread began with, of which a heap has no more than granules; so its next name is told by its replies
+  pub began : v.before ≡ objects_before v.thread b.history
+  pub few_began : v.before ≤ MOST_GRANULES
   pub every : v.every ≡ b.every
   pub calls : calls_of v.thread s.history ≡ take (length v.replies + waiting_in v.stage) (all_of v.operations)
   pub replies : AreReplies b s v v.stage

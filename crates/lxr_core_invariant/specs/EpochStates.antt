@@ -1,12 +1,12 @@
 -- An epoch: what it begins with, and what there is at a moment of it.
-use Rattle.std.specs.Prelude.{◌≡◌, ℕ, ◌+◌, ◌≤◌, Bool, true, false, List, ◌∷◌, length}
+use Rattle.std.specs.Prelude.{◌≡◌, ℕ, ◌+◌, ◌≤◌, Bool, true, false, nat_eq, if◌then◌else◌, List, [], ◌∷◌, length}
 use Rattle.std.specs.List.{count_by}
 use Rattle.lxr_layout.specs.declared.limits.Limits.{Limits}
 use Rattle.lxr_layout.specs.declared.Name.{Name}
 use Rattle.lxr_graph.specs.declared.Op.{Op}
 use Rattle.lxr_graph.specs.declared.Reply.{Reply}
 use Rattle.lxr_graph.specs.declared.Reply.TheVariants as reply
-use Rattle.lxr_graph.specs.History.{Item, Call, replies_of}
+use Rattle.lxr_graph.specs.History.{Item, Call, Pause, Renew, replies_of}
 use Rattle.lxr_graph.specs.State.{row_of}
 use Rattle.lxr_graph.specs.Step.{IsReply, IsWellFormed}
 use Rattle.lxr_image.specs.declared.space.Space.{Space}
@@ -42,12 +42,19 @@ abbrev pub tells_new : Reply → Bool
 tells_new (reply.New name) = true
 tells_new _ = false
 
--- each thread has as many objects as it has had replies that tell of a new one, so the next name is told by its replies
+-- how many objects thread t began with, at the opening or when names were last renewed: then thread 1 has all that are left
+abbrev pub objects_before : ℕ → List Item → ℕ
+objects_before t [] = 0
+objects_before t (Call u o r ∷ h) = objects_before t h
+objects_before t (Pause report ∷ h) = objects_before t h
+objects_before t (Renew ns ∷ h) = if nat_eq t 1 then length ns else 0
+
+-- each thread has as many objects as it began with and as it has had replies that tell of a new one
 pub record CountsObjects (threads : ℕ) (h : List Item) : Type 0 where
   pub rows : length (moment threads h).state.graph ≡ threads + 1
-  pub objects : (t : ℕ) → 1 ≤ t → t ≤ threads → length (row_of (moment threads h).state.graph t) ≡ count_by tells_new (replies_of t h)
+  pub objects : (t : ℕ) → 1 ≤ t → t ≤ threads → length (row_of (moment threads h).state.graph t) ≡ objects_before t h + count_by tells_new (replies_of t h)
 
--- It is between epochs and listed, and objects are counted by replies.
+-- it is between epochs and listed, and objects are counted by replies
 pub record IsBeginning (b : Beginning) : Type 0 where
   pub between : IsQuiescent b.space b.abstract_state
   pub listed : IsListed b.space

@@ -53,14 +53,15 @@ pub data Stage : Type 0 where
   -- it makes no further step in this epoch
   Through : Reason → Stage
 
--- A mutator: its thread and the thread's operations, its registers, its log, what it has drawn and not yet filled, the
--- replies so far, how many operations it may do between two pauses and has done in this epoch, and where it is.
+-- A mutator: its thread and the thread's operations, its registers, its log, what it has drawn and not yet filled, how many objects it had as it
+-- began to count, the replies since, how many operations it may do between two pauses and has done in this epoch, and where it is.
 pub record ThreadState : Type 0 where
   pub thread : ℕ
   pub operations : List Op
   pub registers : List Place
   pub log : Roomy LogEntry
   pub spans : Spans
+  pub before : ℕ
   pub replies : List Reply
   pub every : ℕ
   pub since : ℕ

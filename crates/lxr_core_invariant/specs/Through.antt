@@ -4,7 +4,7 @@ use Rattle.lxr_layout.specs.declared.TheConstants.{FREE_BLOCK_COUNT, FREE_BLOCK_
 use Rattle.lxr_layout.specs.declared.Shape.{Shape}
 use Rattle.lxr_graph.specs.declared.Op.{Op}
 use Rattle.lxr_graph.specs.declared.Op.TheVariants as op
-use Rattle.lxr_graph.specs.History.{Call, Item, Pause, calls_of, replies_of}
+use Rattle.lxr_graph.specs.History.{Call, Item, Pause, Renew, calls_of, replies_of}
 use Rattle.lxr_model.specs.Belongs.{calls_since_pause, has_asked, writes_reference}
 use Rattle.lxr_model.specs.Kinds.{ends}
 use Rattle.lxr_model.specs.Legal.{IsLegalSoFar}
@@ -86,6 +86,7 @@ EndsAreCounted = (b : Beginning) (s : EpochState) (terms : Terms) → IsEpoch b 
 -- a history ends with a pause, or has nothing yet
 abbrev pub JustPaused : List Item → Type 0
 JustPaused [] = ⊤
+JustPaused (Renew ns ∷ h) = ⊤
 JustPaused (Pause report ∷ h) = ⊤
 JustPaused (Call t o r ∷ h) = ⊥
 

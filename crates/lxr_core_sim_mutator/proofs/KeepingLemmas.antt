@@ -4,10 +4,12 @@ use Rattle.std.specs.Prelude.{Some, nat_eq, nat_le, nat_lt, slice_get, slice_ind
 use Rattle.std.specs.List.{All}
 use Rattle.std.proofs.lemmas.List.Elements.{All-set, All-get_or, All-cons, All-nil}
 use Rattle.lxr_layout.specs.Spaces.{regions_of}
+use Rattle.lxr_layout.specs.declared.TheConstants.{MOST_GRANULES}
 use Rattle.lxr_layout.specs.declared.Place.{Place}
 use Rattle.lxr_layout.specs.declared.LogEntry.{LogEntry}
 use Rattle.lxr_layout.specs.declared.limits.Limits.{Limits}
 use Rattle.lxr_base.specs.Roomy.{Roomy}
+use Rattle.lxr_alloc.specs.declared.TheConstants.{MOST_OPERATIONS}
 use Rattle.lxr_alloc.specs.declared.Spans.{Spans}
 use Rattle.lxr_graph.specs.declared.Op.{Op}
 use Rattle.lxr_graph.specs.declared.Op.TheVariants as op
@@ -29,11 +31,12 @@ use Rattle.lxr_core_sim_mutator.specs.Showing.{IsMutatorOf, IsNew, IsSteadyIn, s
 pub record GoesOn (m : Mutating) : Type 0 where
   pub thread : (1 ≤ m.thread) × (m.thread ≤ 16)
   pub operations : All IsOperation m.operations
-  pub few : length m.operations ≤ 1048576
+  pub few : length m.operations ≤ MOST_OPERATIONS
   pub every : (1 ≤ m.every) × (m.every ≤ 1048576)
   pub registers : length m.registers ≡ 16
   pub held : All IsHeld m.registers
   pub spans : AreInHeap m.spans
+  pub before : m.before ≤ MOST_GRANULES
   pub indexes : HaveIndexes m.regions
   pub room : length m.operations + 1 ≤ m.replies.room
   pub replies : length m.replies.items ≤ length m.operations
@@ -49,6 +52,7 @@ goes_on m is goes = record {
   registers = is.registers;
   held = is.held;
   spans = is.spans;
+  before = is.before;
   indexes = is.indexes;
   room = is.room;
   replies = elim is.replies [ inl through ↦ absurd (goes through.0) | inr few ↦ few ];
@@ -65,6 +69,7 @@ with_place m r p is held = record {
   registers = length-set m.registers r p ∙ is.registers;
   held = All-set IsHeld m.registers r p held is.held;
   spans = is.spans;
+  before = is.before;
   indexes = is.indexes;
   room = is.room;
   replies = is.replies;
@@ -81,6 +86,7 @@ with_spans m spans is within = record {
   registers = is.registers;
   held = is.held;
   spans = within;
+  before = is.before;
   indexes = is.indexes;
   room = is.room;
   replies = is.replies;
@@ -97,6 +103,7 @@ with_log m log is = record {
   registers = is.registers;
   held = is.held;
   spans = is.spans;
+  before = is.before;
   indexes = is.indexes;
   room = is.room;
   replies = is.replies;
@@ -115,6 +122,7 @@ to_phase l m p is regions more may steady = record {
     registers = is.registers;
     held = is.held;
     spans = is.spans;
+    before = is.before;
     indexes = is.indexes;
     room = is.room;
     few_replies = omega (arith, is.replies);
@@ -140,6 +148,7 @@ to_finished l m how is regions waits = record {
     registers = is.registers;
     held = is.held;
     spans = is.spans;
+    before = is.before;
     indexes = is.indexes;
     room = is.room;
     few_replies = omega (arith, is.replies);
@@ -175,6 +184,7 @@ to_end l m is regions =
         registers = refl;
         held = all_nil 16;
         spans = is.spans;
+        before = is.before;
         indexes = is.indexes;
         room = is.room;
         few_replies = omega (arith, is.replies, len);
@@ -241,6 +251,7 @@ done_kept l m r last e is regions more =
         registers = is.registers;
         held = is.held;
         spans = is.spans;
+        before = is.before;
         indexes = is.indexes;
         room = is.room;
         few_replies = omega (arith, more, len);

@@ -1,5 +1,5 @@
 -- The name that a mutator gives to a new object is the next one of its thread in the model.
-use Rattle.std.proofs.Common.{◌≡◌, ℕ, ◌+◌, ◌≤◌, Bool, false, arith, refl, ap, ◌∙◌, cond, List, length, nat_eq}
+use Rattle.std.proofs.Common.{◌≡◌, ℕ, ◌+◌, ◌≤◌, Bool, false, arith, refl, sym, ap, ◌∙◌, cond, List, length, nat_eq}
 use Rattle.std.specs.Prelude.{Some, slice_get}
 use Rattle.std.specs.List.{count_by}
 use Rattle.std.proofs.lemmas.Option.{slice_get_within}
@@ -9,9 +9,9 @@ use Rattle.lxr_graph.specs.History.{Item, replies_of}
 use Rattle.lxr_graph.specs.State.{next_name, row_of}
 use Rattle.lxr_model.specs.Moments.{moment}
 use Rattle.lxr_mutator.specs.Mutating.{Mutating, is_new, next_name as next_made}
-use Rattle.lxr_core_invariant.specs.EpochStates.{Beginning, CountsObjects, EpochState, limits_of, moment_of, tells_new}
+use Rattle.lxr_core_invariant.specs.EpochStates.{Beginning, CountsObjects, EpochState, limits_of, moment_of, objects_before, tells_new}
 use Rattle.lxr_core_invariant.specs.Epoch.{IsEpoch}
-use Rattle.lxr_core_invariant.proofs.ObjectLemmas.{extends_counts}
+use Rattle.lxr_core_invariant.proofs.ObjectLemmas.{extends_before, extends_counts}
 use Rattle.lxr_core_sim_mutator.specs.Showing.{thread_state_of}
 
 -- both tests are of the same replies
@@ -41,13 +41,15 @@ same_count rs = λ j. count_by (λ r. same_test r j) rs
 serial_from : (t n k : ℕ) → 1 ≤ t → n ≡ k → n + cond {A = ℕ} (nat_eq t 0) 0 1 ≡ k + 1
 serial_from t n k some e = let other : nat_eq t 0 ≡ false = grind (arith, some) in ap (λ (c : Bool). n + cond {A = ℕ} c 0 1) other ∙ ap (λ (x : ℕ). x + 1) e
 
--- a mutator whose replies are those of a history names its next object as the model does
-pub named_after : (threads : ℕ) (h : List Item) (m : Mutating) → CountsObjects threads h → 1 ≤ m.thread → m.thread ≤ threads → replies_of m.thread h ≡ m.replies.items
+-- a mutator whose replies are those of a history, and that counts from the objects that its thread began with, names its next object as the
+-- model does
+pub named_after : (threads : ℕ) (h : List Item) (m : Mutating) → CountsObjects threads h → m.before ≡ objects_before m.thread h → 1 ≤ m.thread → m.thread ≤ threads → replies_of m.thread h ≡ m.replies.items
     → next_name (moment threads h).state.graph m.thread ≡ next_made m
-named_after threads h m counts some few replies =
-    let objects : length (row_of (moment threads h).state.graph m.thread) ≡ count_by is_new m.replies.items =
-    counts.objects m.thread some few ∙ ap (count_by tells_new) replies ∙ same_count m.replies.items in
-    let serial = serial_from m.thread (length (row_of (moment threads h).state.graph m.thread)) (count_by is_new m.replies.items) some objects in
+named_after threads h m counts began some few replies =
+    let row = counts.objects m.thread some few in
+    let told = ap (count_by tells_new) replies ∙ same_count m.replies.items in
+    let objects : length (row_of (moment threads h).state.graph m.thread) ≡ m.before + count_by is_new m.replies.items = omega (arith, row, began, told) in
+    let serial = serial_from m.thread (length (row_of (moment threads h).state.graph m.thread)) (m.before + count_by is_new m.replies.items) some objects in
     λ j. record { thread = m.thread; serial = serial j }
 
 -- so it is after each event of an epoch
@@ -57,5 +59,7 @@ named b s i m is shown replies =
     let number = is.called.threads i (thread_state_of m) shown in
     let within = slice_get_within s.thread_states i (thread_state_of m) shown in
     let as_many = is.called.as_many in
+    let some : 1 ≤ m.thread = omega (arith, number) in
+    let few : m.thread ≤ (limits_of b).threads = omega (arith, number, within, as_many) in
     named_after (limits_of b).threads s.history m (extends_counts (limits_of b).threads b.every b.history s.history is.begins.counted is.extends)
-    (omega (arith, number)) (omega (arith, number, within, as_many)) replies
+    ((is.called.each i (thread_state_of m) shown).began ∙ sym (extends_before (limits_of b).threads b.every b.history s.history m.thread is.extends)) some few replies

@@ -77,6 +77,7 @@ thread_state_of m = record {
   registers = m.registers;
   log = m.log;
   spans = m.spans;
+  before = m.before;
   replies = m.replies.items;
   every = m.every;
   since = m.since;

@@ -12,7 +12,7 @@ use Rattle.lxr_graph.specs.declared.Reply.{Reply}
 use Rattle.lxr_graph.specs.declared.report.Count.{Count}
 use Rattle.lxr_graph.specs.declared.report.Kind.{Kind}
 use Rattle.lxr_graph.specs.declared.report.Kind.TheVariants as kind
-use Rattle.lxr_graph.specs.History.{PauseReport, Item, Call, Pause}
+use Rattle.lxr_graph.specs.History.{PauseReport, Item, Call, Pause, Renew}
 use Rattle.lxr_text_script.specs.Lines.{Text}
 use Rattle.lxr_text_script.specs.Spelling.{joined, text_of}
 use Rattle.lxr_text_script.proofs.Canonical.{plain_number}
@@ -76,6 +76,7 @@ IsSaid o r = (is_reply (word_of o) (answer_of r) ≡ true) × (is_plain (answer_
 -- all that is printed of a history's items is so
 abbrev pub AreSmall : List Item → Type 0
 AreSmall [] = Unit {0}
+AreSmall (Renew ns ∷ h) = Unit {0}
 AreSmall (Call t o r ∷ h) = AreSmall h × IsSaid o r
 AreSmall (Pause report ∷ h) = AreSmall h × IsSmallReport report
 

@@ -8,7 +8,7 @@ use Rattle.lxr_graph.specs.declared.Op.{Op}
 use Rattle.lxr_graph.specs.declared.Op.TheVariants as op
 use Rattle.lxr_graph.specs.declared.Reply.{Reply}
 use Rattle.lxr_graph.specs.declared.Reply.TheVariants as reply
-use Rattle.lxr_graph.specs.History.{PauseReport, Item, Call, Pause}
+use Rattle.lxr_graph.specs.History.{PauseReport, Item, Call, Pause, Renew}
 use Rattle.lxr_graph.specs.declared.Item as ordered
 use Rattle.lxr_graph.specs.declared.Item.TheVariants as ordered_as
 use Rattle.lxr_model.specs.Terms.{Terms}
@@ -69,6 +69,7 @@ same_operation x e f = cc
 
 -- the item that takes the place of the `new` that a pause found waiting is the one that was waited for
 waited_taken : (e : Evidence) (h : List Item) (report : PauseReport) (t : ℕ) (o : Op) (x : Item) → IsWaiting e h t o → IsNextCall e (Pause report ∷ h) t x → IsWaitedFor e.terms h x
+waited_taken e h report t o (Renew ns) waits next = absurd next
 waited_taken e h report t o (Pause other) waits next = absurd next
 waited_taken e h report t o (Call u p r) waits next =
     let same : o ≡ p = same_operation (next_operation e.script t h) waits.operation next.1 in
@@ -76,6 +77,7 @@ waited_taken e h report t o (Call u p r) waits next =
 
 promise_kept : (e : Evidence) (h : List Item) (x : Item) → AllPass e h → Takes e h x → KeepsPromise e.terms h x
 promise_kept e [] x all takes = tt
+promise_kept e (Renew ns ∷ h) x all takes = tt
 promise_kept e (Call t o r ∷ h) x all takes = tt
 promise_kept e (Pause report ∷ h) x all takes = λ waits.
     let found = all.1.belongs.0 waits in
@@ -88,6 +90,7 @@ legal_so_far e (x ∷ h) all = (legal_so_far e h all.0, promise_kept e h x all.0
 -- behind all ends a pause must collect, so it waits for no `new`
 owes_nothing : (terms : Terms) (h : List Item) → EndsWithPause terms h → OwesNoCall terms h
 owes_nothing terms [] last = absurd last
+owes_nothing terms (Renew ns ∷ h) last = absurd last
 owes_nothing terms (Call t o r ∷ h) last = absurd last
 owes_nothing terms (Pause report ∷ h) last = λ waits. waits.1 (inr last.0)
 
@@ -95,11 +98,13 @@ owes_nothing terms (Pause report ∷ h) last = λ waits. waits.1 (inr last.0)
 
 asked_first : (e : Evidence) (h : List Item) → AllPass e h → AskedPausesComeFirst h
 asked_first e [] all = tt
+asked_first e (Renew ns ∷ h) all = tt
 asked_first e (Pause report ∷ h) all = asked_first e h all.0
 asked_first e (Call t o r ∷ h) all = (asked_first e h all.0, all.1.belongs.0)
 
 turns_short : (e : Evidence) (h : List Item) → AllPass e h → TurnsAreShort e.terms h
 turns_short e [] all = tt
+turns_short e (Renew ns ∷ h) all = tt
 turns_short e (Pause report ∷ h) all = turns_short e h all.0
 turns_short e (Call t o r ∷ h) all = (turns_short e h all.0, all.1.belongs.1)
 
@@ -109,6 +114,7 @@ a_cause e h found = inr (found.0, found.1.thread.0, found.1.thread.1, found.1.ca
 -- the pauses before a pause that finds a report have causes
 causes_before : (e : Evidence) (i : ℕ) → slice_get e.order i ≡ Some ordered_as.Pause → (h : List Item) → AllPass e h → length h ≤ i → pauses_in h < report_count e → PausesHaveCauses e.terms e.script h
 causes_before e i at [] all le lt = tt
+causes_before e i at (Renew ns ∷ h) all le lt = tt
 causes_before e i at (Call t o r ∷ h) all le lt = causes_before e i at h all.0 (omega (arith, le)) lt
 causes_before e i at (Pause report ∷ h) all le lt =
     let again : IsPausedAgain e h = record { behind = stands_behind is_pause e.order i (suc (length h)) ordered_as.Pause at refl le; finds = lt } in
@@ -116,6 +122,7 @@ causes_before e i at (Pause report ∷ h) all le lt =
 
 pauses_caused : (e : Evidence) (h : List Item) → AllPass e h → pauses_in h ≡ report_count e → EndsWithPause e.terms h → PausesHaveCauses e.terms e.script h
 pauses_caused e [] all count last = absurd last
+pauses_caused e (Renew ns ∷ h) all count last = absurd last
 pauses_caused e (Call t o r ∷ h) all count last = absurd last
 pauses_caused e (Pause report ∷ h) all count last =
     let at = pause_place e h (slice_get e.order (length h)) report all.1.takes in

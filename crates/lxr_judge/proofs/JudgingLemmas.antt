@@ -19,7 +19,7 @@ use Rattle.lxr_graph.specs.declared.report.Kind.TheVariants as kind
 use Rattle.lxr_graph.specs.Step.{IsWellFormed, step}
 use Rattle.lxr_graph.specs.Names.{union, without}
 use Rattle.lxr_graph.specs.State.{Graph, State, row_of, world_name}
-use Rattle.lxr_graph.specs.History.{PauseReport, Item, Call, Pause, calls_of}
+use Rattle.lxr_graph.specs.History.{PauseReport, Item, Call, Pause, Renew, calls_of}
 use Rattle.lxr_graph.proofs.NameSets.{one_set}
 use Rattle.lxr_graph.proofs.RowLemmas.{slice_get-push}
 use Rattle.lxr_text_script.specs.Lines.{Text}
@@ -47,7 +47,7 @@ use Rattle.lxr_judge.specs.Taking.{IsLineOf, IsPrinted}
 use Rattle.lxr_judge.specs.Passing.{IsReason, HasReason, IsWaiting, AllPass}
 use Rattle.lxr_judge.specs.Standing.{IsReadable, IsJudging, Keeps, LeavesNoRun, MayCollectHere, MayPause, SaysNoFull, Stays, TakesAllOf, stands_by}
 use Rattle.lxr_judge.proofs.OneLemmas.{not_full}
-use Rattle.lxr_judge.proofs.WholeLemmas.{call_place}
+use Rattle.lxr_judge.proofs.WholeLemmas.{call_place, pass_unrenewed}
 use Rattle.lxr_judge.proofs.ProgressLemmas.{calls_few, pauses_few, call_told, pause_told}
 use Rattle.lxr_judge.proofs.RoomLemmas.{rows_are, row_short, number_is}
 
@@ -76,6 +76,7 @@ formed_next e t k o readable low high at =
 -- the calls of a thread are the first of its operations
 pub calls_first : (e : Evidence) (h : List Item) (t : ℕ) → AllPass e h → calls_of t h ≡ take (length (calls_of t h)) (operations_of e.script t)
 calls_first e [] t all = refl
+calls_first e (Renew ns ∷ h) t all = refl
 calls_first e (Pause report ∷ h) t all = calls_first e h t all.0
 calls_first e (Call u o r ∷ h) t all = elim (cases_Bool (nat_eq t u)) [
   | inl same ↦
@@ -315,13 +316,13 @@ keep_pause e j k h report i threads moves can is progress_is threads_is page sho
 pub seat_there : (e : Evidence) (j : Judging) (t : ℕ) → IsJudging e j → 1 ≤ t → t ≤ e.terms.threads → (0 < t) × (t < length j.position.state.graph)
 seat_there e j t judging low high =
     let a = ap (λ (s : State). length s.graph) judging.keeps.position.state in
-    let b = rows_are e.terms.threads judging.history in
+    let b = rows_are e.terms.threads judging.history (pass_unrenewed e judging.history judging.pass) in
     (omega (arith, low), omega (arith, high, a, b))
 
 pub row_there : (e : Evidence) (j : Judging) (t : ℕ) → IsJudging e j → 1 ≤ t → length (row_of j.position.state.graph t) < 2 ^ 32 - 1
 row_there e j t judging low =
     let a = ap (λ (s : State). length (row_of s.graph t)) judging.keeps.position.state in
-    let b = row_short e.terms.threads t judging.history low in
+    let b = row_short e.terms.threads t judging.history (pass_unrenewed e judging.history judging.pass) low in
     let few = calls_few t judging.history in
     let c = judging.left in
     let d = judging.readable.order in

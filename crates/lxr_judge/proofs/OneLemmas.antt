@@ -14,7 +14,7 @@ use Rattle.lxr_graph.specs.declared.Reply.TheVariants as reply
 use Rattle.lxr_graph.specs.declared.report.Kind.{Kind}
 use Rattle.lxr_graph.specs.declared.report.Kind.TheVariants as kind
 use Rattle.lxr_graph.specs.State.{next_name}
-use Rattle.lxr_graph.specs.History.{PauseReport, Item, Call, Pause}
+use Rattle.lxr_graph.specs.History.{PauseReport, Item, Call, Pause, Renew}
 use Rattle.lxr_text_script.specs.Lines.{Text}
 use Rattle.lxr_text_print.specs.Lines.{name_text}
 use Rattle.lxr_text_print.specs.Replies.{call_text}
@@ -228,6 +228,9 @@ one_pause e h a b x y =
     report_determined m a b x.legal.reports y.legal.reports (same_kind e.terms h m a.number a.kind b.kind x.legal.stands stands (same_letter e.counts a b number text))
 
 one_item : (e : Evidence) (h : List Item) (x y : Item) → Passes e h x → Passes e h y → x ≡ y
+one_item e h (Renew ns) y a b = absurd a.belongs
+one_item e h (Call t o r) (Renew ns) a b = absurd b.belongs
+one_item e h (Pause report) (Renew ns) a b = absurd b.belongs
 one_item e h (Call t o r) (Call u p q) a b = one_call e h t u o p r q a b
 one_item e h (Pause a) (Pause b) x y = ap Pause (one_pause e h a b x y)
 one_item e h (Call t o r) (Pause b) x y =

@@ -10,24 +10,26 @@ use Rattle.lxr_graph.specs.declared.Item.TheVariants as ordered_as
 use Rattle.lxr_graph.specs.declared.Op.{Op}
 use Rattle.lxr_graph.specs.declared.Op.TheVariants as op
 use Rattle.lxr_graph.specs.declared.Reply.{Reply}
-use Rattle.lxr_graph.specs.History.{PauseReport, Item, Call, Pause, calls_of}
+use Rattle.lxr_graph.specs.History.{PauseReport, Item, Call, Pause, Renew, calls_of}
 use Rattle.lxr_graph.specs.Order.{order_of}
 use Rattle.lxr_text_script.specs.Lines.{Text}
 use Rattle.lxr_text_print.specs.Replies.{call_text}
 use Rattle.lxr_text_print.specs.Reports.{report_text}
 use Rattle.lxr_model.specs.Legal.{IsCall}
+use Rattle.lxr_model.proofs.UnrenewedLemmas.{IsUnrenewed}
 use Rattle.lxr_model.specs.Belongs.{operations_of, next_operation}
 use Rattle.lxr_judge.specs.Evidence.{Evidence, report_count, report_lines, reply_lines}
 use Rattle.lxr_judge.specs.Taking.{pauses_in, text_of, IsLineOf, IsPrinted, next_line, TakesBy, AreTaken}
 use Rattle.lxr_judge.specs.Verdicts.{IsGood}
-use Rattle.lxr_judge.proofs.PartLemmas.{Grows, IsWhole, added_at, before_no_end, early_no_end, get_front, next_at, same_self}
-use Rattle.lxr_judge.proofs.WholeLemmas.{legal_at, onto}
+use Rattle.lxr_judge.proofs.PartLemmas.{Grows, IsWhole, added_at, before_no_end, early_no_end, get_front, next_at, same_self, whole_unrenewed}
+use Rattle.lxr_judge.proofs.WholeLemmas.{legal_at, onto, unrenewed_at}
 
 -- ---- the lines of a history
 
 -- the reports of a history's pauses, oldest first
 abbrev pub reports_of : List Item → List PauseReport
 reports_of [] = []
+reports_of (Renew ns ∷ h) = []
 reports_of (Pause report ∷ h) = reports_of h ++ report ∷ []
 reports_of (Call t o r ∷ h) = reports_of h
 
@@ -39,6 +41,7 @@ call_lines o r = call_text o r ∷ []
 -- the lines of thread t's calls, oldest first
 abbrev pub replied_lines : ℕ → List Item → List Text
 replied_lines t [] = []
+replied_lines t (Renew ns ∷ h) = []
 replied_lines t (Pause report ∷ h) = replied_lines t h
 replied_lines t (Call u o r ∷ h) = if nat_eq t u then replied_lines t h ++ call_lines o r else replied_lines t h
 
@@ -56,16 +59,19 @@ pub record IsOwn (e : Evidence) (h : List Item) : Type 0 where
 -- ---- what is read
 
 order_grows : Grows order_of
-order_grows (Pause report) h = (ordered_as.Pause ∷ [], refl)
-order_grows (Call t o r) h = (ordered_as.Call t ∷ [], refl)
+order_grows (Renew ns) h none = absurd none
+order_grows (Pause report) h none = (ordered_as.Pause ∷ [], refl)
+order_grows (Call t o r) h none = (ordered_as.Call t ∷ [], refl)
 
 reports_grow : Grows reports_of
-reports_grow (Pause report) h = (report ∷ [], refl)
-reports_grow (Call t o r) h = ([], sym (append-nil (reports_of h)))
+reports_grow (Renew ns) h none = absurd none
+reports_grow (Pause report) h none = (report ∷ [], refl)
+reports_grow (Call t o r) h none = ([], sym (append-nil (reports_of h)))
 
 replies_grow : (t : ℕ) → Grows (replied_lines t)
-replies_grow t (Pause report) h = ([], sym (append-nil (replied_lines t h)))
-replies_grow t (Call u o r) h = elim (cases_Bool (nat_eq t u)) [
+replies_grow t (Renew ns) h none = absurd none
+replies_grow t (Pause report) h none = ([], sym (append-nil (replied_lines t h)))
+replies_grow t (Call u o r) h none = elim (cases_Bool (nat_eq t u)) [
   | inl same ↦ (call_lines o r, cond-true (nat_eq t u) (replied_lines t h ++ call_lines o r) (replied_lines t h) same)
   | inr other ↦ ([], cond-false (nat_eq t u) (replied_lines t h ++ call_lines o r) (replied_lines t h) other ∙ sym (append-nil (replied_lines t h)))
 ]
@@ -74,13 +80,15 @@ replies_grow t (Call u o r) h = elim (cases_Bool (nat_eq t u)) [
 own_lines : (t : ℕ) (o : Op) (r : Reply) (h : List Item) → replied_lines t (Call t o r ∷ h) ≡ replied_lines t h ++ call_lines o r
 own_lines t o r h = cond-true (nat_eq t t) (replied_lines t h ++ call_lines o r) (replied_lines t h) (same_self t)
 
-order_length : (h : List Item) → length (order_of h) ≡ length h
-order_length [] = refl
-order_length (Pause report ∷ h) = let p = length_push (order_of h) ordered_as.Pause in let n = order_length h in omega (arith, p, n)
-order_length (Call t o r ∷ h) = let p = length_push (order_of h) (ordered_as.Call t) in let n = order_length h in omega (arith, p, n)
+order_length : (h : List Item) → IsUnrenewed h → length (order_of h) ≡ length h
+order_length [] none = refl
+order_length (Renew ns ∷ h) none = absurd none
+order_length (Pause report ∷ h) none = let p = length_push (order_of h) ordered_as.Pause in let n = order_length h none in omega (arith, p, n)
+order_length (Call t o r ∷ h) none = let p = length_push (order_of h) (ordered_as.Call t) in let n = order_length h none in omega (arith, p, n)
 
 reports_length : (h : List Item) → length (reports_of h) ≡ pauses_in h
 reports_length [] = refl
+reports_length (Renew ns ∷ h) = refl
 reports_length (Pause report ∷ h) = let p = length_push (reports_of h) report in let n = reports_length h in omega (arith, p, n)
 reports_length (Call t o r ∷ h) = reports_length h
 
@@ -114,6 +122,7 @@ lines_append (x ∷ xs) ys = let n = lines_append xs ys in omega (arith, n)
 lines_count : (t : ℕ) (h : List Item) → length (replied_lines t h) ≡ weights (calls_of t h)
 unfolding weights
 lines_count t [] = refl
+lines_count t (Renew ns ∷ h) = refl
 lines_count t (Pause report ∷ h) = lines_count t h
 lines_count t (Call u o r ∷ h) = elim (cases_Bool (nat_eq t u)) [
   | inl same ↦
@@ -149,10 +158,15 @@ record IsMine (e : Evidence) (h : List Item) : Type 0 where
   whole : IsWhole e.terms e.script h
   own : IsOwn e h
 
+-- names are never renewed in it
+mine_unrenewed : (e : Evidence) (h : List Item) → IsMine e h → IsUnrenewed h
+mine_unrenewed e h mine = whole_unrenewed e.terms e.script h mine.whole
+
 -- the item of the order in the place of an item of the history
 place_at : (e : Evidence) (above h : List Item) (x : Item) (y : ordered.Item) → IsMine e (onto above (x ∷ h)) → order_of (x ∷ h) ≡ order_of h ++ y ∷ [] → slice_get e.order (length h) ≡ Some y
 place_at e above h x y mine adds =
-    ap (λ (items : List ordered.Item). slice_get items (length h)) mine.own.order ∙ (ap (λ (n : ℕ). slice_get (order_of (onto above (x ∷ h))) n) (sym (order_length h)) ∙ added_at order_of order_grows above h x y adds)
+    let none = mine_unrenewed e (onto above (x ∷ h)) mine in
+    ap (λ (items : List ordered.Item). slice_get items (length h)) mine.own.order ∙ (ap (λ (n : ℕ). slice_get (order_of (onto above (x ∷ h))) n) (sym (order_length h (unrenewed_at (x ∷ above) h none))) ∙ added_at order_of order_grows above h x y none adds)
 
 line_is : (o : Op) (r : Reply) (found : Option Text) → option_map ended found ≡ Some (call_text o r) → IsLineOf o r found
 line_is o r None is = absurd (none-some (call_text o r) is)
@@ -165,7 +179,7 @@ lines_of o r some = refl
 line_at : (e : Evidence) (above h : List Item) (t : ℕ) (o : Op) (r : Reply) → IsMine e (onto above (Call t o r ∷ h)) → 1 ≤ t → t ≤ e.terms.threads → o ≢ op.End → IsLineOf o r (next_line e t h)
 line_at e above h t o r mine low high some =
     let count : length (replied_lines t h) ≡ length (calls_of t h) = lines_count t h ∙ no_end_count (calls_of t h) (before_no_end e.terms e.script above h t o r mine.whole low high) in
-    let added = added_at (replied_lines t) (replies_grow t) above h (Call t o r) (call_text o r) (own_lines t o r h ∙ ap (λ (ls : List Text). replied_lines t h ++ ls) (lines_of o r some)) in
+    let added = added_at (replied_lines t) (replies_grow t) above h (Call t o r) (call_text o r) (mine_unrenewed e (onto above (Call t o r ∷ h)) mine) (own_lines t o r h ∙ ap (λ (ls : List Text). replied_lines t h ++ ls) (lines_of o r some)) in
     let there : slice_get (map ended (reply_lines e t)) (length (calls_of t h)) ≡ Some (call_text o r) =
     ap (λ (ls : List Text). slice_get ls (length (calls_of t h))) (mine.own.replies t low high) ∙ (ap (λ (n : ℕ). slice_get (replied_lines t (onto above (Call t o r ∷ h))) n) (sym count) ∙ added) in
     line_is o r (next_line e t h) (sym (slice_get-map ended (reply_lines e t) (length (calls_of t h))) ∙ there)
@@ -185,9 +199,10 @@ takes_at : (e : Evidence) (above h : List Item) (x : Item) → IsMine e (onto ab
 takes_at e above h (Call t o r) mine =
     let call = (legal_at e.terms above (Call t o r ∷ h) mine.whole.legal.0).2 in
     call_taken e h (slice_get e.order (length h)) t o r (place_at e above h (Call t o r) (ordered_as.Call t) mine refl) (next_at e.terms e.script above h t o r mine.whole call.thread.0 call.thread.1) (printed_at e above h t o r mine call)
+takes_at e above h (Renew ns) mine = absurd (unrenewed_at above (Renew ns ∷ h) (mine_unrenewed e (onto above (Renew ns ∷ h)) mine))
 takes_at e above h (Pause report) mine =
     let count = reports_length h in
-    let at = added_at reports_of reports_grow above h (Pause report) report refl in
+    let at = added_at reports_of reports_grow above h (Pause report) report (mine_unrenewed e (onto above (Pause report ∷ h)) mine) refl in
     let inside = slice_get_within (reports_of (onto above (Pause report ∷ h))) (length (reports_of h)) report at in
     let all = mine.own.count in
     let text = mine.own.reports (length (reports_of h)) report at ∙ ap (λ (n : ℕ). text_of (report_lines e n)) count in
@@ -218,7 +233,7 @@ own_good e h whole own =
       history = h;
       is_its = record {
         taken = taken_at e [] h mine;
-        order = sym (order_length h) ∙ ap length (sym own.order);
+        order = sym (order_length h (mine_unrenewed e h mine)) ∙ ap length (sym own.order);
         all = record {
           calls = whole.belongs.calls;
           replies = λ t low high. lines_whole e h t mine low high;

@@ -29,7 +29,7 @@ own_yes case terms h own whole read =
 pub own_output_good : OwnOutputIsGood
 own_output_good case terms h fits short own legal belongs v =
     let threads = length (threads_in case.script) in
-    let whole : IsWhole (terms_of threads terms) (threads_in case.script) h = record { fits = fits; threads = refl; legal = legal; belongs = belongs } in
+    let whole : IsWhole (terms_of threads terms) (threads_in case.script) h = record { fits = fits; threads = refl; never = refl; legal = legal; belongs = belongs } in
     let small = whole_small (terms_of threads terms) (threads_in case.script) h whole short in
     let read = ap (output_read terms.counts threads) own.output ∙ text_read terms.counts threads h fits.least fits.greatest small in
     let yes = own_yes case terms h own whole read in

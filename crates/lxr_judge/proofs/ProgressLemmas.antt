@@ -7,7 +7,7 @@ use Rattle.lxr_graph.specs.declared.Op.{Op}
 use Rattle.lxr_graph.specs.declared.Op.TheVariants as op
 use Rattle.lxr_graph.specs.declared.Reply.{Reply}
 use Rattle.lxr_graph.specs.declared.Reply.TheVariants as reply
-use Rattle.lxr_graph.specs.History.{PauseReport, Item, Call, Pause, calls_of}
+use Rattle.lxr_graph.specs.History.{PauseReport, Item, Call, Pause, Renew, calls_of}
 use Rattle.lxr_model.specs.Terms.{Terms}
 use Rattle.lxr_model.specs.Kinds.{collect_called, ends}
 use Rattle.lxr_model.specs.Belongs.{asks_for_pause, has_asked, calls_since_pause}
@@ -20,6 +20,7 @@ use Rattle.lxr_judge.specs.Progress.{Tells, raised, noted, called, paused}
 
 pub calls_few : (t : ℕ) (h : List Item) → length (calls_of t h) ≤ length h
 calls_few t [] = omega arith
+calls_few t (Renew ns ∷ h) = omega arith
 calls_few t (Pause report ∷ h) = omega (arith, calls_few t h)
 calls_few t (Call u o r ∷ h) = elim (cases_Bool (nat_eq t u)) [
   | inl same ↦ let e = ap length (cond-true (nat_eq t u) (calls_of t h ++ o ∷ []) (calls_of t h) same) in let p = length_push (calls_of t h) o in omega (arith, e, p, calls_few t h)
@@ -28,6 +29,7 @@ calls_few t (Call u o r ∷ h) = elim (cases_Bool (nat_eq t u)) [
 
 pub since_few : (t : ℕ) (h : List Item) → calls_since_pause t h ≤ length h
 since_few t [] = omega arith
+since_few t (Renew ns ∷ h) = omega arith
 since_few t (Pause report ∷ h) = omega arith
 since_few t (Call u o r ∷ h) = elim (cases_Bool (nat_eq t u)) [
   | inl same ↦ let e = cond-true (nat_eq t u) (suc (calls_since_pause t h)) (calls_since_pause t h) same in omega (arith, e, since_few t h)
@@ -36,11 +38,13 @@ since_few t (Call u o r ∷ h) = elim (cases_Bool (nat_eq t u)) [
 
 pub pauses_few : (h : List Item) → pauses_in h ≤ length h
 pauses_few [] = omega arith
+pauses_few (Renew ns ∷ h) = omega arith
 pauses_few (Pause report ∷ h) = omega (arith, pauses_few h)
 pauses_few (Call t o r ∷ h) = omega (arith, pauses_few h)
 
 pub ends_few : (h : List Item) → ends h ≤ length h
 ends_few [] = omega arith
+ends_few (Renew ns ∷ h) = omega arith
 ends_few (Pause report ∷ h) = omega (arith, ends_few h)
 ends_few (Call t op.End r ∷ h) = omega (arith, ends_few h)
 ends_few (Call t o r ∷ h) = omega (arith, ends_few h)

@@ -9,9 +9,10 @@ use Rattle.lxr_graph.specs.declared.Reply.{Reply}
 use Rattle.lxr_graph.specs.declared.Reply.TheVariants as reply
 use Rattle.lxr_graph.specs.State.{Object, State, row_of}
 use Rattle.lxr_graph.specs.Step.{step, state_after}
-use Rattle.lxr_graph.specs.History.{Item, Call, Pause, calls_of}
+use Rattle.lxr_graph.specs.History.{Item, Call, Pause, Renew, calls_of}
 use Rattle.lxr_graph.proofs.RowCounts.{step_rows}
 use Rattle.lxr_model.specs.Moments.{moment}
+use Rattle.lxr_model.proofs.UnrenewedLemmas.{IsUnrenewed}
 use Rattle.lxr_judge.specs.Evidence.{Evidence}
 use Rattle.lxr_judge.specs.Taking.{pauses_in}
 use Rattle.lxr_judge.specs.Passing.{AllPass}
@@ -22,14 +23,15 @@ after_cases s t (op.New dest shape) reply.Full = inl refl
 after_cases s t (op.New dest shape) r = inr refl
 after_cases s t o r = inr refl
 
-pub rows_are : (threads : ℕ) (h : List Item) → length (moment threads h).state.graph ≡ threads + 1
-rows_are threads [] = let e = length-replicate threads (let none : List Object = [] in none) in omega (arith, e)
-rows_are threads (Pause report ∷ h) = rows_are threads h
-rows_are threads (Call t o r ∷ h) =
+pub rows_are : (threads : ℕ) (h : List Item) → IsUnrenewed h → length (moment threads h).state.graph ≡ threads + 1
+rows_are threads [] none = let e = length-replicate threads (let empty : List Object = [] in empty) in omega (arith, e)
+rows_are threads (Renew ns ∷ h) none = absurd none
+rows_are threads (Pause report ∷ h) none = rows_are threads h none
+rows_are threads (Call t o r ∷ h) none =
     let s = (moment threads h).state in
     elim (after_cases s t o r) [
-      | inl same ↦ ap (λ (z : State). length z.graph) same ∙ rows_are threads h
-      | inr next ↦ ap (λ (z : State). length z.graph) next ∙ ((step_rows s t o).rows ∙ rows_are threads h)
+      | inl same ↦ ap (λ (z : State). length z.graph) same ∙ rows_are threads h none
+      | inr next ↦ ap (λ (z : State). length z.graph) next ∙ ((step_rows s t o).rows ∙ rows_are threads h none)
     ]
 
 pub empty_row : (n k : ℕ) → slice_index_or (replicate n (let none : List Object = [] in none)) k [] ≡ []
@@ -49,12 +51,13 @@ one_more t u o r h = elim (cases_eq t u) [
   | inr other ↦ inr (other, ap length (cond-false (nat_eq t u) (calls_of t h ++ o ∷ []) (calls_of t h) (ne_eqb t u other)))
 ]
 
-pub row_short : (threads t : ℕ) (h : List Item) → 1 ≤ t → length (row_of (moment threads h).state.graph t) ≤ length (calls_of t h)
-row_short threads t [] low = let e = opening_row_empty threads t low in omega (arith, e)
-row_short threads t (Pause report ∷ h) low = row_short threads t h low
-row_short threads t (Call u o r ∷ h) low =
+pub row_short : (threads t : ℕ) (h : List Item) → IsUnrenewed h → 1 ≤ t → length (row_of (moment threads h).state.graph t) ≤ length (calls_of t h)
+row_short threads t [] none low = let e = opening_row_empty threads t low in omega (arith, e)
+row_short threads t (Renew ns ∷ h) none low = absurd none
+row_short threads t (Pause report ∷ h) none low = row_short threads t h none low
+row_short threads t (Call u o r ∷ h) none low =
     let s = (moment threads h).state in
-    let before = row_short threads t h low in
+    let before = row_short threads t h none low in
     elim (after_cases s u o r) [
       | inl same ↦
           let e = ap (λ (z : State). length (row_of z.graph t)) same in
@@ -73,5 +76,6 @@ row_short threads t (Call u o r ∷ h) low =
 -- the number of the last pause is how many there were
 pub number_is : (e : Evidence) (h : List Item) → AllPass e h → (moment e.terms.threads h).number ≡ pauses_in h
 number_is e [] all = refl
+number_is e (Renew ns ∷ h) all = refl
 number_is e (Call t o r ∷ h) all = number_is e h all.0
 number_is e (Pause report ∷ h) all = let n = number_is e h all.0 in let is = all.1.legal.reports.1.number in omega (arith, n, is)

@@ -23,7 +23,7 @@ use Rattle.lxr_graph.specs.declared.report.Kind.TheVariants as kind
 use Rattle.lxr_graph.specs.Names.{AreInOrder, has, name_order, same_held, same_name, union, without}
 use Rattle.lxr_graph.specs.State.{Graph, HasObject, Object, State, next_name, object_at, opening, refs_of, row_of, world, first_serial, index_in_row}
 use Rattle.lxr_graph.specs.Step.{IsWellFormed, step}
-use Rattle.lxr_graph.specs.History.{PauseReport, Item, Call, Pause}
+use Rattle.lxr_graph.specs.History.{PauseReport, Item, Call, Pause, Renew}
 use Rattle.lxr_graph.proofs.NameLemmas.{rank_order}
 use Rattle.lxr_graph.proofs.NameSets.{same_itself, union_cases, without_parts}
 use Rattle.lxr_graph.proofs.RowCounts.{step_rows}
@@ -32,6 +32,7 @@ use Rattle.lxr_text_script.specs.Limits.{IsWritten}
 use Rattle.lxr_model.specs.Reachable.{Reachable}
 use Rattle.lxr_model.specs.References.{occurrences, references, references_from}
 use Rattle.lxr_model.specs.Terms.{Terms}
+use Rattle.lxr_model.proofs.UnrenewedLemmas.{IsUnrenewed}
 use Rattle.lxr_model.specs.Moments.{Moment, Trace, going_on, moment, trace_after, unreclaimed_after}
 use Rattle.lxr_model.specs.Kinds.{IsRunning, MayStand}
 use Rattle.lxr_model.specs.Reports.{AreCounts, AreDrained, IsReportWith, IsSwept, IsSweptAtEnd, PauseParts, count_entry, is_draining, kept_names}
@@ -45,9 +46,9 @@ use Rattle.lxr_model_laws.specs.ReportLaws.{HasListsInOrder}
 use Rattle.lxr_model_laws.proofs.ReportLemmas.{moments_in_order, reports_in_order}
 use Rattle.lxr_judge.proofs.FormedLemmas.{AreSmall, AreSmallCounts, AreSmallNames, IsSaid, IsSmall, IsSmallKind, IsSmallList, IsSmallName, IsSmallReport, IsSmallWord}
 use Rattle.lxr_judge.proofs.ModestLemmas.{AreModest, CanSay, IsModest, PutsFew, full_said, step_modest, step_said}
-use Rattle.lxr_judge.proofs.PartLemmas.{IsWhole, written_at}
+use Rattle.lxr_judge.proofs.PartLemmas.{IsWhole, whole_unrenewed, written_at}
 use Rattle.lxr_judge.proofs.RoomLemmas.{after_cases, empty_row, rows_are}
-use Rattle.lxr_judge.proofs.WholeLemmas.{legal_at, onto}
+use Rattle.lxr_judge.proofs.WholeLemmas.{legal_at, onto, unrenewed_at}
 
 -- ---- names
 
@@ -61,12 +62,13 @@ opening_row_short threads (suc u) = short threads u
     short (suc n) (suc k) = short n k
 
 -- a row has at most one object more with each item
-row_few : (threads u : ℕ) (h : List Item) → length (row_of (moment threads h).state.graph u) ≤ length h + 1
-row_few threads u [] = opening_row_short threads u
-row_few threads u (Pause report ∷ h) = let n = row_few threads u h in omega (arith, n)
-row_few threads u (Call t o r ∷ h) =
+row_few : (threads u : ℕ) (h : List Item) → IsUnrenewed h → length (row_of (moment threads h).state.graph u) ≤ length h + 1
+row_few threads u [] none = opening_row_short threads u
+row_few threads u (Renew ns ∷ h) none = absurd none
+row_few threads u (Pause report ∷ h) none = let n = row_few threads u h none in omega (arith, n)
+row_few threads u (Call t o r ∷ h) none =
     let s = (moment threads h).state in
-    let before = row_few threads u h in
+    let before = row_few threads u h none in
     elim (after_cases s t o r) [
       | inl same ↦ let e = ap (λ (z : State). length (row_of z.graph u)) same in omega (arith, before, e)
       | inr next ↦
@@ -83,19 +85,19 @@ first_low zero = omega arith
 first_low (suc t) = grind arith
 
 -- a name that has an object is small
-named_small : (threads : ℕ) (h : List Item) → threads ≤ 16 → length h + 1 < 2 ^ 32 → (n : Name) → HasObject (moment threads h).state.graph n → IsSmallName n
-named_small threads h few short n there =
+named_small : (threads : ℕ) (h : List Item) → IsUnrenewed h → threads ≤ 16 → length h + 1 < 2 ^ 32 → (n : Name) → HasObject (moment threads h).state.graph n → IsSmallName n
+named_small threads h none few short n there =
     let g = (moment threads h).state.graph in
     let at = object_of (object_at g n) there in
     let where_it_is = in_row g n at.0 at.1 in
-    let rows = rows_are threads h in
-    let row = row_few threads n.thread h in
+    let rows = rows_are threads h none in
+    let row = row_few threads n.thread h none in
     let first = first_low n.thread in
     record { thread = omega (arith, few, rows, where_it_is.2); serial = omega (arith, short, row, first, where_it_is.1) }
 
-next_small : (threads t : ℕ) (h : List Item) → t ≤ 16 → length h + 2 < 2 ^ 32 → IsSmallName (next_name (moment threads h).state.graph t)
-next_small threads t h low short =
-    let row = row_few threads t h in
+next_small : (threads t : ℕ) (h : List Item) → IsUnrenewed h → t ≤ 16 → length h + 2 < 2 ^ 32 → IsSmallName (next_name (moment threads h).state.graph t)
+next_small threads t h none low short =
+    let row = row_few threads t h none in
     let first = first_low t in
     record { thread = low; serial = omega (arith, short, row, first) }
 
@@ -161,17 +163,18 @@ references_few g (u ∷ us) o modest =
     omega (arith, here, few, rest)
 
 -- there are sixteen registers for each thread
-registers_are : (terms : Terms) (h : List Item) → IsLegalSoFar terms h → length (moment terms.threads h).state.registers ≡ 16 * terms.threads
-registers_are terms [] legal = let follows = opening_follows terms.threads in let size = follows.registers in let rows = rows_are terms.threads [] in omega (arith, size, rows)
-registers_are terms (Pause report ∷ h) legal = registers_are terms h legal.0
-registers_are terms (Call t o r ∷ h) legal =
+registers_are : (terms : Terms) (h : List Item) → IsUnrenewed h → IsLegalSoFar terms h → length (moment terms.threads h).state.registers ≡ 16 * terms.threads
+registers_are terms [] none legal = let follows = opening_follows terms.threads in let size = follows.registers in let rows = rows_are terms.threads [] none in omega (arith, size, rows)
+registers_are terms (Renew ns ∷ h) none legal = absurd none
+registers_are terms (Pause report ∷ h) none legal = registers_are terms h none legal.0
+registers_are terms (Call t o r ∷ h) none legal =
     let s = (moment terms.threads h).state in
-    let before = registers_are terms h legal.0 in
+    let before = registers_are terms h none legal.0 in
     elim (after_cases s t o r) [
       | inl same ↦ let e = ap (λ (z : State). length z.registers) same in omega (arith, before, e)
       | inr next ↦
           let e = ap (λ (z : State). length z.registers) next in
-          let rows = rows_are terms.threads h in
+          let rows = rows_are terms.threads h none in
           let low = legal.2.thread.0 in
           let high = legal.2.thread.1 in
           let keeps = step_keeps s t o (omega (arith, rows, high)) (omega (arith, before, low, high)) in
@@ -183,6 +186,7 @@ registers_are terms (Call t o r ∷ h) legal =
 
 number_few : (terms : Terms) (h : List Item) → IsLegalSoFar terms h → (moment terms.threads h).number ≤ length h
 number_few terms [] legal = omega arith
+number_few terms (Renew ns ∷ h) legal = omega arith
 number_few terms (Call t o r ∷ h) legal = let n = number_few terms h legal.0 in omega (arith, n)
 number_few terms (Pause report ∷ h) legal = let n = number_few terms h legal.0 in let is = legal.2.reports.1.number in omega (arith, n, is)
 
@@ -203,6 +207,7 @@ began_after m report kind.Collect began le = tt
 
 began_by : (terms : Terms) (h : List Item) → IsLegalSoFar terms h → BeganBy (moment terms.threads h).number (moment terms.threads h).trace
 began_by terms [] legal = tt
+began_by terms (Renew ns ∷ h) legal = tt
 began_by terms (Call t o r ∷ h) legal = began_by terms h legal.0
 began_by terms (Pause report ∷ h) legal =
     let is = legal.2.reports.1.number in
@@ -283,19 +288,19 @@ are_counts : (m : Moment) (report : PauseReport) (b : Bool) → AreCounts m repo
 are_counts m report true counts = sym counts
 are_counts m report false counts = sym counts
 
-report_small : (terms : Terms) (h : List Item) (report : PauseReport) → terms.threads ≤ 16 → length h + 1 < 2 ^ 32 → AreModest (moment terms.threads h).state.graph → IsLegalSoFar terms (Pause report ∷ h) → IsSmallReport report
-report_small terms h report few short modest legal =
+report_small : (terms : Terms) (h : List Item) (report : PauseReport) → IsUnrenewed h → terms.threads ≤ 16 → length h + 1 < 2 ^ 32 → AreModest (moment terms.threads h).state.graph → IsLegalSoFar terms (Pause report ∷ h) → IsSmallReport report
+report_small terms h report none few short modest legal =
     let m = moment terms.threads h in
     let parts = legal.2.reports.0 in
     let is = legal.2.reports.1 in
     let good = good_history terms h legal.0 in
-    let small = named_small terms.threads h few short in
+    let small = named_small terms.threads h none few short in
     let up : HasListsInOrder report = reports_in_order m report legal.2.reports in
     let number = number_few terms h legal.0 in
     let us = unreclaimed_after m report in
-    let left = list_small us (moments_in_order terms.threads (Pause report ∷ h)).unreclaimed (λ n k. small n (left_exists terms.threads m report parts is good n k)) in
-    let many = names_few us (moments_in_order terms.threads (Pause report ∷ h)).unreclaimed left.names in
-    let registers = registers_are terms h legal.0 in
+    let left = list_small us (moments_in_order terms (Pause report ∷ h) legal).unreclaimed (λ n k. small n (left_exists terms.threads m report parts is good n k)) in
+    let many = names_few us (moments_in_order terms (Pause report ∷ h) legal).unreclaimed left.names in
+    let registers = registers_are terms h none legal.0 in
     record {
       number = let n = is.number in omega (arith, n, number, short);
       kind = kind_small terms h m report.number report.kind legal.2.stands (began_by terms h legal.0) (omega (arith, number, short));
@@ -328,14 +333,19 @@ puts_few (op.Put base index value) formed (inl written) = written.1
 puts_few (op.Put base index value) formed (inr last) = cc
 puts_few o formed written = tt
 
+-- below the whole, names are never renewed either
+whole_below : (terms : Terms) (script : Script) (above h : List Item) → IsWhole terms script (onto above h) → IsUnrenewed h
+whole_below terms script above h whole = unrenewed_at above h (whole_unrenewed terms script (onto above h) whole)
+
 modest_at : (terms : Terms) (script : Script) (above h : List Item) → IsWhole terms script (onto above h) → AreModest (moment terms.threads h).state.graph
 modest_at terms script above [] whole = opening_modest terms.threads
+modest_at terms script above (Renew ns ∷ h) whole = absurd (whole_below terms script above (Renew ns ∷ h) whole)
 modest_at terms script above (Pause report ∷ h) whole = modest_at terms script (Pause report ∷ above) h whole
 modest_at terms script above (Call t o r ∷ h) whole =
     let s = (moment terms.threads h).state in
     let legal = legal_at terms above (Call t o r ∷ h) whole.legal.0 in
     let call = legal.2 in
-    let rows = rows_are terms.threads h in
+    let rows = rows_are terms.threads h (whole_below terms script above (Call t o r ∷ h) whole) in
     let before = modest_at terms script (Call t o r ∷ above) h whole in
     let few = puts_few o call.operation (written_at terms script above h t o r whole call.thread.0 call.thread.1) in
     elim (after_cases s t o r) [
@@ -359,18 +369,20 @@ longer (x ∷ above) h = let n = longer above (x ∷ h) in omega (arith, n)
 
 small_at : (terms : Terms) (script : Script) (above h : List Item) → IsWhole terms script (onto above h) → length (onto above h) + 1 < 2 ^ 32 → AreSmall h
 small_at terms script above [] whole short = tt
+small_at terms script above (Renew ns ∷ h) whole short = tt
 small_at terms script above (Pause report ∷ h) whole short =
     let size = longer above (Pause report ∷ h) in
     let few : terms.threads ≤ 16 = let n = whole.fits.greatest in let e = whole.threads in omega (arith, n, e) in
     let modest = modest_at terms script (Pause report ∷ above) h whole in
-    (small_at terms script (Pause report ∷ above) h whole short, report_small terms h report few (omega (arith, short, size)) modest (legal_at terms above (Pause report ∷ h) whole.legal.0))
+    (small_at terms script (Pause report ∷ above) h whole short, report_small terms h report (whole_below terms script above (Pause report ∷ h) whole) few (omega (arith, short, size)) modest (legal_at terms above (Pause report ∷ h) whole.legal.0))
 small_at terms script above (Call t o r ∷ h) whole short =
     let size = longer above (Call t o r ∷ h) in
     let few : terms.threads ≤ 16 = let n = whole.fits.greatest in let e = whole.threads in omega (arith, n, e) in
     let legal = legal_at terms above (Call t o r ∷ h) whole.legal.0 in
+    let none = whole_below terms script above (Call t o r ∷ h) whole in
     let can : CanSay (moment terms.threads h).state t = record {
-      reachable = λ n k. named_small terms.threads h few (omega (arith, short, size)) n (reached_there terms h legal.0 n k);
-      next = let high = legal.2.thread.1 in next_small terms.threads t h (omega (arith, high, few)) (omega (arith, short, size));
+      reachable = λ n k. named_small terms.threads h none few (omega (arith, short, size)) n (reached_there terms h legal.0 n k);
+      next = let high = legal.2.thread.1 in next_small terms.threads t h none (omega (arith, high, few)) (omega (arith, short, size));
       modest = modest_at terms script (Call t o r ∷ above) h whole;
     } in
     (small_at terms script (Call t o r ∷ above) h whole short, replied terms h t o r can legal.2.reply)

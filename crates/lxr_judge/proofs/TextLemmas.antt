@@ -8,7 +8,7 @@ use Rattle.std.proofs.lemmas.Option.{slice_get-map}
 use Rattle.lxr_graph.specs.declared.Op.{Op}
 use Rattle.lxr_graph.specs.declared.Op.TheVariants as op
 use Rattle.lxr_graph.specs.declared.Reply.{Reply}
-use Rattle.lxr_graph.specs.History.{PauseReport, Item, Call, Pause}
+use Rattle.lxr_graph.specs.History.{PauseReport, Item, Call, Pause, Renew}
 use Rattle.lxr_graph.proofs.RowLemmas.{slice_get-push}
 use Rattle.lxr_text_script.specs.Lines.{Text}
 use Rattle.lxr_text_script.specs.Spelling.{joined}
@@ -35,11 +35,13 @@ printed_lines counts report = map joined (report_words (words_of_report counts r
 
 abbrev pub gathered_reports : Bool → List Item → Gathered Text
 gathered_reports counts [] = nothing_gathered
+gathered_reports counts (Renew ns ∷ h) = nothing_gathered
 gathered_reports counts (Call t o r ∷ h) = gathered_reports counts h
 gathered_reports counts (Pause report ∷ h) = with_report (gathered_reports counts h) (words_of_report counts report)
 
 reports_read : (counts : Bool) (threads : ℕ) (h : List Item) → AreSmall h → ReadsReports counts threads (reports_text counts h) (gathered_reports counts h)
 reports_read counts threads [] small = nothing_read counts threads
+reports_read counts threads (Renew ns ∷ h) small = nothing_read counts threads
 reports_read counts threads (Call t o r ∷ h) small = reports_read counts threads h small.0
 reports_read counts threads (Pause report ∷ h) small =
     let g = gathered_reports counts h in
@@ -50,12 +52,14 @@ reports_read counts threads (Pause report ∷ h) small =
 -- each report has its lines
 reports_grouped : (counts : Bool) (h : List Item) → HasGroups (gathered_reports counts h).reports (map (printed_lines counts) (reports_of h))
 reports_grouped counts [] = no_groups
+reports_grouped counts (Renew ns ∷ h) = no_groups
 reports_grouped counts (Call t o r ∷ h) = reports_grouped counts h
 reports_grouped counts (Pause report ∷ h) =
     rw (map_push (printed_lines counts) (reports_of h) report) (one_group (gathered_reports counts h).reports (map (printed_lines counts) (reports_of h)) (printed_lines counts report) (reports_grouped counts h))
 
 no_replies : (counts : Bool) (h : List Item) → (gathered_reports counts h).replies ≡ no_lines
 no_replies counts [] = refl
+no_replies counts (Renew ns ∷ h) = refl
 no_replies counts (Call t o r ∷ h) = no_replies counts h
 no_replies counts (Pause report ∷ h) = no_replies counts h
 
@@ -77,6 +81,7 @@ said o r = joined (word_of o ∷ answer_of r ∷ []) ∷ []
 -- the lines of thread t's replies
 abbrev pub said_lines : ℕ → List Item → List Text
 said_lines t [] = []
+said_lines t (Renew ns ∷ h) = []
 said_lines t (Pause report ∷ h) = said_lines t h
 said_lines t (Call u o r ∷ h) = if nat_eq t u then said_lines t h ++ said o r else said_lines t h
 
@@ -87,6 +92,7 @@ said_ended o r = refl
 -- with their line feeds they are the lines that are printed
 said_replied : (t : ℕ) (h : List Item) → map ended (said_lines t h) ≡ replied_lines t h
 said_replied t [] = refl
+said_replied t (Renew ns ∷ h) = refl
 said_replied t (Pause report ∷ h) = said_replied t h
 said_replied t (Call u o r ∷ h) = elim (nat_eq t u) as (λ b. map ended (if b then said_lines t h ++ said o r else said_lines t h) ≡ (if b then replied_lines t h ++ call_lines o r else replied_lines t h)) [
   | true ↦ map-append ended (said_lines t h) (said o r) ∙ (λ i. said_replied t h i ++ said_ended o r i)
@@ -102,6 +108,7 @@ module _ (counts : Bool) (threads t : ℕ) (g : Gathered Text) where
   -- all its calls are
   thread_read : (text : Text) (h : List Item) → AreSmall h → ReadsThreads counts threads t (text ++ heading_text t) (with_thread g []) → ReadsThreads counts threads t (text ++ thread_text t h) (with_thread g (said_lines t h))
   thread_read text [] small reads = rw (append-nil (heading_text t)) reads
+  thread_read text (Renew ns ∷ h) small reads = rw (append-nil (heading_text t)) reads
   thread_read text (Pause report ∷ h) small reads = thread_read text h small.0 reads
   thread_read text (Call u o r ∷ h) small reads =
       let before = thread_read text h small.0 reads in

@@ -9,7 +9,7 @@ use Rattle.lxr_graph.specs.declared.Reply.{Reply}
 use Rattle.lxr_graph.specs.declared.report.Kind.{Kind}
 use Rattle.lxr_graph.specs.declared.report.Kind.TheVariants as kind
 use Rattle.lxr_graph.specs.Step.{IsWellFormed}
-use Rattle.lxr_graph.specs.History.{PauseReport, Item, Call, Pause}
+use Rattle.lxr_graph.specs.History.{PauseReport, Item, Call, Pause, Renew}
 use Rattle.lxr_text_script.specs.Lines.{Text}
 use Rattle.lxr_text_print.specs.Reports.{report_text}
 use Rattle.lxr_graph.specs.declared.Item as ordered
@@ -128,6 +128,7 @@ own_passed e h t o r passes =
     }
 
 pub call_passed : (e : Evidence) (h : List Item) (t : ℕ) (x : Item) → slice_get e.order (length h) ≡ Some (ordered_as.Call t) → Passes e h x → CallPassed e h t
+call_passed e h t (Renew ns) place passes = absurd passes.belongs
 call_passed e h t (Pause report) place passes = no_pause (slice_get e.order (length h)) t place (pause_is e h (slice_get e.order (length h)) report passes.takes).0
 call_passed e h t (Call u o r) place passes =
     let same = same_place (slice_get e.order (length h)) t u place (call_is e h (slice_get e.order (length h)) u o r passes.takes).0 in
@@ -135,6 +136,7 @@ call_passed e h t (Call u o r) place passes =
 
 -- what passes in the place of a pause is a pause
 pub pause_in_place : (e : Evidence) (h : List Item) (x : Item) → slice_get e.order (length h) ≡ Some ordered_as.Pause → Passes e h x → (report : PauseReport) × (x ≡ Pause report)
+pause_in_place e h (Renew ns) place passes = absurd passes.belongs
 pause_in_place e h (Pause report) place passes = (report, refl)
 pause_in_place e h (Call t o r) place passes = no_pause (slice_get e.order (length h)) t (call_is e h (slice_get e.order (length h)) t o r passes.takes).0 place
 

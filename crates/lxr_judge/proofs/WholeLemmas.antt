@@ -6,15 +6,17 @@ use Rattle.std.specs.List.{list_any}
 use Rattle.std.proofs.lemmas.Bool.{or_right, cond-false, cases_Bool}
 use Rattle.std.proofs.lemmas.List.{length_push}
 use Rattle.std.proofs.lemmas.Option.{slice_get_within, none-some}
+use Rattle.lxr_layout.specs.declared.Name.{Name}
 use Rattle.lxr_graph.specs.declared.Op.{Op}
 use Rattle.lxr_graph.specs.declared.Op.TheVariants as op
 use Rattle.lxr_graph.specs.declared.Reply.{Reply}
 use Rattle.lxr_graph.specs.declared.Reply.TheVariants as reply
-use Rattle.lxr_graph.specs.History.{PauseReport, Item, Call, Pause, calls_of}
+use Rattle.lxr_graph.specs.History.{PauseReport, Item, Call, Pause, Renew, calls_of}
 use Rattle.lxr_text_script.specs.Lines.{Text}
 use Rattle.lxr_graph.specs.declared.Item as ordered
 use Rattle.lxr_graph.specs.declared.Item.TheVariants as ordered_as
 use Rattle.lxr_model.specs.Terms.{Terms}
+use Rattle.lxr_model.proofs.UnrenewedLemmas.{IsUnrenewed}
 use Rattle.lxr_model.specs.Kinds.{ends}
 use Rattle.lxr_model.specs.Legal.{IsWaitedFor, IsLegalSoFar, IsLegal}
 use Rattle.lxr_model.specs.Belongs.{operations_of, next_operation, is_new, writes_reference, AskedPausesComeFirst, TurnsAreShort, IsCauseOf, PausesHaveCauses, LastPauseWasEarly, EndsWithPause, Belongs}
@@ -22,7 +24,7 @@ use Rattle.lxr_judge.specs.Evidence.{Evidence, reply_lines}
 use Rattle.lxr_judge.specs.Taking.{next_line, TakesBy, AreTaken, TakesAll, IsHistoryOf}
 use Rattle.lxr_judge.specs.Passing.{is_call_of, is_pause, HasLine, HasNextCall, GoesOn, IsReason, IsWaiting, HasWaiting, HasReason, KeepsPoints, AllPass}
 use Rattle.lxr_judge.specs.Laws.{GoodItemsPass}
-use Rattle.lxr_judge.proofs.GoodLemmas.{stands_behind, waited_whoever}
+use Rattle.lxr_judge.proofs.GoodLemmas.{pass_taken, stands_behind, waited_whoever}
 
 -- the items above, oldest first, on top of a history
 abbrev pub onto : List Item → List Item → List Item
@@ -35,56 +37,88 @@ taken_at : (e : Evidence) (above h : List Item) → AreTaken e (onto above h) �
 taken_at e [] h all = all
 taken_at e (x ∷ above) h all = (taken_at e above (x ∷ h) all).0
 
+-- nothing takes a renewal
+takes_none : (e : Evidence) (h : List Item) (place : Option ordered.Item) (ns : List Name) → TakesBy e h place (Renew ns) → ⊥
+takes_none e h None ns takes = takes
+takes_none e h (Some (ordered_as.Call t)) ns takes = takes
+takes_none e h (Some ordered_as.Pause) ns takes = takes
+
+-- names are never renewed below either
+unrenewed_below : (x : Item) (h : List Item) → IsUnrenewed (x ∷ h) → IsUnrenewed h
+unrenewed_below (Renew ns) h none = absurd none
+unrenewed_below (Pause report) h none = none
+unrenewed_below (Call t o r) h none = none
+
+pub unrenewed_at : (above h : List Item) → IsUnrenewed (onto above h) → IsUnrenewed h
+unrenewed_at [] h none = none
+unrenewed_at (x ∷ above) h none = unrenewed_below x h (unrenewed_at above (x ∷ h) none)
+
+-- what is taken is no renewal
+taken_unrenewed : (e : Evidence) (h : List Item) → AreTaken e h → IsUnrenewed h
+taken_unrenewed e [] all = tt
+taken_unrenewed e (Pause report ∷ h) all = taken_unrenewed e h all.0
+taken_unrenewed e (Call t o r ∷ h) all = taken_unrenewed e h all.0
+taken_unrenewed e (Renew ns ∷ h) all = takes_none e h (slice_get e.order (length h)) ns all.1
+
+pub pass_unrenewed : (e : Evidence) (h : List Item) → AllPass e h → IsUnrenewed h
+pass_unrenewed e h all = taken_unrenewed e h (pass_taken e h all)
+
 pub legal_at : (terms : Terms) (above h : List Item) → IsLegalSoFar terms (onto above h) → IsLegalSoFar terms h
 legal_at terms [] h all = all
 legal_at terms (x ∷ above) h all = (legal_at terms above (x ∷ h) all).0
 
 -- a call joins what was asked of the calls below it
-asked_below : (x : Item) (h : List Item) → AskedPausesComeFirst (x ∷ h) → AskedPausesComeFirst h
-asked_below (Pause report) h all = all
-asked_below (Call t o r) h all = all.0
+asked_below : (x : Item) (h : List Item) → IsUnrenewed (x ∷ h) → AskedPausesComeFirst (x ∷ h) → AskedPausesComeFirst h
+asked_below (Renew ns) h none all = absurd none
+asked_below (Pause report) h none all = all
+asked_below (Call t o r) h none all = all.0
 
-asked_at : (above h : List Item) → AskedPausesComeFirst (onto above h) → AskedPausesComeFirst h
-asked_at [] h all = all
-asked_at (x ∷ above) h all = asked_below x h (asked_at above (x ∷ h) all)
+asked_at : (above h : List Item) → IsUnrenewed (onto above h) → AskedPausesComeFirst (onto above h) → AskedPausesComeFirst h
+asked_at [] h none all = all
+asked_at (x ∷ above) h none all = asked_below x h (unrenewed_at above (x ∷ h) none) (asked_at above (x ∷ h) none all)
 
-turns_below : (terms : Terms) (x : Item) (h : List Item) → TurnsAreShort terms (x ∷ h) → TurnsAreShort terms h
-turns_below terms (Pause report) h all = all
-turns_below terms (Call t o r) h all = all.0
+turns_below : (terms : Terms) (x : Item) (h : List Item) → IsUnrenewed (x ∷ h) → TurnsAreShort terms (x ∷ h) → TurnsAreShort terms h
+turns_below terms (Renew ns) h none all = absurd none
+turns_below terms (Pause report) h none all = all
+turns_below terms (Call t o r) h none all = all.0
 
-turns_at : (terms : Terms) (above h : List Item) → TurnsAreShort terms (onto above h) → TurnsAreShort terms h
-turns_at terms [] h all = all
-turns_at terms (x ∷ above) h all = turns_below terms x h (turns_at terms above (x ∷ h) all)
+turns_at : (terms : Terms) (above h : List Item) → IsUnrenewed (onto above h) → TurnsAreShort terms (onto above h) → TurnsAreShort terms h
+turns_at terms [] h none all = all
+turns_at terms (x ∷ above) h none all = turns_below terms x h (unrenewed_at above (x ∷ h) none) (turns_at terms above (x ∷ h) none all)
 
-causes_below : (e : Evidence) (x : Item) (h : List Item) → PausesHaveCauses e.terms e.script (x ∷ h) → PausesHaveCauses e.terms e.script h
-causes_below e (Pause report) h all = all.0
-causes_below e (Call t o r) h all = all
+causes_below : (e : Evidence) (x : Item) (h : List Item) → IsUnrenewed (x ∷ h) → PausesHaveCauses e.terms e.script (x ∷ h) → PausesHaveCauses e.terms e.script h
+causes_below e (Renew ns) h none all = absurd none
+causes_below e (Pause report) h none all = all.0
+causes_below e (Call t o r) h none all = all
 
-causes_at : (e : Evidence) (above h : List Item) → PausesHaveCauses e.terms e.script (onto above h) → PausesHaveCauses e.terms e.script h
-causes_at e [] h all = all
-causes_at e (x ∷ above) h all = causes_below e x h (causes_at e above (x ∷ h) all)
+causes_at : (e : Evidence) (above h : List Item) → IsUnrenewed (onto above h) → PausesHaveCauses e.terms e.script (onto above h) → PausesHaveCauses e.terms e.script h
+causes_at e [] h none all = all
+causes_at e (x ∷ above) h none all = causes_below e x h (unrenewed_at above (x ∷ h) none) (causes_at e above (x ∷ h) none all)
 
 -- ---- pauses but the last are early
 
 -- while not all threads have ended, they hadn't at the last pause
 ends_early : (terms : Terms) (h : List Item) → ends h < terms.threads → LastPauseWasEarly terms h
 ends_early terms [] lt = tt
+ends_early terms (Renew ns ∷ h) lt = tt
 ends_early terms (Pause report ∷ h) lt = lt
 ends_early terms (Call t op.End r ∷ h) lt = ends_early terms h (omega (arith, lt))
 ends_early terms (Call t o r ∷ h) lt = ends_early terms h lt
 
-early_below : (terms : Terms) (x : Item) (h : List Item) → LastPauseWasEarly terms (x ∷ h) → LastPauseWasEarly terms h
-early_below terms (Pause report) h lt = ends_early terms h lt
-early_below terms (Call t o r) h early = early
+early_below : (terms : Terms) (x : Item) (h : List Item) → IsUnrenewed (x ∷ h) → LastPauseWasEarly terms (x ∷ h) → LastPauseWasEarly terms h
+early_below terms (Renew ns) h none early = absurd none
+early_below terms (Pause report) h none lt = ends_early terms h lt
+early_below terms (Call t o r) h none early = early
 
 early_under : (terms : Terms) (x : Item) (h : List Item) → EndsWithPause terms (x ∷ h) → LastPauseWasEarly terms h
+early_under terms (Renew ns) h last = absurd last
 early_under terms (Pause report) h last = last.1
 early_under terms (Call t o r) h last = absurd last
 
 -- below the last item the last pause was early
-end_early : (terms : Terms) (x : Item) (above h : List Item) → EndsWithPause terms (onto above (x ∷ h)) → LastPauseWasEarly terms h
-end_early terms x [] h last = early_under terms x h last
-end_early terms x (y ∷ above) h last = early_below terms x h (end_early terms y above (x ∷ h) last)
+end_early : (terms : Terms) (x : Item) (above h : List Item) → IsUnrenewed (onto above (x ∷ h)) → EndsWithPause terms (onto above (x ∷ h)) → LastPauseWasEarly terms h
+end_early terms x [] h none last = early_under terms x h last
+end_early terms x (y ∷ above) h none last = early_below terms x h (unrenewed_at (y ∷ above) (x ∷ h) none) (end_early terms y above (x ∷ h) none last)
 
 -- ---- calls above
 
@@ -105,6 +139,7 @@ behind_less p (x ∷ items) (suc n) some = behind_less p items n some
 -- a thread that has more calls with the items above has one in the order from there on
 called_above : (e : Evidence) (t : ℕ) (above h : List Item) → AreTaken e (onto above h) → length (calls_of t h) < length (calls_of t (onto above h)) → IsTrue (list_any (is_call_of t) (drop (length h) e.order))
 called_above e t [] h all lt = absurd (omega (arith, lt))
+called_above e t (Renew ns ∷ above) h all lt = absurd (unrenewed_at above (Renew ns ∷ h) (taken_unrenewed e (onto above (Renew ns ∷ h)) all))
 called_above e t (Pause report ∷ above) h all lt = behind_less (is_call_of t) e.order (length h) (called_above e t above (Pause report ∷ h) all lt)
 called_above e t (Call u o r ∷ above) h all lt = elim (cases_Bool (nat_eq t u)) [
   | inl same ↦ stands_behind (is_call_of t) e.order (length h) (length h) (ordered_as.Call u)
@@ -187,8 +222,9 @@ nothing_behind p (x ∷ items) (suc n) all some = nothing_behind p items n (omeg
 has_reason : (e : Evidence) (above g : List Item) (report : PauseReport) → IsWhole e (onto above (Pause report ∷ g)) → HasReason e g
 has_reason e [] g report whole = λ again. absurd (nothing_behind is_pause e.order (suc (length g)) whole.is_its.order again.behind)
 has_reason e (x ∷ above) g report whole = λ again.
-    let early : ends g < e.terms.threads = end_early e.terms x above (Pause report ∷ g) whole.belongs.last in
-    elim (causes_at e (x ∷ above) (Pause report ∷ g) whole.belongs.causes).1 [
+    let none = taken_unrenewed e (onto above (x ∷ Pause report ∷ g)) whole.is_its.taken in
+    let early : ends g < e.terms.threads = end_early e.terms x above (Pause report ∷ g) none whole.belongs.last in
+    elim (causes_at e (x ∷ above) (Pause report ∷ g) none whole.belongs.causes).1 [
       | inl all ↦ absurd (omega (arith, early, all))
       | inr found ↦ (found.0, reason_at e (x ∷ above) g report whole found.0 found.1 found.2 found.3)
     ]
@@ -196,6 +232,7 @@ has_reason e (x ∷ above) g report whole = λ again.
 -- ---- a `new` that waits
 
 waits_at : (e : Evidence) (x : Item) (above g : List Item) (report : PauseReport) → IsWhole e (onto above (x ∷ Pause report ∷ g)) → IsWaitedFor e.terms g x → (t : ℕ) × (o : Op) × IsWaiting e g t o
+waits_at e (Renew ns) above g report whole waits = absurd waits
 waits_at e (Pause other) above g report whole waits = absurd waits
 waits_at e (Call t o r) above g report whole waits =
     let here = call_place e (Pause report ∷ g) (slice_get e.order (suc (length g))) t o r (taken_at e above (Call t o r ∷ Pause report ∷ g) whole.is_its.taken).1 in
@@ -220,7 +257,10 @@ has_waiting e (x ∷ above) g report whole = λ waits.
 
 points_at : (e : Evidence) (above h : List Item) (x : Item) → IsWhole e (onto above (x ∷ h)) → KeepsPoints e h x
 points_at e above h (Pause report) whole = (has_waiting e above h report whole, has_reason e above h report whole)
-points_at e above h (Call t o r) whole = ((asked_at above (Call t o r ∷ h) whole.belongs.asked).1, (turns_at e.terms above (Call t o r ∷ h) whole.belongs.turns).1)
+points_at e above h (Call t o r) whole =
+    let none = taken_unrenewed e (onto above (Call t o r ∷ h)) whole.is_its.taken in
+    ((asked_at above (Call t o r ∷ h) none whole.belongs.asked).1, (turns_at e.terms above (Call t o r ∷ h) none whole.belongs.turns).1)
+points_at e above h (Renew ns) whole = absurd (taken_unrenewed e (Renew ns ∷ h) (taken_at e above (Renew ns ∷ h) whole.is_its.taken))
 
 all_pass : (e : Evidence) (above h : List Item) → IsWhole e (onto above h) → AllPass e h
 all_pass e above [] whole = tt

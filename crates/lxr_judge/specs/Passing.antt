@@ -5,7 +5,7 @@ use Rattle.std.specs.List.{list_any}
 use Rattle.lxr_graph.specs.declared.Op.{Op}
 use Rattle.lxr_graph.specs.declared.Op.TheVariants as op
 use Rattle.lxr_graph.specs.declared.Reply.TheVariants as reply
-use Rattle.lxr_graph.specs.History.{PauseReport, Item, Call, Pause}
+use Rattle.lxr_graph.specs.History.{PauseReport, Item, Call, Pause, Renew}
 use Rattle.lxr_text_script.specs.Lines.{Text}
 use Rattle.lxr_graph.specs.declared.Item as ordered
 use Rattle.lxr_graph.specs.declared.Item.TheVariants as ordered_as
@@ -79,10 +79,11 @@ HasWaiting e h report = StandsForWaiting e.terms h report → (t : ℕ) × (o : 
 -- ---- passing
 
 -- an item keeps the points of belonging behind h: a call of a thread that has neither asked for a pause nor had its turn; a pause with a
--- reason
+-- reason; names are never renewed in a script's run
 abbrev pub KeepsPoints : Evidence → List Item → Item → Type 0
 KeepsPoints e h (Call t o r) = (has_asked t h ≡ false) × (calls_since_pause t (Call t o r ∷ h) ≤ e.terms.every + 1)
 KeepsPoints e h (Pause report) = HasWaiting e h report × HasReason e h
+KeepsPoints e h (Renew ns) = ⊥
 
 -- the item of the order that stands where h ends passes with x: this is what it takes, it is legal behind h, and it keeps the points
 pub record Passes (e : Evidence) (h : List Item) (x : Item) : Type 0 where

@@ -5,7 +5,7 @@ use Rattle.lxr_graph.specs.declared.Op.{Op}
 use Rattle.lxr_graph.specs.declared.Op.TheVariants as op
 use Rattle.lxr_graph.specs.declared.Reply.{Reply}
 use Rattle.lxr_graph.specs.declared.Reply.TheVariants as reply
-use Rattle.lxr_graph.specs.History.{Item, Call, Pause, calls_of}
+use Rattle.lxr_graph.specs.History.{Item, Call, Pause, Renew, calls_of}
 use Rattle.lxr_text_script.specs.Lines.{Text}
 use Rattle.lxr_text_print.specs.Replies.{call_text}
 use Rattle.lxr_text_print.specs.Reports.{report_text}
@@ -17,6 +17,7 @@ use Rattle.lxr_judge.specs.Evidence.{Evidence, report_count, report_lines, reply
 -- how many pauses a history has
 abbrev pub pauses_in : List Item → ℕ
 pauses_in [] = 0
+pauses_in (Renew ns ∷ h) = 0
 pauses_in (Pause report ∷ h) = suc (pauses_in h)
 pauses_in (Call t o r ∷ h) = pauses_in h
 
@@ -40,6 +41,7 @@ next_line e t h = slice_get (reply_lines e t) (length (calls_of t h))
 abbrev pub IsNextCall : Evidence → List Item → ℕ → Item → Type 0
 IsNextCall e h t (Call u o r) = (u ≡ t) × (next_operation e.script t h ≡ Some o) × IsPrinted o r (next_line e t h)
 IsNextCall e h t (Pause report) = ⊥
+IsNextCall e h t (Renew ns) = ⊥
 
 -- the text of lines
 abbrev pub text_of : List Text → Text
@@ -53,6 +55,7 @@ with_line text (Some line) = text ++ line ++ codes "\n"
 -- an item behind h is the next pause: the next report says its report, but for counts where they aren't printed
 abbrev pub IsNextPause : Evidence → List Item → Item → Type 0
 IsNextPause e h (Call t o r) = ⊥
+IsNextPause e h (Renew ns) = ⊥
 IsNextPause e h (Pause report) = (pauses_in h < report_count e) × (report_text e.counts report ≡ text_of (report_lines e (pauses_in h)))
 
 -- an item of a history is what an item of the order takes behind h

@@ -8,7 +8,8 @@ use Rattle.lxr_layout.specs.declared.Name.{Name}
 use Rattle.lxr_graph.specs.declared.report.Count.{Count}
 use Rattle.lxr_graph.specs.Names.{AreInOrder, has, name_order}
 use Rattle.lxr_graph.specs.State.{world_name}
-use Rattle.lxr_large_model.specs.Renewing.{AreCounted, counted_name, renewed_name, serial_in}
+use Rattle.lxr_graph.specs.Renewing.{renewed_name, serial_in}
+use Rattle.lxr_large_model.specs.Renewing.{AreCounted, counted_name}
 use Rattle.lxr_large_model.proofs.SerialLemmas.{first_is_world, other_is_renewed, serial_less, serial_some, serial_tells}
 use Rattle.lxr_large_bodies.specs.declared.entries.Entry.{Entry}
 use Rattle.lxr_large_bodies.specs.Blocks.{AreTaken, AreWithin, block_count, covers}

@@ -6,7 +6,8 @@ use Rattle.lxr_layout.specs.declared.TheConstants.{WORDS_IN_BLOCK}
 use Rattle.lxr_graph.specs.declared.report.Count.{Count}
 use Rattle.lxr_graph.specs.Names.{has, same_name}
 use Rattle.lxr_graph.specs.History.{PauseReport}
-use Rattle.lxr_large_model.specs.Renewing.{counted_name, renewed_name}
+use Rattle.lxr_graph.specs.Renewing.{renewed_name}
+use Rattle.lxr_large_model.specs.Renewing.{counted_name}
 
 -- the body of a large name: its first block and how many it has, whether it was placed since the last pause, and its words
 pub record Body : Type 0 where

@@ -4,7 +4,7 @@ use Rattle.std.specs.List.{AllByRecursion}
 use Rattle.lxr_layout.specs.declared.Name.{Name}
 use Rattle.lxr_layout.specs.declared.TheConstants.{WORDS_IN_BLOCK}
 use Rattle.lxr_graph.specs.Names.{has, same_name}
-use Rattle.lxr_large_model.specs.Renewing.{renewed_name}
+use Rattle.lxr_graph.specs.Renewing.{renewed_name}
 use Rattle.lxr_large_bodies.specs.declared.entries.Entry.{Entry}
 use Rattle.lxr_large_bodies.specs.Blocks.{AreTaken, AreWithin}
 use Rattle.lxr_large_bodies.specs.Bodies.{Body, rank_of}

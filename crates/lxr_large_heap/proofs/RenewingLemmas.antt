@@ -20,12 +20,12 @@ use Rattle.lxr_graph.specs.declared.report.Kind.{Kind}
 use Rattle.lxr_graph.specs.declared.report.Kind.TheVariants as kind
 use Rattle.lxr_graph.proofs.NameSets.{same_names}
 use Rattle.lxr_image.specs.declared.space.Space.{Space}
-use Rattle.lxr_image.specs.declared.space.Tally.{Tally}
 use Rattle.lxr_image.specs.Opened.{no_tally}
 use Rattle.lxr_model.specs.Moments.{Moment, unreclaimed_after}
 use Rattle.lxr_model.specs.Reachable.{Reachable, Refers, held}
 use Rattle.lxr_model.specs.Reports.{AreCounts, count_entry, is_draining}
 use Rattle.lxr_model_counting.proofs.DistinctLemmas.{later_has}
+use Rattle.lxr_invariant.specs.Quiescent.{IsAtRest}
 use Rattle.lxr_invariant.specs.AbstractState.{AbstractState}
 use Rattle.lxr_full.specs.Room.{HasWorld}
 use Rattle.lxr_large_model.specs.declared.LargeOp.{LargeOp}
@@ -35,7 +35,9 @@ use Rattle.lxr_large_model.specs.declared.LargeReply.TheVariants as large_reply
 use Rattle.lxr_large_model.specs.Full.{IsFresh, LargeTerms}
 use Rattle.lxr_large_model.specs.History.{LargeItem, Called, Paused, Renewed, large_moment, large_state}
 use Rattle.lxr_large_model.specs.Pauses.{IsLegalLarge}
-use Rattle.lxr_large_model.specs.Renewing.{AreCounted, counted_name, renewed_body, renewed_graph, renewed_held, renewed_moment, renewed_name, renewed_object, renewed_state}
+use Rattle.lxr_graph.specs.Renewing.{renewed_graph, renewed_held, renewed_name, renewed_object, renewed_state}
+use Rattle.lxr_model.specs.Moments.{renewed_moment}
+use Rattle.lxr_large_model.specs.Renewing.{AreCounted, counted_name, renewed_body}
 use Rattle.lxr_large_model.specs.State.{Large, LargeState}
 use Rattle.lxr_large_bodies.specs.Bodies.{AreAmong, Body, Held, renamed}
 use Rattle.lxr_large_bodies.specs.Kept.{HoldsBodies, Kept, kept_of}
@@ -78,7 +80,7 @@ begins_with_world (m ∷ ms) order h = elim (or_cases (same_name world_name m) (
 same_state : (h : List LargeItem) → IsFresh h → (large_moment h).last ≡ (large_moment h).state
 same_state [] fresh = absurd fresh
 same_state (Paused report ∷ h) fresh = refl
-same_state (Renewed ns ∷ h) fresh = ap (renewed_state ns) (same_state h fresh)
+same_state (Renewed ns ∷ h) fresh = ap (renewed_state 1 ns) (same_state h fresh)
 same_state (Called (large_op.Small (op.New dest shape)) (large_reply.Small reply.Full) ∷ h) fresh = same_state h fresh
 same_state (Called (large_op.Big dest blocks) large_reply.Full ∷ h) fresh = same_state h fresh
 same_state (Called o r ∷ h) fresh = absurd fresh
@@ -213,7 +215,7 @@ module _ (x : Heap) (h : List LargeItem) (is : IsHeapOf x h) (fresh : IsTrue x.f
   pub may_renew : MayRenew x.space (abstract_after h is.at) ns
   may_renew = record {
     rests = is.rests;
-    rows = two_rows x.space (abstract_after h is.at) is.rests (one_thread x h is);
+    rows = (let two = two_rows x.space (abstract_after h is.at) is.rests (one_thread x h is) in let one = one_thread x h is in omega (arith, two, one));
     settled = record { same = same_state h f; none_made = c.made; none_written = c.written };
     untraced = is.untraced;
     names = names;
@@ -273,34 +275,37 @@ module _ (x : Heap) (h : List LargeItem) (is : IsHeapOf x h) (fresh : IsTrue x.f
     none : space.pauses ≡ 0
     none = ap (λ (s : Space). s.pauses) r.space
 
+    rests : IsAtRest space (abstract_after (Renewed ns ∷ h) r.at)
+    rests = subst (λ t. IsAtRest space (record { moment = renewed_moment t ns m; at = r.at; reported = last_report h })) (one_thread x h is) r.rests
+
     terms : terms_of after ≡ terms_of x
     terms = λ i. record { blocks = (keeps i).blocks; bodies = x.bodies.blocks }
 
-    world : HasWorld (renewed_graph ns (large_state h).small.graph)
+    world : HasWorld (renewed_graph 1 ns (large_state h).small.graph)
     world =
         let o = is.world.0 in
         let shape = is.world.2 in
         (renewed_object ns (Some o), ap (λ z. Some (renewed_object ns z)) is.world.1, record { refs = length-map o.refs (renewed_held ns) ∙ shape.refs; values = shape.values })
 
-    bodies : HoldsBodies after.bodies (renewed_moment ns m) (large_state (Renewed ns ∷ h)).large
+    bodies : HoldsBodies after.bodies (renewed_moment 1 ns m) (large_state (Renewed ns ∷ h)).large
     bodies =
         let ls = (large_state h).large in
         kept_renamed ns x.bodies.bodies
         ∙ ap (λ ks. map (renamed_kept ns) ks) (is.bodies ∙ by_tests m ls)
         ∙ sym (large_renamed ns (has m.unreclaimed) (has m.made) (has (map (renewed_name ns) m.unreclaimed)) (has []) ls (large_left ls (of_thread x.made ls is.names))
         (λ n. ap (λ z. has z n) c.made) (λ n. refl) (λ n e. has_map (renewed_name ns) m.unreclaimed n (subst (λ us. IsTrue (has us n)) (sym names) (later n e))))
-        ∙ sym (by_tests (renewed_moment ns m) (large_state (Renewed ns ∷ h)).large)
+        ∙ sym (by_tests (renewed_moment 1 ns m) (large_state (Renewed ns ∷ h)).large)
       where
         later : (n : Name) → IsTrue (has ns n) → IsTrue (has (world_name ∷ ns) n)
         later n e = later_has world_name ns n e
 
-    exactly : (n : Name) → IsTrue (has (map (renewed_name ns) m.unreclaimed) n) ↔ Reachable (renewed_state ns m.state) n
+    exactly : (n : Name) → IsTrue (has (map (renewed_name ns) m.unreclaimed) n) ↔ Reachable (renewed_state 1 ns m.state) n
     exactly n = (
       λ e.
           let v = map_has (renewed_name ns) m.unreclaimed n e in
-          subst (Reachable (renewed_state ns m.state)) (sym v.2)
-          (reachable_still ns order m.state is_left (λ q reached. subst (λ us. IsTrue (has us q)) names ((c.exactly q).1 reached)) v.0 ((c.exactly v.0).0 v.1)),
-      λ reached. r.rests.safepoint.holds.follows.kept n (subst (λ (s : State). Reachable (renewed_state ns s) n) (sym (same_state h f)) reached),
+          subst (Reachable (renewed_state 1 ns m.state)) (sym v.2)
+          (reachable_still ns order 1 m.state is_left (λ q reached. subst (λ us. IsTrue (has us q)) names ((c.exactly q).1 reached)) v.0 ((c.exactly v.0).0 v.1)),
+      λ reached. rests.safepoint.holds.follows.kept n (subst (λ (s : State). Reachable (renewed_state 1 ns s) n) (sym (same_state h f)) reached),
     )
 
     pub renews_heap : RenewsHeap x after h
@@ -314,11 +319,11 @@ module _ (x : Heap) (h : List LargeItem) (is : IsHeapOf x h) (fresh : IsTrue x.f
       holds = record {
         legal = subst (λ t. IsLegalLarge t (Renewed ns ∷ h)) (sym terms) (is.legal, record { fresh = f; names = names });
         at = r.at;
-        rests = r.rests;
+        rests = rests;
         untraced = refl;
         limits = keeps ∙ is.limits ∙ ap (λ (l : Limits). limits_of l.blocks) (sym keeps);
-        tally = ap (λ (s : Space). s.tally) r.space ∙ ap (λ (t : Tally). record t { pauses = 0 }) is.tally ∙ ap (λ k. record no_tally { pauses = k }) (sym none);
-        state = ap (renewed_state ns) is.state;
+        tally = ap (λ (s : Space). s.tally) r.space ∙ ap (λ k. record no_tally { pauses = k }) (sym none);
+        state = ap (renewed_state 1 ns) is.state;
         world = world;
         next = ap (λ k. record { thread = 1; serial = k + 1 }) (length-map ns (λ n. renewed_object ns (object_at (large_state h).small.graph n)) ∙ sym all);
         counts = record {

@@ -15,7 +15,8 @@ use Rattle.lxr_graph.specs.declared.report.Count.{Count}
 use Rattle.lxr_graph.specs.Names.{AreInOrder, has, name_order, same_name}
 use Rattle.lxr_graph.specs.State.{world_name}
 use Rattle.lxr_graph.proofs.NameSets.{order_both, order_itself, same_names}
-use Rattle.lxr_large_model.specs.Renewing.{AreCounted, counted_name, renewed_name, serial_in}
+use Rattle.lxr_graph.specs.Renewing.{renewed_name, serial_in}
+use Rattle.lxr_large_model.specs.Renewing.{AreCounted, counted_name}
 
 -- ---- lists in order
 

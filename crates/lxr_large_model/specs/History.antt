@@ -4,12 +4,12 @@ use Rattle.lxr_layout.specs.declared.Name.{Name}
 use Rattle.lxr_graph.specs.declared.Op.TheVariants as op
 use Rattle.lxr_graph.specs.declared.Reply.TheVariants as reply
 use Rattle.lxr_graph.specs.History.{PauseReport}
-use Rattle.lxr_model.specs.Moments.{Moment, after_call, after_pause, opening_moment}
+use Rattle.lxr_model.specs.Moments.{Moment, after_call, after_pause, opening_moment, renewed_moment}
 use Rattle.lxr_large_model.specs.declared.LargeOp.{LargeOp}
 use Rattle.lxr_large_model.specs.declared.LargeOp.TheVariants as large_op
 use Rattle.lxr_large_model.specs.declared.LargeReply.{LargeReply}
 use Rattle.lxr_large_model.specs.declared.LargeReply.TheVariants as large_reply
-use Rattle.lxr_large_model.specs.Renewing.{renewed_large, renewed_moment}
+use Rattle.lxr_large_model.specs.Renewing.{renewed_large}
 use Rattle.lxr_large_model.specs.State.{LargeState, handle, large_opening}
 use Rattle.lxr_large_model.specs.Step.{large_after}
 
@@ -37,4 +37,4 @@ abbrev pub large_moment : List LargeItem → Moment
 large_moment [] = opening_moment 1
 large_moment (Called o r ∷ h) = after_large_call (large_moment h) o r
 large_moment (Paused report ∷ h) = after_pause (large_moment h) report
-large_moment (Renewed ns ∷ h) = renewed_moment ns (large_moment h)
+large_moment (Renewed ns ∷ h) = renewed_moment 1 ns (large_moment h)

@@ -2,7 +2,8 @@
 ghost use Rattle.std.specs.Prelude.{◌≡◌, ◌+◌, List, IsTrue, map};
 ghost use Rattle.lxr_layout.specs.declared.Name.{Name as NameOf};
 ghost use Rattle.lxr_graph.specs.Names.{AreInOrder, has};
-ghost use Rattle.lxr_large_model.specs.Renewing.{AreCounted, counted_name, renewed_name, serial_in};
+ghost use Rattle.lxr_graph.specs.Renewing.{renewed_name, serial_in};
+ghost use Rattle.lxr_large_model.specs.Renewing.{AreCounted, counted_name};
 
 use lxr_graph::Count;
 use lxr_layout::Name;

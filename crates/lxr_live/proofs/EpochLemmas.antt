@@ -14,7 +14,7 @@ use Rattle.lxr_mutator.specs.Mutators.{phase_again}
 use Rattle.lxr_core_invariant.specs.EpochStates.{Beginning}
 use Rattle.lxr_core.specs.declared.actors.AnyActor.{AnyActor}
 use Rattle.lxr_core.specs.declared.actors.AnyActor.TheVariants as any
-use Rattle.lxr_core.specs.Actors.{any_machine}
+use Rattle.lxr_core.specs.Actors.{any_machine, decrementers_in, mutators_in, script_of, tracers_in}
 use Rattle.lxr_core.specs.Closing.{AreResting, Closes, MayClose}
 use Rattle.lxr_core.specs.Collecting.{actor_given_up}
 use Rattle.lxr_core.specs.Executions.{Execution, HoldsExecution, tell_all}
@@ -25,7 +25,11 @@ use Rattle.lxr_core.proofs.ExecutionLemmas.{epoch_invariant_holds}
 use Rattle.lxr_core.proofs.MappedLemmas.{mapped}
 use Rattle.lxr_shared.specs.Sharing.{Sharing}
 use Rattle.lxr_shared_passes.specs.Passing.{Every, IsEnd, Passing}
-use Rattle.lxr_live.specs.Running.{IsRunning}
+use Rattle.lxr_run_threads.proofs.OpenedLemmas.{started_helpers}
+use Rattle.lxr_core.proofs.ScriptLemmas.{opened_script}
+use Rattle.lxr_live.specs.Living.{AreLive}
+use Rattle.lxr_live.specs.Running.{BeganWith, IsRunning}
+use Rattle.lxr_live.proofs.LivingLemmas.{live_opened}
 
 -- what two are some of is one
 some_same : (a b : AnyActor) → Some a ≡ Some b → a ≡ b
@@ -74,6 +78,16 @@ is_running b before opened resting started epoch begins opens holds opening spac
   core = sym opening;
   space_is = subst (λ (s : Space). s ≡ record b.space { words = s.words }) (sym space) (opens.space.rest ∙ ap (λ (s : Space). record s { words = opened.words }) (sym begins.space_is));
 }
+
+-- its actors are those that there were, as they begin again
+pub began_with : (before opened : Space) (resting started : List AnyActor) (epoch : Sharing) → Opens before opened resting started → epoch.opening ≡ core_of opened.words started → BeganWith resting epoch
+began_with before opened resting started epoch opens opening =
+    let helpers = started_helpers before.registers.items resting started opens.actors in record {
+      script = ap (λ (k : Core AnyActor). script_of (mutators_in k.actors)) opening ∙ opened_script before opened resting started opens;
+      decrementers = ap (λ (k : Core AnyActor). length (decrementers_in k.actors)) opening ∙ helpers.decrementers;
+      tracers = ap (λ (k : Core AnyActor). length (tracers_in k.actors)) opening ∙ helpers.tracers;
+      live = λ live. subst (λ (k : Core AnyActor). AreLive (mutators_in k.actors)) (sym opening) (live_opened before opened resting started opens live);
+    }
 
 -- ---- what it has come to
 

@@ -14,7 +14,8 @@ use Rattle.lxr_actor.specs.declared.Core.{Core}
 use Rattle.lxr_core.specs.declared.actors.AnyActor.{AnyActor}
 use Rattle.lxr_shared_passes.specs.Passing.{Passing, dealt}
 use Rattle.lxr_core.specs.Actors.{any_machine}
-use Rattle.lxr_live.specs.Gathering.{AreAll, AreGathered}
+use Rattle.lxr_live.specs.Gathering.{AreAll, AreGathered, actors_in}
+use Rattle.lxr_live.specs.Wanting.{IsPauseWanted}
 use Rattle.lxr_live.specs.Homes.{ArePassesFrom, HaveHomes, IsPassAt, TakesOut}
 use Rattle.lxr_live.specs.Stations.{Housed}
 
@@ -98,8 +99,8 @@ same_numbers epoch core from (p ∷ ps) (a ∷ actors) many are =
 -- ---- gathering
 
 -- none is left to gather
-pub gathered_all : (epoch : Housed) (number : ℕ) (before : List (Passing AnyActor)) → number ≡ length epoch.opening.actors → AreGathered epoch number before before
-gathered_all epoch number before last = record { passes = []; behind = sym (append-nil before); each = tt; all = omega (arith, last); rest = tt }
+pub gathered_all : (epoch : Housed) (number : ℕ) (before : List (Passing AnyActor)) → number ≡ length epoch.opening.actors → IsPauseWanted (actors_in before) → AreGathered epoch number before before
+gathered_all epoch number before last wanted = record { passes = []; behind = sym (append-nil before); each = tt; all = omega (arith, last); rest = tt; wanted = wanted }
 
 -- one is gathered, and then those behind it
 pub gathered_more : (epoch : Housed) (number : ℕ) (before with after : List (Passing AnyActor)) (p : Passing AnyActor) → with ≡ before ++ p ∷ [] → IsPassAt epoch.id number p → any_machine.rests p.actor ≡ true
@@ -111,12 +112,14 @@ gathered_more epoch number before with after p one is rests g =
       each = (is, subst (λ n. ArePassesFrom epoch.id n g.passes) next g.each);
       all = let all = g.all in omega (arith, all);
       rest = (rests, g.rest);
+      wanted = g.wanted;
     }
 
 -- from the first on, all are gathered
 pub all_gathered : (epoch : Housed) (before after : List (Passing AnyActor)) → before ≡ [] → AreGathered epoch 0 before after → AreAll epoch after
 all_gathered epoch before after nothing g =
-    subst (AreAll epoch) (sym (g.behind ∙ ap (λ ps. ps ++ g.passes) nothing)) (record { each = g.each; many = (let all = g.all in omega (arith, all)); rest = g.rest })
+    let same : after ≡ g.passes = g.behind ∙ ap (λ ps. ps ++ g.passes) nothing in
+    subst (AreAll epoch) (sym same) (record { each = g.each; many = (let all = g.all in omega (arith, all)); rest = g.rest; wanted = subst (λ ps. IsPauseWanted (actors_in ps)) same g.wanted })
 
 -- ---- settling
 

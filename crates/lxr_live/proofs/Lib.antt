@@ -1,4 +1,12 @@
 pub mod HomeLemmas
 pub mod ReplyLemmas
+pub mod UnitLemmas
+pub mod LivingLemmas
+pub mod WantingLemmas
+pub mod WantedLemmas
 pub mod EpochLemmas
 pub mod MakingLemmas
+pub mod RestingLemmas
+pub mod HeapLemmas
+pub mod RenewingLemmas
+pub mod IdleLemmas

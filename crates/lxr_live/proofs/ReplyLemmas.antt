@@ -1,7 +1,6 @@
 -- A unit of an actor changes nothing of what it was asked for, and leaves its replies or adds one to them.
-use Rattle.std.proofs.Common.{◌≡◌, ◌∙◌, ℕ, ◌+◌, ◌≤◌, Bool, true, false, Option, Some, None, List, [], ◌∷◌, ◌++◌, length, length-append, inl, inr, ⊎_elim, refl, sym, ap, subst, arith}
+use Rattle.std.proofs.Common.{◌≡◌, ◌∙◌, ℕ, ◌+◌, ◌-◌, ◌≤◌, Bool, true, false, Option, Some, None, List, [], ◌∷◌, ◌++◌, length, length-append, inl, inr, ⊎_elim, refl, sym, ap, subst, arith}
 use Rattle.std.specs.Prelude.{◌&&◌, ◌⊎◌, if◌then◌else◌, nat_eq, nat_le, nat_lt, slice_get, slice_index}
-use Rattle.std.proofs.lemmas.Option.{slice_get_past}
 use Rattle.lxr_layout.specs.declared.LogEntry.{LogEntry}
 use Rattle.lxr_layout.specs.declared.Place.{Place}
 use Rattle.lxr_layout.specs.declared.Shape.{Shape}
@@ -22,8 +21,11 @@ use Rattle.lxr_mutator.specs.declared.phases.MutEnd.TheVariants as ends
 use Rattle.lxr_mutator.specs.declared.phases.MutatorPhase.{MutatorPhase}
 use Rattle.lxr_mutator.specs.declared.phases.MutatorPhase.TheVariants as phase
 use Rattle.lxr_mutator.specs.declared.phases.Stop.TheVariants as stop
-use Rattle.lxr_mutator.specs.Mutating.{Mutating, nil, op_now, register, rests_in}
+use Rattle.std.specs.Option.{option_or}
+use Rattle.lxr_mutator.specs.Mutating.{Mutating, nil, op_now, register, reply_in, rests_in}
 use Rattle.lxr_mutator.specs.Orders.{takes_order, with_order}
+use Rattle.lxr_mutator.specs.Mutators.{MayTakeOrder}
+use Rattle.lxr_mutator.proofs.OrderLemmas.{takes_order_decides}
 use Rattle.lxr_mutator.specs.Operating.{dest_of, found_reply, index_of, indexed_fields}
 use Rattle.lxr_mutator.specs.Steps as mutator
 use Rattle.lxr_core.specs.declared.actors.AnyActor.{AnyActor}
@@ -33,7 +35,7 @@ use Rattle.lxr_shared.proofs.UnitEnds.{acted_actor}
 use Rattle.lxr_shared_passes.specs.Passing.{DoesStep, GoesOn, Passing, Told, Turned}
 use Rattle.lxr_live.specs.declared.station.Answer.{Answer}
 use Rattle.lxr_live.specs.declared.station.Answer.TheVariants as answer
-use Rattle.lxr_live.specs.Stations.{HasAnswered, HasGoneOn, HasNoMore, HasTurned, IsOpen, IsThrough, asked, replied}
+use Rattle.lxr_live.specs.Stations.{HasAnswered, HasGoneOn, HasNoMore, HasTurned, IsNoOrder, IsOpen, TakesUp, asked, newest_of, replied}
 
 -- no reply came, or one came and the actor rests
 pub record Grows (a b : AnyActor) : Type 0 where
@@ -171,39 +173,37 @@ abbrev pub answer_of : Option Reply → Answer
 answer_of (Some r) = answer.Done r
 answer_of None = answer.Waits
 
-read_last : (rs : List Reply) (r : Reply) → slice_get (rs ++ r ∷ []) (length rs) ≡ Some r
-read_last [] r = refl
-read_last (x ∷ rs) r = read_last rs r
+-- the last of some replies is the one behind the others
+read_last : (rs : List Reply) (r : Reply) → slice_get (rs ++ r ∷ []) (length (rs ++ r ∷ []) - 1) ≡ Some r
+read_last rs r = ap (slice_get (rs ++ r ∷ [])) (let more = length-append rs (r ∷ []) in omega (arith, more)) ∙ read_behind rs r
+  where
+    read_behind : (rs : List Reply) (r : Reply) → slice_get (rs ++ r ∷ []) (length rs) ≡ Some r
+    read_behind [] r = refl
+    read_behind (x ∷ rs) r = read_behind rs r
 
-some_same : (x y : Reply) → Some x ≡ Some y → x ≡ y
-some_same x y e = cc
+-- where one more reply came, it is the newest
+newest_came : (b : AnyActor) (rs : List Reply) (r : Reply) → replied b ≡ rs ++ r ∷ [] → newest_of b ≡ Some r
+newest_came (any.Mutator m) rs r e = ap (λ o. option_or o (reply_in m.end)) (ap (λ xs. slice_get xs (length xs - 1)) e ∙ read_last rs r)
+newest_came (any.Decrementer d) rs r e = let none = ap length e in let more = length-append rs (r ∷ []) in absurd (omega (arith, none, more))
+newest_came (any.Tracer d) rs r e = let none = ap length e in let more = length-append rs (r ∷ []) in absurd (omega (arith, none, more))
 
--- where one more reply came, it is read behind those that there were
-came_last : (a b : AnyActor) (r : Reply) → replied b ≡ replied a ++ r ∷ [] → slice_get (replied b) (length (replied a)) ≡ Some r
-came_last a b r e = ap (λ rs. slice_get rs (length (replied a))) e ∙ read_last (replied a) r
-
--- where none came, nothing is read there
-came_none : (a b : AnyActor) → replied b ≡ replied a → slice_get (replied b) (length (replied a)) ≡ None
-came_none a b e = ap (λ rs. slice_get rs (length (replied a))) e ∙ slice_get_past (replied a) (length (replied a)) (omega arith)
-
--- what is read behind the replies that there were is the one that came
-pub gone_on : (p q : Passing AnyActor) (o : Option Reply) → IsOpen p.actor → HasTurned p q → o ≡ slice_get (replied q.actor) (length (replied p.actor)) → HasGoneOn p o q
-gone_on p q None pending turned read =
+-- as many replies as before are those of before
+pub none_came : (p q : Passing AnyActor) → IsOpen p.actor → HasTurned p q → length (replied q.actor) ≡ length (replied p.actor) → HasGoneOn p None q
+none_came p q pending turned same =
     let g = turn_grows turned.0 p q turned.1 in (
       λ _. turned,
       g.same,
-      ⊎_elim (λ e. e) (λ t. let came = came_last p.actor q.actor t.0 t.1 in absurd (cc)) g.replies,
+      ⊎_elim (λ e. e) (λ t. let more = ap length t.1 ∙ length-append (replied p.actor) (t.0 ∷ []) in absurd (omega (arith, more, same))) g.replies,
     )
-gone_on p q (Some r) pending turned read =
-    let g = turn_grows turned.0 p q turned.1 in (
-      turned,
-      pending,
-      g.same,
-      ⊎_elim
-          (λ e. let none = came_none p.actor q.actor e in absurd (cc))
-          (λ t. t.1 ∙ ap (λ x. replied p.actor ++ x ∷ []) (some_same t.0 r (sym (came_last p.actor q.actor t.0 t.1) ∙ sym read)))
-          g.replies,
-    )
+
+-- where there are others, one came, and it is the newest
+pub one_came : (p q : Passing AnyActor) (o : Option Reply) → IsOpen p.actor → HasTurned p q → ¬ (length (replied q.actor) ≡ length (replied p.actor)) → o ≡ newest_of q.actor → HasGoneOn p o q
+one_came p q o pending turned other read =
+    let g = turn_grows turned.0 p q turned.1 in
+    ⊎_elim
+    (λ e. absurd (other (ap length e)))
+    (λ t. subst (λ x. HasGoneOn p x q) (sym (read ∙ newest_came q.actor (replied p.actor) t.0 t.1)) (turned, pending, g.same, t.1))
+    g.replies
 
 -- ---- orders
 
@@ -222,17 +222,71 @@ order_taken (any.Mutator m) b o is = mutator_taken (takes_order m o) m o b (sym 
 order_taken (any.Decrementer d) b o is = let no : true ≡ false = ap (λ (t : AnyActor × Bool). t.1) is in absurd (cc)
 order_taken (any.Tracer t) b o is = let no : true ≡ false = ap (λ (x : AnyActor × Bool). x.1) is in absurd (cc)
 
--- an operation that was ordered where none was open is the open one, and what comes of it is what the order is answered with
-pub answered : (p r q : Passing AnyActor) (o : Op) (reply : Option Reply) → Told any_machine p (Order p.number o) r → (r.actor, true) ≡ any_machine.ordered p.actor o → ¬ IsThrough p.actor → ¬ IsOpen p.actor → HasNoMore p.actor
-    → HasGoneOn r reply q → HasAnswered p o (answer_of reply) q
-answered p r q o reply told is going shut no_more gone =
+-- what took an order may take it
+pub taken_up : (a b : AnyActor) (o : Op) → (b, true) ≡ any_machine.ordered a o → TakesUp a o
+taken_up (any.Mutator m) b o is = (takes_order_decides m o).0 (mutator_took (takes_order m o) m o (sym (ap (λ (t : AnyActor × Bool). t.1) is)))
+  where
+    mutator_took : (c : Bool) (m : Mutating) (o : Op) → (ordered_if c m o).1 ≡ true → c ≡ true
+    mutator_took true m o e = refl
+    mutator_took false m o e = e
+taken_up (any.Decrementer d) b o is = let no : true ≡ false = ap (λ (t : AnyActor × Bool). t.1) is in absurd (cc)
+taken_up (any.Tracer t) b o is = let no : true ≡ false = ap (λ (x : AnyActor × Bool). x.1) is in absurd (cc)
+
+-- what took none may take none, and is as it was
+pub not_taken : (a b : AnyActor) (o : Op) → (b, false) ≡ any_machine.ordered a o → (b ≡ a) × ¬ TakesUp a o
+not_taken (any.Mutator m) b o is = by (takes_order m o) (takes_order_decides m o).1 (ap (λ (t : AnyActor × Bool). t.1) is) (ap (λ (t : AnyActor × Bool). t.0) is)
+  where
+    by : (c : Bool) → (MayTakeOrder m o → c ≡ true) → false ≡ (ordered_if c m o).1 → b ≡ any.Mutator (ordered_if c m o).0 → (b ≡ any.Mutator m) × ¬ MayTakeOrder m o
+    by true may e is = absurd (cc)
+    by false may e is = (is, λ takes. let no = may takes in absurd (cc))
+not_taken (any.Decrementer d) b o is = (ap (λ (t : AnyActor × Bool). t.0) is, λ no. no)
+not_taken (any.Tracer t) b o is = (ap (λ (x : AnyActor × Bool). x.0) is, λ no. no)
+
+-- an actor that may take an order has a reply for each of its operations
+all_replied : (a : AnyActor) (o : Op) → TakesUp a o → HasNoMore a → length (replied a) ≡ length (asked a)
+all_replied (any.Mutator m) o may no_more =
+    let idle = may.idle in
+    ⊎_elim
+    (λ none. let ready : mutator.action_in m phase.Ready ≡ None = subst (λ p. mutator.action_in m p ≡ None) may.ready none in absurd (cc))
+    (λ few. omega (arith, idle, few))
+    no_more
+all_replied (any.Decrementer d) o may no_more = absurd may
+all_replied (any.Tracer d) o may no_more = absurd may
+
+-- it has an open operation once it is ordered one
+pub opened : (a b : AnyActor) (o : Op) → (b, true) ≡ any_machine.ordered a o → HasNoMore a → IsOpen b
+opened a b o is no_more =
+    let taken = order_taken a b o is in
+    let same = all_replied a o (taken_up a b o is) no_more in
+    let longer = ap length taken.0 ∙ length-append (asked a) (o ∷ []) in
+    let replies = ap length taken.1 in
+    omega (arith, same, longer, replies)
+
+-- an operation that was ordered is the open one, and what comes of it is what the order is answered with
+pub answered : (p r q : Passing AnyActor) (o : Op) (reply : Option Reply) → Told any_machine p (Order p.number o) r → (r.actor, true) ≡ any_machine.ordered p.actor o → HasNoMore p.actor → HasGoneOn r reply q → HasAnswered p o (answer_of reply) q
+answered p r q o reply told is no_more gone =
     let taken = order_taken p.actor r.actor o is in
-    let most : length (replied p.actor) ≤ length (asked p.actor) = ⊎_elim (λ through. absurd (going through)) (λ le. le) no_more in
-    let same : length (replied p.actor) ≡ length (asked p.actor) = omega (arith, most, shut) in
-    let longer : length (asked r.actor) ≡ length (asked p.actor) + 1 = ap length taken.0 ∙ length-append (asked p.actor) (o ∷ []) in
-    let replies : length (replied r.actor) ≡ length (replied p.actor) = ap length taken.1 in
-    tell reply gone same taken (omega (arith, same, longer, replies))
+    tell reply gone (all_replied p.actor o (taken_up p.actor r.actor o is) no_more) taken (opened p.actor r.actor o is no_more)
   where
     tell : (reply : Option Reply) → HasGoneOn r reply q → length (replied p.actor) ≡ length (asked p.actor) → (asked r.actor ≡ asked p.actor ++ o ∷ []) × (replied r.actor ≡ replied p.actor) → IsOpen r.actor → HasAnswered p o (answer_of reply) q
     tell (Some x) gone same taken pending = ((r, told, gone.0), same, gone.2 ∙ taken.0, gone.3 ∙ ap (λ rs. rs ++ x ∷ []) taken.1)
     tell None gone same taken pending = ((r, told, gone.0 pending), same, gone.1 ∙ taken.0, gone.2 ∙ taken.1)
+
+-- where none was taken, the answer says why
+pub unanswered : (p q : Passing AnyActor) (o : Op) (said : Answer) → (q.actor, false) ≡ any_machine.ordered p.actor o → IsNoOrder q.actor said → HasAnswered p o said q
+unanswered p q o said is why =
+    let none = not_taken p.actor q.actor o is in
+    tell said none.0 none.1 (subst (λ a. IsNoOrder a said) none.0 why)
+  where
+    tell : (said : Answer) → q.actor ≡ p.actor → ¬ TakesUp p.actor o → IsNoOrder p.actor said → HasAnswered p o said q
+    tell (answer.Done r) same takes why = absurd why
+    tell answer.Waits same takes why = absurd why
+    tell answer.Pause same takes why = (same, takes, why)
+    tell answer.Ended same takes why = (same, takes, why)
+    tell answer.Refused same takes why = (same, takes, why.0, why.1)
+
+-- ---- units of any actor
+
+-- a unit leaves what the actor was asked for
+pub asked_stays : (p q : Passing AnyActor) → HasTurned p q → asked q.actor ≡ asked p.actor
+asked_stays p q turned = (turn_grows turned.0 p q turned.1).same

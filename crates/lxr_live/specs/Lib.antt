@@ -1,5 +1,12 @@
+pub mod Settings
 pub mod Homes
+pub mod Wanting
+pub mod Living
 pub mod Stations
 pub mod Gathering
 pub mod Running
 pub mod Making
+pub mod Resting
+pub mod Renewing
+pub mod Heaps
+pub mod Packing

@@ -1,17 +1,15 @@
 -- The mutators of a new heap.
-use Rattle.std.specs.Prelude.{◌≡◌, ℕ, zero, suc, ◌+◌, ◌<◌, List, [], ◌∷◌, map}
+use Rattle.std.specs.Prelude.{◌≡◌, ℕ, ◌+◌, Some, List, [], map, replicate, slice_get}
 use Rattle.lxr_layout.specs.declared.limits.Limits.{Limits}
 use Rattle.lxr_mutator.specs.Mutating.{Mutating}
 use Rattle.lxr_mutator.specs.Mutators.{IsMutator, first_live}
 use Rattle.lxr_core.specs.declared.actors.AnyActor.{AnyActor}
 use Rattle.lxr_core.specs.declared.actors.AnyActor.TheVariants as any
+use Rattle.lxr_core.specs.Actors.{mutators_in, script_of}
 
--- so many mutators as they are made, for the threads behind these
-abbrev pub new_from : Limits → ℕ → ℕ → ℕ → ℕ → List Mutating
-new_from limits every most before zero = []
-new_from limits every most before (suc n) = first_live (before + 1) limits every most ∷ new_from limits every most (suc before) n
-
--- these actors are those of the first threads, so many, each as it is made
-pub record AreNew (limits : Limits) (every most n : ℕ) (actors : List AnyActor) : Type 0 where
-  pub are : actors ≡ map any.Mutator (new_from limits every most 0 n)
-  pub sound : (i : ℕ) → i < n → IsMutator (first_live (i + 1) limits every most)
+-- these actors are mutators of the first threads, so many, each as it is made to be ordered its operations
+pub record AreNew (limits : Limits) (every n : ℕ) (actors : List AnyActor) : Type 0 where
+  pub alone : actors ≡ map any.Mutator (mutators_in actors)
+  pub script : script_of (mutators_in actors) ≡ replicate n []
+  pub each : (i : ℕ) (m : Mutating) → slice_get (mutators_in actors) i ≡ Some m → m ≡ first_live (i + 1) limits every
+  pub sound : (i : ℕ) (m : Mutating) → slice_get (mutators_in actors) i ≡ Some m → IsMutator m

@@ -1,13 +1,14 @@
--- An epoch of live mutators: while it runs, and once it has ended.
-use Rattle.std.specs.Prelude.{◌≡◌, ℕ, List, []}
-use Rattle.lxr_layout.specs.declared.limits.Limits.{Limits}
+-- An epoch of live mutators: while it runs, and once it is closed.
+use Rattle.std.specs.Prelude.{◌≡◌, List, length}
 use Rattle.lxr_actor.specs.declared.Event.{Event}
 use Rattle.lxr_image.specs.declared.space.Space.{Space}
 use Rattle.lxr_core_invariant.specs.EpochStates.{Beginning}
 use Rattle.lxr_core.specs.declared.actors.AnyActor.{AnyActor}
-use Rattle.lxr_core.specs.Closing.{Closes}
+use Rattle.lxr_core.specs.Actors.{decrementers_in, mutators_in, script_of, tracers_in}
+use Rattle.lxr_core.specs.Closing.{Closes, IsPauseExplained}
 use Rattle.lxr_core.specs.Executions.{Execution, HoldsExecution, tell_all}
 use Rattle.lxr_shared.specs.Sharing.{Sharing}
+use Rattle.lxr_live.specs.Living.{AreLive}
 
 -- It began so: the words and the actors that it was opened with are those of an execution of which the epoch's invariant holds, and of the
 -- space the words alone have changed.
@@ -17,20 +18,21 @@ pub record IsRunning (b : Beginning) (epoch : Sharing) : Type 0 where
   pub core : opened.core ≡ epoch.opening
   pub space_is : epoch.space ≡ record b.space { words = epoch.space.words }
 
--- It is the first one of a new heap: it began from the empty history, over a space of these limits, and a mutator does at most so many operations
--- in it.
-pub record IsFirst (limits : Limits) (every : ℕ) (epoch : Sharing) : Type 0 where
-  pub beginning : Beginning
-  pub history : beginning.history ≡ []
-  pub limits_are : beginning.space.limits ≡ limits
-  pub every_is : beginning.every ≡ every
-  pub running : IsRunning beginning epoch
+-- The actors that it was opened with are these, as they begin again: the mutators were asked for what these were, and may be ordered as much; and there are
+-- as many helpers.
+pub record BeganWith (actors : List AnyActor) (epoch : Sharing) : Type 0 where
+  pub script : script_of (mutators_in epoch.opening.actors) ≡ script_of (mutators_in actors)
+  pub decrementers : length (decrementers_in epoch.opening.actors) ≡ length (decrementers_in actors)
+  pub tracers : length (tracers_in epoch.opening.actors) ≡ length (tracers_in actors)
+  pub live : AreLive (mutators_in actors) → AreLive (mutators_in epoch.opening.actors)
 
--- It has ended: what it leaves is what the execution leaves that it was opened with, over some schedule of orders and single atomic steps.
--- The space is at a safepoint before a pause then, for a history that has gone on by calls of the model, and each mutator has done a beginning
--- of all that it was asked for, each operation once and in order, with the replies of that history.
-pub record HasEnded (b : Beginning) (epoch : Sharing) (space : Space) (actors : List AnyActor) : Type 0 where
+-- It is closed: what it leaves is what the execution leaves that it was opened with, over some schedule of orders and single atomic steps.
+-- The space is at a safepoint before a pause then, which is explained, for a history that has gone on by calls of the model; and each mutator has
+-- done a beginning of all that it was asked for, each operation once and in order, with the replies of that history.
+pub record ClosesLive (b : Beginning) (epoch : Sharing) (space : Space) (actors : List AnyActor) : Type 0 where
   pub running : IsRunning b epoch
   pub schedule : List Event
   pub middle : Space
+  pub words : middle ≡ record b.space { words = middle.words }
   pub closes : Closes b (tell_all b running.opened schedule) middle space actors
+  pub due : IsPauseExplained b (tell_all b running.opened schedule) actors

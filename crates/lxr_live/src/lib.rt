@@ -1,18 +1,27 @@
-//! Mutators that live as the threads of a host, which order their operations one by one.
+//! A heap that threads of a host share: each orders its operations one by one, and pauses come between.
 //!
-//! An epoch of live mutators is opened, shared and closed by its owner (`Live`). While it runs, the pass of each actor waits at
-//! home or is out with a thread. A thread takes it out of its home as a `Station`, orders operations and sees each reply before
-//! it chooses the next, and brings the pass home again. Nobody waits for anybody, and a station that is dropped comes home by
-//! itself. Once all are home, the epoch is closed: whatever the threads did, and in whatever order they came and went, it is one
-//! execution over some schedule of orders and single atomic steps.
+//! A `Heap` stands between two epochs or within one. While an epoch runs, the pass of each mutator and helper is at home or is out with a thread. A
+//! thread takes it out of its home as a `Station`, orders operations and sees each reply before it chooses the next, and brings the
+//! pass home again. Nobody waits for anybody, and a station that is dropped comes home by itself. Once all are home and a pause is
+//! wanted, `pause` ends the epoch and makes it. Whatever the threads did, and in whatever order they came and went, what happened is one
+//! legal history over the object graph, with each thread's operations once and in their order; the script is the list of all that was
+//! ordered.
+//!
+//! The scheme is that of LXR (Zhao, Blackburn and McKinley, 2022), with blocks and lines of Immix (Blackburn and McKinley, 2008).
 #![tactic(auto)]
 
+mod heap;
 mod homes;
 mod live;
 mod making;
+mod packed;
+mod pausing;
+mod renewing;
+mod settings;
 mod shared;
 mod station;
+mod wanted;
 
-pub use live::{Live, NotClosed, Unclosed};
-pub use shared::Shared;
-pub use station::{Answer, Station};
+pub use heap::{Heap, Paused, Refused, Resumed};
+pub use settings::Settings;
+pub use station::{Answer, NotOut, Station};

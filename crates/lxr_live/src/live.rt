@@ -8,12 +8,15 @@ ghost use Rattle.lxr_core.specs.Closing.{AreResting};
 ghost use Rattle.lxr_core.specs.Opening.{Begins};
 ghost use Rattle.lxr_shared.specs.Ends.{HaveEnds};
 ghost use Rattle.lxr_shared.specs.Sharing.{sharing};
-ghost use Rattle.lxr_live.specs.Gathering.{AreAll, AreGathered};
-ghost use Rattle.lxr_live.specs.Running.{HasEnded, IsRunning};
-ghost use Rattle.lxr_live.specs.Stations.{table_of};
+ghost use Rattle.lxr_live.specs.Gathering.{AreAll, AreGathered, IsUnclosed};
+ghost use Rattle.lxr_live.specs.Homes.{IsPassAt};
+ghost use Rattle.lxr_live.specs.Running.{BeganWith, ClosesLive, IsRunning};
+ghost use Rattle.lxr_live.specs.Stations.{IsNotOut, table_of};
 
 use crate::homes::Homes;
 use crate::shared::Shared;
+use crate::station::{NotOut, Station};
+use crate::wanted::is_pause_wanted;
 use lxr_core::{AnyActor, close_epoch, open_epoch};
 use lxr_image::Space;
 use lxr_shared::{Aside, Epoch, Pass, close_shared, open_shared};
@@ -23,7 +26,7 @@ use std::sync::Arc;
 
 /// An epoch that runs.
 #[derive(Drop)]
-pub struct Live {
+pub(crate) struct Live {
     shared: Arc<Shared, Global>,
     aside: Aside,
     /// Emptied; closing uses its room.
@@ -32,25 +35,27 @@ pub struct Live {
 
 /// Why an epoch is not closed.
 #[derive(Clone, Copy, Debug, PartialEq, Eq)]
-pub enum NotClosed {
+pub(crate) enum NotClosed {
     /// The pass of this number is not at home.
     Away(usize),
-    /// All are at home, but some thread still has a share of the epoch, and so the means to take one out.
+    /// All are at home, and no pause is wanted.
+    NotWanted,
+    /// All are at home, and a pause is wanted, but some thread still has a share of the epoch, and so the means to take one out.
     Shared,
 }
 
 /// An epoch that is not closed: it goes on, and each pass that was at home is at home.
 #[derive(Drop)]
-pub struct Unclosed {
-    pub live: Live,
-    pub why: NotClosed,
+pub(crate) struct Unclosed {
+    pub(crate) live: Live,
+    pub(crate) why: NotClosed,
 }
 
 impl Model for Live {
     ghost use Rattle.std.specs.Prelude.{◌≡◌, ◌≤◌, [], length, vec_capacity};
     ghost use Rattle.std.specs.Arc.{arc_value};
     ghost use Rattle.lxr_shared.specs.Sharing.{Sharing, sharing};
-    ghost use Rattle.lxr_live.specs.Stations.{table_of};
+    ghost use Rattle.lxr_live.specs.Stations.{IsNotOut, table_of};
 
     ghost Value = { Sharing };
 
@@ -61,32 +66,34 @@ impl Model for Live {
 
 impl Live {
     /// Opens an epoch, and brings the pass of each actor home. After a refusal, space and actors are gone.
-    pub fn open(
+    pub(crate) fn open(
         alloc: Global,
         mut space: Space,
         mut actors: Vec<AnyActor>,
     ) -> Result<Live, AllocError>
         requires { (b : Beginning) × Begins b space actors.items }
-        ensures { IfOk result (λ live. (b : Beginning) → Begins b space actors.items → IsRunning b live) }
+        ensures runs { IfOk result (λ live. (b : Beginning) → Begins b space actors.items → IsRunning b live) }
+        ensures actors { IfOk result (λ live. BeganWith actors.items live) }
     {
         open_epoch(&mut space, &mut actors);
         let live = share(alloc, space, actors)?;
         Ok(live)
     }
 
-    /// What the threads of the host share: from it each takes passes out of their homes.
-    pub fn shared(&self) -> &Arc<Shared, Global>
-        ensures { ((arc_value result.now).id ≡ self.now.id) × ((arc_value result.now).opening ≡ self.now.opening) }
+    /// Lets the pass of a number out of its home, with a share of the epoch.
+    pub(crate) fn let_out(&self, number: usize) -> Result<Station, NotOut>
+        ensures station { IfOk result (λ station. IsPassAt self.now.id number station) }
+        ensures none { IfErr result (λ why. IsNotOut (length self.now.opening.actors) number why) }
     {
-        &self.shared
+        Station::leave(&self.shared, number)
     }
 
-    /// Closes the epoch, where all passes are at home and no thread has a share of it any more. Else the epoch goes on as it was, and the answer
-    /// says why. It takes no memory.
-    pub fn close(self) -> Result<(Space, Vec<AnyActor>), Unclosed>
+    /// Closes the epoch, where all passes are at home, a pause is wanted, and no thread has a share of the epoch any more. Else it goes on as it
+    /// was, and the answer says why. It takes no memory.
+    pub(crate) fn close(self) -> Result<(Space, Vec<AnyActor>), Unclosed>
         requires { (b : Beginning) × IsRunning b self }
-        ensures closed { IfOk result (λ left. (b : Beginning) → IsRunning b self → HasEnded b self left.0 left.1.items) }
-        ensures kept { IfErr result (λ unclosed. unclosed.live ≡ self) }
+        ensures closed { IfOk result (λ left. (b : Beginning) → IsRunning b self → ClosesLive b self left.0 left.1.items) }
+        ensures kept { IfErr result (λ unclosed. (unclosed.live ≡ self) × IsUnclosed (length self.opening.actors) unclosed.why) }
     {
         let Live {
             shared,
@@ -132,7 +139,7 @@ fn finish(last: Shared, aside: Aside, passes: Vec<Pass>) -> (Space, Vec<AnyActor
     requires room { length last.opening.actors ≤ aside.room }
     requires all { AreAll last passes.items }
     requires running { (b : Beginning) × IsRunning b (sharing (table_of last) aside) }
-    ensures { (b : Beginning) → IsRunning b (sharing (table_of last) aside) → HasEnded b (sharing (table_of last) aside) result.0 result.1.items }
+    ensures { (b : Beginning) → IsRunning b (sharing (table_of last) aside) → ClosesLive b (sharing (table_of last) aside) result.0 result.1.items }
 {
     let epoch = Epoch::from_parts(last.into_table(), aside);
     let (mut space, mut actors) = close_shared(epoch, passes);
@@ -151,9 +158,13 @@ fn gather(
     requires room { vec_len passes.old + length (arc_value shared).opening.actors ≤ vec_capacity passes.old + number }
     ensures all { IfOk result (λ last. (last ≡ arc_value shared) × AreGathered (arc_value shared) number passes.old.items passes.new.items) }
     ensures none { IfErr result (λ kept. (kept.0 ≡ shared) × (passes.new.items ≡ passes.old.items)) }
+    ensures why { IfErr result (λ kept. IsUnclosed (length (arc_value shared).opening.actors) kept.1) }
     ensures room { vec_capacity passes.new ≡ vec_capacity passes.old }
 {
     if number >= shared.count() {
+        if !is_pause_wanted(passes) {
+            return Err((shared, NotClosed::NotWanted));
+        }
         return match Arc::try_unwrap(shared) {
             Ok(last) => Ok(last),
             Err(shared) => Err((shared, NotClosed::Shared)),

@@ -11,7 +11,7 @@ use std::marker::Model;
 
 /// The table of an epoch, and the homes of its passes. It may be looked at from any thread.
 #[derive(Drop)]
-pub struct Shared {
+pub(crate) struct Shared {
     pub(crate) table: Epoch<AnyActor>,
     pub(crate) homes: Homes,
 }
@@ -38,7 +38,7 @@ impl Shared {
     }
 
     /// How many passes the epoch has, one for each actor.
-    pub fn count(&self) -> usize
+    pub(crate) fn count(&self) -> usize
         ensures { result ≡ length self.now.opening.actors }
     {
         self.homes.count()

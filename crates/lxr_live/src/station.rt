@@ -1,19 +1,23 @@
 //! A pass that is out with a thread of the host.
-ghost use Rattle.std.specs.Prelude.{◌≡◌, ℕ, ◌≤◌, ◌↔◌, IfOk, IfSome, IsTrue, List, Some, length, slice_get, true};
+ghost use Rattle.std.specs.Prelude.{◌≡◌, ◌⊎◌, ℕ, ◌≤◌, ◌↔◌, IfErr, IfOk, IsTrue, List, None, Some, false, length, true};
 ghost use Rattle.std.specs.Arc.{arc_value};
 ghost use Rattle.lxr_core.specs.Actors.{any_machine};
 ghost use Rattle.lxr_shared.specs.Ends.{end_of};
 ghost use Rattle.lxr_shared_passes.specs.Passing.{IsSamePass, Turned};
 ghost use Rattle.lxr_live.specs.Homes.{IsPassAt};
-ghost use Rattle.lxr_live.specs.Stations.{HasAnswered, HasGoneOn, HasNoMore, IsOpen, IsThrough, asked, replied};
+ghost use Rattle.lxr_live.specs.Stations.{Ends, HasAnswered, HasGoneOn, HasNoMore, HasTurned, Helps, IsNoOrder, IsNotOut, IsOpen, found_work, is_mutator, newest_of, replied};
+ghost use Rattle.lxr_live.specs.Wanting.{HasEnded, IsHeldUp};
 
 use crate::homes::Absence;
 use crate::shared::Shared;
+use crate::wanted::{has_ended, is_held_up};
 use lxr_actor::Actor;
 use lxr_core::AnyActor;
+use lxr_decrement::DecEnd;
 use lxr_graph::{Op, Reply};
 use lxr_shared::{Pass, Turn};
-use std::alloc::{AllocError, Global};
+use lxr_trace::TraceEnd;
+use std::alloc::Global;
 use std::marker::Model;
 use std::sync::Arc;
 
@@ -25,11 +29,26 @@ pub enum Answer {
     /// It was taken up, and waits for a pause. Behind that `go_on` goes on with it, unless the pause has answered it: then its reply
     /// stands among the actor's.
     Waits,
-    /// It was not taken up: the mutator does nothing more before a pause, or has ended.
+    /// It was not taken up: the mutator does nothing more before a pause.
     Pause,
+    /// It was not taken up: the thread has done its end.
+    Ended,
     /// It was not taken up: it is none that may be asked for, or another one is still open, or there is no room for a further one, or the
     /// actor is a helper.
     Refused,
+}
+
+/// Why a pass is not let out of its home.
+#[derive(Clone, Copy, Debug, PartialEq, Eq)]
+pub enum NotOut {
+    /// No epoch is open.
+    NotRunning,
+    /// There is no actor of this number.
+    NoSuch,
+    /// The pass is not at home: some thread has it.
+    Away,
+    /// There is not enough memory: there are too many stations.
+    Memory,
 }
 
 /// The pass of an actor, which one thread has, with its share of the epoch. Dropping it brings the pass home.
@@ -53,21 +72,24 @@ impl Model for Station {
 }
 
 impl Station {
-    /// Takes the pass of a number out of its home. None where there is no such number, or the pass is not at home.
-    pub fn leave(shared: &Arc<Shared, Global>, number: usize) -> Result<Option<Station>, AllocError>
-        ensures { IfOk result (λ found. IfSome found (IsPassAt (arc_value shared.now).id number)) }
+    /// Takes the pass of a number out of its home.
+    pub(crate) fn leave(shared: &Arc<Shared, Global>, number: usize) -> Result<Station, NotOut>
+        ensures station { IfOk result (λ station. IsPassAt (arc_value shared.now).id number station) }
+        ensures none { IfErr result (λ why. IsNotOut (length (arc_value shared.now).opening.actors) number why) }
     {
-        let shared = Arc::try_clone(shared)?;
         if number >= shared.count() {
-            return Ok(None);
+            return Err(NotOut::NoSuch);
         }
+        let Ok(shared) = Arc::try_clone(shared) else {
+            return Err(NotOut::Memory);
+        };
         match shared.take(number) {
-            Some((pass, absence)) => Ok(Some(Station {
+            Some((pass, absence)) => Ok(Station {
                 shared,
                 pass,
                 absence,
-            })),
-            None => Ok(None),
+            }),
+            None => Err(NotOut::Away),
         }
     }
 
@@ -90,10 +112,18 @@ impl Station {
 
     /// The actor.
     #[inline(always)]
-    pub fn actor(&self) -> &AnyActor
+    pub(crate) fn actor(&self) -> &AnyActor
         ensures { result.now ≡ self.now.actor }
     {
         self.pass.actor()
+    }
+
+    /// Whether it is a mutator; else it is a helper.
+    #[inline(always)]
+    pub fn is_mutator(&self) -> bool
+        ensures { result ≡ is_mutator self.now.actor }
+    {
+        matches!(self.actor(), AnyActor::Mutator(_))
     }
 
     /// Whether an operation that was ordered has no reply yet.
@@ -102,20 +132,60 @@ impl Station {
         ensures open { IsTrue result ↔ IsOpen self.now.actor }
         ensures no_more { HasNoMore self.now.actor }
     {
-        match self.pass.actor() {
+        match self.actor() {
             AnyActor::Mutator(mutator) => {
-                (mutator.operation() as usize) < mutator.operations().len()
+                mutator.operation();
+                mutator.is_open()
             }
             _ => false,
         }
     }
 
-    /// Whether the actor does nothing more in this epoch.
+    /// The newest reply of a mutator: that of the operation that was ordered last, where none is open. None before the first, and for a helper; and
+    /// where names were renewed while an operation of it was open that saw that a pause is asked for, until that is done.
     #[inline(always)]
-    pub fn is_through(&self) -> bool
-        ensures { IsTrue result ↔ IsThrough self.now.actor }
+    pub fn newest(&self) -> Option<Reply>
+        ensures { result ≡ newest_of self.now.actor }
     {
-        self.pass.actor().next().is_none()
+        match self.actor() {
+            AnyActor::Mutator(mutator) => mutator.newest(),
+            _ => None,
+        }
+    }
+
+    /// How many operations of a mutator are done since names were renewed, its end among them; 0 for a helper.
+    #[inline(always)]
+    pub fn done(&self) -> u32
+        ensures { result ≡ length (replied self.now.actor) }
+    {
+        match self.actor() {
+            AnyActor::Mutator(mutator) => mutator.operation(),
+            _ => 0,
+        }
+    }
+
+    /// Whether the thread of a mutator has done its end.
+    #[inline(always)]
+    pub fn has_ended(&self) -> bool
+        ensures { IsTrue result ↔ HasEnded self.now.actor }
+    {
+        has_ended(self.actor())
+    }
+
+    /// Whether a mutator does nothing more before a pause, or the space says that one is wanted. It is one load, and a thread that has no
+    /// operation to order asks it to know when to come home. That the space says so may be over at once, and no clause speaks of it.
+    #[inline(always)]
+    pub fn wants_pause(&self) -> bool
+        ensures held_up { IsHeldUp self.now.actor → IsTrue result }
+        ensures no_wish { (is_mutator self.now.actor ≡ false) ⊎ HasEnded self.now.actor → result ≡ false }
+    {
+        match self.actor() {
+            AnyActor::Mutator(mutator) => match mutator.next() {
+                Some(action) => self.shared.table().look(action.word as usize) == Some(1),
+                None => !self.has_ended(),
+            },
+            _ => false,
+        }
     }
 
     /// Orders an operation and does it, by single atomic steps. It takes no memory and waits for nobody.
@@ -124,13 +194,11 @@ impl Station {
         ensures pass { IsSamePass self.old self.new }
         ensures answer { HasAnswered self.old op result self.new }
     {
-        if self.is_through() {
-            return Answer::Pause;
+        self.is_open();
+        if !self.pass.order_at(self.shared.table(), op) {
+            return why_not(self.actor());
         }
-        if self.is_open() || !self.pass.order_at(self.shared.table(), op) {
-            return Answer::Refused;
-        }
-        match self.go_on() {
+        match self.advance() {
             Some(reply) => Answer::Done(reply),
             None => Answer::Waits,
         }
@@ -143,18 +211,76 @@ impl Station {
         ensures pass { IsSamePass self.old self.new }
         ensures reply { HasGoneOn self.old result self.new }
     {
-        if !self.is_open() {
-            return None;
+        if self.is_open() { self.advance() } else { None }
+    }
+
+    /// Goes on with the operation that is open, by a unit.
+    #[inline(always)]
+    fn advance(&mut self) -> Option<Reply>
+        requires { IsOpen self.old.actor }
+        ensures pass { IsSamePass self.old self.new }
+        ensures reply { HasGoneOn self.old result self.new }
+    {
+        let done = self.done();
+        self.unit();
+        if self.done() == done {
+            None
+        } else {
+            self.newest()
         }
-        let done = self.replied();
+    }
+
+    /// Does the end of a mutator's thread, which takes no order any more. Whether it is done: not where an operation is open, where a pause is
+    /// wanted first, and by a helper.
+    pub fn end(&mut self) -> bool
+        ensures pass { IsSamePass self.old self.new }
+        ensures ended { Ends self.old result self.new }
+    {
+        if !self.is_mutator() || self.is_open() {
+            return self.has_ended();
+        }
         self.turn();
-        self.reply(done)
+        self.has_ended()
+    }
+
+    /// Does up to so many units of a helper, as long as it finds work. Whether it found some in each. A mutator does nothing.
+    pub fn help(&mut self, units: u32) -> bool
+        ensures pass { IsSamePass self.old self.new }
+        ensures units { Helps units self.old result self.new }
+    {
+        if self.is_mutator() {
+            return false;
+        }
+        for _ in 0..units {
+            if !self.help_once() {
+                return false;
+            }
+        }
+        true
+    }
+
+    /// Does one unit. Whether it found work, as a unit of a helper may.
+    fn help_once(&mut self) -> bool
+        ensures pass { IsSamePass self.old self.new }
+        ensures unit { HasTurned self.old self.new }
+        ensures found { result ≡ found_work (end_of self.new.actor) }
+    {
+        found_work(self.turn())
+    }
+
+    /// Does one unit of the actor, out of line: so what orders an operation is small enough to be inlined where the operation is known.
+    #[inline(never)]
+    fn unit(&mut self)
+        ensures pass { IsSamePass self.old self.new }
+        ensures unit { (olds : List ℕ) × (length olds ≤ any_machine.left self.old.actor) × Turned any_machine self.old olds self.new }
+    {
+        self.turn();
     }
 
     /// Does one unit of the actor, whatever its kind, and answers how it ended. A mutator that has done all that it was ordered does its
     /// end, and takes no order any more.
     #[inline(always)]
-    pub fn turn(&mut self) -> Turn
+    fn turn(&mut self) -> Turn
         ensures pass { IsSamePass self.old self.new }
         ensures unit { (olds : List ℕ) × (length olds ≤ any_machine.left self.old.actor) × Turned any_machine self.old olds self.new }
         ensures end { Some result ≡ end_of self.new.actor }
@@ -162,27 +288,29 @@ impl Station {
     {
         self.pass.turn_at(self.shared.table())
     }
+}
 
-    /// How many replies it has.
-    #[inline(always)]
-    fn replied(&self) -> usize
-        ensures { result ≡ length (replied self.now.actor) }
-    {
-        match self.pass.actor() {
-            AnyActor::Mutator(mutator) => mutator.replies().len(),
-            _ => 0,
-        }
+/// Why an actor takes no order: by where it stands, or for what was ordered.
+fn why_not(actor: &AnyActor) -> Answer
+    ensures { IsNoOrder actor.now result }
+{
+    if has_ended(actor) {
+        Answer::Ended
+    } else if is_held_up(actor) {
+        Answer::Pause
+    } else {
+        Answer::Refused
     }
+}
 
-    /// The reply of a number, counted from 0.
-    #[inline(always)]
-    fn reply(&self, number: usize) -> Option<Reply>
-        ensures { result ≡ slice_get (replied self.now.actor) number }
-    {
-        match self.pass.actor() {
-            AnyActor::Mutator(mutator) => mutator.replies().get(number),
-            _ => None,
-        }
+/// Whether a unit found work.
+fn found_work(turn: Turn) -> bool
+    ensures { result ≡ found_work (Some turn) }
+{
+    match turn {
+        Turn::Mutator(_) => false,
+        Turn::Decrementer(end) => matches!(end, DecEnd::Worked),
+        Turn::Tracer(end) => !matches!(end, TraceEnd::Nothing),
     }
 }
 

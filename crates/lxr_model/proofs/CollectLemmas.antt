@@ -9,7 +9,7 @@ use Rattle.lxr_graph.specs.declared.Reply.TheVariants as reply
 use Rattle.lxr_graph.specs.declared.report.Kind.{Kind}
 use Rattle.lxr_graph.specs.declared.report.Kind.TheVariants as kind
 use Rattle.lxr_graph.specs.Names.{has, without}
-use Rattle.lxr_graph.specs.History.{PauseReport, Item, Call, Pause, calls_of}
+use Rattle.lxr_graph.specs.History.{PauseReport, Item, Call, Pause, Renew, calls_of}
 use Rattle.lxr_graph.proofs.NameSets.{not_both, without_parts}
 use Rattle.lxr_model.specs.Reachable.{Reachable}
 use Rattle.lxr_model.specs.Terms.{Terms}
@@ -48,6 +48,7 @@ refused_keep terms [] legal after n = absurd after
 refused_keep terms (Pause report ∷ h) legal after n = collecting_keeps terms h report legal after n
 refused_keep terms (Call t (op.New dest shape) reply.Full ∷ h) legal after n = refused_keep terms h legal.0 after n
 refused_keep terms (Call t o r ∷ h) legal after n = absurd after
+refused_keep terms (Renew ns ∷ h) legal after n = absurd after
 
 -- where a pause must collect, it does
 must_collect : (terms : Terms) (h : List Item) (m : Moment) (k : ℕ) (kd : Kind) → MustCollect terms h → MayStand terms h m k kd → kd ≡ kind.Collect
@@ -59,6 +60,7 @@ must_collect terms h m k kind.Plain must stands = absurd (stands.0 must)
 pub last_reachable : LastUnreclaimedAreReachable
 last_reachable terms script [] legal belongs n = absurd belongs.last
 last_reachable terms script (Call t o r ∷ h) legal belongs n = absurd belongs.last
+last_reachable terms script (Renew ns ∷ h) legal belongs n = absurd belongs.last
 last_reachable terms script (Pause report ∷ h) legal belongs n =
     collecting_keeps terms h report legal.0 (must_collect terms h (moment terms.threads h) report.number report.kind (inr belongs.last.0) legal.0.2.stands) n
 
@@ -66,6 +68,7 @@ last_reachable terms script (Pause report ∷ h) legal belongs n =
 early_before : (terms : Terms) (h : List Item) → EndsWithPause terms h → EarlierPausesWereEarly terms h
 early_before terms [] ends = absurd ends
 early_before terms (Call t o r ∷ h) ends = absurd ends
+early_before terms (Renew ns ∷ h) ends = absurd ends
 early_before terms (Pause report ∷ h) ends = ends.1
 
 pub whole_so_far : WholeHistoriesAreSoFar

@@ -13,17 +13,18 @@ use Rattle.lxr_graph.specs.declared.report.Kind.TheVariants as kind
 use Rattle.lxr_graph.specs.Names.{has, without, union}
 use Rattle.lxr_graph.specs.State.{State, HasObject, world_name, opening, opening_row, opening_registers}
 use Rattle.lxr_graph.specs.Step.{step, state_after}
-use Rattle.lxr_graph.specs.History.{PauseReport, Item, Call, Pause}
+use Rattle.lxr_graph.specs.History.{PauseReport, Item, Call, Pause, Renew}
 use Rattle.lxr_graph.proofs.RowCounts.{step_rows}
 use Rattle.lxr_graph.proofs.NameSets.{has_one, insert_cases, insert_new, insert_old, union_cases, union_left, union_right, without_parts, in_without}
 use Rattle.lxr_model.specs.Reachable.{Reachable, the_world, held, referred, Refers}
 use Rattle.lxr_model.specs.Dead.{Dead, by_register, by_kept, by_promoted}
+use Rattle.lxr_model.specs.Renewing.{IsStart}
 use Rattle.lxr_model.specs.Terms.{Terms}
 use Rattle.lxr_model.specs.Moments.{Trace, Moment, moment, opening_moment, after_pause, made_after, going_on, trace_after, left_by, unreclaimed_after}
 use Rattle.lxr_model.specs.Reports.{PauseParts, IsReportWith, IsSwept, IsSweptAtEnd, AreDrained, kept_names, remaining_names}
 use Rattle.lxr_model.specs.Legal.{IsLegalSoFar, Replies}
 use Rattle.lxr_model.specs.HistoryLaws.{ReclaimedAreUnreachable, ReachableAreKept, ReachableAreOldOrMade, MadeAreYoung, RowsAreThreads}
-use Rattle.lxr_model.proofs.ReachableLemmas.{dead_apart, dead_parts, promoted_made}
+use Rattle.lxr_model.proofs.ReachableLemmas.{dead_apart, dead_parts, promoted_made, reachable_within}
 use Rattle.lxr_model.proofs.StepLemmas.{Gets, gets-append, gets-replicate, step_reaches}
 use Rattle.lxr_model.proofs.ObjectLemmas.{step_facts, no_object}
 
@@ -258,11 +259,29 @@ module _ (threads : ℕ) (m : Moment) (report : PauseReport) (parts : PauseParts
     rows = good.rows;
   }
 
+-- ---- a start
+
+pub start_within : (threads : ℕ) (m : Moment) → IsStart threads m → (n : Name) → Reachable m.last n → IsTrue (has m.unreclaimed n)
+start_within threads m start n reached = reachable_within m.state (has m.unreclaimed) start.closed n (subst (λ (s : State). Reachable s n) start.rests reached)
+
+good_start : (threads : ℕ) (m : Moment) → IsStart threads m → m.trace ≡ None → m.made ≡ [] → GoodAt threads m
+good_start threads m start none fresh = record {
+  world_stuck = start.world_stuck;
+  within = start_within threads m start;
+  kept = λ n h. subst (λ (s : State). HasObject s.graph n) (sym start.rests) (start.objects n h);
+  grows = λ n e. subst (λ (s : State). HasObject s.graph n) start.rests e;
+  young = λ n h. absurd (let no : IsTrue (has [] n) = subst (λ ns. IsTrue (has ns n)) fresh h in cc);
+  reach = λ n r. inl (subst (λ (s : State). Reachable s n) (sym start.rests) r);
+  running = subst (λ t. RunningGood t m.state) (sym none) tt;
+  rows = start.rows;
+}
+
 -- ---- whole histories
 
 pub good_history : (terms : Terms) (h : List Item) → IsLegalSoFar terms h → GoodAt terms.threads (moment terms.threads h)
 good_history terms [] legal = good_opening terms.threads
 good_history terms (Call t o r ∷ h) legal = good_call terms h t o r legal.2.thread.1 legal.2.reply (good_history terms h legal.0)
+good_history terms (Renew ns ∷ h) legal = good_start terms.threads (moment terms.threads (Renew ns ∷ h)) legal.2.sound refl refl
 good_history terms (Pause report ∷ h) legal = good_pause terms.threads (moment terms.threads h) report legal.2.reports.0 legal.2.reports.1 (good_history terms h legal.0)
 
 pub reclaimed_unreachable : ReclaimedAreUnreachable

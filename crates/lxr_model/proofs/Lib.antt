@@ -6,3 +6,4 @@ pub mod CountLemmas
 pub mod DrainLemmas
 pub mod DecideLemmas
 pub mod CollectLemmas
+pub mod UnrenewedLemmas

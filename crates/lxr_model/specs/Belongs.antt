@@ -3,7 +3,7 @@ use Rattle.std.specs.Prelude.{◌≡◌, ℕ, suc, ◌+◌, ◌-◌, ◌<◌, �
 use Rattle.lxr_layout.specs.Spaces.{most_chosen}
 use Rattle.lxr_graph.specs.declared.Op.{Op}
 use Rattle.lxr_graph.specs.declared.Op.TheVariants as op
-use Rattle.lxr_graph.specs.History.{Item, Call, Pause, calls_of}
+use Rattle.lxr_graph.specs.History.{Item, Call, Pause, Renew, calls_of}
 use Rattle.lxr_model.specs.Terms.{Terms}
 use Rattle.lxr_model.specs.Moments.{Moment, moment}
 use Rattle.lxr_model.specs.Kinds.{ends}
@@ -38,12 +38,14 @@ asks_for_pause _ = false
 -- thread t has asked for a pause since the last one
 abbrev pub has_asked : ℕ → List Item → Bool
 has_asked t [] = false
+has_asked t (Renew ns ∷ h) = false
 has_asked t (Pause report ∷ h) = false
 has_asked t (Call u o r ∷ h) = (nat_eq t u && asks_for_pause o) || has_asked t h
 
 -- after a `pause` or `collect` of a thread the next pause stands before that thread's next call
 abbrev pub AskedPausesComeFirst : List Item → Type 0
 AskedPausesComeFirst [] = Unit {0}
+AskedPausesComeFirst (Renew ns ∷ h) = Unit {0}
 AskedPausesComeFirst (Pause report ∷ h) = AskedPausesComeFirst h
 AskedPausesComeFirst (Call t o r ∷ h) = AskedPausesComeFirst h × (has_asked t h ≡ false)
 
@@ -52,12 +54,14 @@ AskedPausesComeFirst (Call t o r ∷ h) = AskedPausesComeFirst h × (has_asked t
 -- how many calls thread t has had since the last pause, or since the opening
 abbrev pub calls_since_pause : ℕ → List Item → ℕ
 calls_since_pause t [] = 0
+calls_since_pause t (Renew ns ∷ h) = 0
 calls_since_pause t (Pause report ∷ h) = 0
 calls_since_pause t (Call u o r ∷ h) = if nat_eq t u then suc (calls_since_pause t h) else calls_since_pause t h
 
 -- between two pauses a thread has at most `every` + 1 calls
 abbrev pub TurnsAreShort : Terms → List Item → Type 0
 TurnsAreShort terms [] = Unit {0}
+TurnsAreShort terms (Renew ns ∷ h) = Unit {0}
 TurnsAreShort terms (Pause report ∷ h) = TurnsAreShort terms h
 TurnsAreShort terms (Call t o r ∷ h) = TurnsAreShort terms h × (calls_since_pause t (Call t o r ∷ h) ≤ terms.every + 1)
 
@@ -97,6 +101,7 @@ HasCause terms script h = (ends h ≡ terms.threads) ⊎ ((t : ℕ) × (1 ≤ t)
 -- each pause has a cause in what stands before it
 abbrev pub PausesHaveCauses : Terms → Script → List Item → Type 0
 PausesHaveCauses terms script [] = Unit {0}
+PausesHaveCauses terms script (Renew ns ∷ h) = Unit {0}
 PausesHaveCauses terms script (Call t o r ∷ h) = PausesHaveCauses terms script h
 PausesHaveCauses terms script (Pause report ∷ h) = PausesHaveCauses terms script h × HasCause terms script h
 
@@ -105,18 +110,21 @@ PausesHaveCauses terms script (Pause report ∷ h) = PausesHaveCauses terms scri
 -- at the last pause of h not all threads had ended
 abbrev pub LastPauseWasEarly : Terms → List Item → Type 0
 LastPauseWasEarly terms [] = Unit {0}
+LastPauseWasEarly terms (Renew ns ∷ h) = Unit {0}
 LastPauseWasEarly terms (Call t o r ∷ h) = LastPauseWasEarly terms h
 LastPauseWasEarly terms (Pause report ∷ h) = ends h < terms.threads
 
 -- before no pause but the last had all threads ended
 abbrev pub EarlierPausesWereEarly : Terms → List Item → Type 0
 EarlierPausesWereEarly terms [] = Unit {0}
+EarlierPausesWereEarly terms (Renew ns ∷ h) = Unit {0}
 EarlierPausesWereEarly terms (Call t o r ∷ h) = EarlierPausesWereEarly terms h
 EarlierPausesWereEarly terms (Pause report ∷ h) = LastPauseWasEarly terms h
 
 -- the newest item is a pause, before which all threads have ended, and they had not at the pause before it
 abbrev pub EndsWithPause : Terms → List Item → Type 0
 EndsWithPause terms [] = ⊥
+EndsWithPause terms (Renew ns ∷ h) = ⊥
 EndsWithPause terms (Call t o r ∷ h) = ⊥
 EndsWithPause terms (Pause report ∷ h) = (ends h ≡ terms.threads) × LastPauseWasEarly terms h
 

@@ -10,7 +10,7 @@ use Rattle.lxr_graph.specs.declared.Reply.TheVariants as reply
 use Rattle.lxr_graph.specs.declared.report.Kind.TheVariants as kind
 use Rattle.lxr_graph.specs.Names.{IsSetOf}
 use Rattle.lxr_graph.specs.State.{Graph, world_name, object_at, shape_of}
-use Rattle.lxr_graph.specs.History.{Item, Call, Pause}
+use Rattle.lxr_graph.specs.History.{Item, Call, Pause, Renew}
 use Rattle.lxr_model.specs.Reachable.{Reachable}
 use Rattle.lxr_model.specs.Terms.{Terms}
 use Rattle.lxr_model.specs.Moments.{state_at}
@@ -39,6 +39,7 @@ LeaveNoRun g ns blocks k = slots_in k (blocks - 1) ≤ slots_taken g k ns
 -- the last pause collected, and nothing but `new full` stands behind it
 abbrev pub IsRightAfterCollecting : List Item → Type 0
 IsRightAfterCollecting [] = ⊥
+IsRightAfterCollecting (Renew ns ∷ h) = ⊥
 IsRightAfterCollecting (Pause report ∷ h) = report.kind ≡ kind.Collect
 IsRightAfterCollecting (Call t (op.New dest shape) reply.Full ∷ h) = IsRightAfterCollecting h
 IsRightAfterCollecting (Call t _ _ ∷ h) = ⊥

@@ -3,20 +3,22 @@ use Rattle.std.specs.Prelude.{◌≡◌, ◌≢◌, ℕ, suc, ◌+◌, ◌%◌, 
 use Rattle.lxr_graph.specs.declared.Op.TheVariants as op
 use Rattle.lxr_graph.specs.declared.report.Kind.{Kind}
 use Rattle.lxr_graph.specs.declared.report.Kind.TheVariants as kind
-use Rattle.lxr_graph.specs.History.{Item, Call, Pause}
+use Rattle.lxr_graph.specs.History.{Item, Call, Pause, Renew}
 use Rattle.lxr_model.specs.Terms.{Terms}
 use Rattle.lxr_model.specs.Moments.{Trace, Moment}
 
 -- `collect` was called since the last pause
 abbrev pub collect_called : List Item → Bool
 collect_called [] = false
+collect_called (Renew ns ∷ h) = false
 collect_called (Pause report ∷ h) = false
 collect_called (Call t op.Collect r ∷ h) = true
 collect_called (Call t _ r ∷ h) = collect_called h
 
--- how many threads have ended
+-- how many threads have ended since names were last renewed
 abbrev pub ends : List Item → ℕ
 ends [] = 0
+ends (Renew ns ∷ h) = 0
 ends (Pause report ∷ h) = ends h
 ends (Call t op.End r ∷ h) = suc (ends h)
 ends (Call t _ r ∷ h) = ends h
@@ -28,6 +30,7 @@ MustCollect terms h = IsTrue (collect_called h) ⊎ (ends h ≡ terms.threads)
 -- there is a last pause, and nothing but `new` calls stands behind it
 abbrev pub OnlyNewsSincePause : List Item → Type 0
 OnlyNewsSincePause [] = ⊥
+OnlyNewsSincePause (Renew ns ∷ h) = ⊥
 OnlyNewsSincePause (Pause report ∷ h) = Unit {0}
 OnlyNewsSincePause (Call t (op.New dest shape) r ∷ h) = OnlyNewsSincePause h
 OnlyNewsSincePause (Call t _ r ∷ h) = ⊥

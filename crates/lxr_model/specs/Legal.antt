@@ -1,5 +1,5 @@
--- Legal histories: each call is a step, each pause gives its report, each kind stands where it may. Items stand newest
--- first, so what an item asks of those before it is asked of the rest of the list.
+-- Legal histories: each call is a step, each pause gives its report, each kind stands where it may, and names are renewed where they may be.
+-- Items stand newest first, so what an item asks of those before it is asked of the rest of the list.
 use Rattle.std.specs.Prelude.{◌≡◌, ℕ, ◌-◌, ◌≤◌, List, [], ◌∷◌}
 use Rattle.lxr_layout.specs.Objects.{line_count}
 use Rattle.lxr_layout.specs.Spaces.{most_chosen}
@@ -11,10 +11,11 @@ use Rattle.lxr_graph.specs.declared.report.Kind.TheVariants as kind
 use Rattle.lxr_graph.specs.Names.{without, union}
 use Rattle.lxr_graph.specs.State.{world_name}
 use Rattle.lxr_graph.specs.Step.{IsWellFormed, IsReply}
-use Rattle.lxr_graph.specs.History.{PauseReport, Item, Call, Pause}
+use Rattle.lxr_graph.specs.History.{PauseReport, Item, Call, Pause, Renew}
 use Rattle.lxr_model.specs.Terms.{Terms}
 use Rattle.lxr_model.specs.Moments.{moment, state_at}
 use Rattle.lxr_model.specs.Reports.{IsReport}
+use Rattle.lxr_model.specs.Renewing.{IsRenewal}
 use Rattle.lxr_model.specs.Kinds.{MustCollect, MayStand}
 use Rattle.lxr_model.specs.Full.{LeaveNoRun, MayBeFull}
 
@@ -55,6 +56,7 @@ KeepsPromise terms _ x = Unit {0}
 abbrev pub MayFollow : Terms → List Item → Item → Type 0
 MayFollow terms h (Call t o r) = IsCall terms h t o r
 MayFollow terms h (Pause report) = IsPause terms h report
+MayFollow terms h (Renew ns) = IsRenewal terms h ns
 
 -- legal as far as it goes: nothing is asked of calls that would come later
 abbrev pub IsLegalSoFar : Terms → List Item → Type 0

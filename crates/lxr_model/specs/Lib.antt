@@ -4,6 +4,7 @@ pub mod Dead
 pub mod Terms
 pub mod Moments
 pub mod Reports
+pub mod Renewing
 pub mod Kinds
 pub mod Full
 pub mod Legal

@@ -1,5 +1,5 @@
 -- The moment that a history leads to: all that the next item depends on. Items stand newest first.
-use Rattle.std.specs.Prelude.{ℕ, ◌+◌, ◌&&◌, nat_eq, if◌then◌else◌, Bool, Option, Some, None, List, [], ◌∷◌, length}
+use Rattle.std.specs.Prelude.{ℕ, ◌+◌, ◌&&◌, nat_eq, if◌then◌else◌, Bool, Option, Some, None, List, [], ◌∷◌, length, map}
 use Rattle.std.specs.List.{list_any}
 use Rattle.lxr_layout.specs.declared.Name.{Name}
 use Rattle.lxr_graph.specs.declared.Op.{Op}
@@ -11,7 +11,8 @@ use Rattle.lxr_graph.specs.declared.report.Kind.TheVariants as kind
 use Rattle.lxr_graph.specs.Names.{same_name, has, without, insert_name, union}
 use Rattle.lxr_graph.specs.State.{State, opening, world_name, register_at}
 use Rattle.lxr_graph.specs.Step.{state_after}
-use Rattle.lxr_graph.specs.History.{PauseReport, Item, Call, Pause}
+use Rattle.lxr_graph.specs.History.{PauseReport, Item, Call, Pause, Renew}
+use Rattle.lxr_graph.specs.Renewing.{renewed_name, renewed_state}
 use Rattle.lxr_model.specs.Terms.{Terms}
 use Rattle.lxr_model.specs.References.{reference_slots}
 
@@ -132,9 +133,24 @@ after_pause m report = record {
   written = [];
 }
 
+-- The moment, of so many threads, with all its names renewed: pauses are counted from 0 again, no trace runs, and nothing was made or written
+-- since the last pause.
+abbrev pub renewed_moment : ℕ → List Name → Moment → Moment
+renewed_moment threads ns m = record {
+  state = renewed_state threads ns m.state;
+  last = renewed_state threads ns m.last;
+  number = 0;
+  unreclaimed = map (renewed_name ns) m.unreclaimed;
+  stuck = map (renewed_name ns) m.stuck;
+  trace = None;
+  made = [];
+  written = [];
+}
+
 -- the moment that a history of so many threads leads to
 abbrev pub moment : ℕ → List Item → Moment
 moment threads [] = opening_moment threads
+moment threads (Renew ns ∷ h) = renewed_moment threads ns (moment threads h)
 moment threads (Call t o r ∷ h) = after_call (moment threads h) t o r
 moment threads (Pause report ∷ h) = after_pause (moment threads h) report
 

@@ -1,8 +1,8 @@
 -- The numbers that a run is given.
-use Rattle.std.specs.Prelude.{ℕ}
+use Rattle.std.specs.Prelude.{ℕ, Bool}
 
 -- threads and blocks; calls of a thread between two pauses; entries of a log; every how many pauses a trace begins, and
--- within how many it ends
+-- within how many it ends; and whether names are ever renewed
 pub record Terms : Type 0 where
   pub threads : ℕ
   pub blocks : ℕ
@@ -10,3 +10,4 @@ pub record Terms : Type 0 where
   pub log : ℕ
   pub trace : ℕ
   pub within : ℕ
+  pub renews : Bool

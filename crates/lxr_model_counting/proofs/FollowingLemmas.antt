@@ -1,7 +1,7 @@
 -- The state follows the last pause: at the opening, after each call, and anew after a pause. What is reachable is
 -- live, since registers hold live names and live names refer to live names.
 use Rattle.std.proofs.Common.{◌≡◌, ℕ, zero, suc, ◌+◌, ◌-◌, ◌*◌, ◌<◌, ◌≤◌, refl, sym, ap, subst, ◌∙◌, inl, inr, ◌⊎◌, arith, List, [], IsTrue, ◌↔◌, length}
-use Rattle.std.specs.Prelude.{Option, Some, None, is_some, slice_get}
+use Rattle.std.specs.Prelude.{false, Option, Some, None, is_some, slice_get}
 use Rattle.std.proofs.lemmas.Bool.{false_from_ne_true}
 use Rattle.std.proofs.lemmas.List.{length-append}
 use Rattle.lxr_layout.specs.declared.Name.{Name}
@@ -58,7 +58,7 @@ unreclaimed_object m follows n h = let a = follows.objects n h in ap is_some a.3
 -- ---- the opening
 
 opening_good : (threads : ℕ) → GoodAt threads (opening_moment threads)
-opening_good threads = good_history (record { threads = threads; blocks = 0; every = 0; log = 0; trace = 0; within = 0 }) [] tt
+opening_good threads = good_history (record { threads = threads; blocks = 0; every = 0; log = 0; trace = 0; within = 0; renews = false }) [] tt
 
 length-opening : (threads : ℕ) → length (opening_registers threads) ≡ 16 * threads
 length-opening zero = refl

@@ -4,7 +4,7 @@ use Rattle.std.specs.Prelude.{◌↔◌, nat_le, not, ◌&&◌, ◌||◌}
 use Rattle.std.proofs.lemmas.Bool.{or_cases, or_left, or_right, and_parts, and_from, not-true, not_from_false}
 use Rattle.lxr_layout.specs.Spaces.{most_chosen}
 use Rattle.lxr_graph.specs.declared.Op.{Op}
-use Rattle.lxr_graph.specs.History.{Item, Call, Pause, calls_of}
+use Rattle.lxr_graph.specs.History.{Item, Call, Pause, Renew, calls_of}
 use Rattle.lxr_graph.proofs.NameSets.{not_both}
 use Rattle.lxr_model.specs.Terms.{Terms}
 use Rattle.lxr_model.specs.Moments.{moment}
@@ -36,11 +36,13 @@ calls_right (suc n) script h e t low high = elim (nat_eq t (suc n)) as (λ b. na
 
 asked_right : (h : List Item) → IsTrue (asked_pauses_come_first h) → AskedPausesComeFirst h
 asked_right [] e = tt
+asked_right (Renew ns ∷ h) e = tt
 asked_right (Pause report ∷ h) e = asked_right h e
 asked_right (Call t o r ∷ h) e = let a = and_parts (asked_pauses_come_first h) (not (has_asked t h)) e in (asked_right h a.0, not-true (has_asked t h) a.1)
 
 turns_right : (terms : Terms) (h : List Item) → IsTrue (turns_are_short terms h) → TurnsAreShort terms h
 turns_right terms [] e = tt
+turns_right terms (Renew ns ∷ h) e = tt
 turns_right terms (Pause report ∷ h) e = turns_right terms h e
 turns_right terms (Call t o r ∷ h) e =
     let a = and_parts (turns_are_short terms h) (nat_le (calls_since_pause t (Call t o r ∷ h)) (terms.every + 1)) e in
@@ -84,6 +86,7 @@ has_cause_right terms script h e =
 
 causes_right : (terms : Terms) (script : Script) (h : List Item) → IsTrue (pauses_have_causes terms script h) → PausesHaveCauses terms script h
 causes_right terms script [] e = tt
+causes_right terms script (Renew ns ∷ h) e = tt
 causes_right terms script (Call t o r ∷ h) e = causes_right terms script h e
 causes_right terms script (Pause report ∷ h) e =
     let a = and_parts (pauses_have_causes terms script h) (has_cause terms script h) e in
@@ -93,11 +96,13 @@ causes_right terms script (Pause report ∷ h) e =
 
 early_right : (terms : Terms) (h : List Item) → IsTrue (last_pause_was_early terms h) → LastPauseWasEarly terms h
 early_right terms [] e = tt
+early_right terms (Renew ns ∷ h) e = tt
 early_right terms (Call t o r ∷ h) e = early_right terms h e
 early_right terms (Pause report ∷ h) e = lt_from_test (ends h) terms.threads e
 
 end_right : (terms : Terms) (h : List Item) → IsTrue (ends_with_pause terms h) → EndsWithPause terms h
 end_right terms [] e = absurd (cc)
+end_right terms (Renew ns ∷ h) e = absurd (cc)
 end_right terms (Call t o r ∷ h) e = absurd (cc)
 end_right terms (Pause report ∷ h) e =
     let a = and_parts (nat_eq (ends h) terms.threads) (last_pause_was_early terms h) e in
@@ -115,11 +120,13 @@ calls_test (suc n) script h e =
 
 asked_test : (h : List Item) → AskedPausesComeFirst h → IsTrue (asked_pauses_come_first h)
 asked_test [] e = refl
+asked_test (Renew ns ∷ h) e = refl
 asked_test (Pause report ∷ h) e = asked_test h e
 asked_test (Call t o r ∷ h) e = and_from (asked_pauses_come_first h) (not (has_asked t h)) (asked_test h e.0) (not_from_false (has_asked t h) e.1)
 
 turns_test : (terms : Terms) (h : List Item) → TurnsAreShort terms h → IsTrue (turns_are_short terms h)
 turns_test terms [] e = refl
+turns_test terms (Renew ns ∷ h) e = refl
 turns_test terms (Pause report ∷ h) e = turns_test terms h e
 turns_test terms (Call t o r ∷ h) e = and_from (turns_are_short terms h) (nat_le (calls_since_pause t (Call t o r ∷ h)) (terms.every + 1))
     (turns_test terms h e.0) (test_from_le (calls_since_pause t (Call t o r ∷ h)) (terms.every + 1) e.1)
@@ -160,17 +167,20 @@ has_cause_test terms script h e =
 
 causes_test : (terms : Terms) (script : Script) (h : List Item) → PausesHaveCauses terms script h → IsTrue (pauses_have_causes terms script h)
 causes_test terms script [] e = refl
+causes_test terms script (Renew ns ∷ h) e = refl
 causes_test terms script (Call t o r ∷ h) e = causes_test terms script h e
 causes_test terms script (Pause report ∷ h) e =
     and_from (pauses_have_causes terms script h) (has_cause terms script h) (causes_test terms script h e.0) (has_cause_test terms script h e.1)
 
 early_test : (terms : Terms) (h : List Item) → LastPauseWasEarly terms h → IsTrue (last_pause_was_early terms h)
 early_test terms [] e = refl
+early_test terms (Renew ns ∷ h) e = refl
 early_test terms (Call t o r ∷ h) e = early_test terms h e
 early_test terms (Pause report ∷ h) e = test_from_lt (ends h) terms.threads e
 
 end_test : (terms : Terms) (h : List Item) → EndsWithPause terms h → IsTrue (ends_with_pause terms h)
 end_test terms [] e = absurd e
+end_test terms (Renew ns ∷ h) e = absurd e
 end_test terms (Call t o r ∷ h) e = absurd e
 end_test terms (Pause report ∷ h) e = and_from (nat_eq (ends h) terms.threads) (last_pause_was_early terms h) (test_from_eq (ends h) terms.threads e.0) (early_test terms h e.1)
 

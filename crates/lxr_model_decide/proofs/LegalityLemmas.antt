@@ -4,7 +4,7 @@ use Rattle.std.specs.Prelude.{Option, Some, None, nat_le, not, ◌&&◌}
 use Rattle.std.proofs.lemmas.Bool.{or_cases, or_left, or_right, and_parts, and_from, not-true, not_from_false, false_from_ne_true}
 use Rattle.lxr_layout.specs.declared.Name.{Name}
 use Rattle.lxr_layout.specs.declared.Shape.{Shape}
-use Rattle.lxr_layout.specs.Objects.{FitsShape, line_count}
+use Rattle.lxr_layout.specs.Objects.{line_count}
 use Rattle.lxr_layout.specs.Spaces.{most_chosen}
 use Rattle.lxr_graph.specs.declared.Op.{Op}
 use Rattle.lxr_graph.specs.declared.Op.TheVariants as op
@@ -15,8 +15,7 @@ use Rattle.lxr_graph.specs.declared.report.Kind.TheVariants as kind
 use Rattle.lxr_graph.specs.Names.{has, without, union, IsSetOf}
 use Rattle.lxr_graph.specs.State.{Graph, State, world_name}
 use Rattle.lxr_graph.specs.Forms.{is_well_formed}
-use Rattle.lxr_graph.specs.Step.{IsWellFormed}
-use Rattle.lxr_graph.specs.History.{PauseReport, Item, Call, Pause}
+use Rattle.lxr_graph.specs.History.{PauseReport, Item, Call, Pause, Renew}
 use Rattle.lxr_graph.proofs.FormLemmas.{well_formed}
 use Rattle.lxr_graph.proofs.NameSets.{not_both, has_one, in_order-without, without_parts, in_without}
 use Rattle.lxr_model.specs.Reachable.{Reachable}
@@ -61,6 +60,7 @@ must_not terms h e (inr k) = not_both (must_collect terms h) (or_right (collect_
 
 only_news : (h : List Item) → IsTrue (only_news_since_pause h) → OnlyNewsSincePause h
 only_news [] e = absurd (cc)
+only_news (Renew ns ∷ h) e = absurd (cc)
 only_news (Pause report ∷ h) e = tt
 only_news (Call t (op.New dest shape) r ∷ h) e = only_news h e
 only_news (Call t _ r ∷ h) e = absurd (cc)
@@ -109,6 +109,7 @@ collect_kind (kind.End j) e = absurd (cc)
 
 right_after : (h : List Item) → IsTrue (is_right_after_collecting h) → IsRightAfterCollecting h
 right_after [] e = absurd (cc)
+right_after (Renew ns ∷ h) e = absurd (cc)
 right_after (Pause report ∷ h) e = collect_kind report.kind e
 right_after (Call t (op.New dest shape) reply.Full ∷ h) e = right_after h e
 right_after (Call t _ _ ∷ h) e = absurd (cc)
@@ -147,6 +148,7 @@ waited_right terms h (Call t (op.New dest shape) r) e =
     run_right m.state.graph (without (union m.made m.unreclaimed) (world_name ∷ [])) (terms.blocks - most_chosen terms.blocks) (line_count shape) e
 waited_right terms h (Call t _ r) e = absurd (cc)
 waited_right terms h (Pause report) e = absurd (cc)
+waited_right terms h (Renew ns) e = absurd (cc)
 
 not_waiting : (terms : Terms) (h : List Item) (report : PauseReport) → IsTrue (not (stands_for_waiting terms h report)) → StandsForWaiting terms h report → ⊥
 not_waiting terms h report e w = not_both (stands_for_waiting terms h report)
@@ -154,8 +156,9 @@ not_waiting terms h report e w = not_both (stands_for_waiting terms h report)
     (not_from_false (must_collect terms h) (false_from_ne_true (must_collect terms h) (λ k. w.1 (must_right terms h k)))))
     (not-true (stands_for_waiting terms h report) e)
 
-promise_right : (terms : Terms) (h : List Item) (x : Item) → IsTrue (keeps_promise terms h x) → KeepsPromise terms h x
+pub promise_right : (terms : Terms) (h : List Item) (x : Item) → IsTrue (keeps_promise terms h x) → KeepsPromise terms h x
 promise_right terms [] x e = tt
+promise_right terms (Renew ns ∷ h) x e = tt
 promise_right terms (Call t o r ∷ h) x e = tt
 promise_right terms (Pause report ∷ h) x e = λ w. elim (or_cases (not (stands_for_waiting terms h report)) (is_waited_for terms (moment terms.threads h) x) e) [
   | inl k ↦ absurd (not_waiting terms h report k w)
@@ -164,6 +167,7 @@ promise_right terms (Pause report ∷ h) x e = λ w. elim (or_cases (not (stands
 
 owes_right : (terms : Terms) (h : List Item) → IsTrue (owes_no_call terms h) → OwesNoCall terms h
 owes_right terms [] e = tt
+owes_right terms (Renew ns ∷ h) e = tt
 owes_right terms (Call t o r ∷ h) e = tt
 owes_right terms (Pause report ∷ h) e = not_waiting terms h report e
 
@@ -181,7 +185,7 @@ same_item e = cc
 same_rest : {x y : Item} {g h : List Item} → x ∷ g ≡ y ∷ h → g ≡ h
 same_rest e = cc
 
-follow_right : (terms : Terms) (h : List Item) (x : Item) → IsTrue (may_follow terms h (moment terms.threads h) x)
+pub follow_right : (terms : Terms) (h : List Item) (x : Item) → IsTrue (may_follow terms h (moment terms.threads h) x)
     → item_again (moment terms.threads h) x ≡ x → MayFollow terms h x
 follow_right terms h (Call t o r) e same =
     let a = and_parts (nat_le 1 t && nat_le t terms.threads) (is_well_formed o && may_reply terms h (moment terms.threads h) o r) e in
@@ -192,6 +196,7 @@ follow_right terms h (Call t o r) e same =
       operation = (well_formed o).0 c.0;
       reply = replies_right terms h t o r c.1 (same_reply same);
     }
+follow_right terms h (Renew ns) e same = absurd (cc)
 follow_right terms h (Pause report) e same =
     let a = stand_right terms h (moment terms.threads h) report.number report.kind e in
     record {

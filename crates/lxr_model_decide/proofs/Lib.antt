@@ -9,3 +9,4 @@ mod MissLemmas
 mod ScriptLemmas
 pub mod SwapLemmas
 mod RememberedLemmas
+mod RenewalLemmas

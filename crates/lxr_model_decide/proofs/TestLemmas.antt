@@ -1,11 +1,11 @@
 -- The tests of an item hold wherever what they stand for does, and the replies and reports of a legal history are those
--- computed again, since a moment gives one report of a kind.
-use Rattle.std.proofs.Common.{◌≡◌, ◌≢◌, ℕ, ◌+◌, ◌-◌, ◌%◌, ◌<◌, refl, ap, subst, inl, inr, arith, true, false, List, [], ◌∷◌, IsTrue, nat_eq, nat_lt}
+-- computed again, since a moment gives one report of a kind. Names are not renewed in it, where its terms forbid that.
+use Rattle.std.proofs.Common.{◌≡◌, ◌≢◌, ℕ, ◌+◌, ◌-◌, ◌%◌, ◌<◌, refl, sym, ap, subst, ◌∙◌, inl, inr, arith, true, false, List, [], ◌∷◌, IsTrue, nat_eq, nat_lt}
 use Rattle.std.specs.Prelude.{◌↔◌, Option, Some, None, nat_le, not, ◌&&◌, ◌||◌}
 use Rattle.std.proofs.lemmas.Bool.{or_left, or_right, and_parts, and_from, not-true, not_from_false, false_from_ne_true}
 use Rattle.lxr_layout.specs.declared.Name.{Name}
 use Rattle.lxr_layout.specs.declared.Shape.{Shape}
-use Rattle.lxr_layout.specs.Objects.{FitsShape, line_count}
+use Rattle.lxr_layout.specs.Objects.{line_count}
 use Rattle.lxr_layout.specs.Spaces.{most_chosen}
 use Rattle.lxr_graph.specs.declared.Op.{Op}
 use Rattle.lxr_graph.specs.declared.Op.TheVariants as op
@@ -16,8 +16,7 @@ use Rattle.lxr_graph.specs.declared.report.Kind.TheVariants as kind
 use Rattle.lxr_graph.specs.Names.{without, union}
 use Rattle.lxr_graph.specs.State.{Graph, world_name}
 use Rattle.lxr_graph.specs.Forms.{is_well_formed}
-use Rattle.lxr_graph.specs.Step.{IsWellFormed}
-use Rattle.lxr_graph.specs.History.{PauseReport, Item, Call, Pause}
+use Rattle.lxr_graph.specs.History.{PauseReport, Item, Call, Pause, Renew}
 use Rattle.lxr_graph.proofs.FormLemmas.{well_formed}
 use Rattle.lxr_graph.proofs.NameSets.{not_both}
 use Rattle.lxr_model.specs.Terms.{Terms}
@@ -54,6 +53,7 @@ must_not_test terms h never = not_from_false (must_collect terms h) (false_from_
 
 news_test : (h : List Item) → OnlyNewsSincePause h → IsTrue (only_news_since_pause h)
 news_test [] e = absurd e
+news_test (Renew ns ∷ h) e = absurd e
 news_test (Pause report ∷ h) e = refl
 news_test (Call t (op.New dest shape) r ∷ h) e = news_test h e
 news_test (Call t _ r ∷ h) e = absurd e
@@ -84,6 +84,7 @@ stand_test terms h m k kind.Plain e = and_from (not (must_collect terms h)) (nee
 
 after_test : (h : List Item) → IsRightAfterCollecting h → IsTrue (is_right_after_collecting h)
 after_test [] e = absurd e
+after_test (Renew ns ∷ h) e = absurd e
 after_test (Pause report ∷ h) e = ap is_collect e
 after_test (Call t (op.New dest shape) reply.Full ∷ h) e = after_test h e
 after_test (Call t _ _ ∷ h) e = absurd e
@@ -113,6 +114,7 @@ waited_test terms h (Call t (op.New dest shape) r) e =
     run_test m.state.graph (without (union m.made m.unreclaimed) (world_name ∷ [])) (terms.blocks - most_chosen terms.blocks) (line_count shape) e
 waited_test terms h (Call t _ r) e = absurd e
 waited_test terms h (Pause report) e = absurd e
+waited_test terms h (Renew ns) e = absurd e
 
 waiting : (terms : Terms) (h : List Item) (report : PauseReport) → IsTrue (stands_for_waiting terms h report) → StandsForWaiting terms h report
 waiting terms h report e =
@@ -125,6 +127,7 @@ not_waiting_test terms h report never =
 
 promise_test : (terms : Terms) (h : List Item) (x : Item) → KeepsPromise terms h x → IsTrue (keeps_promise terms h x)
 promise_test terms [] x e = refl
+promise_test terms (Renew ns ∷ h) x e = refl
 promise_test terms (Call t o r ∷ h) x e = refl
 promise_test terms (Pause report ∷ h) x e =
     let waits = stands_for_waiting terms h report in
@@ -136,6 +139,7 @@ promise_test terms (Pause report ∷ h) x e =
 
 owes_test : (terms : Terms) (h : List Item) → OwesNoCall terms h → IsTrue (owes_no_call terms h)
 owes_test terms [] e = refl
+owes_test terms (Renew ns ∷ h) e = refl
 owes_test terms (Call t o r ∷ h) e = refl
 owes_test terms (Pause report ∷ h) e = not_waiting_test terms h report e
 
@@ -151,34 +155,35 @@ can_be terms h m k kind.Begin e = tt
 can_be terms h m k (kind.End j) e = running_some j m.trace e.1
 can_be terms h m k kind.Collect e = tt
 
-follow_test : (terms : Terms) (h : List Item) (x : Item) → MayFollow terms h x
+follow_test : (terms : Terms) (h : List Item) (x : Item) → terms.renews ≡ false → MayFollow terms h x
     → IsTrue (may_follow terms h (moment terms.threads h) x) × (item_again (moment terms.threads h) x ≡ x)
-follow_test terms h (Call t o r) e =
+follow_test terms h (Call t o r) never e =
     let m = moment terms.threads h in
     let a = replies_test terms h t o r e.reply in
     let low = and_from (nat_le 1 t) (nat_le t terms.threads) (test_from_le 1 t e.thread.0) (test_from_le t terms.threads e.thread.1) in
     let formed = and_from (is_well_formed o) (may_reply terms h m o r) ((well_formed o).1 e.operation) a.0 in
     (and_from (nat_le 1 t && nat_le t terms.threads) (is_well_formed o && may_reply terms h m o r) low formed, ap (Call t o) a.1)
-follow_test terms h (Pause report) e =
+follow_test terms h (Renew ns) never e = absurd (let both : true ≡ false = sym e.allowed ∙ never in cc)
+follow_test terms h (Pause report) never e =
     let m = moment terms.threads h in
     let can = can_be terms h m report.number report.kind e.stands in (
       stand_test terms h m report.number report.kind e.stands,
       ap Pause (report_determined m (report_at m report.kind) report (reports_right m report.kind can) e.reports refl),
     )
 
-tests_so_far : (terms : Terms) (h : List Item) → IsLegalSoFar terms h → IsTrue (all_may_stand terms h) × (again terms h ≡ h)
-tests_so_far terms [] e = (refl, refl)
-tests_so_far terms (x ∷ h) e =
-    let rest = tests_so_far terms h e.0 in
-    let follows = follow_test terms h x e.2 in (
+tests_so_far : (terms : Terms) (h : List Item) → terms.renews ≡ false → IsLegalSoFar terms h → IsTrue (all_may_stand terms h) × (again terms h ≡ h)
+tests_so_far terms [] never e = (refl, refl)
+tests_so_far terms (x ∷ h) never e =
+    let rest = tests_so_far terms h never e.0 in
+    let follows = follow_test terms h x never e.2 in (
       and_from (all_may_stand terms h) (keeps_promise terms h x && may_follow terms h (moment terms.threads h) x) rest.0
           (and_from (keeps_promise terms h x) (may_follow terms h (moment terms.threads h) x) (promise_test terms h x e.1) follows.0),
       λ i. follows.1 i ∷ rest.1 i,
     )
 
 pub legality_right : LegalityIsComputed
-legality_right terms h = (
-  λ legal. let a = tests_so_far terms h legal.0 in record { stand = a.0; owes = owes_test terms h legal.1; same = a.1 },
+legality_right terms h never = (
+  λ legal. let a = tests_so_far terms h never legal.0 in record { stand = a.0; owes = owes_test terms h legal.1; same = a.1 },
   legal_by_tests terms h,
 )
 

@@ -2,7 +2,7 @@
 use Rattle.std.specs.Prelude.{◌≡◌, ℕ, zero, suc, ◌+◌, ◌-◌, Bool, true, false, not, ◌&&◌, ◌||◌, nat_eq, nat_lt, nat_le, List, [], ◌∷◌, IsTrue, length}
 use Rattle.lxr_layout.specs.Spaces.{most_chosen}
 use Rattle.lxr_graph.specs.declared.Op.{Op}
-use Rattle.lxr_graph.specs.History.{Item, Call, Pause, calls_of}
+use Rattle.lxr_graph.specs.History.{Item, Call, Pause, Renew, calls_of}
 use Rattle.lxr_model.specs.Terms.{Terms}
 use Rattle.lxr_model.specs.Moments.{Moment, moment}
 use Rattle.lxr_model.specs.Kinds.{ends}
@@ -21,12 +21,14 @@ operations_by_thread (suc n) script = operations_of script (suc n) ∷ operation
 -- no thread has a call between its `pause` or `collect` and the next pause
 abbrev pub asked_pauses_come_first : List Item → Bool
 asked_pauses_come_first [] = true
+asked_pauses_come_first (Renew ns ∷ h) = true
 asked_pauses_come_first (Pause report ∷ h) = asked_pauses_come_first h
 asked_pauses_come_first (Call t o r ∷ h) = asked_pauses_come_first h && not (has_asked t h)
 
 -- between two pauses a thread has at most `every` calls and one more
 abbrev pub turns_are_short : Terms → List Item → Bool
 turns_are_short terms [] = true
+turns_are_short terms (Renew ns ∷ h) = true
 turns_are_short terms (Pause report ∷ h) = turns_are_short terms h
 turns_are_short terms (Call t o r ∷ h) = turns_are_short terms h && nat_le (calls_since_pause t (Call t o r ∷ h)) (terms.every + 1)
 
@@ -49,18 +51,21 @@ has_cause terms script h = nat_eq (ends h) terms.threads || some_thread (is_caus
 -- each pause has a cause in what stands before it
 abbrev pub pauses_have_causes : Terms → Script → List Item → Bool
 pauses_have_causes terms script [] = true
+pauses_have_causes terms script (Renew ns ∷ h) = true
 pauses_have_causes terms script (Call t o r ∷ h) = pauses_have_causes terms script h
 pauses_have_causes terms script (Pause report ∷ h) = pauses_have_causes terms script h && has_cause terms script h
 
 -- at the last pause of h not all threads had ended
 abbrev pub last_pause_was_early : Terms → List Item → Bool
 last_pause_was_early terms [] = true
+last_pause_was_early terms (Renew ns ∷ h) = true
 last_pause_was_early terms (Call t o r ∷ h) = last_pause_was_early terms h
 last_pause_was_early terms (Pause report ∷ h) = nat_lt (ends h) terms.threads
 
 -- the newest item is a pause, and it is the first before which all threads have ended
 abbrev pub ends_with_pause : Terms → List Item → Bool
 ends_with_pause terms [] = false
+ends_with_pause terms (Renew ns ∷ h) = false
 ends_with_pause terms (Call t o r ∷ h) = false
 ends_with_pause terms (Pause report ∷ h) = nat_eq (ends h) terms.threads && last_pause_was_early terms h
 

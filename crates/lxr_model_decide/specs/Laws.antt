@@ -1,5 +1,5 @@
 -- What is computed is what the model defines, each the contract of a function with an empty body.
-use Rattle.std.specs.Prelude.{◌↔◌, List}
+use Rattle.std.specs.Prelude.{◌≡◌, ◌↔◌, false, List}
 use Rattle.lxr_layout.specs.declared.Name.{Name}
 use Rattle.lxr_graph.specs.declared.report.Kind.{Kind}
 use Rattle.lxr_graph.specs.Names.{IsSetOf}
@@ -39,9 +39,9 @@ ReportsAreRight = (m : Moment) (k : Kind) → CanBe m k → IsReport m (report_a
 
 -- ---- legality
 
--- a history is legal exactly where it is found so
+-- a history in which names are never renewed is legal exactly where it is found so
 abbrev pub LegalityIsComputed : Type 0
-LegalityIsComputed = (terms : Terms) (h : List Item) → IsLegal terms h ↔ IsFoundLegal terms h
+LegalityIsComputed = (terms : Terms) (h : List Item) → terms.renews ≡ false → IsLegal terms h ↔ IsFoundLegal terms h
 
 -- a history belongs to a script exactly where it is found so
 abbrev pub BelongingIsComputed : Type 0

@@ -1,4 +1,4 @@
--- Whether a history is legal, computed: what may stand is tested item by item, and its replies and reports are computed
+-- Whether a history in which names are never renewed is legal, computed: what may stand is tested item by item, and its replies and reports are computed
 -- again.
 use Rattle.std.specs.Prelude.{◌≡◌, ℕ, ◌+◌, ◌-◌, ◌%◌, Bool, true, false, not, ◌&&◌, ◌||◌, nat_eq, nat_lt, nat_le, Option, Some, None, List, [], ◌∷◌, IsTrue}
 use Rattle.lxr_layout.specs.declared.Name.{Name}
@@ -15,7 +15,7 @@ use Rattle.lxr_graph.specs.Names.{without, union}
 use Rattle.lxr_graph.specs.State.{Graph, world_name}
 use Rattle.lxr_graph.specs.Forms.{is_well_formed}
 use Rattle.lxr_graph.specs.Step.{step}
-use Rattle.lxr_graph.specs.History.{PauseReport, Item, Call, Pause}
+use Rattle.lxr_graph.specs.History.{PauseReport, Item, Call, Pause, Renew}
 use Rattle.lxr_model.specs.Terms.{Terms}
 use Rattle.lxr_model.specs.Moments.{Trace, Moment, moment}
 use Rattle.lxr_model.specs.Kinds.{collect_called, ends}
@@ -32,6 +32,7 @@ must_collect terms h = collect_called h || nat_eq (ends h) terms.threads
 -- there is a last pause, and nothing but `new` calls stands behind it
 abbrev pub only_news_since_pause : List Item → Bool
 only_news_since_pause [] = false
+only_news_since_pause (Renew ns ∷ h) = false
 only_news_since_pause (Pause report ∷ h) = true
 only_news_since_pause (Call t (op.New dest shape) r ∷ h) = only_news_since_pause h
 only_news_since_pause (Call t _ r ∷ h) = false
@@ -76,6 +77,7 @@ is_collect _ = false
 -- the last pause collected, and nothing but `new full` stands behind it
 abbrev pub is_right_after_collecting : List Item → Bool
 is_right_after_collecting [] = false
+is_right_after_collecting (Renew ns ∷ h) = false
 is_right_after_collecting (Pause report ∷ h) = is_collect report.kind
 is_right_after_collecting (Call t (op.New dest shape) reply.Full ∷ h) = is_right_after_collecting h
 is_right_after_collecting (Call t _ _ ∷ h) = false
@@ -119,6 +121,7 @@ owes_no_call terms _ = true
 abbrev pub may_follow : Terms → List Item → Moment → Item → Bool
 may_follow terms h m (Call t o r) = (nat_le 1 t && nat_le t terms.threads) && (is_well_formed o && may_reply terms h m o r)
 may_follow terms h m (Pause report) = may_stand terms h m.trace report.number report.kind
+may_follow terms h m (Renew ns) = false
 
 -- all items may stand where they do
 abbrev pub all_may_stand : Terms → List Item → Bool
@@ -134,6 +137,7 @@ reply_again m t o r = (step m.state t o).1
 abbrev pub item_again : Moment → Item → Item
 item_again m (Call t o r) = Call t o (reply_again m t o r)
 item_again m (Pause report) = Pause (report_at m report.kind)
+item_again m (Renew ns) = Renew ns
 
 -- all items computed again
 abbrev pub again : Terms → List Item → List Item

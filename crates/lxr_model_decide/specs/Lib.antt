@@ -10,3 +10,4 @@ pub mod NearMisses
 pub mod ExampleSwaps
 pub mod ExampleScripts
 pub mod Remembered
+pub mod ExampleRenewals

@@ -9,6 +9,7 @@
 mod histories;
 mod near_misses;
 mod remembered;
+mod renewals;
 mod reports;
 mod runs;
 mod scripts;
@@ -21,6 +22,7 @@ pub use near_misses::{
     unasked_collect_is_refused,
 };
 pub use remembered::remembered_are_summed;
+pub use renewals::{renewals_are_refused, renewed_goes_on};
 pub use reports::report_at;
 pub use runs::{
     cycle_is_swept, full_after_collecting, held_is_the_same, let_go_is_dead,

@@ -12,10 +12,11 @@ use Rattle.lxr_graph.specs.declared.report.Kind.TheVariants as kind
 use Rattle.lxr_graph.specs.Names.{has, without, union, AreInOrder}
 use Rattle.lxr_graph.specs.State.{State, Graph, Object, HasObject, object_at, refs_of, world_name, opening}
 use Rattle.lxr_graph.specs.Step.{step}
-use Rattle.lxr_graph.specs.History.{PauseReport, Item, Call, Pause}
+use Rattle.lxr_graph.specs.History.{PauseReport, Item, Call, Pause, Renew}
 use Rattle.lxr_graph.proofs.NameSets.{not_both, has_one, union_cases, union_left, union_right, without_parts, in_without, in_order-union, in_order-without, one_list}
 use Rattle.lxr_model.specs.Reachable.{Reachable, the_world, held, referred, Refers}
 use Rattle.lxr_model.specs.Dead.{by_kept, by_promoted}
+use Rattle.lxr_model.specs.Renewing.{IsStart}
 use Rattle.lxr_model.specs.Terms.{Terms}
 use Rattle.lxr_model.specs.Moments.{Trace, Moment, moment, opening_moment, made_after, after_pause, going_on, trace_after, unreclaimed_after, stuck_after}
 use Rattle.lxr_model.specs.Reports.{PauseParts, IsReportWith, AreDrained, IsSwept, IsSweptAtEnd, kept_names, remaining_names}
@@ -26,7 +27,7 @@ use Rattle.lxr_model.proofs.HistoryLemmas.{RunningGood, GoodAt, good_history, ca
 use Rattle.lxr_model.proofs.DrainLemmas.{kept_all, left_parts, left_remain, promoted_fresh, remain_left}
 use Rattle.lxr_model.proofs.CollectLemmas.{collected_reachable}
 use Rattle.lxr_model_laws.specs.UnreclaimedLaws.{IsGarbage, ReachableWereSoOrAreYounger, UnreclaimedWereSoOrAreYounger, UnreclaimedRemain, UnreclaimedAreClosed, UnreclaimedHaveObjects, StuckAreUnreclaimed, OnlyGarbageRefersToGarbage}
-use Rattle.lxr_model_laws.proofs.ReportLemmas.{moments_in_order}
+use Rattle.lxr_model_laws.proofs.ReportLemmas.{left_in_order, moments_in_order}
 use Rattle.lxr_model_laws.proofs.TraceLemmas.{still_garbage, good_at}
 
 -- an object that refers to something is there
@@ -98,6 +99,15 @@ closed_call terms h t o r fit c good closed =
       | inl e ↦ subst (λ (p : State × List Name). StaysClosed m.last m.unreclaimed m.trace p.1 p.0) (λ i. (sym e.0 i, sym e.1 i)) closed
       | inr e ↦ subst (StaysClosed m.last m.unreclaimed m.trace (made_after m.made r)) (sym e.0) (closed_step terms.threads m t o r fit good closed)
     ]
+
+-- ---- a start
+
+closed_start : (threads : ℕ) (m : Moment) → IsStart threads m → m.trace ≡ None → ClosedAt m
+closed_start threads m start none = record {
+  closed = λ u n h f. start.closed.references u n h (subst (λ (s : State). Refers s.graph u n) start.rests f);
+  fresh = λ u n f. inl (subst (λ (s : State). Refers s.graph u n) (sym start.rests) f);
+  running = subst (λ t. RunningClosed t m.last m.unreclaimed m.state) (sym none) tt;
+}
 
 -- ---- a pause
 
@@ -194,6 +204,7 @@ closed_history terms (Call t o r ∷ h) legal =
     let rows : length (moment terms.threads h).state.graph ≡ terms.threads + 1 = good.rows in
     let fit : t ≤ terms.threads = legal.2.thread.1 in
     closed_call terms h t o r (omega arith) legal.2.reply good (closed_history terms h legal.0)
+closed_history terms (Renew ns ∷ h) legal = closed_start terms.threads (moment terms.threads (Renew ns ∷ h)) legal.2.sound refl
 closed_history terms (Pause report ∷ h) legal =
     closed_pause terms.threads (moment terms.threads h) report legal.2.reports.0 legal.2.reports.1 (good_history terms h legal.0) (closed_history terms h legal.0)
 
@@ -236,11 +247,11 @@ pub remain : UnreclaimedRemain
 remain terms h report parts legal is =
     let m = moment terms.threads h in
     let good = good_history terms h legal in
-    let ordered : AreInOrder m.unreclaimed = (moments_in_order terms.threads h).unreclaimed in
+    let ordered : AreInOrder m.unreclaimed = (moments_in_order terms h legal).unreclaimed in
     let kept : AreInOrder (kept_names m parts report) =
     in_order-union report.promoted (without m.unreclaimed parts.first_dead) (in_order-without m.unreclaimed parts.first_dead ordered) in
     one_list (unreclaimed_after m report) (without (remaining_names m parts report) parts.third_dead)
-    (moments_in_order terms.threads (Pause report ∷ h)).unreclaimed
+    (left_in_order report report.promoted m.unreclaimed ordered)
     (in_order-without (remaining_names m parts report) parts.third_dead
     (in_order-without (without (kept_names m parts report) parts.second_dead) report.swept (in_order-without (kept_names m parts report) parts.second_dead kept)))
     (λ n. (
@@ -267,5 +278,6 @@ stuck_left threads m report parts is good before n s =
 pub stuck_unreclaimed : StuckAreUnreclaimed
 stuck_unreclaimed terms [] legal n s = s
 stuck_unreclaimed terms (Call t o r ∷ h) legal n s = stuck_unreclaimed terms h legal.0 n s
+stuck_unreclaimed terms (Renew ns ∷ h) legal n s = legal.2.sound.stuck n s
 stuck_unreclaimed terms (Pause report ∷ h) legal n s =
     stuck_left terms.threads (moment terms.threads h) report legal.2.reports.0 legal.2.reports.1 (good_history terms h legal.0) (stuck_unreclaimed terms h legal.0) n s

@@ -9,7 +9,7 @@ use Rattle.lxr_graph.specs.declared.report.Kind.{Kind}
 use Rattle.lxr_graph.specs.declared.report.Kind.TheVariants as kind
 use Rattle.lxr_graph.specs.Names.{same_name, has, without, union}
 use Rattle.lxr_graph.specs.State.{HasObject}
-use Rattle.lxr_graph.specs.History.{PauseReport, Item, Call, Pause}
+use Rattle.lxr_graph.specs.History.{PauseReport, Item, Call, Pause, Renew}
 use Rattle.lxr_graph.proofs.NameSets.{not_both, union_cases, union_left, union_right, without_parts}
 use Rattle.lxr_model.specs.Terms.{Terms}
 use Rattle.lxr_model.specs.Moments.{Trace, Moment, moment, after_pause}
@@ -133,6 +133,7 @@ module _ (threads : ℕ) (h : List Item) (m : Moment) (report : PauseReport) (pa
 past_history : (terms : Terms) (h : List Item) → IsLegalSoFar terms h → Past h (moment terms.threads h)
 past_history terms [] legal = record { gone = λ n r. absurd (cc); grown = λ n p. absurd (cc) }
 past_history terms (Call t o r ∷ h) legal = let past = past_history terms h legal.0 in record { gone = past.gone; grown = past.grown }
+past_history terms (Renew ns ∷ h) legal = record { gone = λ n r. absurd (cc); grown = λ n p. absurd (cc) }
 past_history terms (Pause report ∷ h) legal =
     past_pause terms.threads h (moment terms.threads h) report legal.2.reports.0 legal.2.reports.1 (good_history terms h legal.0) (running_garbage terms h legal.0) (past_history terms h legal.0)
 

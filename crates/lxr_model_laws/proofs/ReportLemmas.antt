@@ -1,6 +1,6 @@
 -- A report is determined part by part, in the order of a pause: each part is a set by the parts before it, and a set has
 -- one list in order. A running trace is young since a plain pause may only stand while it is.
-use Rattle.std.proofs.Common.{◌≡◌, ℕ, ◌+◌, ◌<◌, ◌≤◌, refl, sym, subst, ◌∙◌, arith, Bool, true, false, List, [], ◌∷◌}
+use Rattle.std.proofs.Common.{◌≡◌, ℕ, ◌+◌, ◌<◌, ◌≤◌, refl, sym, ap, subst, ◌∙◌, arith, Bool, true, false, List, [], ◌∷◌}
 use Rattle.std.specs.Prelude.{Option, Some, None}
 use Rattle.lxr_layout.specs.declared.Name.{Name}
 use Rattle.lxr_graph.specs.declared.Reply.{Reply}
@@ -9,7 +9,7 @@ use Rattle.lxr_graph.specs.declared.report.Kind.{Kind}
 use Rattle.lxr_graph.specs.declared.report.Kind.TheVariants as kind
 use Rattle.lxr_graph.specs.Names.{without, union, AreInOrder}
 use Rattle.lxr_graph.specs.State.{world_name}
-use Rattle.lxr_graph.specs.History.{PauseReport, Item, Call, Pause}
+use Rattle.lxr_graph.specs.History.{PauseReport, Item, Call, Pause, Renew}
 use Rattle.lxr_graph.proofs.NameSets.{in_order-none, in_order-one, in_order-insert, in_order-union, in_order-without, one_set}
 use Rattle.lxr_model.specs.Terms.{Terms}
 use Rattle.lxr_model.specs.Moments.{Trace, Moment, moment, made_after, left_by, going_on, trace_after}
@@ -42,21 +42,24 @@ made_in_order : (ns : List Name) (r : Reply) → AreInOrder ns → AreInOrder (m
 made_in_order ns (reply.New n) o = in_order-insert n ns o
 made_in_order ns _ o = o
 
-left_in_order : (report : PauseReport) (ns ms : List Name) → AreInOrder ms → AreInOrder (left_by report (union ns ms))
+pub left_in_order : (report : PauseReport) (ns ms : List Name) → AreInOrder ms → AreInOrder (left_by report (union ns ms))
 left_in_order report ns ms o = in_order-without (without (union ns ms) report.dead) report.swept (in_order-without (union ns ms) report.dead (in_order-union ns ms o))
 
 pub moments_in_order : MomentsAreInOrder
-moments_in_order threads [] = record { unreclaimed = in_order-one world_name; stuck = in_order-one world_name; made = in_order-none }
-moments_in_order threads (Call t o r ∷ h) =
-    let before = moments_in_order threads h in
-    record { unreclaimed = before.unreclaimed; stuck = before.stuck; made = made_in_order (moment threads h).made r before.made }
-moments_in_order threads (Pause report ∷ h) =
-    let before = moments_in_order threads h in
+moments_in_order terms [] legal = record { unreclaimed = in_order-one world_name; stuck = in_order-one world_name; made = in_order-none }
+moments_in_order terms (Call t o r ∷ h) legal =
+    let before = moments_in_order terms h legal.0 in
+    record { unreclaimed = before.unreclaimed; stuck = before.stuck; made = made_in_order (moment terms.threads h).made r before.made }
+moments_in_order terms (Pause report ∷ h) legal =
+    let before = moments_in_order terms h legal.0 in
     record {
-      unreclaimed = left_in_order report report.promoted (moment threads h).unreclaimed before.unreclaimed;
-      stuck = left_in_order report report.stuck (moment threads h).stuck before.stuck;
+      unreclaimed = left_in_order report report.promoted (moment terms.threads h).unreclaimed before.unreclaimed;
+      stuck = left_in_order report report.stuck (moment terms.threads h).stuck before.stuck;
       made = in_order-none;
     }
+moments_in_order terms (Renew ns ∷ h) legal =
+    let sound = legal.2.sound in
+    record { unreclaimed = sound.unreclaimed_in_order; stuck = sound.stuck_in_order; made = in_order-none }
 
 -- ---- one report
 
@@ -127,11 +130,21 @@ history_determined terms (Pause a ∷ g) (Pause b ∷ h) x y alike =
     let rest : g ≡ h = history_determined terms g h x.0 y.0 alike.1 in
     let one : a ≡ b = report_determined (moment terms.threads h) a b (subst (λ l. IsReport (moment terms.threads l) a) rest x.2.reports) y.2.reports alike.0 in
     λ i. Pause (one i) ∷ rest i
+history_determined terms (Renew ns ∷ g) (Renew ms ∷ h) x y alike =
+    let rest : g ≡ h = history_determined terms g h x.0 y.0 alike in
+    let left : world_name ∷ ns ≡ world_name ∷ ms = sym x.2.left ∙ ap (λ l. (moment terms.threads l).unreclaimed) rest ∙ y.2.left in
+    let same : ns ≡ ms = cc in
+    λ i. Renew (same i) ∷ rest i
 history_determined terms [] (y' ∷ h) x y alike = absurd alike
 history_determined terms (Call t o r ∷ g) [] x y alike = absurd alike
 history_determined terms (Call t o r ∷ g) (Pause b ∷ h) x y alike = absurd alike
+history_determined terms (Call t o r ∷ g) (Renew ms ∷ h) x y alike = absurd alike
 history_determined terms (Pause a ∷ g) [] x y alike = absurd alike
 history_determined terms (Pause a ∷ g) (Call u p q ∷ h) x y alike = absurd alike
+history_determined terms (Pause a ∷ g) (Renew ms ∷ h) x y alike = absurd alike
+history_determined terms (Renew ns ∷ g) [] x y alike = absurd alike
+history_determined terms (Renew ns ∷ g) (Call u p q ∷ h) x y alike = absurd alike
+history_determined terms (Renew ns ∷ g) (Pause b ∷ h) x y alike = absurd alike
 
 -- ---- traces
 
@@ -157,6 +170,7 @@ young_after terms h m report kind.Collect w e stands young = tt
 young : (terms : Terms) (h : List Item) → 1 ≤ terms.within → IsLegalSoFar terms h → IsYoung terms (moment terms.threads h).number (moment terms.threads h).trace
 young terms [] w legal = tt
 young terms (Call t o r ∷ h) w legal = young terms h w legal.0
+young terms (Renew ns ∷ h) w legal = tt
 young terms (Pause report ∷ h) w legal =
     young_after terms h (moment terms.threads h) report report.kind w legal.2.reports.1.number legal.2.stands (young terms h w legal.0)
 

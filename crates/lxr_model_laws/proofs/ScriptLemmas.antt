@@ -6,7 +6,7 @@ use Rattle.std.proofs.lemmas.Bool.{cases_lt}
 use Rattle.std.proofs.lemmas.List.{append_assoc, get_or_past}
 use Rattle.lxr_graph.specs.declared.Op.{Op}
 use Rattle.lxr_graph.specs.declared.Op.TheVariants as op
-use Rattle.lxr_graph.specs.History.{Call, Item, Pause, calls_of}
+use Rattle.lxr_graph.specs.History.{Call, Item, Pause, Renew, calls_of}
 use Rattle.lxr_model.specs.Belongs.{CallsBeginOperations, HasCause, IsCauseOf, PausesHaveCauses, Script, is_new, next_operation, operations_of, writes_reference}
 use Rattle.lxr_model.specs.Terms.{Terms}
 use Rattle.lxr_model_laws.specs.ScriptLaws.{EndedAreAskedNoMore, GoesOn, ScriptsMayGrow}
@@ -74,6 +74,7 @@ has_cause_on terms script script' h on (inr (t, first, last, cause)) = inr (t, f
 -- so is each pause's
 pub causes_on : (terms : Terms) (script script' : Script) (h : List Item) → GoesOn script script' → PausesHaveCauses terms script h → PausesHaveCauses terms script' h
 causes_on terms script script' [] on have = tt
+causes_on terms script script' (Renew ns ∷ h) on have = tt
 causes_on terms script script' (Call t o r ∷ h) on have = causes_on terms script script' h on have
 causes_on terms script script' (Pause report ∷ h) on have = (causes_on terms script script' h on have.0, has_cause_on terms script script' h on have.1)
 

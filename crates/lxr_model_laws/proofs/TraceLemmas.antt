@@ -12,7 +12,7 @@ use Rattle.lxr_graph.specs.declared.report.Kind.TheVariants as kind
 use Rattle.lxr_graph.specs.Names.{has, without, union}
 use Rattle.lxr_graph.specs.State.{State, object_at, refs_of}
 use Rattle.lxr_graph.specs.Step.{step}
-use Rattle.lxr_graph.specs.History.{PauseReport, Item, Call, Pause}
+use Rattle.lxr_graph.specs.History.{PauseReport, Item, Call, Pause, Renew}
 use Rattle.lxr_graph.proofs.NameSets.{not_both, union_right, in_without}
 use Rattle.lxr_model.specs.Reachable.{Reachable, held, referred}
 use Rattle.lxr_model.specs.Dead.{Dead, dead}
@@ -162,6 +162,7 @@ running_pause threads m report parts is good stays kind.Collect e = tt
 
 pub running_garbage : (terms : Terms) (h : List Item) → IsLegalSoFar terms h → RunningGarbage (moment terms.threads h).trace (moment terms.threads h)
 running_garbage terms [] legal = tt
+running_garbage terms (Renew ns ∷ h) legal = tt
 running_garbage terms (Call t o r ∷ h) legal =
     let good = good_history terms h legal.0 in
     let rows : length (moment terms.threads h).state.graph ≡ terms.threads + 1 = good.rows in

@@ -1,8 +1,9 @@
--- Laws of legal histories: a name is promoted once, reclaimed once, and not promoted after it was reclaimed.
+-- Laws of legal histories: from one renewal of names to the next a name is promoted once, reclaimed once, and not promoted after it was
+-- reclaimed.
 use Rattle.std.specs.Prelude.{◌≡◌, false, List, [], ◌∷◌, ◌++◌, IsTrue}
 use Rattle.lxr_layout.specs.declared.Name.{Name}
 use Rattle.lxr_graph.specs.Names.{has}
-use Rattle.lxr_graph.specs.History.{PauseReport, Item, Call, Pause}
+use Rattle.lxr_graph.specs.History.{PauseReport, Item, Call, Pause, Renew}
 use Rattle.lxr_model.specs.Terms.{Terms}
 use Rattle.lxr_model.specs.Legal.{IsLegalSoFar}
 
@@ -10,14 +11,16 @@ use Rattle.lxr_model.specs.Legal.{IsLegalSoFar}
 abbrev pub reclaimed_by : PauseReport → List Name
 reclaimed_by report = report.dead ++ report.swept
 
--- all names that the pauses of a history reclaimed, and all that they promoted
+-- all names that the pauses of a history reclaimed since names were last renewed, and all that they promoted
 abbrev pub names_reclaimed : List Item → List Name
 names_reclaimed [] = []
+names_reclaimed (Renew ns ∷ h) = []
 names_reclaimed (Call t o r ∷ h) = names_reclaimed h
 names_reclaimed (Pause report ∷ h) = reclaimed_by report ++ names_reclaimed h
 
 abbrev pub names_promoted : List Item → List Name
 names_promoted [] = []
+names_promoted (Renew ns ∷ h) = []
 names_promoted (Call t o r ∷ h) = names_promoted h
 names_promoted (Pause report ∷ h) = report.promoted ++ names_promoted h
 

@@ -2,7 +2,7 @@
 use Rattle.std.specs.Prelude.{◌≡◌, ℕ, ◌+◌, ◌<◌, ◌≤◌, Some, List, [], ◌∷◌}
 use Rattle.lxr_graph.specs.declared.report.Kind.TheVariants as kind
 use Rattle.lxr_graph.specs.Names.{AreInOrder}
-use Rattle.lxr_graph.specs.History.{PauseReport, Item, Call, Pause}
+use Rattle.lxr_graph.specs.History.{PauseReport, Item, Call, Pause, Renew}
 use Rattle.lxr_model.specs.Terms.{Terms}
 use Rattle.lxr_model.specs.Moments.{Trace, Moment, moment, trace_at}
 use Rattle.lxr_model.specs.Reports.{IsReport}
@@ -27,7 +27,7 @@ pub record HasNamesInOrder (m : Moment) : Type 0 where
   pub made : AreInOrder m.made
 
 abbrev pub MomentsAreInOrder : Type 0
-MomentsAreInOrder = (threads : ℕ) (h : List Item) → HasNamesInOrder (moment threads h)
+MomentsAreInOrder = (terms : Terms) (h : List Item) → IsLegalSoFar terms h → HasNamesInOrder (moment terms.threads h)
 
 -- ---- one report
 
@@ -35,11 +35,12 @@ MomentsAreInOrder = (threads : ℕ) (h : List Item) → HasNamesInOrder (moment 
 abbrev pub ReportIsDetermined : Type 0
 ReportIsDetermined = (m : Moment) (a b : PauseReport) → IsReport m a → IsReport m b → a.kind ≡ b.kind → a ≡ b
 
--- two histories have the same calls with the same replies, and pauses of the same kinds between them
+-- two histories have the same calls with the same replies, and pauses of the same kinds and renewals of names between them
 abbrev pub AreAlike : List Item → List Item → Type 0
 AreAlike [] [] = Unit {0}
 AreAlike (Call t o r ∷ g) (Call u p q ∷ h) = (t ≡ u) × (o ≡ p) × (r ≡ q) × AreAlike g h
 AreAlike (Pause a ∷ g) (Pause b ∷ h) = (a.kind ≡ b.kind) × AreAlike g h
+AreAlike (Renew ns ∷ g) (Renew ms ∷ h) = AreAlike g h
 AreAlike _ _ = ⊥
 
 -- two such histories that are legal have the same reports

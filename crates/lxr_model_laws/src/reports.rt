@@ -6,7 +6,7 @@ pub fn reports_are_in_order()
     ensures { ReportsAreInOrder }
 {}
 
-/// The unreclaimed names, the stuck names and those made since the last pause are in order, each once.
+/// At a legal history's end the unreclaimed names, the stuck names and those made since the last pause are in order, each once.
 pub fn moments_are_in_order()
     ensures { MomentsAreInOrder }
 {}
@@ -16,7 +16,8 @@ pub fn report_is_determined()
     ensures { ReportIsDetermined }
 {}
 
-/// Two legal histories with the same calls and replies, and with pauses of the same kinds, have the same reports.
+/// Two legal histories with the same calls and replies, with pauses of the same kinds and renewals at the same places, have the
+/// same reports.
 pub fn history_is_determined()
     ensures { HistoryIsDetermined }
 {}

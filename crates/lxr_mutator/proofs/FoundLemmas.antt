@@ -1,10 +1,9 @@
 -- What units of swaps and adds tell: step by step, by what the steps so far have led to.
-use Rattle.std.proofs.Common.{◌≡◌, ◌≢◌, ℕ, ◌+◌, ◌≤◌, ◌⊎◌, inl, inr, Bool, true, false, arith, refl, sym, ap, subst, ◌∙◌, List, [], ◌∷◌, ◌++◌, Option, Some, None}
-use Rattle.std.specs.Prelude.{◌&&◌, IsTrue, nat_eq, nat_le, nat_lt, if◌then◌else◌, slice_set}
+use Rattle.std.proofs.Common.{◌≡◌, ◌≢◌, ℕ, ◌+◌, ◌⊎◌, inl, inr, Bool, true, false, arith, refl, sym, ap, subst, ◌∙◌, List, [], ◌∷◌, ◌++◌, Option, Some, None}
+use Rattle.std.specs.Prelude.{IsTrue, nat_eq, nat_le, nat_lt, if◌then◌else◌, slice_set}
 use Rattle.std.proofs.lemmas.List.{append_assoc}
 use Rattle.lxr_layout.specs.declared.Place.{Place}
 use Rattle.lxr_layout.specs.declared.LogEntry.{LogEntry}
-use Rattle.lxr_layout.specs.declared.Shape.{Shape}
 use Rattle.lxr_layout.specs.Objects.{header_of}
 use Rattle.lxr_layout.specs.Places.{place_in}
 use Rattle.lxr_base.specs.Roomy.{Roomy, pushed}
@@ -14,7 +13,7 @@ use Rattle.lxr_graph.specs.declared.Reply.{Reply}
 use Rattle.lxr_graph.specs.declared.Reply.TheVariants as reply
 use Rattle.lxr_barrier.specs.declared.StoreEnd.{StoreEnd}
 use Rattle.lxr_barrier.specs.declared.StoreEnd.TheVariants as store_end
-use Rattle.lxr_barrier.specs.Storing.{Storing, begun_swap, end_of, is_swap, log_after, next_action, reference_word, store_after, swaps_next, target}
+use Rattle.lxr_barrier.specs.Storing.{Storing, begun_swap, end_of, is_swap, log_after, reference_word, store_after, swaps_next, target}
 use Rattle.lxr_barrier.proofs.EndLemmas.{swap_acts, swap_found, swap_tells}
 use Rattle.lxr_mutator.specs.declared.phases.MutEnd.TheVariants as ends
 use Rattle.lxr_mutator.specs.declared.phases.MutatorPhase.TheVariants as phase
@@ -23,8 +22,8 @@ use Rattle.lxr_mutator.specs.declared.phases.Stop.TheVariants as stop
 use Rattle.lxr_mutator.specs.Operating.{dest_of, found_reply, indexed_fields, index_of, value_of}
 use Rattle.lxr_mutator.specs.Mutating.{Mutating, op_now, register, rests_in}
 use Rattle.lxr_mutator.specs.Steps.{accepts_in, action, adding, after, based, data_word, done_with, finished, name_told, next_in, reached, reaching, shape_told, started, stored, with_register}
-use Rattle.lxr_mutator.specs.Units.{GoesOn, IsUnit, led}
-use Rattle.lxr_mutator.specs.Found.{AddTells, AddsTellWhatTheyFind, HasSwapped, IsBaseShape, IsUnread, RepliesSo, SwapTells, SwapsTellWhatTheyFind, swapping}
+use Rattle.lxr_mutator.specs.Units.{GoesOn, led}
+use Rattle.lxr_mutator.specs.Found.{AddTells, AddsTellWhatTheyFind, IsUnread, RepliesSo, SwapTells, SwapsTellWhatTheyFind, swapping}
 use Rattle.lxr_mutator.proofs.StepLemmas.{done_rests}
 use Rattle.lxr_mutator.proofs.UnitLemmas.{led_more, two_more}
 

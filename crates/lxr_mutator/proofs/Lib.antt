@@ -1,3 +1,5 @@
+pub mod Marks
+pub mod AgendaLemmas
 pub mod RunLemmas
 pub mod OrderLemmas
 pub mod NowLemmas

@@ -1,9 +1,11 @@
 -- A mutator takes an order exactly where it may, and is a mutator again.
-use Rattle.std.proofs.Common.{◌≡◌, ◌≢◌, ◌+◌, ◌<◌, [], ◌∷◌, Bool, true, false, arith, refl, sym, subst, inl, inr, length}
+use Rattle.std.proofs.Common.{◌≡◌, ◌≢◌, ◌+◌, ◌<◌, ◌≤◌, [], ◌∷◌, Bool, true, false, arith, refl, sym, subst, inl, inr, length}
 use Rattle.std.specs.Prelude.{◌&&◌, Decides, if◌then◌else◌, nat_lt}
+use Rattle.std.proofs.lemmas.Bool.{le-leb, leb-true}
 use Rattle.std.proofs.lemmas.Bool.Decides.{Decides-and, Decides-like, Decides-ltb}
 use Rattle.std.proofs.lemmas.List.{length-append}
 use Rattle.std.proofs.lemmas.List.Elements.{All-append, All-cons, All-nil}
+use Rattle.lxr_alloc.specs.declared.TheConstants.{MOST_OPERATIONS}
 use Rattle.lxr_graph.specs.declared.Op.{Op}
 use Rattle.lxr_graph.specs.declared.Op.TheVariants as op
 use Rattle.lxr_graph.specs.Forms.{is_well_formed}
@@ -12,7 +14,7 @@ use Rattle.lxr_mutator.specs.declared.phases.MutatorPhase.{MutatorPhase}
 use Rattle.lxr_mutator.specs.declared.phases.MutatorPhase.TheVariants as phase
 use Rattle.lxr_mutator.specs.Mutating.{Mutating}
 use Rattle.lxr_mutator.specs.Mutators.{IsMutator, IsOperation, MayBeIn, MayTakeOrder}
-use Rattle.lxr_mutator.specs.Orders.{has_room_for_order, is_operation, is_ready, takes_order, with_order}
+use Rattle.lxr_mutator.specs.Orders.{has_room_for_order, is_idle, is_operation, is_ready, takes_order, with_order}
 use Rattle.lxr_mutator.specs.Laws.{MutatorsTakeOrdersByRule, TakesOrdersByRule}
 
 -- ---- the test
@@ -30,18 +32,22 @@ operation_decides op.End = (λ e. absurd (cc), λ is. absurd (is.1 refl))
 operation_decides o = endless o (λ e. absurd (cc))
 
 module _ (m : Mutating) (o : Op) where
-  room_decides : Decides (has_room_for_order m) ((length m.operations + 1 < m.replies.room) × (length m.operations < 1048576))
+  room_decides : Decides (has_room_for_order m) ((length m.operations + 1 < m.replies.room) × (length m.operations < MOST_OPERATIONS))
   room_decides =
-      Decides-and (nat_lt (length m.operations + 1) m.replies.room) (nat_lt (length m.operations) 1048576)
-      (Decides-ltb (length m.operations + 1) m.replies.room) (Decides-ltb (length m.operations) 1048576)
+      Decides-and (nat_lt (length m.operations + 1) m.replies.room) (nat_lt (length m.operations) MOST_OPERATIONS)
+      (Decides-ltb (length m.operations + 1) m.replies.room) (Decides-ltb (length m.operations) MOST_OPERATIONS)
+
+  idle_decides : Decides (is_idle m) (length m.operations ≤ length m.replies.items)
+  idle_decides = (leb-true (length m.operations) (length m.replies.items), le-leb (length m.operations) (length m.replies.items))
 
   pub takes_order_decides : Decides (takes_order m o) (MayTakeOrder m o)
   takes_order_decides =
       Decides-like (takes_order m o)
-      (λ h. record { ready = h.0; operation = h.1.0; room = h.1.1.0; few = h.1.1.1 })
-      (λ may. (may.ready, (may.operation, (may.room, may.few))))
-      (Decides-and (is_ready m.phase) (is_operation o && has_room_for_order m) (ready_decides m.phase)
-      (Decides-and (is_operation o) (has_room_for_order m) (operation_decides o) room_decides))
+      (λ h. record { ready = h.0; idle = h.1.0; operation = h.1.1.0; room = h.1.1.1.0; few = h.1.1.1.1 })
+      (λ may. (may.ready, (may.idle, (may.operation, (may.room, may.few)))))
+      (Decides-and (is_ready m.phase) (is_idle m && (is_operation o && has_room_for_order m)) (ready_decides m.phase)
+      (Decides-and (is_idle m) (is_operation o && has_room_for_order m) idle_decides
+      (Decides-and (is_operation o) (has_room_for_order m) (operation_decides o) room_decides)))
 
   -- ---- what becomes of it
 
@@ -56,6 +62,7 @@ module _ (m : Mutating) (o : Op) where
         registers = is.registers;
         held = is.held;
         spans = is.spans;
+        before = is.before;
         indexes = is.indexes;
         room = let room = may.room in omega (arith, more, room);
         few_replies = let few = is.few_replies in omega (arith, more, few);

@@ -42,6 +42,7 @@ placed_is_mutator m shape span is busy room within = record {
   registers = is.registers;
   held = is.held;
   spans = (within, is.spans.1);
+  before = is.before;
   indexes = is.indexes;
   room = is.room;
   few_replies = is.few_replies;

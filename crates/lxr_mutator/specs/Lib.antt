@@ -1,5 +1,8 @@
 pub mod Operating
 pub mod Mutating
+pub mod Dialogues
+pub mod Agendas
+pub mod Keeping
 pub mod Orders
 pub mod Steps
 pub mod Mutators

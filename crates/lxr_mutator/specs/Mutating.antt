@@ -1,6 +1,7 @@
 -- What contracts see of a mutator, and what it is about to do.
 use Rattle.std.specs.Prelude.{ℕ, ◌+◌, ◌-◌, ◌≡◌, Bool, true, false, ◌&&◌, if◌then◌else◌, nat_lt, Option, Some, None, List, length, slice_get, slice_index_or}
 use Rattle.std.specs.List.{count_by}
+use Rattle.std.specs.Option.{option_or}
 use Rattle.lxr_layout.specs.declared.Place.{Place}
 use Rattle.lxr_layout.specs.declared.Name.{Name}
 use Rattle.lxr_layout.specs.declared.LogEntry.{LogEntry}
@@ -19,8 +20,8 @@ use Rattle.lxr_mutator.specs.declared.phases.MutatorPhase.TheVariants as phase
 use Rattle.lxr_mutator.specs.declared.phases.Waiting.{Waiting}
 use Rattle.lxr_mutator.specs.Operating.{dest_of, shape_made}
 
--- A thread of a script: its operations and where it runs; its log, registers and spans; the replies so far, how many
--- operations it did since the epoch began, where its unit is, and how its last unit ended.
+-- A thread of a script, or a live one: its operations and where it runs; its log, registers and spans; how many objects it had as it began to
+-- count, and the replies since; how many operations it did since the epoch began, where its unit is, and how its last unit ended.
 pub record Mutating : Type 0 where
   pub thread : ℕ
   pub operations : List Op
@@ -29,6 +30,7 @@ pub record Mutating : Type 0 where
   pub log : Roomy LogEntry
   pub registers : List Place
   pub spans : Spans
+  pub before : ℕ
   pub replies : Roomy Reply
   pub since : ℕ
   pub phase : MutatorPhase
@@ -67,6 +69,15 @@ is_stored r = false
 abbrev pub last_reply : Mutating → Option Reply
 last_reply m = slice_get m.replies.items (length m.replies.items - 1)
 
+-- the reply by which its last unit ended, if it ended with one
+abbrev pub reply_in : Option MutEnd → Option Reply
+reply_in (Some (ends.OpDone r)) = Some r
+reply_in e = None
+
+-- its newest reply: that of its last operation, and where it has done none since it began to count, the one by which its last unit ended
+abbrev pub newest_of : Mutating → Option Reply
+newest_of m = option_or (last_reply m) (reply_in m.end)
+
 -- the reply to a `collect`
 abbrev pub is_collected : Option Reply → Bool
 is_collected (Some reply.Collected) = true
@@ -76,13 +87,23 @@ is_collected r = false
 abbrev pub has_collected : Mutating → Bool
 has_collected m = nat_lt 0 m.since && is_collected (last_reply m)
 
+-- the reply to a `pause` or to a `collect`
+abbrev pub is_asked_pause : Option Reply → Bool
+is_asked_pause (Some reply.Paused) = true
+is_asked_pause (Some reply.Collected) = true
+is_asked_pause r = false
+
+-- its last operation was a `pause` or a `collect`, and it did it in this epoch: it has asked for a pause
+abbrev pub wants_pause : Mutating → Bool
+wants_pause m = nat_lt 0 m.since && is_asked_pause (last_reply m)
+
 -- how many replies are of each of these kinds
 abbrev pub tally_of : List Reply → MutTally
 tally_of rs = record { news = count_by is_new rs; loads = count_by is_loaded rs; stores = count_by is_stored rs }
 
--- how many objects it has made
+-- how many objects it has made, with those that it had as it began to count
 abbrev pub made : Mutating → ℕ
-made m = count_by is_new m.replies.items
+made m = m.before + count_by is_new m.replies.items
 
 -- the name of the next object that it makes
 abbrev pub next_name : Mutating → Name

@@ -1,5 +1,5 @@
 -- What holds of each mutator, and what becomes of it between its steps.
-use Rattle.std.specs.Prelude.{◌≡◌, ◌≢◌, ℕ, ◌+◌, ◌/◌, ◌^◌, ◌<◌, ◌≤◌, ◌⊎◌, false, if◌then◌else◌, nat_le, Option, Some, None, List, [], length, replicate}
+use Rattle.std.specs.Prelude.{◌≡◌, ◌≢◌, ℕ, ◌+◌, ◌/◌, ◌^◌, ◌<◌, ◌≤◌, ◌⊎◌, false, if◌then◌else◌, nat_le, Option, Some, None, List, [], drop, length, replicate}
 use Rattle.std.specs.List.{All}
 use Rattle.lxr_layout.specs.declared.TheConstants.{MOST_GRANULES}
 use Rattle.lxr_layout.specs.declared.Place.{Place}
@@ -10,12 +10,13 @@ use Rattle.lxr_layout.specs.declared.limits.Regions.{Regions}
 use Rattle.lxr_layout.specs.Objects.{word_count, line_count}
 use Rattle.lxr_layout.specs.Places.{IsPlace}
 use Rattle.lxr_layout.specs.Spaces.{regions_of}
-use Rattle.lxr_base.specs.Roomy.{Roomy, pushed}
+use Rattle.lxr_base.specs.Roomy.{Roomy, emptied, pushed}
 use Rattle.lxr_graph.specs.declared.Op.{Op}
 use Rattle.lxr_graph.specs.declared.Op.TheVariants as op
 use Rattle.lxr_graph.specs.declared.Reply.{Reply}
 use Rattle.lxr_graph.specs.declared.Reply.TheVariants as reply
 use Rattle.lxr_graph.specs.Step.{IsWellFormed}
+use Rattle.lxr_alloc.specs.declared.TheConstants.{MOST_OPERATIONS}
 use Rattle.lxr_alloc.specs.declared.Spans.{Spans}
 use Rattle.lxr_alloc.specs.Spans.{FitsSpan, empty_span}
 use Rattle.lxr_barrier.specs.Storing.{end_of}
@@ -24,6 +25,7 @@ use Rattle.lxr_mutator.specs.declared.phases.MutEnd.{MutEnd}
 use Rattle.lxr_mutator.specs.declared.phases.MutEnd.TheVariants as ends
 use Rattle.lxr_mutator.specs.declared.phases.MutatorPhase.{MutatorPhase}
 use Rattle.lxr_mutator.specs.declared.phases.MutatorPhase.TheVariants as phase
+use Rattle.lxr_mutator.specs.Dialogues.{Dialogue, first_dialogue}
 use Rattle.lxr_mutator.specs.Mutating.{Mutating, next_name, nil, op_now, rests_in}
 use Rattle.lxr_mutator.specs.Steps.{shape_now, with_register}
 use Rattle.lxr_mutator.specs.Operating.{dest_of}
@@ -94,11 +96,13 @@ IsThrough m = (m.phase ≡ phase.Finished) × (m.end ≡ Some ends.Ended)
 pub record IsMutator (m : Mutating) : Type 0 where
   pub thread : (1 ≤ m.thread) × (m.thread ≤ 16)
   pub operations : All IsOperation m.operations
-  pub few : length m.operations ≤ 1048576
+  pub few : length m.operations ≤ MOST_OPERATIONS
   pub every : (1 ≤ m.every) × (m.every ≤ 1048576)
   pub registers : length m.registers ≡ 16
   pub held : All IsHeld m.registers
   pub spans : AreInHeap m.spans
+  -- no more objects were left than a heap has granules
+  pub before : m.before ≤ MOST_GRANULES
   pub indexes : HaveIndexes m.regions
   -- there is room for each reply, that of the thread's end too
   pub room : length m.operations + 1 ≤ m.replies.room
@@ -117,37 +121,47 @@ pub record IsBusy (m : Mutating) (p : MutatorPhase) : Type 0 where
   pub operation : length m.replies.items < length m.operations
   pub may : MayBeIn m p
 
--- a mutator as it is made, with these operations and with room for so many in all
-abbrev pub first_of : ℕ → List Op → Limits → ℕ → ℕ → Mutating
-first_of thread operations limits every most = record {
+-- a mutator as it is made, with this agenda
+abbrev pub first_with : ℕ → Dialogue → Limits → ℕ → Mutating
+first_with thread agenda limits every = record {
   thread = thread;
-  operations = operations;
+  operations = agenda.operations;
   regions = regions_of limits;
   every = every;
   log = record { items = []; room = limits.log };
   registers = replicate 16 nil;
   spans = no_spans;
-  replies = record { items = []; room = most + 1 };
+  before = 0;
+  replies = agenda.replies;
   since = 0;
   phase = phase.Ready;
   end = None;
 }
 
+-- with these operations, and with room for so many in all
+abbrev pub first_of : ℕ → List Op → Limits → ℕ → ℕ → Mutating
+first_of thread operations limits every most = first_with thread (first_dialogue operations most) limits every
+
 -- one of a script: it has all its operations, and no room for others
 abbrev pub first : ℕ → List Op → Limits → ℕ → Mutating
 first thread operations limits every = first_of thread operations limits every (length operations)
 
--- one that is yet to be ordered its operations, at most so many
-abbrev pub first_live : ℕ → Limits → ℕ → ℕ → Mutating
-first_live thread limits every most = first_of thread [] limits every most
+-- one that is yet to be ordered its operations: it has room for one more than a thread may have, so there always is room
+abbrev pub first_live : ℕ → Limits → ℕ → Mutating
+first_live thread limits every = first_of thread [] limits every (MOST_OPERATIONS + 1)
 
--- It takes an order where it is between two operations and may do a further one in this epoch, for an operation as those of a script,
--- and while there is room for that and its reply.
+-- It has no room for a further operation, as a mutator of a script, which is made with all of its own. A live one always has.
+abbrev pub IsFull : Mutating → Type 0
+IsFull m = m.replies.room ≤ length m.operations + 1
+
+-- It takes an order where it is between two operations and may do a further one in this epoch, each operation that it has is done, for an
+-- operation as those of a script, and while there is room for that and its reply.
 pub record MayTakeOrder (m : Mutating) (o : Op) : Type 0 where
   pub ready : m.phase ≡ phase.Ready
+  pub idle : length m.operations ≤ length m.replies.items
   pub operation : IsOperation o
   pub room : length m.operations + 1 < m.replies.room
-  pub few : length m.operations < 1048576
+  pub few : length m.operations < MOST_OPERATIONS
 
 -- its `new` is done from outside with this reply, in no turn of its own
 abbrev pub answered : Mutating → Reply → Mutating
@@ -164,6 +178,11 @@ served m place = answered (with_register m (dest_of (op_now m)) (held_place plac
 -- its `new` was refused, or served with a place
 abbrev pub IsAnswered : Mutating → Mutating → Reply → Type 0
 IsAnswered m m' r = ((r ≡ reply.Full) × (m' ≡ answered m r)) ⊎ ((place : Place) × (r ≡ reply.New (next_name m)) × (m' ≡ served m place))
+
+-- Names were given anew, and of its thread there are so many objects now: from here on it is asked for the operation that is open, if one is, and
+-- has no replies.
+abbrev pub renewed : Mutating → ℕ → Mutating
+renewed m before = record m { operations = drop (length m.replies.items) m.operations; replies = emptied m.replies; before = before }
 
 -- where a new epoch finds it
 abbrev pub phase_again : Option MutEnd → MutatorPhase

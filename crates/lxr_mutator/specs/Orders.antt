@@ -1,5 +1,6 @@
 -- Orders: a mutator that is between two operations gets one more.
-use Rattle.std.specs.Prelude.{◌+◌, Bool, true, false, ◌&&◌, if◌then◌else◌, nat_lt, [], ◌∷◌, ◌++◌, length}
+use Rattle.std.specs.Prelude.{◌+◌, Bool, true, false, ◌&&◌, if◌then◌else◌, nat_le, nat_lt, [], ◌∷◌, ◌++◌, length}
+use Rattle.lxr_alloc.specs.declared.TheConstants.{MOST_OPERATIONS}
 use Rattle.lxr_graph.specs.declared.Op.{Op}
 use Rattle.lxr_graph.specs.declared.Op.TheVariants as op
 use Rattle.lxr_graph.specs.Forms.{is_well_formed}
@@ -17,13 +18,17 @@ abbrev pub is_operation : Op → Bool
 is_operation op.End = false
 is_operation o = is_well_formed o
 
--- there is room for one more operation with its reply, beside that of the thread's end, and a thread has at most 1,048,576
+-- each operation that it has is done
+abbrev pub is_idle : Mutating → Bool
+is_idle m = nat_le (length m.operations) (length m.replies.items)
+
+-- there is room for one more operation with its reply, beside that of the thread's end, and a thread has at most 67,108,864
 abbrev pub has_room_for_order : Mutating → Bool
-has_room_for_order m = nat_lt (length m.operations + 1) m.replies.room && nat_lt (length m.operations) 1048576
+has_room_for_order m = nat_lt (length m.operations + 1) m.replies.room && nat_lt (length m.operations) MOST_OPERATIONS
 
 -- whether it takes the operation
 abbrev pub takes_order : Mutating → Op → Bool
-takes_order m o = is_ready m.phase && (is_operation o && has_room_for_order m)
+takes_order m o = is_ready m.phase && (is_idle m && (is_operation o && has_room_for_order m))
 
 -- the operation stands behind those that it has
 abbrev pub with_order : Mutating → Op → Mutating

@@ -1,5 +1,5 @@
 -- A mutator's fields: what contracts see of them, and what holds of them.
-use Rattle.std.specs.Prelude.{◌≡◌, ℕ, ◌+◌, ◌≤◌}
+use Rattle.std.specs.Prelude.{◌≡◌, ℕ}
 use Rattle.lxr_layout.specs.declared.Shape.{Shape}
 use Rattle.lxr_layout.specs.Objects.{word_count}
 use Rattle.lxr_mutator.specs.declared.mutator.Mutator.TheInside.{Inside}
@@ -13,13 +13,14 @@ use Rattle.lxr_mutator.specs.Mutators.{IsMutator}
 abbrev pub seen : Inside → Mutating
 seen m = record {
   thread = m.thread;
-  operations = m.operations.items;
+  operations = m.agenda.operations;
   regions = m.regions;
   every = m.every;
   log = m.log;
   registers = m.registers;
   spans = m.spans;
-  replies = m.replies;
+  before = m.before;
+  replies = m.agenda.replies;
   since = m.since;
   phase = m.phase;
   end = m.end;
@@ -33,8 +34,5 @@ AreWords words shape p = Unit {0}
 -- The fields are those of a mutator. Its tally is that of its replies, and its words are those of what it wipes.
 pub record IsKept (m : Inside) : Type 0 where
   pub sound : IsMutator (seen m)
-  pub tally : m.tally ≡ tally_of m.replies.items
+  pub tally : m.tally ≡ tally_of m.agenda.replies.items
   pub words : AreWords m.words (shape_now (seen m)) m.phase
-  -- there is room for so many operations, for their replies and for that of the thread's end
-  pub for_operations : m.most ≤ m.operations.room
-  pub for_replies : m.replies.room ≡ m.most + 1

@@ -44,9 +44,9 @@ pub fn causes_end_units()
     ensures { CausesEndUnits }
 {}
 
-/// A mutator takes an order exactly where it is between two operations and may do a further one in this epoch, for an operation as
-/// those of a script, and while there is room for that and its reply. Then the operation stands behind those that it has; else
-/// nothing changes.
+/// A mutator takes an order exactly where it is between two operations and may do a further one in this epoch, has done all that it has,
+/// for an operation as those of a script, and while there is room for that and its reply. Then the operation stands behind those that it
+/// has; else nothing changes.
 pub fn mutators_take_orders_by_rule()
     ensures { MutatorsTakeOrdersByRule }
 {}

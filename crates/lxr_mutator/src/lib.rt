@@ -5,6 +5,8 @@
 //! what the mutator makes of the word that it finds. Nothing is said here of what the words of several threads mean.
 #![tactic(auto)]
 
+mod agenda;
+mod chronicle;
 mod laws;
 mod mutator;
 mod operating;

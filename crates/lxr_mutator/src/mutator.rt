@@ -1,20 +1,22 @@
-//! Mutators: what a thread of a script is between its units, and what is done to it from outside.
-ghost use Rattle.std.specs.Prelude.{◌≡◌, ◌+◌, ◌<◌, ◌≤◌, ◌↔◌, IfOk, IfSome, IsTrue, IsSome, length};
+//! Mutators: what a thread is between its units, and what is done to it from outside.
+ghost use Rattle.std.specs.Prelude.{[], ◌≡◌, ◌+◌, ◌<◌, ◌≤◌, ◌↔◌, IfOk, IfSome, IsTrue, IsSome, length};
 ghost use Rattle.std.specs.List.{All};
+ghost use Rattle.lxr_layout.specs.declared.TheConstants.{MOST_GRANULES};
 ghost use Rattle.lxr_layout.specs.Objects.{FitsShape};
 ghost use Rattle.lxr_layout.specs.Spaces.{AreLimits};
+ghost use Rattle.lxr_alloc.specs.declared.TheConstants.{MOST_OPERATIONS};
 ghost use Rattle.lxr_base.specs.Roomy.{emptied};
 ghost use Rattle.lxr_graph.specs.Step.{IsWellFormed};
-ghost use Rattle.lxr_mutator.specs.Mutating.{IsWaiting, has_collected, last_reply, next_name, op_now, placed_count, register, rests_in, tally_of, waiting_by};
+ghost use Rattle.lxr_mutator.specs.Mutating.{IsWaiting, has_collected, newest_of, next_name, op_now, placed_count, register, reply_in, rests_in, tally_of, waiting_by, wants_pause};
 ghost use Rattle.lxr_mutator.specs.Steps.{shape_now, with_register};
-ghost use Rattle.lxr_mutator.specs.Mutators.{IsHeld, IsMutator, IsOperation, again, answered, first, first_live, first_of, held_place, no_spans, served};
+ghost use Rattle.lxr_mutator.specs.Mutators.{IsFull, IsHeld, IsMutator, IsOperation, IsThrough, again, answered, first, first_live, first_with, held_place, no_spans, renewed, served};
 
+use crate::agenda::Agenda;
 use crate::operating::{dest_of, shape_made};
 use crate::phases::{MutEnd, MutTally, MutatorPhase, Waiting};
 use lxr_actor::Actor;
 use lxr_alloc::{Span, Spans};
 use lxr_barrier::Log;
-use lxr_base::Listed;
 use lxr_graph::{Op, Operations, Replies, Reply};
 use lxr_layout::{Limits, MOST_GRANULES, Name, Place, Regions, Shape, regions};
 use std::alloc::{AllocError, Global};
@@ -26,19 +28,18 @@ mod orders;
 mod straight;
 mod units;
 
-/// A thread of a script, as a machine. One unit is one operation.
+/// A thread of a script, or a live one, as a machine. One unit is one operation.
 #[derive(Drop)]
 pub struct Mutator {
     thread: u8,
-    operations: Operations,
-    /// For how many operations, with their replies, there is room.
-    most: u32,
+    agenda: Agenda,
     regions: Regions,
     every: u32,
     log: Log,
     registers: [Place; 16],
     spans: Spans,
-    replies: Replies,
+    /// How many objects of its thread there were as it began to count.
+    before: u32,
     since: u32,
     phase: MutatorPhase,
     /// How many words the new object has, while these are wiped.
@@ -61,7 +62,7 @@ impl Model for Mutator {
 
 impl Mutator {
     /// The mutator of a thread of a script, with all its operations, which do not name the end, in a space of these limits. It does at
-    /// most `every` operations in an epoch. It takes the memory for its log and all replies, and has no room for orders.
+    /// most `every` operations in an epoch. It takes the memory for its log and all replies, which it keeps, and has no room for orders.
     pub fn new(
         alloc: Global,
         thread: u8,
@@ -72,61 +73,57 @@ impl Mutator {
         requires limits { AreLimits limits }
         requires thread { (1 ≤ thread) × (thread ≤ limits.threads) }
         requires operations { All IsOperation operations.items }
-        requires few { length operations.items ≤ 1048576 }
+        requires few { length operations.items ≤ MOST_OPERATIONS }
         requires every { (1 ≤ every) × (every ≤ 1048576) }
         ensures { IfOk result (λ m. m ≡ first thread operations.items limits every) }
     {
-        let most = operations.len() as u32;
-        Mutator::with_room(alloc, thread, operations, limits, every, most)
+        let agenda = Agenda::of_script(alloc, operations)?;
+        Mutator::with_agenda(alloc, thread, agenda, limits, every)
     }
 
-    /// The mutator of a thread that is yet to be ordered its operations, at most `most`, in a space of these limits. It does at most
-    /// `every` operations in an epoch. It takes the memory for its operations, its log and all replies.
+    /// The mutator of a thread that is yet to be ordered its operations, at most 67,108,864, in a space of these limits. It does at most
+    /// `every` operations in an epoch. It takes the memory for its log, and keeps of its operations and replies the one at hand and the
+    /// newest. A turn with nothing ordered is the thread's end.
     pub fn live(
         alloc: Global,
         thread: u8,
         limits: Limits,
         every: u32,
-        most: u32,
     ) -> Result<Mutator, AllocError>
         requires limits { AreLimits limits }
         requires thread { (1 ≤ thread) × (thread ≤ limits.threads) }
         requires every { (1 ≤ every) × (every ≤ 1048576) }
-        requires most { most ≤ 1048576 }
-        ensures { IfOk result (λ m. m ≡ first_live thread limits every most) }
+        ensures { IfOk result (λ m. m ≡ first_live thread limits every) }
     {
-        let operations = Listed::with_room(alloc, most as usize)?;
-        Mutator::with_room(alloc, thread, operations, limits, every, most)
+        Mutator::with_agenda(alloc, thread, Agenda::live(), limits, every)
     }
 
-    /// The mutator of a thread, with these operations and with room for `most` in all.
-    fn with_room(
+    /// The mutator of a thread with this agenda, as it is made.
+    fn with_agenda(
         alloc: Global,
         thread: u8,
-        operations: Operations,
+        agenda: Agenda,
         limits: Limits,
         every: u32,
-        most: u32,
     ) -> Result<Mutator, AllocError>
         requires limits { AreLimits limits }
         requires thread { (1 ≤ thread) × (thread ≤ limits.threads) }
-        requires operations { All IsOperation operations.items }
+        requires operations { All IsOperation agenda.operations }
+        requires few { length agenda.operations ≤ MOST_OPERATIONS }
+        requires begins { (agenda.replies.items ≡ []) × (length agenda.operations + 1 ≤ agenda.replies.room) }
         requires every { (1 ≤ every) × (every ≤ 1048576) }
-        requires most { (length operations.items ≤ most) × (most ≤ operations.room) × (most ≤ 1048576) }
-        ensures { IfOk result (λ m. m ≡ first_of thread operations.items limits every most) }
+        ensures { IfOk result (λ m. m ≡ first_with thread agenda limits every) }
     {
         let log = Log::new(alloc, limits.log)?;
-        let replies = Listed::with_room(alloc, most as usize + 1)?;
         Ok(Mutator {
             thread,
-            operations,
-            most,
+            agenda,
             regions: regions(limits),
             every,
             log,
             registers: [Place::NIL; 16],
             spans: no_spans(),
-            replies,
+            before: 0,
             since: 0,
             phase: MutatorPhase::Ready,
             words: 0,
@@ -171,7 +168,7 @@ impl Mutator {
     {
         Name {
             thread: self.thread,
-            serial: self.tally.news + 1,
+            serial: self.before + self.tally.news + 1,
         }
     }
 
@@ -202,27 +199,46 @@ impl Mutator {
         self.thread
     }
 
-    /// Its operations, in order.
+    /// The operations of a mutator of a script, in order. A live one keeps no lists.
     pub fn operations(&self) -> &Operations
+        requires { IsFull self.now }
         ensures { result.now.items ≡ self.now.operations }
     {
-        &self.operations
+        self.agenda.operations()
     }
 
-    /// The replies so far, the thread's end among them.
+    /// The replies of a mutator of a script so far, the thread's end among them. A live one keeps no lists.
     pub fn replies(&self) -> &Replies
+        requires { IsFull self.now }
         ensures { result.now ≡ self.now.replies }
     {
-        &self.replies
+        self.agenda.replies()
+    }
+
+    /// How many operations it has: all those of its script, or those that it was ordered so far.
+    #[inline(always)]
+    pub fn ordered(&self) -> u32
+        ensures { result ≡ length self.now.operations }
+    {
+        self.agenda.ordered()
+    }
+
+    /// Whether an operation that it has is not done yet.
+    #[inline(always)]
+    pub fn is_open(&self) -> bool
+        ensures { IsTrue result ↔ (length self.now.replies.items < length self.now.operations) }
+    {
+        self.agenda.answered() < self.agenda.ordered()
     }
 
     /// How many operations are done, the thread's end among them.
+    #[inline(always)]
     pub fn operation(&self) -> u32
         ensures count { result ≡ length self.now.replies.items }
         // What holds of each mutator.
         ensures sound { IsMutator self.now }
     {
-        self.replies.len() as u32
+        self.agenda.answered()
     }
 
     /// How many operations stand in the history, the thread's end among them: those that have a reply, and a load or a swap that has
@@ -243,16 +259,25 @@ impl Mutator {
     pub fn has_collected(&self) -> bool
         ensures { result ≡ has_collected self.now }
     {
-        self.since > 0 && matches!(self.last_reply(), Some(Reply::Collected))
+        self.since > 0 && matches!(self.agenda.newest(), Some(Reply::Collected))
     }
 
-    /// The reply of its last operation; none before the first.
-    fn last_reply(&self) -> Option<Reply>
-        ensures { result ≡ last_reply self.now }
+    /// Whether its last operation was a `pause` or a `collect` that it did in this epoch.
+    #[inline(always)]
+    pub fn wants_pause(&self) -> bool
+        ensures { result ≡ wants_pause self.now }
     {
-        match self.replies.len() {
-            0 => None,
-            count => self.replies.get(count - 1),
+        self.since > 0 && matches!(self.agenda.newest(), Some(Reply::Paused | Reply::Collected))
+    }
+
+    /// Its newest reply: that of its last operation, also where names were given anew behind a pause that served it; none before the first.
+    #[inline(always)]
+    pub fn newest(&self) -> Option<Reply>
+        ensures { result ≡ newest_of self.now }
+    {
+        match self.agenda.newest() {
+            Some(reply) => Some(reply),
+            None => reply_in(self.end),
         }
     }
 
@@ -261,6 +286,25 @@ impl Mutator {
         ensures { result ≡ tally_of self.now.replies.items }
     {
         self.tally
+    }
+
+    /// Names were given anew between two epochs, and so many objects of its thread are left: its next object's serial follows these. The
+    /// operation that is open, if one is, is all that it is asked for from now on, and it has no replies. It is a live mutator, which has not
+    /// ended, and no `new` of it waits.
+    pub fn renew(&mut self, before: u32)
+        requires rests { IsTrue (rests_in self.old.phase) }
+        requires goes_on { ¬ IsWaiting self.old × ¬ IsThrough self.old }
+        requires live { ¬ IsFull self.old }
+        requires before { before ≤ MOST_GRANULES }
+        ensures { self.new ≡ renewed self.old before }
+    {
+        self.agenda.renew();
+        self.before = before;
+        self.tally = MutTally {
+            news: 0,
+            loads: 0,
+            stores: 0,
+        };
     }
 
     /// A new epoch begins, with these registers. Where the thread's end is done, nothing is left to do in it.
@@ -316,10 +360,7 @@ impl Mutator {
         ensures op { result ≡ op_now self.now }
         ensures formed { IsWellFormed result }
     {
-        match self.operations.get(self.replies.len()) {
-            Some(op) => op,
-            None => Op::End,
-        }
+        self.agenda.op()
     }
 
     /// The shape of what the `new` in progress makes.
@@ -347,9 +388,20 @@ impl Mutator {
         requires { IsWaiting self.old }
         ensures { self.new ≡ answered self.old reply }
     {
-        self.replies.push(reply);
+        self.agenda.answer(reply);
         self.tally.count(reply);
         self.end = Some(MutEnd::OpDone(reply));
+    }
+}
+
+/// The reply by which a unit ended, if it ended with one.
+#[inline(always)]
+fn reply_in(end: Option<MutEnd>) -> Option<Reply>
+    ensures { result ≡ reply_in end }
+{
+    match end {
+        Some(MutEnd::OpDone(reply)) => Some(reply),
+        _ => None,
     }
 }
 

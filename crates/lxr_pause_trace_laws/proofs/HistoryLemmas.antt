@@ -2,7 +2,7 @@
 -- its beginning.
 use Rattle.std.proofs.Common.{◌≡◌, subst, List, [], ◌∷◌}
 use Rattle.std.specs.Prelude.{Some}
-use Rattle.lxr_graph.specs.History.{Call, Item, Pause}
+use Rattle.lxr_graph.specs.History.{Call, Item, Pause, Renew}
 use Rattle.lxr_model.specs.Legal.{IsLegalSoFar}
 use Rattle.lxr_model.specs.Moments.{Trace, moment}
 use Rattle.lxr_model.specs.Terms.{Terms}
@@ -17,6 +17,7 @@ module _ (terms : Terms) (trace : Trace) where
   -- the last pause changed no state
   keeps : (h : List Item) → IsLegalSoFar terms h → (moment terms.threads h).trace ≡ Some trace → KeepsObjectsOf trace (moment terms.threads h)
   keeps [] legal runs = absurd (cc)
+  keeps (Renew ns ∷ h) legal runs = absurd (cc)
   keeps (Call t o r ∷ h) legal runs = keeps h legal.0 runs
   keeps (Pause report ∷ h) legal runs = (good_trace (Pause report ∷ h) legal runs).grows
 

@@ -1,5 +1,5 @@
 -- An object takes a granule at least, so no more names are left than a heap has granules.
-use Rattle.std.proofs.Common.{◌≡◌, ℕ, ◌+◌, ◌*◌, ◌/◌, ◌^◌, ◌<◌, ◌≤◌, refl, sym, ap, subst, ◌∙◌, inl, inr, ◌⊎◌, arith, Bool, true, false, List, [], ◌∷◌, ◌++◌, IsTrue, length, nat_eq}
+use Rattle.std.proofs.Common.{◌≡◌, ℕ, ◌*◌, ◌<◌, ◌≤◌, refl, ap, ◌∙◌, arith, Bool, false, List, [], ◌∷◌, IsTrue, length, nat_eq}
 use Rattle.std.specs.Prelude.{◌||◌}
 use Rattle.std.specs.List.{list_any}
 use Rattle.std.proofs.lemmas.Bool.{false_from_ne_true, or_left, or_right}
@@ -12,10 +12,10 @@ use Rattle.lxr_image.specs.Reads.{granule_of}
 use Rattle.lxr_image.specs.Spaces.{tables_of}
 use Rattle.lxr_model_counting.specs.Distinct.{IsDistinct}
 use Rattle.lxr_model_counting.proofs.DistinctLemmas.{first_has, in_order_distinct, later_has}
-use Rattle.lxr_invariant.specs.AbstractState.{AbstractState, members}
+use Rattle.lxr_invariant.specs.AbstractState.{members}
 use Rattle.lxr_invariant.specs.Counting.{passing}
 use Rattle.lxr_invariant.specs.Quiescent.{HoldsMoment}
-use Rattle.lxr_invariant.proofs.EntryLemmas.{equal_numbers, passing_few, passing_one_more, same_number, unlike_number}
+use Rattle.lxr_invariant.proofs.EntryLemmas.{passing_few, passing_one_more, same_number, unlike_number}
 use Rattle.lxr_invariant.proofs.NameLemmas.{in_first}
 use Rattle.lxr_invariant.proofs.PlaceLemmas.{granules_differ}
 use Rattle.lxr_model.specs.Moments.{Moment}

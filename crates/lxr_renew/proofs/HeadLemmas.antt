@@ -1,14 +1,12 @@
 -- One header is written after another: each start bit is that of one name, whose header stands there under its old name until it is written.
-use Rattle.std.proofs.Common.{◌≡◌, ◌≢◌, ℕ, ◌+◌, ◌*◌, ◌/◌, ◌<◌, ◌≤◌, refl, sym, ap, subst, ◌∙◌, inl, inr, ◌⊎◌, arith, true, false, List, ◌∷◌, IsTrue}
+use Rattle.std.proofs.Common.{◌≡◌, ℕ, ◌+◌, ◌*◌, ◌/◌, ◌<◌, ◌≤◌, refl, sym, ap, subst, ◌∙◌, inl, inr, ◌⊎◌, arith, List, IsTrue}
 use Rattle.std.specs.Prelude.{Some}
-use Rattle.std.proofs.lemmas.Bool.{false_from_ne_true}
 use Rattle.lxr_layout.specs.declared.Name.{Name}
-use Rattle.lxr_layout.specs.declared.Shape.{Shape}
 use Rattle.lxr_layout.specs.declared.TheConstants.{GRANULES_IN_BLOCK}
 use Rattle.lxr_layout.specs.Objects.{header_word, word_count}
 use Rattle.lxr_layout.specs.Places.{first_word}
 use Rattle.lxr_graph.specs.Names.{has, same_name}
-use Rattle.lxr_graph.specs.State.{Object, object_at, shape_of, world_name}
+use Rattle.lxr_graph.specs.State.{Object, object_at, shape_of}
 use Rattle.lxr_graph.proofs.NameSets.{not_both, same_names}
 use Rattle.lxr_image.specs.declared.space.Space.{Space}
 use Rattle.lxr_image.specs.Tables.{Tables}
@@ -25,7 +23,8 @@ use Rattle.lxr_model_counting.proofs.DistinctLemmas.{tested}
 use Rattle.lxr_invariant.specs.AbstractState.{AbstractState, members}
 use Rattle.lxr_invariant.proofs.NameLemmas.{in_first}
 use Rattle.lxr_invariant.proofs.PlaceLemmas.{granules_differ, same_object}
-use Rattle.lxr_large_model.specs.Renewing.{AreCounted, renewed_name}
+use Rattle.lxr_graph.specs.Renewing.{renewed_name}
+use Rattle.lxr_large_model.specs.Renewing.{AreCounted}
 use Rattle.lxr_renew.specs.Heads.{IsHead, RenewsHeads}
 use Rattle.lxr_renew.specs.Renewing.{MayRenew}
 

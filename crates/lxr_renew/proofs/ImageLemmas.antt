@@ -1,18 +1,16 @@
 -- The heap is the image of the graph under new names: headers are written, and all else of an object is where it was.
-use Rattle.std.proofs.Common.{◌≡◌, ◌≢◌, ℕ, suc, ◌+◌, ◌-◌, ◌*◌, ◌/◌, ◌^◌, ◌<◌, ◌≤◌, refl, sym, ap, subst, ◌∙◌, inl, inr, ◌⊎◌, arith, true, false, List, [], ◌∷◌, ◌++◌, IsTrue, length, map}
-use Rattle.std.specs.Prelude.{◌↔◌, Option, Some, None, slice_get}
-use Rattle.std.proofs.lemmas.Bool.{false_from_ne_true}
+use Rattle.std.proofs.Common.{◌≡◌, ◌≢◌, ℕ, suc, ◌+◌, ◌/◌, ◌^◌, ◌<◌, ◌≤◌, refl, sym, ap, subst, ◌∙◌, inl, inr, ◌⊎◌, arith, true, false, List, [], ◌∷◌, ◌++◌, IsTrue, length, map}
+use Rattle.std.specs.Prelude.{Option, Some, None, slice_get}
 use Rattle.std.proofs.lemmas.List.{length-map}
 use Rattle.std.proofs.lemmas.Option.{slice_get_within}
 use Rattle.lxr_layout.specs.declared.Name.{Name}
 use Rattle.lxr_layout.specs.declared.Place.{Place}
 use Rattle.lxr_layout.specs.declared.Shape.{Shape}
-use Rattle.lxr_layout.specs.declared.TheConstants.{GRANULES_IN_BLOCK}
-use Rattle.lxr_layout.specs.Objects.{FitsShape, header_word, word_count}
+use Rattle.lxr_layout.specs.Objects.{header_word, word_count}
 use Rattle.lxr_layout.specs.Places.{first_word}
 use Rattle.lxr_graph.specs.Names.{AreInOrder, has, same_name}
 use Rattle.lxr_graph.specs.State.{Graph, Object, State, object_at, refs_of, shape_of, world_name}
-use Rattle.lxr_graph.proofs.NameSets.{not_both, same_itself, same_names}
+use Rattle.lxr_graph.proofs.NameSets.{same_names}
 use Rattle.lxr_image.specs.Tables.{Tables}
 use Rattle.lxr_image.specs.Reads.{IsName, StandsWhole, granule_of}
 use Rattle.lxr_image.specs.Image.{AreApart, ArePlacesOf, IsImage, Stands, granules_of, place_word}
@@ -20,9 +18,9 @@ use Rattle.lxr_image.proofs.ImageLemmas.{words_cover, words_even}
 use Rattle.lxr_model_counting.proofs.DistinctLemmas.{tested}
 use Rattle.lxr_invariant.proofs.NameLemmas.{in_either, in_first, no_member}
 use Rattle.lxr_invariant.proofs.PlaceLemmas.{same_object}
-use Rattle.lxr_large_model.specs.Renewing.{renewed_graph, renewed_held, renewed_name, renewed_object, renewed_state}
-use Rattle.lxr_renew.proofs.NameLemmas.{has_map, map_has, old_name, old_of_renewed, renewed_serial, same_renewed}
-use Rattle.lxr_renew.proofs.StateLemmas.{IsLeft, get_map, map_get, object_renewed, shape_renewed}
+use Rattle.lxr_graph.specs.Renewing.{renewed_graph, renewed_held, renewed_name, renewed_object, renewed_state}
+use Rattle.lxr_renew.proofs.NameLemmas.{map_has, old_name, old_of_renewed, renewed_serial, same_renewed}
+use Rattle.lxr_renew.proofs.StateLemmas.{IsLeft, map_get, object_renewed, shape_renewed}
 
 -- the tables with another heap
 abbrev pub with_heads : Tables → (ℕ → ℕ) → Tables
@@ -37,7 +35,7 @@ pub record WritesHeads (t : Tables) (heap : ℕ → ℕ) (g : Graph) (at : Name 
   pub heads : (n : Name) (o : Object) → IsTrue (has (world_name ∷ ns) n) → object_at g n ≡ Some o → heap (first_word (at n)) ≡ header_word (renewed_name ns n) (shape_of o)
   pub others : (word : ℕ) → ((n : Name) → IsTrue (has (world_name ∷ ns) n) → word ≢ first_word (at n)) → heap word ≡ t.heap word
 
-module _ (t : Tables) (heap : ℕ → ℕ) (blocks : ℕ) (s : State) (at : Name → ℕ) (ns : List Name) (order : AreInOrder (world_name ∷ ns)) (left : IsLeft ns order s) (few : length ns < 2 ^ 32)
+module _ (threads : ℕ) (t : Tables) (heap : ℕ → ℕ) (blocks : ℕ) (s : State) (at : Name → ℕ) (ns : List Name) (order : AreInOrder (world_name ∷ ns)) (left : IsLeft ns order s) (few : length ns < 2 ^ 32)
     (image : IsImage t blocks at s.graph ((world_name ∷ ns) ++ [])) (writes : WritesHeads t heap s.graph at ns) where
   abbrev us : List Name
   us = world_name ∷ ns
@@ -49,7 +47,7 @@ module _ (t : Tables) (heap : ℕ → ℕ) (blocks : ℕ) (s : State) (at : Name
   at' = renewed_at ns at
 
   abbrev g' : Graph
-  g' = renewed_graph ns s.graph
+  g' = renewed_graph threads ns s.graph
 
   pub place : (n : Name) → IsTrue (has us n) → at' (rn n) ≡ at n
   place n h = ap at (old_of_renewed ns order n h)
@@ -84,7 +82,7 @@ module _ (t : Tables) (heap : ℕ → ℕ) (blocks : ℕ) (s : State) (at : Name
         named = x.2;
         object = a.0;
         is = a.1;
-        is_renewed = ap (object_at g') x.2 ∙ object_renewed ns order s.graph x.0 x.1 ∙ ap (λ o. Some (renewed_object ns o)) a.1;
+        is_renewed = ap (object_at g') x.2 ∙ object_renewed ns order threads s.graph x.0 x.1 ∙ ap (λ o. Some (renewed_object ns o)) a.1;
         place_is = ap at' x.2 ∙ place x.0 x.1;
       }
 
@@ -168,7 +166,7 @@ module _ (t : Tables) (heap : ℕ → ℕ) (blocks : ℕ) (s : State) (at : Name
         let x = map_has rn us n' (only_first n' h) in
         let a = image.stands x.0 (in_first us [] x.0 x.1) in
         subst (λ q. (o : Object) × (object_at g' q ≡ Some o) × Stands (with_heads t heap) blocks at' q o) (sym x.2)
-        (renewed_object ns (Some a.0), object_renewed ns order s.graph x.0 x.1 ∙ ap (λ o. Some (renewed_object ns o)) a.1, stands_renewed x.0 a.0 x.1 a.1 a.2);
+        (renewed_object ns (Some a.0), object_renewed ns order threads s.graph x.0 x.1 ∙ ap (λ o. Some (renewed_object ns o)) a.1, stands_renewed x.0 a.0 x.1 a.1 a.2);
     apart = λ m n a b in_m in_n. apart_renewed m n a b (only_first m in_m) (only_first n in_n);
   }
 
@@ -180,5 +178,5 @@ module _ (t : Tables) (heap : ℕ → ℕ) (blocks : ℕ) (s : State) (at : Name
       next : (k : ℕ) → k + 1 ≡ suc k
       next k = omega arith
 
-  pub places_renewed : (places : List Place) → ArePlacesOf at places s.registers → ArePlacesOf at' places (renewed_state ns s).registers
+  pub places_renewed : (places : List Place) → ArePlacesOf at places s.registers → ArePlacesOf at' places (renewed_state threads ns s).registers
   places_renewed places are = are ∙ sym (places_renewed_on s.registers (λ i v e. left.held v (i, e)))

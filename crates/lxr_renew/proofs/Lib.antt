@@ -6,3 +6,5 @@ pub mod ImageLemmas
 pub mod TableLemmas
 pub mod RestLemmas
 pub mod FewLemmas
+pub mod SoundLemmas
+pub mod ListedLemmas

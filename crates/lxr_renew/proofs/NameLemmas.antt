@@ -1,5 +1,5 @@
 -- Each name that is left has one new name, no two have the same, and new names stand in the order of the old ones.
-use Rattle.std.proofs.Common.{◌≡◌, ℕ, zero, suc, ◌+◌, ◌-◌, ◌≤◌, ◌⊎◌, inl, inr, refl, sym, ap, subst, ◌∙◌, arith, Bool, true, false, cond, List, [], ◌∷◌, IsTrue, length, map, nat_eq}
+use Rattle.std.proofs.Common.{◌≡◌, ℕ, zero, suc, ◌+◌, ◌-◌, ◌<◌, ◌≤◌, inl, inr, refl, sym, ap, subst, ◌∙◌, arith, false, cond, List, [], ◌∷◌, IsTrue, length, map, nat_eq}
 use Rattle.std.specs.Prelude.{Option, Some, None, slice_get, slice_index_or}
 use Rattle.std.specs.List.{AllByRecursion}
 use Rattle.std.specs.List.Sorted.{IsStrictlySortedBy}
@@ -9,11 +9,11 @@ use Rattle.std.proofs.lemmas.Bool.Decides.{nat_tests}
 use Rattle.lxr_layout.specs.declared.Name.{Name}
 use Rattle.lxr_graph.specs.Names.{AreInOrder, has, name_order, same_held, same_name}
 use Rattle.lxr_graph.specs.State.{world_name}
-use Rattle.lxr_graph.proofs.NameSets.{not_both, same_itself, same_names}
+use Rattle.lxr_graph.proofs.NameSets.{not_both, order_both, order_itself, same_itself, same_names}
 use Rattle.lxr_model_counting.specs.Distinct.{IsDistinct}
 use Rattle.lxr_model_counting.proofs.DistinctLemmas.{first_has, has_split, in_order_distinct, later_has, tested}
-use Rattle.lxr_large_model.specs.Renewing.{renewed_held, renewed_name, serial_in}
-use Rattle.lxr_large_model.proofs.SerialLemmas.{serial_some, serial_tells}
+use Rattle.lxr_graph.specs.Renewing.{renewed_held, renewed_name, serial_in}
+use Rattle.lxr_large_model.proofs.SerialLemmas.{serial_less, serial_tells}
 
 -- ---- lists that are mapped
 
@@ -100,6 +100,20 @@ read_at (m ∷ ms) (suc k) n e = read_at ms k n e
 
 -- ---- names that are left
 
+-- what holds of all names of a list holds of one
+all_at : (P : Name → Type 0) (ns : List Name) (n : Name) → AllByRecursion P ns → IsTrue (has ns n) → P n
+all_at P [] n all h = absurd (cc)
+all_at P (m ∷ ms) n all h = elim (has_split m ms n h) [
+  | inl e ↦ subst P (sym e) all.0
+  | inr k ↦ all_at P ms n all.1 k
+]
+
+world_less : (serial : ℕ) → name_order world_name (record { thread = 1; serial = serial }) ≡ Less
+world_less serial = grind (arith, nat_tests)
+
+serials_less : (i j : ℕ) → i < j → name_order (record { thread = 1; serial = i }) (record { thread = 1; serial = j }) ≡ Less
+serials_less i j lower = grind (arith, nat_tests)
+
 module _ (ns : List Name) (order : AreInOrder (world_name ∷ ns)) where
   no_world : has ns world_name ≡ false
   no_world = (in_order_distinct (world_name ∷ ns) order).0
@@ -157,3 +171,29 @@ module _ (ns : List Name) (order : AreInOrder (world_name ∷ ns)) where
     | inl e ↦ subst (λ (q : Name). ((renewed_name ns q).thread ≤ 1) × ((renewed_name ns q).serial ≤ length ns)) (sym e) (omega arith, omega arith)
     | inr k ↦ subst (λ (q : Name). (q.thread ≤ 1) × (q.serial ≤ length ns)) (sym (renewed_one n k)) (omega arith, (serial_tells ns n k).0)
   ]
+
+  -- of two names the first in order is the first under their new names too
+  less_renewed : (a b : Name) → IsTrue (has (world_name ∷ ns) a) → IsTrue (has (world_name ∷ ns) b) → name_order a b ≡ Less → name_order (renewed_name ns a) (renewed_name ns b) ≡ Less
+  less_renewed a b in_a in_b less = elim (has_split world_name ns b in_b) [
+    | inl q ↦ elim (has_split world_name ns a in_a) [
+      | inl p ↦ order_itself b (subst (λ z. name_order z b ≡ Less) (p ∙ sym q) less)
+      | inr p ↦ order_both a world_name (subst (λ z. name_order a z ≡ Less) q less) (all_at (λ m. name_order world_name m ≡ Less) ns a (tail_in_order world_name ns order).0 p)
+    ]
+    | inr q ↦ elim (has_split world_name ns a in_a) [
+      | inl p ↦ ap (λ z. name_order (renewed_name ns z) (renewed_name ns b)) p ∙ ap (name_order world_name) (renewed_one b q) ∙ world_less (serial_in ns b)
+      | inr p ↦ (λ i. name_order (renewed_one a p i) (renewed_one b q i)) ∙ serials_less (serial_in ns a) (serial_in ns b) (serial_less ns a b (tail_in_order world_name ns order).1 p q less)
+    ]
+  ]
+
+  behind_renewed : (a : Name) (ms : List Name) → IsTrue (has (world_name ∷ ns) a) → ((n : Name) → IsTrue (has ms n) → IsTrue (has (world_name ∷ ns) n)) → AllByRecursion (λ m. name_order a m ≡ Less) ms
+      → AllByRecursion (λ m. name_order (renewed_name ns a) m ≡ Less) (map (renewed_name ns) ms)
+  behind_renewed a [] in_a among behind = tt
+  behind_renewed a (m ∷ ms) in_a among behind =
+      (less_renewed a m in_a (among m (first_has m ms)) behind.0, behind_renewed a ms in_a (λ n h. among n (later_has m ms n h)) behind.1)
+
+  -- so some of these names stay in order
+  pub some_in_order : (ms : List Name) → ((n : Name) → IsTrue (has ms n) → IsTrue (has (world_name ∷ ns) n)) → AreInOrder ms → AreInOrder (map (renewed_name ns) ms)
+  unfolding IsStrictlySortedBy
+  some_in_order [] among o = tt
+  some_in_order (m ∷ ms) among o =
+      (behind_renewed m ms (among m (first_has m ms)) (λ n h. among n (later_has m ms n h)) o.0, some_in_order ms (λ n h. among n (later_has m ms n h)) o.1)

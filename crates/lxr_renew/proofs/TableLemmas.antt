@@ -1,37 +1,34 @@
 -- Bits, counts, marks and lines are those of the same objects under their new names.
-use Rattle.std.proofs.Common.{◌≡◌, ◌≢◌, ℕ, ◌+◌, ◌*◌, ◌/◌, ◌%◌, ◌^◌, ◌<◌, ◌≤◌, refl, sym, ap, subst, ◌∙◌, inl, inr, ◌⊎◌, arith, Bool, true, false, List, [], ◌∷◌, ◌++◌, IsTrue, length, map}
-use Rattle.std.specs.Prelude.{◌↔◌, Option, Some, None, slice_get}
+use Rattle.std.proofs.Common.{◌≡◌, ◌≢◌, ℕ, ◌+◌, ◌/◌, ◌^◌, ◌<◌, ◌≤◌, refl, sym, ap, subst, ◌∙◌, inl, inr, ◌⊎◌, arith, false, List, [], ◌∷◌, ◌++◌, IsTrue, length, map}
+use Rattle.std.specs.Prelude.{Some}
 use Rattle.std.proofs.lemmas.Bool.{false_from_ne_true}
 use Rattle.std.proofs.lemmas.List.{length-map}
 use Rattle.lxr_layout.specs.declared.Name.{Name}
-use Rattle.lxr_layout.specs.declared.TheConstants.{DECREMENT_COUNT, GRANULES_IN_BLOCK, GRANULES_IN_LINE, STUCK}
+use Rattle.lxr_layout.specs.declared.TheConstants.{GRANULES_IN_BLOCK, STUCK}
 use Rattle.lxr_layout.specs.declared.limits.Limits.{Limits}
-use Rattle.lxr_layout.specs.Places.{field_word, first_word}
+use Rattle.lxr_layout.specs.Places.{field_word}
 use Rattle.lxr_graph.specs.Names.{AreInOrder, has}
 use Rattle.lxr_graph.specs.State.{Graph, Object, State, object_at, refs_of, world_name}
 use Rattle.lxr_graph.proofs.NameSets.{not_both}
 use Rattle.lxr_image.specs.declared.space.Space.{Space}
 use Rattle.lxr_image.specs.Tables.{Tables}
 use Rattle.lxr_image.specs.Reads.{granule_of}
-use Rattle.lxr_image.specs.Image.{IsImage, granules_of}
+use Rattle.lxr_image.specs.Image.{IsImage}
 use Rattle.lxr_blocks.specs.declared.states.BlockState.TheVariants.{Free}
 use Rattle.lxr_blocks.specs.States.{state_in}
 use Rattle.lxr_model.specs.Moments.{Moment}
 use Rattle.lxr_model.specs.References.{references}
-use Rattle.lxr_model_counting.specs.Following.{FollowsPause}
-use Rattle.lxr_invariant.specs.AbstractState.{members}
 use Rattle.lxr_invariant.specs.Counting.{HasCounts, HasDecrements, IsUndecremented, count_at, undone, waiting_at}
-use Rattle.lxr_invariant.specs.Lines.{AvoidFree, Covers, FreeAreUnused, HasMarks, IsMarkOf, IsTakenBy, KeepLines, KeepsRest, OutsAreTaken}
-use Rattle.lxr_invariant.specs.Standing.{HasBits, IsUnwritten, IsUnwrittenAt, word_of_field}
+use Rattle.lxr_invariant.specs.Lines.{Covers, FreeAreUnused, HasMarks, IsMarkOf, IsTakenBy, KeepLines, OutsAreTaken}
+use Rattle.lxr_invariant.specs.Standing.{HasBits, IsUnwritten}
 use Rattle.lxr_invariant.proofs.FrameLemmas.{none_undone}
 use Rattle.lxr_invariant.proofs.NameLemmas.{in_either, in_first, no_member}
-use Rattle.lxr_invariant.proofs.PlaceLemmas.{same_object}
-use Rattle.lxr_large_model.specs.Renewing.{renewed_graph, renewed_held, renewed_name, renewed_object, renewed_state}
+use Rattle.lxr_graph.specs.Renewing.{renewed_graph, renewed_held, renewed_name, renewed_object, renewed_state}
 use Rattle.lxr_renew.proofs.NameLemmas.{has_map, map_has, one_to_one}
 use Rattle.lxr_renew.proofs.StateLemmas.{IsLeft, object_renewed, references_renewed, refs_renewed, still}
-use Rattle.lxr_renew.proofs.ImageLemmas.{IsOf, WritesHeads, granules_are, granules_same, is_of, place, renewed_at, renewed_is, with_heads}
+use Rattle.lxr_renew.proofs.ImageLemmas.{IsOf, WritesHeads, granules_are, granules_same, is_of, place, renewed_at, with_heads}
 
-module _ (t : Tables) (heap : ℕ → ℕ) (blocks : ℕ) (s : State) (at : Name → ℕ) (ns : List Name) (order : AreInOrder (world_name ∷ ns)) (left : IsLeft ns order s) (few : length ns < 2 ^ 32)
+module _ (threads : ℕ) (t : Tables) (heap : ℕ → ℕ) (blocks : ℕ) (s : State) (at : Name → ℕ) (ns : List Name) (order : AreInOrder (world_name ∷ ns)) (left : IsLeft ns order s) (few : length ns < 2 ^ 32)
     (image : IsImage t blocks at s.graph ((world_name ∷ ns) ++ [])) (writes : WritesHeads t heap s.graph at ns) (number : ℕ) (stuck : List Name)
     (stuck_left : (n : Name) → IsTrue (has stuck n) → IsTrue (has (world_name ∷ ns) n)) where
   abbrev us : List Name
@@ -44,7 +41,7 @@ module _ (t : Tables) (heap : ℕ → ℕ) (blocks : ℕ) (s : State) (at : Name
   at' = renewed_at ns at
 
   abbrev g' : Graph
-  g' = renewed_graph ns s.graph
+  g' = renewed_graph threads ns s.graph
 
   abbrev u : Tables
   u = with_heads t heap
@@ -53,13 +50,13 @@ module _ (t : Tables) (heap : ℕ → ℕ) (blocks : ℕ) (s : State) (at : Name
   m = still s number us stuck
 
   abbrev m' : Moment
-  m' = still (renewed_state ns s) 0 (map rn us) (map rn stuck)
+  m' = still (renewed_state threads ns s) 0 (map rn us) (map rn stuck)
 
-  of_new : (n' : Name) → IsTrue (has (map rn us) n') → IsOf t heap blocks s at ns order left few image writes n'
-  of_new n' h = is_of t heap blocks s at ns order left few image writes n' h
+  of_new : (n' : Name) → IsTrue (has (map rn us) n') → IsOf threads t heap blocks s at ns order left few image writes n'
+  of_new n' h = is_of threads t heap blocks s at ns order left few image writes n' h
 
   place_new : (n : Name) → IsTrue (has us n) → at' (rn n) ≡ at n
-  place_new n h = place t heap blocks s at ns order left few image writes n h
+  place_new n h = place threads t heap blocks s at ns order left few image writes n h
 
   in_new : (n : Name) → IsTrue (has us n) → IsTrue (has (map rn us) (rn n))
   in_new n h = has_map rn us n h
@@ -81,7 +78,7 @@ module _ (t : Tables) (heap : ℕ → ℕ) (blocks : ℕ) (s : State) (at : Name
       forth : (w : ℕ) → IsUnwritten m at us w → IsUnwritten m' at' (map rn us) w
       forth w (n, i, a) =
           let index = a.index in
-          let long = ap length (refs_renewed ns order s.graph n a.member) ∙ length-map (refs_of (object_at s.graph n)) (renewed_held ns) in (
+          let long = ap length (refs_renewed ns order threads s.graph n a.member) ∙ length-map (refs_of (object_at s.graph n)) (renewed_held ns) in (
             rn n,
             i,
             record {
@@ -96,7 +93,7 @@ module _ (t : Tables) (heap : ℕ → ℕ) (blocks : ℕ) (s : State) (at : Name
       back w (n', i, a) =
           let x = of_new n' a.member in
           let index = a.index in
-          let long = ap (λ q. length (refs_of (object_at g' q))) x.named ∙ ap length (refs_renewed ns order s.graph x.name x.member) ∙ length-map (refs_of (object_at s.graph x.name)) (renewed_held ns) in (
+          let long = ap (λ q. length (refs_of (object_at g' q))) x.named ∙ ap length (refs_renewed ns order threads s.graph x.name x.member) ∙ length-map (refs_of (object_at s.graph x.name)) (renewed_held ns) in (
             x.name,
             i,
             record {
@@ -133,10 +130,10 @@ module _ (t : Tables) (heap : ℕ → ℕ) (blocks : ℕ) (s : State) (at : Name
         let all' : undone u at' (map rn us) ≡ map rn us = none_undone u at' (map rn us) none in
         count_same n h ∙ is.exact x.name x.member (unstuck_old n h k)
         ∙ ap (λ qs. references s qs x.name + waiting_at t (at x.name)) all
-        ∙ ap (λ c. c + waiting_at t (at x.name)) (sym (references_renewed ns order s left x.name x.member))
-        ∙ ap (λ q. references (renewed_state ns s) (map rn us) q + waiting_at t (at x.name)) (sym x.named)
-        ∙ ap (λ p. references (renewed_state ns s) (map rn us) n + waiting_at t p) (sym x.place_is)
-        ∙ ap (λ qs. references (renewed_state ns s) qs n + waiting_at u (at' n)) (sym all');
+        ∙ ap (λ c. c + waiting_at t (at x.name)) (sym (references_renewed ns order threads s left x.name x.member))
+        ∙ ap (λ q. references (renewed_state threads ns s) (map rn us) q + waiting_at t (at x.name)) (sym x.named)
+        ∙ ap (λ p. references (renewed_state threads ns s) (map rn us) n + waiting_at t p) (sym x.place_is)
+        ∙ ap (λ qs. references (renewed_state threads ns s) qs n + waiting_at u (at' n)) (sym all');
     done = λ n h k. not_both (t.dones (granule_of (at' n))) k (none (granule_of (at' n)));
     dead = λ n h k. not_both (t.dones (granule_of (at' n))) k (none (granule_of (at' n)));
   }
@@ -159,7 +156,7 @@ module _ (t : Tables) (heap : ℕ → ℕ) (blocks : ℕ) (s : State) (at : Name
   mark_old : (n' : Name) (o' : Object) (k : ℕ) → (h : IsTrue (has (map rn us) n')) → object_at g' n' ≡ Some o' → IsMarkOf at' n' o' k → IsMarkOf at (of_new n' h).name (of_new n' h).object k
   mark_old n' o' k h e mark =
       let x = of_new n' h in
-      let a = granules_are t heap blocks s at ns order left few image writes n' o' x e in
+      let a = granules_are threads t heap blocks s at ns order left few image writes n' o' x e in
       let p = x.place_is in
       let behind = mark.behind in
       let within = mark.within in
@@ -167,14 +164,14 @@ module _ (t : Tables) (heap : ℕ → ℕ) (blocks : ℕ) (s : State) (at : Name
 
   mark_new : (n : Name) (o : Object) (k : ℕ) → IsTrue (has us n) → IsMarkOf at n o k → IsMarkOf at' (rn n) (renewed_object ns (Some o)) k
   mark_new n o k h mark =
-      let a = granules_same t heap blocks s at ns order left few image writes o in
+      let a = granules_same threads t heap blocks s at ns order left few image writes o in
       let p = place_new n h in
       let behind = mark.behind in
       let within = mark.within in
       record { begins = mark.begins; behind = omega (arith, behind, p); within = omega (arith, within, p, a) }
 
   object_new : (n : Name) (o : Object) → IsTrue (has us n) → object_at s.graph n ≡ Some o → object_at g' (rn n) ≡ Some (renewed_object ns (Some o))
-  object_new n o h e = object_renewed ns order s.graph n h ∙ ap (λ z. Some (renewed_object ns z)) e
+  object_new n o h e = object_renewed ns order threads s.graph n h ∙ ap (λ z. Some (renewed_object ns z)) e
 
   pub marks_renewed : HasMarks t s.graph at us → HasMarks u g' at' (map rn us)
   marks_renewed is = record {
@@ -187,7 +184,7 @@ module _ (t : Tables) (heap : ℕ → ℕ) (blocks : ℕ) (s : State) (at : Name
   covers_old : (n' : Name) (o' : Object) (k : ℕ) → (h : IsTrue (has (map rn us) n')) → Covers g' at' n' o' k → Covers s.graph at (of_new n' h).name (of_new n' h).object k
   covers_old n' o' k h c =
       let x = of_new n' h in
-      let a = granules_are t heap blocks s at ns order left few image writes n' o' x c.object in
+      let a = granules_are threads t heap blocks s at ns order left few image writes n' o' x c.object in
       let p = x.place_is in
       let first = c.first in
       let behind = c.behind in
@@ -195,7 +192,7 @@ module _ (t : Tables) (heap : ℕ → ℕ) (blocks : ℕ) (s : State) (at : Name
 
   covers_new : (n : Name) (o : Object) (k : ℕ) → IsTrue (has us n) → Covers s.graph at n o k → Covers g' at' (rn n) (renewed_object ns (Some o)) k
   covers_new n o k h c =
-      let a = granules_same t heap blocks s at ns order left few image writes o in
+      let a = granules_same threads t heap blocks s at ns order left few image writes o in
       let p = place_new n h in
       let first = c.first in
       let behind = c.behind in

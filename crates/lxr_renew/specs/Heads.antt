@@ -10,7 +10,8 @@ use Rattle.lxr_image.specs.declared.space.Space.{Space}
 use Rattle.lxr_image.specs.Reads.{StandsWhole, granule_of}
 use Rattle.lxr_image.specs.Spaces.{IsSpace, tables_of}
 use Rattle.lxr_invariant.specs.AbstractState.{AbstractState}
-use Rattle.lxr_large_model.specs.Renewing.{AreCounted, renewed_name}
+use Rattle.lxr_graph.specs.Renewing.{renewed_name}
+use Rattle.lxr_large_model.specs.Renewing.{AreCounted}
 
 -- At a granule stands the header of an object under its old name, which is one of those that are counted.
 pub record IsHead (s : Space) (granule : ℕ) (ns : List Name) (n : Name) (shape : Shape) : Type 0 where

@@ -1,9 +1,14 @@
 -- Laws of renewed names, each the contract of a function with an empty body.
-use Rattle.std.specs.Prelude.{◌≡◌, ℕ, Some, None, List, [], ◌∷◌, IsTrue}
+use Rattle.std.specs.Prelude.{◌≡◌, ℕ, ◌≤◌, true, Some, None, List, [], ◌∷◌, IsTrue}
 use Rattle.lxr_layout.specs.declared.Name.{Name}
 use Rattle.lxr_graph.specs.Names.{AreInOrder, has}
+use Rattle.lxr_graph.specs.History.{Item, Renew}
 use Rattle.lxr_graph.specs.State.{Graph, Object, State, object_at, world, world_name}
-use Rattle.lxr_large_model.specs.Renewing.{renewed_graph, renewed_name, renewed_object, renewed_state}
+use Rattle.lxr_graph.specs.Renewing.{renewed_graph, renewed_name, renewed_object, renewed_state}
+use Rattle.lxr_model.specs.Legal.{IsLegal, IsLegalSoFar}
+use Rattle.lxr_model.specs.Moments.{moment}
+use Rattle.lxr_model.specs.Renewing.{IsBehindDraining, IsStart}
+use Rattle.lxr_model.specs.Terms.{Terms}
 
 -- no two objects that are left get the same name
 abbrev pub NamesAreOneToOne : Type 0
@@ -12,8 +17,22 @@ NamesAreOneToOne = (ns : List Name) → AreInOrder (world_name ∷ ns) → (a b 
 
 -- the object of a name is found under its new name, with its references renamed
 abbrev pub ObjectsAreRenamed : Type 0
-ObjectsAreRenamed = (ns : List Name) → AreInOrder (world_name ∷ ns) → (g : Graph) (n : Name) → IsTrue (has (world_name ∷ ns) n)
-    → object_at (renewed_graph ns g) (renewed_name ns n) ≡ Some (renewed_object ns (object_at g n))
+ObjectsAreRenamed = (ns : List Name) → AreInOrder (world_name ∷ ns) → (threads : ℕ) (g : Graph) (n : Name) → IsTrue (has (world_name ∷ ns) n)
+    → object_at (renewed_graph threads ns g) (renewed_name ns n) ≡ Some (renewed_object ns (object_at g n))
+
+-- ---- histories
+
+-- behind a draining pause of a legal history a history may begin with what all that is left becomes
+abbrev pub RenewalsAreSound : Type 0
+RenewalsAreSound =
+    (terms : Terms) (h : List Item) (ns : List Name) → 1 ≤ terms.threads → IsLegalSoFar terms h → IsBehindDraining h
+    → (moment terms.threads h).unreclaimed ≡ world_name ∷ ns → IsStart terms.threads (moment terms.threads (Renew ns ∷ h))
+
+-- so where terms allow it and no trace runs, all that is left may be renewed there
+abbrev pub RenewalsAreLegal : Type 0
+RenewalsAreLegal =
+    (terms : Terms) (h : List Item) (ns : List Name) → 1 ≤ terms.threads → terms.renews ≡ true → IsLegal terms h → IsBehindDraining h
+    → (moment terms.threads h).trace ≡ None → (moment terms.threads h).unreclaimed ≡ world_name ∷ ns → IsLegal terms (Renew ns ∷ h)
 
 -- ---- a small example
 
@@ -44,4 +63,4 @@ two_left = record {
 }
 
 abbrev pub ExampleIsRenewed : Type 0
-ExampleIsRenewed = renewed_state (made 2 ∷ made 3 ∷ []) three_made ≡ two_left
+ExampleIsRenewed = renewed_state 1 (made 2 ∷ made 3 ∷ []) three_made ≡ two_left

@@ -7,7 +7,7 @@ ghost use Rattle.lxr_layout.specs.Objects.{header_word};
 ghost use Rattle.lxr_image.specs.ImageLaws.{with_heap};
 ghost use Rattle.lxr_image.specs.Spaces.{Turns, tables_of};
 ghost use Rattle.lxr_invariant.specs.AbstractState.{AbstractState};
-ghost use Rattle.lxr_large_model.specs.Renewing.{renewed_name};
+ghost use Rattle.lxr_graph.specs.Renewing.{renewed_name};
 ghost use Rattle.lxr_renew.specs.Heads.{IsHead, RenewsHeads};
 ghost use Rattle.lxr_renew.specs.Renewing.{MayRenew};
 

@@ -14,16 +14,27 @@ ghost use Rattle.lxr_invariant.specs.AbstractState.{AbstractState};
 ghost use Rattle.lxr_renew.specs.Renewing.{MayRenew, Renews};
 
 use heads::renew_heads;
-pub use laws::{example_is_renewed, names_are_one_to_one, objects_are_renamed};
-use lxr_image::Space;
+pub use laws::{
+    example_is_renewed, names_are_one_to_one, objects_are_renamed, renewals_are_legal,
+    renewals_are_sound,
+};
+use lxr_image::{Space, Tally};
 
-/// Gives each object that is left a new name, and counts pauses from 0 again, right behind a pause that collected. It goes over start bits, 64
+/// Gives each object that is left a new name, and counts from 0 again, right behind a pause that collected. It goes over start bits, 64
 /// granules at once, and looks each name up by halves among the counts of that pause; it takes no memory.
 pub fn renew_names(space: &mut Space)
     requires { (g : AbstractState) × (ns : List Name) × MayRenew space.old g ns }
     ensures { (g : AbstractState) (ns : List Name) → MayRenew space.old g ns → Renews space.old space.new g ns }
 {
     renew_heads(space);
-    space.tally.pauses = 0;
+    space.tally = Tally {
+        news: 0,
+        loads: 0,
+        stores: 0,
+        logs: 0,
+        pauses: 0,
+        moved: 0,
+        kept: 0,
+    };
     space.pauses = 0;
 }

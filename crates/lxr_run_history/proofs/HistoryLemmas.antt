@@ -9,7 +9,7 @@ use Rattle.lxr_graph.specs.declared.Op.{Op}
 use Rattle.lxr_graph.specs.declared.Op.TheVariants as op
 use Rattle.lxr_graph.specs.declared.Reply.{Reply}
 use Rattle.lxr_graph.specs.declared.Reply.TheVariants as reply
-use Rattle.lxr_graph.specs.History.{Item, Call, Pause, PauseReport, calls_of}
+use Rattle.lxr_graph.specs.History.{Item, Call, Pause, Renew, PauseReport, calls_of}
 use Rattle.lxr_graph.specs.Step.{IsReply, IsWellFormed}
 use Rattle.lxr_model.specs.Moments.{moment}
 use Rattle.lxr_model.specs.Kinds.{ends}
@@ -21,13 +21,14 @@ use Rattle.lxr_model_laws.proofs.ScriptLemmas.{as_many_go_on, causes_on}
 use Rattle.lxr_core_invariant.specs.EpochStates.{Extends, same, called}
 use Rattle.lxr_words.specs.declared.Options.{Options}
 use Rattle.lxr_run_history.specs.Growing.{CallsBeginScript, HasEnded}
-use Rattle.lxr_run_history.specs.Run.{IsHistoryOf, run_terms, script_terms}
+use Rattle.lxr_run_history.specs.Run.{IsHistoryWith, run_terms_with, script_terms_with}
 
 -- ---- promises
 
 -- where no pause stands at the end for a `new` that is still to come, anything may come
 pub promise_kept : (terms : Terms) (h : List Item) (x : Item) → OwesNoCall terms h → KeepsPromise terms h x
 promise_kept terms [] x none = tt
+promise_kept terms (Renew ns ∷ h) x none = tt
 promise_kept terms (Call t o r ∷ h) x none = tt
 promise_kept terms (Pause report ∷ h) x none = λ waiting. absurd (none waiting)
 
@@ -39,23 +40,23 @@ owes_extends terms threads every h k (called l t o r before is) none = tt
 -- ---- the calls of an epoch
 
 -- the reply of a step may stand
-pub replies_in : (options : Options) (threads : ℕ) (h : List Item) (t : ℕ) (o : Op) (r : Reply) → IsReply (moment threads h).state t o r → Replies (run_terms options threads) h t o r
-replies_in options threads h t (op.New dest shape) reply.Full is = absurd (cc)
-replies_in options threads h t (op.New dest shape) r is = is
-replies_in options threads h t o r is = is
+pub replies_in : (renews : Bool) (options : Options) (threads : ℕ) (h : List Item) (t : ℕ) (o : Op) (r : Reply) → IsReply (moment threads h).state t o r → Replies (run_terms_with renews options threads) h t o r
+replies_in renews options threads h t (op.New dest shape) reply.Full is = absurd (cc)
+replies_in renews options threads h t (op.New dest shape) r is = is
+replies_in renews options threads h t o r is = is
 
 -- a call counts for its own thread
 pub since_call : (t : ℕ) (o : Op) (r : Reply) (h : List Item) → calls_since_pause t (Call t o r ∷ h) ≡ suc (calls_since_pause t h)
 since_call t o r h = ap (λ b. if b then suc (calls_since_pause t h) else calls_since_pause t h) (eq-eqb t t refl)
 
 -- the calls of an epoch are legal
-pub legal_extends : (options : Options) (threads every : ℕ) (h k : List Item) → Extends threads every h k → IsLegalSoFar (run_terms options threads) h → OwesNoCall (run_terms options threads) h
-    → IsLegalSoFar (run_terms options threads) k
-legal_extends options threads every h k (same) legal none = legal
-legal_extends options threads every h k (called l t o r before is) legal none =
-    let was = legal_extends options threads every h l before legal none in
-    let owes = owes_extends (run_terms options threads) threads every h l before none in
-    (was, promise_kept (run_terms options threads) l (Call t o r) owes, record { thread = is.thread; operation = is.formed; reply = replies_in options threads l t o r is.reply })
+pub legal_extends : (renews : Bool) (options : Options) (threads every : ℕ) (h k : List Item) → Extends threads every h k → IsLegalSoFar (run_terms_with renews options threads) h → OwesNoCall (run_terms_with renews options threads) h
+    → IsLegalSoFar (run_terms_with renews options threads) k
+legal_extends renews options threads every h k (same) legal none = legal
+legal_extends renews options threads every h k (called l t o r before is) legal none =
+    let was = legal_extends renews options threads every h l before legal none in
+    let owes = owes_extends (run_terms_with renews options threads) threads every h l before none in
+    (was, promise_kept (run_terms_with renews options threads) l (Call t o r) owes, record { thread = is.thread; operation = is.formed; reply = replies_in renews options threads l t o r is.reply })
 
 -- none stands where its thread waits for a pause that it asked for
 pub asked_extends : (threads every : ℕ) (h k : List Item) → Extends threads every h k → AskedPausesComeFirst h → AskedPausesComeFirst k
@@ -63,59 +64,59 @@ asked_extends threads every h k (same) first = first
 asked_extends threads every h k (called l t o r before is) first = (asked_extends threads every h l before first, is.unasked)
 
 -- turns stay short
-pub turns_extend : (options : Options) (threads : ℕ) (h k : List Item) → Extends threads options.every h k → TurnsAreShort (run_terms options threads) h → TurnsAreShort (run_terms options threads) k
-turns_extend options threads h k (same) short = short
-turns_extend options threads h k (called l t o r before is) short =
-    (turns_extend options threads h l before short, let turn = is.turn in let one = since_call t o r l in omega arith)
+pub turns_extend : (renews : Bool) (options : Options) (threads : ℕ) (h k : List Item) → Extends threads options.every h k → TurnsAreShort (run_terms_with renews options threads) h → TurnsAreShort (run_terms_with renews options threads) k
+turns_extend renews options threads h k (same) short = short
+turns_extend renews options threads h k (called l t o r before is) short =
+    (turns_extend renews options threads h l before short, let turn = is.turn in let one = since_call t o r l in omega arith)
 
 -- no pause is among them
-pub causes_extend : (options : Options) (script : Script) (every : ℕ) (h k : List Item) → Extends (length script) every h k
-    → PausesHaveCauses (script_terms options script) script h → PausesHaveCauses (script_terms options script) script k
-causes_extend options script every h k (same) causes = causes
-causes_extend options script every h k (called l t o r before is) causes = causes_extend options script every h l before causes
+pub causes_extend : (renews : Bool) (options : Options) (script : Script) (every : ℕ) (h k : List Item) → Extends (length script) every h k
+    → PausesHaveCauses (script_terms_with renews options script) script h → PausesHaveCauses (script_terms_with renews options script) script k
+causes_extend renews options script every h k (same) causes = causes
+causes_extend renews options script every h k (called l t o r before is) causes = causes_extend renews options script every h l before causes
 
 -- so the last pause stays
-pub early_extends : (options : Options) (script : Script) (every : ℕ) (h k : List Item) → Extends (length script) every h k
-    → LastPauseWasEarly (script_terms options script) h → LastPauseWasEarly (script_terms options script) k
-early_extends options script every h k (same) early = early
-early_extends options script every h k (called l t o r before is) early = early_extends options script every h l before early
+pub early_extends : (renews : Bool) (options : Options) (script : Script) (every : ℕ) (h k : List Item) → Extends (length script) every h k
+    → LastPauseWasEarly (script_terms_with renews options script) h → LastPauseWasEarly (script_terms_with renews options script) k
+early_extends renews options script every h k (same) early = early
+early_extends renews options script every h k (called l t o r before is) early = early_extends renews options script every h l before early
 
 -- and those before it
-pub earlier_extends : (options : Options) (script : Script) (every : ℕ) (h k : List Item) → Extends (length script) every h k
-    → EarlierPausesWereEarly (script_terms options script) h → EarlierPausesWereEarly (script_terms options script) k
-earlier_extends options script every h k (same) early = early
-earlier_extends options script every h k (called l t o r before is) early = earlier_extends options script every h l before early
+pub earlier_extends : (renews : Bool) (options : Options) (script : Script) (every : ℕ) (h k : List Item) → Extends (length script) every h k
+    → EarlierPausesWereEarly (script_terms_with renews options script) h → EarlierPausesWereEarly (script_terms_with renews options script) k
+earlier_extends renews options script every h k (same) early = early
+earlier_extends renews options script every h k (called l t o r before is) early = earlier_extends renews options script every h l before early
 
 -- as many of a thread's operations and its end are a beginning of them
-pub calls_begin : (options : Options) (script : Script) (h : List Item) → CallsBeginScript script h → CallsBeginOperations (script_terms options script) script h
-calls_begin options script h begun = λ t low high.
+pub calls_begin : (renews : Bool) (options : Options) (script : Script) (h : List Item) → CallsBeginScript script h → CallsBeginOperations (script_terms_with renews options script) script h
+calls_begin renews options script h begun = λ t low high.
     let (n, calls) = begun t low high in
     (drop n (operations_of script t), ap (λ z. z ++ drop n (operations_of script t)) calls ∙ take-append-drop n (operations_of script t))
 
 -- after an epoch it is a history so far of all that was asked by then
-pub history_extends : (options : Options) (script script' : Script) (h k : List Item) → IsHistorySoFar (script_terms options script) script h → OwesNoCall (script_terms options script) h
-    → GoesOn script script' → Extends (length script) options.every h k → CallsBeginScript script' k → IsHistorySoFar (script_terms options script') script' k
-history_extends options script script' h k (legal, belongs) none on extends begun =
+pub history_extends : (renews : Bool) (options : Options) (script script' : Script) (h k : List Item) → IsHistorySoFar (script_terms_with renews options script) script h → OwesNoCall (script_terms_with renews options script) h
+    → GoesOn script script' → Extends (length script) options.every h k → CallsBeginScript script' k → IsHistorySoFar (script_terms_with renews options script') script' k
+history_extends renews options script script' h k (legal, belongs) none on extends begun =
     let many = as_many_go_on script script' on in
-    subst (λ n. IsHistorySoFar (run_terms options n) script' k) (sym many) (
-      legal_extends options (length script) options.every h k extends legal none,
+    subst (λ n. IsHistorySoFar (run_terms_with renews options n) script' k) (sym many) (
+      legal_extends renews options (length script) options.every h k extends legal none,
       record {
-        calls = subst (λ n. CallsBeginOperations (run_terms options n) script' k) many (calls_begin options script' k begun);
+        calls = subst (λ n. CallsBeginOperations (run_terms_with renews options n) script' k) many (calls_begin renews options script' k begun);
         asked = asked_extends (length script) options.every h k extends belongs.asked;
-        turns = turns_extend options (length script) h k extends belongs.turns;
-        causes = causes_on (script_terms options script) script script' k on (causes_extend options script options.every h k extends belongs.causes);
-        early = earlier_extends options script options.every h k extends belongs.early;
+        turns = turns_extend renews options (length script) h k extends belongs.turns;
+        causes = causes_on (script_terms_with renews options script) script script' k on (causes_extend renews options script options.every h k extends belongs.causes);
+        early = earlier_extends renews options script options.every h k extends belongs.early;
       },
     )
 
 -- ---- a call between two epochs
 
 -- what is asked of a call that comes next
-pub record MayBeCalled (options : Options) (script : Script) (h : List Item) (t : ℕ) (o : Op) (r : Reply) : Type 0 where
+pub record MayBeCalled (renews : Bool) (options : Options) (script : Script) (h : List Item) (t : ℕ) (o : Op) (r : Reply) : Type 0 where
   pub thread : (1 ≤ t) × (t ≤ length script)
   pub formed : IsWellFormed o
-  pub replies : Replies (script_terms options script) h t o r
-  pub promise : KeepsPromise (script_terms options script) h (Call t o r)
+  pub replies : Replies (script_terms_with renews options script) h t o r
+  pub promise : KeepsPromise (script_terms_with renews options script) h (Call t o r)
   pub next : next_operation script t h ≡ Some o
   pub unasked : has_asked t h ≡ false
   pub turn : calls_since_pause t h ≤ options.every
@@ -141,20 +142,20 @@ one_called true calls rest all o whole next = behind_front calls rest all o whol
 one_called false calls rest all o whole next = (rest, whole)
 
 -- the next operation of a thread joins its calls
-calls_with : (options : Options) (script : Script) (h : List Item) (t : ℕ) (o : Op) (r : Reply) → CallsBeginOperations (script_terms options script) script h → next_operation script t h ≡ Some o
-    → CallsBeginOperations (script_terms options script) script (Call t o r ∷ h)
-calls_with options script h t o r calls next = λ u low high.
+calls_with : (renews : Bool) (options : Options) (script : Script) (h : List Item) (t : ℕ) (o : Op) (r : Reply) → CallsBeginOperations (script_terms_with renews options script) script h → next_operation script t h ≡ Some o
+    → CallsBeginOperations (script_terms_with renews options script) script (Call t o r ∷ h)
+calls_with renews options script h t o r calls next = λ u low high.
     let (rest, whole) = calls u low high in
     one_called (nat_eq u t) (calls_of u h) rest (operations_of script u) o whole
     (λ mine. let is : t ≡ u = grind (arith, nat_tests) in subst (λ v. next_operation script v h ≡ Some o) is next)
 
 -- with it the history is one so far
-pub history_with_call : (options : Options) (script : Script) (h : List Item) (t : ℕ) (o : Op) (r : Reply) → IsHistorySoFar (script_terms options script) script h
-    → MayBeCalled options script h t o r → IsHistorySoFar (script_terms options script) script (Call t o r ∷ h)
-history_with_call options script h t o r (legal, belongs) may = (
+pub history_with_call : (renews : Bool) (options : Options) (script : Script) (h : List Item) (t : ℕ) (o : Op) (r : Reply) → IsHistorySoFar (script_terms_with renews options script) script h
+    → MayBeCalled renews options script h t o r → IsHistorySoFar (script_terms_with renews options script) script (Call t o r ∷ h)
+history_with_call renews options script h t o r (legal, belongs) may = (
   (legal, may.promise, record { thread = may.thread; operation = may.formed; reply = may.replies }),
   record {
-    calls = calls_with options script h t o r belongs.calls may.next;
+    calls = calls_with renews options script h t o r belongs.calls may.next;
     asked = (belongs.asked, may.unasked);
     turns = (belongs.turns, let turn = may.turn in let one = since_call t o r h in omega arith);
     causes = belongs.causes;
@@ -165,27 +166,28 @@ history_with_call options script h t o r (legal, belongs) may = (
 -- ---- a pause
 
 -- so it is with a pause that has a cause and may stand there, where at the last one not all threads had ended
-pub history_with_pause : (options : Options) (script : Script) (h : List Item) (report : PauseReport) → IsHistorySoFar (script_terms options script) script h
-    → OwesNoCall (script_terms options script) h → IsPause (script_terms options script) h report → HasCause (script_terms options script) script h
-    → LastPauseWasEarly (script_terms options script) h → IsHistorySoFar (script_terms options script) script (Pause report ∷ h)
-history_with_pause options script h report (legal, belongs) none pause cause early = (
-  (legal, promise_kept (script_terms options script) h (Pause report) none, pause),
+pub history_with_pause : (renews : Bool) (options : Options) (script : Script) (h : List Item) (report : PauseReport) → IsHistorySoFar (script_terms_with renews options script) script h
+    → OwesNoCall (script_terms_with renews options script) h → IsPause (script_terms_with renews options script) h report → HasCause (script_terms_with renews options script) script h
+    → LastPauseWasEarly (script_terms_with renews options script) h → IsHistorySoFar (script_terms_with renews options script) script (Pause report ∷ h)
+history_with_pause renews options script h report (legal, belongs) none pause cause early = (
+  (legal, promise_kept (script_terms_with renews options script) h (Pause report) none, pause),
   record { calls = belongs.calls; asked = belongs.asked; turns = belongs.turns; causes = (belongs.causes, cause); early = early },
 )
 
 -- ---- the end
 
 -- where not all threads have ended, they hadn't at the last pause
-pub was_early : (options : Options) (script : Script) (h : List Item) → ends h < length script → LastPauseWasEarly (script_terms options script) h
-was_early options script [] more = tt
-was_early options script (Pause report ∷ h) more = more
-was_early options script (Call t op.End r ∷ h) more = was_early options script h (omega arith)
-was_early options script (Call t o r ∷ h) more = was_early options script h more
+pub was_early : (renews : Bool) (options : Options) (script : Script) (h : List Item) → ends h < length script → LastPauseWasEarly (script_terms_with renews options script) h
+was_early renews options script [] more = tt
+was_early renews options script (Renew ns ∷ h) more = tt
+was_early renews options script (Pause report ∷ h) more = more
+was_early renews options script (Call t op.End r ∷ h) more = was_early renews options script h (omega arith)
+was_early renews options script (Call t o r ∷ h) more = was_early renews options script h more
 
 -- where all threads have ended, the next pause makes it whole
-pub history_whole : (options : Options) (script : Script) (h : List Item) (report : PauseReport) → IsHistorySoFar (script_terms options script) script (Pause report ∷ h)
-    → HasEnded options script h → IsHistoryOf options script (Pause report ∷ h)
-history_whole options script h report (legal, belongs) whole = record {
+pub history_whole : (renews : Bool) (options : Options) (script : Script) (h : List Item) (report : PauseReport) → IsHistorySoFar (script_terms_with renews options script) script (Pause report ∷ h)
+    → HasEnded options script h → IsHistoryWith renews options script (Pause report ∷ h)
+history_whole renews options script h report (legal, belongs) whole = record {
   legal = (legal, λ waiting. waiting.1 (inr whole.ended));
   belongs = record {
     calls = whole.calls;

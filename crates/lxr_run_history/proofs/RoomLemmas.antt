@@ -1,6 +1,6 @@
 -- What a history says where no room is left for a `new` that waits: right after a collecting pause it may be refused; else a pause has
 -- a cause, and may collect for it.
-use Rattle.std.proofs.Common.{◌≡◌, ◌≢◌, ℕ, ◌+◌, ◌-◌, ◌/◌, ◌≤◌, ◌↔◌, refl, sym, ap, subst, ◌∙◌, inl, inr, List, [], ◌∷◌, length}
+use Rattle.std.proofs.Common.{◌≡◌, ◌≢◌, ℕ, ◌+◌, ◌-◌, ◌/◌, ◌≤◌, ◌↔◌, refl, sym, ap, subst, ◌∙◌, inl, inr, Bool, List, [], ◌∷◌, length}
 use Rattle.std.specs.Prelude.{Some, None, IsTrue}
 use Rattle.lxr_layout.specs.declared.Name.{Name}
 use Rattle.lxr_layout.specs.declared.Shape.{Shape}
@@ -12,7 +12,7 @@ use Rattle.lxr_graph.specs.declared.Op.TheVariants as op
 use Rattle.lxr_graph.specs.declared.Reply.{Reply}
 use Rattle.lxr_graph.specs.declared.Reply.TheVariants as reply
 use Rattle.lxr_graph.specs.declared.report.Kind.TheVariants as kind
-use Rattle.lxr_graph.specs.History.{Item, Call, Pause, PauseReport}
+use Rattle.lxr_graph.specs.History.{Item, Call, Pause, Renew, PauseReport}
 use Rattle.lxr_image.specs.declared.space.Space.{Space}
 use Rattle.lxr_image.specs.Spaces.{tables_of}
 use Rattle.lxr_blocks.specs.Placing.{IsFull}
@@ -29,11 +29,12 @@ use Rattle.lxr_model.proofs.CollectLemmas.{refused_keep}
 use Rattle.lxr_full.proofs.RoomLemmas.{collected_full_leaves_no_run, roomless_blocks_are_taken, waiting_may_collect}
 use Rattle.lxr_full.proofs.WorldLemmas.{world_keeps_shape}
 use Rattle.lxr_words.specs.declared.Options.{Options}
-use Rattle.lxr_run_history.specs.Run.{script_terms}
+use Rattle.lxr_run_history.specs.Run.{script_terms_with}
 
 -- right after a collecting pause nothing is made yet
 pub none_made : (threads : ℕ) (h : List Item) → IsRightAfterCollecting h → (moment threads h).made ≡ []
 none_made threads [] after = absurd after
+none_made threads (Renew ns ∷ h) after = absurd after
 none_made threads (Pause report ∷ h) after = refl
 none_made threads (Call t (op.New dest shape) reply.Full ∷ h) after = none_made threads h after
 none_made threads (Call t o r ∷ h) after = absurd after
@@ -41,6 +42,7 @@ none_made threads (Call t o r ∷ h) after = absurd after
 -- nor does a trace run
 untraced : (threads : ℕ) (h : List Item) → IsRightAfterCollecting h → (moment threads h).trace ≡ None
 untraced threads [] after = absurd after
+untraced threads (Renew ns ∷ h) after = absurd after
 untraced threads (Pause report ∷ h) after = ap (trace_after (moment threads h) report) after
 untraced threads (Call t (op.New dest shape) reply.Full ∷ h) after = untraced threads h after
 untraced threads (Call t o r ∷ h) after = absurd after
@@ -51,12 +53,12 @@ none_chosen threads h s g after between is =
     subst (ChosenNeedTrace (tables_of s) s.limits.blocks) (ap (λ (m : Moment). m.trace) is ∙ untraced threads h after) between.safepoint.holds.blocks.chosen
 
 -- a `new` that finds no room right after a collecting pause may be refused
-pub may_be_refused : (options : Options) (script : Script) (h : List Item) (s : Space) (g : AbstractState) (t dest : ℕ) (shape : Shape) → IsLegalSoFar (script_terms options script) h
+pub may_be_refused : (renews : Bool) (options : Options) (script : Script) (h : List Item) (s : Space) (g : AbstractState) (t dest : ℕ) (shape : Shape) → IsLegalSoFar (script_terms_with renews options script) h
     → IsRightAfterCollecting h → IsQuiescent s g → g.moment ≡ moment (length script) h → s.limits.blocks ≡ options.blocks → IsFull s shape
-    → Replies (script_terms options script) h t (op.New dest shape) reply.Full
-may_be_refused options script h s g t dest shape legal after between is blocks full =
-    let world : HasWorld (moment (length script) h).state.graph = world_keeps_shape (script_terms options script) h legal in
-    let reached : (n : Name) → IsTrue (has (moment (length script) h).unreclaimed n) ↔ Reachable (moment (length script) h).state n = refused_keep (script_terms options script) h legal after in
+    → Replies (script_terms_with renews options script) h t (op.New dest shape) reply.Full
+may_be_refused renews options script h s g t dest shape legal after between is blocks full =
+    let world : HasWorld (moment (length script) h).state.graph = world_keeps_shape (script_terms_with renews options script) h legal in
+    let reached : (n : Name) → IsTrue (has (moment (length script) h).unreclaimed n) ↔ Reachable (moment (length script) h).state n = refused_keep (script_terms_with renews options script) h legal after in
     let (ns, set, none) = collected_full_leaves_no_run s g shape between (ap (λ (m : Moment). m.made) is ∙ none_made (length script) h after)
     (none_chosen (length script) h s g after between is)
     (subst (λ (m : Moment). (n : Name) → IsTrue (has m.unreclaimed n) ↔ Reachable m.state n) (sym is) reached)
@@ -69,20 +71,20 @@ may_be_refused options script h s g t dest shape legal after between is blocks f
     )
 
 -- for one that finds none a collecting pause may stand, behind which it comes
-pub is_waited_for : (options : Options) (script : Script) (h : List Item) (s : Space) (g : AbstractState) (t dest : ℕ) (shape : Shape) (r : Reply) → IsLegalSoFar (script_terms options script) h
-    → IsQuiescent s g → g.moment ≡ moment (length script) h → s.limits.blocks ≡ options.blocks → FitsShape shape → IsFull s shape → IsWaitedFor (script_terms options script) h (Call t (op.New dest shape) r)
-is_waited_for options script h s g t dest shape r legal between is blocks fits full =
-    let world : HasWorld (moment (length script) h).state.graph = world_keeps_shape (script_terms options script) h legal in
+pub is_waited_for : (renews : Bool) (options : Options) (script : Script) (h : List Item) (s : Space) (g : AbstractState) (t dest : ℕ) (shape : Shape) (r : Reply) → IsLegalSoFar (script_terms_with renews options script) h
+    → IsQuiescent s g → g.moment ≡ moment (length script) h → s.limits.blocks ≡ options.blocks → FitsShape shape → IsFull s shape → IsWaitedFor (script_terms_with renews options script) h (Call t (op.New dest shape) r)
+is_waited_for renews options script h s g t dest shape r legal between is blocks fits full =
+    let world : HasWorld (moment (length script) h).state.graph = world_keeps_shape (script_terms_with renews options script) h legal in
     let taken : LeaveNoRun g.moment.state.graph (without (union g.moment.made g.moment.unreclaimed) (world_name ∷ [])) (s.limits.blocks - most_chosen s.limits.blocks) (line_count shape) =
     waiting_may_collect s g shape between (subst (λ (m : Moment). HasWorld m.state.graph) (sym is) world) fits full in
     subst (λ (m : Moment). LeaveNoRun m.state.graph (without (union m.made m.unreclaimed) (world_name ∷ [])) (options.blocks - most_chosen options.blocks) (line_count shape)) is
     (subst (λ b. LeaveNoRun g.moment.state.graph (without (union g.moment.made g.moment.unreclaimed) (world_name ∷ [])) (b - most_chosen b) (line_count shape)) blocks taken)
 
 -- and one that finds none is a cause of a pause
-pub room_cause : (options : Options) (script : Script) (h : List Item) (s : Space) (g : AbstractState) (t dest : ℕ) (shape : Shape) → 1 ≤ t → t ≤ length script
+pub room_cause : (renews : Bool) (options : Options) (script : Script) (h : List Item) (s : Space) (g : AbstractState) (t dest : ℕ) (shape : Shape) → 1 ≤ t → t ≤ length script
     → next_operation script t h ≡ Some (op.New dest shape) → IsQuiescent s g → g.moment ≡ moment (length script) h → s.limits.blocks ≡ options.blocks → FitsShape shape → IsFull s shape
-    → HasCause (script_terms options script) script h
-room_cause options script h s g t dest shape low high next between is blocks fits full =
+    → HasCause (script_terms_with renews options script) script h
+room_cause renews options script h s g t dest shape low high next between is blocks fits full =
     let taken : s.limits.blocks - most_chosen s.limits.blocks ≤ length g.moment.unreclaimed + length g.moment.made = roomless_blocks_are_taken s g shape between fits full in
     let here : s.limits.blocks - most_chosen s.limits.blocks ≤ length (moment (length script) h).unreclaimed + length (moment (length script) h).made =
     subst (λ (m : Moment). s.limits.blocks - most_chosen s.limits.blocks ≤ length m.unreclaimed + length m.made) is taken in

@@ -7,7 +7,7 @@ use Rattle.lxr_graph.specs.declared.Op.{Op}
 use Rattle.lxr_graph.specs.declared.Op.TheVariants as op
 use Rattle.lxr_graph.specs.declared.Reply.{Reply}
 use Rattle.lxr_graph.specs.declared.Reply.TheVariants as reply
-use Rattle.lxr_graph.specs.History.{Item, Call, Pause}
+use Rattle.lxr_graph.specs.History.{Item, Call, Pause, Renew}
 use Rattle.lxr_graph.specs.Names.{has}
 use Rattle.lxr_graph.specs.State.{register_at}
 use Rattle.lxr_image.specs.declared.space.Tally.{Tally}
@@ -42,16 +42,19 @@ stores_grow t r = omega arith
 -- the numbers are those of the replies of each kind
 pub news_are : (threads : ℕ) (h : List Item) → (tally_of threads h).news ≡ counted_in (replied is_new) h
 news_are threads [] = refl
+news_are threads (Renew ns ∷ h) = refl
 news_are threads (Pause report ∷ h) = news_are threads h
 news_are threads (Call t o r ∷ h) = news_grow (tally_of threads h) r ∙ ap (λ n. n + (if is_new r then 1 else 0)) (news_are threads h)
 
 pub loads_are : (threads : ℕ) (h : List Item) → (tally_of threads h).loads ≡ counted_in (replied is_loaded) h
 loads_are threads [] = refl
+loads_are threads (Renew ns ∷ h) = refl
 loads_are threads (Pause report ∷ h) = loads_are threads h
 loads_are threads (Call t o r ∷ h) = loads_grow (tally_of threads h) r ∙ ap (λ n. n + (if is_loaded r then 1 else 0)) (loads_are threads h)
 
 pub stores_are : (threads : ℕ) (h : List Item) → (tally_of threads h).stores ≡ counted_in (replied is_stored) h
 stores_are threads [] = refl
+stores_are threads (Renew ns ∷ h) = refl
 stores_are threads (Pause report ∷ h) = stores_are threads h
 stores_are threads (Call t o r ∷ h) = stores_grow (tally_of threads h) r ∙ ap (λ n. n + (if is_stored r then 1 else 0)) (stores_are threads h)
 
@@ -68,6 +71,7 @@ tally_few t r = omega arith
 -- so they are within twice the number of calls
 pub replies_few : (threads : ℕ) (h : List Item) → (tally_of threads h).news + (tally_of threads h).loads + (tally_of threads h).stores ≤ 2 * counted_in one h
 replies_few threads [] = omega arith
+replies_few threads (Renew ns ∷ h) = omega arith
 replies_few threads (Pause report ∷ h) = replies_few threads h
 replies_few threads (Call t o r ∷ h) = let few = replies_few threads h in let more = tally_few (tally_of threads h) r in omega arith
 
@@ -89,6 +93,7 @@ logs_stay t r = refl
 -- pauses are numbered from 1
 pub pauses_are : (terms : Terms) (h : List Item) → IsLegalSoFar terms h → (tally_of terms.threads h).pauses ≡ (moment terms.threads h).number
 pauses_are terms [] legal = refl
+pauses_are terms (Renew ns ∷ h) legal = refl
 pauses_are terms (Call t o r ∷ h) legal = pauses_stay (tally_of terms.threads h) r ∙ pauses_are terms h legal.0
 pauses_are terms (Pause report ∷ h) legal =
     let (parts, is) = legal.2.reports in
@@ -126,6 +131,7 @@ written_few t m thread o r = let more = stores_not_fewer t r in omega arith
 -- all that was logged was stored
 pub logs_few : (threads : ℕ) (h : List Item) → (tally_of threads h).logs + length (moment threads h).written ≤ (tally_of threads h).stores
 logs_few threads [] = omega arith
+logs_few threads (Renew ns ∷ h) = omega arith
 logs_few threads (Pause report ∷ h) = let few = logs_few threads h in omega arith
 logs_few threads (Call t o r ∷ h) =
     let few = logs_few threads h in

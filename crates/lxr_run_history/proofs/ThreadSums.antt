@@ -7,10 +7,11 @@ use Rattle.std.proofs.lemmas.List.Elements.{All-head, All-tail, All-take}
 use Rattle.std.proofs.lemmas.List.Sums.{sum_by-cons, sum_by_push}
 use Rattle.std.proofs.lemmas.Bool.{cases_lt}
 use Rattle.std.proofs.lemmas.Bool.Decides.{nat_tests}
+use Rattle.lxr_layout.specs.declared.Name.{Name}
 use Rattle.lxr_graph.specs.declared.Op.{Op}
 use Rattle.lxr_graph.specs.declared.Op.TheVariants as op
 use Rattle.lxr_graph.specs.declared.Reply.{Reply}
-use Rattle.lxr_graph.specs.History.{Item, Call, Pause, PauseReport, calls_of, replies_of}
+use Rattle.lxr_graph.specs.History.{Item, Call, Pause, Renew, PauseReport, calls_of, replies_of}
 use Rattle.lxr_model.specs.Kinds.{ends}
 use Rattle.lxr_model.specs.Legal.{IsLegalSoFar}
 use Rattle.lxr_model.specs.Terms.{Terms}
@@ -23,11 +24,13 @@ Weight = Op → Reply → ℕ
 -- of all calls of a history, and of those of one thread
 abbrev pub counted_in : Weight → List Item → ℕ
 counted_in w [] = 0
+counted_in w (Renew ns ∷ h) = 0
 counted_in w (Pause report ∷ h) = counted_in w h
 counted_in w (Call u o r ∷ h) = counted_in w h + w o r
 
 abbrev pub counted_of : Weight → ℕ → List Item → ℕ
 counted_of w t [] = 0
+counted_of w t (Renew ns ∷ h) = 0
 counted_of w t (Pause report ∷ h) = counted_of w t h
 counted_of w t (Call u o r ∷ h) = counted_of w t h + (if nat_eq t u then w o r else 0)
 
@@ -39,12 +42,14 @@ counted_by w t (suc n) h = counted_of w t h + counted_by w (suc t) n h
 -- all calls are those of the first threads
 abbrev pub AreOfThreads : ℕ → List Item → Type 0
 AreOfThreads threads [] = Unit {0}
+AreOfThreads threads (Renew ns ∷ h) = Unit {0}
 AreOfThreads threads (Pause report ∷ h) = AreOfThreads threads h
 AreOfThreads threads (Call t o r ∷ h) = AreOfThreads threads h × ((1 ≤ t) × (t ≤ threads))
 
 -- so it is of a legal history
 pub legal_threads : (terms : Terms) (h : List Item) → IsLegalSoFar terms h → AreOfThreads terms.threads h
 legal_threads terms [] legal = tt
+legal_threads terms (Renew ns ∷ h) legal = tt
 legal_threads terms (Pause report ∷ h) legal = legal_threads terms h legal.0
 legal_threads terms (Call t o r ∷ h) legal = (legal_threads terms h legal.0, legal.2.thread)
 
@@ -80,10 +85,14 @@ adds_once w t (suc n) u o r h low high =
     omega arith)
     (cases_lt t u)
 
--- nothing is counted before the first call, nor for a pause
+-- nothing is counted before the first call since names were last renewed, nor for a pause
 none_by : (w : Weight) (t n : ℕ) → counted_by w t n [] ≡ 0
 none_by w t zero = refl
 none_by w t (suc n) = let rest = none_by w (suc t) n in omega arith
+
+renewed_by : (w : Weight) (t n : ℕ) (ns : List Name) (h : List Item) → counted_by w t n (Renew ns ∷ h) ≡ 0
+renewed_by w t zero ns h = refl
+renewed_by w t (suc n) ns h = let rest = renewed_by w (suc t) n ns h in omega arith
 
 paused_by : (w : Weight) (t n : ℕ) (report : PauseReport) (h : List Item) → counted_by w t n (Pause report ∷ h) ≡ counted_by w t n h
 paused_by w t zero report h = refl
@@ -92,6 +101,7 @@ paused_by w t (suc n) report h = ap (λ m. counted_of w t h + m) (paused_by w (s
 -- all calls together are those of the threads
 pub sum_of_threads : (w : Weight) (threads : ℕ) (h : List Item) → AreOfThreads threads h → counted_in w h ≡ counted_by w 1 threads h
 sum_of_threads w threads [] are = sym (none_by w 1 threads)
+sum_of_threads w threads (Renew ns ∷ h) are = sym (renewed_by w 1 threads ns h)
 sum_of_threads w threads (Pause report ∷ h) are = sum_of_threads w threads h are ∙ sym (paused_by w 1 threads report h)
 sum_of_threads w threads (Call u o r ∷ h) (before, of) =
     ap (λ n. n + w o r) (sum_of_threads w threads h before) ∙ sym (adds_once w 1 threads u o r h of.0 (let p = of.1 in omega arith))
@@ -118,6 +128,7 @@ length-more false rs r = omega arith
 -- so its calls are counted by its replies
 pub calls_counted : (t : ℕ) (h : List Item) → counted_of one t h ≡ length (replies_of t h)
 calls_counted t [] = refl
+calls_counted t (Renew ns ∷ h) = refl
 calls_counted t (Pause report ∷ h) = calls_counted t h
 calls_counted t (Call u o r ∷ h) = ap (λ n. n + (if nat_eq t u then 1 else 0)) (calls_counted t h) ∙ sym (length-more (nat_eq t u) (replies_of t h) r)
 
@@ -129,6 +140,7 @@ count-more p false rs r = omega arith
 -- so are its replies of a kind
 pub replies_counted : (p : Reply → Bool) (t : ℕ) (h : List Item) → counted_of (replied p) t h ≡ count_by p (replies_of t h)
 replies_counted p t [] = refl
+replies_counted p t (Renew ns ∷ h) = refl
 replies_counted p t (Pause report ∷ h) = replies_counted p t h
 replies_counted p t (Call u o r ∷ h) =
     ap (λ n. n + (if nat_eq t u then (if p r then 1 else 0) else 0)) (replies_counted p t h) ∙ sym (count-more p (nat_eq t u) (replies_of t h) r)
@@ -136,6 +148,7 @@ replies_counted p t (Call u o r ∷ h) =
 -- all ends are counted
 pub ends_counted : (h : List Item) → counted_in ending h ≡ ends h
 ends_counted [] = refl
+ends_counted (Renew ns ∷ h) = refl
 ends_counted (Pause report ∷ h) = ends_counted h
 ends_counted (Call t op.End r ∷ h) = let e = ends_counted h in omega arith
 ends_counted (Call t o r ∷ h) = let e = ends_counted h in omega arith
@@ -148,6 +161,7 @@ ends-more false os o = omega arith
 -- so are its ends
 pub thread_ends_counted : (t : ℕ) (h : List Item) → counted_of ending t h ≡ count_by is_end (calls_of t h)
 thread_ends_counted t [] = refl
+thread_ends_counted t (Renew ns ∷ h) = refl
 thread_ends_counted t (Pause report ∷ h) = thread_ends_counted t h
 thread_ends_counted t (Call u o r ∷ h) =
     ap (λ n. n + (if nat_eq t u then (if is_end o then 1 else 0) else 0)) (thread_ends_counted t h) ∙ sym (ends-more (nat_eq t u) (calls_of t h) o)

@@ -1,5 +1,5 @@
 -- How the history of a run grows, and when it is whole. Each law is the contract of a function with an empty body.
-use Rattle.std.specs.Prelude.{◌≡◌, ℕ, ◌≤◌, List, ◌∷◌, length, take}
+use Rattle.std.specs.Prelude.{◌≡◌, ℕ, ◌≤◌, Bool, List, ◌∷◌, length, take}
 use Rattle.lxr_graph.specs.History.{Item, Pause, PauseReport, calls_of}
 use Rattle.lxr_model.specs.Belongs.{HasCause, IsHistorySoFar, LastPauseWasEarly, Script, operations_of}
 use Rattle.lxr_model.specs.Kinds.{ends}
@@ -7,7 +7,7 @@ use Rattle.lxr_model.specs.Legal.{IsPause, OwesNoCall}
 use Rattle.lxr_model_laws.specs.ScriptLaws.{GoesOn}
 use Rattle.lxr_core_invariant.specs.EpochStates.{Extends}
 use Rattle.lxr_words.specs.declared.Options.{Options}
-use Rattle.lxr_run_history.specs.Run.{IsHistoryOf, script_terms}
+use Rattle.lxr_run_history.specs.Run.{IsHistoryWith, script_terms_with}
 
 -- each thread's calls are as many of its operations and its end
 abbrev pub CallsBeginScript : Script → List Item → Type 0
@@ -16,15 +16,15 @@ CallsBeginScript script h = (t : ℕ) → 1 ≤ t → t ≤ length script → (n
 -- The calls of an epoch lead from a history so far to one, where no pause stands at its end for a `new` that is still to come. Threads may be
 -- asked for more while it runs: the history before is one of what was asked by then, and the one behind it of all that was asked.
 abbrev pub EpochsKeepHistories : Type 0
-EpochsKeepHistories = (options : Options) (script script' : Script) (h k : List Item) → IsHistorySoFar (script_terms options script) script h → OwesNoCall (script_terms options script) h
+EpochsKeepHistories = (renews : Bool) (options : Options) (script script' : Script) (h k : List Item) → IsHistorySoFar (script_terms_with renews options script) script h → OwesNoCall (script_terms_with renews options script) h
     → GoesOn script script' → Extends (length script) options.every h k → CallsBeginScript script' k
-    → IsHistorySoFar (script_terms options script') script' k
+    → IsHistorySoFar (script_terms_with renews options script') script' k
 
 -- so does a pause that has a cause and is of a kind that may stand there, where at the last one not all threads had ended
 abbrev pub PausesKeepHistories : Type 0
-PausesKeepHistories = (options : Options) (script : Script) (h : List Item) (report : PauseReport) → IsHistorySoFar (script_terms options script) script h
-    → OwesNoCall (script_terms options script) h → IsPause (script_terms options script) h report → HasCause (script_terms options script) script h
-    → LastPauseWasEarly (script_terms options script) h → IsHistorySoFar (script_terms options script) script (Pause report ∷ h)
+PausesKeepHistories = (renews : Bool) (options : Options) (script : Script) (h : List Item) (report : PauseReport) → IsHistorySoFar (script_terms_with renews options script) script h
+    → OwesNoCall (script_terms_with renews options script) h → IsPause (script_terms_with renews options script) h report → HasCause (script_terms_with renews options script) script h
+    → LastPauseWasEarly (script_terms_with renews options script) h → IsHistorySoFar (script_terms_with renews options script) script (Pause report ∷ h)
 
 -- all threads have done all their operations and their ends
 pub record HasEnded (options : Options) (script : Script) (h : List Item) : Type 0 where
@@ -33,5 +33,5 @@ pub record HasEnded (options : Options) (script : Script) (h : List Item) : Type
 
 -- then the next pause makes the history whole
 abbrev pub EndedHistoriesAreWhole : Type 0
-EndedHistoriesAreWhole = (options : Options) (script : Script) (h : List Item) (report : PauseReport) → IsHistorySoFar (script_terms options script) script (Pause report ∷ h)
-    → HasEnded options script h → IsHistoryOf options script (Pause report ∷ h)
+EndedHistoriesAreWhole = (renews : Bool) (options : Options) (script : Script) (h : List Item) (report : PauseReport) → IsHistorySoFar (script_terms_with renews options script) script (Pause report ∷ h)
+    → HasEnded options script h → IsHistoryWith renews options script (Pause report ∷ h)

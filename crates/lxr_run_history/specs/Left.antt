@@ -1,7 +1,7 @@
 -- The space that a history leaves at its last pause.
 use Rattle.std.specs.Prelude.{◌≡◌, ℕ, List, [], ◌∷◌}
 use Rattle.lxr_layout.specs.declared.limits.Limits.{Limits}
-use Rattle.lxr_graph.specs.History.{Item, Call, Pause, PauseReport}
+use Rattle.lxr_graph.specs.History.{Item, Call, Pause, Renew, PauseReport}
 use Rattle.lxr_model.specs.Moments.{moment}
 use Rattle.lxr_image.specs.declared.space.Space.{Space}
 use Rattle.lxr_invariant.specs.AbstractState.{AbstractState, no_report}
@@ -12,6 +12,7 @@ use Rattle.lxr_run_history.specs.Tally.{HasNumbersOf}
 -- the report of the last pause of a history
 abbrev pub last_report : List Item → PauseReport
 last_report [] = no_report
+last_report (Renew ns ∷ h) = last_report h
 last_report (Call t o r ∷ h) = last_report h
 last_report (Pause report ∷ h) = report
 

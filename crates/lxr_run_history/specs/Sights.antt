@@ -3,7 +3,7 @@ use Rattle.std.specs.Prelude.{◌≡◌, ◌≢◌, ℕ, ◌+◌, Option, Some, 
 use Rattle.lxr_layout.specs.declared.Name.{Name}
 use Rattle.lxr_graph.specs.declared.report.Kind.TheVariants as kind
 use Rattle.lxr_graph.specs.Names.{IsSetOf, has}
-use Rattle.lxr_graph.specs.History.{Item, Call, Pause, PauseReport}
+use Rattle.lxr_graph.specs.History.{Item, Call, Pause, Renew, PauseReport}
 use Rattle.lxr_image.specs.declared.space.Space.{Space}
 use Rattle.lxr_image.specs.Image.{opening_at}
 use Rattle.lxr_invariant.specs.AbstractState.{AbstractState}
@@ -59,10 +59,12 @@ pub record SeesPause (threads : ℕ) (h : List Item) (report : PauseReport) (saf
       → (abstract_state'.at n ≡ abstract_state.at n) ⊎ MayMove report safepoint abstract_state.at n
   pub evacuated : CountsEvacuated report safepoint after abstract_state'.moment.unreclaimed abstract_state.at abstract_state'.at
 
--- The sights of a history of so many threads, two for each pause, in order; at the opening the world alone has a place. What pauses have moved and
--- kept is what the last sight counts, and between two pauses it stays.
+-- The sights of a history of so many threads, two for each pause since names were last renewed, in order. At the opening the world alone has a
+-- place, and behind a renewal all that is left stands where it stood. What pauses have moved and kept is what the last sight counts, and
+-- between two pauses it stays.
 abbrev pub SeesPauses : ℕ → List Item → List Sight → (Name → ℕ) → Evacuated → Type 0
 SeesPauses threads [] sights places evacuated = (sights ≡ []) × (places ≡ opening_at) × (evacuated ≡ none_evacuated)
+SeesPauses threads (Renew ns ∷ h) sights places evacuated = (sights ≡ []) × (evacuated ≡ none_evacuated)
 SeesPauses threads (Call t o r ∷ h) sights places evacuated = SeesPauses threads h sights places evacuated
 SeesPauses threads (Pause report ∷ h) sights places evacuated =
     (before : List Sight) × (safepoint after : Sight) × (old : Name → ℕ)

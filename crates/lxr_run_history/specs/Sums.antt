@@ -4,7 +4,7 @@ use Rattle.lxr_graph.specs.declared.Op.{Op}
 use Rattle.lxr_graph.specs.declared.Op.TheVariants as op
 use Rattle.lxr_graph.specs.declared.Reply.{Reply}
 use Rattle.lxr_graph.specs.declared.Reply.TheVariants as reply
-use Rattle.lxr_graph.specs.History.{Item, Call, Pause, PauseReport}
+use Rattle.lxr_graph.specs.History.{Item, Call, Pause, Renew, PauseReport}
 use Rattle.lxr_model.specs.Moments.{moment}
 use Rattle.lxr_text_print.specs.declared.summary.Sums.{Sums}
 use Rattle.lxr_run_history.specs.declared.totals.Totals.{Totals}
@@ -25,6 +25,7 @@ with_report totals report = record {
 -- the totals of all reports of a history
 abbrev pub totals_of : List Item → Totals
 totals_of [] = no_totals
+totals_of (Renew ns ∷ h) = no_totals
 totals_of (Call t o r ∷ h) = totals_of h
 totals_of (Pause report ∷ h) = with_report (totals_of h) report
 
@@ -36,6 +37,7 @@ operations_by o = 1
 -- how many operations a history has
 abbrev pub operations_in : List Item → ℕ
 operations_in [] = 0
+operations_in (Renew ns ∷ h) = 0
 operations_in (Call t o r ∷ h) = operations_by o + operations_in h
 operations_in (Pause report ∷ h) = operations_in h
 
@@ -47,12 +49,14 @@ fulls_by r = 0
 -- how many `new` of a history found no room
 abbrev pub fulls_in : List Item → ℕ
 fulls_in [] = 0
+fulls_in (Renew ns ∷ h) = 0
 fulls_in (Call t o r ∷ h) = fulls_by r + fulls_in h
 fulls_in (Pause report ∷ h) = fulls_in h
 
 -- how many pauses a history has
 abbrev pub pauses_in : List Item → ℕ
 pauses_in [] = 0
+pauses_in (Renew ns ∷ h) = 0
 pauses_in (Call t o r ∷ h) = pauses_in h
 pauses_in (Pause report ∷ h) = pauses_in h + 1
 

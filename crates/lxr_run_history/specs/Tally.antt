@@ -2,7 +2,7 @@
 use Rattle.std.specs.Prelude.{◌≡◌, ℕ, ◌+◌, List, [], ◌∷◌, length}
 use Rattle.lxr_graph.specs.declared.Reply.{Reply}
 use Rattle.lxr_graph.specs.declared.Reply.TheVariants as reply
-use Rattle.lxr_graph.specs.History.{Item, Call, Pause}
+use Rattle.lxr_graph.specs.History.{Item, Call, Pause, Renew}
 use Rattle.lxr_image.specs.declared.space.Tally.{Tally}
 use Rattle.lxr_image.specs.Opened.{no_tally}
 use Rattle.lxr_model.specs.Moments.{moment}
@@ -19,6 +19,7 @@ counted t r = t
 -- unreclaimed objects that were written before each of them.
 abbrev pub tally_of : ℕ → List Item → Tally
 tally_of threads [] = no_tally
+tally_of threads (Renew ns ∷ h) = no_tally
 tally_of threads (Call t o r ∷ h) = counted (tally_of threads h) r
 tally_of threads (Pause report ∷ h) = let before = tally_of threads h in
     record before { logs = before.logs + length (moment threads h).written; pauses = before.pauses + 1 }

@@ -6,6 +6,7 @@ use Rattle.std.specs.List.{All, count_by}
 use Rattle.std.proofs.lemmas.List.{length_push, take_all}
 use Rattle.std.proofs.lemmas.List.Elements.{All-weaker}
 use Rattle.std.proofs.lemmas.Option.{get_or_from_slice_get, slice_get-map, slice_get_within}
+use Rattle.lxr_alloc.specs.declared.TheConstants.{MOST_OPERATIONS}
 use Rattle.lxr_graph.specs.declared.Op.TheVariants as op
 use Rattle.lxr_graph.specs.declared.Reply.{Reply}
 use Rattle.lxr_graph.specs.History.{Item, calls_of}
@@ -211,7 +212,7 @@ pub left_less : (task : Task) (h h' : List Item) (before after : List Mutating) 
 left_less task h h' before after have have' more = left_falls task.script before after have.script have'.script (are_within task h before have) (are_within task h' after have') more
 
 -- threads do so many operations and ends at most
-pub done_few : (mutators : List Mutating) → ((i : ℕ) (a : Mutating) → slice_get mutators i ≡ Some a → length a.replies.items ≤ 1048577) → done_of mutators ≤ 1048577 * length mutators
+pub done_few : (mutators : List Mutating) → ((i : ℕ) (a : Mutating) → slice_get mutators i ≡ Some a → length a.replies.items ≤ MOST_OPERATIONS + 1) → done_of mutators ≤ (MOST_OPERATIONS + 1) * length mutators
 done_few [] each = omega arith
 done_few (a ∷ mutators) each =
     let here = each 0 a refl in

@@ -9,7 +9,7 @@ use Rattle.lxr_layout.specs.declared.limits.Limits.{Limits}
 use Rattle.lxr_graph.specs.declared.Op.TheVariants as op
 use Rattle.lxr_graph.specs.declared.Reply.TheVariants as reply
 use Rattle.lxr_graph.specs.declared.report.Kind.TheVariants as kind
-use Rattle.lxr_graph.specs.History.{Item, Call, Pause, PauseReport}
+use Rattle.lxr_graph.specs.History.{Item, Call, Pause, Renew, PauseReport}
 use Rattle.lxr_graph.specs.State.{next_name}
 use Rattle.lxr_image.specs.declared.space.Space.{Space}
 use Rattle.lxr_blocks.specs.Placing.{IsFull}
@@ -39,6 +39,7 @@ use Rattle.lxr_run_invariant.proofs.TurnLemmas as turn
 -- right behind a collecting pause the last report is one of such a pause
 collected_report : (h : List Item) → IsCollectedSince h → (last_report h).kind ≡ kind.Collect
 collected_report [] since = absurd since
+collected_report (Renew ns ∷ h) since = absurd since
 collected_report (Pause report ∷ h) since = since
 collected_report (Call t (op.New dest shape) reply.Full ∷ h) since = collected_report h since
 collected_report (Call t o r ∷ h) since = absurd since

@@ -24,7 +24,7 @@ use Rattle.lxr_run_invariant.proofs.PauseLemmas.{actors_paused}
 pub run_to : (task : Task) (safepoint space : Space) (written written' : Option (List ℕ)) (seen seen' : Option (List Sight)) (before actors : List AnyActor) (h : List Item) (g m : AbstractState) (asked : Ask) (report : PauseReport)
     → HasRunEpoch task safepoint written seen before actors h g → HaveEnded (mutators_in actors) → HasPaused task space written' seen' h asked report m → HasRunTo task space written' seen' actors (Pause report ∷ h)
 run_to task safepoint space written written' seen seen' before actors h g m asked report ran ended paused = record {
-  history = history_whole task.options task.script h report paused.come.history (record {
+  history = history_whole task.renews task.options task.script h report paused.come.history (record {
     calls = threads_are_done task h (mutators_in actors) ran.come.history.0 ran.actors_rest.mutators ended;
     ended = ends_are_all task h (mutators_in actors) ran.come.history.0 ran.actors_rest.mutators ended;
   });
@@ -61,7 +61,7 @@ pub replies_printable : (task : Task) (space : Space) (written : Option (List �
     → (i : ℕ) (a : Mutating) → slice_get (mutators_in actors) i ≡ Some a → ArePrintable a.operations a.replies.items
 replies_printable task space written seen actors h run i a at =
     let thread = thread_of_run task space written seen actors h run i a at in
-    printable task.options (threads_of task) (i + 1) h a.operations a.replies.items run.history.legal.0
+    printable task.renews task.options (threads_of task) (i + 1) h a.operations a.replies.items run.history.legal.0
     (none_end a (run.actors_rest.mutators.rest.each i a at).mutator.sound) thread.calls thread.replies
 
 -- the text of one thread more

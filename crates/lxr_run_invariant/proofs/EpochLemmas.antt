@@ -34,7 +34,7 @@ use Rattle.lxr_core.specs.Resting.{ActorsRestAfter, HelpersRest, RestAfter}
 use Rattle.lxr_core.specs.Executions.{Execution}
 use Rattle.lxr_core.proofs.ClosingLemmas.{given_script}
 use Rattle.lxr_run_history.specs.Left.{last_report, run_limits}
-use Rattle.lxr_run_history.specs.Run.{run_terms}
+use Rattle.lxr_run_history.specs.Run.{run_terms_with}
 use Rattle.lxr_run_history.specs.Sums.{totals_of}
 use Rattle.lxr_run_history.specs.Sights.{SeesTo}
 use Rattle.lxr_run_history.specs.Tally.{HasNumbersOf, counted, evacuated_in, tally_of}
@@ -179,7 +179,7 @@ module _ (task : Task) (script : Script) (space mid after : Space) (written : Op
   extends = subst (λ n. Extends n task.options.every h execution.history) threads closes.extends
 
   owes_none : OwesNoCall (terms_of asked) h
-  owes_none = for_asked (λ n. OwesNoCall (run_terms task.options n) h) amid.owes_none
+  owes_none = for_asked (λ n. OwesNoCall (run_terms_with task.renews task.options n) h) amid.owes_none
 
   -- the abstract state of the space at the safepoint
   abbrev pub safepoint_state : AbstractState
@@ -204,7 +204,7 @@ module _ (task : Task) (script : Script) (space mid after : Space) (written : Op
 
   -- the history is one so far of that
   history : IsHistorySoFar (terms_of asked) script execution.history
-  history = history_extends task.options task.script script h execution.history amid.come.history amid.owes_none on
+  history = history_extends task.renews task.options task.script script h execution.history amid.come.history amid.owes_none on
       (subst (λ n. Extends n task.options.every h execution.history) many extends) (has_begun asked execution.history (mutators_in actors) have.mutators)
 
   same_limits : after.limits ≡ space.limits
@@ -287,8 +287,8 @@ module _ (task : Task) (script : Script) (space mid after : Space) (written : Op
     due = record {
       cause = subst (λ s. HasCause (terms_of asked) s execution.history) have.mutators.script
           (closed.due.cause amid.all_listed (terms_of asked) (record { threads = sym threads; blocks = ap (λ (l : Limits). l.blocks) (sym limits); log = ap (λ (l : Limits). l.log) (sym limits); every = refl })
-          (for_asked (λ n. IsLegalSoFar (run_terms task.options n) h) amid.come.history.0));
-      early = early_extends task.options script task.options.every h execution.history extends (was_early task.options script h fewer);
+          (for_asked (λ n. IsLegalSoFar (run_terms_with task.renews task.options n) h) amid.come.history.0));
+      early = early_extends task.renews task.options script task.options.every h execution.history extends (was_early task.renews task.options script h fewer);
       owes_none = owes_extends (terms_of asked) (threads_of asked) task.options.every h execution.history extends owes_none;
     };
     collects = closes.collects (unasked_uncalled h amid.served.unasked);

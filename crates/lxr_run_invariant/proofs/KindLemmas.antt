@@ -5,7 +5,7 @@ use Rattle.std.proofs.lemmas.Bool.{eq-eqb}
 use Rattle.std.proofs.lemmas.Bool.Decides.{nat_tests}
 use Rattle.lxr_graph.specs.declared.Op.TheVariants as op
 use Rattle.lxr_graph.specs.declared.report.Kind.TheVariants as kind
-use Rattle.lxr_graph.specs.History.{Item, Call, Pause}
+use Rattle.lxr_graph.specs.History.{Item, Call, Pause, Renew}
 use Rattle.lxr_model.specs.Belongs.{asks_for_pause, has_asked}
 use Rattle.lxr_model.specs.Kinds.{IsRunning, MayCollect, MayStand, MustCollect, NeedsNoTrace, OnlyNewsSincePause, collect_called, ends}
 use Rattle.lxr_model.specs.Moments.{Moment, Trace}
@@ -26,6 +26,7 @@ behind false b e = e
 -- where nobody has asked for a pause, nobody has called `collect`
 pub unasked_uncalled : (h : List Item) → ((t : ℕ) → has_asked t h ≡ false) → collect_called h ≡ false
 unasked_uncalled [] unasked = refl
+unasked_uncalled (Renew ns ∷ h) unasked = refl
 unasked_uncalled (Pause report ∷ h) unasked = refl
 unasked_uncalled (Call t op.Collect r ∷ h) unasked =
     let own : nat_eq t t ≡ true = eq-eqb t t refl in

@@ -9,3 +9,4 @@ pub mod AnsweringLemmas
 pub mod EpochLemmas
 pub mod EndLemmas
 pub mod OpeningLemmas
+pub mod RenewingLemmas

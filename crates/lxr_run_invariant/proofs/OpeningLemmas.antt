@@ -15,7 +15,7 @@ use Rattle.lxr_invariant.specs.Listed.{FreeBlocksAreListed, IsListed}
 use Rattle.lxr_text_stream.specs.Streams.{Appends}
 use Rattle.lxr_text_stream.proofs.StreamLemmas.{Appends-nil}
 use Rattle.lxr_mutator.specs.Mutating.{Mutating}
-use Rattle.lxr_mutator.specs.Mutators.{IsMutator, first}
+use Rattle.lxr_mutator.specs.Mutators.{IsMutator, first_of}
 use Rattle.lxr_core.specs.declared.actors.AnyActor.{AnyActor}
 use Rattle.lxr_core.specs.Actors.{decrementers_in, mutators_in, script_of, tracers_in}
 use Rattle.lxr_core.specs.Resting.{HelpersRest, RestsAfter}
@@ -42,8 +42,8 @@ pub record IsOpenedFor (task : Task) (space : Space) (g : AbstractState) : Type 
   pub pauses : space.pauses ≡ 0
 
 -- a mutator as it is made rests for the empty history
-pub first_rests : (l : Limits) (every t : ℕ) (operations : List Op) → IsMutator (first t operations l every) → RestsAfter l every [] t (first t operations l every)
-first_rests l every t operations is = record {
+pub first_rests : (l : Limits) (every t most : ℕ) (operations : List Op) → IsMutator (first_of t operations l every most) → RestsAfter l every [] t (first_of t operations l every most)
+first_rests l every t most operations is = record {
   mutator = record { sound = is; regions = refl; steady = (λ e. absurd (cc), λ e. absurd (cc)) };
   thread = refl;
   every = refl;
@@ -52,13 +52,14 @@ first_rests l every t operations is = record {
   rests = refl;
   calls = refl;
   replies = refl;
+  began = refl;
   ended = λ e. absurd (cc);
 }
 
--- each mutator is that of its thread as it is made
+-- each mutator is that of its thread as it is made, with some room
 pub record AreFirst (task : Task) (mutators : List Mutating) : Type 0 where
   pub script : script_of mutators ≡ task.script
-  pub each : (i : ℕ) (m : Mutating) → slice_get mutators i ≡ Some m → m ≡ first (i + 1) m.operations (task_limits task) task.options.every
+  pub each : (i : ℕ) (m : Mutating) → slice_get mutators i ≡ Some m → (most : ℕ) × (m ≡ first_of (i + 1) m.operations (task_limits task) task.options.every most)
   pub sound : (i : ℕ) (m : Mutating) → slice_get mutators i ≡ Some m → IsMutator m
 
 -- so do all of them
@@ -67,9 +68,9 @@ first_mutators task mutators are = record {
   rest = record {
     as_many = sym (length-map mutators (λ (m : Mutating). m.operations)) ∙ ap length are.script;
     each = λ i m at.
-        let is = are.each i m at in
+        let (most, is) = are.each i m at in
         subst (RestsAfter (task_limits task) task.options.every [] (i + 1)) (sym is)
-        (first_rests (task_limits task) task.options.every (i + 1) m.operations (subst IsMutator is (are.sound i m at)));
+        (first_rests (task_limits task) task.options.every (i + 1) most m.operations (subst IsMutator is (are.sound i m at)));
   };
   script = are.script;
 }
@@ -106,7 +107,7 @@ between_opened task space g actors some opened are = record {
   all_listed = opened.all_listed;
   actors_rest = first_have task actors are;
   served = record {
-    unwaiting = λ i a at waits. let e = sym (ap (λ (m : Mutating). m.end) (are.mutators.each i a at)) ∙ waits.0 in cc;
+    unwaiting = λ i a at waits. let e = sym (ap (λ (m : Mutating). m.end) (are.mutators.each i a at).1) ∙ waits.0 in cc;
     few = λ t. omega arith;
     unasked = λ t. refl;
   };
@@ -115,5 +116,5 @@ between_opened task space g actors some opened are = record {
   more =
       let many : length (mutators_in actors) ≡ threads_of task = sym (length-map (mutators_in actors) (λ (m : Mutating). m.operations)) ∙ ap length are.mutators.script in
       let (a, at) = found (mutators_in actors) 0 (omega arith) in
-      (0, a, at, λ through. let e = sym (ap (λ (m : Mutating). m.end) (are.mutators.each 0 a at)) ∙ through.1 in cc);
+      (0, a, at, λ through. let e = sym (ap (λ (m : Mutating). m.end) (are.mutators.each 0 a at).1) ∙ through.1 in cc);
 }

@@ -1,6 +1,7 @@
 -- What a pause does to a run: its history has the pause, and a prefix of its report or all of it was written.
 use Rattle.std.proofs.Common.{◌≡◌, ℕ, ◌+◌, ◌*◌, ◌^◌, ◌<◌, ◌≤◌, ◌↔◌, ◌⊎◌, refl, sym, ap, subst, ◌∙◌, inl, inr, arith, List, ◌∷◌, length, Bool, true, false, IsTrue}
 use Rattle.std.specs.Prelude.{Option, None, Some, slice_get}
+use Rattle.lxr_alloc.specs.declared.TheConstants.{MOST_OPERATIONS}
 use Rattle.lxr_layout.specs.declared.TheConstants.{GRANULES_IN_BLOCK}
 use Rattle.lxr_layout.specs.declared.Name.{Name}
 use Rattle.lxr_layout.specs.declared.limits.Limits.{Limits}
@@ -48,7 +49,7 @@ use Rattle.lxr_run_invariant.proofs.TellingLemmas.{told_pause}
 -- ---- numbers
 
 -- each thread keeps so many replies at most
-replies_within : (task : Task) (h : List Item) (mutators : List Mutating) → HaveMutators task h mutators → (i : ℕ) (a : Mutating) → slice_get mutators i ≡ Some a → length a.replies.items ≤ 1048577
+replies_within : (task : Task) (h : List Item) (mutators : List Mutating) → HaveMutators task h mutators → (i : ℕ) (a : Mutating) → slice_get mutators i ≡ Some a → length a.replies.items ≤ MOST_OPERATIONS + 1
 replies_within task h mutators have i a at =
     let sound = (have.rest.each i a at).mutator.sound in
     let few = sound.few in
@@ -56,7 +57,7 @@ replies_within task h mutators have i a at =
     omega arith
 
 -- so they do little together
-pub all_done_few : (task : Task) (h : List Item) (mutators : List Mutating) → HaveMutators task h mutators → threads_of task ≤ 16 → done_of mutators ≤ 16777232
+pub all_done_few : (task : Task) (h : List Item) (mutators : List Mutating) → HaveMutators task h mutators → threads_of task ≤ 16 → done_of mutators ≤ 16 * (MOST_OPERATIONS + 1)
 all_done_few task h mutators have threads =
     let each = done_few mutators (replies_within task h mutators have) in
     let many = as_many task h mutators have in
@@ -156,7 +157,7 @@ module _ (task : Task) (before after : Space) (written : Option (List ℕ)) (see
 
   -- the history, the space, the tally and the sights are those of the run with that pause
   history : IsHistorySoFar (terms_of task) task.script (Pause report ∷ h)
-  history = history_with_pause task.options task.script h report come.history due.owes_none is_pause due.cause due.early
+  history = history_with_pause task.renews task.options task.script h report come.history due.owes_none is_pause due.cause due.early
 
   stands : StandsAfter (threads_of task) (Pause report ∷ h) abstract_state
   stands = record { moment = ap (λ m. after_pause m report) come.stands.moment; reported = refl }
@@ -289,6 +290,7 @@ rests_paused l every h last t m rests = record {
   rests = rests.rests;
   calls = rests.calls;
   replies = rests.replies;
+  began = rests.began;
   ended = rests.ended;
 }
 

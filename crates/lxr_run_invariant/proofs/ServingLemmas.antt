@@ -38,6 +38,7 @@ use Rattle.lxr_mutator.specs.Mutating.{IsWaiting, Mutating, next_name as next_ma
 use Rattle.lxr_mutator.specs.Mutators.{IsHeld, answered}
 use Rattle.lxr_mutator.proofs.NowLemmas.{formed_now}
 use Rattle.lxr_core_invariant.specs.ThreadStates.{all_of}
+use Rattle.lxr_core_invariant.specs.EpochStates.{objects_before}
 use Rattle.lxr_core_invariant.proofs.ObjectLemmas.{legal_counts}
 use Rattle.lxr_core_sim_mutator.specs.Showing.{IsNew}
 use Rattle.lxr_core_sim_mutator.proofs.NamingLemmas.{named_after}
@@ -75,7 +76,7 @@ pub named_next : (task : Task) (space : Space) (written : Option (List ℕ)) (se
     → 1 ≤ t → t ≤ threads_of task → RestsAfter (task_limits task) task.options.every h t m → next_name g.moment.state.graph t ≡ next_made m
 named_next task space written seen h g t m come some few rests =
     let thread = rests.thread in
-    let named = named_after (threads_of task) h m (legal_counts (terms_of task) h come.history.0) (omega (arith, thread, some)) (omega (arith, thread, few))
+    let named = named_after (threads_of task) h m (legal_counts (terms_of task) h come.history.0) (subst (λ n. m.before ≡ objects_before n h) (sym thread) rests.began) (omega (arith, thread, some)) (omega (arith, thread, few))
     (subst (λ n. replies_of n h ≡ m.replies.items) (sym thread) rests.replies) in
     ap (next_name g.moment.state.graph) (sym thread) ∙ ap (λ (n : Moment). next_name n.state.graph m.thread) come.stands.moment ∙ named
 
@@ -100,7 +101,7 @@ module _ (task : Task) (space : Space) (written : Option (List ℕ)) (seen : Opt
       ∙ op_is_next m more
 
   -- its call may come next
-  pub may_answer : (r : Reply) → Replies (terms_of task) h t (op_now m) r → MayBeCalled task.options task.script h t (op_now m) r
+  pub may_answer : (r : Reply) → Replies (terms_of task) h t (op_now m) r → MayBeCalled task.renews task.options task.script h t (op_now m) r
   may_answer r replies = record {
     thread = may.thread;
     formed = formed_now m may.rests.mutator.sound;
@@ -137,10 +138,10 @@ placed_other at name n p other = ap (λ b. if b then p else at n) other
 
 -- the call of a `new` that made an object joins the history
 come_with_new : (task : Task) (before after : Space) (written : Option (List ℕ)) (seen : Option (List Sight)) (t : ℕ) (h : List Item) (g : AbstractState) (name : Name) (dest : ℕ) (shape : Shape) (place : Place)
-    → HasCome task before written seen h g → MayBeCalled task.options task.script h t (op.New dest shape) (reply.New name) → ((n : Name) → IsTrue (has g.moment.unreclaimed n) → same_name n name ≡ false)
+    → HasCome task before written seen h g → MayBeCalled task.renews task.options task.script h t (op.New dest shape) (reply.New name) → ((n : Name) → IsTrue (has g.moment.unreclaimed n) → same_name n name ≡ false)
     → name.thread ≡ t → IsNewServed before after g name dest shape place → HasCome task after written seen (Call t (op.New dest shape) (reply.New name) ∷ h) (served_abstract_state g name dest shape place)
 come_with_new task before after written seen t h g name dest shape place come call free own serves = record {
-  history = history_with_call task.options task.script h t (op.New dest shape) (reply.New name) come.history call;
+  history = history_with_call task.renews task.options task.script h t (op.New dest shape) (reply.New name) come.history call;
   stands = record {
     moment = ap (λ u. after_call g.moment u (op.New dest shape) (reply.New name)) own ∙ ap (λ m. after_call m t (op.New dest shape) (reply.New name)) come.stands.moment;
     reported = come.stands.reported;
@@ -167,11 +168,11 @@ come_served task before after written seen t m collected served h g dest shape p
     let reply_is : IsReply (moment (threads_of task) h).state t (op.New dest shape) (reply.New (next_made m)) =
     subst (λ (x : Moment). IsReply x.state t (op.New dest shape) (reply.New (next_made m))) may.come.stands.moment
     (subst (λ u. IsReply g.moment.state u (op.New dest shape) (reply.New (next_made m))) own serves.replied) in
-    let call : MayBeCalled task.options task.script h t (op_now m) (reply.New (next_made m)) =
+    let call : MayBeCalled task.renews task.options task.script h t (op_now m) (reply.New (next_made m)) =
     may_answer task before written seen t m collected served h g may (reply.New (next_made m))
-    (subst (λ o. Replies (terms_of task) h t o (reply.New (next_made m))) (sym is) (replies_in task.options (threads_of task) h t (op.New dest shape) (reply.New (next_made m)) reply_is)) in
+    (subst (λ o. Replies (terms_of task) h t o (reply.New (next_made m))) (sym is) (replies_in task.renews task.options (threads_of task) h t (op.New dest shape) (reply.New (next_made m)) reply_is)) in
     subst (λ o. HasCome task after written seen (Call t o (reply.New (next_made m)) ∷ h) (served_abstract_state g (next_made m) dest shape place)) (sym is)
-    (come_with_new task before after written seen t h g (next_made m) dest shape place may.come (subst (λ o. MayBeCalled task.options task.script h t o (reply.New (next_made m))) is call)
+    (come_with_new task before after written seen t h g (next_made m) dest shape place may.come (subst (λ o. MayBeCalled task.renews task.options task.script h t o (reply.New (next_made m))) is call)
     (name_is_free task before written seen t m collected served h g may) own serves)
 
 -- one that finds no room right after a collecting pause is refused, which changes nothing
@@ -180,16 +181,16 @@ pub come_refused : (task : Task) (space : Space) (written : Option (List ℕ)) (
 come_refused task space written seen t m h g dest shape may is full =
     let come = may.come in
     let replies : Replies (terms_of task) h t (op.New dest shape) reply.Full =
-    may_be_refused task.options task.script h space g t dest shape come.history.0 (may.unserved refl refl) may.between come.stands.moment (ap (λ (l : Limits). l.blocks) come.limits) full in
-    let call : MayBeCalled task.options task.script h t (op_now m) reply.Full =
+    may_be_refused task.renews task.options task.script h space g t dest shape come.history.0 (may.unserved refl refl) may.between come.stands.moment (ap (λ (l : Limits). l.blocks) come.limits) full in
+    let call : MayBeCalled task.renews task.options task.script h t (op_now m) reply.Full =
     may_answer task space written seen t m true false h g may reply.Full (subst (λ o. Replies (terms_of task) h t o reply.Full) (sym is) replies) in
     subst (λ o. HasCome task space written seen (Call t o reply.Full ∷ h) g) (sym is)
-    (come_with_full task space written seen t h g dest shape come (subst (λ o. MayBeCalled task.options task.script h t o reply.Full) is call))
+    (come_with_full task space written seen t h g dest shape come (subst (λ o. MayBeCalled task.renews task.options task.script h t o reply.Full) is call))
   where
     come_with_full : (task : Task) (space : Space) (written : Option (List ℕ)) (seen : Option (List Sight)) (t : ℕ) (h : List Item) (g : AbstractState) (dest : ℕ) (shape : Shape)
-        → HasCome task space written seen h g → MayBeCalled task.options task.script h t (op.New dest shape) reply.Full → HasCome task space written seen (Call t (op.New dest shape) reply.Full ∷ h) g
+        → HasCome task space written seen h g → MayBeCalled task.renews task.options task.script h t (op.New dest shape) reply.Full → HasCome task space written seen (Call t (op.New dest shape) reply.Full ∷ h) g
     come_with_full task space written seen t h g dest shape come call = record {
-      history = history_with_call task.options task.script h t (op.New dest shape) reply.Full come.history call;
+      history = history_with_call task.renews task.options task.script h t (op.New dest shape) reply.Full come.history call;
       stands = record { moment = come.stands.moment; reported = come.stands.reported };
       safepoint = come.safepoint;
       limits = come.limits;
@@ -207,7 +208,7 @@ pub full_cause : (task : Task) (space : Space) (written : Option (List ℕ)) (se
 full_cause task space written seen t m collected served h g dest shape may is full =
     let come = may.come in
     let formed : IsWellFormed (op.New dest shape) = subst IsWellFormed is (formed_now m may.rests.mutator.sound) in
-    room_cause task.options task.script h space g t dest shape may.thread.0 may.thread.1 (next_is task space written seen t m collected served h g may ∙ ap Some is) may.between come.stands.moment
+    room_cause task.renews task.options task.script h space g t dest shape may.thread.0 may.thread.1 (next_is task space written seen t m collected served h g may ∙ ap Some is) may.between come.stands.moment
     (ap (λ (l : Limits). l.blocks) come.limits) formed.1 full
 
 -- and that one may collect for it: this call keeps what such a pause promises
@@ -218,7 +219,7 @@ full_promise task space written seen t m collected served h g dest shape may is 
     let come = may.come in
     let formed : IsWellFormed (op.New dest shape) = subst IsWellFormed is (formed_now m may.rests.mutator.sound) in
     let waited : IsWaitedFor (terms_of task) h (Call t (op.New dest shape) r) =
-    is_waited_for task.options task.script h space g t dest shape r come.history.0 may.between come.stands.moment (ap (λ (l : Limits). l.blocks) come.limits) formed.1 full in
+    is_waited_for task.renews task.options task.script h space g t dest shape r come.history.0 may.between come.stands.moment (ap (λ (l : Limits). l.blocks) come.limits) formed.1 full in
     λ stands. subst (λ o. IsWaitedFor (terms_of task) h (Call t o r)) (sym is) waited
 
 -- ---- the mutator with its reply
@@ -247,6 +248,7 @@ rests_answered l every h t m registers r rests waits sixteen held =
           ∙ sym (one_more (all_of m.operations) (length m.replies.items) (op_now m) (op_is_next m more))
           ∙ ap (λ n. take n (all_of m.operations)) (sym many);
       replies = ap (λ b. if b then replies_of t h ++ r ∷ [] else replies_of t h) own ∙ ap (λ z. z ++ r ∷ []) rests.replies;
+      began = rests.began;
       ended = λ e. absurd (cc);
     }
 
@@ -263,5 +265,6 @@ rests_beside l every h t u m o r other rests =
       rests = rests.rests;
       calls = ap (λ b. if b then calls_of u h ++ o ∷ [] else calls_of u h) unlike ∙ rests.calls;
       replies = ap (λ b. if b then replies_of u h ++ r ∷ [] else replies_of u h) unlike ∙ rests.replies;
+      began = rests.began;
       ended = rests.ended;
     }

@@ -176,7 +176,7 @@ module _ (task : Task) (space : Space) (written : Option (List ℕ)) (seen : Opt
       pub collection_due : IsPauseDue task h
       collection_due = record {
         cause = full_cause task space written seen (first + 1) a collected served h g dest shape (may_serve_next a at waits) is full;
-        early = was_early task.options task.script h (ends_are_fewer task h mutators serving.come.history.0 serving.mutators_rest serving.more);
+        early = was_early task.renews task.options task.script h (ends_are_fewer task h mutators serving.come.history.0 serving.mutators_rest serving.more);
         owes_none = owes_none.none;
       }
 

@@ -1,2 +1,3 @@
 pub mod LoopInvariant
 pub mod Laws
+pub mod Renewing

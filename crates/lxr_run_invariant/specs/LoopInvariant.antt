@@ -32,7 +32,7 @@ use Rattle.lxr_run_pause.specs.declared.Pace.{Pace}
 use Rattle.lxr_run_serve.specs.Serving.{NewsWait}
 use Rattle.lxr_words.specs.declared.Options.{Options}
 use Rattle.lxr_run_history.specs.Left.{IsLeftBy, StandsAfter, run_limits}
-use Rattle.lxr_run_history.specs.Run.{IsHistoryOf, script_terms}
+use Rattle.lxr_run_history.specs.Run.{IsHistoryWith, script_terms_with}
 use Rattle.lxr_run_history.specs.Sights.{SamePlaces, Sees, SeesTo}
 use Rattle.lxr_run_history.specs.Tally.{Evacuated, HasNumbersOf, evacuated_in}
 use Rattle.lxr_run_history.specs.Texts.{told_text}
@@ -41,6 +41,8 @@ use Rattle.lxr_run_history.specs.Texts.{told_text}
 -- a script is asked for all of it from the start.
 pub record Task : Type 0 where
   pub options : Options
+  -- whether names may be renewed; those of scripts never are
+  pub renews : Bool
   pub script : Script
   pub written : Option (List ℕ)
   pub seen : Option (List Sight)
@@ -51,7 +53,7 @@ threads_of task = length task.script
 
 -- the terms of its histories
 abbrev pub terms_of : Task → Terms
-terms_of task = script_terms task.options task.script
+terms_of task = script_terms_with task.renews task.options task.script
 
 -- the limits of its space
 abbrev pub task_limits : Task → Limits
@@ -251,7 +253,7 @@ WasStopped error.Memory task space written seen = WasCutOff task space written s
 
 -- all operations and ends are done, and the last pause is made
 pub record HasRunTo (task : Task) (space : Space) (written : Option (List ℕ)) (seen : Option (List Sight)) (actors : List AnyActor) (h : List Item) : Type 0 where
-  pub history : IsHistoryOf task.options task.script h
+  pub history : IsHistoryWith task.renews task.options task.script h
   pub left : IsLeftBy task.options (threads_of task) h space
   pub text : Appends task.written written (told_text task.options h)
   pub sights : Sees (threads_of task) h task.seen seen (evacuated_in space.tally)

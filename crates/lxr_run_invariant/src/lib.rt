@@ -7,6 +7,7 @@
 #![tactic(auto)]
 
 ghost use Rattle.lxr_run_invariant.specs.Laws.{EpochsMayOpen, EpochsRun, RunsEnd, RunsGoOn};
+ghost use Rattle.lxr_run_invariant.specs.Renewing.{RunsAreRenewed};
 
 /// Between epochs the next one may be opened.
 pub fn epochs_may_open()
@@ -26,4 +27,10 @@ pub fn runs_go_on()
 /// The pause behind the last end makes the history whole.
 pub fn runs_end()
     ensures { RunsEnd }
+{}
+
+/// Where names are renewed between two epochs, the run is between epochs again: its history has the renewal, and each thread is
+/// asked for what it was asked for and hasn't done.
+pub fn runs_are_renewed()
+    ensures { RunsAreRenewed }
 {}

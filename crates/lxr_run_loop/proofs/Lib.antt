@@ -3,6 +3,7 @@ pub mod OpeningLemmas
 pub mod ProgressLemmas
 pub mod FewLemmas
 pub mod ServeLemmas
+pub mod FollowingLemmas
 pub mod RoundLemmas
 pub mod PrintLemmas
 pub mod SummingLemmas

@@ -1,10 +1,11 @@
 -- A run begins between two epochs: the space is opened, and each thread has its mutator.
-use Rattle.std.proofs.Common.{⊎_elim, inl, inr, ◌⊎◌, ◌≡◌, ◌≢◌, ℕ, zero, suc, ◌+◌, ◌*◌, ◌≤◌, refl, sym, ap, subst, ◌∙◌, arith, List, [], ◌∷◌, ◌++◌, map, length, append_assoc, length-append}
+use Rattle.std.proofs.Common.{⊎_elim, inl, inr, ◌⊎◌, ◌≡◌, ◌≢◌, ℕ, zero, suc, ◌+◌, ◌*◌, ◌≤◌, refl, sym, ap, subst, ◌∙◌, arith, false, List, [], ◌∷◌, ◌++◌, map, length, append_assoc, length-append}
 use Rattle.std.specs.Prelude.{Option, Some, replicate, slice_get}
 use Rattle.std.specs.List.{All}
 use Rattle.std.proofs.lemmas.List.{append-nil, length-map, length-replicate, map-append}
 use Rattle.std.proofs.lemmas.List.Elements.{All-head, All-replicate, All-tail, All-weaker}
 use Rattle.std.proofs.Math.Nat.{mul-le-mul}
+use Rattle.lxr_alloc.specs.declared.TheConstants.{MOST_OPERATIONS}
 use Rattle.lxr_layout.specs.declared.limits.Limits.{Limits}
 use Rattle.lxr_layout.specs.Spaces.{AreLimits, regions_of}
 use Rattle.lxr_base.specs.Roomy.{Roomy}
@@ -13,17 +14,14 @@ use Rattle.lxr_graph.specs.declared.Op.TheVariants as op
 use Rattle.lxr_text_script.specs.Limits.{IsScript, IsThread, IsWritten}
 use Rattle.lxr_text_script.specs.Limits as script
 use Rattle.lxr_mutator.specs.Mutating.{Mutating}
-use Rattle.lxr_mutator.specs.Mutators.{HaveIndexes, IsHeld, IsMutator, IsOperation, first}
+use Rattle.lxr_mutator.specs.Mutators.{HaveIndexes, IsFull, IsHeld, IsMutator, IsOperation, first}
 use Rattle.lxr_core.specs.declared.actors.AnyActor.{AnyActor}
 use Rattle.lxr_core.specs.declared.actors.AnyActor.TheVariants as any
 use Rattle.lxr_core.specs.Actors.{decrementers_in, in_order, mutators_in, tracers_in}
-use Rattle.lxr_core.specs.Ordering.{IsFull}
 use Rattle.lxr_core.specs.Resting.{HelperRests, HelpersRest, TracerRests}
-use Rattle.lxr_core.proofs.OrderLemmas.{decrementers_of_order, mutators_of_both, tracers_of_order}
-use Rattle.lxr_decrement.specs.Decrementing.{DecrementerState}
+use Rattle.lxr_core.proofs.OrderLemmas.{decrementers_of_order, mutators_of_both, mutators_of_order, tracers_of_order}
 use Rattle.lxr_decrement.specs.Decrementers.{first as first_decrementer}
 use Rattle.lxr_decrement.proofs.StayLemmas.{stay_so}
-use Rattle.lxr_trace.specs.Tracing.{TracerState}
 use Rattle.lxr_trace.specs.Tracers.{first as first_tracer}
 use Rattle.lxr_trace.proofs.StayLemmas.{stay_so as tracers_stay}
 use Rattle.lxr_model.specs.Belongs.{Script}
@@ -44,7 +42,7 @@ use Rattle.lxr_run_invariant.proofs.OpeningLemmas.{between_opened}
 use Rattle.lxr_run_loop.specs.Courses.{IsCourseOf, opening_course}
 use Rattle.lxr_run_loop.specs.Orders.{IsOrderOf, opening_order}
 use Rattle.lxr_run_loop.specs.Drawing.{at_opening}
-use Rattle.lxr_run_loop.specs.Made.{AreMade, MutatorsAreMade}
+use Rattle.lxr_run_loop.specs.Made.{AreMade, HelpersStandBehind, MutatorsAreMade}
 use Rattle.lxr_run_loop.specs.Opening.{IsOpenedRun}
 
 -- ---- a mutator as it is made
@@ -62,7 +60,7 @@ indexes l limits =
     }
 
 -- it keeps what holds of each mutator
-first_is : (l : Limits) (every t : ℕ) (operations : List Op) → AreLimits l → (1 ≤ t) × (t ≤ l.threads) → All IsOperation operations → length operations ≤ 1048576 → (1 ≤ every) × (every ≤ 1048576)
+first_is : (l : Limits) (every t : ℕ) (operations : List Op) → AreLimits l → (1 ≤ t) × (t ≤ l.threads) → All IsOperation operations → length operations ≤ MOST_OPERATIONS → (1 ≤ every) × (every ≤ 1048576)
     → IsMutator (first t operations l every)
 first_is l every t operations limits thread each few range = record {
   thread = (thread.0, omega (arith, limits.threads.1));
@@ -72,6 +70,7 @@ first_is l every t operations limits thread each few range = record {
   registers = refl;
   held = All-replicate IsHeld 16 (record { 0 = 0 }) (omega arith);
   spans = (omega arith, omega arith);
+  before = omega arith;
   indexes = indexes l limits;
   room = omega arith;
   few_replies = omega arith;
@@ -104,7 +103,7 @@ thread_of threads taken rest o split is = thread_in taken rest o (subst (λ (z :
 -- ---- one mutator more
 
 -- what stands in a list with one element more: an element of the list, or the one more
-pushed_at : {X : Type 0} (xs : List X) (x y : X) (i : ℕ) → slice_get (xs ++ x ∷ []) i ≡ Some y → (slice_get xs i ≡ Some y) ⊎ ((i ≡ length xs) × (x ≡ y))
+pub pushed_at : {X : Type 0} (xs : List X) (x y : X) (i : ℕ) → slice_get (xs ++ x ∷ []) i ≡ Some y → (slice_get xs i ≡ Some y) ⊎ ((i ≡ length xs) × (x ≡ y))
 pushed_at [] x y zero at = inr (refl, cc)
 pushed_at [] x y (suc i) at = absurd (cc)
 pushed_at (z ∷ xs) x y zero at = inl at
@@ -162,7 +161,7 @@ made_pushed l every script taken rest o actors actors' m split is limits threads
     let alone = mutators_alone actors made.helpers in
     let many = as_many l every taken (mutators_in actors) made.mutators in
     let long = ap length split ∙ length-append taken (o ∷ rest) in
-    let sound = first_is l every (length actors + 1) o.items limits (omega arith, omega arith) (all_operations o.items thread) thread.count range in
+    let sound = first_is l every (length actors + 1) o.items limits (omega arith, omega arith) (all_operations o.items thread) (let few = thread.count in omega (arith, few)) range in
     let one_more = made_more l every taken o (mutators_in actors) m made.mutators (first_one ∙ ap (λ n. first (n + 1) o.items l every) alone) (subst IsMutator (sym first_one) sound) in
     let mutators : mutators_in (actors ++ any.Mutator m ∷ []) ≡ mutators_in actors ++ m ∷ [] = mutators_of_both actors (any.Mutator m ∷ []) in
     subst (AreMade l every 0 0 (map (λ (x : Roomy Op). x.items) (taken ++ o ∷ []))) (sym pushed)
@@ -175,53 +174,42 @@ made_pushed l every script taken rest o actors actors' m split is limits threads
 pub none_made : (l : Limits) (every : ℕ) → AreMade l every 0 0 [] []
 none_made l every = record { mutators = record { script = refl; each = λ i m at. absurd (cc); sound = λ i m at. absurd (cc) }; helpers = refl }
 
--- ---- one helper more
+-- ---- helpers behind the mutators
 
 -- one element more of the same
-same_more : {X : Type 0} (n : ℕ) (x : X) → replicate n x ++ x ∷ [] ≡ replicate (suc n) x
+pub same_more : {X : Type 0} (n : ℕ) (x : X) → replicate n x ++ x ∷ [] ≡ replicate (suc n) x
 same_more zero x = refl
 same_more (suc n) x = ap (λ z. x ∷ z) (same_more n x)
 
--- a further decrementer stands behind the others
-pub helper_pushed : (l : Limits) (every n k : ℕ) (script : Script) (actors actors' : List AnyActor) (d : DecrementerState) → AreMade l every n 0 script actors → d ≡ first_decrementer l → k ≡ n + 1
-    → actors' ≡ actors ++ any.Decrementer d ∷ [] → AreMade l every k 0 script actors'
-helper_pushed l every n k script actors actors' d made is next pushed =
-    let mutators : mutators_in (actors ++ any.Decrementer d ∷ []) ≡ mutators_in actors = mutators_of_both actors (any.Decrementer d ∷ []) ∙ append-nil (mutators_in actors) in
-    let fresh : List DecrementerState = replicate n (first_decrementer l) in
-    let more : fresh ++ d ∷ [] ≡ replicate k (first_decrementer l) =
-    ap (λ (e : DecrementerState). fresh ++ e ∷ []) is ∙ (same_more n (first_decrementer l) ∙ (let one : suc n ≡ k = omega arith in ap (λ j. replicate j (first_decrementer l)) one)) in
-    let behind : in_order (mutators_in actors) fresh [] ++ any.Decrementer d ∷ [] ≡ in_order (mutators_in actors) (fresh ++ d ∷ []) [] =
-    append_assoc (map any.Mutator (mutators_in actors)) (map any.Decrementer fresh ++ []) (any.Decrementer d ∷ [])
-    ∙ ap (λ (z : List AnyActor). map any.Mutator (mutators_in actors) ++ z)
-    (ap (λ (z : List AnyActor). z ++ any.Decrementer d ∷ []) (append-nil (map any.Decrementer fresh))
-    ∙ (sym (map-append any.Decrementer fresh (d ∷ [])) ∙ sym (append-nil (map any.Decrementer (fresh ++ d ∷ []))))) in
-    subst (AreMade l every k 0 script) (sym pushed)
-    (record {
-      mutators = subst (MutatorsAreMade l every script) (sym mutators) made.mutators;
-      helpers = ap (λ (z : List AnyActor). z ++ any.Decrementer d ∷ []) made.helpers
-          ∙ (behind ∙ (ap (λ ds. in_order (mutators_in actors) ds []) more ∙ ap (λ (ms : List Mutating). in_order ms (replicate k (first_decrementer l)) []) (sym mutators)));
-    })
+-- one actor more of the same behind these
+pub one_behind : {X : Type 0} (actor : X → AnyActor) (n k : ℕ) (x y : X) (before actors actors' : List AnyActor) → actors ≡ before ++ map actor (replicate n x) → y ≡ x → k ≡ n + 1 → actors' ≡ actors ++ actor y ∷ []
+    → actors' ≡ before ++ map actor (replicate k x)
+one_behind {X} actor n k x y before actors actors' are is next pushed =
+    let one : suc n ≡ k = omega arith in
+    pushed
+    ∙ ap (λ z. actors ++ actor z ∷ []) is
+    ∙ ap (λ (xs : List AnyActor). xs ++ actor x ∷ []) are
+    ∙ append_assoc before (map actor (replicate n x)) (actor x ∷ [])
+    ∙ ap (λ xs. before ++ xs) (sym (map-append actor (replicate n x) (x ∷ [])) ∙ ap (map actor) (same_more n x ∙ ap (λ j. replicate j x) one))
 
--- and a further tracer behind all
-pub tracer_pushed : (l : Limits) (every w n k : ℕ) (script : Script) (actors actors' : List AnyActor) (d : TracerState) → AreMade l every w n script actors → d ≡ first_tracer l → k ≡ n + 1
-    → actors' ≡ actors ++ any.Tracer d ∷ [] → AreMade l every w k script actors'
-tracer_pushed l every w n k script actors actors' d made is next pushed =
-    let mutators : mutators_in (actors ++ any.Tracer d ∷ []) ≡ mutators_in actors = mutators_of_both actors (any.Tracer d ∷ []) ∙ append-nil (mutators_in actors) in
-    let helpers : List DecrementerState = replicate w (first_decrementer l) in
-    let fresh : List TracerState = replicate n (first_tracer l) in
-    let more : fresh ++ d ∷ [] ≡ replicate k (first_tracer l) =
-    ap (λ (e : TracerState). fresh ++ e ∷ []) is ∙ (same_more n (first_tracer l) ∙ (let one : suc n ≡ k = omega arith in ap (λ j. replicate j (first_tracer l)) one)) in
-    let behind : in_order (mutators_in actors) helpers fresh ++ any.Tracer d ∷ [] ≡ in_order (mutators_in actors) helpers (fresh ++ d ∷ []) =
-    append_assoc (map any.Mutator (mutators_in actors)) (map any.Decrementer helpers ++ map any.Tracer fresh) (any.Tracer d ∷ [])
-    ∙ ap (λ (z : List AnyActor). map any.Mutator (mutators_in actors) ++ z)
-    (append_assoc (map any.Decrementer helpers) (map any.Tracer fresh) (any.Tracer d ∷ [])
-    ∙ ap (λ (z : List AnyActor). map any.Decrementer helpers ++ z) (sym (map-append any.Tracer fresh (d ∷ [])))) in
-    subst (AreMade l every w k script) (sym pushed)
-    (record {
-      mutators = subst (MutatorsAreMade l every script) (sym mutators) made.mutators;
-      helpers = ap (λ (z : List AnyActor). z ++ any.Tracer d ∷ []) made.helpers
-          ∙ (behind ∙ (ap (in_order (mutators_in actors) helpers) more ∙ ap (λ (ms : List Mutating). in_order ms helpers (replicate k (first_tracer l))) (sym mutators)));
-    })
+-- helpers that stand behind mutators alone stand behind them in order
+pub behind_in_order : (l : Limits) (w : ℕ) (mutators : List Mutating) (actors actors' : List AnyActor) → actors ≡ map any.Mutator mutators → HelpersStandBehind l w actors actors'
+    → actors' ≡ in_order mutators (replicate w (first_decrementer l)) (replicate w (first_tracer l))
+behind_in_order l w mutators actors actors' alone stand =
+    let ds = map any.Decrementer (replicate w (first_decrementer l)) in
+    let ts = map any.Tracer (replicate w (first_tracer l)) in
+    stand ∙ ap (λ (xs : List AnyActor). xs ++ ds ++ ts) alone ∙ append_assoc (map any.Mutator mutators) ds ts
+
+-- so all actors are made
+pub all_made : (l : Limits) (every w : ℕ) (script : Script) (actors actors' : List AnyActor) → AreMade l every 0 0 script actors → HelpersStandBehind l w actors actors' → AreMade l every w w script actors'
+all_made l every w script actors actors' made stand =
+    let mutators = mutators_in actors in
+    let ordered = behind_in_order l w mutators actors actors' (made.helpers ∙ append-nil (map any.Mutator mutators)) stand in
+    let same : mutators_in actors' ≡ mutators = ap mutators_in ordered ∙ mutators_of_order mutators (replicate w (first_decrementer l)) (replicate w (first_tracer l)) in
+    record {
+      mutators = subst (MutatorsAreMade l every script) (sym same) made.mutators;
+      helpers = ordered ∙ ap (λ (ms : List Mutating). in_order ms (replicate w (first_decrementer l)) (replicate w (first_tracer l))) (sym same);
+    }
 
 -- ---- the helpers rest
 
@@ -231,35 +219,31 @@ same_each zero i x y at = absurd (cc)
 same_each (suc n) zero x y at = cc
 same_each (suc n) (suc i) x y at = same_each n i x y at
 
--- the helpers among the actors are those that were made
-made_decrementers : (l : Limits) (every w n : ℕ) (script : Script) (actors : List AnyActor) → AreMade l every w n script actors → decrementers_in actors ≡ replicate w (first_decrementer l)
-made_decrementers l every w n script actors made =
-    ap decrementers_in made.helpers ∙ decrementers_of_order (mutators_in actors) (replicate w (first_decrementer l)) (replicate n (first_tracer l))
+-- such helpers, in order behind the mutators, are those among the actors, and they rest
+pub record HelpersAreMade (l : Limits) (w n : ℕ) (actors : List AnyActor) : Type 0 where
+  pub rest : HelpersRest l actors
+  pub decrementers : length (decrementers_in actors) ≡ w
+  pub tracers : length (tracers_in actors) ≡ n
 
-made_tracers : (l : Limits) (every w n : ℕ) (script : Script) (actors : List AnyActor) → AreMade l every w n script actors → tracers_in actors ≡ replicate n (first_tracer l)
-made_tracers l every w n script actors made =
-    ap tracers_in made.helpers ∙ tracers_of_order (mutators_in actors) (replicate w (first_decrementer l)) (replicate n (first_tracer l))
-
--- so they rest
-made_rest : (l : Limits) (every w n : ℕ) (script : Script) (actors : List AnyActor) → AreLimits l → AreMade l every w n script actors → HelpersRest l actors
-made_rest l every w n script actors limits made =
-    let decrementers = made_decrementers l every w n script actors made in
-    let tracers = made_tracers l every w n script actors made in
+pub helpers_made : (l : Limits) (w n : ℕ) (actors : List AnyActor) → AreLimits l → actors ≡ in_order (mutators_in actors) (replicate w (first_decrementer l)) (replicate n (first_tracer l)) → HelpersAreMade l w n actors
+helpers_made l w n actors limits ordered =
+    let ds = replicate w (first_decrementer l) in
+    let ts = replicate n (first_tracer l) in
+    let decrementers : decrementers_in actors ≡ ds = ap decrementers_in ordered ∙ decrementers_of_order (mutators_in actors) ds ts in
+    let tracers : tracers_in actors ≡ ts = ap tracers_in ordered ∙ tracers_of_order (mutators_in actors) ds ts in
     record {
-      order = made.helpers ∙ (ap (λ ds. in_order (mutators_in actors) ds (replicate n (first_tracer l))) (sym decrementers) ∙ ap (in_order (mutators_in actors) (decrementers_in actors)) (sym tracers));
-      each = λ i d at.
-          let is = same_each w i (first_decrementer l) d (subst (λ ds. slice_get ds i ≡ Some d) decrementers at) in
-          subst (HelperRests l) (sym is) (record { decrementer = record { sound = stay_so.first l limits; regions = refl }; rests = refl });
-      tracers = λ i d at.
-          let is = same_each n i (first_tracer l) d (subst (λ ds. slice_get ds i ≡ Some d) tracers at) in
-          subst (TracerRests l) (sym is) (record { tracer = record { sound = tracers_stay.first l limits; regions = refl }; rests = refl });
+      rest = record {
+        order = ordered ∙ (ap (λ xs. in_order (mutators_in actors) xs ts) (sym decrementers) ∙ ap (in_order (mutators_in actors) (decrementers_in actors)) (sym tracers));
+        each = λ i d at.
+            let is = same_each w i (first_decrementer l) d (subst (λ xs. slice_get xs i ≡ Some d) decrementers at) in
+            subst (HelperRests l) (sym is) (record { decrementer = record { sound = stay_so.first l limits; regions = refl }; rests = refl });
+        tracers = λ i d at.
+            let is = same_each n i (first_tracer l) d (subst (λ xs. slice_get xs i ≡ Some d) tracers at) in
+            subst (TracerRests l) (sym is) (record { tracer = record { sound = tracers_stay.first l limits; regions = refl }; rests = refl });
+      };
+      decrementers = ap length decrementers ∙ length-replicate w (first_decrementer l);
+      tracers = ap length tracers ∙ length-replicate n (first_tracer l);
     }
-
-made_workers : (l : Limits) (every w n : ℕ) (script : Script) (actors : List AnyActor) → AreMade l every w n script actors → length (decrementers_in actors) ≡ w
-made_workers l every w n script actors made = ap length (made_decrementers l every w n script actors made) ∙ length-replicate w (first_decrementer l)
-
-tracers_made : (l : Limits) (every w n : ℕ) (script : Script) (actors : List AnyActor) → AreMade l every w n script actors → length (tracers_in actors) ≡ n
-tracers_made l every w n script actors made = ap length (made_tracers l every w n script actors made) ∙ length-replicate n (first_tracer l)
 
 -- ---- the opened run
 
@@ -286,10 +270,11 @@ pub opened_run : (options : Options) (script : List (Roomy Op)) (limits : Limits
     → IsOpened space limits → IsQuiescent space (opening_abstract_state limits.threads) → IsListedWhole space → (written : Option (List ℕ)) (seen : Option (List Sight))
     → IsOpenedRun options (map (λ (x : Roomy Op). x.items) script) space written seen actors
 opened_run options script limits space actors same ranges is made opened between listed written seen =
-    let task : Task = record { options = options; script = map (λ (x : Roomy Op). x.items) script; written = written; seen = seen } in
+    let task : Task = record { options = options; renews = false; script = map (λ (x : Roomy Op). x.items) script; written = written; seen = seen } in
     let many : length (map (λ (x : Roomy Op). x.items) script) ≡ length script = length-map script (λ (x : Roomy Op). x.items) in
     let of_task : limits ≡ task_limits task = same ∙ ap (run_limits options) (sym many) in
     let threads : limits.threads ≡ threads_of task = ap (λ (l : Limits). l.threads) of_task in
+    let helpers = helpers_made limits options.workers options.workers actors (subst AreLimits (sym same) (run_fits options script ranges is)) made.helpers in
     let between_epochs = between_opened task space (opening_abstract_state limits.threads) actors is.least
     (record {
       moment = ap opening_moment threads;
@@ -305,12 +290,12 @@ opened_run options script limits space actors same ranges is made opened between
     (record {
       mutators = record {
         script = made.mutators.script;
-        each = λ i m at. made.mutators.each i m at ∙ ap (λ (l : Limits). first (i + 1) m.operations l options.every) of_task;
+        each = λ i m at. (length m.operations, made.mutators.each i m at ∙ ap (λ (l : Limits). first (i + 1) m.operations l options.every) of_task);
         sound = made.mutators.sound;
       };
-      helpers = subst (λ l. HelpersRest l actors) of_task (made_rest limits options.every options.workers options.workers task.script actors (subst AreLimits (sym same) (run_fits options script ranges is)) made);
-      workers = made_workers limits options.every options.workers options.workers task.script actors made;
-      tracers = tracers_made limits options.every options.workers options.workers task.script actors made;
+      helpers = subst (λ l. HelpersRest l actors) of_task helpers.rest;
+      workers = helpers.decrementers;
+      tracers = helpers.tracers;
       few = ranges.workers.1;
     }) in
     ([], opening_abstract_state limits.threads, record { epochs = between_epochs; full = λ i m at. subst IsFull (sym (made.mutators.each i m at)) (omega arith) }, at_opening space actors (subst (IsOpened space) of_task opened) (subst (λ l. AreMade l options.every options.workers options.workers task.script actors) of_task made), none_told options space)

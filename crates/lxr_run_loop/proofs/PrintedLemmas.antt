@@ -15,6 +15,7 @@ use Rattle.lxr_text_print.specs.Replies.{replies_text}
 use Rattle.lxr_core.specs.declared.actors.AnyActor.{AnyActor}
 use Rattle.lxr_core.specs.declared.actors.AnyActor.TheVariants as any
 use Rattle.lxr_core.specs.Actors.{mutators_in}
+use Rattle.lxr_core.specs.Ordering.{AreFull}
 use Rattle.lxr_core.proofs.OrderLemmas.{mutator_at}
 use Rattle.lxr_mutator.specs.Mutating.{Mutating}
 use Rattle.lxr_run_loop.proofs.PrintLemmas.{text_of_both}
@@ -77,24 +78,26 @@ text_of_run task space written seen actors h run =
 
 -- what can be printed of an actor
 printable_by : (task : Task) (space : Space) (written : Option (List ℕ)) (seen : Option (List Sight)) (actors : List AnyActor) (h : List Item) → HasRunTo task space written seen actors h
-    → (i : ℕ) (a : AnyActor) → slice_get actors i ≡ Some a → IsPrintable a
-printable_by task space written seen actors h run i (any.Mutator m) at = replies_printable task space written seen actors h run i m (mutator_at actors i m run.actors_rest.helpers.order at)
-printable_by task space written seen actors h run i (any.Decrementer d) at = tt
-printable_by task space written seen actors h run i (any.Tracer d) at = tt
+    → AreFull (mutators_in actors) → (i : ℕ) (a : AnyActor) → slice_get actors i ≡ Some a → IsPrintable a
+printable_by task space written seen actors h run full i (any.Mutator m) at =
+    let there = mutator_at actors i m run.actors_rest.helpers.order at in
+    (full i m there, replies_printable task space written seen actors h run i m there)
+printable_by task space written seen actors h run full i (any.Decrementer d) at = tt
+printable_by task space written seen actors h run full i (any.Tracer d) at = tt
 
 -- the replies of a run can be printed
 pub printable : (task : Task) (space : Space) (written : Option (List ℕ)) (seen : Option (List Sight)) (actors : List AnyActor) (course : Course) → IsComplete task space written seen actors course → CanBePrinted actors
-printable task space written seen actors course (h, run, drawn, totals, noted) = printable_by task space written seen actors h run
+printable task space written seen actors course (h, run, drawn, totals, noted, full) = printable_by task space written seen actors h run full
 
 -- its last pause collected, so no block is Chosen, and its heap can be printed
 pub mappable : (task : Task) (space : Space) (written : Option (List ℕ)) (seen : Option (List Sight)) (actors : List AnyActor) (course : Course) → IsComplete task space written seen actors course → CanBeMapped space
-mappable task space written seen actors course (h, run, drawn, totals, noted) =
+mappable task space written seen actors course (h, run, drawn, totals, noted, full) =
     let (g, left) = run.left in
     let holds = left.between.safepoint.holds in
     record {
       space = holds.space;
       starts = starts_stand_whole (tables_of space) space.limits.blocks g.at g.moment.state.graph g.moment.unreclaimed (members g.moment) holds.image.image holds.bits.starts (in_first g.moment.unreclaimed g.moment.made);
-      none_chosen = none_chosen (threads_of task) h space g (last_collects task.options task.script h run.history) left.between left.stands.moment;
+      none_chosen = none_chosen (threads_of task) h space g (last_collects task.renews task.options task.script h run.history) left.between left.stands.moment;
     }
 
 -- ---- by its command

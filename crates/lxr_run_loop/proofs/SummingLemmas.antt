@@ -1,9 +1,10 @@
 -- The sums of a run: its history has a call for each reply that a mutator keeps, and its last pause collected, so that it counted all that is left.
-use Rattle.std.proofs.Common.{◌≡◌, ℕ, ◌+◌, ◌-◌, ◌^◌, ◌<◌, ◌≤◌, refl, sym, ap, subst, ◌∙◌, inr, arith, List, [], ◌∷◌, length, take}
+use Rattle.std.proofs.Common.{◌≡◌, ℕ, ◌+◌, ◌-◌, ◌*◌, ◌^◌, ◌<◌, ◌≤◌, refl, sym, ap, subst, ◌∙◌, inr, arith, Bool, List, [], ◌∷◌, length, take}
 use Rattle.std.specs.Prelude.{Option, if◌then◌else◌}
 use Rattle.std.specs.List.{count_by, sum_by}
 use Rattle.std.proofs.lemmas.List.{length-map}
 use Rattle.std.proofs.lemmas.List.Sums.{count_by-le-length, sum_by-cons}
+use Rattle.lxr_alloc.specs.declared.TheConstants.{MOST_OPERATIONS}
 use Rattle.lxr_layout.specs.declared.limits.Limits.{Limits}
 use Rattle.lxr_graph.specs.declared.Op.TheVariants as op
 use Rattle.lxr_graph.specs.declared.Reply.{Reply}
@@ -11,7 +12,7 @@ use Rattle.lxr_graph.specs.declared.Reply.TheVariants as reply
 use Rattle.lxr_graph.specs.declared.report.Count.{Count}
 use Rattle.lxr_graph.specs.declared.report.Kind.{Kind}
 use Rattle.lxr_graph.specs.declared.report.Kind.TheVariants as kind
-use Rattle.lxr_graph.specs.History.{Item, Call, Pause, PauseReport}
+use Rattle.lxr_graph.specs.History.{Item, Call, Pause, Renew, PauseReport}
 use Rattle.lxr_graph.specs.Names.{union}
 use Rattle.lxr_image.specs.declared.space.Space.{Space}
 use Rattle.lxr_image.specs.declared.space.Tally.{Tally}
@@ -24,12 +25,14 @@ use Rattle.lxr_mutator.specs.Mutating.{Mutating}
 use Rattle.lxr_core.specs.declared.actors.AnyActor.{AnyActor}
 use Rattle.lxr_core.specs.declared.actors.AnyActor.TheVariants as any
 use Rattle.lxr_core.specs.Actors.{mutators_in}
+use Rattle.lxr_core.specs.Ordering.{AreFull}
+use Rattle.lxr_core.proofs.OrderLemmas.{mutator_at}
 use Rattle.lxr_text_print.specs.declared.summary.Sums.{Sums}
 use Rattle.lxr_run_watch.specs.Sights.{Sight}
 use Rattle.lxr_words.specs.declared.Options.{Options}
 use Rattle.lxr_run_history.specs.declared.totals.Totals.{Totals}
 use Rattle.lxr_run_history.specs.Left.{last_report}
-use Rattle.lxr_run_history.specs.Run.{IsHistoryOf, script_terms}
+use Rattle.lxr_run_history.specs.Run.{IsHistoryWith, script_terms_with}
 use Rattle.lxr_run_history.specs.Sums.{fulls_by, fulls_in, operations_in, pauses_in, sums_of, totals_of}
 use Rattle.lxr_run_history.specs.Tally.{tally_of}
 use Rattle.lxr_run_history.proofs.TallyLemmas.{pauses_stay}
@@ -37,7 +40,7 @@ use Rattle.lxr_run_history.proofs.ThreadSums.{counted_in, one, replied}
 use Rattle.lxr_run_invariant.specs.LoopInvariant.{HasRunTo, Task, done_of, threads_of}
 use Rattle.lxr_run_invariant.proofs.ActorLemmas.{calls_are_done, kind_is}
 use Rattle.lxr_run_invariant.proofs.PauseLemmas.{all_done_few}
-use Rattle.lxr_run_loop.specs.Summing.{calls_by, is_full, refusals_by}
+use Rattle.lxr_run_loop.specs.Summing.{KeepAll, calls_by, is_full, refusals_by}
 
 -- ---- what is counted of actors
 
@@ -73,6 +76,7 @@ refusals_few (m ∷ mutators) = let here = count_by-le-length is_full m.replies.
 -- each call is an operation or an end
 calls_are : (h : List Item) → counted_in one h ≡ operations_in h + ends h
 calls_are [] = refl
+calls_are (Renew ns ∷ h) = refl
 calls_are (Pause report ∷ h) = calls_are h
 calls_are (Call t op.End r ∷ h) = let rest = calls_are h in omega arith
 calls_are (Call t o r ∷ h) = let rest = calls_are h in omega arith
@@ -83,40 +87,45 @@ is_counted r = refl
 
 fulls_are : (h : List Item) → counted_in (replied is_full) h ≡ fulls_in h
 fulls_are [] = refl
+fulls_are (Renew ns ∷ h) = refl
 fulls_are (Pause report ∷ h) = fulls_are h
 fulls_are (Call t o r ∷ h) = let rest = fulls_are h in let here = is_counted r in omega arith
 
 pauses_told : (threads : ℕ) (h : List Item) → (tally_of threads h).pauses ≡ pauses_in h
 pauses_told threads [] = refl
+pauses_told threads (Renew ns ∷ h) = refl
 pauses_told threads (Call t o r ∷ h) = pauses_stay (tally_of threads h) r ∙ pauses_told threads h
 pauses_told threads (Pause report ∷ h) = ap (λ n. n + 1) (pauses_told threads h)
 
 -- ---- the last pause
 
 -- all threads have ended
-all_ended : (options : Options) (script : Script) (h : List Item) → IsHistoryOf options script h → ends h ≡ length script
-all_ended options script [] whole = absurd whole.belongs.last
-all_ended options script (Call t o r ∷ h) whole = absurd whole.belongs.last
-all_ended options script (Pause report ∷ h) whole = whole.belongs.last.0
+all_ended : (renews : Bool) (options : Options) (script : Script) (h : List Item) → IsHistoryWith renews options script h → ends h ≡ length script
+all_ended renews options script [] whole = absurd whole.belongs.last
+all_ended renews options script (Renew ns ∷ h) whole = absurd whole.belongs.last
+all_ended renews options script (Call t o r ∷ h) whole = absurd whole.belongs.last
+all_ended renews options script (Pause report ∷ h) whole = whole.belongs.last.0
 
 -- so the last pause collects
-pub last_collects : (options : Options) (script : Script) (h : List Item) → IsHistoryOf options script h → IsRightAfterCollecting h
-last_collects options script [] whole = absurd whole.belongs.last
-last_collects options script (Call t o r ∷ h) whole = absurd whole.belongs.last
-last_collects options script (Pause report ∷ h) whole = must report.kind whole.legal.0.2.stands
+pub last_collects : (renews : Bool) (options : Options) (script : Script) (h : List Item) → IsHistoryWith renews options script h → IsRightAfterCollecting h
+last_collects renews options script [] whole = absurd whole.belongs.last
+last_collects renews options script (Renew ns ∷ h) whole = absurd whole.belongs.last
+last_collects renews options script (Call t o r ∷ h) whole = absurd whole.belongs.last
+last_collects renews options script (Pause report ∷ h) whole = must report.kind whole.legal.0.2.stands
   where
-    must : (k : Kind) → MayStand (script_terms options script) h (moment (length script) h) report.number k → k ≡ kind.Collect
+    must : (k : Kind) → MayStand (script_terms_with renews options script) h (moment (length script) h) report.number k → k ≡ kind.Collect
     must kind.Collect stands = refl
     must (kind.End j) stands = absurd (stands.0 (inr whole.belongs.last.0))
     must kind.Begin stands = absurd (stands.0 (inr whole.belongs.last.0))
     must kind.Plain stands = absurd (stands.0 (inr whole.belongs.last.0))
 
 -- and its report has a count for each name that is left
-counts_all : (options : Options) (script : Script) (h : List Item) → IsHistoryOf options script h → length (last_report h).counts ≡ length (moment (length script) h).unreclaimed
-counts_all options script [] whole = absurd whole.belongs.last
-counts_all options script (Call t o r ∷ h) whole = absurd whole.belongs.last
-counts_all options script (Pause report ∷ h) whole =
-    let counts = subst (AreCounts (moment (length script) h) report) (ap is_draining (last_collects options script (Pause report ∷ h) whole)) whole.legal.0.2.reports.1.counts in
+counts_all : (renews : Bool) (options : Options) (script : Script) (h : List Item) → IsHistoryWith renews options script h → length (last_report h).counts ≡ length (moment (length script) h).unreclaimed
+counts_all renews options script [] whole = absurd whole.belongs.last
+counts_all renews options script (Renew ns ∷ h) whole = absurd whole.belongs.last
+counts_all renews options script (Call t o r ∷ h) whole = absurd whole.belongs.last
+counts_all renews options script (Pause report ∷ h) whole =
+    let counts = subst (AreCounts (moment (length script) h) report) (ap is_draining (last_collects renews options script (Pause report ∷ h) whole)) whole.legal.0.2.reports.1.counts in
     ap (λ (cs : List Count). length cs) counts
     ∙ length-map (unreclaimed_after (moment (length script) h) report)
     (count_entry (moment (length script) h).state (unreclaimed_after (moment (length script) h) report) (union report.stuck (moment (length script) h).stuck))
@@ -137,6 +146,12 @@ summed threads operations pauses t full live = record {
   live = live;
 }
 
+-- the actors of a run keep their replies, where no mutator has room for a further operation
+pub all_kept : (task : Task) (space : Space) (written : Option (List ℕ)) (seen : Option (List Sight)) (actors : List AnyActor) (h : List Item) → HasRunTo task space written seen actors h → AreFull (mutators_in actors) → KeepAll actors
+all_kept task space written seen actors h run full i (any.Mutator m) at = full i m (mutator_at actors i m run.actors_rest.helpers.order at)
+all_kept task space written seen actors h run full i (any.Decrementer d) at = tt
+all_kept task space written seen actors h run full i (any.Tracer d) at = tt
+
 same_sums : (threads threads' operations operations' pauses pauses' : ℕ) (t t' : Totals) (full full' live live' : ℕ) → threads ≡ threads' → operations ≡ operations' → pauses ≡ pauses' → t ≡ t' → full ≡ full' → live ≡ live'
     → summed threads operations pauses t full live ≡ summed threads' operations' pauses' t' full' live'
 same_sums threads threads' operations operations' pauses pauses' t t' full full' live live' a b c d e f =
@@ -151,7 +166,7 @@ module _ (task : Task) (space : Space) (written : Option (List ℕ)) (seen : Opt
   pub threads_are : space.limits.threads ≡ threads_of task
   threads_are = ap (λ (l : Limits). l.threads) run.left.1.limits
 
-  few_calls : done_of (mutators_in actors) ≤ 16777232
+  few_calls : done_of (mutators_in actors) ≤ 16 * (MOST_OPERATIONS + 1)
   few_calls =
       let limits = run.left.1.between.safepoint.holds.space.limits.threads in
       let same = threads_are in
@@ -168,7 +183,7 @@ module _ (task : Task) (space : Space) (written : Option (List ℕ)) (seen : Opt
       let same = calls_of_actors actors in
       let done = calls_are_done task h (mutators_in actors) run.history.legal.0 run.actors_rest.mutators in
       let split = calls_are h in
-      let ended = all_ended task.options task.script h run.history in
+      let ended = all_ended task.renews task.options task.script h run.history in
       let threads = threads_are in
       omega arith
 
@@ -182,7 +197,7 @@ module _ (task : Task) (space : Space) (written : Option (List ℕ)) (seen : Opt
   all_live : length space.report.counts.items ≡ length (moment (threads_of task) h).unreclaimed
   all_live =
       ap (λ (r : PauseReport). length r.counts) (run.left.1.between.safepoint.numbers.report ∙ run.left.1.stands.reported)
-      ∙ counts_all task.options task.script h run.history
+      ∙ counts_all task.renews task.options task.script h run.history
 
   pub sums_are : (totals : Totals) → totals ≡ totals_of h → (calls ended refusals live : ℕ) → calls ≡ sum_by calls_by actors → ended ≡ space.limits.threads → refusals ≡ sum_by refusals_by actors
       → live ≡ length space.report.counts.items → summed space.limits.threads (calls - ended) space.tally.pauses totals refusals live ≡ sums_of (threads_of task) h

@@ -5,6 +5,7 @@ pub mod Opening
 pub mod Pausing
 pub mod Answering
 pub mod Serving
+pub mod Following
 pub mod Drawing
 pub mod Progress
 pub mod Printing

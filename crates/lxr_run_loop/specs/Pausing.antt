@@ -1,5 +1,5 @@
 -- A pause between two epochs: when it may be made, and what it leaves.
-use Rattle.std.specs.Prelude.{◌≡◌, ℕ, ◌+◌, Option, List, length}
+use Rattle.std.specs.Prelude.{◌≡◌, ℕ, ◌+◌, ⊤, Option, List, length}
 use Rattle.lxr_layout.specs.declared.Name.{Name}
 use Rattle.lxr_graph.specs.History.{Item}
 use Rattle.lxr_image.specs.declared.space.Space.{Space}
@@ -8,9 +8,20 @@ use Rattle.lxr_run_pause.specs.declared.Ask.{Ask}
 use Rattle.lxr_run_pause.specs.declared.Pace.{Pace}
 use Rattle.lxr_run_pause.specs.Pausing.{CanPause, Pauses}
 use Rattle.lxr_run_watch.specs.Sights.{Sight}
+use Rattle.lxr_words.specs.declared.Command.{Command}
+use Rattle.lxr_words.specs.declared.Command.TheVariants.{Judge, Large, Load, Map, Order, Run}
 use Rattle.lxr_words.specs.declared.Options.{Options}
 use Rattle.lxr_run_history.specs.Left.{StandsAfter}
 use Rattle.lxr_run_invariant.specs.LoopInvariant.{HasCome, IsAskedRight, IsPauseDue, IsPaused, Task, WasCutOff, pace_of, threads_of}
+
+-- these commands print nothing of a pause
+abbrev pub TellsNothing : Command → Type 0
+TellsNothing Run = ⊥
+TellsNothing Map = ⊥
+TellsNothing Order = ⊥
+TellsNothing Judge = ⊤
+TellsNothing Large = ⊤
+TellsNothing (Load seed) = ⊤
 
 -- the space with what is logged in its tally, as a pause begins with it
 abbrev pub with_logs_counted : Space → Space

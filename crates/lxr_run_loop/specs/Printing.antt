@@ -2,6 +2,7 @@
 use Rattle.std.specs.Prelude.{◌≡◌, ℕ, ⊤, Some, List, [], ◌∷◌, ◌++◌, slice_get}
 use Rattle.lxr_text_print.specs.Replies.{ArePrintable, replies_text}
 use Rattle.lxr_mutator.specs.Mutating.{Mutating}
+use Rattle.lxr_mutator.specs.Mutators.{IsFull}
 use Rattle.lxr_core.specs.declared.actors.AnyActor.{AnyActor}
 use Rattle.lxr_core.specs.declared.actors.AnyActor.TheVariants as any
 
@@ -14,9 +15,9 @@ abbrev pub mutators_text : List Mutating → List ℕ
 mutators_text [] = []
 mutators_text (m ∷ mutators) = mutator_text m ++ mutators_text mutators
 
--- the replies of an actor can be printed; a helper has none
+-- an actor keeps its replies, and these can be printed; a helper has none
 abbrev pub IsPrintable : AnyActor → Type 0
-IsPrintable (any.Mutator m) = ArePrintable m.operations m.replies.items
+IsPrintable (any.Mutator m) = IsFull m × ArePrintable m.operations m.replies.items
 IsPrintable (any.Decrementer d) = ⊤
 IsPrintable (any.Tracer d) = ⊤
 

@@ -52,10 +52,10 @@ IsUnderWay task space written seen actors course =
 abbrev pub SomeIsUnderWay : Options → Space → Option (List ℕ) → Option (List Sight) → List AnyActor → Course → Type 0
 SomeIsUnderWay options space written seen actors course = (task : Task) × (task.options ≡ options) × IsUnderWay task space written seen actors course
 
--- all threads have ended, the last pause is made, and the run has come so far in its course
+-- all threads have ended, the last pause is made, and the run has come so far in its course; no mutator had room for a further operation
 abbrev pub IsComplete : Task → Space → Option (List ℕ) → Option (List Sight) → List AnyActor → Course → Type 0
 IsComplete task space written seen actors course =
-    (h : List Item) × HasRunTo task space written seen actors h × IsDrawn task h course.generator space actors × (course.totals ≡ totals_of h) × IsOrderOf course.order h
+    (h : List Item) × HasRunTo task space written seen actors h × IsDrawn task h course.generator space actors × (course.totals ≡ totals_of h) × IsOrderOf course.order h × AreFull (mutators_in actors)
 
 -- each run with these options that was under way so was stopped for this cause
 abbrev pub IsStoppedUnderWay : WriteError → Options → Space → Option (List ℕ) → Option (List Sight) → List AnyActor → Course → Space → Option (List ℕ) → Option (List Sight) → Type 0

@@ -1,9 +1,12 @@
 -- The numbers of a run at its end: what is counted of its actors, and that they are those of its history.
-use Rattle.std.specs.Prelude.{◌≡◌, ℕ, Bool, true, false, Option, List, count_by, length}
+use Rattle.std.specs.Prelude.{◌≡◌, ℕ, ⊤, Bool, true, false, Option, Some, List, count_by, length, slice_get}
 use Rattle.lxr_graph.specs.declared.Reply.{Reply}
 use Rattle.lxr_graph.specs.declared.Reply.TheVariants as reply
 use Rattle.lxr_graph.specs.History.{Item}
 use Rattle.lxr_image.specs.declared.space.Space.{Space}
+use Rattle.lxr_mutator.specs.Mutators.{IsFull}
+use Rattle.lxr_core.specs.Actors.{mutators_in}
+use Rattle.lxr_core.specs.Ordering.{AreFull}
 use Rattle.lxr_core.specs.declared.actors.AnyActor.{AnyActor}
 use Rattle.lxr_core.specs.declared.actors.AnyActor.TheVariants as any
 use Rattle.lxr_text_print.specs.declared.summary.Sums.{Sums}
@@ -29,9 +32,19 @@ refusals_by (any.Mutator m) = count_by is_full m.replies.items
 refusals_by (any.Decrementer d) = 0
 refusals_by (any.Tracer d) = 0
 
--- some run has come to its end with this space and these actors
+-- an actor keeps its replies; a helper has none
+abbrev pub KeepsReplies : AnyActor → Type 0
+KeepsReplies (any.Mutator m) = IsFull m
+KeepsReplies (any.Decrementer d) = ⊤
+KeepsReplies (any.Tracer d) = ⊤
+
+-- each of these does
+abbrev pub KeepAll : List AnyActor → Type 0
+KeepAll actors = (i : ℕ) (a : AnyActor) → slice_get actors i ≡ Some a → KeepsReplies a
+
+-- some run has come to its end with this space and these actors, no mutator of which has room for a further operation
 abbrev pub SomeHasRun : Space → List AnyActor → Type 0
-SomeHasRun space actors = (task : Task) × (written : Option (List ℕ)) × (seen : Option (List Sight)) × HasRun task space written seen actors
+SomeHasRun space actors = (task : Task) × (written : Option (List ℕ)) × (seen : Option (List Sight)) × HasRun task space written seen actors × AreFull (mutators_in actors)
 
 -- these are the sums of the history of each such run, where these are the totals of its reports
 abbrev pub AreSums : Sums → Space → List AnyActor → Totals → Type 0

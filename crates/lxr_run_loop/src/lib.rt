@@ -16,6 +16,7 @@ ghost use Rattle.lxr_run_loop.specs.Progress.{IsUnderWay, SomeIsUnderWay};
 ghost use Rattle.lxr_run_loop.specs.Printed.{IsCutShort, IsPrinted};
 
 mod course;
+mod following;
 mod opening;
 mod order;
 mod pauses;
@@ -24,12 +25,13 @@ mod run;
 mod serving;
 
 pub use course::Course;
+pub use following::follow_epoch;
 use lxr_core::AnyActor;
 use lxr_image::Space;
 use lxr_run_watch::{Gate, Watch};
 use lxr_text_stream::{Sink, WriteError};
 use lxr_words::Options;
-pub use opening::open;
+pub use opening::{add_helpers, open};
 pub use order::Order;
 use printing::print_end;
 use run::run_threads;

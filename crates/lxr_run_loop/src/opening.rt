@@ -1,11 +1,14 @@
 //! The opening of a run: the space and the threads, with all the memory that the run takes.
-ghost use Rattle.std.specs.Prelude.{◌≡◌, ℕ, ◌+◌, ◌≤◌, [], IfOk, List, OnErr, Option, length, vec_capacity, vec_len};
+ghost use Rattle.std.specs.Prelude.{◌≡◌, ℕ, ◌+◌, ◌*◌, ◌≤◌, ◌++◌, [], IfOk, List, OnErr, OnOk, Option, length, map, replicate, vec_capacity, vec_len};
+ghost use Rattle.lxr_core.specs.declared.actors.AnyActor.TheVariants as any;
+ghost use Rattle.lxr_decrement.specs.Decrementers.{first as first_decrementer};
+ghost use Rattle.lxr_trace.specs.Tracers.{first as first_tracer};
 ghost use Rattle.lxr_layout.specs.Spaces.{AreLimits};
 ghost use Rattle.lxr_text_script.specs.Limits.{IsScript};
 ghost use Rattle.lxr_text_script.specs.Reading.{lists_in};
 ghost use Rattle.lxr_words.specs.Ranges.{AreInRange};
 ghost use Rattle.lxr_run_watch.specs.Sights.{Sight};
-ghost use Rattle.lxr_run_loop.specs.Made.{AreMade};
+ghost use Rattle.lxr_run_loop.specs.Made.{AreMade, HelpersStandBehind};
 ghost use Rattle.lxr_run_loop.specs.Opening.{IsOpenedRun};
 
 use lxr_core::AnyActor;
@@ -43,29 +46,56 @@ fn make_mutators(
     Ok(actors)
 }
 
-/// A mutator for each thread of a script, in order, and behind them so many decrementers, in a list with room for as many more
-/// actors.
-fn make_decrementers(
+/// Adds so many decrementers behind these actors, in a list with room for them.
+fn add_decrementers(
     alloc: Global,
-    script: Lists,
+    actors: &mut Vec<AnyActor>,
     limits: Limits,
-    every: u32,
-    workers: u8,
-) -> Result<Vec<AnyActor>, AllocError>
-    requires script { IsScript (lists_in script) }
+    count: u8,
+) -> Result<(), AllocError>
     requires limits { AreLimits limits }
-    requires threads { limits.threads ≡ length script.items }
-    requires every { (1 ≤ every) × (every ≤ 1048576) }
-    requires workers { workers ≤ 8 }
-    ensures made { IfOk result (λ actors. AreMade limits every workers 0 (lists_in script) actors.items) }
-    ensures room { IfOk result (λ actors. vec_len actors + workers ≤ vec_capacity actors) }
+    requires room { vec_len actors.old + count ≤ vec_capacity actors.old }
+    ensures added { OnOk result (actors.new.items ≡ actors.old.items ++ map any.Decrementer (replicate count (first_decrementer limits))) }
+    ensures room { OnOk result ((vec_len actors.new ≡ vec_len actors.old + count) × (vec_capacity actors.new ≡ vec_capacity actors.old)) }
 {
-    let mut actors = make_mutators(alloc, script, limits, every, 2 * usize::from(workers))?;
-    for _ in 0..workers {
+    for _ in 0..count {
         let decrementer = Decrementer::new(alloc, limits)?;
         actors.push_reserved(AnyActor::Decrementer(decrementer));
     }
-    Ok(actors)
+    Ok(())
+}
+
+/// Adds so many tracers behind these actors, in a list with room for them.
+fn add_tracers(
+    alloc: Global,
+    actors: &mut Vec<AnyActor>,
+    limits: Limits,
+    count: u8,
+) -> Result<(), AllocError>
+    requires limits { AreLimits limits }
+    requires room { vec_len actors.old + count ≤ vec_capacity actors.old }
+    ensures { OnOk result (actors.new.items ≡ actors.old.items ++ map any.Tracer (replicate count (first_tracer limits))) }
+{
+    for _ in 0..count {
+        let tracer = Tracer::new(alloc, limits)?;
+        actors.push_reserved(AnyActor::Tracer(tracer));
+    }
+    Ok(())
+}
+
+/// Adds so many decrementers behind these actors, and behind them as many tracers, in a list with room for both.
+pub fn add_helpers(
+    alloc: Global,
+    actors: &mut Vec<AnyActor>,
+    limits: Limits,
+    count: u8,
+) -> Result<(), AllocError>
+    requires limits { AreLimits limits }
+    requires room { vec_len actors.old + 2 * count ≤ vec_capacity actors.old }
+    ensures { OnOk result (HelpersStandBehind limits count actors.old.items actors.new.items) }
+{
+    add_decrementers(alloc, actors, limits, count)?;
+    add_tracers(alloc, actors, limits, count)
 }
 
 /// A mutator for each thread of a script, in order, behind them so many decrementers, and then as many tracers.
@@ -83,11 +113,8 @@ fn make_actors(
     requires workers { workers ≤ 8 }
     ensures { IfOk result (λ actors. AreMade limits every workers workers (lists_in script) actors.items) }
 {
-    let mut actors = make_decrementers(alloc, script, limits, every, workers)?;
-    for _ in 0..workers {
-        let tracer = Tracer::new(alloc, limits)?;
-        actors.push_reserved(AnyActor::Tracer(tracer));
-    }
+    let mut actors = make_mutators(alloc, script, limits, every, 2 * usize::from(workers))?;
+    add_helpers(alloc, &mut actors, limits, workers)?;
     Ok(actors)
 }
 

@@ -32,6 +32,13 @@ impl Model for Order {
 }
 
 impl Order {
+    /// No order.
+    pub fn none() -> Order
+        ensures { result ≡ None }
+    {
+        Order { items: None }
+    }
+
     /// What a run begins with: `order` keeps an order, and no other command does.
     pub fn begin(alloc: Global, command: Command) -> Order
         ensures { result ≡ opening_order command }
@@ -40,7 +47,7 @@ impl Order {
             Command::Order => Order {
                 items: Some(Items::new(alloc)),
             },
-            _ => Order { items: None },
+            _ => Order::none(),
         }
     }
 

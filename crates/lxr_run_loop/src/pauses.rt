@@ -1,5 +1,5 @@
 //! The pauses between epochs.
-ghost use Rattle.std.specs.Prelude.{◌≡◌, ◌+◌, ◌≤◌, [], ◌∷◌, OnErr, OnOk, length};
+ghost use Rattle.std.specs.Prelude.{◌≡◌, ◌+◌, ◌≤◌, [], ◌∷◌, IsOk, OnErr, OnOk, length};
 ghost use Rattle.lxr_text_stream.specs.Streams.{Appends, AppendsFront, Rose};
 ghost use Rattle.lxr_words.specs.Ranges.{AreInRange};
 ghost use Rattle.lxr_run_invariant.specs.LoopInvariant.{FitsCounts, pace_of};
@@ -8,7 +8,7 @@ ghost use Rattle.lxr_run_history.specs.Sums.{with_report};
 ghost use Rattle.lxr_run_history.specs.Texts.{told_report};
 ghost use Rattle.lxr_run_loop.specs.Courses.{AreFew};
 ghost use Rattle.lxr_run_loop.specs.Orders.{Notes};
-ghost use Rattle.lxr_run_loop.specs.Pausing.{GoesOnByPause, IsCutOffByPause, MakesPause, SomePauseIsDue};
+ghost use Rattle.lxr_run_loop.specs.Pausing.{GoesOnByPause, IsCutOffByPause, MakesPause, SomePauseIsDue, TellsNothing};
 
 use crate::order::Order;
 use lxr_graph::{Item, Report};
@@ -35,6 +35,7 @@ fn pace_of(options: Options) -> Pace
 fn tell<O: Sink>(report: &Report, options: &Options, output: &mut O) -> Result<(), WriteError>
     ensures ok { OnOk result (Appends (O.written output.old) (O.written output.new) (told_report options.now.command options.now.counts (report_of report.now))) }
     ensures err { OnErr result (AppendsFront (O.written output.old) (O.written output.new) (told_report options.now.command options.now.counts (report_of report.now))) }
+    ensures quiet { TellsNothing options.now.command → IsOk result }
     ensures faults { O.faults output.old ≤ O.faults output.new }
     ensures cause { result ≡ Err WriteError.Fault → Rose (O.faults output.old) (O.faults output.new) }
 {
@@ -65,6 +66,7 @@ pub(crate) fn pause<W: Watch, O: Sink>(
     requires counts { FitsCounts space.old }
     ensures ok { OnOk result (GoesOnByPause ask options space.old (O.written output.old) (W.seen watch.old) space.new (O.written output.new) (W.seen watch.new)) }
     ensures err { OnErr result (IsCutOffByPause ask options space.old (O.written output.old) (W.seen watch.old) space.new (O.written output.new) (W.seen watch.new)) }
+    ensures quiet { TellsNothing options.command → IsOk result }
     ensures made { MakesPause ask (pace_of options) space.old space.new }
     ensures tally { space.new.tally ≡ record space.old.tally { logs = space.old.tally.logs + length space.old.logged.items; pauses = space.old.tally.pauses + 1; moved = space.new.tally.moved; kept = space.new.tally.kept } }
     ensures totals { totals.new ≡ with_report totals.old (report_of space.new.report) }

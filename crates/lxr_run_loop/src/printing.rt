@@ -6,7 +6,7 @@ ghost use Rattle.lxr_text_map.specs.Map.{CanBeMapped, map_text};
 ghost use Rattle.lxr_text_print.specs.Orders.{order_text};
 ghost use Rattle.lxr_run_loop.specs.Printed.{AllArePartlyPrinted, AllArePrinted, SomeIsComplete};
 ghost use Rattle.lxr_run_loop.specs.Printing.{CanBePrinted, IsPrintable, mutators_text};
-ghost use Rattle.lxr_run_loop.specs.Summing.{AreSums, SomeHasRun, calls_by, refusals_by, is_full};
+ghost use Rattle.lxr_run_loop.specs.Summing.{AreSums, KeepAll, KeepsReplies, SomeHasRun, calls_by, refusals_by, is_full};
 
 use crate::course::Course;
 use lxr_core::AnyActor;
@@ -57,7 +57,7 @@ fn calls_by(actor: &AnyActor) -> u64
     ensures { result ≡ calls_by actor.now }
 {
     match actor {
-        AnyActor::Mutator(mutator) => mutator.replies().len() as u64,
+        AnyActor::Mutator(mutator) => u64::from(mutator.operation()),
         AnyActor::Decrementer(_) => 0,
         AnyActor::Tracer(_) => 0,
     }
@@ -87,6 +87,7 @@ fn count_full(replies: &[Reply]) -> usize
 
 /// How many `new`s of the thread of an actor found no room; a helper has none.
 fn refusals_by(actor: &AnyActor) -> u64
+    requires { KeepsReplies actor.now }
     ensures { result ≡ refusals_by actor.now }
 {
     match actor {
@@ -98,7 +99,8 @@ fn refusals_by(actor: &AnyActor) -> u64
 
 /// How many `new`s of all threads found no room.
 fn refusals(actors: &[AnyActor]) -> u64
-    requires { sum_by refusals_by actors.now < 2 ^ 64 }
+    requires kept { KeepAll actors.now }
+    requires fits { sum_by refusals_by actors.now < 2 ^ 64 }
     ensures { result ≡ sum_by refusals_by actors.now }
 {
     let mut count = 0;

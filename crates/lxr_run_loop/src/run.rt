@@ -1,24 +1,19 @@
 //! The loop over epochs.
-ghost use Rattle.std.specs.Prelude.{◌≡◌, ℕ, ◌≤◌, ◌↔◌, ◌||◌, [], IfErr, IfOk, IsTrue, OnErr, OnOk, length};
+ghost use Rattle.std.specs.Prelude.{◌≡◌, ◌≤◌, [], IfErr, IfOk, OnErr, OnOk, length};
 ghost use Rattle.lxr_actor.specs.Run.{core_of};
 ghost use Rattle.lxr_run_replay.specs.Replaying.{CanBeReplayed};
-ghost use Rattle.std.specs.List.{All, list_any};
 ghost use Rattle.lxr_text_stream.specs.Streams.{Rose};
 ghost use Rattle.lxr_words.specs.Ranges.{AreInRange};
 ghost use Rattle.lxr_run_threads.specs.Running.{CanRun, HasRun};
-ghost use Rattle.lxr_run_invariant.specs.LoopInvariant.{Task, asked_by};
+ghost use Rattle.lxr_run_invariant.specs.LoopInvariant.{Task};
 ghost use Rattle.lxr_run_loop.specs.Drawing.{GoesOnInOrder, ReplaysInOrder};
-ghost use Rattle.lxr_run_loop.specs.Progress.{CanRunEpoch, HasMadeRound, IsComplete, IsStoppedUnderWay, IsUnderWay, NoneGoesOn, RunsEpoch, SomeIsUnderWay, actor_collected};
+ghost use Rattle.lxr_run_loop.specs.Progress.{CanRunEpoch, HasMadeRound, IsComplete, IsStoppedUnderWay, IsUnderWay, RunsEpoch, SomeIsUnderWay};
 
 use crate::course::Course;
+use crate::following::follow_epoch;
 use crate::order::Order;
-use crate::pauses::pause;
-use crate::serving::answer_waiting;
 use lxr_core::{AnyActor, close_epoch, open_epoch};
 use lxr_image::Space;
-use lxr_mutator::MutEnd;
-use lxr_run_pause::Ask;
-use lxr_run_placing::list_for_epoch;
 use lxr_run_threads::run_epoch;
 use lxr_run_watch::{Gate, Watch};
 use lxr_text_stream::{Sink, WriteError};
@@ -121,61 +116,6 @@ fn go_on_in_threads<R: Threads + Wait + Sync, G: Gate>(
     Ok(())
 }
 
-/// Whether the thread of an actor has done its end; a helper has none that goes on.
-fn has_ended(actor: &AnyActor) -> bool
-    ensures { IsTrue result ↔ NoneGoesOn actor.now }
-{
-    match actor {
-        AnyActor::Mutator(mutator) => matches!(mutator.ended(), Some(MutEnd::Ended)),
-        AnyActor::Decrementer(_) => true,
-        AnyActor::Tracer(_) => true,
-    }
-}
-
-/// Whether each thread has done its end.
-fn have_ended(actors: &[AnyActor]) -> bool
-    ensures { IsTrue result ↔ All NoneGoesOn actors.now }
-{
-    actors.iter().all(|actor| has_ended(actor))
-}
-
-/// Whether the thread of an actor has called `collect` in this epoch; a helper has none.
-fn has_collected(actor: &AnyActor) -> bool
-    ensures { result ≡ actor_collected actor.now }
-{
-    match actor {
-        AnyActor::Mutator(mutator) => mutator.has_collected(),
-        AnyActor::Decrementer(_) => false,
-        AnyActor::Tracer(_) => false,
-    }
-}
-
-/// Whether some thread has.
-fn have_collected(actors: &[AnyActor]) -> bool
-    ensures { result ≡ list_any actor_collected actors.now }
-{
-    actors.iter().any(|actor| has_collected(actor))
-}
-
-/// Whether the pause behind an epoch shall collect, by whether each thread has done its end: it shall where each has, or where
-/// some thread has called `collect`.
-fn shall_collect(actors: &[AnyActor], ended: bool) -> bool
-    ensures { result ≡ (ended || list_any actor_collected actors.now) }
-{
-    ended || have_collected(actors)
-}
-
-/// What a pause is asked for, by whether it shall collect.
-fn ask_of(collects: bool) -> Ask
-    ensures { result ≡ asked_by collects }
-{
-    if collects {
-        Ask::Collect
-    } else {
-        Ask::Ordinary
-    }
-}
-
 /// One round: an epoch and the pause behind it. Where not all threads have ended then, waiting `new`s are served or refused,
 /// with more pauses where they need room, and the next epoch is prepared. Whether all have.
 fn make_round<R: Threads + Wait + Sync, G: Gate, W: Watch, O: Sink>(
@@ -209,20 +149,15 @@ fn make_round<R: Threads + Wait + Sync, G: Gate, W: Watch, O: Sink>(
     ) else {
         return Err(WriteError::Memory);
     };
-    let ended = have_ended(actors);
-    let collects = shall_collect(actors, ended);
-    let totals = &mut course.totals;
-    let order = &mut course.order;
-    let ask = ask_of(collects);
-    pause(space, ask, options, totals, order, watch, output)?;
-    if ended {
-        return Ok(true);
-    }
-    answer_waiting(
-        space, actors, collects, options, totals, order, watch, output,
-    )?;
-    list_for_epoch(space);
-    Ok(false)
+    follow_epoch(
+        space,
+        actors,
+        &mut course.totals,
+        &mut course.order,
+        options,
+        watch,
+        output,
+    )
 }
 
 /// Runs the threads in a space that was just opened, epoch after epoch with a pause behind each, until all have ended.

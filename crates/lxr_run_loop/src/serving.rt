@@ -1,5 +1,5 @@
 //! The `new`s that wait for a pause, answered between two epochs, and the collecting pauses that they ask for.
-ghost use Rattle.std.specs.Prelude.{◌≡◌, ℕ, ◌+◌, ◌*◌, ◌<◌, ◌≤◌, List, OnErr, OnOk, slice_index};
+ghost use Rattle.std.specs.Prelude.{◌≡◌, ℕ, ◌+◌, ◌*◌, ◌<◌, ◌≤◌, IsOk, List, OnErr, OnOk, slice_index};
 ghost use Rattle.lxr_text_stream.specs.Streams.{Rose};
 ghost use Rattle.lxr_core.specs.Actors.{mutators_in};
 ghost use Rattle.lxr_words.specs.Ranges.{AreInRange};
@@ -10,6 +10,7 @@ ghost use Rattle.lxr_run_serve.specs.Serving.{CanServe, HasServed, KeepsHelpers}
 ghost use Rattle.lxr_run_invariant.specs.LoopInvariant.{done_of};
 ghost use Rattle.lxr_run_loop.specs.Courses.{AreFew};
 ghost use Rattle.lxr_run_loop.specs.Orders.{FollowsOrder, placed_at};
+ghost use Rattle.lxr_run_loop.specs.Pausing.{TellsNothing};
 ghost use Rattle.lxr_run_loop.specs.Serving.{AllAreAnswered, AllAreCutOff, CanServeAll};
 
 use crate::order::{Order, actor_at};
@@ -85,6 +86,7 @@ pub(crate) fn answer_waiting<W: Watch, O: Sink>(
     ensures totals { AreFew totals.new space.new.pauses }
     ensures helpers { OnOk result (KeepsHelpers actors.old actors.new) }
     ensures err { OnErr result (AllAreCutOff options space.old (O.written output.old) (W.seen watch.old) collected (mutators_in actors.old) space.new (O.written output.new) (W.seen watch.new)) }
+    ensures quiet { TellsNothing options.command → IsOk result }
     ensures faults { O.faults output.old ≤ O.faults output.new }
     ensures cause { result ≡ Err WriteError.Fault → Rose (O.faults output.old) (O.faults output.new) }
 {

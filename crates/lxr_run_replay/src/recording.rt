@@ -1,6 +1,7 @@
 //! What a replay records: the calls that come to stand in the history, in room that is made for them before the first step.
 ghost use Rattle.std.specs.Prelude.{◌≡◌, ◌+◌, ◌*◌, ◌≤◌, [], ◌∷◌, None, Some, IfOk, IfSome, OnErr, if◌then◌else◌, nat_lt, length};
 ghost use Rattle.lxr_base.specs.Roomy.{Roomy};
+ghost use Rattle.lxr_alloc.specs.declared.TheConstants.{MOST_OPERATIONS};
 ghost use Rattle.lxr_run_replay.specs.Recording.{HasRoom, IsSound, all_left, calls_since, left_to_place, placed_by, recorded};
 
 use lxr_core::AnyActor;
@@ -102,12 +103,12 @@ pub fn placed_by(actor: &AnyActor) -> u32
 /// How many operations of an actor's thread are yet to come into the history, its end among them; a helper has none.
 fn left_to_place(actor: &AnyActor) -> usize
     ensures left { result ≡ left_to_place actor.now }
-    ensures few { result ≤ 1048577 }
+    ensures few { result ≤ MOST_OPERATIONS + 1 }
 {
     match actor {
         AnyActor::Mutator(mutator) => {
             let placed = mutator.placed() as usize;
-            (mutator.operations().len() + 1).saturating_sub(placed)
+            (mutator.ordered() as usize + 1).saturating_sub(placed)
         }
         AnyActor::Decrementer(_) => 0,
         AnyActor::Tracer(_) => 0,
@@ -118,7 +119,7 @@ fn left_to_place(actor: &AnyActor) -> usize
 pub(crate) fn all_left(actors: &[AnyActor]) -> usize
     requires { length actors.now ≤ 32 }
     ensures left { result ≡ all_left actors.now }
-    ensures few { result ≤ 1048577 * 32 }
+    ensures few { result ≤ (MOST_OPERATIONS + 1) * 32 }
 {
     let mut count = 0;
     for number in 0..actors.len() {

@@ -82,6 +82,7 @@ answered_sound m registers r is waits sixteen held =
       registers = sixteen;
       held = held;
       spans = is.spans;
+      before = is.before;
       indexes = is.indexes;
       room = is.room;
       few_replies = omega arith;
@@ -137,9 +138,12 @@ waits_no_more m m' r is answers waits =
 
 -- its own next object after one that was made, and after a refusal
 pub named_after_new : (m : Mutating) (n : Name) → next_name (answered m (reply.New n)) ≡ record { thread = m.thread; serial = (next_name m).serial + 1 }
-named_after_new m n = λ j. record { thread = m.thread; serial = (ap (λ (k : ℕ). k + 1) (sum_by_push (λ r. if is_new r then 1 else 0) m.replies.items (reply.New n))) j }
+named_after_new m n =
+    let more : count_by is_new (m.replies.items ++ reply.New n ∷ []) ≡ count_by is_new m.replies.items + 1 = sum_by_push (λ r. if is_new r then 1 else 0) m.replies.items (reply.New n) in
+    let serial : m.before + count_by is_new (m.replies.items ++ reply.New n ∷ []) + 1 ≡ m.before + count_by is_new m.replies.items + 1 + 1 = omega (arith, more) in
+    λ j. record { thread = m.thread; serial = serial j }
 
 pub named_after_full : (m : Mutating) → next_name (answered m reply.Full) ≡ next_name m
 named_after_full m =
     let same : count_by is_new (m.replies.items ++ reply.Full ∷ []) ≡ count_by is_new m.replies.items = sum_by_push (λ r. if is_new r then 1 else 0) m.replies.items reply.Full ∙ omega arith in
-    λ j. record { thread = m.thread; serial = same j + 1 }
+    λ j. record { thread = m.thread; serial = m.before + same j + 1 }

@@ -1,5 +1,5 @@
 //! An epoch, which owns the table, and its passes, each an actor with a seat at the table.
-ghost use Rattle.std.specs.Prelude.{◌≡◌, ℕ, ◌≤◌, List, length, IsSome, false};
+ghost use Rattle.std.specs.Prelude.{◌≡◌, ℕ, ◌<◌, ◌≤◌, ◌↔◌, List, length, IsSome, false};
 ghost use Rattle.lxr_shared_passes.specs.Passing.{IsSamePass, Turned};
 
 use crate::rule::{Opening, Running, View};
@@ -27,6 +27,20 @@ impl<A: Actor> Model for Epoch<A> {
     ghost view = { λ e. record { id = e.table.shared.table_id; opening = core_of e.table.shared.key.words e.table.shared.key.actors.items } };
 
     ghost invariant = { λ e. (0 < e.table.shared.table_id.words) × (e.table.shared.table_id.slots ≡ 0) × (e.spare.items ≡ []) × (length e.table.shared.key.actors.items ≤ vec_capacity e.spare) };
+}
+
+impl<A: Actor> Epoch<A> {
+    /// What the word of an index is right now, if there is such a word. A look is no event of the epoch, and what it tells may be over at once.
+    #[inline(always)]
+    pub fn look(&self, index: usize) -> Option<u64>
+        ensures { IsSome result ↔ (index < self.now.id.words) }
+    {
+        if index < self.table.word_count() {
+            Some(self.table.shared.peek(index))
+        } else {
+            None
+        }
+    }
 }
 
 /// An actor of an epoch, with the right to do its steps.

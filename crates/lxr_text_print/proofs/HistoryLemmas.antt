@@ -6,7 +6,7 @@ use Rattle.std.proofs.lemmas.List.{append-nil}
 use Rattle.lxr_graph.specs.declared.Op.{Op}
 use Rattle.lxr_graph.specs.declared.Op.TheVariants as op
 use Rattle.lxr_graph.specs.declared.Reply.{Reply}
-use Rattle.lxr_graph.specs.History.{Item, Call, Pause, calls_of, replies_of}
+use Rattle.lxr_graph.specs.History.{Item, Call, Pause, Renew, calls_of, replies_of}
 use Rattle.lxr_text_print.specs.Replies.{call_text, calls_text, heading_text, replies_text, thread_text}
 
 -- the end prints nothing
@@ -39,6 +39,7 @@ length-either false os rs o r e = e
 -- each call of a history has its reply
 pub length-calls_of : (t : ℕ) (h : List Item) → length (calls_of t h) ≡ length (replies_of t h)
 length-calls_of t [] = refl
+length-calls_of t (Renew ns ∷ h) = refl
 length-calls_of t (Pause report ∷ h) = length-calls_of t h
 length-calls_of t (Call u o r ∷ h) = length-either (nat_eq t u) (calls_of t h) (replies_of t h) o r (length-calls_of t h)
 

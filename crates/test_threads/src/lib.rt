@@ -12,7 +12,7 @@ mod stores;
 mod tests;
 
 pub use fitting::run_repeaters;
-pub use live::{Host, Seen};
+pub use live::Host;
 pub use repeater::Repeater;
 pub use run::run_passes;
 pub use stores::run_storers;

@@ -1,132 +1,159 @@
-//! Threads of a host that order operations of live mutators, and come and go: each takes whichever pass is at home.
-use lxr_core::AnyActor;
+//! Threads of a host that share a heap and come and go: each takes whichever pass is at home, and whoever finds all of them at home makes the pause.
 use lxr_graph::{Op, Reply};
-use lxr_layout::Shape;
-use lxr_live::{Answer, Shared, Station};
-use std::alloc::{AllocError, Global};
-use std::sync::Arc;
-
-/// A reply that a host was given: of which mutator, as the how manieth.
-#[derive(Clone, Copy, Debug, PartialEq, Eq)]
-pub struct Seen {
-    pub number: usize,
-    pub place: usize,
-    pub reply: Reply,
-}
+use lxr_layout::{Name, Shape};
+use lxr_live::{Answer, Heap, Paused, Resumed, Station};
+use std::alloc::Global;
+use std::sync::{Mutex, Wait};
 
 /// A thread of a host.
-#[derive(Drop)]
+#[derive(Clone, Copy, Debug, PartialEq, Eq)]
 pub struct Host {
-    shared: Arc<Shared, Global>,
     /// The mutator that it asks for first.
     next: usize,
-    pub seen: Vec<Seen>,
+    /// How many replies it was given that were as expected, and how many that weren't.
+    pub right: u32,
+    pub wrong: u32,
     /// How often it found a pass away.
     pub missed: u32,
-    /// It lacked memory.
-    pub refused: bool,
+    /// How many pauses it made.
+    pub pauses: u32,
 }
 
 impl Host {
-    pub fn new(
-        alloc: Global,
-        shared: &Arc<Shared, Global>,
-        next: usize,
-    ) -> Result<Host, AllocError> {
-        Ok(Host {
-            shared: Arc::try_clone(shared)?,
+    /// A thread that asks for a mutator first.
+    pub fn new(next: usize) -> Host {
+        Host {
             next,
-            seen: Vec::new(alloc),
+            right: 0,
+            wrong: 0,
             missed: 0,
-            refused: false,
-        })
+            pauses: 0,
+        }
     }
 
-    /// Takes passes out of their homes so often, as long as there is memory.
-    pub fn visit_all(&mut self, visits: u32) {
+    /// Takes passes of so many mutators out of their homes so often.
+    pub fn visit_all<R: Wait>(
+        &mut self,
+        rt: &R,
+        alloc: Global,
+        heap: &Mutex<Heap>,
+        mutators: usize,
+        visits: u32,
+    ) {
         for visit in 0..visits {
-            if self.visit(visit % 2 == 0).is_err() {
-                self.refused = true;
-                return;
+            if let Some(station) = self.enter(rt, alloc, heap, mutators) {
+                self.visit(station, visit % 2 == 0);
             }
         }
     }
 
-    /// Takes the next pass out of its home, if it is there, does some operations with it and brings it home, or drops its station.
-    fn visit(&mut self, comes_home: bool) -> Result<(), AllocError> {
-        let number = self.next % self.shared.count().max(1);
+    /// Makes the pause, if one is wanted and all passes are at home, and takes the next pass out of its home, if it is there.
+    fn enter<R: Wait>(
+        &mut self,
+        rt: &R,
+        alloc: Global,
+        heap: &Mutex<Heap>,
+        mutators: usize,
+    ) -> Option<Station> {
+        let number = self.next % mutators.max(1);
         self.next = number.wrapping_add(1);
-        let Some(mut station) = Station::leave(&self.shared, number)? else {
-            self.missed = self.missed.saturating_add(1);
-            return Ok(());
-        };
+        let mut heap = heap.lock(rt);
+        if heap.pause() == Paused::Made && heap.resume(alloc) == Resumed::Open {
+            self.pauses = self.pauses.saturating_add(1);
+        }
+        match heap.let_out(number) {
+            Ok(station) => Some(station),
+            Err(_) => {
+                self.missed = self.missed.saturating_add(1);
+                None
+            }
+        }
+    }
+
+    /// Does some operations with a pass and brings it home, or drops its station.
+    fn visit(&mut self, mut station: Station, comes_home: bool) {
+        self.judge(&station, station.newest());
         for _ in 0..5u8 {
-            self.operate(&mut station)?;
+            let reply = go_on(&mut station);
+            self.judge(&station, reply);
         }
         if comes_home {
             station.come_home();
         }
-        Ok(())
     }
 
-    /// Orders the operation that the reply to the one before asks for.
-    fn operate(&mut self, station: &mut Station) -> Result<(), AllocError> {
-        let (place, last) = last_reply(station);
-        let number = station.number();
-        if let Answer::Done(reply) = station.operate(next_op(
-            u16::try_from(number).unwrap_or(0),
-            last,
-        )) {
-            self.seen.push(Seen {
-                number,
-                place,
-                reply,
-            })?;
+    /// Judges a reply, which is that to the last operation that is done, if there is one.
+    fn judge(&mut self, station: &Station, reply: Option<Reply>) {
+        let Some(reply) = reply else {
+            return;
+        };
+        if Some(reply) == last_expected(station.number(), station.done()) {
+            self.right = self.right.saturating_add(1);
+        } else {
+            self.wrong = self.wrong.saturating_add(1);
         }
-        Ok(())
     }
 }
 
-/// How many replies its mutator has, and the last of them.
-fn last_reply(station: &Station) -> (usize, Option<Reply>) {
-    match station.actor() {
-        AnyActor::Mutator(mutator) => {
-            let count = mutator.replies().len();
-            (count, mutator.replies().get(count.wrapping_sub(1)))
-        }
-        _ => (0, None),
+/// Goes on with the operation of a pass that is open, or orders the next one. The reply, if one has come.
+fn go_on(station: &mut Station) -> Option<Reply> {
+    if station.is_open() {
+        return station.go_on();
+    }
+    let op = next_op(station.number(), station.done());
+    match station.operate(op) {
+        Answer::Done(reply) => Some(reply),
+        _ => None,
     }
 }
 
-/// What is asked for after a reply: an object is made, written, read, stored in the world and loaded again.
-fn next_op(index: u16, last: Option<Reply>) -> Op {
-    match last {
-        Some(Reply::New(_)) => Op::Put {
+/// What a mutator is asked for behind so many operations: an object is made, written, added to and read, stored in the world and loaded again.
+fn next_op(number: usize, done: u32) -> Op {
+    let index = u16::try_from(number).unwrap_or(0);
+    match done % 6 {
+        0 => Op::New {
+            dest: 1,
+            shape: Shape { refs: 1, values: 1 },
+        },
+        1 => Op::Put {
             base: 1,
             index: 0,
             value: 7,
         },
-        Some(Reply::Put) => Op::Add {
+        2 => Op::Add {
             base: 1,
             index: 0,
             value: 5,
         },
-        Some(Reply::Added(_)) => Op::Get { base: 1, index: 0 },
-        Some(Reply::Got(_)) => Op::Store {
+        3 => Op::Get { base: 1, index: 0 },
+        4 => Op::Store {
             base: 0,
             index,
             source: 1,
         },
-        Some(Reply::Stored) => Op::Load {
+        _ => Op::Load {
             dest: 2,
             base: 0,
             index,
         },
-        _ => Op::New {
-            dest: 1,
-            shape: Shape { refs: 1, values: 1 },
-        },
     }
+}
+
+/// The reply to the last of so many operations of a mutator.
+fn last_expected(number: usize, done: u32) -> Option<Reply> {
+    let place = done.checked_sub(1)?;
+    let name = Name {
+        thread: u8::try_from(number).unwrap_or(0).wrapping_add(1),
+        serial: (place / 6).wrapping_add(1),
+    };
+    Some(match place % 6 {
+        0 => Reply::New(name),
+        1 => Reply::Put,
+        2 => Reply::Added(7),
+        3 => Reply::Got(12),
+        4 => Reply::Stored,
+        _ => Reply::Loaded(Some(name)),
+    })
 }
 
 #[cfg(test)]

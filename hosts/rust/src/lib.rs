@@ -1,4 +1,4 @@
-//! A garbage-collected heap for one thread, whose collector is proved.
+//! A garbage-collected heap, whose collector is proved, for one thread; and one that threads share, in [`threads`].
 //!
 //! Objects have references and data words of 64 bits, and live in a [`Heap`]. A program holds them by sixteen registers: what a
 //! [`Register`] holds is kept, and what kept objects refer to. All else is reclaimed by pauses, which the heap makes where it needs room,
@@ -26,16 +26,18 @@
 //! ```
 //!
 //! **What is proved** is the library behind this crate: what each of its functions answers and changes. This crate is some hundred lines of
-//! plain Rust over it; it owns the handle, so nothing that a safe caller does breaks what the library asks of a host.
+//! plain Rust over it; it owns the handles, so nothing that a safe caller does breaks what the library asks of a host, but that a thread
+//! which blocks outside of [`threads::Thread::rest`] holds up the others. What waits for pauses, where threads share a heap, is plain C.
 //!
 //! Linking: the build script takes `liblxr.a` from the folder that the environment variable `LXR_LIB_DIR` names, or else from the
-//! repository.
+//! installation, the release or the repository that this crate is a part of.
 
 #![warn(missing_docs)]
 
 mod error;
 mod raw;
 mod register;
+pub mod threads;
 
 pub use error::Error;
 pub use register::{Register, R0, R1, R10, R11, R12, R13, R14, R15, R2, R3, R4, R5, R6, R7, R8, R9};

@@ -1,6 +1,7 @@
-//! The functions of `lxr.h`, as they are.
+//! The functions of `lxr.h` and of `lxr_threads.h`, as they are.
 
 use std::ffi::c_void;
+use std::marker::{PhantomData, PhantomPinned};
 
 /// A handle: zeros while it has no heap.
 #[repr(C)]
@@ -36,4 +37,64 @@ extern "C" {
     pub fn lxr_collect(heap: *mut Handle) -> u32;
     pub fn lxr_pause_every(heap: *mut Handle, news: u32) -> u32;
     pub fn lxr_count(heap: *mut Handle, what: u32, number: *mut u64) -> u32;
+}
+
+/// A heap that threads share: known by its address alone.
+#[repr(C)]
+pub struct Threads {
+    opaque: [u8; 0],
+    marker: PhantomData<(*mut u8, PhantomPinned)>,
+}
+
+/// A thread of such a heap: known by its address alone.
+#[repr(C)]
+pub struct Thread {
+    opaque: [u8; 0],
+    marker: PhantomData<(*mut u8, PhantomPinned)>,
+}
+
+/// What `lxr_threads_settings` is.
+#[repr(C)]
+pub struct Settings {
+    pub blocks: u32,
+    pub threads: u32,
+    pub helpers: u32,
+    pub log: u32,
+    pub remember: u32,
+    pub every: u32,
+    pub trace: u32,
+    pub within: u32,
+    pub paused: Option<extern "C" fn(with: *mut c_void, times: *const PauseTimes)>,
+    pub with: *mut c_void,
+}
+
+/// What `lxr_pause_times` is.
+#[repr(C)]
+pub struct PauseTimes {
+    pub number: u64,
+    pub gathering: u64,
+    pub pausing: u64,
+}
+
+extern "C" {
+    pub fn lxr_threads_open(threads: *mut *mut Threads, settings: *const Settings) -> u32;
+    pub fn lxr_threads_close(threads: *mut *mut Threads) -> u32;
+    pub fn lxr_threads_count(threads: *mut Threads, what: u32, number: *mut u64) -> u32;
+    pub fn lxr_thread_enter(threads: *mut Threads, thread: *mut *mut Thread) -> u32;
+    pub fn lxr_thread_leave(thread: *mut *mut Thread) -> u32;
+    pub fn lxr_thread_rest(thread: *mut Thread) -> u32;
+    pub fn lxr_thread_wake(thread: *mut Thread) -> u32;
+    pub fn lxr_thread_poll(thread: *mut Thread) -> u32;
+    pub fn lxr_thread_new(thread: *mut Thread, dest: u32, refs: u32, words: u32) -> u32;
+    pub fn lxr_thread_load(thread: *mut Thread, dest: u32, base: u32, index: u32) -> u32;
+    pub fn lxr_thread_store(thread: *mut Thread, base: u32, index: u32, source: u32) -> u32;
+    pub fn lxr_thread_swap(thread: *mut Thread, dest: u32, base: u32, index: u32, source: u32) -> u32;
+    pub fn lxr_thread_get(thread: *mut Thread, base: u32, index: u32, word: *mut u64) -> u32;
+    pub fn lxr_thread_put(thread: *mut Thread, base: u32, index: u32, word: u64) -> u32;
+    pub fn lxr_thread_add(thread: *mut Thread, base: u32, index: u32, word: u64, old: *mut u64) -> u32;
+    pub fn lxr_thread_same(thread: *mut Thread, left: u32, right: u32, same: *mut u32) -> u32;
+    pub fn lxr_thread_move(thread: *mut Thread, dest: u32, source: u32) -> u32;
+    pub fn lxr_thread_nil(thread: *mut Thread, dest: u32) -> u32;
+    pub fn lxr_thread_pause(thread: *mut Thread) -> u32;
+    pub fn lxr_thread_collect(thread: *mut Thread) -> u32;
 }

@@ -27,10 +27,10 @@ impl Mutator {
         ensures { self.new ≡ placed self.old shape }
     {
         self.words = words_of(shape);
-        self.phase = match self.spans.try_place(shape) {
-            Some(place) => MutatorPhase::Wiping { place, next: 1 },
-            None => draws_for(shape),
-        };
+        match self.spans.try_place(shape) {
+            Some(place) => self.phase = MutatorPhase::Wiping { place, next: 1 },
+            None => self.phase = draws_for(shape),
+        }
     }
 
     /// The number of a run was drawn: the number of runs is loaded next.

@@ -29,7 +29,7 @@ impl Mutator {
         };
         let op = self.op();
         if index_of(op) < indexed_fields(op, shape) {
-            self.go_on(self.field_phase(base, shape, op));
+            self.go_to_field(base, shape, op);
         } else {
             self.reply(Reply::Range);
         }
@@ -49,44 +49,33 @@ impl Mutator {
         }
     }
 
-    /// The phase for the field of a base that the operation goes to.
+    /// Goes on at the field of a base that the operation goes to. Each phase is written where it is made.
     #[inline(always)]
-    fn field_phase(&self, base: Place, shape: Shape, op: Op) -> MutatorPhase
-        requires op { op ≡ op_now self.now }
+    fn go_to_field(&mut self, base: Place, shape: Shape, op: Op)
+        requires turn { self.old.phase ≢ MutatorPhase.Finished }
+        requires operation { length self.old.replies.items < length self.old.operations }
+        requires op { op ≡ op_now self.old }
         requires place { IsPlace base }
         requires field { index_of op < indexed_fields op shape }
-        requires heap { first_word base.0 + word_count shape ≤ self.now.regions.counts }
-        ensures phase { result ≡ reaching self.now base shape op }
-        ensures may { MayBeIn self.now result }
-        ensures wipes { wipes_in result ≡ false }
+        requires heap { first_word base.0 + word_count shape ≤ self.old.regions.counts }
+        ensures { self.new ≡ record self.old { phase = reaching self.old base shape op } }
     {
+        let refs = shape.refs;
         match op {
-            Op::Load { .. } => MutatorPhase::Reference { base },
-            Op::Store { index, source, .. } => MutatorPhase::Storing(StoreMachine::new(
+            Op::Load { .. } => self.go_on(MutatorPhase::Reference { base }),
+            Op::Store { index, source, .. } => self.go_on(MutatorPhase::Storing(StoreMachine::new(
                 self.regions,
                 base,
                 index,
                 self.register(source),
+            ))),
+            Op::Swap { index, source, .. } => self.go_on(MutatorPhase::Storing(
+                StoreMachine::swapping(self.regions, base, index, self.register(source)),
             )),
-            Op::Swap { index, source, .. } => MutatorPhase::Storing(StoreMachine::swapping(
-                self.regions,
-                base,
-                index,
-                self.register(source),
-            )),
-            Op::Put { .. } => MutatorPhase::Putting {
-                base,
-                refs: shape.refs,
-            },
-            Op::Get { .. } => MutatorPhase::Datum {
-                base,
-                refs: shape.refs,
-            },
-            Op::Add { .. } => MutatorPhase::Adding {
-                base,
-                refs: shape.refs,
-            },
-            _ => MutatorPhase::Ready,
+            Op::Put { .. } => self.go_on(MutatorPhase::Putting { base, refs }),
+            Op::Get { .. } => self.go_on(MutatorPhase::Datum { base, refs }),
+            Op::Add { .. } => self.go_on(MutatorPhase::Adding { base, refs }),
+            _ => self.go_on(MutatorPhase::Ready),
         }
     }
 

@@ -7,28 +7,25 @@ use super::Mutator;
 use crate::phases::MutatorPhase;
 use lxr_graph::{Op, is_well_formed};
 
-/// The most operations that a thread has.
-const MOST_OPERATIONS: usize = 1_048_576;
-
 impl Mutator {
-    /// Whether it takes the operation: it is between two operations and may do a further one in this epoch, the operation is one as
-    /// those of a script, and there is room for it and its reply.
+    /// Whether it takes the operation: it is between two operations and may do a further one in this epoch, all that it has is done, the
+    /// operation is one as those of a script, and there is room for it and its reply.
     #[inline(always)]
     #[tactic(auto, using(crate::proofs::OrderLemmas::takes_order_decides))]
     pub(super) fn takes_order(&self, op: Op) -> bool
         ensures test { result ≡ takes_order self.now op }
         ensures may { IsTrue result ↔ MayTakeOrder self.now op }
     {
-        self.is_ready() && is_operation(op) && self.has_room_for_order()
+        self.is_ready() && !self.is_open() && is_operation(op) && self.has_room_for_order()
     }
 
-    /// Puts an operation behind those that it has.
+    /// Puts an operation behind those that it has done.
     #[inline(always)]
     pub(super) fn append(&mut self, op: Op)
         requires { MayTakeOrder self.old op }
         ensures { self.new ≡ with_order self.old op }
     {
-        self.operations.push(op);
+        self.agenda.order(op);
     }
 
     /// Whether it is between two operations, and may do a further one in this epoch.
@@ -44,8 +41,7 @@ impl Mutator {
     fn has_room_for_order(&self) -> bool
         ensures { result ≡ has_room_for_order self.now }
     {
-        let count = self.operations.len();
-        count < self.most as usize && count < MOST_OPERATIONS
+        self.agenda.has_room()
     }
 }
 

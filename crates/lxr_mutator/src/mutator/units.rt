@@ -38,7 +38,7 @@ impl Mutator {
         requires operation { length self.old.replies.items < length self.old.operations }
         ensures { self.new ≡ done_with self.old reply }
     {
-        self.replies.push(reply);
+        self.agenda.answer(reply);
         self.tally.count(reply);
         self.since += 1;
         if self.since >= self.every {
@@ -67,7 +67,7 @@ impl Mutator {
         ensures { self.new ≡ ended self.old }
     {
         self.registers = [Place::NIL; 16];
-        self.replies.push(Reply::Ended);
+        self.agenda.answer(Reply::Ended);
         self.tally.count(Reply::Ended);
         self.phase = MutatorPhase::Finished;
         self.end = Some(MutEnd::Ended);

@@ -1,249 +1,303 @@
-//! Live mutators whose operations are ordered from 2 and 8 threads; then the epoch is closed, and its replies are compared.
-ghost use Rattle.std.specs.Prelude.{◌<◌, ◌≤◌, IfOk};
-ghost use Rattle.lxr_core_invariant.specs.EpochStates.{Beginning};
-ghost use Rattle.lxr_live.specs.Running.{IsRunning};
-
+//! A heap that 2, 8 and 16 threads share, with its pauses.
 use crate::live::Host;
-use lxr_core::AnyActor;
 use lxr_graph::{Op, Reply};
-use lxr_layout::{Limits, Name};
-use lxr_live::{Answer, Live, NotClosed, Station, Unclosed};
+use lxr_layout::{Name, Shape};
+use lxr_live::{Answer, Heap, NotOut, Paused, Refused, Resumed, Settings, Station};
 use std::alloc::{AllocError, Global};
-use std::sync::Arc;
+use std::sync::{Mutex, Wait};
 use std::test::Fail;
 use std::thread;
 use std::thread::Threads;
 
-const LIMITS: Limits = Limits {
+const SETTINGS: Settings = Settings {
     blocks: 64,
-    threads: 8,
+    mutators: 8,
+    helpers: 1,
     log: 64,
     remember: 64,
+    every: 100,
+    trace: 2,
+    within: 2,
 };
 
-/// The first epoch of a heap for eight threads.
-fn begin(alloc: Global, every: u32, most: u32) -> Result<Live, AllocError>
-    requires { (1 ≤ every) × (every ≤ 1048576) × (most ≤ 1048576) }
-    ensures { IfOk result (λ live. (b : Beginning) × IsRunning b live) }
-{
-    let live = Live::begin(alloc, LIMITS, every, most)?;
-    Ok(live)
-}
+const NIL: Op = Op::Nil { dest: 1 };
 
-fn hosts(alloc: Global, live: &Live, count: usize) -> Result<Vec<Host>, AllocError> {
-    let mut hosts = Vec::new(alloc);
-    for number in 0..count {
-        hosts.push(Host::new(alloc, live.shared(), number)?)?;
+/// An object of half a block and more.
+const LARGE: Op = Op::New {
+    dest: 1,
+    shape: Shape {
+        refs: 1023,
+        values: 1023,
+    },
+};
+
+/// A heap in its first epoch, or none.
+fn begin(alloc: Global, settings: Settings) -> Option<Heap> {
+    let mut heap = Heap::open(alloc, settings).ok()?;
+    if heap.resume(alloc) == Resumed::Open {
+        Some(heap)
+    } else {
+        None
     }
-    Ok(hosts)
 }
 
-/// Lets each host visit so often, in so many threads.
-fn visit_all<R: Threads + Sync>(rt: &R, hosts: &mut [Host], threads: usize, visits: u32)
-    requires { 0 < threads }
-{
+/// Makes a pause and opens the next epoch. The number of the pause, if both went well.
+fn pause(alloc: Global, heap: &mut Heap) -> Option<u32> {
+    if heap.pause() != Paused::Made {
+        return None;
+    }
+    let number = heap.report()?.number;
+    if heap.resume(alloc) == Resumed::Open {
+        Some(number)
+    } else {
+        None
+    }
+}
+
+/// Lets so many hosts come and go, each in a thread of its own. How many replies were right and how many wrong, and how many pauses were made.
+fn come_and_go<R: Threads + Wait + Sync>(
+    rt: &R,
+    alloc: Global,
+    threads: usize,
+) -> Result<Option<(u32, u32, u32)>, AllocError> {
+    let Some(heap) = begin(alloc, SETTINGS) else {
+        return Ok(None);
+    };
+    let mut hosts = Vec::new(alloc);
+    for number in 0..threads {
+        hosts.push(Host::new(number))?;
+    }
+    let heap = Mutex::new(heap);
+    visit_all(rt, alloc, hosts.as_mut_slice(), &heap);
+    let mut sums = (0_u32, 0_u32, 0_u32);
+    for host in &hosts {
+        sums.0 = sums.0.saturating_add(host.right);
+        sums.1 = sums.1.saturating_add(host.wrong);
+        sums.2 = sums.2.saturating_add(host.pauses);
+    }
+    Ok(Some(sums))
+}
+
+/// Lets each host visit 400 times, in a thread of its own.
+fn visit_all<R: Threads + Wait + Sync>(
+    rt: &R,
+    alloc: Global,
+    hosts: &mut [Host],
+    heap: &Mutex<Heap>,
+) {
+    let threads = hosts.len().max(1);
     thread::for_each_mut(
         rt,
         hosts,
         threads,
-        &|_, host: &mut Host| { host.visit_all(visits) },
+        &|_, host: &mut Host| { host.visit_all(rt, alloc, heap, 8, 400) },
     );
 }
 
-/// The reply to an operation of a mutator, by its number and the operation's: each makes an object, writes, adds to and reads its
-/// data word, stores it in the world and loads it again.
-fn expected(number: usize, place: usize) -> Reply {
-    let name = Name {
-        thread: u8::try_from(number).unwrap_or(0).wrapping_add(1),
-        serial: u32::try_from(place / 6).unwrap_or(0).wrapping_add(1),
-    };
-    match place % 6 {
-        0 => Reply::New(name),
-        1 => Reply::Put,
-        2 => Reply::Added(7),
-        3 => Reply::Got(12),
-        4 => Reply::Stored,
-        _ => Reply::Loaded(Some(name)),
-    }
-}
-
-/// How many replies a mutator has, if each is as expected.
-fn expected_replies(number: usize, actor: &AnyActor) -> Option<usize> {
-    let AnyActor::Mutator(mutator) = actor else {
-        return None;
-    };
-    let replies = mutator.replies();
-    for place in 0..replies.len() {
-        if replies.get(place) != Some(expected(number, place)) {
-            return None;
-        }
-    }
-    Some(replies.len())
-}
-
-/// How many replies all mutators have, if each is as expected.
-fn count_replies(actors: &[AnyActor]) -> Option<usize> {
-    let mut count = 0_usize;
-    for number in 0..actors.len() {
-        count = count.saturating_add(expected_replies(number, &actors[number])?);
-    }
-    Some(count)
-}
-
-/// Closes an epoch, and counts the replies, if each is as expected.
-fn close_and_count(live: Live) -> Option<usize>
-    requires { (b : Beginning) × IsRunning b live }
-{
-    let (_space, actors) = live.close().ok()?;
-    count_replies(&actors)
-}
-
-/// How many replies a host was given, if each is as expected.
-fn given_to(host: &Host) -> Option<usize> {
-    for seen in &host.seen {
-        if seen.reply != expected(seen.number, seen.place) {
-            return None;
-        }
-    }
-    if host.refused {
-        return None;
-    }
-    Some(host.seen.len())
-}
-
-/// How many replies all hosts were given, if each is as expected. They let go of their shares.
-fn given_to_all(hosts: Vec<Host>) -> Option<usize> {
-    let mut count = 0_usize;
-    for host in hosts {
-        count = count.saturating_add(given_to(&host)?);
-    }
-    Some(count)
-}
-
-/// Lets so many hosts come and go, each in a thread of its own, and closes the epoch. How many replies they were given, and how many
-/// replies the mutators have, if each is as expected.
-fn come_and_go<R: Threads + Sync>(
-    rt: &R,
-    alloc: Global,
-    threads: usize,
-) -> Result<(Option<usize>, Option<usize>), AllocError>
-    requires { 0 < threads }
-{
-    let live = begin(alloc, 1_048_576, 10_000)?;
-    let mut hosts = hosts(alloc, &live, threads)?;
-    visit_all(rt, hosts.as_mut_slice(), threads, 200);
-    let given = given_to_all(hosts);
-    Ok((given, close_and_count(live)))
-}
-
 #[test]
-fn two_hosts_come_and_go(rt: HostRuntime) -> Result<(), Fail> {
-    let (given, done) = come_and_go(&rt, rt.alloc(), 2)?;
-    assert!(rt; given.is_some() && given == done);
+fn hosts_come_and_go(rt: HostRuntime) -> Result<(), Fail> {
+    for threads in [2, 8] {
+        let Some((right, wrong, pauses)) = come_and_go(&rt, rt.alloc(), threads)? else {
+            panic!(rt; "there is memory for a small heap")
+        };
+        assert!(rt; right > 0 && wrong == 0 && pauses > 0);
+    }
     Ok(())
 }
 
-#[test]
-fn eight_hosts_come_and_go(rt: HostRuntime) -> Result<(), Fail> {
-    let (given, done) = come_and_go(&rt, rt.alloc(), 8)?;
-    assert!(rt; given.is_some() && given == done);
-    Ok(())
-}
-
-/// Whether passes of a number are out once: one that is out is not at home, and one that was dropped is.
-fn is_out_once(live: &Live) -> Result<bool, AllocError> {
-    let first = leave(live, 3)?;
-    let again = Station::leave(live.shared(), 3)?;
-    let beyond = Station::leave(live.shared(), 8)?;
+/// Whether a pass is out once: one that is out is not at home, and one that was dropped is.
+fn is_out_once(heap: &Heap) -> bool {
+    let Ok(first) = heap.let_out(3) else {
+        return false;
+    };
+    let again = heap.let_out(3).err();
+    let beyond = heap.let_out(10).err();
     drop(first);
-    let home = Station::leave(live.shared(), 3)?;
-    Ok(again.is_none() && beyond.is_none() && home.is_some())
+    again == Some(NotOut::Away) && beyond == Some(NotOut::NoSuch) && heap.let_out(3).is_ok()
 }
 
 #[test]
 fn a_pass_is_out_once(rt: HostRuntime) -> Result<(), Fail> {
-    let live = begin(rt.alloc(), 100, 100)?;
-    assert!(rt; is_out_once(&live)?);
+    let Some(heap) = begin(rt.alloc(), SETTINGS) else {
+        panic!(rt; "there is memory for a small heap")
+    };
+    assert!(rt; is_out_once(&heap));
     Ok(())
 }
 
-/// Why an epoch is not closed, if it isn't.
-fn why(live: Live) -> Option<NotClosed>
-    requires { (b : Beginning) × IsRunning b live }
-{
-    match live.close() {
-        Ok(_) => None,
-        Err(unclosed) => Some(unclosed.why),
+/// Orders an operation of a mutator, and brings its pass home.
+fn ask(heap: &Heap, number: usize, op: Op) -> Option<Answer> {
+    let mut station = heap.let_out(number).ok()?;
+    let answer = station.operate(op);
+    station.come_home();
+    Some(answer)
+}
+
+/// Whether no pause is made while a pass is away or where none is wanted, and nothing is lost meanwhile.
+fn pauses_where_wanted(alloc: Global, heap: &mut Heap) -> Option<bool> {
+    let unwanted = heap.pause();
+    let made = ask(heap, 0, LARGE)?;
+    let asked = ask(heap, 1, Op::Pause)?;
+    let mut away = heap.let_out(2).ok()?;
+    let refused = heap.pause();
+    let held_up = away.operate(NIL);
+    away.come_home();
+    let paused = pause(alloc, heap)?;
+    let mut station = heap.let_out(2).ok()?;
+    let reply = station.go_on();
+    let is_paused = paused == 1
+        && refused == Paused::Away(2)
+        && unwanted == Paused::NotWanted
+        && asked == Answer::Done(Reply::Paused);
+    let is_kept = held_up == Answer::Waits
+        && reply == Some(Reply::Cleared)
+        && made
+            == Answer::Done(Reply::New(Name {
+                thread: 1,
+                serial: 1,
+            }));
+    Some(is_paused && is_kept)
+}
+
+#[test]
+fn a_pause_is_made_where_it_is_wanted(rt: HostRuntime) -> Result<(), Fail> {
+    let Some(mut heap) = begin(rt.alloc(), SETTINGS) else {
+        panic!(rt; "there is memory for a small heap")
+    };
+    assert!(rt; pauses_where_wanted(rt.alloc(), &mut heap) == Some(true));
+    Ok(())
+}
+
+/// Mutator 1 makes an object and stores it, and its pass stays at home while mutator 0 asks for so many pauses. What it finds in the world then, and
+/// the number of the last pause.
+fn sleeps(alloc: Global, heap: &mut Heap, pauses: u32) -> Option<(Answer, u32)> {
+    ask(heap, 1, LARGE)?;
+    ask(
+        heap,
+        1,
+        Op::Store {
+            base: 0,
+            index: 0,
+            source: 1,
+        },
+    )?;
+    let mut last = 0;
+    for _ in 0..pauses {
+        ask(heap, 0, Op::Pause)?;
+        last = pause(alloc, heap)?;
+    }
+    let found = ask(
+        heap,
+        1,
+        Op::Load {
+            dest: 2,
+            base: 0,
+            index: 0,
+        },
+    )?;
+    Some((found, last))
+}
+
+#[test]
+fn a_pass_stays_at_home_for_a_thousand_pauses(rt: HostRuntime) -> Result<(), Fail> {
+    let Some(mut heap) = begin(rt.alloc(), SETTINGS) else {
+        panic!(rt; "there is memory for a small heap")
+    };
+    let name = Name {
+        thread: 2,
+        serial: 1,
+    };
+    let found = Answer::Done(Reply::Loaded(Some(name)));
+    assert!(rt; sleeps(rt.alloc(), &mut heap, 1000) == Some((found, 1000)));
+    Ok(())
+}
+
+/// Orders one operation of a mutator, or goes on with it.
+fn go_on_with(station: &mut Station, op: Op) {
+    if station.is_open() {
+        station.go_on();
+    } else if station.done() == 0 {
+        station.operate(op);
     }
 }
 
-/// Whether an epoch is not closed while a station is out, and is once it came home.
-fn closes_later(live: Live, away: Station) -> bool
-    requires { (b : Beginning) × IsRunning b live }
-{
-    match live.close() {
-        Ok(_) => false,
-        Err(unclosed) => {
-            away.come_home();
-            unclosed.live.close().is_ok()
+/// Lets each pass go on with an operation at once, each in a thread of its own.
+fn go_on_with_all<R: Threads + Sync>(rt: &R, stations: &mut [Station], op: Op) {
+    let threads = stations.len().max(1);
+    thread::for_each_mut(
+        rt,
+        stations,
+        threads,
+        &|_, station: &mut Station| { go_on_with(station, op) },
+    );
+}
+
+/// The passes of the first so many mutators.
+fn let_out_all(alloc: Global, heap: &Heap, count: usize) -> Result<Vec<Station>, AllocError> {
+    let mut stations = Vec::new(alloc);
+    for number in 0..count {
+        let Ok(station) = heap.let_out(number) else {
+            return Err(AllocError);
+        };
+        stations.push(station)?;
+    }
+    Ok(stations)
+}
+
+/// How many of the passes have made an object, and how many were told that the heap is full; none before all have a reply.
+fn count_replies(stations: &[Station]) -> Option<(usize, usize)> {
+    let mut counts = (0_usize, 0_usize);
+    for station in stations {
+        match station.newest()? {
+            Reply::New(_) => counts.0 = counts.0.saturating_add(1),
+            Reply::Full => counts.1 = counts.1.saturating_add(1),
+            _ => {}
         }
     }
+    Some(counts)
 }
 
-#[test]
-fn closing_says_which_pass_is_away(rt: HostRuntime) -> Result<(), Fail> {
-    let live = begin(rt.alloc(), 100, 100)?;
-    let _away = leave(&live, 3)?;
-    assert_eq!(rt; why(live), Some(NotClosed::Away(3)));
-    Ok(())
-}
-
-#[test]
-fn closing_says_that_there_is_a_share(rt: HostRuntime) -> Result<(), Fail> {
-    let live = begin(rt.alloc(), 100, 100)?;
-    let _share = Arc::try_clone(live.shared())?;
-    assert_eq!(rt; why(live), Some(NotClosed::Shared));
-    Ok(())
-}
-
-#[test]
-fn an_epoch_that_is_not_closed_goes_on(rt: HostRuntime) -> Result<(), Fail> {
-    let live = begin(rt.alloc(), 100, 100)?;
-    let away = leave(&live, 3)?;
-    assert!(rt; closes_later(live, away));
-    Ok(())
-}
-
-const NIL: Op = Op::Nil { dest: 1 };
-
-/// The station of a mutator, or a test that fails.
-fn leave(live: &Live, number: usize) -> Result<Station, AllocError> {
-    match Station::leave(live.shared(), number)? {
-        Some(station) => Ok(station),
-        None => Err(AllocError),
+/// Lets 16 threads do one operation each, with as many pauses as that takes, at most 64. How many have made an object and how many were told that the
+/// heap is full, and how many pauses were made.
+fn all_do<R: Threads + Sync>(
+    rt: &R,
+    alloc: Global,
+    heap: &mut Heap,
+    op: Op,
+) -> Result<Option<((usize, usize), u32)>, AllocError> {
+    let mut pauses = 0;
+    for _ in 0..64 {
+        let mut stations = let_out_all(alloc, heap, 16)?;
+        go_on_with_all(rt, stations.as_mut_slice(), op);
+        if let Some(counts) = count_replies(&stations) {
+            return Ok(Some((counts, pauses)));
+        }
+        drop(stations);
+        let Some(number) = pause(alloc, heap) else {
+            return Ok(None);
+        };
+        pauses = number;
     }
+    Ok(None)
 }
 
+/// All 16 threads ask for an object of half the heap at once. One of them gets it and holds it, and all others are told `full`, each behind a pause
+/// that collects for it.
 #[test]
-fn what_is_no_operation_is_refused(rt: HostRuntime) -> Result<(), Fail> {
-    let live = begin(rt.alloc(), 2, 100)?;
-    let mut one = leave(&live, 0)?;
-    assert_eq!(rt; one.operate(Op::End), Answer::Refused);
-    assert_eq!(rt; one.operate(Op::Nil { dest: 16 }), Answer::Refused);
-    assert_eq!(rt; one.operate(NIL), Answer::Done(Reply::Cleared));
-    assert!(rt; one.go_on().is_none());
-    Ok(())
-}
-
-#[test]
-fn a_pause_is_waited_for(rt: HostRuntime) -> Result<(), Fail> {
-    let live = begin(rt.alloc(), 100, 100)?;
-    let mut one = leave(&live, 0)?;
-    let mut other = leave(&live, 1)?;
-    assert_eq!(rt; one.operate(Op::Pause), Answer::Done(Reply::Paused));
-    assert_eq!(rt; other.operate(NIL), Answer::Waits);
-    assert!(rt; other.is_open() && other.go_on().is_none());
-    assert_eq!(rt; other.operate(NIL), Answer::Pause);
+fn all_threads_are_told_full(rt: HostRuntime) -> Result<(), Fail> {
+    let settings = Settings {
+        blocks: 1,
+        mutators: 16,
+        ..SETTINGS
+    };
+    let Some(mut heap) = begin(rt.alloc(), settings) else {
+        panic!(rt; "there is memory for a small heap")
+    };
+    let Some((counts, pauses)) = all_do(&rt, rt.alloc(), &mut heap, LARGE)? else {
+        panic!(rt; "each operation has a reply at last")
+    };
+    assert_eq!(rt; counts, (1, 15));
+    assert!(rt; pauses > 15);
     Ok(())
 }
 
@@ -254,11 +308,67 @@ fn once(mut station: Station) -> Answer {
 
 #[test]
 fn stations_go_to_other_threads(rt: HostRuntime) -> Result<(), Fail> {
-    let live = begin(rt.alloc(), 1, 100)?;
-    let one = leave(&live, 0)?;
-    let other = leave(&live, 1)?;
+    let Some(mut heap) = begin(rt.alloc(), SETTINGS) else {
+        panic!(rt; "there is memory for a small heap")
+    };
+    let (Ok(one), Ok(other)) = (heap.let_out(0), heap.let_out(1)) else {
+        panic!(rt; "both passes are at home")
+    };
     let (first, second) = thread::join(&rt, move || once(one), move || once(other));
     assert!(rt; first == Answer::Done(Reply::Cleared) && second == first);
-    assert_eq!(rt; why(live), None);
+    assert_eq!(rt; heap.pause(), Paused::NotWanted);
+    Ok(())
+}
+
+#[test]
+fn what_is_no_operation_is_refused(rt: HostRuntime) -> Result<(), Fail> {
+    let Some(heap) = begin(rt.alloc(), SETTINGS) else {
+        panic!(rt; "there is memory for a small heap")
+    };
+    assert!(rt; ask(&heap, 0, Op::End) == Some(Answer::Refused));
+    assert!(rt; ask(&heap, 0, Op::Nil { dest: 16 }) == Some(Answer::Refused));
+    assert!(rt; ask(&heap, 8, NIL) == Some(Answer::Refused));
+    assert!(rt; ask(&heap, 0, NIL) == Some(Answer::Done(Reply::Cleared)));
+    Ok(())
+}
+
+/// All mutators end, helpers having worked before. How the last pause is made, and what comes then.
+fn end_all(alloc: Global, heap: &mut Heap) -> Option<(Paused, Resumed, Paused)> {
+    for number in 8..10 {
+        heap.let_out(number).ok()?.help(100);
+    }
+    for number in 0..8 {
+        let mut station = heap.let_out(number).ok()?;
+        if !station.end() || station.operate(NIL) != Answer::Ended {
+            return None;
+        }
+    }
+    Some((heap.pause(), heap.resume(alloc), heap.pause()))
+}
+
+#[test]
+fn a_heap_ends(rt: HostRuntime) -> Result<(), Fail> {
+    let Some(mut heap) = begin(rt.alloc(), SETTINGS) else {
+        panic!(rt; "there is memory for a small heap")
+    };
+    let ended = end_all(rt.alloc(), &mut heap);
+    assert!(rt; ended == Some((Paused::Made, Resumed::Ended, Paused::Ended)));
+    assert!(rt; heap.pauses() == Some(1) && heap.let_out(0).err() == Some(NotOut::NotRunning));
+    Ok(())
+}
+
+#[test]
+fn settings_have_ranges(rt: HostRuntime) -> Result<(), Fail> {
+    for mutators in [0, 17] {
+        let settings = Settings {
+            mutators,
+            ..SETTINGS
+        };
+        assert!(rt; Heap::open(rt.alloc(), settings).err() == Some(Refused::Settings));
+    }
+    for blocks in [0, 1025] {
+        let settings = Settings { blocks, ..SETTINGS };
+        assert!(rt; Heap::open(rt.alloc(), settings).err() == Some(Refused::Settings));
+    }
     Ok(())
 }

@@ -1,5 +1,5 @@
 use Rattle.std.proofs.Common.{arith, ap, sym, ◌∙◌}
-use Rattle.lxr_large_model.specs.Renewing.{serial_in}
+use Rattle.lxr_graph.specs.Renewing.{serial_in}
 use Rattle.lxr_large_model.proofs.SerialLemmas.{counted_below, counts_few, first_is_world}
 use Rattle.lxr_large_model.proofs.renewing.renewed.Goals as goal
 

@@ -1,13 +1,15 @@
 use Rattle.std.proofs.Common.{◌≡◌, ◌∙◌, All, ap, length, map, subst, sym}
 use Rattle.std.proofs.lemmas.List.{with_items_is}
 use Rattle.lxr_core.specs.declared.actors.AnyActor.{AnyActor}
-use Rattle.lxr_core.specs.Actors.{any_machine}
-use Rattle.lxr_core.specs.Closing.{Closes, MayClose}
+use Rattle.lxr_core.specs.Actors.{any_machine, mutators_in}
+use Rattle.lxr_core.specs.Closing.{Closes, IsPauseExplained, IsPauseWanted, MayClose}
 use Rattle.lxr_core.specs.Executions.{tell_all}
 use Rattle.lxr_shared.specs.Sharing.{Sharing, sharing}
 use Rattle.lxr_shared_passes.specs.Passing.{IsEnd, Passing, dealt}
 use Rattle.lxr_live.specs.Stations.{table_of}
 use Rattle.lxr_live.proofs.EpochLemmas.{closed_many, may_close}
+use Rattle.lxr_live.specs.Wanting.{IsPauseWanted as WantedBy}
+use Rattle.lxr_live.proofs.WantingLemmas.{wanted_is}
 use Rattle.lxr_live.proofs.HomeLemmas.{all_of_epoch, same_numbers}
 use Rattle.lxr_live.proofs.live.finish.Goals as goal
 
@@ -53,5 +55,9 @@ returns c = λ b running.
       running = running;
       schedule = end.0;
       middle = space;
+      words = may.space_is;
+      due = subst (λ actors. IsPauseExplained b execution actors) (sym same) (c.close_epoch.ensures.due b execution (subst (MayClose b execution space) (sym c.deref_mut.ensures.value) may)
+          (subst (λ actors. IsPauseWanted space (mutators_in actors)) (sym c.deref_mut.ensures.value) (wanted_is b execution space actors may
+          (subst (λ actors. WantedBy actors) (sym c.close_shared-space.ensures.actors) c.requires.all.wanted))));
       closes = subst (λ actors. Closes b execution space c.close_epoch.new.space actors) (sym same) closes;
     }

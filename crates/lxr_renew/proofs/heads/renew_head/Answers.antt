@@ -1,12 +1,12 @@
-use Rattle.std.proofs.Common.{◌≡◌, ◌∙◌, ℕ, ◌+◌, ◌*◌, ap, sym, subst, arith, List}
+use Rattle.std.proofs.Common.{◌≡◌, ◌∙◌, ◌*◌, ap, sym, subst, arith}
 use Rattle.lxr_layout.specs.declared.Place.{Place}
 use Rattle.lxr_layout.specs.declared.Header.TheVariants as header
 use Rattle.lxr_layout.specs.Objects.{header_of, header_word}
 use Rattle.lxr_image.specs.ImageLaws.{with_heap}
 use Rattle.lxr_image.specs.Spaces.{Turns, tables_of}
 use Rattle.lxr_image.proofs.ReadLemmas.{header_unpacked}
-use Rattle.lxr_large_model.specs.Renewing.{AreCounted, renewed_name}
-use Rattle.lxr_renew.specs.Heads.{IsHead}
+use Rattle.lxr_graph.specs.Renewing.{renewed_name}
+use Rattle.lxr_large_model.specs.Renewing.{AreCounted}
 use Rattle.lxr_renew.proofs.heads.renew_head.Goals as goal
 
 pub returns-in-Object : goal.returns-in-Object

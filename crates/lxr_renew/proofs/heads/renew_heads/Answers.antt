@@ -2,8 +2,8 @@ use Rattle.std.proofs.Common.{◌+◌, ◌*◌, ◌≤◌, arith, subst}
 use Rattle.lxr_layout.specs.declared.TheConstants.{GRANULES_IN_BLOCK}
 use Rattle.lxr_image.specs.Spaces.{tables_of}
 use Rattle.lxr_image_search.specs.declared.Wanted.TheVariants.{Object}
-use Rattle.lxr_image_search.specs.Search.{IsNextWanted, NoneWanted}
-use Rattle.lxr_renew.proofs.HeadLemmas.{all_heads, begins_used, first_heads, found, heads_limits, heads_space, is_head, next_heads}
+use Rattle.lxr_image_search.specs.Search.{NoneWanted}
+use Rattle.lxr_renew.proofs.HeadLemmas.{all_heads, begins_used, first_heads, heads_limits, heads_space, is_head, next_heads}
 use Rattle.lxr_renew.proofs.heads.renew_heads.Goals as goal
 
 pub loop-granule-init : goal.loop-granule-init

@@ -1,4 +1,4 @@
-use Rattle.std.proofs.Common.{ℕ, ◌-◌, ◌*◌, ◌≤◌, List}
+use Rattle.std.proofs.Common.{◌-◌, ◌*◌, ◌≤◌, List}
 use Rattle.lxr_layout.specs.declared.TheConstants.{GRANULES_IN_BLOCK}
 use Rattle.lxr_layout.specs.declared.Name.{Name}
 use Rattle.lxr_invariant.specs.AbstractState.{AbstractState}

@@ -1,5 +1,5 @@
 -- The outcome of the loop is the run's, and so is that of playing.
-use Rattle.std.proofs.Common.{ap, map, refl, subst, List, ℕ, Bor, Err}
+use Rattle.std.proofs.Common.{ap, false, map, refl, subst, List, ℕ, Bor, Err}
 use Rattle.lxr_text_script.specs.Reading.{lists_in}
 use Rattle.lxr_large_run.specs.Played.{IsCutOff, IsPlayed}
 use Rattle.lxr_words.specs.Options.{script_commands}
@@ -13,7 +13,7 @@ use Rattle.lxr_run.proofs.attempt.attempt.Goals as goal
 
 pub run_and_print-requires-clause-opened : goal.run_and_print-requires-clause-opened
 run_and_print-requires-clause-opened g c = λ lifetimes bounds. (
-  record { options = c.in_ok-options.options; script = lists_in c.in-Threads.lists; written = g.O.Sink.written c.args.output.now; seen = g.W.Watch.seen c.args.watch.now },
+  record { options = c.in_ok-options.options; renews = false; script = lists_in c.in-Threads.lists; written = g.O.Sink.written c.args.output.now; seen = g.W.Watch.seen c.args.watch.now },
   refl,
   c.in_ok-actors-in-Threads.ensures.opened (g.O.Sink.written c.args.output.now) (g.W.Watch.seen c.args.watch.now),
 )

@@ -1,25 +1,10 @@
-use Rattle.std.proofs.Common.{◌≡◌, arith, refl, subst}
+use Rattle.std.proofs.Common.{arith}
 use Rattle.lxr_text_script.specs.Reading.{lists_in}
-use Rattle.lxr_run_loop.specs.Made.{AreMade}
-use Rattle.lxr_run_loop.proofs.OpeningLemmas.{tracer_pushed}
+use Rattle.lxr_run_loop.proofs.OpeningLemmas.{all_made}
 use Rattle.lxr_run_loop.proofs.opening.make_actors.Goals as goal
 
-pub loop-init : goal.loop-init
-loop-init c = record { made = c.in_ok-actors.ensures.made; room = let room = c.in_ok-actors.ensures.room in omega arith }
-
-pub push_reserved-requires : goal.push_reserved-requires
-push_reserved-requires c = let room = c.loop.invariant.room in let more = c.loop-test.true in omega arith
-
-pub loop-preserved : goal.loop-preserved
-loop-preserved c = record {
-  made = tracer_pushed c.args.limits c.args.every c.args.workers c.loop.counter _ (lists_in c.args.script) c.loop.actors.items c.push_reserved.new.self.items c.in_ok-tracer.tracer c.loop.invariant.made c.in_ok-tracer.ensures refl
-      c.push_reserved.ensures.items;
-  room = let room = c.loop.invariant.room in let len = c.push_reserved.ensures.len in let capacity = c.push_reserved.ensures.capacity in omega arith;
-}
+pub add_helpers-requires-clause-room : goal.add_helpers-requires-clause-room
+add_helpers-requires-clause-room c = let room = c.in_ok-actors.ensures.room in let is = c.from.ensures in omega arith
 
 pub returns : goal.returns
-returns c =
-    let ends = c.loop-test.false in
-    let most = c.loop.auto.counter-end in
-    let all : c.loop.counter ≡ c.args.workers = omega arith in
-    subst (λ n. AreMade c.args.limits c.args.every c.args.workers n (lists_in c.args.script) c.loop.actors.items) all c.loop.invariant.made
+returns c = all_made c.args.limits c.args.every c.args.workers (lists_in c.args.script) c.in_ok-actors.actors.items c.add_helpers.new.actors.items c.in_ok-actors.ensures.made c.in_ok-add_helpers.ensures

@@ -14,7 +14,8 @@ pub new-requires-clause-few : goal.new-requires-clause-few
 new-requires-clause-few c =
     let before = c.loop-operations.invariant.taken in
     let split = before.1 ∙ ap (λ xs. before.0 ++ xs) c.in-Some.ensures.steps.0 in
-    (thread_of c.args.script.items before.0 (into_iter_items c.next.new.self) c.in-Some.operations split c.requires.script).count
+    let few = (thread_of c.args.script.items before.0 (into_iter_items c.next.new.self) c.in-Some.operations split c.requires.script).count in
+    omega (arith, few)
 
 pub loop-operations-preserved : goal.loop-operations-preserved
 loop-operations-preserved c =

@@ -7,7 +7,7 @@ use Rattle.lxr_core.specs.Opening.{Begins, MayOpen, Opens}
 use Rattle.lxr_core.proofs.OpenedLemmas.{may_open}
 use Rattle.lxr_shared.specs.Ends.{HaveEnds}
 use Rattle.lxr_shared.proofs.Openings.{opened_have_ends}
-use Rattle.lxr_live.proofs.EpochLemmas.{fits_always, is_running, started_many, started_rest}
+use Rattle.lxr_live.proofs.EpochLemmas.{began_with, fits_always, is_running, started_many, started_rest}
 use Rattle.lxr_live.proofs.live.Live.open.Goals as goal
 
 pub open_epoch-requires : goal.open_epoch-requires
@@ -38,11 +38,19 @@ share-requires-clause-fits c =
     let holds = c.open_epoch.ensures.execution b (subst (Begins b c.args.space) (sym c.deref_mut.ensures.value) begins) in
     subst (λ actors. AlwaysFits any_machine (core_of c.open_epoch.new.space.words actors)) (sym whole) (fits_always b c.open_epoch.new.space c.open_epoch.new.actors holds)
 
-pub returns : goal.returns
-returns c = λ b begins.
+pub returns-clause-runs : goal.returns-clause-runs
+returns-clause-runs c = λ b begins.
     let opens = subst (λ actors. Opens c.args.space c.open_epoch.new.space actors c.open_epoch.new.actors) c.deref_mut.ensures.value c.open_epoch.ensures.opens in
     let many = started_many c.args.space c.open_epoch.new.space c.args.actors.items c.open_epoch.new.actors opens in
     let whole = with_items_is c.args.actors c.open_epoch.new.actors (many ∙ ap length (sym c.deref_mut.ensures.value) ∙ c.deref_mut.ensures.len) in
     let holds = c.open_epoch.ensures.execution b (subst (Begins b c.args.space) (sym c.deref_mut.ensures.value) begins) in
     is_running b c.args.space c.open_epoch.new.space c.args.actors.items c.open_epoch.new.actors c.in_ok-live.live begins opens holds
     (c.in_ok-live.ensures.0 ∙ ap (λ actors. core_of c.open_epoch.new.space.words actors) whole) c.in_ok-live.ensures.1
+
+pub returns-clause-actors : goal.returns-clause-actors
+returns-clause-actors c =
+    let opens = subst (λ actors. Opens c.args.space c.open_epoch.new.space actors c.open_epoch.new.actors) c.deref_mut.ensures.value c.open_epoch.ensures.opens in
+    let many = started_many c.args.space c.open_epoch.new.space c.args.actors.items c.open_epoch.new.actors opens in
+    let whole = with_items_is c.args.actors c.open_epoch.new.actors (many ∙ ap length (sym c.deref_mut.ensures.value) ∙ c.deref_mut.ensures.len) in
+    began_with c.args.space c.open_epoch.new.space c.args.actors.items c.open_epoch.new.actors c.in_ok-live.live opens
+    (c.in_ok-live.ensures.0 ∙ ap (λ actors. core_of c.open_epoch.new.space.words actors) whole)

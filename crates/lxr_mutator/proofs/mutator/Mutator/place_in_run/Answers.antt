@@ -32,8 +32,6 @@ invariant_of-self c =
           (placed_is_mutator m c.shape-shape.result span c.self.invariant.sound busy has (run_in_heap c.args.run (run_in_block c.args.run c.requires.run)));
       tally = c.self.invariant.tally;
       words = c.words_of-self-inside.ensures ∙ ap word_count c.shape-shape.ensures.shape ∙ ap (λ x. word_count (shape_now x)) (sym c.self.view_is);
-      for_operations = c.self.invariant.for_operations;
-      for_replies = c.self.invariant.for_replies;
     }
 
 pub returns : goal.returns

@@ -1,0 +1,126 @@
+/* pauses_lxr.c: the pauses of a heap of lxr_threads.h on the work of work.h. SPDX: MIT OR Apache-2.0
+ *
+ * usage: pauses_lxr MEGABYTES acyclic|cyclic ROUNDS EVERY
+ *
+ * EVERY is how many operations a thread makes between two pauses. All are home once the last thread has come for a pause; the
+ * pause itself goes on until all can go on. A trace begins when dead cycles have taken about half of what is free, and has half
+ * of the time to the next. */
+#include <lxr_threads.h>
+#include <pthread.h>
+#include <stdatomic.h>
+
+#include "work.h"
+
+enum { WORLD, TOP, TABLE, MADE, OTHER };
+
+static struct work work;
+static struct times home, pause;
+static lxr_threads *threads;
+static pthread_barrier_t barrier;
+static atomic_int is_timed;
+
+static void must(uint32_t code) {
+    if (code == LXR_OK) return;
+    fprintf(stderr, "pauses_lxr: %s\n", lxr_message(code));
+    exit(1);
+}
+
+static void on_pause(void *with, const lxr_pause_times *times) {
+    (void)with;
+    if (!atomic_load(&is_timed)) return;
+    keep_time(&home, times->gathering);
+    keep_time(&pause, times->pausing);
+}
+
+/* Register MADE holds what takes a place of a table. */
+static void make_place(lxr_thread *thread, uint64_t word) {
+    must(lxr_thread_new(thread, MADE, 2, 2));
+    must(lxr_thread_put(thread, MADE, 0, word));
+    if (!work.is_cyclic) return;
+    must(lxr_thread_new(thread, OTHER, 2, 2));
+    must(lxr_thread_store(thread, MADE, 0, OTHER));
+    must(lxr_thread_store(thread, OTHER, 0, MADE));
+}
+
+static void fill(lxr_thread *thread, uint32_t number) {
+    must(lxr_thread_new(thread, TOP, work.tables, 0));
+    must(lxr_thread_store(thread, WORLD, number, TOP));
+    for (uint32_t table = 0; table < work.tables; table++) {
+        must(lxr_thread_new(thread, TABLE, IN_TABLE, 0));
+        must(lxr_thread_store(thread, TOP, table, TABLE));
+        for (uint32_t at = 0; at < IN_TABLE; at++) {
+            make_place(thread, at);
+            must(lxr_thread_store(thread, TABLE, at, MADE));
+        }
+    }
+}
+
+static void replace(lxr_thread *thread, uint32_t number) {
+    uint64_t state = number + 1;
+    for (uint32_t round = 0; round < work.rounds; round++) {
+        for (int dropped = 0; dropped < DROPPED; dropped++) {
+            must(lxr_thread_new(thread, MADE, 2, 2));
+            must(lxr_thread_put(thread, MADE, 0, round));
+        }
+        uint32_t drawn = draw_from(&state, work.tables * IN_TABLE);
+        must(lxr_thread_load(thread, TABLE, TOP, drawn / IN_TABLE));
+        make_place(thread, round);
+        must(lxr_thread_store(thread, TABLE, drawn % IN_TABLE, MADE));
+    }
+}
+
+/* All threads, and the one that takes the time, wait here for each other. */
+static void meet(lxr_thread *thread) {
+    must(lxr_thread_rest(thread));
+    pthread_barrier_wait(&barrier);
+    must(lxr_thread_wake(thread));
+}
+
+static void *run(void *given) {
+    uint32_t number = (uint32_t)(uintptr_t)given;
+    lxr_thread *thread = NULL;
+    must(lxr_thread_enter(threads, &thread));
+    fill(thread, number);
+    meet(thread);
+    replace(thread, number);
+    meet(thread);
+    must(lxr_thread_leave(&thread));
+    return NULL;
+}
+
+/* Pauses from one trace to the next: a round of 13 operations leaves a dead cycle of two objects, and these may take half of the
+ * megabytes. */
+static uint32_t pauses_between_traces(uint32_t every) {
+    uint32_t left = every * THREADS / 13 * 2 * OBJECT_BYTES;
+    uint32_t pauses = work.megabytes * 500000u / (left ? left : 1);
+    return pauses < 2 ? 2 : pauses;
+}
+
+int main(int count, char **words) {
+    pthread_t started[THREADS];
+    char name[40];
+    if (count != 5) return 2;
+    work = work_of(4, words);
+    lxr_threads_settings settings = LXR_THREADS_SETTINGS(work.megabytes * 2000000u / 32768u, THREADS);
+    settings.helpers = HELPERS;
+    settings.log = 8192;
+    settings.every = (uint32_t)strtoul(words[4], NULL, 10);
+    settings.trace = pauses_between_traces(settings.every);
+    settings.within = settings.trace / 2;
+    settings.paused = on_pause;
+    must(lxr_threads_open(&threads, &settings));
+    pthread_barrier_init(&barrier, NULL, THREADS + 1);
+    for (uintptr_t at = 0; at < THREADS; at++) pthread_create(&started[at], NULL, run, (void *)at);
+    pthread_barrier_wait(&barrier);
+    atomic_store(&is_timed, 1);
+    uint64_t begun = clock_now();
+    pthread_barrier_wait(&barrier);
+    uint64_t taken = clock_now() - begun;
+    atomic_store(&is_timed, 0);
+    for (uint32_t at = 0; at < THREADS; at++) pthread_join(started[at], NULL);
+    pthread_barrier_destroy(&barrier);
+    must(lxr_threads_close(&threads));
+    snprintf(name, sizeof name, "this collector, every %u", settings.every);
+    print_row(name, work, &home, &pause, taken);
+    return 0;
+}

@@ -1,0 +1,12 @@
+use Rattle.std.proofs.Common.{subst}
+use Rattle.lxr_c.specs.declared.codes.Code.TheVariants as code
+use Rattle.lxr_c.specs.Holding.{At}
+use Rattle.lxr_c.specs.Passing.{Operates, only}
+use Rattle.lxr_c.proofs.passes.lxr_station_swap.Goals as goal
+
+pub returns : goal.returns
+returns c = (
+  c.operate.result,
+  subst (λ q. At (only code.NoHeap) (Operates q) c.args.station.now.held.value c.operate.new.self.held.value c.operate.result) (c.swap-request.ensures) c.operate.ensures,
+  c.number.ensures,
+)

@@ -1,0 +1,40 @@
+-- What a thread is asked for, and what it has replied.
+use Rattle.std.specs.Prelude.{ℕ, ◌+◌, ◌-◌, Bool, ◌&&◌, nat_lt, Option, List, [], ◌∷◌, ◌++◌, drop, length, slice_get, slice_index_or}
+use Rattle.lxr_base.specs.Roomy.{Roomy, emptied, pushed}
+use Rattle.lxr_graph.specs.declared.Op.{Op}
+use Rattle.lxr_graph.specs.declared.Op.TheVariants as op
+use Rattle.lxr_graph.specs.declared.Reply.{Reply}
+use Rattle.lxr_alloc.specs.declared.TheConstants.{MOST_OPERATIONS}
+
+-- its operations and its replies, in order
+pub record Dialogue : Type 0 where
+  pub operations : List Op
+  pub replies : Roomy Reply
+
+-- as it begins: these operations, and room for the replies to so many and to the thread's end
+abbrev pub first_dialogue : List Op → ℕ → Dialogue
+first_dialogue operations most = record { operations = operations; replies = record { items = []; room = most + 1 } }
+
+-- the operation whose turn it is: the first without a reply, and the thread's end once all have one
+abbrev pub op_at_hand : Dialogue → Op
+op_at_hand d = slice_index_or d.operations (length d.replies.items) op.End
+
+-- the newest reply, if there is one
+abbrev pub newest : Dialogue → Option Reply
+newest d = slice_get d.replies.items (length d.replies.items - 1)
+
+-- there is room for one more operation with its reply, beside that of the thread's end, and a thread has at most 67,108,864
+abbrev pub has_more_room : Dialogue → Bool
+has_more_room d = nat_lt (length d.operations + 1) d.replies.room && nat_lt (length d.operations) MOST_OPERATIONS
+
+-- begun anew: the operations that have no reply, and no replies
+abbrev pub begun_anew : Dialogue → Dialogue
+begun_anew d = record { operations = drop (length d.replies.items) d.operations; replies = emptied d.replies }
+
+-- one more operation
+abbrev pub with_op : Dialogue → Op → Dialogue
+with_op d o = record d { operations = d.operations ++ o ∷ [] }
+
+-- one more reply
+abbrev pub with_reply : Dialogue → Reply → Dialogue
+with_reply d r = record d { replies = pushed d.replies r }

@@ -1,0 +1,239 @@
+//! What a thread is asked for, and what it has replied.
+//!
+//! A thread of a script keeps all its operations and replies, which are printed at the end. A live one keeps the operation at hand, its
+//! newest reply and how many there were; the lists are there for proofs alone.
+ghost use Rattle.std.specs.Prelude.{◌≡◌, ◌+◌, ◌<◌, ◌≤◌, [], ◌∷◌, ◌++◌, drop, IfOk, IfSome, IsTrue, length, slice_index_or};
+ghost use Rattle.lxr_base.specs.Roomy.{pushed};
+ghost use Rattle.lxr_alloc.specs.declared.TheConstants.{MOST_OPERATIONS};
+ghost use Rattle.lxr_mutator.specs.Keeping.{kept_with, next_kept};
+ghost use Rattle.lxr_mutator.specs.Dialogues.{begun_anew, first_dialogue, has_more_room, newest, op_at_hand, with_op, with_reply};
+
+use crate::chronicle::Chronicle;
+use lxr_alloc::MOST_OPERATIONS;
+use lxr_base::Listed;
+use lxr_graph::{Op, Operations, Replies, Reply};
+use std::alloc::{AllocError, Global};
+use std::marker::Model;
+
+/// The operations of a thread and its replies, in order.
+#[derive(Drop)]
+pub struct Agenda {
+    orders: Chronicle<Op>,
+    answers: Chronicle<Reply>,
+    /// How many operations there are.
+    ordered: u32,
+    /// How many replies there are, that of the thread's end among them.
+    answered: u32,
+    /// For how many operations, with their replies, there is room.
+    most: u32,
+    /// The operation whose turn it is, or the thread's end.
+    at_hand: Op,
+    newest: Option<Reply>,
+    kept: Option<Kept>,
+}
+
+/// The lists of a thread of a script.
+#[derive(Drop)]
+struct Kept {
+    operations: Operations,
+    replies: Replies,
+}
+
+impl Model for Agenda {
+    ghost use Rattle.lxr_mutator.specs.Dialogues.{Dialogue};
+
+    ghost Value = { Dialogue };
+
+    ghost use Rattle.lxr_mutator.specs.Agendas.{dialogue, IsAgenda};
+
+    ghost view = { dialogue };
+
+    ghost invariant = { IsAgenda };
+}
+
+impl Agenda {
+    /// The agenda of a thread of a script, with all its operations. It takes the memory for all replies, and has no room for orders.
+    pub fn of_script(alloc: Global, operations: Operations) -> Result<Agenda, AllocError>
+        requires { length operations.items ≤ MOST_OPERATIONS }
+        ensures { IfOk result (λ a. a ≡ first_dialogue operations.items (length operations.items)) }
+    {
+        let replies = Listed::with_room(alloc, operations.len() + 1)?;
+        let count = operations.len() as u32;
+        Ok(Agenda {
+            orders: Chronicle::of(&operations),
+            answers: Chronicle::of(&replies),
+            ordered: count,
+            answered: 0,
+            most: count,
+            at_hand: operation_at(&operations, 0),
+            newest: None,
+            kept: Some(Kept {
+                operations,
+                replies,
+            }),
+        })
+    }
+
+    /// The agenda of a thread that is yet to be ordered its operations, at most 67,108,864. It takes no memory, and always has room.
+    pub fn live() -> Agenda
+        ensures { result ≡ first_dialogue [] (MOST_OPERATIONS + 1) }
+    {
+        Agenda {
+            orders: Chronicle::new(),
+            answers: Chronicle::new(),
+            ordered: 0,
+            answered: 0,
+            most: MOST_OPERATIONS + 1,
+            at_hand: Op::End,
+            newest: None,
+            kept: None,
+        }
+    }
+
+    /// How many operations there are.
+    #[inline(always)]
+    pub fn ordered(&self) -> u32
+        ensures { result ≡ length self.now.operations }
+    {
+        self.ordered
+    }
+
+    /// How many replies there are.
+    #[inline(always)]
+    pub fn answered(&self) -> u32
+        ensures { result ≡ length self.now.replies.items }
+    {
+        self.answered
+    }
+
+    /// The operation whose turn it is: the first without a reply, and the thread's end once all have one.
+    #[inline(always)]
+    pub fn op(&self) -> Op
+        ensures { result ≡ op_at_hand self.now }
+    {
+        self.at_hand
+    }
+
+    /// The newest reply; none before the first.
+    #[inline(always)]
+    pub fn newest(&self) -> Option<Reply>
+        ensures { result ≡ newest self.now }
+    {
+        self.newest
+    }
+
+    /// Whether there is room for one more operation with its reply.
+    #[inline(always)]
+    pub fn has_room(&self) -> bool
+        ensures { result ≡ has_more_room self.now }
+    {
+        self.ordered < self.most && self.ordered < MOST_OPERATIONS
+    }
+
+    /// Puts an operation behind those that there are, all of which have their reply.
+    #[inline(always)]
+    pub fn order(&mut self, op: Op)
+        requires idle { length self.old.replies.items ≡ length self.old.operations }
+        requires room { IsTrue (has_more_room self.old) }
+        ensures { self.new ≡ with_op self.old op }
+    {
+        self.orders = self.orders.and(&op);
+        self.ordered += 1;
+        self.at_hand = op;
+    }
+
+    /// Puts a reply behind those that there are.
+    #[inline(always)]
+    pub fn answer(&mut self, reply: Reply)
+        requires { length self.old.replies.items < self.old.replies.room }
+        ensures { self.new ≡ with_reply self.old reply }
+    {
+        self.answers = self.answers.and(&reply);
+        self.answered += 1;
+        self.newest = Some(reply);
+        self.at_hand = keep_reply(&mut self.kept, reply);
+    }
+
+    /// Begins anew: the operation that is open, if one is, is the only one, and there are no replies. The thread is a live one.
+    pub fn renew(&mut self)
+        requires { length self.old.operations + 1 < self.old.replies.room }
+        ensures { self.new ≡ begun_anew self.old }
+    {
+        self.orders = self.open_orders();
+        self.ordered = self.ordered.saturating_sub(self.answered);
+        self.answers = Chronicle::new();
+        self.answered = 0;
+        self.newest = None;
+    }
+
+    /// The operation that is open, if one is, of a live thread.
+    fn open_orders(&self) -> Chronicle<Op>
+        requires { length self.now.operations + 1 < self.now.replies.room }
+        ensures { result.items ≡ drop (length self.now.replies.items) self.now.operations }
+    {
+        if self.answered < self.ordered {
+            Chronicle::new().and(&self.at_hand)
+        } else {
+            Chronicle::new()
+        }
+    }
+
+    /// All operations of a thread of a script.
+    pub fn operations(&self) -> &Operations
+        requires { self.now.replies.room ≤ length self.now.operations + 1 }
+        ensures { result.now.items ≡ self.now.operations }
+    {
+        let Some(kept) = &self.kept else {
+            unreachable!();
+        };
+        &kept.operations
+    }
+
+    /// All replies of a thread of a script.
+    pub fn replies(&self) -> &Replies
+        requires { self.now.replies.room ≤ length self.now.operations + 1 }
+        ensures { result.now ≡ self.now.replies }
+    {
+        let Some(kept) = &self.kept else {
+            unreachable!();
+        };
+        &kept.replies
+    }
+}
+
+impl Kept {
+    /// Puts a reply behind those that there are, and tells the operation whose turn it is then.
+    #[inline(always)]
+    fn answer(&mut self, reply: Reply) -> Op
+        requires { length self.old.replies.items < self.old.replies.room }
+        ensures kept { self.new ≡ record self.old { replies = pushed self.old.replies reply } }
+        ensures next { result ≡ slice_index_or self.old.operations.items (length self.old.replies.items + 1) Op.End }
+    {
+        self.replies.push(reply);
+        operation_at(&self.operations, self.replies.len())
+    }
+}
+
+/// Puts a reply into the lists that are kept, and tells the operation whose turn it is then; where none are kept, the thread's end.
+#[inline(always)]
+fn keep_reply(kept: &mut Option<Kept>, reply: Reply) -> Op
+    requires { IfSome kept.old (λ k. length k.replies.items < k.replies.room) }
+    ensures kept { kept.new ≡ kept_with kept.old reply }
+    ensures next { result ≡ next_kept kept.old }
+{
+    match kept {
+        Some(kept) => kept.answer(reply),
+        None => Op::End,
+    }
+}
+
+/// The operation of a number, or the thread's end behind the last.
+#[inline(always)]
+fn operation_at(operations: &Operations, number: usize) -> Op
+    ensures { result ≡ slice_index_or operations.now.items number Op.End }
+{
+    match operations.get(number) {
+        Some(op) => op,
+        None => Op::End,
+    }
+}

@@ -1,0 +1,48 @@
+//! Lists that only proofs read.
+ghost use Rattle.std.specs.Prelude.{◌≡◌, List, [], ◌∷◌, ◌++◌};
+ghost use Rattle.std.specs.Borrow.{ftrue};
+
+use lxr_base::Listed;
+use std::marker::{Model, PhantomData};
+
+/// The items that came, in order. It keeps none of them: it takes no memory, and its methods do nothing as they run.
+#[derive(Drop)]
+pub struct Chronicle<T> {
+    of: PhantomData<T>,
+    pub ghost items: { List T },
+}
+
+impl<T> Model for Chronicle<T> {
+    ghost also_owns = { λ _. ftrue };
+}
+
+// It owns nothing.
+unsafe impl<T: Send> Send for Chronicle<T> {}
+
+unsafe impl<T: Sync> Sync for Chronicle<T> {}
+
+impl<T> Chronicle<T> {
+    /// No items.
+    #[inline(always)]
+    pub fn new() -> Chronicle<T>
+        ensures { result.items ≡ [] }
+    {
+        Chronicle { of: PhantomData }
+    }
+
+    /// The items of a list.
+    #[inline(always)]
+    pub fn of(_list: &Listed<T>) -> Chronicle<T>
+        ensures { result.items ≡ _list.now.items }
+    {
+        Chronicle { of: PhantomData }
+    }
+
+    /// With one more item at the end.
+    #[inline(always)]
+    pub fn and(&self, _item: &T) -> Chronicle<T>
+        ensures { result.items ≡ self.now.items ++ _item.now ∷ [] }
+    {
+        Chronicle { of: PhantomData }
+    }
+}

@@ -1,0 +1,461 @@
+/*
+ * threads_random.c: random hosts of lxr_threads.h, with 1 to 16 threads. SPDX: MIT OR Apache-2.0
+ *
+ * usage: threads_random SECONDS [SEED]     rounds for so long, each from a number of its own on; with 0 seconds one round, from SEED
+ *
+ * A round opens a heap and starts threads, which enter and leave it, rest, poll, ask for pauses, and make some thousand operations each.
+ * What only one thread holds is kept beside the heap as a plain graph, and each code and word has to be that of the graph. What threads
+ * share has to keep what they agree on: tokens that are swapped stay as many as they were, and one thread or field holds each; adds to a
+ * counter lose nothing; and an object that a thread finds is one that was made whole before it was stored.
+ */
+#include "../lxr_threads.h"
+
+#include <inttypes.h>
+#include <pthread.h>
+#include <stdarg.h>
+#include <stdbool.h>
+#include <stdio.h>
+#include <stdlib.h>
+#include <string.h>
+#include <time.h>
+
+/* Registers: the world, a token, what is shared, a published object; from OWN on a thread's own objects. The last is always nil. */
+enum { WORLD, TOKEN, COUNTER, FOUND, OWN, NIL_REGISTER = LXR_REGISTERS - 1 };
+
+/* References of the world: places for tokens, the counter, and a published object of each thread. */
+enum { TOKEN_PLACES = 8, COUNTER_PLACE = 8, PUBLISHED = 16 };
+
+/* Where names are to be renewed early, as the mock of the archive can be told, pauses come often enough for it. */
+#ifdef LXR_OPERATIONS
+enum { RENEWS = 1 };
+#else
+enum { RENEWS = 0 };
+#endif
+
+enum { COUNTER_WORDS = 4, MOST_FIELDS = 6, OPERATIONS = 4000 };
+
+/* An object of the graph beside the heap. */
+struct node {
+    struct node *older;
+    uint32_t refs, words;
+    struct node *ref[MOST_FIELDS];
+    uint64_t word[MOST_FIELDS];
+};
+
+/* A thread of the round. */
+struct player {
+    uint32_t number;
+    uint64_t dice, adds[COUNTER_WORDS], least[COUNTER_WORDS], published, seen[LXR_MOST_THREADS];
+    uint64_t token; /* the token that it holds, or 0 */
+    struct node *registers[LXR_REGISTERS], *newest;
+    lxr_thread *thread;
+    uint64_t operations, fulls, pauses;
+};
+
+static struct {
+    uint64_t seed;
+    lxr_threads *heap;
+    uint32_t players, tokens;
+    struct player player[LXR_MOST_THREADS];
+} now;
+
+static struct {
+    uint64_t rounds, operations, fulls, pauses;
+} sums;
+
+static void differ(const struct player *player, const char *form, ...) {
+    va_list parts;
+    va_start(parts, form);
+    fprintf(stderr, "threads_random: seed %" PRIu64 ", thread %" PRIu32 ", operation %" PRIu64 ": ", now.seed, player->number,
+            player->operations);
+    vfprintf(stderr, form, parts);
+    fputc('\n', stderr);
+    va_end(parts);
+    _Exit(1);
+}
+
+static void agree(const struct player *player, const char *what, uint64_t found, uint64_t wanted) {
+    if (found != wanted) differ(player, "%s: %" PRIu64 ", and %" PRIu64 " is wanted", what, found, wanted);
+}
+
+static void done(const struct player *player, const char *what, uint32_t code) {
+    if (code != LXR_OK) differ(player, "%s: %s", what, lxr_message(code));
+}
+
+/* ---- Numbers ---- */
+
+static uint64_t draw(uint64_t *dice) {
+    *dice = *dice * 6364136223846793005u + 1442695040888963407u;
+    return *dice >> 33;
+}
+
+static uint32_t below(struct player *player, uint32_t end) { return (uint32_t)(draw(&player->dice) % end); }
+
+static bool one_in(struct player *player, uint32_t times) { return below(player, times) == 0; }
+
+/* A register of the thread's own; rarely one that isn't there. */
+static uint32_t own(struct player *player) {
+    if (one_in(player, 200)) return LXR_REGISTERS + below(player, 3) * 1000;
+    return OWN + below(player, NIL_REGISTER - OWN);
+}
+
+/* What an object that a thread publishes has in its second word, by what the first has. */
+static uint64_t seal(uint64_t owner, uint64_t word) { return (word ^ (owner << 56)) * 0x9E3779B97F4A7C15u; }
+
+static void nap(struct player *player) {
+    struct timespec time = { 0, (long)below(player, 200) * 1000 };
+    nanosleep(&time, NULL);
+}
+
+/* ---- What is a thread's own ---- */
+
+static struct node *make_node(struct player *player, uint32_t refs, uint32_t words) {
+    struct node *made = calloc(1, sizeof *made);
+    if (!made) differ(player, "no memory for the test");
+    made->refs = refs;
+    made->words = words;
+    made->older = player->newest;
+    player->newest = made;
+    return made;
+}
+
+static void drop_own(struct player *player) {
+    while (player->newest) {
+        struct node *it = player->newest;
+        player->newest = it->older;
+        free(it);
+    }
+    memset(player->registers, 0, sizeof player->registers);
+}
+
+/* Makes room in a heap that is full. */
+static void let_go(struct player *player) {
+    player->fulls++;
+    for (uint32_t at = OWN; at < NIL_REGISTER; at++) {
+        if (one_in(player, 3)) continue;
+        done(player, "nil", lxr_thread_nil(player->thread, at));
+        player->registers[at] = NULL;
+    }
+}
+
+static void play_new(struct player *player) {
+    uint32_t dest = own(player), refs = below(player, MOST_FIELDS + 1), words = below(player, MOST_FIELDS + 1);
+    bool wild = one_in(player, 300);
+    uint32_t code = lxr_thread_new(player->thread, dest, wild ? 1024 + refs : refs, words);
+    uint32_t wanted = dest >= LXR_REGISTERS ? LXR_REGISTER : wild ? LXR_SIZE : LXR_OK;
+    if (code == LXR_FULL && wanted == LXR_OK) {
+        let_go(player);
+        return;
+    }
+    agree(player, "new", code, wanted);
+    if (code == LXR_OK) player->registers[dest] = make_node(player, refs, words);
+}
+
+/* The code that an operation has whose base and field are these. */
+static uint32_t field_code(const struct player *player, uint32_t base, uint32_t index, bool words) {
+    const struct node *node = player->registers[base];
+    if (!node) return LXR_NIL;
+    return index < (words ? node->words : node->refs) ? LXR_OK : LXR_INDEX;
+}
+
+static void play_load(struct player *player) {
+    uint32_t dest = own(player), base = own(player), index = below(player, MOST_FIELDS);
+    bool fits = dest < LXR_REGISTERS && base < LXR_REGISTERS;
+    uint32_t wanted = fits ? field_code(player, base, index, false) : LXR_REGISTER;
+    agree(player, "load", lxr_thread_load(player->thread, dest, base, index), wanted);
+    if (wanted == LXR_OK) player->registers[dest] = player->registers[base]->ref[index];
+}
+
+static void play_store(struct player *player) {
+    uint32_t base = own(player), index = below(player, MOST_FIELDS), source = own(player);
+    bool fits = source < LXR_REGISTERS && base < LXR_REGISTERS;
+    uint32_t wanted = fits ? field_code(player, base, index, false) : LXR_REGISTER;
+    agree(player, "store", lxr_thread_store(player->thread, base, index, source), wanted);
+    if (wanted == LXR_OK) player->registers[base]->ref[index] = player->registers[source];
+}
+
+static void play_swap(struct player *player) {
+    uint32_t dest = own(player), base = own(player), index = below(player, MOST_FIELDS), source = own(player);
+    bool fits = dest < LXR_REGISTERS && source < LXR_REGISTERS && base < LXR_REGISTERS;
+    uint32_t wanted = fits ? field_code(player, base, index, false) : LXR_REGISTER;
+    agree(player, "swap", lxr_thread_swap(player->thread, dest, base, index, source), wanted);
+    if (wanted != LXR_OK) return;
+    struct node *it = player->registers[base], *old = it->ref[index];
+    it->ref[index] = player->registers[source];
+    player->registers[dest] = old;
+}
+
+static void play_word(struct player *player) {
+    uint32_t base = own(player), index = below(player, MOST_FIELDS), which = below(player, 3);
+    uint64_t word = draw(&player->dice), old = 0xA5A5;
+    uint32_t wanted = base < LXR_REGISTERS ? field_code(player, base, index, true) : LXR_REGISTER;
+    uint32_t code = which == 0   ? lxr_thread_get(player->thread, base, index, &old)
+                    : which == 1 ? lxr_thread_add(player->thread, base, index, word, &old)
+                                 : lxr_thread_put(player->thread, base, index, word);
+    agree(player, "get, add or put", code, wanted);
+    uint64_t *there = wanted == LXR_OK ? &player->registers[base]->word[index] : NULL;
+    agree(player, "the word of get or add", old, there && which < 2 ? *there : 0xA5A5);
+    if (there && which == 1) *there += word;
+    if (there && which == 2) *there = word;
+}
+
+static void play_registers(struct player *player) {
+    uint32_t dest = own(player), source = own(player), same = 7;
+    bool fits = dest < LXR_REGISTERS && source < LXR_REGISTERS;
+    switch (below(player, 3)) {
+    case 0:
+        agree(player, "move", lxr_thread_move(player->thread, dest, source), fits ? LXR_OK : LXR_REGISTER);
+        if (fits) player->registers[dest] = player->registers[source];
+        break;
+    case 1:
+        agree(player, "nil", lxr_thread_nil(player->thread, dest), dest < LXR_REGISTERS ? LXR_OK : LXR_REGISTER);
+        if (dest < LXR_REGISTERS) player->registers[dest] = NULL;
+        break;
+    default:
+        agree(player, "same", lxr_thread_same(player->thread, dest, source, &same), fits ? LXR_OK : LXR_REGISTER);
+        agree(player, "same", same, fits ? player->registers[dest] == player->registers[source] : 7);
+    }
+}
+
+/* ---- What threads share ---- */
+
+/* The token in the thread's register for it is the one that it holds. */
+static void see_token(struct player *player) {
+    uint64_t word = 0;
+    uint32_t code = lxr_thread_get(player->thread, TOKEN, 0, &word);
+    if (code != LXR_NIL) done(player, "get of a token", code);
+    player->token = word;
+    if (word > now.tokens) differ(player, "there is no token %" PRIu64, word);
+}
+
+static void play_token(struct player *player) {
+    uint64_t word = 0, before = player->token;
+    if (before) done(player, "get of a token", lxr_thread_get(player->thread, TOKEN, 0, &word));
+    agree(player, "the token that is held", word, before);
+    done(player, "swap of a token", lxr_thread_swap(player->thread, TOKEN, WORLD, below(player, TOKEN_PLACES), TOKEN));
+    see_token(player);
+}
+
+/* Puts the token back, into a place that may have one; then that is the one that is held. */
+static void bring_token(struct player *player) {
+    for (uint32_t at = 0; player->token; at = (at + 1) % TOKEN_PLACES) {
+        done(player, "swap of a token", lxr_thread_swap(player->thread, TOKEN, WORLD, at, TOKEN));
+        see_token(player);
+    }
+}
+
+static void play_counter(struct player *player) {
+    uint32_t at = below(player, COUNTER_WORDS);
+    uint64_t by = below(player, 100) + 1, old = 0;
+    done(player, "load of the counter", lxr_thread_load(player->thread, COUNTER, WORLD, COUNTER_PLACE));
+    done(player, "add to the counter", lxr_thread_add(player->thread, COUNTER, at, by, &old));
+    if (old < player->least[at]) differ(player, "a counter fell");
+    player->least[at] = old + by;
+    player->adds[at] += by;
+}
+
+static void publish(struct player *player) {
+    uint64_t word = ++player->published;
+    uint32_t code = lxr_thread_new(player->thread, FOUND, 1, 2);
+    if (code == LXR_FULL) {
+        let_go(player);
+        return;
+    }
+    done(player, "new of an object to publish", code);
+    done(player, "put", lxr_thread_put(player->thread, FOUND, 0, word));
+    done(player, "put", lxr_thread_put(player->thread, FOUND, 1, seal(player->number, word)));
+    done(player, "store", lxr_thread_store(player->thread, WORLD, PUBLISHED + player->number, FOUND));
+    if (one_in(player, 2)) done(player, "nil", lxr_thread_nil(player->thread, FOUND));
+}
+
+static void find_published(struct player *player) {
+    uint32_t owner = below(player, now.players);
+    uint64_t word = 0, sealed = 0;
+    done(player, "load", lxr_thread_load(player->thread, FOUND, WORLD, PUBLISHED + owner));
+    uint32_t code = lxr_thread_get(player->thread, FOUND, 0, &word);
+    if (code == LXR_NIL && player->seen[owner] == 0) return;
+    done(player, "get of a published object", code);
+    done(player, "get of a published object", lxr_thread_get(player->thread, FOUND, 1, &sealed));
+    agree(player, "what a published object has", sealed, seal(owner, word));
+    if (word < player->seen[owner]) differ(player, "an older object of thread %" PRIu32 " is found", owner);
+    player->seen[owner] = word;
+}
+
+/* ---- Threads that come and go ---- */
+
+static void enter(struct player *player) {
+    uint32_t code = LXR_NUMBER;
+    while (code == LXR_NUMBER) {
+        code = lxr_thread_enter(now.heap, &player->thread);
+        if (code == LXR_NUMBER) nap(player);
+    }
+    done(player, "enter", code);
+    uint32_t same = 0;
+    for (uint32_t at = 1; at < LXR_REGISTERS; at++) {
+        done(player, "same", lxr_thread_same(player->thread, at, NIL_REGISTER, &same));
+        agree(player, "a register of a thread that has entered", same, 1);
+    }
+    done(player, "same", lxr_thread_same(player->thread, WORLD, NIL_REGISTER, &same));
+    agree(player, "the world of a thread that has entered", same, 0);
+}
+
+static void leave(struct player *player, bool rests) {
+    bring_token(player);
+    drop_own(player);
+    if (rests) done(player, "rest", lxr_thread_rest(player->thread));
+    done(player, "leave", lxr_thread_leave(&player->thread));
+    agree(player, "a thread that has left", lxr_thread_leave(&player->thread), LXR_NO_HEAP);
+}
+
+static void rest(struct player *player) {
+    done(player, "rest", lxr_thread_rest(player->thread));
+    agree(player, "an operation at rest", lxr_thread_nil(player->thread, OWN), LXR_RESTS);
+    agree(player, "a rest at rest", lxr_thread_rest(player->thread), LXR_RESTS);
+    if (one_in(player, 4)) nap(player);
+    done(player, "wake", lxr_thread_wake(player->thread));
+    agree(player, "a wake awake", lxr_thread_wake(player->thread), LXR_AWAKE);
+}
+
+static void play_rarely(struct player *player) {
+    player->pauses++;
+    switch (below(player, 8)) {
+    case 0: done(player, "pause", lxr_thread_pause(player->thread)); break;
+    case 1: done(player, "collect", lxr_thread_collect(player->thread)); break;
+    case 2: nap(player); break;
+    case 3:
+        leave(player, one_in(player, 2));
+        enter(player);
+        break;
+    case 4: agree(player, "a write to the world's register", lxr_thread_nil(player->thread, WORLD), LXR_REGISTER); break;
+    default: rest(player);
+    }
+}
+
+static void play_once(struct player *player) {
+    player->operations++;
+    if (one_in(player, 300)) play_rarely(player);
+    switch (below(player, 12)) {
+    case 0:
+    case 1: play_new(player); break;
+    case 2: play_load(player); break;
+    case 3: play_store(player); break;
+    case 4: play_swap(player); break;
+    case 5:
+    case 6: play_word(player); break;
+    case 7: play_registers(player); break;
+    case 8: play_token(player); break;
+    case 9: play_counter(player); break;
+    case 10: publish(player); break;
+    default: find_published(player);
+    }
+    if (one_in(player, 50)) done(player, "poll", lxr_thread_poll(player->thread));
+}
+
+static void *play(void *with) {
+    struct player *player = with;
+    enter(player);
+    for (uint32_t left = OPERATIONS; left--;) play_once(player);
+    leave(player, false);
+    return NULL;
+}
+
+/* ---- Rounds ---- */
+
+/* Makes an object in a heap that has room for it; the mock of the archive may say once and again that it is full. */
+static void make_object(struct player *player, uint32_t dest, uint32_t words) {
+    uint32_t code = LXR_FULL;
+    for (uint32_t left = 100; code == LXR_FULL && left--;) code = lxr_thread_new(player->thread, dest, 0, words);
+    done(player, "new", code);
+}
+
+/* What stands in the world as a round begins: tokens, and the counter. */
+static void set_out(struct player *player) {
+    enter(player);
+    make_object(player, COUNTER, COUNTER_WORDS);
+    done(player, "store", lxr_thread_store(player->thread, WORLD, COUNTER_PLACE, COUNTER));
+    for (uint32_t at = 0; at < now.tokens; at++) {
+        make_object(player, TOKEN, 1);
+        done(player, "put", lxr_thread_put(player->thread, TOKEN, 0, at + 1));
+        done(player, "store", lxr_thread_store(player->thread, WORLD, at, TOKEN));
+    }
+    done(player, "nil", lxr_thread_nil(player->thread, TOKEN));
+    done(player, "leave", lxr_thread_leave(&player->thread));
+}
+
+/* What stands there as it ends: each token once, and all that was added. */
+static void take_stock(struct player *player) {
+    uint64_t word = 0, found = 0;
+    enter(player);
+    for (uint32_t at = 0; at < TOKEN_PLACES; at++) {
+        done(player, "load", lxr_thread_load(player->thread, TOKEN, WORLD, at));
+        uint32_t code = lxr_thread_get(player->thread, TOKEN, 0, &word);
+        if (code == LXR_NIL) continue;
+        done(player, "get", code);
+        if (found & (UINT64_C(1) << word)) differ(player, "token %" PRIu64 " is in two places", word);
+        found |= UINT64_C(1) << word;
+    }
+    agree(player, "the tokens that are left", found, ((UINT64_C(1) << now.tokens) - 1) << 1);
+    done(player, "load", lxr_thread_load(player->thread, COUNTER, WORLD, COUNTER_PLACE));
+    for (uint32_t at = 0; at < COUNTER_WORDS; at++) {
+        uint64_t sum = 0;
+        for (uint32_t it = 0; it < now.players; it++) sum += now.player[it].adds[at];
+        done(player, "get", lxr_thread_get(player->thread, COUNTER, at, &word));
+        agree(player, "the sum of a counter", word, sum);
+    }
+    done(player, "leave", lxr_thread_leave(&player->thread));
+}
+
+static lxr_threads_settings draw_settings(uint64_t *dice) {
+    lxr_threads_settings settings = LXR_THREADS_SETTINGS(8 + (uint32_t)draw(dice) % 24, now.players);
+    settings.helpers = (uint32_t)draw(dice) % 3;
+    settings.every = RENEWS ? 20 + (uint32_t)draw(dice) % 100 : draw(dice) % 2 ? 20 + (uint32_t)draw(dice) % 500 : 65536;
+    settings.log = draw(dice) % 2 ? 8 : 1024;
+    settings.trace = 1 + (uint32_t)draw(dice) % 8;
+    settings.within = 1 + (uint32_t)draw(dice) % 4;
+    if (now.players > 2 && draw(dice) % 4 == 0) settings.threads = now.players - 1;
+    return settings;
+}
+
+static void count_round(struct player *keeper) {
+    uint64_t number = 0;
+    done(keeper, "count", lxr_threads_count(now.heap, LXR_PAUSES, &number));
+    sums.pauses += number;
+    sums.rounds++;
+    for (uint32_t at = 0; at < now.players; at++) {
+        sums.operations += now.player[at].operations;
+        sums.fulls += now.player[at].fulls;
+    }
+}
+
+static void play_round(uint64_t seed) {
+    uint64_t dice = seed * 7919 + 17;
+    struct player keeper = { .number = 99, .dice = seed };
+    memset(&now, 0, sizeof now);
+    now.seed = seed;
+    now.players = 1 + (uint32_t)draw(&dice) % LXR_MOST_THREADS;
+    now.tokens = (uint32_t)draw(&dice) % TOKEN_PLACES;
+    lxr_threads_settings settings = draw_settings(&dice);
+    pthread_t threads[LXR_MOST_THREADS];
+    done(&keeper, "open", lxr_threads_open(&now.heap, &settings));
+    set_out(&keeper);
+    for (uint32_t at = 0; at < now.players; at++) {
+        now.player[at].number = at;
+        now.player[at].dice = draw(&dice) * 31 + at;
+        if (pthread_create(&threads[at], NULL, play, &now.player[at]) != 0) differ(&keeper, "no further thread");
+    }
+    for (uint32_t at = 0; at < now.players; at++) pthread_join(threads[at], NULL);
+    take_stock(&keeper);
+    count_round(&keeper);
+    done(&keeper, "close", lxr_threads_close(&now.heap));
+}
+
+int main(int count, char **words) {
+    uint64_t seconds = count > 1 ? strtoull(words[1], NULL, 10) : 10;
+    uint64_t seed = count > 2 ? strtoull(words[2], NULL, 10) : 1;
+    time_t end = time(NULL) + (time_t)seconds;
+    do play_round(seed++);
+    while (time(NULL) < end);
+    printf("threads_random: %" PRIu64 " rounds, %" PRIu64 " operations, %" PRIu64 " pauses, %" PRIu64 " times full\n", sums.rounds,
+           sums.operations, sums.pauses, sums.fulls);
+    return 0;
+}

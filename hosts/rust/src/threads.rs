@@ -1,0 +1,401 @@
+//! A heap that threads share.
+//!
+//! [`Threads`] has the objects, and each thread of the program that calls the heap is in it by a [`Thread`] of its own, with sixteen
+//! registers. Register 0 holds the world for good, which is the same object for all: what threads share they find from there. Operations
+//! that meet at one field are atomic and in one order for all threads. No operation waits for another thread, but where a pause is wanted.
+//!
+//! ```
+//! use kogyulen::threads::{Settings, Threads};
+//! use kogyulen::{R0, R1};
+//!
+//! # fn main() -> Result<(), kogyulen::Error> {
+//! let heap = Threads::open(&Settings::new(64, 4))?; // 64 blocks of 32 KB, and up to four threads at once
+//! let mut first = heap.enter()?;
+//! first.make(R1, 0, 1)?;
+//! first.store(R0, 0, R1)?;
+//! first.rest(|| {
+//!     std::thread::scope(|scope| {
+//!         for _ in 0..3 {
+//!             scope.spawn(|| {
+//!                 let mut other = heap.enter().unwrap();
+//!                 other.load(R1, R0, 0).unwrap();
+//!                 other.add(R1, 0, 5).unwrap();
+//!             });
+//!         }
+//!     });
+//! })?;
+//! assert_eq!(first.get(R1, 0), Ok(15));
+//! # Ok(())
+//! # }
+//! ```
+
+use std::ffi::c_void;
+use std::fmt;
+use std::marker::PhantomData;
+use std::panic::{self, AssertUnwindSafe};
+use std::process;
+use std::ptr::{self, NonNull};
+use std::time::Duration;
+
+use crate::error::{done, Error};
+use crate::raw;
+use crate::register::Register;
+
+/// What a heap is made of.
+#[derive(Clone, Debug, PartialEq, Eq, Hash)]
+pub struct Settings {
+    /// Blocks of 32 KB, 1 to 1,024.
+    pub blocks: u32,
+    /// Threads that may be in it at once, 1 to 16.
+    pub threads: u32,
+    /// Threads of its own that do work of pauses ahead, 0 to 8.
+    pub helpers: u32,
+    /// Overwritten references that a thread records between two pauses, 1 to 65,536.
+    pub log: u32,
+    /// References that a trace remembers, 1 to 1,048,576.
+    pub remember: u32,
+    /// A thread wants a pause behind so many operations since the last one, 1 to 1,000,000.
+    pub every: u32,
+    /// Each pause whose number is a multiple of it begins a trace, where none runs, 1 to 1,000,000.
+    pub trace: u32,
+    /// A trace ends at the latest so many pauses after it began, 1 to 1,000,000.
+    pub within: u32,
+}
+
+impl Settings {
+    /// Settings that mostly do, for so many blocks and threads.
+    pub const fn new(blocks: u32, threads: u32) -> Settings {
+        Settings { blocks, threads, helpers: 1, log: 1024, remember: 65_536, every: 65_536, trace: 16, within: 4 }
+    }
+
+    fn raw(&self, watch: Option<&Watch>) -> raw::Settings {
+        let &Settings { blocks, threads, helpers, log, remember, every, trace, within } = self;
+        let with = watch.map_or(ptr::null_mut(), |watch| (watch as *const Watch).cast_mut().cast());
+        let paused = watch.map(|_| tell_of_pause as extern "C" fn(*mut c_void, *const raw::PauseTimes));
+        raw::Settings { blocks, threads, helpers, log, remember, every, trace, within, paused, with }
+    }
+}
+
+/// How long a pause took; where a collecting one came right behind it, both.
+#[derive(Clone, Copy, Debug, PartialEq, Eq, Hash)]
+pub struct PauseTimes {
+    /// Its number, from 1 on; of the last, where there are two.
+    pub number: u64,
+    /// From when the first thread waited for it until all had come.
+    pub gathering: Duration,
+    /// From there until they could go on.
+    pub pausing: Duration,
+}
+
+type Watch = Box<dyn Fn(PauseTimes) + Send + Sync>;
+
+/// Tells a watch of a pause. A panic doesn't leave it: it ends the process.
+extern "C" fn tell_of_pause(with: *mut c_void, times: *const raw::PauseTimes) {
+    // SAFETY: the library passes what the heap was opened with, which lives as long as the heap, and times that outlive the call.
+    let (watch, times) = unsafe { (&*with.cast::<Watch>(), &*times) };
+    let [gathering, pausing] = [times.gathering, times.pausing].map(Duration::from_nanos);
+    let told = panic::catch_unwind(AssertUnwindSafe(|| watch(PauseTimes { number: times.number, gathering, pausing })));
+    if told.is_err() {
+        process::abort();
+    }
+}
+
+/// A heap that threads share: it is lent to them, and closed once none is in it.
+///
+/// ```compile_fail
+/// let heap = kogyulen::threads::Threads::open(&kogyulen::threads::Settings::new(1, 1)).unwrap();
+/// let thread = heap.enter().unwrap();
+/// drop(heap); // a thread is in it
+/// drop(thread);
+/// ```
+pub struct Threads {
+    handle: NonNull<raw::Threads>,
+    watch: Option<Box<Watch>>,
+}
+
+// SAFETY: by lxr_threads.h any thread may make a call on a heap, while others do, but for its closing; that takes the owner.
+unsafe impl Send for Threads {}
+unsafe impl Sync for Threads {}
+
+impl Threads {
+    /// Opens a heap, and starts its helpers. All memory for objects is reserved now.
+    ///
+    /// # Errors
+    /// [`Error::Size`] where a setting is out of its range, and [`Error::Memory`].
+    pub fn open(settings: &Settings) -> Result<Threads, Error> {
+        Threads::open_with(settings, None)
+    }
+
+    /// Opens a heap as [`Threads::open`] does, with a function that is told of each pause right behind it, by the thread that made it. It
+    /// calls nothing of this heap, and waits for no thread.
+    ///
+    /// # Errors
+    /// Those of [`Threads::open`].
+    pub fn open_watched(settings: &Settings, paused: impl Fn(PauseTimes) + Send + Sync + 'static) -> Result<Threads, Error> {
+        Threads::open_with(settings, Some(Box::new(Box::new(paused))))
+    }
+
+    fn open_with(settings: &Settings, watch: Option<Box<Watch>>) -> Result<Threads, Error> {
+        let mut handle = ptr::null_mut();
+        // SAFETY: the handle is null, the settings outlive the call, and the watch outlives the heap.
+        done(unsafe { raw::lxr_threads_open(&mut handle, &settings.raw(watch.as_deref())) })?;
+        NonNull::new(handle).map(|handle| Threads { handle, watch }).ok_or(Error::Memory)
+    }
+
+    /// Enters the heap: a thread whose registers are nil, but for [`R0`](crate::R0), which holds the world. Where a pause is wanted, this
+    /// waits for it.
+    ///
+    /// # Errors
+    /// [`Error::Number`] where as many threads are in it as may be, [`Error::Memory`] and [`Error::Lost`].
+    pub fn enter(&self) -> Result<Thread<'_>, Error> {
+        let mut handle = ptr::null_mut();
+        // SAFETY: the heap is open, and the thread's handle is null.
+        done(unsafe { raw::lxr_thread_enter(self.handle.as_ptr(), &mut handle) })?;
+        NonNull::new(handle).map(|handle| Thread { handle, heap: PhantomData }).ok_or(Error::Memory)
+    }
+
+    /// Pauses so far.
+    pub fn pauses(&self) -> u64 {
+        self.count(0)
+    }
+
+    /// Collecting pauses so far.
+    pub fn collected(&self) -> u64 {
+        self.count(8)
+    }
+
+    /// Objects made before the last pause and behind the one before it that the last pause kept.
+    pub fn promoted(&self) -> u64 {
+        self.count(1)
+    }
+
+    /// Objects that counts reclaimed at the last pause.
+    pub fn dead(&self) -> u64 {
+        self.count(2)
+    }
+
+    /// Objects whose count stands from the last pause on, since it has reached fifteen.
+    pub fn stuck(&self) -> u64 {
+        self.count(3)
+    }
+
+    /// Objects that a trace or a collecting pause reclaimed at the last pause.
+    pub fn swept(&self) -> u64 {
+        self.count(4)
+    }
+
+    /// Threads that are in the heap now.
+    pub fn entered(&self) -> u64 {
+        self.count(9)
+    }
+
+    /// Threads that are in the heap, and rest now.
+    pub fn resting(&self) -> u64 {
+        self.count(10)
+    }
+
+    fn count(&self, what: u32) -> u64 {
+        let mut number = 0;
+        // SAFETY: the heap is open.
+        let code = unsafe { raw::lxr_threads_count(self.handle.as_ptr(), what, &mut number) };
+        debug_assert_eq!(done(code), Ok(()));
+        number
+    }
+}
+
+impl Drop for Threads {
+    fn drop(&mut self) {
+        let mut handle = self.handle.as_ptr();
+        // SAFETY: the heap is open, and its owner is in no other call. A thread that was forgotten is still in it: then it stays open.
+        if done(unsafe { raw::lxr_threads_close(&mut handle) }).is_err() {
+            std::mem::forget(self.watch.take());
+        }
+    }
+}
+
+impl fmt::Debug for Threads {
+    fn fmt(&self, f: &mut fmt::Formatter<'_>) -> fmt::Result {
+        f.debug_struct("Threads").finish_non_exhaustive()
+    }
+}
+
+/// A thread in a heap, and its sixteen registers. It may go to another thread of the program, and is in one at a time. It leaves the heap
+/// as it is dropped, and lets go of what its registers hold.
+///
+/// While it is in the heap, pauses wait until it makes an operation, polls, rests or leaves. So whatever blocks, or is long, goes into
+/// [`Thread::rest`].
+///
+/// Besides those that are named, each operation answers [`Error::UsedUp`] and [`Error::Lost`].
+///
+/// ```compile_fail
+/// fn is_sync<T: Sync>() {}
+/// is_sync::<kogyulen::threads::Thread>(); // it is in one thread at a time
+/// ```
+pub struct Thread<'t> {
+    handle: NonNull<raw::Thread>,
+    heap: PhantomData<&'t Threads>,
+}
+
+// SAFETY: by lxr_threads.h a thread is in one call at a time, in whichever thread of the system.
+unsafe impl Send for Thread<'_> {}
+
+impl Thread<'_> {
+    /// The register holds a new object with nil references and words of 0; at most 1,023 of each. Where there is no room, this waits for a
+    /// pause, and for a collecting one.
+    ///
+    /// # Errors
+    /// [`Error::Register`] for [`R0`](crate::R0), [`Error::Size`], and [`Error::Full`] where what can be reached leaves no room even so.
+    pub fn make(&mut self, dest: Register, refs: u32, words: u32) -> Result<(), Error> {
+        // SAFETY: the thread is in its heap, and in no other call; so it is in each call below.
+        done(unsafe { raw::lxr_thread_new(self.raw(), dest.number(), refs, words) })
+    }
+
+    /// The register holds what a reference of the base's object refers to, or becomes nil.
+    ///
+    /// # Errors
+    /// [`Error::Register`] for [`R0`](crate::R0), [`Error::Nil`] and [`Error::Index`].
+    pub fn load(&mut self, dest: Register, base: Register, index: u32) -> Result<(), Error> {
+        done(unsafe { raw::lxr_thread_load(self.raw(), dest.number(), base.number(), index) })
+    }
+
+    /// A reference of the base's object becomes what the source holds, or nil.
+    ///
+    /// # Errors
+    /// [`Error::Nil`] and [`Error::Index`].
+    pub fn store(&mut self, base: Register, index: u32, source: Register) -> Result<(), Error> {
+        done(unsafe { raw::lxr_thread_store(self.raw(), base.number(), index, source.number()) })
+    }
+
+    /// A reference of the base's object becomes what the source holds, and `dest` holds what it was, in one step of all threads.
+    ///
+    /// # Errors
+    /// [`Error::Register`] for [`R0`](crate::R0), [`Error::Nil`] and [`Error::Index`].
+    pub fn swap(&mut self, dest: Register, base: Register, index: u32, source: Register) -> Result<(), Error> {
+        done(unsafe { raw::lxr_thread_swap(self.raw(), dest.number(), base.number(), index, source.number()) })
+    }
+
+    /// A data word of the base's object.
+    ///
+    /// # Errors
+    /// [`Error::Nil`] and [`Error::Index`].
+    pub fn get(&mut self, base: Register, index: u32) -> Result<u64, Error> {
+        let mut word = 0;
+        done(unsafe { raw::lxr_thread_get(self.raw(), base.number(), index, &mut word) })?;
+        Ok(word)
+    }
+
+    /// Writes a data word of the base's object.
+    ///
+    /// # Errors
+    /// [`Error::Nil`] and [`Error::Index`].
+    pub fn put(&mut self, base: Register, index: u32, word: u64) -> Result<(), Error> {
+        done(unsafe { raw::lxr_thread_put(self.raw(), base.number(), index, word) })
+    }
+
+    /// A data word of the base's object becomes its sum with `word`, modulo 2^64, in one step of all threads. Answers what it was.
+    ///
+    /// # Errors
+    /// [`Error::Nil`] and [`Error::Index`].
+    pub fn add(&mut self, base: Register, index: u32, word: u64) -> Result<u64, Error> {
+        let mut old = 0;
+        done(unsafe { raw::lxr_thread_add(self.raw(), base.number(), index, word, &mut old) })?;
+        Ok(old)
+    }
+
+    /// Whether both registers are nil or hold one object.
+    ///
+    /// # Errors
+    /// Those of each operation.
+    pub fn same(&mut self, left: Register, right: Register) -> Result<bool, Error> {
+        let mut same = 0;
+        done(unsafe { raw::lxr_thread_same(self.raw(), left.number(), right.number(), &mut same) })?;
+        Ok(same != 0)
+    }
+
+    /// A register holds what another holds, or becomes nil.
+    ///
+    /// # Errors
+    /// [`Error::Register`] for [`R0`](crate::R0).
+    pub fn copy(&mut self, dest: Register, source: Register) -> Result<(), Error> {
+        done(unsafe { raw::lxr_thread_move(self.raw(), dest.number(), source.number()) })
+    }
+
+    /// The register becomes nil.
+    ///
+    /// # Errors
+    /// [`Error::Register`] for [`R0`](crate::R0).
+    pub fn clear(&mut self, dest: Register) -> Result<(), Error> {
+        done(unsafe { raw::lxr_thread_nil(self.raw(), dest.number()) })
+    }
+
+    /// Makes a pause, which waits until all other threads have come to an operation or rest.
+    ///
+    /// # Errors
+    /// Those of each operation.
+    pub fn pause(&mut self) -> Result<(), Error> {
+        done(unsafe { raw::lxr_thread_pause(self.raw()) })
+    }
+
+    /// Makes a collecting pause: exactly what can be reached is left.
+    ///
+    /// # Errors
+    /// Those of each operation.
+    pub fn collect(&mut self) -> Result<(), Error> {
+        done(unsafe { raw::lxr_thread_collect(self.raw()) })
+    }
+
+    /// Takes part in a pause, where one is wanted: for what goes on for long without operations.
+    ///
+    /// # Errors
+    /// Those of each operation.
+    pub fn poll(&mut self) -> Result<(), Error> {
+        done(unsafe { raw::lxr_thread_poll(self.raw()) })
+    }
+
+    /// Does something that may block or is long, while the thread holds up no pause. Its registers hold what they held.
+    ///
+    /// # Errors
+    /// [`Error::Lost`]; where the heap was lost before, nothing is done.
+    pub fn rest<T>(&mut self, what: impl FnOnce() -> T) -> Result<T, Error> {
+        done(unsafe { raw::lxr_thread_rest(self.raw()) })?;
+        let resting = Resting(self);
+        let answer = what();
+        resting.wake()?;
+        Ok(answer)
+    }
+
+    fn raw(&self) -> *mut raw::Thread {
+        self.handle.as_ptr()
+    }
+}
+
+impl Drop for Thread<'_> {
+    fn drop(&mut self) {
+        let mut handle = self.raw();
+        // SAFETY: the thread is in its heap, and in no other call.
+        unsafe { raw::lxr_thread_leave(&mut handle) };
+    }
+}
+
+impl fmt::Debug for Thread<'_> {
+    fn fmt(&self, f: &mut fmt::Formatter<'_>) -> fmt::Result {
+        f.debug_struct("Thread").finish_non_exhaustive()
+    }
+}
+
+/// A thread that rests, and wakes at the latest where this is dropped, as by a panic.
+struct Resting<'a, 't>(&'a Thread<'t>);
+
+impl Resting<'_, '_> {
+    fn wake(self) -> Result<(), Error> {
+        let code = unsafe { raw::lxr_thread_wake(self.0.raw()) };
+        std::mem::forget(self);
+        done(code)
+    }
+}
+
+impl Drop for Resting<'_, '_> {
+    fn drop(&mut self) {
+        unsafe { raw::lxr_thread_wake(self.0.raw()) };
+    }
+}

@@ -1,0 +1,259 @@
+//! Heaps that threads share.
+
+use std::sync::{Arc, Mutex};
+use std::thread;
+
+use kogyulen::threads::{Settings, Thread, Threads};
+use kogyulen::{Error, R0, R1, R15, R2, R3, R4};
+
+const HOSTS: u32 = 4;
+const ROUNDS: u64 = 20_000;
+const LISTED: u64 = 100;
+
+/// References of the world.
+const LAST: u32 = 0;
+const FIRST: u32 = 1;
+const COUNTER: u32 = 2;
+
+fn open(blocks: u32, threads: u32) -> Threads {
+    Threads::open(&Settings::new(blocks, threads)).expect("these are good settings")
+}
+
+/// Runs a function in four threads, each told its number, and answers the first error that there is.
+fn on_threads(heap: &Threads, work: impl Fn(Thread, u64) -> Result<(), Error> + Sync) -> Result<(), Error> {
+    thread::scope(|scope| {
+        let running: Vec<_> = (0..u64::from(HOSTS))
+            .map(|number| {
+                scope.spawn({
+                    let work = &work;
+                    move || work(heap.enter()?, number)
+                })
+            })
+            .collect();
+        running.into_iter().try_for_each(|one| one.join().expect("a thread panicked"))
+    })
+}
+
+/// The numbers of the list in R1, which is followed to its end.
+fn numbers_from(it: &mut Thread, mut next: impl FnMut(u64)) -> Result<(), Error> {
+    while !it.same(R1, R15)? {
+        next(it.get(R1, 0)?);
+        it.load(R1, R1, 0)?;
+    }
+    Ok(())
+}
+
+#[test]
+fn each_thread_finds_its_list_as_it_was() -> Result<(), Error> {
+    let heap = open(8, HOSTS);
+    on_threads(&heap, |mut own, number| {
+        for n in 0..ROUNDS {
+            own.make(R2, 1, 1)?;
+            own.put(R2, 0, n * 4 + number)?;
+            if n < LISTED {
+                own.store(R2, 0, R1)?;
+                own.copy(R1, R2)?;
+            }
+        }
+        let mut found = Vec::new();
+        numbers_from(&mut own, |n| found.push(n))?;
+        assert!(found.into_iter().eq((0..LISTED).rev().map(|n| n * 4 + number)));
+        Ok(())
+    })?;
+    assert!(heap.pauses() > 0);
+    Ok(())
+}
+
+#[test]
+fn a_queue_has_what_each_thread_appended_in_order() -> Result<(), Error> {
+    let heap = open(8, HOSTS + 1);
+    let mut first = heap.enter()?;
+    first.make(R1, 1, 1)?;
+    first.store(R0, LAST, R1)?;
+    first.store(R0, FIRST, R1)?;
+    first.rest(|| {
+        on_threads(&heap, |mut own, number| {
+            for n in 0..ROUNDS {
+                own.make(R1, 1, 1)?;
+                if n % LISTED == 0 {
+                    own.put(R1, 0, n * 4 + number)?;
+                    own.swap(R2, R0, LAST, R1)?;
+                    own.store(R2, 0, R1)?;
+                }
+            }
+            Ok(())
+        })
+    })??;
+    let mut next = [0; HOSTS as usize];
+    first.load(R1, R0, FIRST)?;
+    first.load(R1, R1, 0)?;
+    numbers_from(&mut first, |found| {
+        let next = &mut next[(found % 4) as usize];
+        assert_eq!(found / 4, *next);
+        *next += LISTED;
+    })?;
+    assert_eq!(next, [ROUNDS; HOSTS as usize]);
+    Ok(())
+}
+
+#[test]
+fn no_addition_is_lost() -> Result<(), Error> {
+    let heap = open(4, HOSTS);
+    let mut first = heap.enter()?;
+    first.make(R1, 0, 2)?;
+    first.store(R0, COUNTER, R1)?;
+    drop(first);
+    on_threads(&heap, |mut own, _| {
+        own.load(R1, R0, COUNTER)?;
+        let mut seen = None;
+        for _ in 0..ROUNDS {
+            let found = own.add(R1, 0, 1)?;
+            assert!(seen < Some(found));
+            seen = Some(found);
+            own.add(R1, 1, u64::MAX)?;
+        }
+        Ok(())
+    })?;
+    let mut last = heap.enter()?;
+    last.load(R1, R0, COUNTER)?;
+    let all = u64::from(HOSTS) * ROUNDS;
+    assert_eq!((last.get(R1, 0)?, last.get(R1, 1)?), (all, 0_u64.wrapping_sub(all)));
+    Ok(())
+}
+
+#[test]
+fn who_rests_holds_up_no_pause() -> Result<(), Error> {
+    let heap = open(4, 2);
+    let mut kept = heap.enter()?;
+    kept.make(R1, 0, 1)?;
+    kept.put(R1, 0, 6)?;
+    let before = heap.pauses();
+    kept.rest(|| -> Result<(), Error> {
+        assert_eq!((heap.entered(), heap.resting()), (1, 1));
+        let mut other = heap.enter()?;
+        for n in 0..100 {
+            if n % 10 == 0 {
+                other.collect()?;
+            } else {
+                other.pause()?;
+            }
+        }
+        Ok(())
+    })??;
+    assert!(heap.pauses() >= before + 100 && heap.collected() >= 10);
+    assert_eq!((heap.resting(), kept.get(R1, 0)), (0, Ok(6)));
+    kept.poll()
+}
+
+#[test]
+fn each_pause_is_told() -> Result<(), Error> {
+    let told = Arc::new(Mutex::new(Vec::new()));
+    let heap = Threads::open_watched(&Settings::new(4, 1), {
+        let told = Arc::clone(&told);
+        move |times| told.lock().unwrap().push(times)
+    })?;
+    let mut own = heap.enter()?;
+    for _ in 0..5 {
+        own.collect()?;
+    }
+    let told = told.lock().unwrap();
+    assert!(told.len() >= 5 && told.last().map(|times| times.number) == Some(heap.pauses()));
+    assert!(told.windows(2).all(|two| two[0].number < two[1].number));
+    assert!(told.iter().all(|times| !times.pausing.is_zero()));
+    Ok(())
+}
+
+#[test]
+fn a_forgotten_thread_keeps_its_heap_open() -> Result<(), Error> {
+    let heap = open(1, 2);
+    std::mem::forget(heap.enter()?);
+    assert_eq!(heap.entered(), 1);
+    Ok(())
+}
+
+#[test]
+fn a_panic_ends_a_rest() -> Result<(), Error> {
+    let heap = open(1, 1);
+    let mut own = heap.enter()?;
+    let resting = std::panic::AssertUnwindSafe(|| own.rest(|| panic!("as it rests")));
+    std::panic::catch_unwind(resting).map(|_| ()).expect_err("it panics");
+    assert_eq!(heap.resting(), 0);
+    own.make(R1, 0, 0)
+}
+
+#[test]
+fn threads_come_and_go() -> Result<(), Error> {
+    let heap = open(4, 2);
+    for n in 0..50 {
+        let mut one = heap.enter()?;
+        one.make(R1, 0, 1)?;
+        one.put(R1, 0, n)?;
+        one.store(R0, 8, R1)?;
+        one.rest(|| {
+            let mut two = heap.enter().expect("there is a place");
+            assert_eq!(heap.enter().err(), Some(Error::Number));
+            thread::scope(|scope| {
+                scope.spawn(move || {
+                    assert_eq!(two.load(R2, R0, 8), Ok(()));
+                    assert_eq!(two.get(R2, 0), Ok(n));
+                });
+            });
+        })?;
+    }
+    assert_eq!(heap.entered(), 0);
+    let mut last = heap.enter()?;
+    assert_eq!(last.same(R1, R2), Ok(true));
+    Ok(())
+}
+
+#[test]
+fn what_cannot_be_done_is_told() -> Result<(), Error> {
+    assert_eq!(Threads::open(&Settings::new(0, 1)).err(), Some(Error::Size));
+    assert_eq!(Threads::open(&Settings::new(1, 17)).err(), Some(Error::Size));
+    let heap = open(1, 1);
+    let mut own = heap.enter()?;
+    own.make(R1, 2, 3)?;
+    assert_eq!(own.make(R0, 0, 0), Err(Error::Register));
+    assert_eq!(own.make(R2, 1024, 0), Err(Error::Size));
+    assert_eq!(own.load(R2, R15, 0), Err(Error::Nil));
+    assert_eq!(own.store(R1, 2, R0), Err(Error::Index));
+    assert_eq!(own.swap(R2, R1, 2, R0), Err(Error::Index));
+    assert_eq!(own.swap(R0, R1, 1, R0), Err(Error::Register));
+    assert_eq!(own.add(R1, 3, 1), Err(Error::Index));
+    assert_eq!(own.add(R2, 0, 1), Err(Error::Nil));
+    assert_eq!((own.add(R1, 2, 7), own.add(R1, 2, u64::MAX), own.get(R1, 2)), (Ok(0), Ok(7), Ok(6)));
+    own.swap(R2, R1, 1, R1)?;
+    own.swap(R3, R1, 1, R2)?;
+    own.load(R4, R1, 1)?;
+    assert_eq!((own.same(R1, R3), own.same(R2, R4), own.same(R2, R3)), (Ok(true), Ok(true), Ok(false)));
+    own.clear(R3)?;
+    assert_eq!(own.same(R2, R3), Ok(true));
+    Ok(())
+}
+
+#[test]
+fn a_full_heap_is_full_for_each_and_has_room_again() -> Result<(), Error> {
+    let heap = open(2, HOSTS);
+    on_threads(&heap, |mut own, _| {
+        for _ in 0..3 {
+            let mut made = 0;
+            let full = loop {
+                if let Err(why) = own.make(R2, 1, 30) {
+                    break why;
+                }
+                own.store(R2, 0, R1)?;
+                own.copy(R1, R2)?;
+                made += 1;
+                assert!(made < 1000, "two blocks hold less");
+            };
+            assert_eq!(full, Error::Full);
+            own.clear(R2)?;
+            numbers_from(&mut own, |_| made -= 1)?;
+            assert_eq!(made, 0);
+        }
+        Ok(())
+    })?;
+    let mut last = heap.enter()?;
+    last.collect()?;
+    last.make(R1, 1000, 1000)
+}
