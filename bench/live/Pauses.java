@@ -4,11 +4,11 @@
 //
 // Prints when the work began and ended, in the nanoseconds by which the machine's log of its safepoints counts.
 public class Pauses {
-    static final int THREADS = 4, IN_TABLE = 1000, DROPPED = 3, OBJECT_BYTES = 48;
+    static final int THREADS = 4, IN_TABLE = 500, DROPPED = 3, OBJECT_BYTES = 128;
 
     static final class Node {
         Node first, second;
-        long one, other;
+        long one, two, three, four, five, six, seven, eight, nine, ten, eleven, twelve, thirteen;
     }
 
     static Node[][][] tables;

@@ -10,8 +10,8 @@
 #include "work.h"
 
 struct object {
-    struct object *refs[2];
-    uint64_t words[2];
+    struct object *refs[REFS];
+    uint64_t words[WORDS];
 };
 
 static struct work work;

@@ -3,8 +3,8 @@
  * usage: pauses_lxr MEGABYTES acyclic|cyclic ROUNDS EVERY
  *
  * EVERY is how many operations a thread makes between two pauses. All are home once the last thread has come for a pause; the
- * pause itself goes on until all can go on. A trace begins when dead cycles have taken about half of what is free, and has half
- * of the time to the next. */
+ * pause itself goes on until all can go on. A trace begins when dead cycles have taken about two thirds of what is free, and
+ * has half of the time to the next. */
 #include <lxr_threads.h>
 #include <pthread.h>
 #include <stdatomic.h>
@@ -34,10 +34,10 @@ static void on_pause(void *with, const lxr_pause_times *times) {
 
 /* Register MADE holds what takes a place of a table. */
 static void make_place(lxr_thread *thread, uint64_t word) {
-    must(lxr_thread_new(thread, MADE, 2, 2));
+    must(lxr_thread_new(thread, MADE, REFS, WORDS));
     must(lxr_thread_put(thread, MADE, 0, word));
     if (!work.is_cyclic) return;
-    must(lxr_thread_new(thread, OTHER, 2, 2));
+    must(lxr_thread_new(thread, OTHER, REFS, WORDS));
     must(lxr_thread_store(thread, MADE, 0, OTHER));
     must(lxr_thread_store(thread, OTHER, 0, MADE));
 }
@@ -59,7 +59,7 @@ static void replace(lxr_thread *thread, uint32_t number) {
     uint64_t state = number + 1;
     for (uint32_t round = 0; round < work.rounds; round++) {
         for (int dropped = 0; dropped < DROPPED; dropped++) {
-            must(lxr_thread_new(thread, MADE, 2, 2));
+            must(lxr_thread_new(thread, MADE, REFS, WORDS));
             must(lxr_thread_put(thread, MADE, 0, round));
         }
         uint32_t drawn = draw_from(&state, work.tables * IN_TABLE);
@@ -88,11 +88,11 @@ static void *run(void *given) {
     return NULL;
 }
 
-/* Pauses from one trace to the next: a round of 13 operations leaves a dead cycle of two objects, and these may take half of the
- * megabytes. */
+/* Pauses from one trace to the next: a round of 13 operations leaves a dead cycle of two objects, and these may take two thirds of
+ * the megabytes. */
 static uint32_t pauses_between_traces(uint32_t every) {
     uint32_t left = every * THREADS / 13 * 2 * OBJECT_BYTES;
-    uint32_t pauses = work.megabytes * 500000u / (left ? left : 1);
+    uint32_t pauses = work.megabytes * 666667u / (left ? left : 1);
     return pauses < 2 ? 2 : pauses;
 }
 

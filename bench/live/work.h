@@ -2,7 +2,8 @@
  *
  * Four threads have tables of IN_TABLE objects each. In each round a thread makes DROPPED objects that nothing keeps, and one that takes
  * the place of a random one of its own: the old one is garbage. Where garbage is cyclic, two new objects that refer to each other take the
- * place, so that what they replace is a cycle. An object has two references and two data words. */
+ * place, so that what they replace is a cycle. An object has two references and thirteen data words: 128 bytes with a header, in each of
+ * the three systems. */
 #ifndef WORK_H
 #define WORK_H
 
@@ -11,10 +12,10 @@
 #include <stdlib.h>
 #include <time.h>
 
-enum { THREADS = 4, HELPERS = 2, IN_TABLE = 1000, DROPPED = 3 };
+enum { THREADS = 4, HELPERS = 2, IN_TABLE = 500, REFS = 2, WORDS = 13, DROPPED = 3 };
 
-/* Bytes of an object: a header, its four words, and one so that their number is even. */
-#define OBJECT_BYTES 48u
+/* Bytes of an object. */
+#define OBJECT_BYTES 128u
 
 /* What one run is of. */
 struct work {
