@@ -1,7 +1,6 @@
 //! Command lines, scripts and loads, told without running them.
 
-use lxr_text_load::make_load;
-use lxr_text_script::{Script, error_line, read_script};
+use lxr_text_script::{Script, error_line, make_load, read_script};
 use lxr_words::{WordError, read_words};
 use std::alloc::AllocError;
 use std::io;

@@ -48,13 +48,13 @@ use Rattle.lxr_core_invariant.specs.Epoch.{AreResting as StatesRest, Decrementer
 use Rattle.lxr_core_invariant.specs.Laws.{AllRest}
 use Rattle.lxr_core_invariant.specs.Through.{IsAsHistory, IsPauseWanted as StateWantsPause}
 use Rattle.lxr_core_inv_counts.proofs.KeepingLemmas.{closing_counts}
-use Rattle.lxr_core_inv_inside.proofs.KeepingLemmas.{closing_inside}
-use Rattle.lxr_core_inv_remembered.proofs.SafepointLemmas.{closing_remembered}
-use Rattle.lxr_core_inv_snapshot.proofs.SafepointLemmas.{closing_cover}
+use Rattle.lxr_core_inv_trace.proofs.InsideKeepingLemmas.{closing_inside}
+use Rattle.lxr_core_inv_trace.proofs.RememberedSafepointLemmas.{closing_remembered}
+use Rattle.lxr_core_inv_trace.proofs.SnapshotSafepointLemmas.{closing_cover}
 use Rattle.lxr_core_inv_history.proofs.EndLemmas.{ends_are_counted}
 use Rattle.lxr_core_inv_history.proofs.ThroughLemmas.{rest_is_history, wanted_has_cause}
 use Rattle.lxr_core_inv_memory.proofs.ClosingLemmas.{all_blocks_are_taken}
-use Rattle.lxr_core_inv_logs.proofs.ClosingLemmas.{closing_logs}
+use Rattle.lxr_core_inv_heap.proofs.LogsClosingLemmas.{closing_logs}
 use Rattle.lxr_core_close.specs.HandingOut.{AreHandedOut, DrawnIsOut, IsDrawnLine, MayHandOut, drawn_blocks, drawn_runs}
 use Rattle.lxr_invariant.specs.Lines.{NoneChosen}
 use Rattle.lxr_core_close.specs.Safepoint.{HasClosingTrace, HasCollected, registers_of}

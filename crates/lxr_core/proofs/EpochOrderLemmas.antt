@@ -20,15 +20,15 @@ use Rattle.lxr_core_invariant.specs.Epoch.{IsEpoch}
 use Rattle.lxr_core_invariant.proofs.ShowingLemmas.{shown_cases}
 use Rattle.lxr_core_inv_history.proofs.CallLemmas.{says_same}
 use Rattle.lxr_core_inv_history.proofs.KeepLemmas.{all_called}
-use Rattle.lxr_core_inv_image.proofs.StayLemmas.{quiet_placed}
-use Rattle.lxr_core_inv_logs.proofs.TurnLemmas.{logs_for, logs_from, turns_keep_logs}
+use Rattle.lxr_core_inv_heap.proofs.ImageStayLemmas.{quiet_placed}
+use Rattle.lxr_core_inv_heap.proofs.LogsTurnLemmas.{logs_for, logs_from, turns_keep_logs}
 use Rattle.lxr_core_inv_memory.proofs.CarryLemmas.{still_carries}
 use Rattle.lxr_core_inv_memory.proofs.OwnerLemmas.{turns_still}
 use Rattle.lxr_core_inv_memory.proofs.QuietLemmas.{idle, idle_kept, is_idle}
 use Rattle.lxr_core_inv_memory.proofs.ThreadStateLemmas.{total_kept}
-use Rattle.lxr_core_inv_snapshot.proofs.HelperLemmas.{while_runs}
-use Rattle.lxr_core_inv_snapshot.proofs.OldLemmas.{old_stays}
-use Rattle.lxr_core_inv_snapshot.proofs.TurnLemmas.{turn_keeps_cover}
+use Rattle.lxr_core_inv_trace.proofs.SnapshotHelperLemmas.{while_runs}
+use Rattle.lxr_core_inv_trace.proofs.SnapshotOldLemmas.{old_stays}
+use Rattle.lxr_core_inv_trace.proofs.SnapshotTurnLemmas.{turn_keeps_cover}
 use Rattle.lxr_core.specs.Ordering.{MayBeOrdered, OrdersKeepEpochs, after_order, with_order}
 
 -- a front of a list is one of the list with more behind it

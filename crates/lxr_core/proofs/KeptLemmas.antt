@@ -18,21 +18,21 @@ use Rattle.lxr_core_invariant.specs.Laws.{DecrementersKeepEpoch, EpochIsKept, Tr
 use Rattle.lxr_core_inv_counts.proofs.KeepingLemmas.{counts_are_kept, decrementers_are_sound, decrementers_keep_counts, tracers_keep_counts}
 use Rattle.lxr_core_inv_history.proofs.EventLemmas.{history_is_kept}
 use Rattle.lxr_core_inv_history.proofs.LeftLemmas.{history_is_left}
-use Rattle.lxr_core_inv_image.proofs.LeftLemmas.{placed_is_left}
-use Rattle.lxr_core_inv_image.proofs.PlacedLemmas.{placed_is_kept}
-use Rattle.lxr_core_inv_inside.proofs.KeepingLemmas.{decrementers_keep_inside, inside_is_kept, tracers_keep_inside}
-use Rattle.lxr_core_inv_logs.proofs.EventLemmas.{events_keep}
-use Rattle.lxr_core_inv_logs.proofs.LeftLemmas.{bits_and_logs_are_left}
+use Rattle.lxr_core_inv_heap.proofs.ImageLeftLemmas.{placed_is_left}
+use Rattle.lxr_core_inv_heap.proofs.ImagePlacedLemmas.{placed_is_kept}
+use Rattle.lxr_core_inv_trace.proofs.InsideKeepingLemmas.{decrementers_keep_inside, inside_is_kept, tracers_keep_inside}
+use Rattle.lxr_core_inv_heap.proofs.LogsEventLemmas.{events_keep}
+use Rattle.lxr_core_inv_heap.proofs.LogsLeftLemmas.{bits_and_logs_are_left}
 use Rattle.lxr_core_inv_memory.proofs.DrawnLemmas.{drawn_memory_is_kept}
 use Rattle.lxr_core_inv_memory.proofs.FixedLemmas.{fixed_tables_are_kept, fixed_tables_are_left}
 use Rattle.lxr_core_inv_memory.proofs.LeftLemmas.{drawn_memory_is_left}
-use Rattle.lxr_core_inv_remembered.proofs.KeepingLemmas.{decrementers_keep_remembered, remembered_is_kept, tracers_keep_remembered}
+use Rattle.lxr_core_inv_trace.proofs.RememberedKeepingLemmas.{decrementers_keep_remembered, remembered_is_kept, tracers_keep_remembered}
 use Rattle.lxr_core_inv_history.proofs.KeepingLemmas.{registers_are_kept}
 use Rattle.lxr_core_inv_history.proofs.RegistersLeftLemmas.{registers_are_left}
 use Rattle.lxr_core_inv_history.proofs.ReplyLemmas.{replies_are_steps}
-use Rattle.lxr_core_inv_scans.proofs.KeepingLemmas.{decrementers_keep_knowledge, knowledge_is_kept, tracers_are_sound, tracers_keep_knowledge}
-use Rattle.lxr_core_inv_snapshot.proofs.HelperLemmas.{decrementers_keep_cover, tracers_keep_cover}
-use Rattle.lxr_core_inv_snapshot.proofs.MutatorLemmas.{cover_is_kept}
+use Rattle.lxr_core_inv_trace.proofs.ScansKeepingLemmas.{decrementers_keep_knowledge, knowledge_is_kept, tracers_are_sound, tracers_keep_knowledge}
+use Rattle.lxr_core_inv_trace.proofs.SnapshotHelperLemmas.{decrementers_keep_cover, tracers_keep_cover}
+use Rattle.lxr_core_inv_trace.proofs.SnapshotMutatorLemmas.{cover_is_kept}
 
 -- all parts are kept, so all of it is
 pub epoch_is_kept : EpochIsKept

@@ -32,10 +32,10 @@ use Rattle.lxr_core_invariant.specs.Called.{AreCalled, AreReplies, IsWithinTurn,
 use Rattle.lxr_core_invariant.specs.Epoch.{IsEpoch}
 use Rattle.lxr_core_invariant.specs.Laws.{OpensWith}
 use Rattle.lxr_core_inv_counts.proofs.KeepingLemmas.{opening_counts}
-use Rattle.lxr_core_inv_inside.proofs.KeepingLemmas.{opening_inside}
-use Rattle.lxr_core_inv_remembered.proofs.SafepointLemmas.{opening_remembered}
-use Rattle.lxr_core_inv_scans.proofs.KeepingLemmas.{opening_knowledge}
-use Rattle.lxr_core_inv_snapshot.proofs.SafepointLemmas.{opening_cover}
+use Rattle.lxr_core_inv_trace.proofs.InsideKeepingLemmas.{opening_inside}
+use Rattle.lxr_core_inv_trace.proofs.RememberedSafepointLemmas.{opening_remembered}
+use Rattle.lxr_core_inv_trace.proofs.ScansKeepingLemmas.{opening_knowledge}
+use Rattle.lxr_core_inv_trace.proofs.SnapshotSafepointLemmas.{opening_cover}
 use Rattle.lxr_core.proofs.StartingLemmas.{AllRest, AllStart, Starts, StartsIn, anew, over, no_work, opening_epoch_state}
 use Rattle.lxr_core.proofs.OwnerLemmas.{one_owner}
 

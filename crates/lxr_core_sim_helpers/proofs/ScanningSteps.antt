@@ -25,7 +25,7 @@ use Rattle.lxr_core_invariant.specs.EpochStates.{Beginning, EpochState, limits_o
 use Rattle.lxr_core_invariant.specs.Counted.{IsInHeap, StandsAt}
 use Rattle.lxr_core_invariant.specs.Traced.{IsScannedAt}
 use Rattle.lxr_core_invariant.specs.Epoch.{IsEpoch}
-use Rattle.lxr_core_inv_scans.proofs.GroundLemmas.{ground_of}
+use Rattle.lxr_core_inv_trace.proofs.ScansGroundLemmas.{ground_of}
 use Rattle.lxr_core_sim_helpers.specs.TracerShowing.{tracing_of}
 use Rattle.lxr_core_sim_helpers.proofs.HelperLemmas.{is_from, is_less, is_not_zero, is_zero}
 use Rattle.lxr_core_sim_helpers.proofs.HelperKnowingLemmas.{nil_told, place_told}

@@ -14,7 +14,7 @@ use Rattle.lxr_model.specs.Moments.{Moment}
 use Rattle.lxr_trace.specs.Words.{remember_room}
 use Rattle.lxr_pocket.specs.Words.{references_in, references_told, referent_in}
 use Rattle.lxr_core_invariant.specs.Counted.{IsInHeap}
-use Rattle.lxr_core_inv_scans.proofs.GroundLemmas.{IsObjectAt}
+use Rattle.lxr_core_inv_trace.proofs.ScansGroundLemmas.{IsObjectAt}
 
 -- what ends in the heap is told to
 ends_in : (word most counts : ℕ) → word ≤ most → counts ≡ most → nat_le word counts ≡ true

@@ -18,7 +18,7 @@ use Rattle.lxr_core_access.specs.Tracers as tracing
 use Rattle.lxr_core_invariant.specs.EpochStates.{Beginning, EpochState, limits_of}
 use Rattle.lxr_core_invariant.specs.Decremented.{MayTrace}
 use Rattle.lxr_core_invariant.specs.Epoch.{IsEpoch}
-use Rattle.lxr_core_inv_scans.proofs.KeepingLemmas.{tracers_are_sound}
+use Rattle.lxr_core_inv_trace.proofs.ScansKeepingLemmas.{tracers_are_sound}
 use Rattle.lxr_core_sim_helpers.specs.TracerShowing.{IsTracerOf, tracing_in, tracing_of}
 use Rattle.lxr_core_sim_helpers.specs.TracerStepping.{TracerStepsAreEvents, ShowsTracer}
 use Rattle.lxr_core_sim_helpers.proofs.HelperLemmas as lemma

@@ -36,7 +36,7 @@ use Rattle.lxr_core_invariant.specs.Imaged.{IsReferenceAt}
 use Rattle.lxr_core_invariant.proofs.HeldLemmas.{reference_held}
 use Rattle.lxr_core_invariant.proofs.TellingLemmas.{small_place, stands_there}
 use Rattle.lxr_core_invariant.proofs.ReplyStepLemmas.{get_bad, get_ok, get_range, load_bad, load_ok, load_range, put_bad, put_ok, put_range, store_bad, store_ok, store_range}
-use Rattle.lxr_core_inv_logs.proofs.ReferenceLemmas.{clear_is_cleared, cleared_bits, old_is_read, set_is_uncleared}
+use Rattle.lxr_core_inv_heap.proofs.LogsReferenceLemmas.{clear_is_cleared, cleared_bits, old_is_read, set_is_uncleared}
 use Rattle.lxr_direct.specs.declared.reading.Base.{Base}
 use Rattle.lxr_direct.specs.Operating.{IsDone, IsPlaceOf, IsToRecord, LogIsFull, MayOperate, StandsAt, with_places}
 use Rattle.lxr_direct.specs.Recording.{IsRecorded, Records, entry_now, is_unlogged}

@@ -10,14 +10,14 @@ use Rattle.lxr_large_model.specs.declared.LargeReply.{LargeReply}
 use Rattle.lxr_large_model.specs.History.{LargeItem}
 use Rattle.lxr_large_model.specs.Full.{LargeTerms}
 use Rattle.lxr_large_model.specs.Pauses.{IsLegalLarge}
-use Rattle.lxr_large_print.specs.Replies.{AreLargePrintable, IsNoEnd, large_text}
-use Rattle.lxr_large_script.specs.Limits.{IsLargeOperation, IsLargeScript, IsLargeWritten}
+use Rattle.lxr_large_text.specs.Replies.{AreLargePrintable, IsNoEnd, large_text}
+use Rattle.lxr_large_text.specs.Limits.{IsLargeOperation, IsLargeScript, IsLargeWritten}
 use Rattle.lxr_large_heap.specs.declared.heap.Heap.{Heap}
 use Rattle.lxr_large_heap.specs.Holding.{IsOpenedHeap, limits_of}
 use Rattle.lxr_large_heap.proofs.MomentLemmas.{quiescent}
-use Rattle.lxr_large_history.specs.Histories.{IsLargeHistory, called_in, replied_in, with_end}
-use Rattle.lxr_large_history.specs.Texts.{large_reports_text}
-use Rattle.lxr_large_history.proofs.HistoryLemmas.{as_many, ends_fresh, has_done}
+use Rattle.lxr_large_text.specs.Histories.{IsLargeHistory, called_in, replied_in, with_end}
+use Rattle.lxr_large_text.specs.Texts.{large_reports_text}
+use Rattle.lxr_large_text.proofs.HistoryLemmas.{as_many, ends_fresh, has_done}
 use Rattle.lxr_large_run.specs.Playing.{IsPlaying, LargeTask}
 use Rattle.lxr_large_run.specs.Played.{IsCutLate, IsLeftByLarge, IsPlayed}
 

@@ -13,9 +13,9 @@ use Rattle.lxr_large_model.specs.Pauses.{AsksFor, IsLegalLarge, IsMadeFor, Pause
 use Rattle.lxr_large_heap.specs.declared.heap.Heap.{Heap}
 use Rattle.lxr_large_heap.specs.Acting.{IsReplied, MayBeCalled}
 use Rattle.lxr_large_heap.specs.Pausing.{PausesHeap, kind_asked}
-use Rattle.lxr_large_history.specs.Histories.{CausesSoFar, called_in}
-use Rattle.lxr_large_history.specs.Texts.{large_reports_text}
-use Rattle.lxr_large_history.proofs.CauseLemmas.{any_call_may_come, asked_are_followed, pauses_are_made_for, unasked_owe_nothing}
+use Rattle.lxr_large_text.specs.Histories.{CausesSoFar, called_in}
+use Rattle.lxr_large_text.specs.Texts.{large_reports_text}
+use Rattle.lxr_large_text.proofs.CauseLemmas.{any_call_may_come, asked_are_followed, pauses_are_made_for, unasked_owe_nothing}
 use Rattle.lxr_large_run.specs.Asking.{asked_by}
 use Rattle.lxr_large_run.specs.Playing.{HasCome, IsCutEarly, IsPlaying, LargeTask}
 use Rattle.lxr_large_run.proofs.CallLemmas.{asks_for, asks_none, called_makes, called_pauses, paused_pauses}

@@ -9,10 +9,10 @@ use Rattle.lxr_model.specs.Reachable.{Reachable}
 use Rattle.lxr_invariant.specs.Quiescent.{IsQuiescent}
 use Rattle.lxr_large_model.specs.Full.{LargeTerms}
 use Rattle.lxr_large_model.specs.History.{LargeItem, large_moment, large_state}
-use Rattle.lxr_large_script.specs.Limits.{IsLargeScript}
+use Rattle.lxr_large_text.specs.Limits.{IsLargeScript}
 use Rattle.lxr_large_heap.specs.Holding.{IsOpenedHeap, abstract_after, limits_of}
-use Rattle.lxr_large_history.specs.Histories.{IsLargeHistory}
-use Rattle.lxr_large_history.specs.Texts.{large_run_text}
+use Rattle.lxr_large_text.specs.Histories.{IsLargeHistory}
+use Rattle.lxr_large_text.specs.Texts.{large_run_text}
 use Rattle.lxr_large_run.specs.declared.LargeRun.{LargeRun}
 use Rattle.lxr_large_run.specs.Playing.{IsCutEarly, LargeTask}
 

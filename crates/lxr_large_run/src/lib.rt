@@ -7,7 +7,7 @@
 
 ghost use Rattle.std.specs.Prelude.{◌≡◌, ℕ, ◌≤◌, IfErr, IfOk, OnErr};
 ghost use Rattle.lxr_text_stream.specs.Streams.{Rose};
-ghost use Rattle.lxr_large_script.specs.Limits.{IsLargeScript};
+ghost use Rattle.lxr_large_text.specs.Limits.{IsLargeScript};
 ghost use Rattle.lxr_large_run.specs.Played.{IsCutOff, IsPlayed, IsReady};
 
 mod playing;
@@ -16,8 +16,7 @@ use lxr_base::Listed;
 use lxr_image::Space;
 use lxr_large_heap::LargeHeap;
 use lxr_large_model::LargeReply;
-use lxr_large_print::print_large;
-use lxr_large_script::LargeOperations;
+use lxr_large_text::{LargeOperations, print_large};
 use lxr_text_stream::{Sink, WriteError};
 use playing::play_all;
 use std::alloc::{AllocError, Global};

@@ -14,7 +14,7 @@ use Rattle.lxr_text_stream.specs.declared.transfer.ReadError.TheVariants as read
 use Rattle.lxr_text_stream.specs.Streams.{IsAtEnd, Takes}
 use Rattle.lxr_model.specs.Belongs.{Script}
 use Rattle.lxr_large_model.specs.declared.LargeOp.{LargeOp}
-use Rattle.lxr_large_script.specs.Reading.{large_reading_of}
+use Rattle.lxr_large_text.specs.Reading.{large_reading_of}
 use Rattle.lxr_words.specs.declared.Command.{Command}
 use Rattle.lxr_words.specs.declared.Command.TheVariants.{Judge, Large, Load, Map, Order, Run}
 use Rattle.lxr_words.specs.declared.Options.{Options}

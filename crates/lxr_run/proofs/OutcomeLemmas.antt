@@ -14,7 +14,7 @@ use Rattle.lxr_words.specs.declared.WordFault.{WordFault}
 use Rattle.lxr_words.specs.Options.{reading_of as words_read, thread_commands}
 use Rattle.lxr_run_history.specs.Run.{script_terms}
 use Rattle.lxr_large_model.specs.declared.LargeOp.{LargeOp}
-use Rattle.lxr_large_script.specs.Reading.{large_reading_of}
+use Rattle.lxr_large_text.specs.Reading.{large_reading_of}
 use Rattle.lxr_large_run.specs.Played.{IsCutOff as PlayingWasCutOff, IsPlayed}
 use Rattle.lxr_run_loop.specs.Printed.{IsCutShort, IsPrinted}
 use Rattle.lxr_run.specs.Causes.{stop_of_write}

@@ -10,10 +10,10 @@ use Rattle.lxr_text_script.specs.Limits.{IsScript, most_bytes}
 use Rattle.lxr_text_script.specs.Operations.{Read}
 use Rattle.lxr_text_script.specs.Reading.{lists_in, reading_of, threads_in}
 use Rattle.lxr_text_script.specs.declared.fault.ScriptFault.{ScriptFault}
-use Rattle.lxr_text_load.specs.Load.{load}
+use Rattle.lxr_text_script.specs.Load.{load}
 use Rattle.lxr_large_model.specs.declared.LargeOp.{LargeOp}
-use Rattle.lxr_large_script.specs.Limits.{IsLargeScript}
-use Rattle.lxr_large_script.specs.Reading.{large_reading_of}
+use Rattle.lxr_large_text.specs.Limits.{IsLargeScript}
+use Rattle.lxr_large_text.specs.Reading.{large_reading_of}
 use Rattle.lxr_words.specs.Options.{reading_of as words_read, script_commands, thread_commands}
 use Rattle.lxr_words.specs.declared.Command.{Command}
 use Rattle.lxr_words.specs.declared.Command.TheVariants.{Judge, Large, Load, Map, Order, Run}

@@ -1,11 +1,11 @@
 //! What is run or judged: a script that is read from the input or made from a seed, or a case that is read.
 ghost use Rattle.std.specs.Prelude.{◌≡◌, false, IfErr, IfOk};
-ghost use Rattle.lxr_text_load.specs.Load.{load};
+ghost use Rattle.lxr_text_script.specs.Load.{load};
 ghost use Rattle.lxr_text_script.specs.Limits.{IsScript};
 ghost use Rattle.lxr_text_script.specs.Reading.{lists_in, reading_of};
 ghost use Rattle.lxr_text_stream.specs.Streams.{TakesSome};
-ghost use Rattle.lxr_large_script.specs.Limits.{IsLargeScript};
-ghost use Rattle.lxr_large_script.specs.Reading.{large_reading_of};
+ghost use Rattle.lxr_large_text.specs.Limits.{IsLargeScript};
+ghost use Rattle.lxr_large_text.specs.Reading.{large_reading_of};
 ghost use Rattle.lxr_words.specs.Options.{script_commands};
 ghost use Rattle.lxr_words.specs.Ranges.{AreInRange};
 ghost use Rattle.lxr_run.specs.Runs.{stream};
@@ -13,9 +13,8 @@ ghost use Rattle.lxr_run.specs.Script.{CanBeJudged, GivesNoCase, GivesNone, Give
 
 use crate::refusal::Refusal;
 use lxr_case::{Case, read_case};
-use lxr_large_script::{LargeOperations, read_large};
-use lxr_text_load::make_load;
-use lxr_text_script::{Lists, MOST_BYTES, read_script};
+use lxr_large_text::{LargeOperations, read_large};
+use lxr_text_script::{Lists, MOST_BYTES, make_load, read_script};
 use lxr_text_stream::{Source, read_all};
 use lxr_words::{Command, Options};
 use std::alloc::Global;

@@ -5,14 +5,15 @@
 //! [`make_load`] makes one from a seed. [`print_pause`], [`print_replies`], [`print_summary`] and [`print_map`] write a
 //! report, the replies of a thread, the sums of a load and the heap, byte for byte as their definitions say.
 //!
-//! The work is done in the rooms `lxr_text_stream`, `lxr_text_script`, `lxr_text_load`, `lxr_text_print` and
+//! The work is done in the rooms `lxr_text_stream`, `lxr_text_script`, `lxr_text_print` and
 //! `lxr_text_map`; crates of this repository stand on these.
 #![tactic(auto)]
 
-pub use lxr_text_load::make_load;
 pub use lxr_text_map::print_map;
 pub use lxr_text_print::{Sums, print_pause, print_replies, print_summary};
-pub use lxr_text_script::{Lists, Script, ScriptError, ScriptFault, error_line, read_script};
+pub use lxr_text_script::{
+    Lists, Script, ScriptError, ScriptFault, error_line, make_load, read_script,
+};
 pub use lxr_text_stream::{
     Bytes, Faults, Kept, Out, Plenty, Put, ReadError, Sink, Source, Standard, Taken, Whole,
     WriteError, put_all, read_all,

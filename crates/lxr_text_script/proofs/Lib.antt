@@ -6,3 +6,4 @@ pub mod Spelled
 pub mod Plain
 pub mod Canonical
 pub mod Accepted
+pub mod Rounds

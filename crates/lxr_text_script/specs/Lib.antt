@@ -7,3 +7,4 @@ pub mod Grammar
 pub mod Spelling
 pub mod Faults
 pub mod Scanner
+pub mod Load

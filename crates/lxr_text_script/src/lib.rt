@@ -9,6 +9,7 @@
 mod fault;
 mod laws;
 mod lines;
+mod load;
 mod numbers;
 mod operations;
 mod reading;
@@ -16,6 +17,7 @@ mod reading;
 pub use fault::{ScriptError, ScriptFault, error_line};
 pub use laws::{accepted_is_spelled, spelled_is_accepted, spelling_is_read_again};
 pub use lines::{Item, Scanner, split_line, split_word};
+pub use load::make_load;
 use lxr_base::Listed;
 use lxr_graph::Operations;
 pub use numbers::number_of;

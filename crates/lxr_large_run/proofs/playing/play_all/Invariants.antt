@@ -1,6 +1,6 @@
 use Rattle.std.proofs.Common.{◌≡◌, ◌≤◌, [], List, drop, length}
 use Rattle.lxr_large_model.specs.History.{LargeItem}
-use Rattle.lxr_large_history.specs.Histories.{with_end}
+use Rattle.lxr_large_text.specs.Histories.{with_end}
 use Rattle.lxr_large_run.specs.Playing.{IsPlaying, LargeTask}
 use Rattle.lxr_large_run.proofs.playing.play_all.Given as goal
 

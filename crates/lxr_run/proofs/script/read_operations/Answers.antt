@@ -2,7 +2,7 @@
 use Rattle.std.proofs.Common.{subst, sym, ◌≡◌}
 use Rattle.std.specs.Prelude.{Ok}
 use Rattle.lxr_text_script.specs.Reading.{Fails}
-use Rattle.lxr_large_script.specs.Reading.{large_reading_of}
+use Rattle.lxr_large_text.specs.Reading.{large_reading_of}
 use Rattle.lxr_run.specs.Causes.{refusal_of_script}
 use Rattle.lxr_run.specs.Runs.{stream}
 use Rattle.lxr_run.specs.Script.{GivesNone}

@@ -1,0 +1,17 @@
+pub mod ImageKnowLemmas
+pub mod ImageWordLemmas
+pub mod ImageStayLemmas
+pub mod ImageWriteLemmas
+pub mod ImageMakeLemmas
+pub mod ImagePlacedLemmas
+pub mod ImageLeftLemmas
+pub mod LogsThreadStateLemmas
+pub mod LogsPlaceLemmas
+pub mod LogsTurnLemmas
+pub mod LogsCallLemmas
+pub mod LogsReferenceLemmas
+pub mod LogsFirstLemmas
+pub mod LogsStoreLemmas
+pub mod LogsEventLemmas
+pub mod LogsClosingLemmas
+pub mod LogsLeftLemmas

@@ -1,5 +1,0 @@
-use Rattle.lxr_core_inv_logs.proofs.EventLemmas.{events_keep}
-use Rattle.lxr_core_inv_logs.proofs.bits_and_logs_are_kept.Goals as goal
-
-pub returns : goal.returns
-returns c = events_keep

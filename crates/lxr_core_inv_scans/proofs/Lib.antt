@@ -1,6 +1,0 @@
-pub mod GroundLemmas
-pub mod TurnLemmas
-pub mod NumberLemmas
-pub mod StepLemmas
-pub mod SoundLemmas
-pub mod KeepingLemmas

@@ -1,5 +1,0 @@
-use Rattle.lxr_large_history.proofs.CauseLemmas.{pauses_are_made_for}
-use Rattle.lxr_large_history.proofs.pauses_are_made_for.Goals as goal
-
-pub returns : goal.returns
-returns c = pauses_are_made_for

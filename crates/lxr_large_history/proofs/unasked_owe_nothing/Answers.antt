@@ -1,5 +1,0 @@
-use Rattle.lxr_large_history.proofs.CauseLemmas.{unasked_owe_nothing}
-use Rattle.lxr_large_history.proofs.unasked_owe_nothing.Goals as goal
-
-pub returns : goal.returns
-returns c = unasked_owe_nothing

@@ -1,0 +1,5 @@
+mod Loops
+mod Accepted
+mod Lines
+pub mod CauseLemmas
+pub mod HistoryLemmas
