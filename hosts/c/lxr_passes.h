@@ -82,7 +82,8 @@ uint32_t lxr_shared_resume(lxr_shared *heap);
  * Closes the epoch and makes a pause, where one is wanted: a collecting one where lxr_station_ask_collect was called in the epoch. Each
  * lxr_station_new that waits has its object behind it, if there is room; where there is none, a collecting pause follows, and what then
  * finds no room is answered LXR_FULL. A thread may be ordered 67,108,864 operations until all names are renewed: they are behind a pause
- * that collects, where some thread was ordered more than half as many and no lxr_station_new waited for the pause. Takes no memory.
+ * that collects or ends a trace, where some thread was ordered more than half as many and no lxr_station_new waited for the pause. Takes no
+ * memory.
  * Codes: LXR_NO_HEAP; LXR_EPOCH, where none is open; LXR_ENDED; LXR_LOST; LXR_AWAY, where a pass is away; LXR_NOT_WANTED; LXR_BUSY, where a
  * lxr_station_come_home hasn't come back yet.
  */

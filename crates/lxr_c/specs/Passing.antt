@@ -5,13 +5,12 @@ use Rattle.lxr_graph.specs.declared.Reply.{Reply}
 use Rattle.lxr_graph.specs.declared.Reply.TheVariants as reply
 use Rattle.lxr_large_model.specs.declared.LargeReply.TheVariants as large_reply
 use Rattle.lxr_core.specs.declared.actors.AnyActor.{AnyActor}
-use Rattle.lxr_shared_passes.specs.Passing.{IsSamePass, Passing as Pass}
 use Rattle.lxr_live.specs.declared.station.Answer.{Answer}
 use Rattle.lxr_live.specs.declared.station.Answer.TheVariants as answer
 use Rattle.lxr_live.specs.declared.station.NotOut.{NotOut}
 use Rattle.lxr_live.specs.declared.station.NotOut.TheVariants as kept
 use Rattle.lxr_live.specs.Heaps.{Heaped, IsKept, IsPassOf}
-use Rattle.lxr_live.specs.Stations.{HasAnswered, HasGoneOn, Helps, IsOpen, is_mutator, newest_of}
+use Rattle.lxr_live.specs.Stations.{HasAnswered, HasGoneOn, Helps, IsOpen, IsSameStation, Stationed, is_mutator, newest_of}
 use Rattle.lxr_live.specs.Wanting.{HasEnded, IsHeldUp}
 use Rattle.lxr_c.specs.declared.codes.Code.{Code}
 use Rattle.lxr_c.specs.declared.codes.Code.TheVariants as code
@@ -60,7 +59,7 @@ IsNotSent x n answer = (answer ≡ code.Memory) ⊎ ((why : NotOut) × IsKept x 
 
 -- it is a station with the pass of this number
 abbrev pub IsSentBy : Heaped → ℕ → Owned → Type 0
-IsSentBy x n o = (p : Pass AnyActor) × (o ≡ owned.Away p) × IsPassOf x.stage n p
+IsSentBy x n o = (s : Stationed) × (o ≡ owned.Away s) × IsPassOf x.stage n s
 
 -- the pass left its home for a station; or it didn't, and this is there as it was
 abbrev pub Leaves : Heaped → ℕ → MayHold → MayHold → Code → Type 0
@@ -103,18 +102,18 @@ ClosesStation None after answer = (answer ≡ code.NoHeap) × (after ≡ None)
 
 -- Whether a pause is wanted was looked at: it is where the thread is held up, and isn't where it has ended, or for a helper.
 abbrev pub SeesWanted : Owned → Owned → Result Bool Code → Type 0
-SeesWanted (owned.Away p) y seen = (y ≡ owned.Away p) × (b : Bool) × (seen ≡ Ok b) × (IsHeldUp p.actor → IsTrue b) × ((is_mutator p.actor ≡ false) ⊎ HasEnded p.actor → b ≡ false)
+SeesWanted (owned.Away p) y seen = (y ≡ owned.Away p) × (b : Bool) × (seen ≡ Ok b) × (IsHeldUp p.pass.actor → IsTrue b) × ((is_mutator p.pass.actor ≡ false) ⊎ HasEnded p.pass.actor → b ≡ false)
 SeesWanted owned.Home y seen = (y ≡ owned.Home) × (seen ≡ Err code.Home)
 SeesWanted (owned.Shared x) y seen = (y ≡ owned.Shared x) × (seen ≡ Err code.NoHeap)
 
 -- a helper did so many units, or as many as it found work for, and whether each found some; a thread's does none
-abbrev pub HelpsPass : ℕ → Pass AnyActor → Pass AnyActor → Result Bool Code → Type 0
-HelpsPass units p q (Ok all) = (is_mutator p.actor ≡ false) × IsSamePass p q × Helps units p all q
-HelpsPass units p q (Err e) = (is_mutator p.actor ≡ true) × (q ≡ p) × (e ≡ code.Kind)
+abbrev pub HelpsPass : ℕ → Stationed → Stationed → Result Bool Code → Type 0
+HelpsPass units p q (Ok all) = (is_mutator p.pass.actor ≡ false) × IsSameStation p q × Helps units p.pass all q.pass
+HelpsPass units p q (Err e) = (is_mutator p.pass.actor ≡ true) × (q ≡ p) × (e ≡ code.Kind)
 
 -- units of a helper were to be done
 abbrev pub HelpsBy : ℕ → Owned → Owned → Result Bool Code → Type 0
-HelpsBy units (owned.Away p) y answer = (q : Pass AnyActor) × (y ≡ owned.Away q) × HelpsPass units p q answer
+HelpsBy units (owned.Away p) y answer = (q : Stationed) × (y ≡ owned.Away q) × HelpsPass units p q answer
 HelpsBy units owned.Home y answer = (y ≡ owned.Home) × (answer ≡ Err code.Home)
 HelpsBy units (owned.Shared x) y answer = (y ≡ owned.Shared x) × (answer ≡ Err code.NoHeap)
 
@@ -136,12 +135,12 @@ TellsAnswer a answer.Ended told = told ≡ only code.Ended
 TellsAnswer a answer.Refused told = (told ≡ only told.code) × IsRefusal a told.code
 
 -- an operation was ordered, and this is told of its answer
-abbrev pub Orders : Pass AnyActor → Op → Pass AnyActor → Told → Type 0
-Orders p o q told = IsSamePass p q × (a : Answer) × HasAnswered p o a q × TellsAnswer p.actor a told
+abbrev pub Orders : Stationed → Op → Stationed → Told → Type 0
+Orders p o q told = IsSameStation p q × (a : Answer) × HasAnswered p.pass o a q.pass × TellsAnswer p.pass.actor a told
 
 -- an operation was to be ordered
 abbrev pub Operates : SmallRequest → Owned → Owned → Told → Type 0
-Operates (Ok o) (owned.Away p) y told = (q : Pass AnyActor) × (y ≡ owned.Away q) × Orders p o q told
+Operates (Ok o) (owned.Away p) y told = (q : Stationed) × (y ≡ owned.Away q) × Orders p o q told
 Operates (Ok o) owned.Home y told = (y ≡ owned.Home) × (told ≡ only code.Home)
 Operates (Err e) (owned.Away p) y told = (y ≡ owned.Away p) × (told ≡ only e)
 Operates (Err e) owned.Home y told = (y ≡ owned.Home) × (told ≡ only e)
@@ -167,14 +166,14 @@ told_newest (Some r) = told_by r
 told_newest None = only code.Nothing
 
 -- The operation that was ordered last was answered: it was gone on with, where it is open, and else its reply is the newest one.
-abbrev pub AnswersPass : Pass AnyActor → Pass AnyActor → Told → Type 0
+abbrev pub AnswersPass : Stationed → Stationed → Told → Type 0
 AnswersPass p q told =
-    ((is_mutator p.actor ≡ false) × (q ≡ p) × (told ≡ only code.Kind))
-    ⊎ (((is_mutator p.actor ≡ true) × IsOpen p.actor × IsSamePass p q × (r : Option Reply) × HasGoneOn p r q × (told ≡ told_going r))
-    ⊎ ((is_mutator p.actor ≡ true) × (¬ IsOpen p.actor) × (q ≡ p) × (told ≡ told_newest (newest_of p.actor))))
+    ((is_mutator p.pass.actor ≡ false) × (q ≡ p) × (told ≡ only code.Kind))
+    ⊎ (((is_mutator p.pass.actor ≡ true) × IsOpen p.pass.actor × IsSameStation p q × (r : Option Reply) × HasGoneOn p.pass r q.pass × (told ≡ told_going r))
+    ⊎ ((is_mutator p.pass.actor ≡ true) × (¬ IsOpen p.pass.actor) × (q ≡ p) × (told ≡ told_newest (newest_of p.pass.actor))))
 
 -- an answer was asked for
 abbrev pub Answers : Owned → Owned → Told → Type 0
-Answers (owned.Away p) y told = (q : Pass AnyActor) × (y ≡ owned.Away q) × AnswersPass p q told
+Answers (owned.Away p) y told = (q : Stationed) × (y ≡ owned.Away q) × AnswersPass p q told
 Answers owned.Home y told = (y ≡ owned.Home) × (told ≡ only code.Home)
 Answers (owned.Shared x) y told = (y ≡ owned.Shared x) × (told ≡ only code.NoHeap)

@@ -110,7 +110,7 @@ fn boxed_station(alloc: Global, heap: &Heap, number: u32) -> Result<Box<Owned, G
 /// Why a station refuses an operation of a thread.
 #[cold]
 fn refusal(station: &Station) -> Code
-    ensures { IsRefusal station.now.actor result }
+    ensures { IsRefusal station.now.pass.actor result }
 {
     if !station.is_mutator() {
         return Code::Kind;

@@ -26,9 +26,9 @@ use Rattle.lxr_core.proofs.MappedLemmas.{mapped}
 use Rattle.lxr_shared.specs.Sharing.{Sharing}
 use Rattle.lxr_shared_passes.specs.Passing.{Every, IsEnd, Passing}
 use Rattle.lxr_run_threads.proofs.OpenedLemmas.{started_helpers}
-use Rattle.lxr_core.proofs.ScriptLemmas.{opened_script}
+use Rattle.lxr_core.proofs.ScriptLemmas.{opened_script, unfilled_mutators}
 use Rattle.lxr_live.specs.Living.{AreLive}
-use Rattle.lxr_live.specs.Running.{BeganWith, IsRunning}
+use Rattle.lxr_live.specs.Running.{BeganWith, IsRunning, shown_of}
 use Rattle.lxr_live.proofs.LivingLemmas.{live_opened}
 
 -- what two are some of is one
@@ -79,11 +79,35 @@ is_running b before opened resting started epoch begins opens holds opening spac
   space_is = subst (λ (s : Space). s ≡ record b.space { words = s.words }) (sym space) (opens.space.rest ∙ ap (λ (s : Space). record s { words = opened.words }) (sym begins.space_is));
 }
 
+-- mutators that begin again show what they did
+shown_again : (resting started : List AnyActor) → length started ≡ length resting → ((i : ℕ) (a : AnyActor) → slice_get resting i ≡ Some a → (registers : List Place) × (slice_get started i ≡ Some (started_again a registers)))
+    → shown_of (mutators_in started) ≡ shown_of (mutators_in resting)
+shown_again [] [] many each = refl
+shown_again [] (x ∷ started) many each = absurd (omega (arith, many))
+shown_again (a ∷ resting) [] many each = absurd (omega (arith, many))
+shown_again (a ∷ resting) (x ∷ started) many each =
+    let (registers, at) = each 0 a refl in
+    let is : x ≡ started_again a registers = cc in
+    let rest = shown_again resting started (omega (arith, many)) (λ i b there. each (suc i) b there) in
+    subst (λ z. shown_of (mutators_in (z ∷ started)) ≡ shown_of (mutators_in (a ∷ resting))) (sym is) (first_again a registers rest)
+  where
+    first_again : (a : AnyActor) (registers : List Place) → shown_of (mutators_in started) ≡ shown_of (mutators_in resting) → shown_of (mutators_in (started_again a registers ∷ started)) ≡ shown_of (mutators_in (a ∷ resting))
+    first_again (any.Mutator m) registers rest = ap (λ z. (m.replies.items, m.end) ∷ z) rest
+    first_again (any.Decrementer d) registers rest = rest
+    first_again (any.Tracer d) registers rest = rest
+
+-- so it is as an epoch opens
+opened_shown : (before after : Space) (resting started : List AnyActor) → Opens before after resting started → shown_of (mutators_in started) ≡ shown_of (mutators_in resting)
+opened_shown before after resting started opens =
+    ap shown_of (sym (unfilled_mutators started))
+    ∙ shown_again resting (map unfilled started) opens.actors.as_many (λ i a at. (registers_in before.registers.items i, opens.actors.started i a at (slice_get_within resting i a at)))
+
 -- its actors are those that there were, as they begin again
 pub began_with : (before opened : Space) (resting started : List AnyActor) (epoch : Sharing) → Opens before opened resting started → epoch.opening ≡ core_of opened.words started → BeganWith resting epoch
 began_with before opened resting started epoch opens opening =
     let helpers = started_helpers before.registers.items resting started opens.actors in record {
       script = ap (λ (k : Core AnyActor). script_of (mutators_in k.actors)) opening ∙ opened_script before opened resting started opens;
+      shown = ap (λ (k : Core AnyActor). shown_of (mutators_in k.actors)) opening ∙ opened_shown before opened resting started opens;
       decrementers = ap (λ (k : Core AnyActor). length (decrementers_in k.actors)) opening ∙ helpers.decrementers;
       tracers = ap (λ (k : Core AnyActor). length (tracers_in k.actors)) opening ∙ helpers.tracers;
       live = λ live. subst (λ (k : Core AnyActor). AreLive (mutators_in k.actors)) (sym opening) (live_opened before opened resting started opens live);

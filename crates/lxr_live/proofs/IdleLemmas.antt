@@ -37,7 +37,7 @@ none_wait (any.Decrementer d ∷ actors) none i m at waiting = none_wait actors 
 none_wait (any.Tracer d ∷ actors) none i m at waiting = none_wait actors none i m at waiting
 
 -- who is answered waits
-some_waiting : (m : Mutating) (w : Waiting) → waiting_by m m.end ≡ Some w → IsWaiting m
+pub some_waiting : (m : Mutating) (w : Waiting) → waiting_by m m.end ≡ Some w → IsWaiting m
 some_waiting m w is = by_end m.end refl is
   where
     by_rests : (b : Bool) → rests_in m.phase ≡ b → m.end ≡ Some ends.NoRun → cond b (Some (record { dest = dest_of (op_now m); shape = shape_made (op_now m) })) None ≡ Some w → IsWaiting m
@@ -76,9 +76,14 @@ idle_answers pace collected ms ms' space space' h h' idle (collects c a middle b
     let same = idle_turns collected ms space h answers.number middle full answers.served k' idle answers.turns in
     absurd (idle answers.number answers.mutator (sym (ap (λ z. slice_get z answers.number) same.0) ∙ answers.turn) (some_waiting answers.mutator answers.waiting answers.waits))
 
--- where nobody waited, nothing stands behind the pause
+-- where nobody waited, that pause is the last item
+pub idle_last : (task : Task) (report : PauseReport) (calls : List Item) (actors : List AnyActor) (mutators' : List Mutating) (h : List Item) → GoesOnBehind task report calls (mutators_in actors) mutators' h
+    → list_any waits actors ≡ false → h ≡ Pause report ∷ calls
+idle_last task report calls actors mutators' h (inl (ended, last)) none = last
+idle_last task report calls actors mutators' h (inr behind) none =
+    idle_answers (pace_of task.options) behind.collected (mutators_in actors) mutators' behind.paused behind.answered (Pause report ∷ calls) h (none_wait actors none) behind.answers
+
+-- nothing stands behind it
 pub idle_behind : (task : Task) (report : PauseReport) (calls : List Item) (actors : List AnyActor) (mutators' : List Mutating) (h : List Item) → GoesOnBehind task report calls (mutators_in actors) mutators' h
     → list_any waits actors ≡ false → JustPaused h
-idle_behind task report calls actors mutators' h (inl (ended, last)) none = subst JustPaused (sym last) tt
-idle_behind task report calls actors mutators' h (inr behind) none =
-    subst JustPaused (sym (idle_answers (pace_of task.options) behind.collected (mutators_in actors) mutators' behind.paused behind.answered (Pause report ∷ calls) h (none_wait actors none) behind.answers)) tt
+idle_behind task report calls actors mutators' h behind none = subst JustPaused (sym (idle_last task report calls actors mutators' h behind none)) tt

@@ -1,5 +1,7 @@
 pub mod HomeLemmas
+pub mod SeenLemmas
 pub mod ReplyLemmas
+pub mod StayingLemmas
 pub mod UnitLemmas
 pub mod LivingLemmas
 pub mod WantingLemmas
@@ -7,6 +9,10 @@ pub mod WantedLemmas
 pub mod EpochLemmas
 pub mod MakingLemmas
 pub mod RestingLemmas
+pub mod NewestLemmas
+pub mod RecallLemmas
+pub mod TellingLemmas
 pub mod HeapLemmas
 pub mod RenewingLemmas
 pub mod IdleLemmas
+pub mod DueLemmas

@@ -28,6 +28,7 @@ use Rattle.lxr_run_loop.proofs.OpeningLemmas.{behind_in_order, helpers_made, pus
 use Rattle.lxr_live.specs.declared.settings.Settings.{Settings}
 use Rattle.lxr_live.specs.Living.{AreLive, IsLive}
 use Rattle.lxr_live.specs.Making.{AreNew}
+use Rattle.lxr_live.specs.Telling.{EndByNewest, EndsByNewest}
 use Rattle.lxr_live.specs.Settings.{AreSettings, limits_in, run_of}
 
 -- ---- the mutators
@@ -126,3 +127,10 @@ new_live l every n w mutators actors new stand =
     let ms = mutators_in mutators in
     let same : mutators_in actors ≡ ms = ap mutators_in (behind_in_order l w ms mutators actors new.alone stand) ∙ mutators_of_order ms (replicate w (first_decrementer l)) (replicate w (first_tracer l)) in
     subst AreLive (sym same) (λ i m at. subst IsLive (sym (new.each i m at)) refl)
+
+-- nor have they ended a unit
+pub new_newest : (l : Limits) (every n w : ℕ) (mutators actors : List AnyActor) → AreNew l every n mutators → HelpersStandBehind l w mutators actors → EndByNewest [] (mutators_in actors)
+new_newest l every n w mutators actors new stand =
+    let ms = mutators_in mutators in
+    let same : mutators_in actors ≡ ms = ap mutators_in (behind_in_order l w ms mutators actors new.alone stand) ∙ mutators_of_order ms (replicate w (first_decrementer l)) (replicate w (first_tracer l)) in
+    subst (EndByNewest []) (sym same) (λ i m at. subst (EndsByNewest (i + 1) []) (sym (new.each i m at)) (λ r is. absurd (cc)))

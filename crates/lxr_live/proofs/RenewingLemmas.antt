@@ -1,12 +1,12 @@
 -- Names may be renewed where nothing stands behind a draining pause, and then the run is between two epochs again.
-use Rattle.std.proofs.Common.{◌≡◌, ◌≢◌, ℕ, zero, suc, ◌+◌, ◌-◌, ◌*◌, ◌^◌, ◌<◌, ◌≤◌, refl, sym, ap, subst, ◌∙◌, inl, inr, arith, Bool, true, false, cond, List, [], ◌∷◌, ◌++◌, IsTrue, length, length-set, map, nat_eq}
+use Rattle.std.proofs.Common.{◌≡◌, ◌≢◌, ℕ, zero, suc, ◌+◌, ◌<◌, ◌≤◌, refl, sym, ap, subst, ◌∙◌, inl, inr, arith, Bool, true, false, List, [], ◌∷◌, ◌++◌, IsTrue, length, length-set, map, nat_eq}
 use Rattle.std.specs.Prelude.{◌&&◌, ◌||◌, Option, Some, None, if◌then◌else◌, is_some, nat_lt, not, option_map, slice_get, slice_set}
 use Rattle.std.specs.List.{AllByRecursion, list_any}
 use Rattle.std.specs.List.Sorted.{IsStrictlySortedBy}
 use Rattle.std.specs.declared.cmp.Ordering.TheVariants.{Less}
 use Rattle.std.proofs.lemmas.Bool.Decides.{eqb_tells, nat_tests}
-use Rattle.std.proofs.lemmas.Bool.{and_parts, false_from_ne_true, not-true, or_cases}
-use Rattle.std.proofs.lemmas.List.{length-map, map-append}
+use Rattle.std.proofs.lemmas.Bool.{and_parts, not-true, or_cases}
+use Rattle.std.proofs.lemmas.List.{length-map}
 use Rattle.std.proofs.lemmas.Option.{slice_get-map, slice_get_within}
 use Rattle.lxr_layout.specs.declared.Name.{Name}
 use Rattle.lxr_layout.specs.declared.TheConstants.{MOST_GRANULES}
@@ -94,7 +94,7 @@ or_right_false true b none = absurd (cc)
 or_right_false false b none = none
 
 -- none of them is at its end
-none_at_end : (actors : List AnyActor) → list_any is_at_end actors ≡ false → (i : ℕ) (m : Mutating) → slice_get (mutators_in actors) i ≡ Some m → m.end ≢ Some ends.Ended
+pub none_at_end : (actors : List AnyActor) → list_any is_at_end actors ≡ false → (i : ℕ) (m : Mutating) → slice_get (mutators_in actors) i ≡ Some m → m.end ≢ Some ends.Ended
 none_at_end [] none i m at ended = cc
 none_at_end (any.Mutator x ∷ actors) none zero m at ended =
     let same : x ≡ m = cc in
@@ -175,7 +175,7 @@ all_renewed left before now n is all = equal_by (actor_renewed left) now before 
 -- ---- a heap
 
 -- the trace that a space tells of
-none_traced : (trace : Option Trace) (began : Option ℕ) → began ≡ option_map (λ (t : Trace). t.began) trace → IsTrue (not (is_some began)) → trace ≡ None
+pub none_traced : (trace : Option Trace) (began : Option ℕ) → began ≡ option_map (λ (t : Trace). t.began) trace → IsTrue (not (is_some began)) → trace ≡ None
 none_traced None began is none = refl
 none_traced (Some t) began is none = absurd (let some : IsTrue (not (is_some (Some t.began))) = subst (λ z. IsTrue (not (is_some z))) is none in cc)
 

@@ -1,5 +1,5 @@
 -- A unit of an actor changes nothing of what it was asked for, and leaves its replies or adds one to them.
-use Rattle.std.proofs.Common.{◌≡◌, ◌∙◌, ℕ, ◌+◌, ◌-◌, ◌≤◌, Bool, true, false, Option, Some, None, List, [], ◌∷◌, ◌++◌, length, length-append, inl, inr, ⊎_elim, refl, sym, ap, subst, arith}
+use Rattle.std.proofs.Common.{◌≡◌, ◌∙◌, ℕ, ◌+◌, ◌-◌, Bool, true, false, Option, Some, None, List, [], ◌∷◌, ◌++◌, length, length-append, inl, inr, ⊎_elim, refl, sym, ap, subst, arith}
 use Rattle.std.specs.Prelude.{◌&&◌, ◌⊎◌, if◌then◌else◌, nat_eq, nat_le, nat_lt, slice_get, slice_index}
 use Rattle.lxr_layout.specs.declared.LogEntry.{LogEntry}
 use Rattle.lxr_layout.specs.declared.Place.{Place}
@@ -192,6 +192,7 @@ pub none_came : (p q : Passing AnyActor) → IsOpen p.actor → HasTurned p q �
 none_came p q pending turned same =
     let g = turn_grows turned.0 p q turned.1 in (
       λ _. turned,
+      λ shut. absurd (shut pending),
       g.same,
       ⊎_elim (λ e. e) (λ t. let more = ap length t.1 ∙ length-append (replied p.actor) (t.0 ∷ []) in absurd (omega (arith, more, same))) g.replies,
     )
@@ -270,7 +271,7 @@ answered p r q o reply told is no_more gone =
   where
     tell : (reply : Option Reply) → HasGoneOn r reply q → length (replied p.actor) ≡ length (asked p.actor) → (asked r.actor ≡ asked p.actor ++ o ∷ []) × (replied r.actor ≡ replied p.actor) → IsOpen r.actor → HasAnswered p o (answer_of reply) q
     tell (Some x) gone same taken pending = ((r, told, gone.0), same, gone.2 ∙ taken.0, gone.3 ∙ ap (λ rs. rs ++ x ∷ []) taken.1)
-    tell None gone same taken pending = ((r, told, gone.0 pending), same, gone.1 ∙ taken.0, gone.2 ∙ taken.1)
+    tell None gone same taken pending = ((r, told, gone.0 pending), same, gone.2 ∙ taken.0, gone.3 ∙ taken.1)
 
 -- where none was taken, the answer says why
 pub unanswered : (p q : Passing AnyActor) (o : Op) (said : Answer) → (q.actor, false) ≡ any_machine.ordered p.actor o → IsNoOrder q.actor said → HasAnswered p o said q

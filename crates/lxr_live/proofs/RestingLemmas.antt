@@ -9,7 +9,7 @@ use Rattle.lxr_core.specs.declared.actors.AnyActor.{AnyActor}
 use Rattle.lxr_core.specs.Actors.{mutators_in}
 use Rattle.lxr_core.specs.Ordering.{orders_of}
 use Rattle.lxr_run_history.specs.declared.totals.Totals.{Totals}
-use Rattle.lxr_run_invariant.specs.LoopInvariant.{HasRunEpoch, HasRunTo, Task}
+use Rattle.lxr_run_invariant.specs.LoopInvariant.{HasRunEpoch, HasRunTo, HaveEnded, Task}
 use Rattle.lxr_run_invariant.proofs.ActorLemmas.{ends_are_all}
 use Rattle.lxr_run_loop.specs.Following.{FollowsEach, HasFollowed}
 use Rattle.lxr_live.specs.declared.settings.Settings.{Settings}
@@ -26,6 +26,7 @@ rested task before after earlier actors actors' calls g totals totals' order ord
   behind = inl (ends_are_all task calls (mutators_in actors) ran.come.history.0 ran.actors_rest.mutators last.ended, refl);
   stands = subst (λ xs. HasRunTo task after None None xs (Pause last.pause.report ∷ calls)) (sym last.same) last.ran;
   asked = ap (λ xs. orders_of (mutators_in xs)) last.same;
+  all_ended = λ e. subst (λ xs. HaveEnded (mutators_in xs)) (sym last.same) last.ended;
 }
 rested task before after earlier actors actors' calls g totals totals' order order' false ran next = record {
   report = next.pause.report;
@@ -42,6 +43,7 @@ rested task before after earlier actors actors' calls g totals totals' order ord
   });
   stands = (next.abstract_state, next.again.amid);
   asked = next.asked;
+  all_ended = λ e. absurd (cc);
 }
 
 -- each run with the settings of the heap has rested

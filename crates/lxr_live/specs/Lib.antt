@@ -8,5 +8,6 @@ pub mod Running
 pub mod Making
 pub mod Resting
 pub mod Renewing
+pub mod Telling
 pub mod Heaps
 pub mod Packing

@@ -1,11 +1,12 @@
 -- When a heap renews names behind a pause, and what that makes of it.
-use Rattle.std.specs.Prelude.{◌≡◌, ℕ, ◌-◌, ◌≤◌, ◌/◌, Bool, true, false, not, ◌&&◌, nat_eq, nat_lt, if◌then◌else◌, None, is_some, List, ◌∷◌, IsTrue, length, map}
+use Rattle.std.specs.Prelude.{◌≡◌, ℕ, ◌<◌, ◌≤◌, ◌/◌, Bool, true, false, not, ◌&&◌, nat_eq, nat_lt, if◌then◌else◌, None, Some, is_some, List, ◌∷◌, IsTrue, length, map, slice_get}
 use Rattle.std.specs.List.{list_any}
 use Rattle.lxr_layout.specs.declared.Name.{Name}
 use Rattle.lxr_layout.specs.declared.TheConstants.{MOST_GRANULES}
-use Rattle.lxr_graph.specs.History.{Item, Renew}
+use Rattle.lxr_graph.specs.History.{Item, PauseReport, Renew}
 use Rattle.lxr_image.specs.declared.space.Space.{Space}
 use Rattle.lxr_model.specs.Belongs.{Script}
+use Rattle.lxr_model.specs.Moments.{moment}
 use Rattle.lxr_model.specs.Reports.{is_draining}
 use Rattle.lxr_invariant.specs.AbstractState.{AbstractState}
 use Rattle.lxr_alloc.specs.declared.TheConstants.{MOST_OPERATIONS}
@@ -22,6 +23,18 @@ use Rattle.lxr_live.specs.Settings.{run_of}
 use Rattle.lxr_live.specs.Wanting.{is_ended}
 
 -- ---- when
+
+-- Names are to be renewed behind a pause with this report, which has led to this history: the pause drained its decrements, no `new` of the mutators
+-- before it waited for it, and no trace runs; and of the mutators as they are now some was ordered more than half of what it may be ordered, and none
+-- has ended.
+pub record IsRenewalDue (threads : ℕ) (report : PauseReport) (before now : List Mutating) (h : List Item) : Type 0 where
+  pub drains : IsTrue (is_draining report.kind)
+  pub unwaiting : (i : ℕ) (m : Mutating) → slice_get before i ≡ Some m → ¬ IsWaiting m
+  pub untraced : (moment threads h).trace ≡ None
+  pub worn : (i : ℕ) × (m : Mutating) × (slice_get now i ≡ Some m) × (MOST_OPERATIONS / 2 < length m.operations)
+  pub unended : (i : ℕ) (m : Mutating) → slice_get now i ≡ Some m → ¬ IsThrough m
+
+-- ---- the same as tests
 
 -- it is a mutator of which a `new` waits
 abbrev pub waits : AnyActor → Bool
@@ -42,7 +55,7 @@ is_at_end a = false
 abbrev pub has_drained : Space → Bool
 has_drained space = (nat_lt 0 space.pauses && is_draining space.report.kind) && not (is_some space.trace)
 
--- Names are to be renewed: the last pause drained, some mutator is worn, and none is at its end.
+-- As far as the space and the actors tell: the last pause drained, some mutator is worn, and none is at its end.
 abbrev pub is_renewal_due : Space → List AnyActor → Bool
 is_renewal_due space actors = has_drained space && (list_any is_worn actors && not (list_any is_at_end actors))
 

@@ -10,7 +10,7 @@ use Rattle.lxr_core.specs.declared.actors.AnyActor.{AnyActor}
 use Rattle.lxr_core.specs.Actors.{mutators_in}
 use Rattle.lxr_core.specs.Ordering.{orders_of}
 use Rattle.lxr_run_loop.specs.Answering.{AnswersWaiting}
-use Rattle.lxr_run_invariant.specs.LoopInvariant.{HasRunEpoch, HasRunTo, HaveMutators, IsBetweenEpochs, Task, pace_of, terms_of}
+use Rattle.lxr_run_invariant.specs.LoopInvariant.{HasRunEpoch, HasRunTo, HaveEnded, HaveMutators, IsBetweenEpochs, Task, pace_of, terms_of}
 use Rattle.lxr_live.specs.declared.settings.Settings.{Settings}
 use Rattle.lxr_live.specs.Settings.{run_of}
 use Rattle.lxr_model.specs.Belongs.{Script}
@@ -35,7 +35,8 @@ abbrev pub StandsBehind : Bool → Task → Space → List AnyActor → List Ite
 StandsBehind true task space actors h = HasRunTo task space None None actors h
 StandsBehind false task space actors h = (g : AbstractState) × IsBetweenEpochs task space None None actors h g
 
--- The pause behind an epoch was made, which collects exactly where it must, and what waited is answered. Nobody was asked for anything.
+-- The pause behind an epoch was made, which collects exactly where it must, and what waited is answered. Nobody was asked for anything. It is the last one
+-- where all mutators have ended.
 pub record HasRested (task : Task) (calls : List Item) (actors : List AnyActor) (space' : Space) (actors' : List AnyActor) (ended : Bool) : Type 0 where
   pub report : PauseReport
   pub collects : (report.kind ≡ kind.Collect) ↔ MustCollect (terms_of task) calls
@@ -43,6 +44,7 @@ pub record HasRested (task : Task) (calls : List Item) (actors : List AnyActor) 
   pub behind : GoesOnBehind task report calls (mutators_in actors) (mutators_in actors') history
   pub stands : StandsBehind ended task space' actors' history
   pub asked : orders_of (mutators_in actors') ≡ orders_of (mutators_in actors)
+  pub all_ended : IsTrue ended → HaveEnded (mutators_in actors')
 
 -- a run with these settings has made an epoch that came to this space and these actors
 abbrev pub HasMadeEpoch : Settings → Space → List AnyActor → Type 0

@@ -1,5 +1,5 @@
 -- Stations: passes that are out with threads, and what has come of the operations that they order.
-use Rattle.std.specs.Prelude.{◌≡◌, ◌↔◌, ℕ, zero, suc, ◌<◌, ◌≤◌, ◌⊎◌, Bool, true, false, Option, None, Some, List, [], ◌∷◌, ◌++◌, IsTrue, length}
+use Rattle.std.specs.Prelude.{◌≡◌, ◌↔◌, ℕ, zero, suc, ◌<◌, ◌≤◌, ◌⊎◌, Bool, true, false, Option, None, Some, List, [], ◌∷◌, ◌++◌, IsTrue, length, slice_get}
 use Rattle.atomic_table.specs.Seated.{TableId}
 use Rattle.lxr_graph.specs.declared.Op.{Op}
 use Rattle.lxr_graph.specs.declared.Reply.{Reply}
@@ -10,12 +10,13 @@ use Rattle.lxr_mutator.specs.Mutators.{MayTakeOrder}
 use Rattle.lxr_core.specs.declared.actors.AnyActor.{AnyActor}
 use Rattle.lxr_core.specs.declared.actors.AnyActor.TheVariants as any
 use Rattle.lxr_core.specs.Actors.{any_machine}
-use Rattle.lxr_shared_passes.specs.Passing.{Opened, Passing, Told, Turned}
+use Rattle.lxr_shared_passes.specs.Passing.{IsSamePass, Opened, Passing, Told, Turned}
 use Rattle.lxr_decrement.specs.declared.phases.DecEnd.TheVariants as worked
 use Rattle.lxr_trace.specs.declared.phases.TraceEnd.TheVariants as traced
 use Rattle.lxr_shared.specs.declared.turns.Turn.{Turn}
 use Rattle.lxr_shared.specs.declared.turns.Turn.TheVariants as turn
 use Rattle.lxr_shared.specs.Ends.{end_of}
+use Rattle.lxr_shared.specs.Sharing.{Sharing}
 use Rattle.lxr_live.specs.declared.homes.Absence.{Absence}
 use Rattle.lxr_live.specs.declared.station.Answer.{Answer}
 use Rattle.lxr_live.specs.declared.station.Answer.TheVariants as answer
@@ -34,9 +35,43 @@ pub record Housed : Type 0 where
 abbrev pub table_of : Housed → Opened AnyActor
 table_of epoch = record { id = epoch.id; opening = epoch.opening }
 
+-- an epoch as its owner has it, and the name of the homes of its passes
+pub record Lived : Type 0 where
+  pub epoch : Sharing
+  pub homes : TableId
+
+-- what threads share of it
+abbrev pub housed_in : Lived → Housed
+housed_in live = record { id = live.epoch.id; opening = live.epoch.opening; homes = live.homes }
+
+-- a pass that a thread has, and the name of the homes that it is away from
+pub record Stationed : Type 0 where
+  pub pass : Passing AnyActor
+  pub homes : TableId
+
+-- a station with the pass of this number of this epoch
+pub record IsStationOf (epoch : Housed) (number : ℕ) (s : Stationed) : Type 0 where
+  pub pass : IsPassAt (table_of epoch) number s.pass
+  pub homes : s.homes ≡ epoch.homes
+
+-- the same place among the passes of the same epoch, away from the same homes
+pub record IsSameStation (s t : Stationed) : Type 0 where
+  pub pass : IsSamePass s.pass t.pass
+  pub homes : t.homes ≡ s.homes
+
+-- ---- stations that are handed in, each in the place of its number
+
+-- a station is handed in for this number
+abbrev pub IsHandedIn : List (Option Stationed) → ℕ → Stationed → Type 0
+IsHandedIn handed number s = slice_get handed number ≡ Some (Some s)
+
+-- those that are handed in are of this epoch, each for its number
+abbrev pub AreStationsOf : Housed → List (Option Stationed) → Type 0
+AreStationsOf epoch handed = (number : ℕ) (s : Stationed) → IsHandedIn handed number s → IsStationOf epoch number s
+
 -- a pass of this epoch that is away from its home
 pub record IsOut (epoch : Housed) (a : Absence) (p : Passing AnyActor) : Type 0 where
-  pub pass : IsPassAt epoch.id a.number p
+  pub pass : IsPassAt (table_of epoch) a.number p
   pub absent : IsAbsent epoch.homes a.number a
 
 -- why a pass of this number is not let out, where there are so many
@@ -66,7 +101,7 @@ IsOpen a = length (replied a) < length (asked a)
 abbrev pub HasNoMore : AnyActor → Type 0
 HasNoMore a = (any_machine.action a ≡ None) ⊎ (length (replied a) ≤ length (asked a))
 
--- its newest reply, if it has one, also where names were renewed since
+-- its newest reply, if it shows one: where names were renewed since, it does only if its last unit ended with that reply
 abbrev pub newest_of : AnyActor → Option Reply
 newest_of (any.Mutator m) = mutating.newest_of m
 newest_of a = None
@@ -107,10 +142,10 @@ HasAnswered p o answer.Pause q = (q.actor ≡ p.actor) × (¬ TakesUp p.actor o)
 HasAnswered p o answer.Ended q = (q.actor ≡ p.actor) × (¬ TakesUp p.actor o) × HasEnded p.actor
 HasAnswered p o answer.Refused q = (q.actor ≡ p.actor) × (¬ TakesUp p.actor o) × (¬ IsHeldUp p.actor) × ¬ HasEnded p.actor
 
--- What has come of going on with what was ordered before: the reply, if one has come. Where an operation is open, a unit was done.
+-- What has come of going on with what was ordered before: the reply, if one has come. Where an operation is open, a unit was done; else nothing has changed.
 abbrev pub HasGoneOn : Passing AnyActor → Option Reply → Passing AnyActor → Type 0
 HasGoneOn p (Some r) q = HasTurned p q × IsOpen p.actor × (asked q.actor ≡ asked p.actor) × (replied q.actor ≡ replied p.actor ++ r ∷ [])
-HasGoneOn p None q = (IsOpen p.actor → HasTurned p q) × (asked q.actor ≡ asked p.actor) × (replied q.actor ≡ replied p.actor)
+HasGoneOn p None q = (IsOpen p.actor → HasTurned p q) × ((¬ IsOpen p.actor) → q ≡ p) × (asked q.actor ≡ asked p.actor) × (replied q.actor ≡ replied p.actor)
 
 -- What has come of the wish to end the thread of a mutator: it has ended, or not. A mutator with no open operation does a unit for it, and nobody is asked
 -- for anything.
@@ -120,11 +155,6 @@ pub record Ends (p : Passing AnyActor) (ended : Bool) (q : Passing AnyActor) : T
   pub else_none : (is_mutator p.actor ≡ false) ⊎ IsOpen p.actor → q ≡ p
   pub asked : asked q.actor ≡ asked p.actor
 
--- so many units were done one after another
-abbrev pub HaveTurned : ℕ → Passing AnyActor → Passing AnyActor → Type 0
-HaveTurned zero p q = q ≡ p
-HaveTurned (suc n) p q = (r : Passing AnyActor) × HaveTurned n p r × HasTurned r q
-
 -- a unit that ended so found work
 abbrev pub found_work : Option Turn → Bool
 found_work (Some (turn.Decrementer worked.Worked)) = true
@@ -132,11 +162,17 @@ found_work (Some (turn.Tracer traced.Worked)) = true
 found_work (Some (turn.Tracer traced.RememberFull)) = true
 found_work other = false
 
--- What has come of so many units for a helper: it did all, and each found work, or it stopped at one that found none; a mutator does none.
+-- so many units were done one after another, and each found work
+abbrev pub HaveWorked : ℕ → Passing AnyActor → Passing AnyActor → Type 0
+HaveWorked zero p q = q ≡ p
+HaveWorked (suc n) p q = (r : Passing AnyActor) × HaveWorked n p r × HasTurned r q × (found_work (end_of q.actor) ≡ true)
+
+-- fewer than so many did, and a further unit found none
+abbrev pub HasStopped : ℕ → Passing AnyActor → Passing AnyActor → Type 0
+HasStopped units p q = (n : ℕ) × (r : Passing AnyActor) × (n < units) × HaveWorked n p r × HasTurned r q × (found_work (end_of q.actor) ≡ false)
+
+-- What has come of so many units for a helper: it did all, and each found work, or it stopped behind the first that found none. A mutator does none.
 pub record Helps (units : ℕ) (p : Passing AnyActor) (all : Bool) (q : Passing AnyActor) : Type 0 where
-  pub count : ℕ
-  pub turned : HaveTurned count p q
-  pub whole : IsTrue all → count ≡ units
-  pub busy : is_mutator p.actor ≡ false → IsTrue all → 1 ≤ units → found_work (end_of q.actor) ≡ true
-  pub stopped : is_mutator p.actor ≡ false → all ≡ false → (1 ≤ count) × (count ≤ units) × (found_work (end_of q.actor) ≡ false)
-  pub mutator : is_mutator p.actor ≡ true → q ≡ p
+  pub busy : is_mutator p.actor ≡ false → IsTrue all → HaveWorked units p q
+  pub stopped : is_mutator p.actor ≡ false → all ≡ false → HasStopped units p q
+  pub mutator : is_mutator p.actor ≡ true → (all ≡ false) × (q ≡ p)

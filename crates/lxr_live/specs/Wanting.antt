@@ -35,9 +35,13 @@ IsUnended (any.Mutator m) = ¬ IsThrough m
 IsUnended (any.Decrementer d) = ⊥
 IsUnended (any.Tracer d) = ⊥
 
--- some mutator is held up, or has asked for a pause in this epoch
+-- it is a mutator that is held up, or has asked for a pause in this epoch
+abbrev pub Wants : AnyActor → Type 0
+Wants a = IsHeldUp a ⊎ HasAsked a
+
+-- some mutator is or has
 abbrev pub SomeWants : List AnyActor → Type 0
-SomeWants actors = (i : ℕ) × (a : AnyActor) × (slice_get actors i ≡ Some a) × (IsHeldUp a ⊎ HasAsked a)
+SomeWants actors = (i : ℕ) × (a : AnyActor) × (slice_get actors i ≡ Some a) × Wants a
 
 -- all mutators have ended
 abbrev pub AllHaveEnded : List AnyActor → Type 0

@@ -1,16 +1,18 @@
 //! A heap that threads of a host share.
-ghost use Rattle.std.specs.Prelude.{◌≡◌, [], ◌∷◌, ◌<◌, ◌↔◌, IfErr, IfOk, IfSome, IsSome, List, None, length, option_map};
+ghost use Rattle.std.specs.Prelude.{◌≡◌, ℕ, [], ◌∷◌, ◌<◌, ◌↔◌, IfErr, IfOk, IfSome, IsSome, List, None, length, option_map};
 ghost use Rattle.lxr_graph.specs.History.{Item, report_of};
 ghost use Rattle.lxr_model.specs.Belongs.{Script};
 ghost use Rattle.lxr_model.specs.Moments.{moment};
 ghost use Rattle.lxr_invariant.specs.AbstractState.{AbstractState};
 ghost use Rattle.lxr_run_history.specs.Left.{last_report};
 ghost use Rattle.lxr_run_invariant.specs.LoopInvariant.{HasRunEpoch};
-ghost use Rattle.lxr_live.specs.Heaps.{ComesToRest, HeapsHaveHistories, IsAtRest, IsHeapOf, IsKept, IsOpened, IsPassOf, Pauses, Resumes, most_asked, paused_for, space_at};
+ghost use Rattle.lxr_live.specs.Heaps.{ComesToRest, DoneIsTold, HeapsHaveHistories, IsAtRest, IsHeapOf, IsKept, IsOpened, IsPassOf, MutatorsComeFirst, OpenIsTold, Pauses, PausesWith, Resumes, StationsTellHistories, most_asked, paused_for, space_at};
 ghost use Rattle.lxr_core.specs.Actors.{mutators_in, script_of};
 ghost use Rattle.lxr_live.specs.Living.{AreLive};
 ghost use Rattle.lxr_live.specs.Resting.{HasMadeEpoch};
 ghost use Rattle.lxr_live.specs.Settings.{AreSettings, run_of};
+ghost use Rattle.lxr_live.specs.Stations.{AreStationsOf, IsHandedIn, Stationed, housed_in};
+ghost use Rattle.lxr_live.specs.Telling.{EndByNewest};
 
 use crate::live::{Live, NotClosed, Unclosed};
 use crate::making::new_heap;
@@ -58,9 +60,9 @@ pub enum Paused {
     Made,
     /// No pause is wanted: no mutator is held up or has asked for one, and not all have ended.
     NotWanted,
-    /// The pass of this number is not at home.
+    /// The pass of this number is neither handed in nor at home.
     Away(usize),
-    /// All are at home, but a thread that brought one has not yet let go of its share of the epoch.
+    /// All are there, but a thread that brought one home has not yet let go of its share of the epoch.
     Shared,
     /// No epoch is open.
     NotRunning,
@@ -164,8 +166,8 @@ impl Heap {
     /// collecting pause have further pauses, which collect. It takes no memory and waits for nobody.
     ///
     /// At its end it gives each object that is left a new name, where some mutator has been ordered more than half of what it can be, and so that
-    /// a heap lives for ever though names have serials of 32 bits: behind a pause that drained its decrements, where no trace runs and no mutator
-    /// has ended.
+    /// a heap lives for ever though names have serials of 32 bits: behind a pause that drained its decrements and for which no `new` waited, where no
+    /// trace runs and no mutator has ended.
     ///
     /// Within an epoch `Away`, `Shared` and `NotWanted` tell of what threads may change at once, and no clause says that they come only where it is so.
     ///
@@ -181,13 +183,35 @@ impl Heap {
     pub fn pause_watched<W: Watch>(&mut self, watch: &mut W) -> Paused
         ensures { Pauses result self.old self.new }
     {
+        self.pause_by(&mut [], watch)
+    }
+
+    /// As `pause`, with stations that threads hand in, the k-th place for the pass of number k: a place may be empty, and the list may be short. Each
+    /// is to be of the epoch that is open, which one owner of the heap knows, and nobody behind a lock. A pass that is handed in needn't be at home.
+    /// The history in which each told what it answered is a beginning of the pause's, which so has the replies of all. Where no pause is made, the
+    /// passes that were handed in are at home, which no clause says.
+    ///
+    /// `Away` is answered of no pass that is handed in, and `NotWanted` not where one of them is of a mutator that is held up or has asked, nor where
+    /// all are handed in and all mutators have ended.
+    pub fn pause_with(&mut self, mut stations: Vec<Option<Station>>) -> Paused
+        requires { (number : ℕ) (s : Stationed) → IsHandedIn stations.items number s → IsPassOf self.old.stage number s }
+        ensures { PausesWith stations.items result self.old self.new }
+    {
+        self.pause_by(&mut stations, &mut Unseen)
+    }
+
+    /// The pause with stations that are handed in, which a watch looks at.
+    fn pause_by<W: Watch>(&mut self, stations: &mut [Option<Station>], watch: &mut W) -> Paused
+        requires { (number : ℕ) (s : Stationed) → IsHandedIn stations.old number s → IsPassOf self.old.stage number s }
+        ensures { PausesWith stations.old result self.old self.new }
+    {
         let stage = mem::replace(&mut self.stage, Stage::Lost);
-        let (stage, paused) = stage.paused(self.settings, watch);
+        let (stage, paused) = stage.paused(stations, self.settings, watch);
         self.stage = stage;
         paused
     }
 
-    /// The report of the last pause: some exactly where no epoch is open and a pause was made.
+    /// The report of the last pause: some exactly where no epoch is open, the heap is not lost, and a pause was made.
     pub fn report(&self) -> Option<&Report>
         ensures some { (script : Script) (h : List Item) → IsHeapOf script h self.now → IsSome result ↔ (IsAtRest self.now.stage × (0 < (last_report h).number)) }
         ensures last { (script : Script) (h : List Item) → IsHeapOf script h self.now → IfSome result (λ report. report_of report.now ≡ last_report h) }
@@ -252,27 +276,39 @@ impl Stage {
     }
 
     /// The epoch that is open ends with a pause.
-    fn paused<W: Watch>(self, settings: Settings, watch: &mut W) -> (Stage, Paused)
-        requires { (script : Script) × (h : List Item) × IsHeapOf script h (record { settings = settings; stage = self }) }
-        ensures { Pauses result.1 (record { settings = settings; stage = self }) (record { settings = settings; stage = result.0 }) }
+    fn paused<W: Watch>(
+        self,
+        stations: &mut [Option<Station>],
+        settings: Settings,
+        watch: &mut W,
+    ) -> (Stage, Paused)
+        requires heap { (script : Script) × (h : List Item) × IsHeapOf script h (record { settings = settings; stage = self }) }
+        requires handed { (number : ℕ) (s : Stationed) → IsHandedIn stations.old number s → IsPassOf self number s }
+        ensures { PausesWith stations.old result.1 (record { settings = settings; stage = self }) (record { settings = settings; stage = result.0 }) }
     {
         match self {
             Stage::Between { space, actors } => {
                 (Stage::Between { space, actors }, Paused::NotRunning)
             }
-            Stage::Within(live) => close_and_pause(live, settings, watch),
+            Stage::Within(live) => close_and_pause(live, stations, settings, watch),
             Stage::Ended { space, actors } => (Stage::Ended { space, actors }, Paused::Ended),
             Stage::Lost => (Stage::Lost, Paused::Lost),
         }
     }
 }
 
-/// Ends an epoch with a pause, where one is wanted and all passes are at home.
-fn close_and_pause<W: Watch>(live: Live, settings: Settings, watch: &mut W) -> (Stage, Paused)
-    requires { (script : Script) × (h : List Item) × IsHeapOf script h (record { settings = settings; stage = Stage.Within live }) }
-    ensures { Pauses result.1 (record { settings = settings; stage = Stage.Within live }) (record { settings = settings; stage = result.0 }) }
+/// Ends an epoch with a pause, where one is wanted and each pass is handed in or at home.
+fn close_and_pause<W: Watch>(
+    live: Live,
+    stations: &mut [Option<Station>],
+    settings: Settings,
+    watch: &mut W,
+) -> (Stage, Paused)
+    requires heap { (script : Script) × (h : List Item) × IsHeapOf script h (record { settings = settings; stage = Stage.Within live }) }
+    requires handed { AreStationsOf (housed_in live) stations.old }
+    ensures { PausesWith stations.old result.1 (record { settings = settings; stage = Stage.Within live }) (record { settings = settings; stage = result.0 }) }
 {
-    match live.close() {
+    match live.close(stations) {
         Ok((space, actors)) => (pause_behind(space, actors, settings, watch), Paused::Made),
         Err(Unclosed { live, why }) => (Stage::Within(live), paused_for(why)),
     }
@@ -288,7 +324,7 @@ fn pause_behind<W: Watch>(
     requires settings { AreSettings settings }
     requires made { HasMadeEpoch settings space actors.items }
     requires live { AreLive (mutators_in actors.items) }
-    ensures { (script : Script) (before : List AnyActor) (calls : List Item) (g : AbstractState) → HasRunEpoch (run_of settings script) space None None before actors.items calls g → ComesToRest settings script calls (mutators_in actors.items) result }
+    ensures { (script : Script) (before : List AnyActor) (calls : List Item) (g : AbstractState) → HasRunEpoch (run_of settings script) space None None before actors.items calls g → EndByNewest calls (mutators_in actors.items) → ComesToRest settings script calls (mutators_in actors.items) result }
 {
     let idle = !some_waits(&actors);
     if rest(&mut space, &mut actors, settings, watch) {
@@ -329,9 +365,27 @@ fn report_in(space: &Packed) -> Option<&Report>
     }
 }
 
-/// What a heap stands for is a legal history, which belongs to what its mutators were asked for.
+/// What a heap stands for is a legal history, which belongs to what its mutators were asked for since names were last renewed.
 pub fn heaps_have_histories()
     ensures { HeapsHaveHistories }
+{}
+
+/// What the station of a mutator shows at any time is so in the history behind the events that its pass saw, which goes on from the heap's by calls
+/// alone.
+pub fn stations_tell_histories()
+    ensures { StationsTellHistories }
+{}
+
+/// Mutators have the first numbers.
+pub fn mutators_come_first()
+    ensures { MutatorsComeFirst }
+{}
+
+/// What a station answers to an operation is so in that history: the operation is its thread's newest call, and the reply is that of the model's step
+/// at its place.
+pub fn answers_are_told()
+    ensures done { DoneIsTold }
+    ensures open { OpenIsTold }
 {}
 
 /// How many operations the mutator has been ordered that has been ordered most.

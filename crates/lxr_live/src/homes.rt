@@ -23,7 +23,7 @@ pub(crate) struct Waiting;
 impl TableRule<Option<Pass>, Epoch<AnyActor>, Epoch<AnyActor>> for Waiting {
     ghost use Rattle.lxr_live.specs.Homes.{HaveHomes};
 
-    ghost holds = { λ epoch. HaveHomes epoch.id };
+    ghost holds = { λ epoch. HaveHomes epoch };
 
     ghost first = { λ epoch. epoch };
 }
@@ -35,7 +35,7 @@ impl Play<Option<Pass>, Epoch<AnyActor>> for Takes {
     ghost use Rattle.std.specs.Prelude.{◌≡◌};
     ghost use Rattle.lxr_live.specs.Homes.{TakesOut};
 
-    ghost then = { λ st m r n. r ≡ 1 → TakesOut m.0.id st.word n };
+    ghost then = { λ st m r n. r ≡ 1 → TakesOut m.0 st.word n };
 }
 
 /// A seat puts back what it took.
@@ -66,7 +66,7 @@ impl Homes {
         epoch: &Epoch<AnyActor>,
         passes: Vec<Pass>,
     ) -> Result<Homes, AllocError>
-        requires { ArePassesFrom epoch.now.id 0 passes.items }
+        requires { ArePassesFrom epoch.now 0 passes.items }
         ensures { IfOk result (λ homes. (homes.table.shared.key ≡ epoch.now) × (homes.table.shared.table_id.slots ≡ vec_len passes)) }
     {
         let count = passes.len();
@@ -90,7 +90,7 @@ impl Homes {
     #[inline(always)]
     pub(crate) fn take(&self, number: usize) -> Option<(Pass, Absence)>
         requires { number < self.now.table.shared.table_id.slots }
-        ensures pass { IfSome result (λ taken. IsPassAt self.now.table.shared.key.id number taken.0) }
+        ensures pass { IfSome result (λ taken. IsPassAt self.now.table.shared.key number taken.0) }
         ensures absence { IfSome result (λ taken. IsAbsent self.now.table.shared.table_id number taken.1) }
     {
         let (found, mut seat) = self.table.shared.swap_new_seat::<Takes>(number, AWAY);
@@ -104,7 +104,7 @@ impl Homes {
     /// Brings a pass back to the home that it is away from.
     #[inline(always)]
     pub(crate) fn bring(&self, pass: Pass, absence: Absence)
-        requires pass { IsPassAt self.now.table.shared.key.id absence.number pass }
+        requires pass { IsPassAt self.now.table.shared.key absence.number pass }
         requires absence { IsAbsent self.now.table.shared.table_id absence.number absence }
     {
         let Absence { number, mut seat } = absence;

@@ -1,19 +1,20 @@
 //! An epoch of live mutators, as its owner has it.
-ghost use Rattle.std.specs.Prelude.{◌≡◌, ◌+◌, ◌<◌, ◌≤◌, ◌++◌, IfErr, IfOk, List, [], length, vec_len, vec_capacity};
+ghost use Rattle.std.specs.Prelude.{◌≡◌, ◌<◌, ◌≤◌, IfErr, IfOk, IfSome, None, Some, length, map, option_map, slice_set, vec_len, vec_capacity};
 ghost use Rattle.std.specs.Arc.{arc_value};
 ghost use Rattle.lxr_core_invariant.specs.EpochStates.{Beginning};
 ghost use Rattle.lxr_actor.specs.Run.{AlwaysFits, core_of};
 ghost use Rattle.lxr_core.specs.Actors.{any_machine};
 ghost use Rattle.lxr_core.specs.Closing.{AreResting};
+ghost use Rattle.lxr_core.specs.Collecting.{actor_given_up};
 ghost use Rattle.lxr_core.specs.Opening.{Begins};
 ghost use Rattle.lxr_shared.specs.Ends.{HaveEnds};
 ghost use Rattle.lxr_shared.specs.Sharing.{sharing};
-ghost use Rattle.lxr_live.specs.Gathering.{AreAll, AreGathered, IsUnclosed};
-ghost use Rattle.lxr_live.specs.Homes.{IsPassAt};
-ghost use Rattle.lxr_live.specs.Running.{BeganWith, ClosesLive, IsRunning};
-ghost use Rattle.lxr_live.specs.Stations.{IsNotOut, table_of};
+ghost use Rattle.lxr_live.specs.Gathering.{AreAll, AreGathered, HaveEndedFrom, HoldGivenUp, IsUnclosed, IsUnwanted, actors_in};
+ghost use Rattle.lxr_live.specs.Homes.{IsAbsent, IsPassAt};
+ghost use Rattle.lxr_live.specs.Running.{BeganWith, ClosesEach, ClosesLive, IsRunning};
+ghost use Rattle.lxr_live.specs.Stations.{AreStationsOf, IsHandedIn, IsNotOut, IsStationOf, Stationed, housed_in, table_of};
 
-use crate::homes::Homes;
+use crate::homes::{Absence, Homes};
 use crate::shared::Shared;
 use crate::station::{NotOut, Station};
 use crate::wanted::is_pause_wanted;
@@ -36,11 +37,11 @@ pub(crate) struct Live {
 /// Why an epoch is not closed.
 #[derive(Clone, Copy, Debug, PartialEq, Eq)]
 pub(crate) enum NotClosed {
-    /// The pass of this number is not at home.
+    /// The pass of this number is neither handed in nor at home.
     Away(usize),
-    /// All are at home, and no pause is wanted.
+    /// All are there, and no pause is wanted.
     NotWanted,
-    /// All are at home, and a pause is wanted, but some thread still has a share of the epoch, and so the means to take one out.
+    /// All are there, and a pause is wanted, but some thread still has a share of the epoch, and so the means to take one out.
     Shared,
 }
 
@@ -54,12 +55,12 @@ pub(crate) struct Unclosed {
 impl Model for Live {
     ghost use Rattle.std.specs.Prelude.{◌≡◌, ◌≤◌, [], length, vec_capacity};
     ghost use Rattle.std.specs.Arc.{arc_value};
-    ghost use Rattle.lxr_shared.specs.Sharing.{Sharing, sharing};
-    ghost use Rattle.lxr_live.specs.Stations.{IsNotOut, table_of};
+    ghost use Rattle.lxr_shared.specs.Sharing.{sharing};
+    ghost use Rattle.lxr_live.specs.Stations.{Lived, table_of};
 
-    ghost Value = { Sharing };
+    ghost Value = { Lived };
 
-    ghost view = { λ l. sharing (table_of (arc_value l.shared)) l.aside };
+    ghost view = { λ l. record { epoch = sharing (table_of (arc_value l.shared)) l.aside; homes = (arc_value l.shared).homes } };
 
     ghost invariant = { λ l. (l.passes.items ≡ []) × (length (arc_value l.shared).opening.actors ≤ vec_capacity l.passes) × (length (arc_value l.shared).opening.actors ≤ l.aside.room) };
 }
@@ -72,8 +73,8 @@ impl Live {
         mut actors: Vec<AnyActor>,
     ) -> Result<Live, AllocError>
         requires { (b : Beginning) × Begins b space actors.items }
-        ensures runs { IfOk result (λ live. (b : Beginning) → Begins b space actors.items → IsRunning b live) }
-        ensures actors { IfOk result (λ live. BeganWith actors.items live) }
+        ensures runs { IfOk result (λ live. (b : Beginning) → Begins b space actors.items → IsRunning b live.epoch) }
+        ensures actors { IfOk result (λ live. BeganWith actors.items live.epoch) }
     {
         open_epoch(&mut space, &mut actors);
         let live = share(alloc, space, actors)?;
@@ -82,25 +83,33 @@ impl Live {
 
     /// Lets the pass of a number out of its home, with a share of the epoch.
     pub(crate) fn let_out(&self, number: usize) -> Result<Station, NotOut>
-        ensures station { IfOk result (λ station. IsPassAt self.now.id number station) }
-        ensures none { IfErr result (λ why. IsNotOut (length self.now.opening.actors) number why) }
+        ensures station { IfOk result (λ station. IsStationOf (housed_in self.now) number station) }
+        ensures none { IfErr result (λ why. IsNotOut (length self.now.epoch.opening.actors) number why) }
     {
         Station::leave(&self.shared, number)
     }
 
-    /// Closes the epoch, where all passes are at home, a pause is wanted, and no thread has a share of the epoch any more. Else it goes on as it
-    /// was, and the answer says why. It takes no memory.
-    pub(crate) fn close(self) -> Result<(Space, Vec<AnyActor>), Unclosed>
-        requires { (b : Beginning) × IsRunning b self }
-        ensures closed { IfOk result (λ left. (b : Beginning) → IsRunning b self → ClosesLive b self left.0 left.1.items) }
-        ensures kept { IfErr result (λ unclosed. (unclosed.live ≡ self) × IsUnclosed (length self.opening.actors) unclosed.why) }
+    /// Closes the epoch, where a pause is wanted, each pass is at home or that of a station which is handed in at the place of its number, and no thread
+    /// has a share of the epoch any more. Else it goes on as it was, each pass that was handed in and taken is at home, and the answer says why. It takes
+    /// no memory.
+    pub(crate) fn close(
+        self,
+        stations: &mut [Option<Station>],
+    ) -> Result<(Space, Vec<AnyActor>), Unclosed>
+        requires running { (b : Beginning) × IsRunning b self.epoch }
+        requires handed { AreStationsOf (housed_in self) stations.old }
+        ensures closed { IfOk result (λ left. (b : Beginning) (running : IsRunning b self.epoch) → ClosesLive b self.epoch running stations.old left.0 left.1.items) }
+        ensures handed { IfOk result (λ left. HoldGivenUp stations.old left.1.items) }
+        ensures kept { IfErr result (λ unclosed. unclosed.live ≡ self) }
+        ensures why { IfErr result (λ unclosed. IsUnclosed (length self.epoch.opening.actors) 0 stations.old unclosed.why) }
+        ensures unended { IfErr result (λ unclosed. unclosed.why ≡ NotClosed.NotWanted → ¬ HaveEndedFrom (length self.epoch.opening.actors) 0 stations.old) }
     {
         let Live {
             shared,
             aside,
             mut passes,
         } = self;
-        match gather(shared, 0, &mut passes) {
+        match gather(shared, 0, &mut passes, stations) {
             Ok(last) => Ok(finish(last, aside, passes)),
             Err((shared, why)) => Err(Unclosed {
                 live: Live {
@@ -120,7 +129,7 @@ fn share(alloc: Global, space: Space, actors: Vec<AnyActor>) -> Result<Live, All
     requires resting { AreResting actors.items }
     requires ends { HaveEnds actors.items }
     requires fits { AlwaysFits any_machine (core_of space.words actors.items) }
-    ensures { IfOk result (λ live. (live.opening ≡ core_of space.words actors.items) × (live.space ≡ space)) }
+    ensures { IfOk result (λ live. (live.epoch.opening ≡ core_of space.words actors.items) × (live.epoch.space ≡ space)) }
 {
     let passes = Vec::with_capacity(alloc, actors.len())?;
     let (epoch, dealt) = open_shared(alloc, space, actors)?;
@@ -139,7 +148,8 @@ fn finish(last: Shared, aside: Aside, passes: Vec<Pass>) -> (Space, Vec<AnyActor
     requires room { length last.opening.actors ≤ aside.room }
     requires all { AreAll last passes.items }
     requires running { (b : Beginning) × IsRunning b (sharing (table_of last) aside) }
-    ensures { (b : Beginning) → IsRunning b (sharing (table_of last) aside) → ClosesLive b (sharing (table_of last) aside) result.0 result.1.items }
+    ensures closes { ClosesEach (sharing (table_of last) aside) passes.items result.0 result.1.items }
+    ensures actors { result.1.items ≡ map actor_given_up (actors_in passes.items) }
 {
     let epoch = Epoch::from_parts(last.into_table(), aside);
     let (mut space, mut actors) = close_shared(epoch, passes);
@@ -147,18 +157,54 @@ fn finish(last: Shared, aside: Aside, passes: Vec<Pass>) -> (Space, Vec<AnyActor
     (space, actors)
 }
 
-/// Takes all passes from this number on out of their homes, behind those that were taken, and what the threads shared out of its last share.
-/// Where a pass is not at home, or there are further shares, those that it took are at home again.
+/// Takes the station out of the place of a number, if there is one.
+fn take_station(stations: &mut [Option<Station>], number: usize) -> Option<Station>
+    ensures some { IfSome result (λ s. IsHandedIn stations.old number s) }
+    ensures each { (s : Stationed) → IsHandedIn stations.old number s → result ≡ Some s }
+    ensures left { stations.new ≡ slice_set stations.old number None }
+{
+    if number < stations.len() {
+        stations[number].take()
+    } else {
+        None
+    }
+}
+
+/// The pass of a number: that of the station in its place, which is taken out of it, or else the one that is at home, if it is there.
+fn take_pass(
+    shared: &Shared,
+    number: usize,
+    stations: &mut [Option<Station>],
+) -> Option<(Pass, Absence)>
+    requires number { number < length shared.now.opening.actors }
+    requires handed { AreStationsOf shared.now stations.old }
+    ensures pass { IfSome result (λ taken. IsPassAt (table_of shared.now) number taken.0) }
+    ensures absence { IfSome result (λ taken. IsAbsent shared.now.homes number taken.1) }
+    ensures handed { (s : Stationed) → IsHandedIn stations.old number s → option_map (λ taken. taken.0) result ≡ Some s.pass }
+    ensures left { stations.new ≡ slice_set stations.old number None }
+{
+    match take_station(stations, number) {
+        Some(station) => Some(station.into_pass()),
+        None => shared.take(number),
+    }
+}
+
+/// Takes all passes from this number on, behind those that were taken, each from the station in its place or else out of its home, and what the threads
+/// shared out of its last share. Where some pass is in neither, or there are further shares, all that it took are at home.
 fn gather(
     shared: Arc<Shared, Global>,
     number: usize,
     passes: &mut Vec<Pass>,
+    stations: &mut [Option<Station>],
 ) -> Result<Shared, (Arc<Shared, Global>, NotClosed)>
     requires number { number ≤ length (arc_value shared).opening.actors }
-    requires room { vec_len passes.old + length (arc_value shared).opening.actors ≤ vec_capacity passes.old + number }
-    ensures all { IfOk result (λ last. (last ≡ arc_value shared) × AreGathered (arc_value shared) number passes.old.items passes.new.items) }
+    requires taken { vec_len passes.old ≡ number }
+    requires room { length (arc_value shared).opening.actors ≤ vec_capacity passes.old }
+    requires handed { AreStationsOf (arc_value shared) stations.old }
+    ensures all { IfOk result (λ last. (last ≡ arc_value shared) × AreGathered (arc_value shared) number stations.old passes.old.items passes.new.items) }
     ensures none { IfErr result (λ kept. (kept.0 ≡ shared) × (passes.new.items ≡ passes.old.items)) }
-    ensures why { IfErr result (λ kept. IsUnclosed (length (arc_value shared).opening.actors) kept.1) }
+    ensures why { IfErr result (λ kept. IsUnclosed (length (arc_value shared).opening.actors) number stations.old kept.1) }
+    ensures unwanted { IfErr result (λ kept. kept.1 ≡ NotClosed.NotWanted → IsUnwanted (length (arc_value shared).opening.actors) number stations.old passes.old.items) }
     ensures room { vec_capacity passes.new ≡ vec_capacity passes.old }
 {
     if number >= shared.count() {
@@ -170,12 +216,11 @@ fn gather(
             Err(shared) => Err((shared, NotClosed::Shared)),
         };
     }
-    let Some((pass, absence)) = shared.take(number) else {
+    let Some((pass, absence)) = take_pass(&shared, number, stations) else {
         return Err((shared, NotClosed::Away(number)));
     };
-    pass.resting();
     passes.push_reserved(pass);
-    match gather(shared, number + 1, passes) {
+    match gather(shared, number + 1, passes, stations) {
         Ok(last) => Ok(last.let_go(absence)),
         Err((shared, why)) => {
             let Some(pass) = passes.pop() else {

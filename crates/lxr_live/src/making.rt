@@ -7,6 +7,7 @@ ghost use Rattle.lxr_run_invariant.specs.LoopInvariant.{IsBetweenEpochs};
 ghost use Rattle.lxr_live.specs.Living.{AreLive};
 ghost use Rattle.lxr_live.specs.Making.{AreNew};
 ghost use Rattle.lxr_live.specs.Settings.{AreSettings, run_of};
+ghost use Rattle.lxr_live.specs.Telling.{EndByNewest};
 
 use crate::settings::Settings;
 use lxr_core::AnyActor;
@@ -45,7 +46,7 @@ pub(crate) fn new_heap(
     settings: Settings,
 ) -> Result<(Space, Vec<AnyActor>), AllocError>
     requires { AreSettings settings }
-    ensures { IfOk result (λ made. ((g : AbstractState) × IsBetweenEpochs (run_of settings (replicate settings.mutators [])) made.0 None None made.1.items [] g) × AreLive (mutators_in made.1.items)) }
+    ensures { IfOk result (λ made. ((g : AbstractState) × IsBetweenEpochs (run_of settings (replicate settings.mutators [])) made.0 None None made.1.items [] g) × AreLive (mutators_in made.1.items) × EndByNewest [] (mutators_in made.1.items)) }
 {
     let limits = settings.limits();
     let more = 2 * usize::from(settings.helpers);

@@ -56,7 +56,7 @@ impl Shared {
     #[inline(always)]
     pub(crate) fn take(&self, number: usize) -> Option<(Pass, Absence)>
         requires { number < length self.now.opening.actors }
-        ensures pass { IfSome result (λ taken. IsPassAt self.now.id number taken.0) }
+        ensures pass { IfSome result (λ taken. IsPassAt (table_of self.now) number taken.0) }
         ensures absence { IfSome result (λ taken. IsAbsent self.now.homes number taken.1) }
     {
         self.homes.take(number)
@@ -65,7 +65,7 @@ impl Shared {
     /// Brings a pass back to the home that it is away from.
     #[inline(always)]
     pub(crate) fn bring(&self, pass: Pass, absence: Absence)
-        requires pass { IsPassAt self.now.id absence.number pass }
+        requires pass { IsPassAt (table_of self.now) absence.number pass }
         requires absence { IsAbsent self.now.homes absence.number absence }
     {
         self.homes.bring(pass, absence);

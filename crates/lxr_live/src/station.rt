@@ -3,9 +3,10 @@ ghost use Rattle.std.specs.Prelude.{◌≡◌, ◌⊎◌, ℕ, ◌≤◌, ◌↔
 ghost use Rattle.std.specs.Arc.{arc_value};
 ghost use Rattle.lxr_core.specs.Actors.{any_machine};
 ghost use Rattle.lxr_shared.specs.Ends.{end_of};
-ghost use Rattle.lxr_shared_passes.specs.Passing.{IsSamePass, Turned};
-ghost use Rattle.lxr_live.specs.Homes.{IsPassAt};
-ghost use Rattle.lxr_live.specs.Stations.{Ends, HasAnswered, HasGoneOn, HasNoMore, HasTurned, Helps, IsNoOrder, IsNotOut, IsOpen, found_work, is_mutator, newest_of, replied};
+ghost use Rattle.lxr_shared_passes.specs.Passing.{Turned};
+ghost use Rattle.lxr_live.specs.Heaps.{StaysPassOf};
+ghost use Rattle.lxr_live.specs.Homes.{IsAbsent};
+ghost use Rattle.lxr_live.specs.Stations.{Ends, HasAnswered, HasGoneOn, HasNoMore, HasTurned, Helps, IsNoOrder, IsNotOut, IsOpen, IsSameStation, IsStationOf, found_work, is_mutator, newest_of, replied};
 ghost use Rattle.lxr_live.specs.Wanting.{HasEnded, IsHeldUp};
 
 use crate::homes::Absence;
@@ -60,13 +61,11 @@ pub struct Station {
 
 impl Model for Station {
     ghost use Rattle.std.specs.Arc.{arc_value};
-    ghost use Rattle.lxr_core.specs.declared.actors.AnyActor.{AnyActor};
-    ghost use Rattle.lxr_shared_passes.specs.Passing.{Passing};
-    ghost use Rattle.lxr_live.specs.Stations.{IsOut};
+    ghost use Rattle.lxr_live.specs.Stations.{IsOut, Stationed};
 
-    ghost Value = { Passing AnyActor };
+    ghost Value = { Stationed };
 
-    ghost view = { λ s. s.pass };
+    ghost view = { λ s. record { pass = s.pass; homes = (arc_value s.shared).homes } };
 
     ghost invariant = { λ s. IsOut (arc_value s.shared) s.absence s.pass };
 }
@@ -74,7 +73,7 @@ impl Model for Station {
 impl Station {
     /// Takes the pass of a number out of its home.
     pub(crate) fn leave(shared: &Arc<Shared, Global>, number: usize) -> Result<Station, NotOut>
-        ensures station { IfOk result (λ station. IsPassAt (arc_value shared.now).id number station) }
+        ensures station { IfOk result (λ station. IsStationOf (arc_value shared.now) number station) }
         ensures none { IfErr result (λ why. IsNotOut (length (arc_value shared.now).opening.actors) number why) }
     {
         if number >= shared.count() {
@@ -103,9 +102,22 @@ impl Station {
         shared.bring(pass, absence);
     }
 
+    /// The pass, with its absence. It lets go of the share of the epoch.
+    pub(crate) fn into_pass(self) -> (Pass, Absence)
+        ensures pass { result.0 ≡ self.pass }
+        ensures absence { IsAbsent self.homes self.pass.number result.1 }
+    {
+        let Station {
+            shared: _,
+            pass,
+            absence,
+        } = self;
+        (pass, absence)
+    }
+
     /// The number of the actor, counted from 0.
     pub fn number(&self) -> usize
-        ensures { result ≡ self.now.number }
+        ensures { result ≡ self.now.pass.number }
     {
         self.absence.number
     }
@@ -113,7 +125,7 @@ impl Station {
     /// The actor.
     #[inline(always)]
     pub(crate) fn actor(&self) -> &AnyActor
-        ensures { result.now ≡ self.now.actor }
+        ensures { result.now ≡ self.now.pass.actor }
     {
         self.pass.actor()
     }
@@ -121,7 +133,7 @@ impl Station {
     /// Whether it is a mutator; else it is a helper.
     #[inline(always)]
     pub fn is_mutator(&self) -> bool
-        ensures { result ≡ is_mutator self.now.actor }
+        ensures { result ≡ is_mutator self.now.pass.actor }
     {
         matches!(self.actor(), AnyActor::Mutator(_))
     }
@@ -129,8 +141,8 @@ impl Station {
     /// Whether an operation that was ordered has no reply yet.
     #[inline(always)]
     pub fn is_open(&self) -> bool
-        ensures open { IsTrue result ↔ IsOpen self.now.actor }
-        ensures no_more { HasNoMore self.now.actor }
+        ensures open { IsTrue result ↔ IsOpen self.now.pass.actor }
+        ensures no_more { HasNoMore self.now.pass.actor }
     {
         match self.actor() {
             AnyActor::Mutator(mutator) => {
@@ -141,11 +153,11 @@ impl Station {
         }
     }
 
-    /// The newest reply of a mutator: that of the operation that was ordered last, where none is open. None before the first, and for a helper; and
-    /// where names were renewed while an operation of it was open that saw that a pause is asked for, until that is done.
+    /// The newest reply of a mutator, if it shows one. None before the first, and for a helper; and where names were renewed since that and its last unit
+    /// ended without a reply, or with its turn.
     #[inline(always)]
     pub fn newest(&self) -> Option<Reply>
-        ensures { result ≡ newest_of self.now.actor }
+        ensures { result ≡ newest_of self.now.pass.actor }
     {
         match self.actor() {
             AnyActor::Mutator(mutator) => mutator.newest(),
@@ -156,7 +168,7 @@ impl Station {
     /// How many operations of a mutator are done since names were renewed, its end among them; 0 for a helper.
     #[inline(always)]
     pub fn done(&self) -> u32
-        ensures { result ≡ length (replied self.now.actor) }
+        ensures { result ≡ length (replied self.now.pass.actor) }
     {
         match self.actor() {
             AnyActor::Mutator(mutator) => mutator.operation(),
@@ -167,7 +179,7 @@ impl Station {
     /// Whether the thread of a mutator has done its end.
     #[inline(always)]
     pub fn has_ended(&self) -> bool
-        ensures { IsTrue result ↔ HasEnded self.now.actor }
+        ensures { IsTrue result ↔ HasEnded self.now.pass.actor }
     {
         has_ended(self.actor())
     }
@@ -176,8 +188,8 @@ impl Station {
     /// operation to order asks it to know when to come home. That the space says so may be over at once, and no clause speaks of it.
     #[inline(always)]
     pub fn wants_pause(&self) -> bool
-        ensures held_up { IsHeldUp self.now.actor → IsTrue result }
-        ensures no_wish { (is_mutator self.now.actor ≡ false) ⊎ HasEnded self.now.actor → result ≡ false }
+        ensures held_up { IsHeldUp self.now.pass.actor → IsTrue result }
+        ensures no_wish { (is_mutator self.now.pass.actor ≡ false) ⊎ HasEnded self.now.pass.actor → result ≡ false }
     {
         match self.actor() {
             AnyActor::Mutator(mutator) => match mutator.next() {
@@ -191,8 +203,9 @@ impl Station {
     /// Orders an operation and does it, by single atomic steps. It takes no memory and waits for nobody.
     #[inline(always)]
     pub fn operate(&mut self, op: Op) -> Answer
-        ensures pass { IsSamePass self.old self.new }
-        ensures answer { HasAnswered self.old op result self.new }
+        ensures pass { IsSameStation self.old self.new }
+        ensures stays { StaysPassOf self.old self.new }
+        ensures answer { HasAnswered self.old.pass op result self.new.pass }
     {
         self.is_open();
         if !self.pass.order_at(self.shared.table(), op) {
@@ -208,8 +221,9 @@ impl Station {
     /// for a pause, or where no operation is open.
     #[inline(always)]
     pub fn go_on(&mut self) -> Option<Reply>
-        ensures pass { IsSamePass self.old self.new }
-        ensures reply { HasGoneOn self.old result self.new }
+        ensures pass { IsSameStation self.old self.new }
+        ensures stays { StaysPassOf self.old self.new }
+        ensures reply { HasGoneOn self.old.pass result self.new.pass }
     {
         if self.is_open() { self.advance() } else { None }
     }
@@ -217,9 +231,10 @@ impl Station {
     /// Goes on with the operation that is open, by a unit.
     #[inline(always)]
     fn advance(&mut self) -> Option<Reply>
-        requires { IsOpen self.old.actor }
-        ensures pass { IsSamePass self.old self.new }
-        ensures reply { HasGoneOn self.old result self.new }
+        requires { IsOpen self.old.pass.actor }
+        ensures pass { IsSameStation self.old self.new }
+        ensures stays { StaysPassOf self.old self.new }
+        ensures reply { HasGoneOn self.old.pass result self.new.pass }
     {
         let done = self.done();
         self.unit();
@@ -233,8 +248,9 @@ impl Station {
     /// Does the end of a mutator's thread, which takes no order any more. Whether it is done: not where an operation is open, where a pause is
     /// wanted first, and by a helper.
     pub fn end(&mut self) -> bool
-        ensures pass { IsSamePass self.old self.new }
-        ensures ended { Ends self.old result self.new }
+        ensures pass { IsSameStation self.old self.new }
+        ensures stays { StaysPassOf self.old self.new }
+        ensures ended { Ends self.old.pass result self.new.pass }
     {
         if !self.is_mutator() || self.is_open() {
             return self.has_ended();
@@ -243,10 +259,11 @@ impl Station {
         self.has_ended()
     }
 
-    /// Does up to so many units of a helper, as long as it finds work. Whether it found some in each. A mutator does nothing.
+    /// Does up to so many units of a helper, as long as it finds work. Whether it found some in each. A mutator does nothing, and finds none.
     pub fn help(&mut self, units: u32) -> bool
-        ensures pass { IsSamePass self.old self.new }
-        ensures units { Helps units self.old result self.new }
+        ensures pass { IsSameStation self.old self.new }
+        ensures stays { StaysPassOf self.old self.new }
+        ensures units { Helps units self.old.pass result self.new.pass }
     {
         if self.is_mutator() {
             return false;
@@ -261,9 +278,10 @@ impl Station {
 
     /// Does one unit. Whether it found work, as a unit of a helper may.
     fn help_once(&mut self) -> bool
-        ensures pass { IsSamePass self.old self.new }
-        ensures unit { HasTurned self.old self.new }
-        ensures found { result ≡ found_work (end_of self.new.actor) }
+        ensures pass { IsSameStation self.old self.new }
+        ensures stays { StaysPassOf self.old self.new }
+        ensures unit { HasTurned self.old.pass self.new.pass }
+        ensures found { result ≡ found_work (end_of self.new.pass.actor) }
     {
         found_work(self.turn())
     }
@@ -271,8 +289,9 @@ impl Station {
     /// Does one unit of the actor, out of line: so what orders an operation is small enough to be inlined where the operation is known.
     #[inline(never)]
     fn unit(&mut self)
-        ensures pass { IsSamePass self.old self.new }
-        ensures unit { (olds : List ℕ) × (length olds ≤ any_machine.left self.old.actor) × Turned any_machine self.old olds self.new }
+        ensures pass { IsSameStation self.old self.new }
+        ensures stays { StaysPassOf self.old self.new }
+        ensures unit { (olds : List ℕ) × (length olds ≤ any_machine.left self.old.pass.actor) × Turned any_machine self.old.pass olds self.new.pass }
     {
         self.turn();
     }
@@ -281,10 +300,11 @@ impl Station {
     /// end, and takes no order any more.
     #[inline(always)]
     fn turn(&mut self) -> Turn
-        ensures pass { IsSamePass self.old self.new }
-        ensures unit { (olds : List ℕ) × (length olds ≤ any_machine.left self.old.actor) × Turned any_machine self.old olds self.new }
-        ensures end { Some result ≡ end_of self.new.actor }
-        ensures rests { any_machine.rests self.new.actor ≡ true }
+        ensures pass { IsSameStation self.old self.new }
+        ensures stays { StaysPassOf self.old self.new }
+        ensures unit { (olds : List ℕ) × (length olds ≤ any_machine.left self.old.pass.actor) × Turned any_machine self.old.pass olds self.new.pass }
+        ensures end { Some result ≡ end_of self.new.pass.actor }
+        ensures rests { any_machine.rests self.new.pass.actor ≡ true }
     {
         self.pass.turn_at(self.shared.table())
     }

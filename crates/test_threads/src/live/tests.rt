@@ -168,6 +168,38 @@ fn a_pause_is_made_where_it_is_wanted(rt: HostRuntime) -> Result<(), Fail> {
     Ok(())
 }
 
+/// Orders an operation of mutator 0, and hands its pass in to a pause. The answer, and what has come of the wish.
+fn hand_in(alloc: Global, heap: &mut Heap, op: Op) -> Result<Option<(Answer, Paused)>, AllocError> {
+    let Ok(mut station) = heap.let_out(0) else {
+        return Ok(None);
+    };
+    let answer = station.operate(op);
+    let paused = heap.pause_with(vec![in alloc; Some(station)]?);
+    Ok(Some((answer, paused)))
+}
+
+/// Whether a pause with a pass that is handed in is made where that asks for it, and neither where nobody does nor while another one is away.
+fn hands_in(alloc: Global, heap: &mut Heap) -> Result<bool, AllocError> {
+    let unwanted = hand_in(alloc, heap, NIL)?;
+    let away = heap.let_out(2);
+    let refused = hand_in(alloc, heap, Op::Pause)?;
+    drop(away);
+    let asked = hand_in(alloc, heap, NIL)?;
+    let is_kept = unwanted == Some((Answer::Done(Reply::Cleared), Paused::NotWanted))
+        && refused == Some((Answer::Done(Reply::Paused), Paused::Away(2)));
+    let is_made = asked.map(|(_, paused)| paused) == Some(Paused::Made);
+    Ok(is_kept && is_made)
+}
+
+#[test]
+fn a_pass_is_handed_in(rt: HostRuntime) -> Result<(), Fail> {
+    let Some(mut heap) = begin(rt.alloc(), SETTINGS) else {
+        panic!(rt; "there is memory for a small heap")
+    };
+    assert!(rt; hands_in(rt.alloc(), &mut heap)?);
+    Ok(())
+}
+
 /// Mutator 1 makes an object and stores it, and its pass stays at home while mutator 0 asks for so many pauses. What it finds in the world then, and
 /// the number of the last pause.
 fn sleeps(alloc: Global, heap: &mut Heap, pauses: u32) -> Option<(Answer, u32)> {

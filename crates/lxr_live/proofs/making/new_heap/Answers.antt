@@ -8,7 +8,7 @@ use Rattle.lxr_run_placing.proofs.OpeningLemmas.{opened_is_quiescent}
 use Rattle.lxr_run_loop.specs.Made.{HelpersStandBehind}
 use Rattle.lxr_live.specs.Making.{AreNew}
 use Rattle.lxr_live.specs.Settings.{limits_in}
-use Rattle.lxr_live.proofs.MakingLemmas.{new_between, new_live}
+use Rattle.lxr_live.proofs.MakingLemmas.{new_between, new_live, new_newest}
 use Rattle.lxr_live.proofs.making.new_heap.Goals as goal
 
 pub returns : goal.returns
@@ -25,4 +25,5 @@ returns c =
             (opened_is_listed c.open.new.self c.limits-limits.result opened.space opened.opened),
       ),
       new_live (limits_in settings) settings.every settings.mutators settings.helpers c.in_ok-actors.actors.items c.add_helpers.new.actors.items new stand,
+      new_newest (limits_in settings) settings.every settings.mutators settings.helpers c.in_ok-actors.actors.items c.add_helpers.new.actors.items new stand,
     )

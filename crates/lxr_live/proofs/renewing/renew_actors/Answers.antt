@@ -1,6 +1,5 @@
 use Rattle.std.proofs.Common.{arith}
-use Rattle.std.proofs.lemmas.Option.{slice_get-get_or}
-use Rattle.lxr_live.proofs.RenewingLemmas.{all_renewed, none_renewed, one_renewed}
+use Rattle.lxr_live.proofs.RenewingLemmas.{all_renewed, none_renewed}
 use Rattle.lxr_live.proofs.renewing.renew_actors.Goals as goal
 
 pub loop-number-init : goal.loop-number-init

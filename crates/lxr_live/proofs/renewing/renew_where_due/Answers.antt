@@ -1,4 +1,4 @@
-use Rattle.std.proofs.Common.{◌≡◌, ◌∙◌, ℕ, ◌+◌, ◌-◌, Bool, true, sym, subst, arith, IsTrue, List, length, map}
+use Rattle.std.proofs.Common.{◌≡◌, ◌∙◌, ◌-◌, Bool, true, sym, subst, arith, List, length}
 use Rattle.std.specs.Prelude.{◌&&◌}
 use Rattle.lxr_graph.specs.History.{Item}
 use Rattle.lxr_model.specs.Belongs.{Script}
@@ -6,7 +6,7 @@ use Rattle.lxr_image.specs.declared.space.Space.{Space}
 use Rattle.lxr_invariant.specs.AbstractState.{AbstractState}
 use Rattle.lxr_core.specs.declared.actors.AnyActor.{AnyActor}
 use Rattle.lxr_live.specs.declared.settings.Settings.{Settings}
-use Rattle.lxr_live.specs.Renewing.{HasRenewed, RenewsWhere, StandsIdle, actor_renewed, is_renewal_due}
+use Rattle.lxr_live.specs.Renewing.{HasRenewed, RenewsWhere, StandsIdle, is_renewal_due}
 use Rattle.lxr_live.proofs.RenewingLemmas.{counted_few, counted_many, each_can, has_renewed, may_renew, ns}
 use Rattle.lxr_live.proofs.renewing.renew_where_due.Goals as goal
 

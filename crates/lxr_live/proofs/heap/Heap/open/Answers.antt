@@ -1,4 +1,4 @@
-use Rattle.std.proofs.Common.{rules, refl, subst, sym}
+use Rattle.std.proofs.Common.{refl, subst, sym}
 use Rattle.std.specs.Prelude.{[], replicate}
 use Rattle.std.proofs.lemmas.List.{length-replicate}
 use Rattle.lxr_image.specs.declared.space.Space.{Space}

@@ -5,7 +5,7 @@ use Rattle.lxr_invariant.specs.AbstractState.{AbstractState}
 use Rattle.lxr_run_invariant.specs.LoopInvariant.{IsBetweenEpochs}
 use Rattle.lxr_live.specs.Heaps.{IsBetween, StandsFor}
 use Rattle.lxr_live.specs.Settings.{run_of}
-use Rattle.lxr_live.proofs.HeapLemmas.{has_opened, so_far, some_begins}
+use Rattle.lxr_live.proofs.HeapLemmas.{has_opened, some_begins}
 use Rattle.lxr_live.proofs.heap.Stage.resumed.Goals as goal
 
 pub open-requires : goal.open-requires
@@ -27,7 +27,7 @@ returns-in-Ok c = λ settings. (
         record {
           settings = of.settings;
           threads = of.threads;
-          stands = has_opened (run_of settings script) h c.into_space.result c.in-Between.actors.items c.in-Ok.live amid stands.1 c.in-Ok.ensures.runs c.in-Ok.ensures.actors;
+          stands = has_opened (run_of settings script) h c.into_space.result c.in-Between.actors.items c.in-Ok.live.epoch amid stands.1 stands.2 c.in-Ok.ensures.runs c.in-Ok.ensures.actors;
         });
   },
 )

@@ -44,7 +44,7 @@ returns-clause-runs c = λ b begins.
     let many = started_many c.args.space c.open_epoch.new.space c.args.actors.items c.open_epoch.new.actors opens in
     let whole = with_items_is c.args.actors c.open_epoch.new.actors (many ∙ ap length (sym c.deref_mut.ensures.value) ∙ c.deref_mut.ensures.len) in
     let holds = c.open_epoch.ensures.execution b (subst (Begins b c.args.space) (sym c.deref_mut.ensures.value) begins) in
-    is_running b c.args.space c.open_epoch.new.space c.args.actors.items c.open_epoch.new.actors c.in_ok-live.live begins opens holds
+    is_running b c.args.space c.open_epoch.new.space c.args.actors.items c.open_epoch.new.actors c.in_ok-live.live.epoch begins opens holds
     (c.in_ok-live.ensures.0 ∙ ap (λ actors. core_of c.open_epoch.new.space.words actors) whole) c.in_ok-live.ensures.1
 
 pub returns-clause-actors : goal.returns-clause-actors
@@ -52,5 +52,5 @@ returns-clause-actors c =
     let opens = subst (λ actors. Opens c.args.space c.open_epoch.new.space actors c.open_epoch.new.actors) c.deref_mut.ensures.value c.open_epoch.ensures.opens in
     let many = started_many c.args.space c.open_epoch.new.space c.args.actors.items c.open_epoch.new.actors opens in
     let whole = with_items_is c.args.actors c.open_epoch.new.actors (many ∙ ap length (sym c.deref_mut.ensures.value) ∙ c.deref_mut.ensures.len) in
-    began_with c.args.space c.open_epoch.new.space c.args.actors.items c.open_epoch.new.actors c.in_ok-live.live opens
+    began_with c.args.space c.open_epoch.new.space c.args.actors.items c.open_epoch.new.actors c.in_ok-live.live.epoch opens
     (c.in_ok-live.ensures.0 ∙ ap (λ actors. core_of c.open_epoch.new.space.words actors) whole)

@@ -5,7 +5,7 @@ use Rattle.lxr_live.proofs.station.Station.help.Goals as goal
 
 pub returns-then-not-help_once-clause-units : goal.returns-then-not-help_once-clause-units
 returns-then-not-help_once-clause-units c =
-    let helper : is_mutator c.args.self.now.actor ≡ false = cc in
+    let helper : is_mutator c.args.self.now.pass.actor ≡ false = cc in
     let none : c.help_once.result ≡ false = cc in
     let less : c.loop.counter + 1 ≤ c.args.units = (let before = c.loop-test.true in omega (arith, before)) in
-    helps_less c.args.units c.loop.counter c.args.self.now c.loop.self c.help_once.new.self helper less c.loop.invariant c.help_once.ensures.unit (sym c.help_once.ensures.found ∙ none)
+    helps_less c.args.units c.loop.counter c.args.self.now.pass c.loop.self.pass c.help_once.new.self.pass helper less c.loop.invariant.0 c.help_once.ensures.unit (sym c.help_once.ensures.found ∙ none)
