@@ -20,10 +20,10 @@ use Rattle.lxr_model.proofs.ReachableLemmas.{dead_parts}
 use Rattle.lxr_model_counting.specs.Following.{FollowsPause}
 use Rattle.lxr_model_counting.proofs.DeathLemmas.{dead_unwritten}
 use Rattle.lxr_invariant.specs.AbstractState.{members}
-use Rattle.lxr_invariant.specs.Counting.{HasDecrements}
+use Rattle.lxr_invariant.specs.Counting.{HasDecrements, entries_between, listed_at}
 use Rattle.lxr_invariant.proofs.FrameLemmas.{decrements_still}
 use Rattle.lxr_invariant.proofs.NameLemmas.{in_first}
-use Rattle.lxr_core_invariant.specs.EpochStates.{Beginning, EpochState, limits_of, moment_of}
+use Rattle.lxr_core_invariant.specs.EpochStates.{Beginning, EpochState, limits_of, moment_of, opening_tables}
 use Rattle.lxr_core_invariant.specs.Events.{TellsObject}
 use Rattle.lxr_core_invariant.specs.Epoch.{IsEpoch}
 use Rattle.lxr_core_invariant.proofs.PauseLemmas.{AreUnmoved, dead_stays, HaveOnePause, one_pause, unmoved}
@@ -108,9 +108,17 @@ module _ (b : Beginning) (s : EpochState) (is : IsEpoch b s) where
       ∙ word_was r (λ v e. is.begins.between.safepoint.holds.follows.closed n v h (i, held ∙ ap Some e))
 
   -- the list of decrements is the opening's
+  same_number : s.tables.cursors DECREMENT_COUNT ≡ (opening_tables b).cursors DECREMENT_COUNT
+  same_number = is.fixed.cursors DECREMENT_COUNT (λ e. omega arith) (λ e. omega arith) (λ e. omega arith) (λ e. omega arith) (λ e. omega arith)
+
   listed : HasDecrements (limits_of b) s.tables was stood
-  listed = decrements_still (limits_of b) (limits_of b) _ s.tables was stood refl (ap (λ z. z.decs) is.fixed.tables)
-      (is.fixed.cursors DECREMENT_COUNT (λ e. omega arith) (λ e. omega arith) (λ e. omega arith) (λ e. omega arith) (λ e. omega arith)) is.begins.between.safepoint.holds.decrements
+  listed = decrements_still (limits_of b) (limits_of b) _ s.tables was stood refl (ap (λ z. z.decs) is.fixed.tables) same_number is.begins.between.safepoint.holds.decrements
+
+  -- so is how often a place stands in it
+  pub same_listed : (p : ℕ) → listed_at s.tables p ≡ listed_at (opening_tables b) p
+  same_listed p =
+      ap (λ z. entries_between z.decs 0 (s.tables.cursors DECREMENT_COUNT) p) is.fixed.tables
+      ∙ ap (λ n. entries_between (opening_tables b).decs 0 n p) same_number
 
   pub ground_of : IsGround (limits_of b) s.tables was stood
   ground_of = record {

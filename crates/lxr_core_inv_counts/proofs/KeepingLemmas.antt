@@ -28,7 +28,7 @@ use Rattle.lxr_core_invariant.specs.Epoch.{DecrementersRest, IsEpoch}
 use Rattle.lxr_core_invariant.specs.Laws.{ClosingCounts, CountsAreKept, DecrementersAreSound, DecrementersKeepCounts, LiveIsUndone, OpeningCounts, TracersKeepCounts}
 use Rattle.lxr_core_invariant.proofs.PauseLemmas.{counts_unmoved, dead_stays, decrements_unmoved, one_pause, unmoved}
 use Rattle.lxr_core_inv_counts.proofs.HandLemmas.{hands_rest, soon_rest}
-use Rattle.lxr_core_inv_counts.proofs.GroundLemmas.{IsGround, ground_of}
+use Rattle.lxr_core_inv_counts.proofs.GroundLemmas.{IsGround, ground_of, same_listed}
 use Rattle.lxr_core_inv_counts.proofs.TurnLemmas.{AgreesOnCounts, counted_still}
 use Rattle.lxr_core_inv_counts.proofs.StepLemmas.{IsAbout, after_access, is_about, step_counted}
 use Rattle.lxr_core_inv_counts.proofs.SoundLemmas.{IsSoundWhere, step_sound}
@@ -185,6 +185,9 @@ counts_at_rest b s is rest =
           let a = counted.exact n h k in
           let c = hands_rest s.tables b.abstract_state.moment b.abstract_state.at s.decrementers n rest in
           omega (arith, a, c);
+      held = λ n h k none.
+          let e = same_listed b s is (b.abstract_state.at n) in
+          is.begins.between.safepoint.holds.counts.held n h k (omega (arith, e, none));
       done = counted.done;
       dead = counted.dead;
     }

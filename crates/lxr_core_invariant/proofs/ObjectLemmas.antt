@@ -1,5 +1,5 @@
 -- Each thread has as many objects as it began with and as it has had replies that tell of a new one.
-use Rattle.std.proofs.Common.{◌≡◌, ℕ, zero, suc, ◌+◌, ◌%◌, ◌^◌, ◌<◌, ◌≤◌, Bool, true, false, arith, refl, sym, subst, ap, ◌∙◌, inl, inr, cond, List, [], ◌∷◌, ◌++◌, length, length-append, length-set, map, nat_eq, replicate}
+use Rattle.std.proofs.Common.{◌≡◌, ℕ, zero, suc, ◌+◌, ◌%◌, ◌^◌, ◌<◌, ◌≤◌, Bool, true, false, arith, refl, sym, subst, ap, ◌∙◌, inl, inr, cond, List, [], ◌∷◌, ◌++◌, length, length-append, length-set, nat_eq, replicate}
 use Rattle.std.specs.Prelude.{◌-◌, Option, Some, None, slice_set, if◌then◌else◌}
 use Rattle.std.specs.List.{count_by}
 use Rattle.std.proofs.lemmas.Bool.Decides.{eqb_tells}

@@ -13,7 +13,7 @@ use Rattle.lxr_image.specs.Reads.{granule_of}
 use Rattle.lxr_model.specs.Dead.{Dead}
 use Rattle.lxr_model.specs.Moments.{Moment, moment}
 use Rattle.lxr_model.specs.References.{references}
-use Rattle.lxr_invariant.specs.Counting.{HasCounts, HasDecrements, undone, waiting_at}
+use Rattle.lxr_invariant.specs.Counting.{HasCounts, HasDecrements, listed_at, undone, waiting_at}
 use Rattle.lxr_invariant.proofs.NameLemmas.{in_first}
 use Rattle.lxr_core_invariant.specs.EpochStates.{Beginning, EpochState, Extends, same, called, limits_of, moment_of}
 use Rattle.lxr_core_invariant.specs.Epoch.{IsEpoch}
@@ -76,6 +76,10 @@ counts_unmoved t m k at to one still is =
           ∙ ap (λ z. references m.last (undone t to m.unreclaimed) n + waiting_at t z) (sym (still n (in_m n h)))
           ∙ ap (λ z. references z (undone t to m.unreclaimed) n + waiting_at t (to n)) (sym one.last)
           ∙ ap (λ z. references k.last (undone t to z) n + waiting_at t (to n)) (sym one.unreclaimed);
+      held = λ n h l none. is.held n (in_m n h) (loose n l) (
+          ap (λ z. references m.last m.unreclaimed n + listed_at t z) (sym (still n (in_m n h)))
+          ∙ ap (λ z. references z m.unreclaimed n + listed_at t (to n)) (sym one.last)
+          ∙ ap (λ z. references k.last z n + listed_at t (to n)) (sym one.unreclaimed) ∙ none);
       done = λ n h done. ap (λ z. t.counts (granule_of z)) (still n (in_m n h)) ∙ is.done n (in_m n h) (subst (λ z. IsTrue (t.dones (granule_of z))) (still n (in_m n h)) done);
       dead = λ n h done. dead_stays m k n one (is.dead n (in_m n h) (subst (λ z. IsTrue (t.dones (granule_of z))) (still n (in_m n h)) done));
     }

@@ -96,7 +96,7 @@ module _ (s : Space) (g : AbstractState) (st : State) (ws : List Field) (words :
   counts_then : HasCounts tables then g.at
   counts_then =
       let c = is.safepoint.holds.counts in
-      record { stuck = c.stuck; below = c.below; exact = c.exact; done = c.done; dead = c.dead }
+      record { stuck = c.stuck; below = c.below; exact = c.exact; held = c.held; done = c.done; dead = c.dead }
 
   decrements_then : HasDecrements s.limits tables then g.at
   decrements_then = let d = is.safepoint.holds.decrements in record { fits = d.fits; places = d.places }

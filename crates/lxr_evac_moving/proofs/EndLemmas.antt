@@ -22,7 +22,7 @@ use Rattle.lxr_model.specs.Moments.{Moment}
 use Rattle.lxr_model.specs.References.{references}
 use Rattle.lxr_model_counting.specs.Distinct.{has_field}
 use Rattle.lxr_invariant.specs.AbstractState.{members}
-use Rattle.lxr_invariant.specs.Counting.{HasCounts, IsUndecremented, count_at, entries_between, undone, waiting_at}
+use Rattle.lxr_invariant.specs.Counting.{HasCounts, IsUndecremented, count_at, entries_between, listed_at, undone, waiting_at}
 use Rattle.lxr_invariant.specs.Lines.{HasBlocks, HasMarks, is_chosen, FreeAreUnused}
 use Rattle.lxr_invariant.specs.Quiescent.{HoldsMoment}
 use Rattle.lxr_invariant.specs.Standing.{AreLogged, HasBits, entry_of}
@@ -225,6 +225,9 @@ module _ (s : Space) (m : Moment) (st : EvacuationStage) (is : IsEvacuating s m 
   empty_then : t.cursors DECREMENT_COUNT ≡ 0
   empty_then = ap (λ c. c DECREMENT_COUNT) (same_cursors s m st is) ∙ is.can.empty
 
+  none_listed : (u : Tables) (p : ℕ) → u.cursors DECREMENT_COUNT ≡ 0 → listed_at u p ≡ 0
+  none_listed u p none = ap (λ k. entries_between u.decs 0 k p) none
+
   undone_same : undone t st.now m.unreclaimed ≡ undone f st.at m.unreclaimed
   undone_same = sym (undone_all t st.at st.now m.unreclaimed none_done) ∙ ap (λ d. undone (record f { dones = d }) st.at m.unreclaimed) same_dones
 
@@ -234,6 +237,8 @@ module _ (s : Space) (m : Moment) (st : EvacuationStage) (is : IsEvacuating s m 
     below = λ n in_n unstuck. subst (λ c. c < STUCK) (sym (count_same n in_n)) (was.counts.below n in_n unstuck);
     exact = λ n in_n unstuck. count_same n in_n ∙ was.counts.exact n in_n unstuck
         ∙ (λ i. references m.last (sym undone_same i) n + (none_waits f (st.at n) is.can.empty ∙ sym (none_waits t (st.now n) empty_then)) i);
+    held = λ n in_n unstuck none. was.counts.held n in_n unstuck
+        ((λ i. references m.last m.unreclaimed n + (none_listed f (st.at n) is.can.empty ∙ sym (none_listed t (st.now n) empty_then)) i) ∙ none);
     done = λ n in_n done. absurd (let no = none_done (granule_of (st.now n)) in cc);
     dead = λ n in_n done. absurd (let no = none_done (granule_of (st.now n)) in cc);
   }

@@ -3,7 +3,6 @@ pub mod HalfLemmas
 pub mod TableLaws
 pub mod BitWordLemmas
 pub mod OutLemmas
-pub mod UncountedLemmas
 pub mod SpaceLemmas
 pub mod OpenLemmas
 pub mod ImageLemmas

@@ -6,7 +6,7 @@ use Rattle.std.proofs.lemmas.Bool.Decides.{eqb_tells}
 use Rattle.std.proofs.lemmas.List.{get_or-set_same, get_or-set_other}
 use Rattle.std.proofs.Math.ListN.{get_or-eq_default, length-set}
 use Rattle.lxr_tables.specs.declared.counts.TheConstants.{COUNTS_IN_WORD}
-use Rattle.lxr_layout.specs.declared.TheConstants.{COUNT_BITS, COUNT_WORDS_IN_BLOCK, GRANULES_IN_BLOCK, LINES_IN_BLOCK, STUCK}
+use Rattle.lxr_layout.specs.declared.TheConstants.{COUNT_BITS, GRANULES_IN_BLOCK, LINES_IN_BLOCK, STUCK}
 use Rattle.lxr_layout.specs.declared.limits.Limits.{Limits}
 use Rattle.lxr_layout.specs.Spaces.{all_regions, counts_region, region_begin, region_sizes, reuse_region}
 use Rattle.lxr_tables.specs.Entries.{OthersStay, table}
@@ -175,20 +175,6 @@ count_read l ws g within = region_read COUNT_BITS COUNTS_IN_WORD (region_sizes l
 pub count_within : (l : Limits) (ws : List ℕ) (g : ℕ) → (tables_in l ws).size ≡ region_begin l all_regions → g < GRANULES_IN_BLOCK * l.blocks → region_begin l counts_region + g / COUNTS_IN_WORD < length ws
 unfolding tables_in
 count_within l ws g size within = region_within (region_sizes l) ws 1 (g / COUNTS_IN_WORD) (lit< tt) (omega arith) (omega arith)
-
--- a count by the word that it stands in
-pub count_of_word : (l : Limits) (ws : List ℕ) (at i : ℕ) → (tables_in l ws).size ≡ region_begin l all_regions → at < COUNT_WORDS_IN_BLOCK * l.blocks → i < COUNTS_IN_WORD
-    → slice_index ws (region_begin l counts_region + at) / 2 ^ (COUNT_BITS * i) % 2 ^ COUNT_BITS ≡ (tables_in l ws).counts (COUNTS_IN_WORD * at + i)
-count_of_word l ws at i size within in_word =
-    let g : ℕ = COUNTS_IN_WORD * at + i in
-    let word : g / COUNTS_IN_WORD ≡ at = omega arith in
-    let place : g % COUNTS_IN_WORD ≡ i = omega arith in
-    sym (ap (λ x. slice_index ws (region_begin l counts_region + x) / 2 ^ (COUNT_BITS * (g % COUNTS_IN_WORD)) % 2 ^ COUNT_BITS) word ∙ ap (λ x. slice_index ws (region_begin l counts_region + at) / 2 ^ (COUNT_BITS * x) % 2 ^ COUNT_BITS) place)
-    ∙ sym (entry_read COUNT_BITS COUNTS_IN_WORD (region_begin l counts_region) g ws (lit< tt) (count_within l ws g size (omega arith))) ∙ count_read l ws g (omega arith)
-
-pub count_word_within : (l : Limits) (ws : List ℕ) (at : ℕ) → (tables_in l ws).size ≡ region_begin l all_regions → at < COUNT_WORDS_IN_BLOCK * l.blocks → region_begin l counts_region + at < length ws
-unfolding tables_in
-count_word_within l ws at size within = region_within (region_sizes l) ws 1 at (lit< tt) (omega arith) (omega arith)
 
 pub count_written : (l : Limits) (ws vs : List ℕ) (g e : ℕ) → (tables_in l ws).size ≡ region_begin l all_regions → g < GRANULES_IN_BLOCK * l.blocks
     → table COUNT_BITS COUNTS_IN_WORD (drop (region_begin l counts_region) vs) ≡ slice_set (table COUNT_BITS COUNTS_IN_WORD (drop (region_begin l counts_region) ws)) g e → OthersStay ws vs (region_begin l counts_region + g / COUNTS_IN_WORD)

@@ -5,8 +5,7 @@
 //! heap, from 0.
 ghost use Rattle.std.specs.Prelude.{◌≡◌, ◌≢◌, ℕ, ◌+◌, ◌*◌, ◌/◌, ◌%◌, ◌^◌, ◌<◌, ◌≤◌, ◌↔◌, ◌==◌, IsBitSet, IsTrue, false, if◌then◌else◌, slice_index, true};
 ghost use Rattle.std.specs.Int.{bit_at};
-ghost use Rattle.lxr_layout.specs.declared.TheConstants.{COUNT_WORDS_IN_BLOCK, GRANULES_IN_BLOCK, GRANULES_IN_LINE, LINES_IN_BLOCK, WORDS_IN_BLOCK};
-ghost use Rattle.lxr_tables.specs.declared.counts.TheConstants.{COUNTS_IN_WORD};
+ghost use Rattle.lxr_layout.specs.declared.TheConstants.{GRANULES_IN_BLOCK, GRANULES_IN_LINE, LINES_IN_BLOCK, WORDS_IN_BLOCK};
 ghost use Rattle.lxr_image.specs.Reads.{is_tracing};
 ghost use Rattle.lxr_image.specs.Spaces.{IsSpace, Turns, bit_region, bit_table, tables_of, with_bit, with_bit_word, with_word, word_region, word_table};
 ghost use Rattle.lxr_image.specs.Tables.{changed};
@@ -14,10 +13,10 @@ ghost use Rattle.lxr_layout.specs.Spaces.{AreLimits, counts_region, region_begin
 ghost use Rattle.lxr_tables.specs.Counts.{lowered_count, lowered_of, raised_count};
 
 use crate::Space;
-use lxr_layout::{COUNT_BITS, Limits, STUCK, TRACING_WORD, regions};
+use lxr_layout::{Limits, STUCK, TRACING_WORD, regions};
 use lxr_tables::{
     COUNTS_IN_WORD, Lowered, Raised, Words, bit, clear_bit, four, is_uncounted, lower_four,
-    raise_four, set_bit, set_four, uncounted_lines, zero_counts,
+    raise_four, set_bit, set_four, uncounted_lines,
 };
 
 /// A table of bits.
@@ -741,47 +740,6 @@ impl Space {
             block as usize,
             line as usize,
         )
-    }
-
-    /// Which granules of a word of counts have count 0: bit i of the answer is set exactly where that of granule i of them is 0.
-    #[inline(always)]
-    fn uncounted_word(&self, at: u32) -> u16
-        requires space { IsSpace self.now }
-        requires at { at < COUNT_WORDS_IN_BLOCK * self.now.limits.blocks }
-        ensures { (i : ℕ) → i < COUNTS_IN_WORD → (IsBitSet result i ↔ ((tables_of self.now).counts (COUNTS_IN_WORD * at + i) ≡ 0)) }
-    {
-        zero_counts(self.words.get(self.counts_begin() + at as usize))
-    }
-
-    /// Which of 64 granules in a row have count 0: bit i of the answer is set exactly where that of granule i of them is 0.
-    #[inline(always)]
-    fn uncounted_granules(&self, at: u32) -> u64
-        requires space { IsSpace self.now }
-        requires at { at < 32 * self.now.limits.blocks }
-        ensures { (i : ℕ) → i < 64 → (IsBitSet result i ↔ ((tables_of self.now).counts (64 * at + i) ≡ 0)) }
-    {
-        let mut zeros = 0;
-        for word in 0..COUNT_BITS {
-            let told = u64::from(self.uncounted_word(COUNT_BITS * at + word));
-            zeros |= told << (COUNTS_IN_WORD as u32 * word);
-        }
-        zeros
-    }
-
-    /// The objects without a count among those that begin at 64 granules in a row: bit i of the answer is set exactly where
-    /// one begins at granule i of them and its count is 0. It looks at a word of start bits, and at their words of counts where
-    /// an object begins there.
-    #[inline(always)]
-    pub fn uncounted_starts(&self, at: u32) -> u64
-        requires space { IsSpace self.now }
-        requires at { at < 32 * self.now.limits.blocks }
-        ensures { (i : ℕ) → i < 64 → (IsBitSet result i ↔ (IsTrue ((tables_of self.now).starts (64 * at + i)) × ((tables_of self.now).counts (64 * at + i) ≡ 0))) }
-    {
-        let starts = self.bit_word_in(BitTable::Starts, at);
-        if starts == 0 {
-            return 0;
-        }
-        starts & self.uncounted_granules(at)
     }
 
     /// The first word of the reference counts.

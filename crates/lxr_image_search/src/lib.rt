@@ -21,8 +21,6 @@ pub enum Wanted {
     ToScan,
     /// An object that a decrementer has handled.
     Handled,
-    /// An object without a count.
-    Dropped,
 }
 
 /// Which of 64 granules in a row have a wanted object: bit i of the answer is set exactly where granule i of them has.
@@ -37,7 +35,6 @@ fn wanted_word(space: &Space, wanted: Wanted, at: u32) -> u64
         Wanted::Unmarked => space.start_word(at) & !space.mark_word(at),
         Wanted::ToScan => space.gray_word(at) & !space.mark_word(at),
         Wanted::Handled => space.done_word(at),
-        Wanted::Dropped => space.uncounted_starts(at),
     }
 }
 
@@ -49,7 +46,7 @@ fn wanted_hint(space: &Space, wanted: Wanted, at: u32) -> u64
     ensures { result ≡ 0 → NoneWanted (tables_of space.now) wanted (64 * at) (64 * at + 64) }
 {
     match wanted {
-        Wanted::Object | Wanted::Unmarked | Wanted::Dropped => space.start_word(at),
+        Wanted::Object | Wanted::Unmarked => space.start_word(at),
         Wanted::ToScan => space.gray_word(at),
         Wanted::Handled => space.done_word(at),
     }

@@ -1,5 +1,5 @@
 -- Which tables each part of what holds between epochs reads: where those stay, so does the part.
-use Rattle.std.proofs.Common.{◌≡◌, ℕ, zero, suc, ◌+◌, ◌*◌, ◌/◌, ◌<◌, ◌≤◌, refl, sym, ap, subst, ◌∙◌, inl, inr, arith, false, cond, List, [], ◌∷◌, ◌++◌, IsTrue, length, ◌-◌}
+use Rattle.std.proofs.Common.{◌≡◌, ◌≢◌, ℕ, zero, suc, ◌+◌, ◌*◌, ◌/◌, ◌<◌, ◌≤◌, refl, sym, ap, subst, ◌∙◌, inl, inr, arith, false, cond, List, [], ◌∷◌, ◌++◌, IsTrue, length, ◌-◌}
 use Rattle.std.specs.Prelude.{◌&&◌, not, filter, Option, Some, None}
 use Rattle.lxr_layout.specs.declared.Name.{Name}
 use Rattle.lxr_layout.specs.declared.limits.Limits.{Limits}
@@ -22,7 +22,7 @@ use Rattle.lxr_model.specs.Moments.{Moment, Trace}
 use Rattle.lxr_model.specs.References.{references}
 use Rattle.lxr_invariant.specs.AbstractState.{leaving, members}
 use Rattle.lxr_invariant.specs.Standing.{AreLogged, HasBits, IsImaged}
-use Rattle.lxr_invariant.specs.Counting.{HasCounts, HasDecrements, IsUndecremented, entries_between, undone, waiting_at}
+use Rattle.lxr_invariant.specs.Counting.{HasCounts, HasDecrements, IsUndecremented, count_at, entries_between, listed_at, undone, waiting_at}
 use Rattle.lxr_invariant.specs.Lines.{AvoidChosen, ChosenNeedTrace, HasBlocks, HasMarks, KeepLines, KeepsRest, LinesAreOut, chosen_count, is_chosen}
 use Rattle.lxr_invariant.specs.Quiescent.{HoldsMoment}
 use Rattle.lxr_invariant.proofs.NameLemmas.{in_longer}
@@ -116,6 +116,14 @@ none_undone t at [] none = refl
 none_undone t at (u ∷ us) none =
     ap (λ b. cond (not b) (u ∷ undone t at us) (undone t at us)) (none (granule_of (at u))) ∙ ap (λ xs. u ∷ xs) (none_undone t at us none)
 
+-- where nothing is done or drawn, each count that is not 0 tells of a reference or of an entry in the list of decrements
+pub held_at_rest : (t : Tables) (m : Moment) (at : Name → ℕ) (n : Name) → IsUndecremented t m at → IsTrue (has m.unreclaimed n)
+    → count_at t at n ≡ references m.last (undone t at m.unreclaimed) n + waiting_at t (at n) → references m.last m.unreclaimed n + listed_at t (at n) ≢ 0
+held_at_rest t m at n is h exact none =
+    let all = ap (λ us. references m.last us n) (none_undone t at m.unreclaimed is.none_done) in
+    let listed = ap (λ k. entries_between t.decs k (t.cursors DECREMENT_COUNT) (at n)) is.none_drawn in
+    is.positive n h (omega (arith, exact, all, listed, none))
+
 pub counts_still : (t u : Tables) (m : Moment) (at : Name → ℕ) → u.counts ≡ t.counts → u.dones ≡ t.dones → u.decs ≡ t.decs → u.cursors DECREMENT_CURSOR ≡ t.cursors DECREMENT_CURSOR → u.cursors DECREMENT_COUNT ≡ t.cursors DECREMENT_COUNT
     → HasCounts t m at → HasCounts u m at
 counts_still t u m at counts dones decs drawn waiting is = record {
@@ -124,10 +132,14 @@ counts_still t u m at counts dones decs drawn waiting is = record {
   exact = λ n h k. ap (λ f. f (granule_of (at n))) counts ∙ is.exact n h k
       ∙ ap (λ f. references m.last (filter (λ x. not (f (granule_of (at x)))) m.unreclaimed) n + waiting_at t (at n)) (sym dones)
       ∙ ap (λ w. references m.last (undone u at m.unreclaimed) n + w) (sym (waiting_still t u (at n) decs drawn waiting));
+  held = λ n h k none. is.held n h k (ap (λ w. references m.last m.unreclaimed n + w) (sym (listed_still (at n))) ∙ none);
   done = λ n h k. ap (λ f. f (granule_of (at n))) counts ∙ is.done n h (sym (ap (λ f. f (granule_of (at n))) dones) ∙ k);
   dead = λ n h k. is.dead n h (sym (ap (λ f. f (granule_of (at n))) dones) ∙ k);
 }
   where
+    listed_still : (p : ℕ) → listed_at u p ≡ listed_at t p
+    listed_still p = ap (λ f. entries_between f 0 (u.cursors DECREMENT_COUNT) p) decs ∙ ap (λ n. entries_between t.decs 0 n p) waiting
+
     waiting_still : (t u : Tables) (p : ℕ) → u.decs ≡ t.decs → u.cursors DECREMENT_CURSOR ≡ t.cursors DECREMENT_CURSOR → u.cursors DECREMENT_COUNT ≡ t.cursors DECREMENT_COUNT → waiting_at u p ≡ waiting_at t p
     waiting_still t u p decs drawn waiting =
         ap (λ f. entries_between f (u.cursors DECREMENT_CURSOR) (u.cursors DECREMENT_COUNT) p) decs ∙ ap (λ n. entries_between t.decs n (u.cursors DECREMENT_COUNT) p) drawn ∙ ap (λ n. entries_between t.decs (t.cursors DECREMENT_CURSOR) n p) waiting

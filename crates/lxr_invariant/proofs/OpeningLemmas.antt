@@ -67,6 +67,7 @@ opening_counts l threads = record {
   stuck = λ n member stuck. refl;
   below = λ n member loose. not_both (has (world_name ∷ []) n) member loose;
   exact = λ n member loose. not_both (has (world_name ∷ []) n) member loose;
+  held = λ n member loose. not_both (has (world_name ∷ []) n) member loose;
   done = λ n member done. absurd (let k : false ≡ true = done in cc);
   dead = λ n member done. absurd (let k : false ≡ true = done in cc);
 }

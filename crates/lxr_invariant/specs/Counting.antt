@@ -43,13 +43,20 @@ entries_between f from (suc k) p = (if nat_le from k && (f k == p) then 1 else 0
 abbrev pub waiting_at : Tables → ℕ → ℕ
 waiting_at t p = entries_between t.decs (t.cursors DECREMENT_CURSOR) (t.cursors DECREMENT_COUNT) p
 
+-- how often a place stands in the list of decrements, drawn or not
+abbrev pub listed_at : Tables → ℕ → ℕ
+listed_at t p = entries_between t.decs 0 (t.cursors DECREMENT_COUNT) p
+
 -- The count of a stuck object is STUCK. That of another is below it, and is the references to the object at the last
 -- pause, without those of what is done, and the decrements of it that wait. What is done is dead and has count 0.
+-- Each unstuck object was referred to at the last pause or stands in the list of decrements, drawn or not: none had
+-- count 0 when the pause was over.
 pub record HasCounts (t : Tables) (m : Moment) (at : Name → ℕ) : Type 0 where
   pub stuck : (n : Name) → IsTrue (has m.unreclaimed n) → IsTrue (has m.stuck n) → count_at t at n ≡ STUCK
   pub below : (n : Name) → IsTrue (has m.unreclaimed n) → has m.stuck n ≡ false → count_at t at n < STUCK
   pub exact : (n : Name) → IsTrue (has m.unreclaimed n) → has m.stuck n ≡ false
       → count_at t at n ≡ references m.last (undone t at m.unreclaimed) n + waiting_at t (at n)
+  pub held : (n : Name) → IsTrue (has m.unreclaimed n) → has m.stuck n ≡ false → references m.last m.unreclaimed n + listed_at t (at n) ≢ 0
   pub done : (n : Name) → IsTrue (has m.unreclaimed n) → IsTrue (is_done t at n) → count_at t at n ≡ 0
   pub dead : (n : Name) → IsTrue (has m.unreclaimed n) → IsTrue (is_done t at n) → Dead m.last m.unreclaimed m.stuck n
 

@@ -37,7 +37,7 @@ module _ (a b e : Space) (block : ℕ) (only : OnlyReports a b) (turns : Turns b
 
   pub block_keeps : Keeps a e
   block_keeps = record {
-    leaves = leaves_by a e a.work b.report.dead (turns.rest ∙ ap {A = Space} (λ s. record s { words = e.words }) only.rest) refl only.room
+    leaves = leaves_by a e b.work b.report.dead (turns.rest ∙ ap {A = Space} (λ s. record s { words = e.words }) only.rest) only.work_room only.room
         (subst (TablesStay (tables_of a)) (sym tables) (words_stay (tables_of a) (32 * block) 32).0);
     cursors = ap (λ t. t.cursors) tables ∙ (words_stay (tables_of a) (32 * block) 32).3;
   }

@@ -1,5 +1,5 @@
 -- What holds of a moment is what the decrements need, and what they leave.
-use Rattle.std.proofs.Common.{◌≡◌, ℕ, ◌+◌, ◌*◌, ◌≤◌, refl, sym, ap, subst, ◌∙◌, inl, inr, arith, false, List, [], ◌∷◌, ◌++◌, IsTrue, length}
+use Rattle.std.proofs.Common.{◌≡◌, ℕ, ◌+◌, ◌*◌, ◌≤◌, refl, sym, ap, subst, ◌∙◌, inl, inr, arith, false, List, [], ◌++◌, IsTrue, length}
 use Rattle.std.specs.Prelude.{not, filter, reverse, slice_get}
 use Rattle.std.proofs.lemmas.List.{length-reverse}
 use Rattle.lxr_layout.specs.declared.TheConstants.{GRANULES_IN_BLOCK, TRACING_WORD}
@@ -26,28 +26,24 @@ use Rattle.lxr_model_counting.proofs.LoweringLemmas.{without_none}
 use Rattle.lxr_model_counting.proofs.DeathLemmas.{left_follows}
 use Rattle.lxr_invariant.specs.AbstractState.{leaving}
 use Rattle.lxr_invariant.specs.Standing.{AreLogged, HasBits, IsUnwritten}
-use Rattle.lxr_invariant.specs.Counting.{HasCounts, IsUndecremented, is_done, passing, undone, waiting_at}
+use Rattle.lxr_invariant.specs.Counting.{HasCounts, IsUndecremented, count_at, is_done, passing, undone, waiting_at}
 use Rattle.lxr_invariant.specs.Lines.{HasBlocks, HasMarks}
 use Rattle.lxr_invariant.specs.Quiescent.{HoldsMoment}
 use Rattle.lxr_invariant.proofs.NameLemmas.{in_first}
 use Rattle.lxr_invariant.proofs.EntryLemmas.{passing_few}
-use Rattle.lxr_invariant.proofs.FrameLemmas.{AreAsMany, blocks_still, imaged_left, none_undone, out_still, rest_left, unchosen_still}
+use Rattle.lxr_invariant.proofs.FrameLemmas.{AreAsMany, blocks_still, held_at_rest, imaged_left, none_undone, out_still, rest_left, unchosen_still}
 use Rattle.lxr_invariant.proofs.UnusedLemmas.{unused_still}
 use Rattle.lxr_pause_decrements.specs.Finishing.{CanFinish, Finishes}
-use Rattle.lxr_pause_decrements.specs.Cascade.{CascadeStage, Ground, IsFinished, IsHandling, Leaves, come_to, later, with_lists}
+use Rattle.lxr_pause_decrements.specs.Cascade.{CascadeStage, Ground, IsFinished, IsHandling, Leaves, later, with_lists}
 use Rattle.lxr_pause_decrements.proofs.WipeLemmas.{loses_none, loses_same}
 use Rattle.lxr_pause_decrements.proofs.GrayLemmas.{grays_end, grays_none, handled_first}
-use Rattle.lxr_pause_decrements.proofs.CascadeLemmas.{has_reversed}
+use Rattle.lxr_pause_decrements.proofs.CascadeLemmas.{append_nothing, has_reversed}
 
 -- ---- into the decrements
 
 -- the stage at which the decrements begin
 abbrev pub first_stage : Space → Moment → (Name → ℕ) → CascadeStage
-first_stage s m at = record { moment = m; at = at; was = tables_of s; before = s.report.dead.items; gone = []; work = []; under = []; extra = λ o. 0; ungrayed = λ o. 0; passed = 0 }
-
-append_nothing : {A : Type 0} (xs : List A) → xs ≡ xs ++ []
-append_nothing [] = refl
-append_nothing (x ∷ xs) = ap (λ ys. x ∷ ys) (append_nothing xs)
+first_stage s m at = record { moment = m; at = at; was = tables_of s; before = s.report.dead.items; gone = []; work = []; under = []; extra = λ o. 0; ungrayed = λ o. 0; unseen = λ o. 0 }
 
 -- no reference of a dead object was stored to since the last pause
 dead_unwritten : (m : Moment) (n : Name) (i : ℕ) → FollowsPause m → Dead m.last m.unreclaimed m.stuck n → has_field m.written (n, i) ≡ false
@@ -102,14 +98,14 @@ opening s m at can =
           dead_room = let r = can.room in omega (arith, few, r);
         };
         exact = λ o in_o unstuck. is.counts.exact o in_o unstuck ∙ ap (λ us. references m.last (undone t at us) o + waiting_at t (at o)) (sym all);
+        held = is.counts.held;
         dead = λ o h. absurd (cc);
         zero = λ o h. absurd (cc);
         done_dead = is.counts.dead;
         done_zero = is.counts.done;
-        no_work = is.no_work;
+        places = is.no_work;
         grays = grays_none m.trace t.grays m at;
         handled = handled_first m.trace t m at can.handled;
-        no_under = refl;
         between = λ o. refl;
         work_room = let r = is.room.work in omega (arith, r);
       };
@@ -152,30 +148,13 @@ bits_leaving t m at vs us is = record {
   unlogged = λ w. (λ h. unwritten_leaving m at vs us w ((is.unlogged w).0 h), λ h. (is.unlogged w).1 (leaving_unwritten m at vs us w h));
 }
 
--- the last stage, at which the pass over the heap has come to a granule
-abbrev pub last_stage : Space → Moment → (Name → ℕ) → List Name → ℕ → CascadeStage
-last_stage s m at gone passed = come_to (later (first_stage s m at) gone [] (λ o. 0)) passed
+-- the last stage
+abbrev pub last_stage : Space → Moment → (Name → ℕ) → List Name → CascadeStage
+last_stage s m at gone = later (first_stage s m at) gone [] (λ o. 0)
 
--- the counts of what is left
-counts_left : (s after : Space) (m : Moment) (at : Name → ℕ) (gone : List Name) (passed : ℕ) → IsFinished after (last_stage s m at gone passed) → HasCounts (tables_of after) (leaving m (without m.unreclaimed gone)) at
-counts_left s after m at gone passed fin =
-    let u : Tables = tables_of after in
-    let is = fin.emptied.opening.stage.cascade in
-    let within : (n : Name) → IsTrue (has (without m.unreclaimed gone) n) → IsTrue (has m.unreclaimed n) = λ n h. (without_parts m.unreclaimed gone n h).0 in
-    record {
-      stuck = λ n h k. is.remains.stuck n (within n h) k;
-      below = λ n h k. is.remains.below n (within n h) k;
-      exact = λ n h k.
-          let e = is.lowered.exact n (within n h) k in
-          let q = ap (λ z. references m.last z n) (none_undone u at (without m.unreclaimed gone) is.none_done) in
-          omega (arith, e, q);
-      done = λ n h k. not_both (is_done u at n) k (is.none_done (granule_of (at n)));
-      dead = λ n h k. not_both (is_done u at n) k (is.none_done (granule_of (at n)));
-    }
-
-undecremented_left : (s after : Space) (m : Moment) (at : Name → ℕ) (gone : List Name) (passed : ℕ) → IsFinished after (last_stage s m at gone passed)
+undecremented_left : (s after : Space) (m : Moment) (at : Name → ℕ) (gone : List Name) → IsFinished after (last_stage s m at gone)
     → IsUndecremented (tables_of after) (leaving m (without m.unreclaimed gone)) at
-undecremented_left s after m at gone passed fin =
+undecremented_left s after m at gone fin =
     let is = fin.emptied.opening.stage.cascade in
     record {
       none_done = is.none_done;
@@ -188,26 +167,51 @@ undecremented_left s after m at gone passed fin =
           ];
     }
 
+-- the counts of what is left
+exact_left : (s after : Space) (m : Moment) (at : Name → ℕ) (gone : List Name) → IsFinished after (last_stage s m at gone) → (n : Name)
+    → IsTrue (has (without m.unreclaimed gone) n) → has m.stuck n ≡ false
+    → count_at (tables_of after) at n ≡ references m.last (undone (tables_of after) at (without m.unreclaimed gone)) n + waiting_at (tables_of after) (at n)
+exact_left s after m at gone fin n h k =
+    let u : Tables = tables_of after in
+    let is = fin.emptied.opening.stage.cascade in
+    let e = is.lowered.exact n (without_parts m.unreclaimed gone n h).0 k in
+    let q = ap (λ z. references m.last z n) (none_undone u at (without m.unreclaimed gone) is.none_done) in
+    omega (arith, e, q)
+
+counts_left : (s after : Space) (m : Moment) (at : Name → ℕ) (gone : List Name) → IsFinished after (last_stage s m at gone) → HasCounts (tables_of after) (leaving m (without m.unreclaimed gone)) at
+counts_left s after m at gone fin =
+    let u : Tables = tables_of after in
+    let is = fin.emptied.opening.stage.cascade in
+    let within : (n : Name) → IsTrue (has (without m.unreclaimed gone) n) → IsTrue (has m.unreclaimed n) = λ n h. (without_parts m.unreclaimed gone n h).0 in
+    record {
+      stuck = λ n h k. is.remains.stuck n (within n h) k;
+      below = λ n h k. is.remains.below n (within n h) k;
+      exact = exact_left s after m at gone fin;
+      held = λ n h k. held_at_rest u (leaving m (without m.unreclaimed gone)) at n (undecremented_left s after m at gone fin) h (exact_left s after m at gone fin n h k);
+      done = λ n h k. not_both (is_done u at n) k (is.none_done (granule_of (at n)));
+      dead = λ n h k. not_both (is_done u at n) k (is.none_done (granule_of (at n)));
+    }
+
 -- nothing but the words and the dead of the report has changed
-done_space : (s after : Space) (m : Moment) (at : Name → ℕ) (gone : List Name) (passed : ℕ) → CanFinish s m at → IsFinished after (last_stage s m at gone passed) → Leaves s after
+done_space : (s after : Space) (m : Moment) (at : Name → ℕ) (gone : List Name) → CanFinish s m at → IsFinished after (last_stage s m at gone) → Leaves s after
     → after ≡ with_dead s after.words (s.report.dead.items ++ reverse gone)
-done_space s after m at gone passed can fin leaves =
+done_space s after m at gone can fin leaves =
     let is = fin.emptied.opening.stage.cascade in
     let items : after.work.items ≡ s.work.items = is.work ∙ sym can.holds.no_work in
     let work : after.work ≡ s.work = λ i. record { items = items i; room = leaves.work_room i } in
     let dead : after.report.dead ≡ record s.report.dead { items = s.report.dead.items ++ reverse gone } = λ i. record { items = is.remains.reported i; room = leaves.dead_room i } in
     leaves.rest ∙ ap {A = Roomy Place} (λ w. with_lists s after.words w after.report.dead) work ∙ ap {A = Roomy Name} (λ d. with_lists s after.words s.work d) dead
 
-holds_left : (s after : Space) (m : Moment) (at : Name → ℕ) (gone : List Name) (passed : ℕ) → CanFinish s m at → IsFinished after (last_stage s m at gone passed) → Leaves s after
+holds_left : (s after : Space) (m : Moment) (at : Name → ℕ) (gone : List Name) → CanFinish s m at → IsFinished after (last_stage s m at gone) → Leaves s after
     → HoldsMoment after (leaving m (without m.unreclaimed gone)) at
-holds_left s after m at gone passed can fin leaves =
+holds_left s after m at gone can fin leaves =
     let b = can.holds in
     let is = fin.emptied.opening.stage.cascade in
     let stay = leaves.tables in
     let vs : List Name = without m.unreclaimed gone in
     let t : Tables = tables_of s in
     let u : Tables = tables_of after in
-    let same = done_space s after m at gone passed can fin leaves in
+    let same = done_space s after m at gone can fin leaves in
     let limits : after.limits ≡ s.limits = ap (λ z. z.limits) same in
     let within : (n : Name) → IsTrue (has vs n) → IsTrue (has m.unreclaimed n) = λ n h. (without_parts m.unreclaimed gone n h).0 in
     let logged : after.logged ≡ s.logged = ap (λ z. z.logged) same in
@@ -221,7 +225,7 @@ holds_left s after m at gone passed can fin leaves =
       bits = bits_leaving u m at vs vs is.remains.bits;
       logs = subst (λ l. AreLogged m at l.items) (sym logged) b.logs;
       few_logs = let f = b.few_logs in let l = ap (λ z. length z.items) logged in subst (λ z. length after.logged.items ≤ z.threads * z.log) (sym limits) (omega (arith, f, l));
-      counts = counts_left s after m at gone passed fin;
+      counts = counts_left s after m at gone fin;
       decrements = record { fits = is.remains.decrements.fits; places = λ k h. absurd (omega (arith, h, waiting)) };
       marks = is.remains.marks;
       lines = out_still t u m.state.graph at m.made stay.outs b.lines;
@@ -238,14 +242,14 @@ without_reversed us gone =
     let same : (λ (n : Name). not (has gone n)) ≡ λ n. not (has (reverse gone) n) = λ i n. not (sym (has_reversed gone n) i) in
     ap (λ f. filter f us) same
 
-pub finishes : (s after : Space) (m : Moment) (at : Name → ℕ) (gone : List Name) (passed : ℕ) → CanFinish s m at → IsFinished after (last_stage s m at gone passed) → Leaves s after → Finishes s after m at (reverse gone)
-finishes s after m at gone passed can fin leaves =
+pub finishes : (s after : Space) (m : Moment) (at : Name → ℕ) (gone : List Name) → CanFinish s m at → IsFinished after (last_stage s m at gone) → Leaves s after → Finishes s after m at (reverse gone)
+finishes s after m at gone can fin leaves =
     let left = without_reversed m.unreclaimed gone in
     record {
       dead = λ n. let e = has_reversed gone n in (λ h. (fin.gone n).0 (sym e ∙ h), λ d. e ∙ (fin.gone n).1 d);
       once = fin.emptied.opening.stage.cascade.remains.once;
-      holds = subst (λ z. HoldsMoment after (leaving m z) at) left (holds_left s after m at gone passed can fin leaves);
-      undecremented = subst (λ z. IsUndecremented (tables_of after) (leaving m z) at) left (undecremented_left s after m at gone passed fin);
+      holds = subst (λ z. HoldsMoment after (leaving m z) at) left (holds_left s after m at gone can fin leaves);
+      undecremented = subst (λ z. IsUndecremented (tables_of after) (leaving m z) at) left (undecremented_left s after m at gone fin);
       empty = fin.emptied.waiting;
       fewer =
           let limits : after.limits ≡ s.limits = ap (λ z. z.limits) leaves.rest in
@@ -258,5 +262,5 @@ finishes s after m at gone passed can fin leaves =
       decs = leaves.tables.decs;
       states = leaves.tables.states;
       outs = leaves.tables.outs;
-      space = done_space s after m at gone passed can fin leaves;
+      space = done_space s after m at gone can fin leaves;
     }

@@ -7,7 +7,7 @@ use Rattle.std.proofs.lemmas.Bool.Decides.{eqb_tells}
 use Rattle.lxr_layout.specs.declared.Name.{Name}
 use Rattle.lxr_layout.specs.declared.Place.{Place}
 use Rattle.lxr_layout.specs.declared.limits.Limits.{Limits}
-use Rattle.lxr_layout.specs.declared.TheConstants.{GRANULES_IN_BLOCK, STUCK, TRACING_WORD}
+use Rattle.lxr_layout.specs.declared.TheConstants.{GRANULES_IN_BLOCK, STUCK}
 use Rattle.lxr_layout.specs.Objects.{word_count}
 use Rattle.lxr_layout.specs.Places.{first_word}
 use Rattle.lxr_base.specs.Roomy.{Roomy, pushed}
@@ -39,7 +39,7 @@ use Rattle.lxr_invariant.proofs.NameLemmas.{distinct_more, has_more}
 use Rattle.lxr_invariant.proofs.EntryLemmas.{changed_here, changed_other, passing_cleared, unlike_number}
 use Rattle.lxr_invariant.proofs.PlaceLemmas.{line_mark, mark_line, same_object}
 use Rattle.lxr_invariant.proofs.FrameLemmas.{bits_still}
-use Rattle.lxr_pause_decrements.specs.Cascade.{Cascade, CascadeStage, Ground, IsHeader, Remains, come_to, grayed_if, graying, kept, later, waits, without_object}
+use Rattle.lxr_pause_decrements.specs.Cascade.{Cascade, CascadeStage, Ground, IsHeader, Remains, grayed_if, graying, kept, later, looking, waits, without_object}
 use Rattle.lxr_pause_decrements.proofs.GrayLemmas.{gray_starts, grays_fall, grays_step}
 use Rattle.lxr_pause_decrements.proofs.LeftLemmas.{left_still, still_left}
 use Rattle.lxr_pause_decrements.proofs.WipeLemmas.{cleared_in, cleared_out, loses_more, range_cases, wipe_cases, wiped_in, wiped_out}
@@ -80,9 +80,22 @@ pub refs_more : (g : Graph) (ns : List Name) (r o : Name) → references_from g 
 refs_more g [] r o = omega arith
 refs_more g (n ∷ ns) r o = let e = refs_more g ns r o in omega (arith, e)
 
+-- in the other order they are as many
+pub refs_reversed : (g : Graph) (ns : List Name) (o : Name) → references_from g (reverse ns) o ≡ references_from g ns o
+refs_reversed g [] o = refl
+refs_reversed g (n ∷ ns) o =
+    let last = ap (λ z. references_from g z o) (reverse-append (n ∷ []) ns) in
+    let more = refs_more g (reverse ns) n o in
+    let rest = refs_reversed g ns o in
+    omega (arith, last, more, rest)
+
 pub places_more : (at : Name → ℕ) (ns : List Name) (r : Name) → map (place_of at) (ns ++ r ∷ []) ≡ map (place_of at) ns ++ place_of at r ∷ []
 places_more at [] r = refl
 places_more at (n ∷ ns) r = ap (λ xs. place_of at n ∷ xs) (places_more at ns r)
+
+pub append_nothing : {A : Type 0} (xs : List A) → xs ≡ xs ++ []
+append_nothing [] = refl
+append_nothing (x ∷ xs) = ap (λ ys. x ∷ ys) (append_nothing xs)
 
 pub append_group : {A : Type 0} (xs ys zs : List A) → xs ++ (ys ++ zs) ≡ (xs ++ ys) ++ zs
 append_group [] ys zs = refl
@@ -222,9 +235,9 @@ avoids_free l t d st wanted is = avoids_by_starts t wanted
     (λ k start free. let x = is.bits.starts.only k start in is.unused x.0 (without_parts st.moment.unreclaimed st.gone x.0 x.1).0 (ap (λ z. state_in t (z / GRANULES_IN_BLOCK)) x.2 ∙ free)) is.bits.grays is.bits.dones
 
 -- what is left, at another stage at which the same names are gone
-pub remains_still : (l : Limits) (t : Tables) (d : Roomy Name) (st : CascadeStage) (work : List Name) (extra ungrayed : Name → ℕ) (passed : ℕ) → Remains l t d st
-    → Remains l t d (come_to (graying (later st st.gone work extra) ungrayed) passed)
-remains_still l t d st work extra ungrayed passed is = record {
+pub remains_still : (l : Limits) (t : Tables) (d : Roomy Name) (st : CascadeStage) (under : List Place) (work : List Name) (extra ungrayed unseen : Name → ℕ) → Remains l t d st
+    → Remains l t d (record st { under = under; work = work; extra = extra; ungrayed = ungrayed; unseen = unseen })
+remains_still l t d st under work extra ungrayed unseen is = record {
   ground = is.ground;
   stuck = is.stuck;
   below = is.below;
@@ -268,9 +281,9 @@ sinks l t w d st r rest v is in_r taken unstuck two v_is =
       lowered = lowers m.last m.unreclaimed m.stuck st.gone (count_at t st.at) (waits t st)
           (count_at t2 st.at) (waits t (later st st.gone st.work rest)) r is.lowered (omega (arith, two))
           (taken_out t st r rest taken) (lowered_at t.heap l.blocks m st.at ground t v r in_r v_is);
-      passed = λ n in_n loose before none. elim (tested (same_name n r)) [
+      seen = λ n in_n loose before none. elim (tested (same_name n r)) [
         | inl k ↦ let here = written_same st.at t.counts v n r k in absurd (omega (arith, here, none, two, v_is))
-        | inr k ↦ is.passed n in_n loose before (sym (written_other t.heap l.blocks m st.at ground t.counts v n r in_n in_r k) ∙ none)
+        | inr k ↦ is.seen n in_n loose before (sym (written_other t.heap l.blocks m st.at ground t.counts v n r in_n in_r k) ∙ none)
       ];
       none_done = is.none_done;
       grays = is.grays;
@@ -449,12 +462,12 @@ remains_fall l t d st r work extra ro is in_r not_gone unstuck not_done has_ro =
     }
 
 -- r goes and waits in the worklist, where its count is lowered already
-goes : (l : Limits) (t : Tables) (w : Roomy Place) (d : Roomy Name) (st : CascadeStage) (r : Name) (rest : Name → ℕ) (ro : Object) (passed : ℕ) → Cascade l t w d st
+goes : (l : Limits) (t : Tables) (w : Roomy Place) (d : Roomy Name) (st : CascadeStage) (r : Name) (rest : Name → ℕ) (ro : Object) (unseen : Name → ℕ) → Cascade l t w d st
     → IsTrue (has st.moment.unreclaimed r) → has st.gone r ≡ false → has st.moment.stuck r ≡ false → object_at st.moment.state.graph r ≡ Some ro
     → IsLowered st.moment.last st.moment.unreclaimed st.moment.stuck st.gone (count_at (bare t st.at r ro) st.at) (waits t (later st st.gone st.work rest))
-    → ((n : Name) → IsTrue (has st.moment.unreclaimed n) → same_name n r ≡ false → granule_of (st.at n) < passed → granule_of (st.at n) < st.passed)
-    → Cascade l (bare t st.at r ro) (pushed w (place_of st.at r)) (pushed d r) (come_to (later st (r ∷ st.gone) (st.work ++ r ∷ []) rest) passed)
-goes l t w d st r rest ro passed is in_r not_gone unstuck has_ro lowered before =
+    → ((n : Name) → IsTrue (has st.moment.unreclaimed n) → same_name n r ≡ false → unseen n ≡ 0 → st.unseen n ≡ 0)
+    → Cascade l (bare t st.at r ro) (pushed w (place_of st.at r)) (pushed d r) (looking (later st (r ∷ st.gone) (st.work ++ r ∷ []) rest) unseen)
+goes l t w d st r rest ro unseen is in_r not_gone unstuck has_ro lowered before =
     let m : Moment = st.moment in
     let g : ℕ = granule_of (st.at r) in
     let ground = is.remains.ground in
@@ -465,13 +478,13 @@ goes l t w d st r rest ro passed is in_r not_gone unstuck has_ro lowered before 
     let unwiped = count_bare t.heap l.blocks m st.at ground t r ro in_r has_ro in
     let cleared_r : count_at t2 st.at r ≡ 0 = unwiped r in_r ∙ written_same st.at t.counts 0 r r (same_itself r) in
     record {
-      remains = remains_still l t2 (pushed d r) (later st (r ∷ st.gone) (st.work ++ r ∷ []) rest) (st.work ++ r ∷ []) rest st.ungrayed passed
+      remains = remains_still l t2 (pushed d r) (later st (r ∷ st.gone) (st.work ++ r ∷ []) rest) st.under (st.work ++ r ∷ []) rest st.ungrayed unseen
           (remains_fall l t d st r (st.work ++ r ∷ []) rest ro is.remains in_r not_gone unstuck (is.none_done g) has_ro);
       lowered = drops m.last m.unreclaimed m.stuck st.gone (count_at t2 st.at) (waits t (later st st.gone st.work rest)) (waits t (later st (r ∷ st.gone) (st.work ++ r ∷ []) rest)) r
           lowered ground.distinct in_r unstuck not_gone cleared_r (λ o. let e = refs_more m.last.graph st.work r o in omega (arith, e));
-      passed = λ n in_n loose below none. elim (tested (same_name n r)) [
+      seen = λ n in_n loose passed none. elim (tested (same_name n r)) [
         | inl k ↦ or_left (same_name n r) (has st.gone n) k
-        | inr k ↦ or_right (same_name n r) (has st.gone n) (is.passed n in_n loose (before n in_n k below)
+        | inr k ↦ or_right (same_name n r) (has st.gone n) (is.seen n in_n loose (before n in_n k passed)
             (sym (written_other t.heap l.blocks m st.at ground t.counts 0 n r in_n in_r k) ∙ sym (unwiped n in_n) ∙ none))
       ];
       none_done = is.none_done;
@@ -487,29 +500,46 @@ goes l t w d st r rest ro passed is in_r not_gone unstuck has_ro lowered before 
 -- the last count goes
 pub falls : (l : Limits) (t : Tables) (w : Roomy Place) (d : Roomy Name) (st : CascadeStage) (r : Name) (rest : Name → ℕ) (ro : Object) → Cascade l t w d st → IsTrue (has st.moment.unreclaimed r)
     → TakenFrom st.extra r rest → has st.moment.stuck r ≡ false → count_at t st.at r ≡ 1 → object_at st.moment.state.graph r ≡ Some ro
-    → Cascade l (bare t st.at r ro) (pushed w (place_of st.at r)) (pushed d r) (come_to (later st (r ∷ st.gone) (st.work ++ r ∷ []) rest) st.passed)
+    → Cascade l (bare t st.at r ro) (pushed w (place_of st.at r)) (pushed d r) (later st (r ∷ st.gone) (st.work ++ r ∷ []) rest)
 falls l t w d st r rest ro is in_r taken unstuck one has_ro =
     let m : Moment = st.moment in
     let ground = is.remains.ground in
     let not_gone = (counted_left l t w d st r is in_r (omega (arith, one))).0 in
-    goes l t w d st r rest ro st.passed is in_r not_gone unstuck has_ro
+    goes l t w d st r rest ro st.unseen is in_r not_gone unstuck has_ro
     (lowers m.last m.unreclaimed m.stuck st.gone (count_at t st.at) (waits t st) (count_at (bare t st.at r ro) st.at) (waits t (later st st.gone st.work rest)) r is.lowered (omega (arith, one))
     (taken_out t st r rest taken)
     (λ o in_o. count_bare t.heap l.blocks m st.at ground t r ro in_r has_ro o in_o ∙ lowered_at t.heap l.blocks m st.at ground t 0 r in_r (omega (arith, one)) o in_o))
-    (λ n in_n other below. below)
+    (λ n in_n other passed. passed)
 
--- an object without a count goes, at the granule that a pass has come to
-pub dropped : (l : Limits) (t : Tables) (w : Roomy Place) (d : Roomy Name) (st : CascadeStage) (r : Name) (ro : Object) → Cascade l t w d st → IsTrue (has st.moment.unreclaimed r)
-    → has st.gone r ≡ false → count_at t st.at r ≡ 0 → st.passed ≡ granule_of (st.at r) → object_at st.moment.state.graph r ≡ Some ro
-    → Cascade l (bare t st.at r ro) (pushed w (place_of st.at r)) (pushed d r) (come_to (later st (r ∷ st.gone) (st.work ++ r ∷ []) st.extra) (granule_of (st.at r) + 1))
-dropped l t w d st r ro is in_r not_gone none come has_ro =
+-- an object without a count goes where it is looked at
+pub dropped : (l : Limits) (t : Tables) (w : Roomy Place) (d : Roomy Name) (st : CascadeStage) (r : Name) (ro : Object) (unseen : Name → ℕ) → Cascade l t w d st → IsTrue (has st.moment.unreclaimed r)
+    → has st.gone r ≡ false → count_at t st.at r ≡ 0 → ((n : Name) → IsTrue (has st.moment.unreclaimed n) → st.unseen n ≡ once n r + unseen n) → object_at st.moment.state.graph r ≡ Some ro
+    → Cascade l (bare t st.at r ro) (pushed w (place_of st.at r)) (pushed d r) (looking (later st (r ∷ st.gone) (st.work ++ r ∷ []) st.extra) unseen)
+dropped l t w d st r ro unseen is in_r not_gone none taken has_ro =
     let m : Moment = st.moment in
     let ground = is.remains.ground in
     let unstuck : has m.stuck r ≡ false = elim (tested (has m.stuck r)) [ inl k ↦ absurd (let e = is.remains.stuck r in_r k in omega (arith, e, none)) | inr k ↦ k ] in
-    goes l t w d st r st.extra ro (granule_of (st.at r) + 1) is in_r not_gone unstuck has_ro
+    goes l t w d st r st.extra ro unseen is in_r not_gone unstuck has_ro
     (lowered_still m.last m.unreclaimed m.stuck st.gone (count_at t st.at) (count_at (bare t st.at r ro) st.at) (waits t st) (waits t (later st st.gone st.work st.extra))
     (count_stays t.heap l.blocks m st.at ground t r ro in_r has_ro none) (λ o in_o. refl) is.lowered)
-    (λ n in_n other below. let apart = granules_differ t.heap l.blocks m st.at ground n r in_n in_r other in omega (arith, below, apart, come))
+    (λ n in_n other passed. let all = taken n in_n in let apart = once_other n r other in omega (arith, all, apart, passed))
+
+-- nothing goes where what is looked at has a count or is gone
+pub looked : (l : Limits) (t : Tables) (w : Roomy Place) (d : Roomy Name) (st : CascadeStage) (r : Name) (unseen : Name → ℕ) → Cascade l t w d st
+    → ((n : Name) → IsTrue (has st.moment.unreclaimed n) → st.unseen n ≡ once n r + unseen n) → (count_at t st.at r ≡ 0 → IsTrue (has st.gone r)) → Cascade l t w d (looking st unseen)
+looked l t w d st r unseen is taken gone = record {
+  remains = remains_still l t d st st.under st.work st.extra st.ungrayed unseen is.remains;
+  lowered = is.lowered;
+  seen = λ n in_n loose passed none. elim (tested (same_name n r)) [
+    | inl k ↦ let e : n ≡ r = same_names n r k in ap (has st.gone) e ∙ gone (ap (count_at t st.at) (sym e) ∙ none)
+    | inr k ↦ is.seen n in_n loose (let all = taken n in_n in let apart = once_other n r k in omega (arith, all, apart, passed)) none
+  ];
+  none_done = is.none_done;
+  grays = is.grays;
+  work = is.work;
+  work_gone = is.work_gone;
+  work_room = is.work_room;
+}
 
 -- what the dead r referred to is made gray, if a trace runs
 pub made_gray : (l : Limits) (t : Tables) (w : Roomy Place) (d : Roomy Name) (st : CascadeStage) (tracing : Bool) (h : Name → ℕ) (r n : Name) → Cascade l t w d st
@@ -542,7 +572,7 @@ made_gray l t w d st tracing h r n is told was_dead refers left taken =
         dead_room = is.remains.dead_room;
       };
       lowered = record { dead = is.lowered.dead; zero = is.lowered.zero; exact = is.lowered.exact };
-      passed = is.passed;
+      seen = is.seen;
       none_done = is.none_done;
       grays = grays_step m.trace tracing st.was.grays t.grays m st.at st.gone st.work st.ungrayed h r n (told ∙ ap (λ k. nat_eq k 1) is.remains.tracing) is.grays was_dead refers left
           (λ x in_x other. granules_differ t.heap l.blocks m st.at is.remains.ground x n in_x in_n other) (λ x went. (dead_parts (is.lowered.dead x went)).member) taken;
@@ -556,9 +586,9 @@ made_gray l t w d st tracing h r n is told was_dead refers left taken =
 is_stuck : (l : Limits) (t : Tables) (w : Roomy Place) (d : Roomy Name) (st : CascadeStage) (r : Name) (rest : Name → ℕ) → Cascade l t w d st → TakenFrom st.extra r rest
     → IsTrue (has st.moment.stuck r) → Cascade l t w d (later st st.gone st.work rest)
 is_stuck l t w d st r rest is taken stuck_r = record {
-  remains = remains_still l t d st st.work rest st.ungrayed st.passed is.remains;
+  remains = remains_still l t d st st.under st.work rest st.ungrayed st.unseen is.remains;
   lowered = stuck_stays st.moment.last st.moment.unreclaimed st.moment.stuck st.gone (count_at t st.at) (waits t st) (waits t (later st st.gone st.work rest)) r is.lowered stuck_r (taken_out t st r rest taken);
-  passed = is.passed;
+  seen = is.seen;
   none_done = is.none_done;
   grays = is.grays;
   work = is.work;

@@ -30,7 +30,7 @@ use Rattle.lxr_invariant.proofs.NameLemmas.{has_more, occurrences_end, occurrenc
 use Rattle.lxr_invariant.proofs.EntryLemmas.{changed_here, changed_other, same_number, unlike_number}
 use Rattle.lxr_invariant.proofs.FrameLemmas.{bits_still, marks_still}
 use Rattle.lxr_invariant.proofs.KeepingLemmas.{keeps_same}
-use Rattle.lxr_pause_decrements.specs.Cascade.{Cascade, CascadeStage, Drains, FieldWaits, IsAt, IsBetween, IsEmptied, IsHeader, IsOpening, Keeps, Leaves, Reaches, Releasing, Waiting, grayed_if, graying, held_by, kept, later, to_do, waits, with_lists}
+use Rattle.lxr_pause_decrements.specs.Cascade.{Cascade, CascadeStage, Drains, FieldWaits, Ground, HasField, IsAt, IsBetween, IsEmptied, IsHeader, IsOpening, Keeps, Leaves, Reaches, Releasing, Waiting, grayed_if, graying, held_by, kept, later, to_do, waits, with_lists}
 use Rattle.lxr_pause_decrements.proofs.GrayLemmas.{grays_pop}
 use Rattle.lxr_pause_decrements.proofs.CascadeLemmas.{counted, counted_left, granules_differ, in_heap, made_gray, refs_more, remains_still, same_parts}
 use Rattle.lxr_pause_decrements.proofs.SpaceLemmas.{leaves_by, turned_leaves}
@@ -58,43 +58,57 @@ released_dead s p st r rest re =
     let d = re.stage.cascade.lowered.dead r re.gone in
     ((dead_parts d).member, d)
 
-pub released_place : (s : Space) (p : Place) (st : CascadeStage) (r : Name) (rest : Name → ℕ) → Releasing s p.0 st r rest → (1 ≤ p.0) × (p.0 ≤ MOST_GRANULES) × (p.0 ≤ GRANULES_IN_BLOCK * s.limits.blocks)
-released_place s p st r rest re =
-    let h = in_heap (tables_of s).heap s.limits.blocks st.moment st.at re.stage.cascade.remains.ground r (released_dead s p.0 st r rest re).0 in
-    let e = re.stands in
-    let b = re.stage.space.limits.blocks in
+-- a member stands at its place, which is in the heap
+pub object_place : (s : Space) (p : Place) (st : CascadeStage) (r : Name) → IsAt s st → IsTrue (has st.moment.unreclaimed r) → p.0 ≡ st.at r
+    → (1 ≤ p.0) × (p.0 ≤ MOST_GRANULES) × (p.0 ≤ GRANULES_IN_BLOCK * s.limits.blocks)
+object_place s p st r at in_r e =
+    let h = in_heap (tables_of s).heap s.limits.blocks st.moment st.at at.cascade.remains.ground r in_r in
+    let b = at.space.limits.blocks in
     (omega (arith, e, h.0), omega (arith, e, h.1, h.0, b.1), omega (arith, e, h.1, h.0))
 
-pub released_header : (s : Space) (p : Place) (st : CascadeStage) (r : Name) (rest : Name → ℕ) → Releasing s p.0 st r rest
+-- and its header tells how many references it had at the last pause
+pub object_header : (s : Space) (p : Place) (st : CascadeStage) (r : Name) → IsAt s st → IsTrue (has st.moment.unreclaimed r) → p.0 ≡ st.at r
     → (shape : Shape) × IsHeader (tables_of s) p.0 r shape × (shape.refs ≡ length (held_by st r))
-released_header s p st r rest re =
-    let a = re.stage.cascade.remains.ground.stands r (released_dead s p.0 st r rest re).0 in (
+object_header s p st r at in_r e =
+    let a = at.cascade.remains.ground.stands r in_r in (
       shape_of a.0,
       record {
         name = a.2.name;
         fits = a.2.shape;
-        header = ap (λ z. (tables_of s).heap (2 * (z - 1))) re.stands ∙ a.2.header;
+        header = ap (λ z. (tables_of s).heap (2 * (z - 1))) e ∙ a.2.header;
       },
       sym a.3,
     )
 
+pub released_place : (s : Space) (p : Place) (st : CascadeStage) (r : Name) (rest : Name → ℕ) → Releasing s p.0 st r rest → (1 ≤ p.0) × (p.0 ≤ MOST_GRANULES) × (p.0 ≤ GRANULES_IN_BLOCK * s.limits.blocks)
+released_place s p st r rest re = object_place s p st r re.stage (released_dead s p.0 st r rest re).0 re.stands
+
+pub released_header : (s : Space) (p : Place) (st : CascadeStage) (r : Name) (rest : Name → ℕ) → Releasing s p.0 st r rest
+    → (shape : Shape) × IsHeader (tables_of s) p.0 r shape × (shape.refs ≡ length (held_by st r))
+released_header s p st r rest re = object_header s p st r re.stage (released_dead s p.0 st r rest re).0 re.stands
+
 -- the words of the references lie in the heap
-pub field_place : (s : Space) (p : Place) (i : ℕ) (st : CascadeStage) (r : Name) (rest : Name → ℕ) → FieldWaits s p.0 i st r rest
+pub field_place : (s : Space) (p : Place) (i : ℕ) (st : CascadeStage) (r : Name) → IsAt s st → HasField p.0 i st r
     → (1 ≤ p.0) × (p.0 ≤ MOST_GRANULES) × (2 * (p.0 - 1) + 1 + i < WORDS_IN_BLOCK * s.limits.blocks) × (i < 1024)
-field_place s p i st r rest w =
-    let a = w.stage.cascade.remains.ground.stands r w.member in
+field_place s p i st r at field =
+    let a = at.cascade.remains.ground.stands r field.member in
     let f = a.2.fits in
     let q = a.2.placed in
     let k = a.2.shape.0 in
-    let e = w.stands in
-    let h = w.index in
-    let b = w.stage.space.limits.blocks in
+    let e = field.stands in
+    let h = field.index in
+    let b = at.space.limits.blocks in
     let n = a.3 in
     (omega (arith, q, e), omega (arith, f, e, b.1), omega (arith, f, q, e, n, h), omega (arith, k, n, h))
 
-field_holds : (s : Space) (p : Place) (i : ℕ) (st : CascadeStage) (r : Name) (rest : Name → ℕ) (ref : Option Name) → FieldWaits s p.0 i st r rest
+field_holds : (s : Space) (p : Place) (i : ℕ) (st : CascadeStage) (r : Name) (ref : Option Name) → IsAt s st → HasField p.0 i st r
     → slice_get (held_by st r) i ≡ Some ref → (tables_of s).heap (2 * (p.0 - 1) + 1 + i) ≡ place_word st.at ref
-field_holds s p i st r rest ref w e = ap (λ z. (tables_of s).heap (2 * (z - 1) + 1 + i)) w.stands ∙ w.stage.cascade.remains.ground.fields r i ref w.dead e
+field_holds s p i st r ref at field e = ap (λ z. (tables_of s).heap (2 * (z - 1) + 1 + i)) field.stands ∙ at.cascade.remains.ground.fields r i ref field.dead e
+
+-- what a reference holds
+pub field_read : (s : Space) (p : Place) (i word : ℕ) (st : CascadeStage) (r : Name) → IsAt s st → HasField p.0 i st r → word ≡ (tables_of s).heap (2 * (p.0 - 1) + 1 + i)
+    → (ref : Option Name) × (slice_get (held_by st r) i ≡ Some ref) × (word ≡ place_word st.at ref)
+field_read s p i word st r at field is = let g = got (held_by st r) i field.index in (g.0, g.1, is ∙ field_holds s p i st r g.0 at field g.1)
 
 -- the stage once reference i of r is lowered
 abbrev pub next_field : CascadeStage → Name → ℕ → CascadeStage
@@ -107,15 +121,15 @@ nil_step s p i st r rest None e w zero_word =
     ungrayed_same s st _ st.ungrayed _ (λ o. let k = occurrences_step (held_by st r) i None o e in let x = w.ungrayed o in omega (arith, k, x))
     (extra_same s st st.extra _ (λ o. let k = occurrences_step (held_by st r) i None o e in let x = w.extra o in omega (arith, k, x)) (st.gone, st.work, w.stage))
 nil_step s p i st r rest (Some n) e w zero_word =
-    let member : IsTrue (has st.moment.unreclaimed n) = w.stage.cascade.remains.ground.closed r n w.member (i, e) in
+    let member : IsTrue (has st.moment.unreclaimed n) = w.stage.cascade.remains.ground.closed r n w.field.member (i, e) in
     let h = (in_heap (tables_of s).heap s.limits.blocks st.moment st.at w.stage.cascade.remains.ground n member).0 in
     absurd (omega (arith, h, zero_word))
 
 pub nil_reference : (s : Space) (p : Place) (i word : ℕ) (st : CascadeStage) (r : Name) (rest : Name → ℕ) → FieldWaits s p.0 i st r rest
     → word ≡ 0 → word ≡ (tables_of s).heap (2 * (p.0 - 1) + 1 + i) → Reaches s (next_field st r i) (λ o. rest o + occurrences_from (held_by st r) (i + 1) o)
 nil_reference s p i word st r rest w zero_word is =
-    let g = got (held_by st r) i w.index in
-    nil_step s p i st r rest g.0 g.1 w (sym (field_holds s p i st r rest g.0 w g.1) ∙ sym is ∙ zero_word)
+    let g = field_read s p i word st r w.stage w.field is in
+    nil_step s p i st r rest g.0 g.1 w (sym g.2 ∙ zero_word)
 
 -- a reference that isn't nil waits
 held_step : (s : Space) (p : Place) (i word : ℕ) (st : CascadeStage) (r : Name) (rest : Name → ℕ) (ref : Option Name) → slice_get (held_by st r) i ≡ Some ref → FieldWaits s p.0 i st r rest
@@ -125,7 +139,7 @@ held_step s p i word st r rest (Some n) e w some_word is = (
   n,
   record {
     stage = w.stage;
-    member = w.stage.cascade.remains.ground.closed r n w.member (i, e);
+    member = w.stage.cascade.remains.ground.closed r n w.field.member (i, e);
     stands = is;
     taken = λ o. let k = occurrences_step (held_by st r) i (Some n) o e in let x = w.extra o in omega (arith, k, x);
   },
@@ -134,8 +148,8 @@ held_step s p i word st r rest (Some n) e w some_word is = (
 pub held_reference : (s : Space) (p : Place) (i word : ℕ) (st : CascadeStage) (r : Name) (rest : Name → ℕ) → FieldWaits s p.0 i st r rest
     → word ≢ 0 → word ≡ (tables_of s).heap (2 * (p.0 - 1) + 1 + i) → (n : Name) × Waiting s word st n (λ o. rest o + occurrences_from (held_by st r) (i + 1) o)
 held_reference s p i word st r rest w some_word is =
-    let g = got (held_by st r) i w.index in
-    held_step s p i word st r rest g.0 g.1 w some_word (is ∙ field_holds s p i st r rest g.0 w g.1)
+    let g = field_read s p i word st r w.stage w.field is in
+    held_step s p i word st r rest g.0 g.1 w some_word g.2
 
 -- ---- what it holds is made gray
 
@@ -150,7 +164,7 @@ gray_step s b p i word tracing st r rest None e w some_word is told turns = absu
 gray_step s b p i word tracing st r rest (Some n) e w some_word is told turns =
     let c = w.stage.cascade in
     let t : Tables = tables_of s in
-    let member : IsTrue (has st.moment.unreclaimed n) = c.remains.ground.closed r n w.member (i, e) in
+    let member : IsTrue (has st.moment.unreclaimed n) = c.remains.ground.closed r n w.field.member (i, e) in
     let taken : (o : Name) → st.extra o ≡ once o n + (rest o + occurrences_from (held_by st r) (i + 1) o) =
     λ o. let k = occurrences_step (held_by st r) i (Some n) o e in let x = w.extra o in omega (arith, k, x) in
     let left = (counted_left s.limits t s.work s.report.dead st n c member (counted s.limits t s.work s.report.dead st n _ c member taken)).1 in
@@ -160,7 +174,7 @@ gray_step s b p i word tracing st r rest (Some n) e w some_word is told turns =
         stage = record {
           space = still_space s b _ w.stage.space turns refl;
           cascade = same_parts s.limits b.limits _ (tables_of b) _ b.work _ b.report.dead (next_field st r i) (same_limits s b _ turns) grays (ap (λ z. z.work) turns.rest) (ap (λ z. z.report.dead) turns.rest)
-              (made_gray s.limits t s.work s.report.dead st tracing _ r n c told w.dead (i, e) left
+              (made_gray s.limits t s.work s.report.dead st tracing _ r n c told w.field.dead (i, e) left
               (λ o. let k = occurrences_step (held_by st r) i (Some n) o e in let x = w.ungrayed o in omega (arith, k, x)));
         };
         member = member;
@@ -173,8 +187,8 @@ pub gray_reference : (s b : Space) (p : Place) (i word : ℕ) (tracing : Bool) (
     → word ≢ 0 → word ≡ (tables_of s).heap (2 * (p.0 - 1) + 1 + i) → tracing ≡ is_tracing (tables_of s) → Turns s b (with_gray (tables_of s) tracing (word - 1))
     → (n : Name) × Waiting b word (next_field st r i) n (λ o. rest o + occurrences_from (held_by st r) (i + 1) o)
 gray_reference s b p i word tracing st r rest w some_word is told turns =
-    let g = got (held_by st r) i w.index in
-    gray_step s b p i word tracing st r rest g.0 g.1 w some_word (is ∙ field_holds s p i st r rest g.0 w g.1) told turns
+    let g = field_read s p i word st r w.stage w.field is in
+    gray_step s b p i word tracing st r rest g.0 g.1 w some_word g.2 told turns
 
 pub grayed_keeps : (s b : Space) (tracing : Bool) (g : ℕ) → Turns s b (with_gray (tables_of s) tracing g) → Keeps s b
 grayed_keeps s b tracing g turns = record {
@@ -201,7 +215,7 @@ pub field_waits : (s now : Space) (p i : ℕ) (st : CascadeStage) (r : Name) (re
     → FieldWaits now p i (later (graying st (λ o. occurrences_from (held_by st r) i o)) reaches.0 reaches.1 (λ o. rest o + occurrences_from (held_by st r) i o)) r rest
 field_waits s now p i st r rest re h (gone, work, at) =
     let d = released_dead s p st r rest re in
-    record { stage = at; member = d.0; dead = d.1; stands = re.stands; index = h; extra = λ o. refl; ungrayed = λ o. refl }
+    record { stage = at; field = record { member = d.0; dead = d.1; stands = re.stands; index = h }; extra = λ o. refl; ungrayed = λ o. refl }
 
 pub ends : (now : Space) (i : ℕ) (st : CascadeStage) (r : Name) (rest : Name → ℕ) → i ≡ length (held_by st r)
     → Reaches now (graying st (λ o. occurrences_from (held_by st r) i o)) (λ o. rest o + occurrences_from (held_by st r) i o) → Reaches now (graying st (λ o. 0)) rest
@@ -213,7 +227,7 @@ ends now i st r rest e reaches =
 -- ---- the worklist
 
 -- the tables of a space of which the worklist changed
-still_tables : (s now : Space) → now ≡ record s { work = now.work } → tables_of now ≡ tables_of s
+pub still_tables : (s now : Space) → now ≡ record s { work = now.work } → tables_of now ≡ tables_of s
 still_tables s now rest = ap (λ z. tables_of z) rest
 
 -- the last of what lies above others
@@ -251,10 +265,10 @@ popped s now p st at between above work rest =
     let longer : length s.work.items ≡ length now.work.items + 1 = ap length items ∙ length-append now.work.items (p ∷ []) in
     let st2 : CascadeStage = released st x.0 x.1 in
     let cascade : Cascade s.limits (tables_of s) now.work s.report.dead st2 = record {
-      remains = remains_still s.limits (tables_of s) s.report.dead st x.0 (λ o. st.extra o + occurrences (held_by st x.1) o) (λ o. occurrences (held_by st x.1) o) st.passed is.remains;
+      remains = remains_still s.limits (tables_of s) s.report.dead st st.under x.0 (λ o. st.extra o + occurrences (held_by st x.1) o) (λ o. occurrences (held_by st x.1) o) st.unseen is.remains;
       lowered = lowered_still m.last m.unreclaimed m.stuck st.gone (count_at (tables_of s) st.at) (count_at (tables_of s) st.at) (waits (tables_of s) st) (waits (tables_of s) st2) (λ o _. refl)
           (λ o _. let k = refs_more m.last.graph x.0 x.1 o in let q : references_from m.last.graph st.work o ≡ references_from m.last.graph (x.0 ++ x.1 ∷ []) o = ap (λ z. references_from m.last.graph z o) x.2 in omega (arith, k, q)) is.lowered;
-      passed = is.passed;
+      seen = is.seen;
       none_done = is.none_done;
       grays = grays_pop m.trace st.was.grays (tables_of s).grays m st.at st.gone st.work x.0 st.ungrayed x.1 x.2 between is.grays;
       work = x.3;
@@ -322,6 +336,20 @@ waiting_more t n p undrawn some =
     let tail : waiting_at (with_length t n) p ≡ entries_between t.decs c n p = ap (λ z. entries_between t.decs z (changed t.cursors DECREMENT_COUNT n 6) p) drawn ∙ ap (λ z. entries_between t.decs c z p) long in
     ap (λ z. entries_between t.decs c z p) some ∙ head ∙ ap (λ z. cond (nat_eq (t.decs n) p) 1 0 + z) (sym tail)
 
+-- an entry that is the place of r is an entry of r, and of no other member
+pub entry_once : (heap : ℕ → ℕ) (blocks : ℕ) (m : Moment) (at : Name → ℕ) → Ground heap blocks m at → (p : ℕ) (r : Name) → IsTrue (has m.unreclaimed r) → p ≡ at r
+    → (o : Name) → IsTrue (has m.unreclaimed o) → cond (nat_eq p (at o)) 1 0 ≡ once o r
+entry_once heap blocks m at ground p r in_r stands o in_o =
+    let number : Bool → ℕ = λ b. cond b 1 0 in
+    elim (tested (same_name o r)) [
+      | inl k ↦
+          let e : p ≡ at o = stands ∙ sym (ap at (same_names o r k)) in
+          ap number (ap (λ z. nat_eq z (at o)) e ∙ same_number (at o) (at o) refl) ∙ sym (once_same o r k)
+      | inr k ↦
+          let ne = granules_differ heap blocks m at ground o r in_o in_r k in
+          ap number (unlike_number p (at o) (λ q. ne (ap granule_of (sym q ∙ stands)))) ∙ sym (once_other o r k)
+    ]
+
 -- the last of the list is taken out
 pub last_taken : (s now : Space) (st : CascadeStage) (n : ℕ) → IsAt s st → (tables_of s).cursors DECREMENT_CURSOR ≤ n → (tables_of s).cursors DECREMENT_COUNT ≡ suc n → Turns s now (with_length (tables_of s) n)
     → (r : Name) × Waiting now ((tables_of s).decs n) (later st st.gone st.work (λ o. st.extra o + once o r)) r st.extra
@@ -332,18 +360,7 @@ last_taken s now st n at undrawn some turns =
     let x = is.remains.decrements.places n (omega (arith, some)) in
     let st2 : CascadeStage = later st st.gone st.work (λ o. st.extra o + once o x.0) in
     let t2 : Tables = with_length t n in
-    let number : Bool → ℕ = λ b. cond b 1 0 in
     let shorter : t2.cursors DECREMENT_COUNT ≡ n = changed_here t.cursors DECREMENT_COUNT n 6 refl in
-    let one : (o : Name) → IsTrue (has m.unreclaimed o) → number (nat_eq (t.decs n) (st.at o)) ≡ once o x.0 =
-    λ o in_o. elim (tested (same_name o x.0)) [
-      | inl k ↦
-          let e : t.decs n ≡ st.at o = x.2 ∙ sym (ap st.at (same_names o x.0 k)) in
-          ap number (ap (λ z. nat_eq z (st.at o)) e ∙ same_number (st.at o) (st.at o) refl) ∙ sym (once_same o x.0 k)
-      | inr k ↦
-          let ne = granules_differ t.heap s.limits.blocks m st.at is.remains.ground o x.0 in_o x.1 k in
-          let e = x.2 in
-          ap number (unlike_number (t.decs n) (st.at o) (λ q. ne (ap granule_of (sym q ∙ e)))) ∙ sym (once_other o x.0 k)
-    ] in
     let cascade : Cascade s.limits t2 s.work s.report.dead st2 = record {
       remains = record {
         ground = is.remains.ground;
@@ -366,9 +383,9 @@ last_taken s now st n at undrawn some turns =
       lowered = lowered_still m.last m.unreclaimed m.stuck st.gone (count_at t st.at) (count_at t2 st.at) (waits t st) (waits t2 st2) (λ o _. refl)
           (λ o in_o.
           let q = waiting_more t n (st.at o) undrawn some in
-          let k = one o in_o in
+          let k = entry_once t.heap s.limits.blocks m st.at is.remains.ground (t.decs n) x.0 x.1 x.2 o in_o in
           omega (arith, q, k)) is.lowered;
-      passed = is.passed;
+      seen = is.seen;
       none_done = is.none_done;
       grays = is.grays;
       work = is.work;
@@ -423,7 +440,7 @@ pub taken_length : (s now : Space) (n : ℕ) → Turns s now (with_length (table
 taken_length s now n turns = ap (λ t. t.cursors DECREMENT_COUNT) turns.tables ∙ changed_here (tables_of s).cursors DECREMENT_COUNT n 6 refl
 
 -- a list of which nothing waits
-none_between : (f : ℕ → ℕ) (from n p : ℕ) → n ≤ from → entries_between f from n p ≡ 0
+pub none_between : (f : ℕ → ℕ) (from n p : ℕ) → n ≤ from → entries_between f from n p ≡ 0
 none_between f from zero p past = refl
 none_between f from (suc n) p past =
     let over : nat_le from n ≡ false = grind (arith, nat_tests) in
@@ -473,7 +490,7 @@ list_emptied s now st is past turns =
           let before = none_between t.decs (t.cursors DECREMENT_CURSOR) (t.cursors DECREMENT_COUNT) (st.at o) past in
           let after = none_between t.decs (t2.cursors DECREMENT_CURSOR) (t2.cursors DECREMENT_COUNT) (st.at o) (omega (arith, waiting)) in
           omega (arith, before, after)) c.lowered;
-      passed = c.passed;
+      seen = c.seen;
       none_done = c.none_done;
       grays = c.grays;
       work = c.work;
@@ -490,6 +507,7 @@ list_emptied s now st is past turns =
         under = is.under;
         between = is.between;
         extra = is.extra;
+        unseen = is.unseen;
       };
       drawn = ap (λ z. z.cursors DECREMENT_CURSOR) turns.tables ∙ none_drawn t;
       waiting = ap (λ z. z.cursors DECREMENT_COUNT) turns.tables ∙ waiting;

@@ -11,13 +11,14 @@ use Rattle.lxr_layout.specs.declared.Place.{Place}
 use Rattle.lxr_layout.specs.declared.Shape.{Shape}
 use Rattle.lxr_layout.specs.declared.limits.Limits.{Limits}
 use Rattle.lxr_layout.specs.Objects.{FitsShape, header_word, word_count}
-use Rattle.lxr_layout.specs.Places.{first_word}
+use Rattle.lxr_layout.specs.Places.{first_word, place_at}
 use Rattle.lxr_base.specs.Roomy.{Roomy, pushed}
 use Rattle.lxr_graph.specs.State.{Object, shape_of}
 use Rattle.lxr_image.specs.declared.space.Space.{Space}
 use Rattle.lxr_image.specs.Tables.{Tables, changed}
 use Rattle.lxr_image.specs.Spaces.{tables_of}
 use Rattle.lxr_image.specs.Reads.{IsName}
+use Rattle.lxr_invariant.specs.Standing.{place_of}
 use Rattle.lxr_invariant.proofs.EntryLemmas.{changed_here, changed_other, passing_cleared}
 use Rattle.lxr_pause_decrements.specs.Cascade.{CascadeStage, Handling, IsHeader, later, with_lists}
 use Rattle.lxr_invariant.specs.Lines.{line_behind, next_line}
@@ -25,7 +26,7 @@ use Rattle.lxr_pause_decrements.specs.Wipe.{cleared, wiped}
 use Rattle.lxr_base.specs.Bits.{IsNextBit, NoBit}
 use Rattle.lxr_pause_decrements.specs.Handled.{IsAhead, OnlyReports, reclaimed_from, reclaimed_words, shape_in, without_handled}
 use Rattle.lxr_pause_decrements.proofs.CascadeLemmas.{placed, started}
-use Rattle.lxr_pause_decrements.proofs.HandlingLemmas.{handled, without_done}
+use Rattle.lxr_pause_decrements.proofs.HandlingLemmas.{handled, handling_room, without_done}
 use Rattle.lxr_pause_decrements.proofs.WipeLemmas.{range_cases}
 
 -- ---- granule after granule
@@ -205,7 +206,8 @@ pub record Next (l : Limits) (t : Tables) (w : Roomy Place) (d : Roomy Name) (st
   pub fits : g + word_count shape / 2 ≤ GRANULES_IN_BLOCK * l.blocks
   pub inside : g < GRANULES_IN_BLOCK * l.blocks
   pub room : length d.items < d.room
-  pub handling : Handling l (without_handled t g) w (pushed d r) (later st (r ∷ st.gone) st.work st.extra)
+  pub work_room : length w.items < w.room
+  pub handling : Handling l (without_handled t g) (pushed w (place_at g)) (pushed d r) (later st (r ∷ st.gone) st.work st.extra)
 
 -- the tables without an object of a shape at a granule
 abbrev cut_at : Tables → ℕ → Shape → Tables
@@ -232,7 +234,9 @@ next_one l t w d st g is done =
     let fits = p.fits in
     let inside = p.place.1 in
     let few = passing_cleared t.starts g (GRANULES_IN_BLOCK * l.blocks) start (omega (arith, inside)) in
-    let room = is.remains.dead_room in (
+    let room = is.remains.dead_room in
+    let place = x.1.place in
+    let same_place : place_of st.at r ≡ place_at g = λ i. record { 0 = sym place i } in (
       r,
       shape_of ro,
       record {
@@ -240,15 +244,18 @@ next_one l t w d st g is done =
         fits = omega (arith, fits);
         inside = omega (arith, inside);
         room = omega (arith, few, room);
-        handling = subst (λ z. Handling l z w (pushed d r) (later st (r ∷ st.gone) st.work st.extra)) same
-            (handled l t w d st r ro is x.1.member x.1.left (ap t.dones x.1.granule ∙ done) o.1);
+        work_room = handling_room l t w d st is (omega (arith, few));
+        handling = subst (λ p. Handling l (without_handled t g) (pushed w p) (pushed d r) (later st (r ∷ st.gone) st.work st.extra)) same_place
+            (subst (λ z. Handling l z (pushed w (place_of st.at r)) (pushed d r) (later st (r ∷ st.gone) st.work st.extra)) same
+            (handled l t w d st r ro is x.1.member x.1.left (ap t.dones x.1.granule ∙ done) o.1));
       },
     )
 
 -- ---- at spaces
 
-abbrev pub with_reported : Space → Name → Space
-with_reported s n = with_lists s s.words s.work (pushed s.report.dead n)
+-- the space with the object that begins at a granule reported, and its place in the worklist
+abbrev pub with_reported : Space → ℕ → Name → Space
+with_reported s g n = with_lists s s.words (pushed s.work (place_at g)) (pushed s.report.dead n)
 
 -- what is ahead behind a granule is so behind a further one
 pub ahead_behind : (s : Space) (t : Tables) (from to : ℕ) (st : CascadeStage) → from ≤ to → IsAhead s t from st → IsAhead s t to st
@@ -280,12 +287,12 @@ module _ (s : Space) (t : Tables) (at word from bit : ℕ) (st : CascadeStage) (
   pub next_header : IsHeader (tables_of s) (64 * at + bit + 1) next_dead.0 next_dead.1
   next_header = let h = next_dead.2.header in record { name = h.name; fits = h.fits; header = ap (λ f. f (first_word (64 * at + bit + 1))) (sym is.heap) ∙ h.header }
 
-  pub next_ahead : (e : Space) → e ≡ with_reported s next_dead.0 → IsAhead e (reclaimed_from t (64 * at) (bit + 1)) (64 * at + (bit + 1)) (later st (next_dead.0 ∷ st.gone) st.work st.extra)
+  pub next_ahead : (e : Space) → e ≡ with_reported s (64 * at + bit) next_dead.0 → IsAhead e (reclaimed_from t (64 * at) (bit + 1)) (64 * at + (bit + 1)) (later st (next_dead.0 ∷ st.gone) st.work st.extra)
   next_ahead e turned =
       let reached = next.reached in
       let more = one_more t (64 * at) from bit reached none there in
       subst (λ z. IsAhead z (reclaimed_from t (64 * at) (bit + 1)) (64 * at + (bit + 1)) (later st (next_dead.0 ∷ st.gone) st.work st.extra)) (sym turned)
-      (subst (λ z. IsAhead (with_reported s next_dead.0) z (64 * at + (bit + 1)) (later st (next_dead.0 ∷ st.gone) st.work st.extra)) (sym more)
+      (subst (λ z. IsAhead (with_reported s (64 * at + bit) next_dead.0) z (64 * at + (bit + 1)) (later st (next_dead.0 ∷ st.gone) st.work st.extra)) (sym more)
       (record {
         space = record { limits = is.space.limits; size = is.space.size };
         heap = is.heap;
@@ -305,13 +312,21 @@ word_ahead s t at word from st within tells none is =
     (ahead_behind s (reclaimed_from t (64 * at) from) (64 * at + from) (64 * at + 64) st (omega (arith, within)) is)
 
 pub only_none : (s : Space) → OnlyReports s s
-only_none s = record { rest = refl; room = refl }
+only_none s = record { rest = refl; room = refl; work_room = refl }
 
 pub only_both : (a b c : Space) → OnlyReports a b → OnlyReports b c → OnlyReports a c
-only_both a b c x y = record { rest = y.rest ∙ ap {A = Space} (λ s. with_lists s s.words s.work c.report.dead) x.rest; room = y.room ∙ x.room }
+only_both a b c x y = record {
+  rest = y.rest ∙ ap {A = Space} (λ s. with_lists s s.words c.work c.report.dead) x.rest;
+  room = y.room ∙ x.room;
+  work_room = y.work_room ∙ x.work_room;
+}
 
-pub only_one : (a b : Space) (n : Name) → b ≡ with_reported a n → OnlyReports a b
-only_one a b n is = record { rest = is ∙ ap (λ d. with_lists a a.words a.work d) (sym (ap (λ s. s.report.dead) is)); room = ap (λ s. s.report.dead.room) is }
+pub only_one : (a b : Space) (g : ℕ) (n : Name) → b ≡ with_reported a g n → OnlyReports a b
+only_one a b g n is = record {
+  rest = is ∙ ap {A = Space} (λ s. with_lists a a.words s.work s.report.dead) (sym is);
+  room = ap (λ s. s.report.dead.room) is;
+  work_room = ap (λ s. s.work.room) is;
+}
 
 pub same_word : (a b : Space) (at word : ℕ) → OnlyReports a b → IsDoneWord a at word → IsDoneWord b at word
 same_word a b at word only tells i within = ap (λ s. (tables_of s).dones (64 * at + i)) only.rest ∙ tells i within

@@ -1,5 +1,5 @@
 -- What holds of a space in the middle of its decrements.
-use Rattle.std.specs.Prelude.{◌≡◌, ◌≢◌, ℕ, ◌+◌, ◌*◌, ◌/◌, ◌<◌, ◌≤◌, ◌↔◌, ◌⊎◌, ⊤, Bool, true, false, if◌then◌else◌, Option, Some, None, List, [], ◌++◌, IsTrue, length, slice_get, map, reverse}
+use Rattle.std.specs.Prelude.{◌≡◌, ◌≢◌, ℕ, ◌+◌, ◌*◌, ◌/◌, ◌<◌, ◌≤◌, ◌↔◌, ◌⊎◌, ⊤, Bool, true, false, if◌then◌else◌, Option, Some, None, List, [], ◌++◌, IsTrue, length, min, slice_get, map, reverse}
 use Rattle.lxr_layout.specs.declared.Name.{Name}
 use Rattle.lxr_layout.specs.declared.Place.{Place}
 use Rattle.lxr_layout.specs.declared.Shape.{Shape}
@@ -20,9 +20,9 @@ use Rattle.lxr_model.specs.Moments.{Moment, Trace}
 use Rattle.lxr_model.specs.Reachable.{Refers}
 use Rattle.lxr_model.specs.References.{occurrences, references, references_from}
 use Rattle.lxr_model_counting.specs.Distinct.{IsDistinct}
-use Rattle.lxr_model_counting.specs.Lowering.{IsLowered, IsOver, TakenFrom}
+use Rattle.lxr_model_counting.specs.Lowering.{IsLowered, IsOver, TakenFrom, once}
 use Rattle.lxr_invariant.specs.Keeping.{KeepsListsAndCounters}
-use Rattle.lxr_invariant.specs.Counting.{HasDecrements, count_at, is_done, occurrences_from, passing, undone, waiting_at}
+use Rattle.lxr_invariant.specs.Counting.{HasDecrements, count_at, entries_between, is_done, listed_at, occurrences_from, passing, undone, waiting_at}
 use Rattle.lxr_invariant.specs.Lines.{AvoidFree, HasMarks, line_behind, next_line, tracing_word}
 use Rattle.lxr_invariant.specs.Standing.{HasBits, place_of}
 use Rattle.lxr_invariant.specs.Tracing.{IsGray}
@@ -38,14 +38,16 @@ pub record CascadeStage : Type 0 where
   -- what is reclaimed so far, newest first, and of it what still lies in the worklist
   pub gone : List Name
   pub work : List Name
-  -- what lies under that in the worklist and isn't taken by the decrements: a sweep leaves places there
+  -- what lies under that in the worklist: places of what was handled, to whose references the decrements come later, or what a sweep
+  -- leaves there, which they do not take
   pub under : List Place
   -- what waits to be lowered beside the list of decrements and the references of `work`
   pub extra : Name → ℕ
   -- how often a name is still to be made gray by the object that is just being released
   pub ungrayed : Name → ℕ
-  -- below this granule no object without a count is left
-  pub passed : ℕ
+  -- how often a name is still to be looked at by the pass that seeks what was dropped: at the places of the entries of the list that
+  -- decrementers drew, and among the references of what they handled
+  pub unseen : Name → ℕ
 
 -- the unreclaimed names that are left
 abbrev pub kept : CascadeStage → List Name
@@ -118,29 +120,31 @@ pub record Remains (l : Limits) (t : Tables) (d : Roomy Name) (st : CascadeStage
   pub fewer : length st.gone + passing t.starts (GRANULES_IN_BLOCK * l.blocks) ≡ passing st.was.starts (GRANULES_IN_BLOCK * l.blocks)
   pub dead_room : length d.items + passing t.starts (GRANULES_IN_BLOCK * l.blocks) ≤ d.room
 
--- Some of what decrementers have handled is reclaimed. A count is the references from what is left and isn't done, and what
--- waits in the list of decrements; what is gone or done is dead, and has no count.
+-- Some of what decrementers have handled is reclaimed, and its places lie in the worklist, oldest first. A count is the references
+-- from what is left and isn't done, and what waits in the list of decrements; what is gone or done is dead, and has no count. What is
+-- unstuck was referred to at the last pause or stands in that list, drawn or not.
 pub record Handling (l : Limits) (t : Tables) (w : Roomy Place) (d : Roomy Name) (st : CascadeStage) : Type 0 where
   pub remains : Remains l t d st
   pub exact : (n : Name) → IsTrue (has st.moment.unreclaimed n) → has st.moment.stuck n ≡ false
       → count_at t st.at n ≡ references st.moment.last (undone t st.at (kept st)) n + waiting_at t (st.at n)
+  pub held : (n : Name) → IsTrue (has st.moment.unreclaimed n) → has st.moment.stuck n ≡ false
+      → references st.moment.last st.moment.unreclaimed n + listed_at t (st.at n) ≢ 0
   pub dead : (n : Name) → IsTrue (has st.gone n) → Dead st.moment.last st.moment.unreclaimed st.moment.stuck n
   pub zero : (n : Name) → IsTrue (has st.gone n) → count_at t st.at n ≡ 0
   pub done_dead : (n : Name) → IsTrue (has st.moment.unreclaimed n) → IsTrue (is_done t st.at n) → Dead st.moment.last st.moment.unreclaimed st.moment.stuck n
   pub done_zero : (n : Name) → IsTrue (has st.moment.unreclaimed n) → IsTrue (is_done t st.at n) → count_at t st.at n ≡ 0
   pub grays : AreGrayed st.moment.trace st.was.grays t.grays st.moment st.at st.gone [] st.ungrayed
   pub handled : HandledGray st.moment.trace t st.moment st.at st.gone
-  pub no_work : w.items ≡ []
-  pub no_under : st.under ≡ []
+  pub places : w.items ≡ map (place_of st.at) (reverse st.gone)
   pub between : IsBetween st
   pub work_room : GRANULES_IN_BLOCK * l.blocks ≤ w.room
 
 -- Some counts are lowered, and no done bit is set any more: what is left has a count of its references from what is left and of
--- what waits, and what has none is gone, where a pass has come by. There is room in the worklist for what may still go.
+-- what waits, and what has none is gone, unless it is still to be looked at. There is room in the worklist for what may still go.
 pub record Cascade (l : Limits) (t : Tables) (w : Roomy Place) (d : Roomy Name) (st : CascadeStage) : Type 0 where
   pub remains : Remains l t d st
   pub lowered : IsLowered st.moment.last st.moment.unreclaimed st.moment.stuck st.gone (count_at t st.at) (waits t st)
-  pub passed : (n : Name) → IsTrue (has st.moment.unreclaimed n) → has st.moment.stuck n ≡ false → granule_of (st.at n) < st.passed
+  pub seen : (n : Name) → IsTrue (has st.moment.unreclaimed n) → has st.moment.stuck n ≡ false → st.unseen n ≡ 0
       → count_at t st.at n ≡ 0 → IsTrue (has st.gone n)
   pub none_done : (k : ℕ) → t.dones k ≡ false
   pub grays : AreGrayed st.moment.trace st.was.grays t.grays st.moment st.at st.gone st.work st.ungrayed
@@ -166,9 +170,9 @@ to_do s = passing (tables_of s).starts (GRANULES_IN_BLOCK * s.limits.blocks) + l
 abbrev pub later : CascadeStage → List Name → List Name → (Name → ℕ) → CascadeStage
 later st gone work extra = record st { gone = gone; work = work; extra = extra }
 
--- the stage at which a pass has come to another granule
-abbrev pub come_to : CascadeStage → ℕ → CascadeStage
-come_to st granule = record st { passed = granule }
+-- the stage with other names to be looked at
+abbrev pub looking : CascadeStage → (Name → ℕ) → CascadeStage
+looking st unseen = record st { unseen = unseen }
 
 -- the stage with other names to be made gray
 abbrev pub graying : CascadeStage → (Name → ℕ) → CascadeStage
@@ -250,13 +254,17 @@ pub record Releasing (s : Space) (place : ℕ) (st : CascadeStage) (r : Name) (r
   pub extra : (o : Name) → st.extra o ≡ rest o + occurrences (held_by st r) o
   pub ungrayed : (o : Name) → st.ungrayed o ≡ occurrences (held_by st r) o
 
--- the references of a dead object wait from number i on, and what these hold is to be made gray
-pub record FieldWaits (s : Space) (place i : ℕ) (st : CascadeStage) (r : Name) (rest : Name → ℕ) : Type 0 where
-  pub stage : IsAt s st
+-- the dead object of a name has a reference number i
+pub record HasField (place i : ℕ) (st : CascadeStage) (r : Name) : Type 0 where
   pub member : IsTrue (has st.moment.unreclaimed r)
   pub dead : Dead st.moment.last st.moment.unreclaimed st.moment.stuck r
   pub stands : place ≡ st.at r
   pub index : i < length (held_by st r)
+
+-- its references wait from number i on, and what these hold is to be made gray
+pub record FieldWaits (s : Space) (place i : ℕ) (st : CascadeStage) (r : Name) (rest : Name → ℕ) : Type 0 where
+  pub stage : IsAt s st
+  pub field : HasField place i st r
   pub extra : (o : Name) → st.extra o ≡ rest o + occurrences_from (held_by st r) i o
   pub ungrayed : (o : Name) → st.ungrayed o ≡ occurrences_from (held_by st r) i o
 
@@ -270,22 +278,62 @@ pub record Draining (s : Space) (floor : ℕ) (st : CascadeStage) : Type 0 where
 abbrev pub Drains : Space → CascadeStage → Type 0
 Drains s st = (gone : List Name) × IsAt s (later st gone [] st.extra)
 
--- an object without a count begins at the granule that a pass has come to
-pub record DroppedAt (s : Space) (granule : ℕ) (st : CascadeStage) : Type 0 where
+-- what was dropped is sought: nothing lies in the worklist above a length
+pub record IsLooking (s : Space) (floor : ℕ) (st : CascadeStage) : Type 0 where
   pub stage : IsAt s st
-  pub come : st.passed ≡ granule
-  pub under : st.under ≡ []
+  pub work : st.work ≡ []
+  pub under : length st.under ≡ floor
   pub between : IsBetween st
-  pub start : IsTrue ((tables_of s).starts granule)
-  pub uncounted : (tables_of s).counts granule ≡ 0
 
--- nothing waits but in the list of decrements
+-- a name at its place is to be looked at once more than the rest says
+pub record LooksAt (s : Space) (place floor : ℕ) (st : CascadeStage) (r : Name) (rest : Name → ℕ) : Type 0 where
+  pub looking : IsLooking s floor st
+  pub member : IsTrue (has st.moment.unreclaimed r)
+  pub stands : place ≡ st.at r
+  pub taken : (o : Name) → IsTrue (has st.moment.unreclaimed o) → st.unseen o ≡ once o r + rest o
+
+-- the references of a dead object are to be looked at from number i on
+pub record LooksFrom (s : Space) (place i floor : ℕ) (st : CascadeStage) (r : Name) (rest : Name → ℕ) : Type 0 where
+  pub looking : IsLooking s floor st
+  pub field : HasField place i st r
+  pub unseen : (o : Name) → st.unseen o ≡ rest o + occurrences_from (held_by st r) i o
+
+-- all references of a dead object are to be looked at
+pub record LooksThrough (s : Space) (place floor : ℕ) (st : CascadeStage) (r : Name) (rest : Name → ℕ) : Type 0 where
+  pub looking : IsLooking s floor st
+  pub dead : Dead st.moment.last st.moment.unreclaimed st.moment.stuck r
+  pub stands : place ≡ st.at r
+  pub unseen : (o : Name) → st.unseen o ≡ rest o + occurrences (held_by st r) o
+
+-- how many entries of the list of decrements are drawn
+abbrev pub drawn_count : Tables → ℕ
+drawn_count t = min (t.cursors DECREMENT_CURSOR) (t.cursors DECREMENT_COUNT)
+
+-- how often a place stands among the drawn entries, from a number on
+abbrev pub drawn_from : Tables → ℕ → ℕ → ℕ
+drawn_from t k p = entries_between t.decs k (drawn_count t) p
+
+-- the stage at which places of handled names lie in the worklist, whose references are still to be looked at, and so are some names
+-- in the list of decrements
+abbrev pub seeking : CascadeStage → List Name → (Name → ℕ) → CascadeStage
+seeking st handled drawn = record st { under = map (place_of st.at) handled; unseen = λ o. references_from st.moment.last.graph handled o + drawn o }
+
+-- such a stage, at which nothing waits but in the list of decrements
+pub record IsSeeking (s : Space) (st : CascadeStage) (handled : List Name) (drawn : Name → ℕ) : Type 0 where
+  pub stage : IsAt s (seeking st handled drawn)
+  pub work : st.work ≡ []
+  pub between : IsBetween st
+  pub extra : (o : Name) → st.extra o ≡ 0
+  pub dead : (n : Name) → IsTrue (has handled n) → Dead st.moment.last st.moment.unreclaimed st.moment.stuck n
+
+-- nothing waits but in the list of decrements, and no name is still to be looked at
 pub record IsOpening (s : Space) (st : CascadeStage) : Type 0 where
   pub stage : IsAt s st
   pub work : st.work ≡ []
   pub under : st.under ≡ []
   pub between : IsBetween st
   pub extra : (o : Name) → st.extra o ≡ 0
+  pub unseen : (o : Name) → st.unseen o ≡ 0
 
 -- nothing waits, and the list of decrements is empty
 pub record IsEmptied (s : Space) (st : CascadeStage) : Type 0 where

@@ -61,10 +61,11 @@ abbrev pub ReportsBlock : Space → Space → ℕ → Type 0
 ReportsBlock before after block = (ahead : Tables) (st : CascadeStage) → IsAhead before ahead (GRANULES_IN_BLOCK * block) st
     → (gone : List Name) × IsAhead after (reclaimed_words ahead (32 * block) 32) (GRANULES_IN_BLOCK * (block + 1)) (later st gone st.work st.extra)
 
--- nothing but the names of the dead has changed
+-- nothing but the names of the dead and the places in the worklist has changed
 pub record OnlyReports (before after : Space) : Type 0 where
-  pub rest : after ≡ with_lists before before.words before.work after.report.dead
+  pub rest : after ≡ with_lists before before.words after.work after.report.dead
   pub room : after.report.dead.room ≡ before.report.dead.room
+  pub work_room : after.work.room ≡ before.work.room
 
 -- the header of each handled object stands from a granule on and below another, and the object lies in the heap
 abbrev pub HandledStand : Tables → ℕ → ℕ → ℕ → Type 0

@@ -1,22 +1,24 @@
 -- What each step of the decrements asks, and from which stage to which it leads.
-use Rattle.std.specs.Prelude.{ℕ, ◌+◌, ◌*◌, List, []}
+use Rattle.std.specs.Prelude.{ℕ, ◌+◌, List, [], length, reverse}
 use Rattle.lxr_layout.specs.declared.Name.{Name}
-use Rattle.lxr_layout.specs.declared.TheConstants.{GRANULES_IN_BLOCK}
 use Rattle.lxr_image.specs.declared.space.Space.{Space}
+use Rattle.lxr_image.specs.Spaces.{tables_of}
 use Rattle.lxr_model_counting.specs.Lowering.{once}
 use Rattle.lxr_invariant.specs.Counting.{occurrences_from}
-use Rattle.lxr_pause_decrements.specs.Cascade.{CascadeStage, Draining, Drains, DroppedAt, FieldWaits, IsAt, IsEmptied, IsFinished, IsHandling, IsOpening, Reaches, Releasing, Waiting, come_to, graying, held_by, later}
+use Rattle.lxr_pause_decrements.specs.Cascade.{CascadeStage, Draining, Drains, FieldWaits, IsAt, IsEmptied, IsFinished, IsHandling, IsOpening, IsSeeking, LooksAt, LooksFrom, LooksThrough, Reaches, Releasing, Waiting, drawn_from, graying, held_by, later, looking, seeking}
 
 -- some of what was handled is reclaimed
 abbrev pub ReclaimsSomeHandled : Space → Space → Type 0
 ReclaimsSomeHandled before after = (st : CascadeStage) → IsHandling before st → (gone : List Name) × IsHandling after (later st gone st.work st.extra)
 
--- all that was handled is to be reclaimed; then nothing is done, and all waits in the list of decrements
+-- all that was handled is to be reclaimed; then nothing is done, all waits in the list of decrements, and what was dropped is to be
+-- looked for at the drawn entries of the list and among what the handled objects referred to
 abbrev pub MayReclaimAllHandled : Space → Type 0
 MayReclaimAllHandled s = (st : CascadeStage) × IsHandling s st
 
 abbrev pub ReclaimsAllHandled : Space → Space → Type 0
-ReclaimsAllHandled before after = (st : CascadeStage) → IsHandling before st → (gone : List Name) × IsOpening after (come_to (later st gone [] (λ o. 0)) 0)
+ReclaimsAllHandled before after = (st : CascadeStage) → IsHandling before st
+    → (gone : List Name) × IsSeeking after (later st gone [] (λ o. 0)) (reverse gone) (λ o. drawn_from (tables_of after) 0 (st.at o))
 
 -- the space is at some stage
 abbrev pub IsMidway : Space → Type 0
@@ -53,12 +55,50 @@ MayEmpty s floor = (st : CascadeStage) × Draining s floor st
 abbrev pub Empties : Space → Space → ℕ → Type 0
 Empties before after floor = (st : CascadeStage) → Draining before floor st → Drains after st
 
--- an object without a count is to be reclaimed; then it is, with what dies by it
-abbrev pub MayDrop : Space → ℕ → Type 0
-MayDrop s granule = (st : CascadeStage) × DroppedAt s granule st
+-- the object at a place is to be looked at once; then it is no more: if it had no count it is reclaimed, with what dies by it
+abbrev pub MayDrop : Space → ℕ → ℕ → Type 0
+MayDrop s place floor = (st : CascadeStage) × (r : Name) × (rest : Name → ℕ) × LooksAt s place floor st r rest
 
-abbrev pub Drops : Space → Space → ℕ → Type 0
-Drops before after granule = (st : CascadeStage) → DroppedAt before granule st → Drains after (come_to st (granule + 1))
+abbrev pub Drops : Space → Space → ℕ → ℕ → Type 0
+Drops before after place floor = (st : CascadeStage) (r : Name) (rest : Name → ℕ) → LooksAt before place floor st r rest → Drains after (looking st rest)
+
+-- the references of the dead object at a place are to be looked at from number i on; then they are from the next one on
+abbrev pub MayDropField : Space → ℕ → ℕ → ℕ → Type 0
+MayDropField s place i floor = (st : CascadeStage) × (r : Name) × (rest : Name → ℕ) × LooksFrom s place i floor st r rest
+
+abbrev pub DropsField : Space → Space → ℕ → ℕ → ℕ → Type 0
+DropsField before after place i floor =
+    (st : CascadeStage) (r : Name) (rest : Name → ℕ) → LooksFrom before place i floor st r rest
+    → Drains after (looking st (λ o. rest o + occurrences_from (held_by st r) (i + 1) o))
+
+-- all references of the dead object at a place are to be looked at; then none is
+abbrev pub MayDropReferents : Space → ℕ → Type 0
+MayDropReferents s place = (st : CascadeStage) × (r : Name) × (rest : Name → ℕ) × LooksThrough s place (length s.work.items) st r rest
+
+abbrev pub DropsReferents : Space → Space → ℕ → Type 0
+DropsReferents before after place =
+    (st : CascadeStage) (r : Name) (rest : Name → ℕ) → LooksThrough before place (length before.work.items) st r rest → Drains after (looking st rest)
+
+-- the drawn entries of the list are to be looked at, and what the handled objects referred to
+abbrev pub MayDropAll : Space → Type 0
+MayDropAll s = (st : CascadeStage) × (handled : List Name) × IsSeeking s st handled (λ o. drawn_from (tables_of s) 0 (st.at o))
+
+-- then only what the handled objects referred to is
+abbrev pub DropsDrawn : Space → Space → Type 0
+DropsDrawn before after = (st : CascadeStage) (handled : List Name) → IsSeeking before st handled (λ o. drawn_from (tables_of before) 0 (st.at o))
+    → (gone : List Name) × IsSeeking after (later st gone [] (λ o. 0)) handled (λ o. 0)
+
+abbrev pub MayDropReferred : Space → Type 0
+MayDropReferred s = (st : CascadeStage) × (handled : List Name) × IsSeeking s st handled (λ o. 0)
+
+-- and at last nothing is
+abbrev pub DropsReferred : Space → Space → Type 0
+DropsReferred before after = (st : CascadeStage) (handled : List Name) → IsSeeking before st handled (λ o. 0)
+    → (gone : List Name) × IsOpening after (seeking (later st gone [] (λ o. 0)) [] (λ o. 0))
+
+abbrev pub DropsAll : Space → Space → Type 0
+DropsAll before after = (st : CascadeStage) (handled : List Name) → IsSeeking before st handled (λ o. drawn_from (tables_of before) 0 (st.at o))
+    → (gone : List Name) × IsOpening after (seeking (later st gone [] (λ o. 0)) [] (λ o. 0))
 
 -- the last decrement of the list is taken out of it, and the object at its place waits
 abbrev pub TakesLast : Space → Space → ℕ → Type 0
@@ -68,17 +108,9 @@ TakesLast before after place = (st : CascadeStage) → IsAt before st → (r : N
 abbrev pub EmptiesList : Space → Space → Type 0
 EmptiesList before after = (st : CascadeStage) → IsOpening before st → IsEmptied after st
 
--- nothing waits but in the list of decrements; then it is empty
+-- nothing waits but in the list of decrements; then it is empty, and exactly the dead are gone
 abbrev pub MayLowerAll : Space → Type 0
 MayLowerAll s = (st : CascadeStage) × IsOpening s st
 
 abbrev pub LowersAll : Space → Space → Type 0
-LowersAll before after = (st : CascadeStage) → IsOpening before st → (gone : List Name) × IsEmptied after (later st gone [] (λ o. 0))
-
--- nothing waits, and no granule is passed; then exactly the dead are gone
-abbrev pub MayDropAll : Space → Type 0
-MayDropAll s = (st : CascadeStage) × IsEmptied s (come_to st 0)
-
-abbrev pub DropsAll : Space → Space → Type 0
-DropsAll before after = (st : CascadeStage) → IsEmptied before (come_to st 0)
-    → (gone : List Name) × IsFinished after (come_to (later st gone [] (λ o. 0)) (GRANULES_IN_BLOCK * before.limits.blocks))
+LowersAll before after = (st : CascadeStage) → IsOpening before st → (gone : List Name) × IsFinished after (later st gone [] (λ o. 0))

@@ -10,13 +10,13 @@ ghost use Rattle.lxr_image.specs.Spaces.{IsSpace, Turns, tables_of};
 ghost use Rattle.lxr_model.specs.Moments.{Moment};
 ghost use Rattle.lxr_pause_decrements.specs.Finishing.{CanFinish, Finishes};
 ghost use Rattle.lxr_pause_decrements.specs.Cascade.{IsHeader, Keeps, Leaves, grayed_if, to_do};
-ghost use Rattle.lxr_pause_decrements.specs.Steps.{Drops, DropsAll, Empties, EmptiesList, IsMidway, Lowers, LowersAll, LowersField, MayDrop, MayDropAll, MayEmpty, MayLower, MayLowerAll, MayLowerField, MayRelease, Releases, TakesLast};
+ghost use Rattle.lxr_pause_decrements.specs.Steps.{Empties, EmptiesList, IsMidway, Lowers, LowersAll, LowersField, MayEmpty, MayLower, MayLowerAll, MayLowerField, MayRelease, Releases, TakesLast};
 
+use crate::dropped::reclaim_all_dropped;
 use crate::handled::reclaim_all_handled;
 use crate::reclaiming::reclaim;
 use lxr_image::{Places, Space};
-use lxr_image_search::{Wanted, next_wanted};
-use lxr_layout::{DECREMENT_COUNT, DECREMENT_CURSOR, Place, field_word, granule_of, place_at};
+use lxr_layout::{DECREMENT_COUNT, DECREMENT_CURSOR, Place, field_word, granule_of};
 use lxr_tables::Lowered;
 
 /// Lowers the count of the object at a place; a stuck count stays. With its last count the object is reclaimed, and what it
@@ -86,7 +86,7 @@ fn release(space: &mut Space, place: Place)
 }
 
 /// Takes the last of a list of places out of it, where the list is longer than a floor.
-fn pop_above(work: &mut Places, floor: usize) -> Option<Place>
+pub(crate) fn pop_above(work: &mut Places, floor: usize) -> Option<Place>
     ensures { MatchOption result ((length work.old.items ≤ floor) × (work.new ≡ work.old)) (λ place. (work.old ≡ pushed work.new place) × (floor ≤ length work.new.items)) }
 {
     if floor < work.len() { work.pop() } else { None }
@@ -143,39 +143,16 @@ fn lower_all(space: &mut Space)
     empty_list(space);
 }
 
-/// Reclaims the object without a count that begins at a granule, and what dies by it.
-fn reclaim_dropped(space: &mut Space, granule: u32)
-    requires { MayDrop space.old granule }
-    ensures drops { Drops space.old space.new granule }
-    ensures keeps { Keeps space.old space.new }
-{
-    reclaim(space, place_at(granule));
-    drain(space, 0);
-}
-
-/// Reclaims each object that decrementers lowered to 0 and dropped, and what dies by it.
-fn reclaim_all_dropped(space: &mut Space)
-    requires { MayDropAll space.old }
-    ensures drops { DropsAll space.old space.new }
-    ensures keeps { Keeps space.old space.new }
-{
-    let mut from = 0;
-    while let Some(granule) = next_wanted(space, Wanted::Dropped, from) {
-        reclaim_dropped(space, granule);
-        from = granule + 1;
-    }
-}
-
-/// Finishes what decrementers have left, whatever they did. What they handled is reclaimed. The count of the object at each
-/// place of the list that none of them drew is lowered, and an object whose count falls to 0 is reclaimed, which lowers what
-/// its references hold in turn; and so is each object that they lowered to 0 and dropped. What is reclaimed is reported as
-/// dead, and while a trace runs, what it referred to is made gray (LXR's snapshot at the beginning). It takes no memory, and no
-/// more of the machine's stack for a longer chain of objects.
+/// Finishes what decrementers have left, whatever they did. What they handled is reclaimed, and so is each object that they
+/// lowered to 0 and dropped. The count of the object at each place of the list that none of them drew is lowered, and an object
+/// whose count falls to 0 is reclaimed, which lowers what its references hold in turn. What is reclaimed is reported as dead,
+/// and while a trace runs, what it referred to is made gray (LXR's snapshot at the beginning). It takes no memory, and no more of
+/// the machine's stack for a longer chain of objects.
 pub fn finish_decrements(space: &mut Space)
     requires { (m : Moment) × (at : NameOf → ℕ) × CanFinish space.old m at }
     ensures { (m : Moment) (at : NameOf → ℕ) → CanFinish space.old m at → (gone : List NameOf) × Finishes space.old space.new m at gone }
 {
     reclaim_all_handled(space);
-    lower_all(space);
     reclaim_all_dropped(space);
+    lower_all(space);
 }

@@ -2,12 +2,14 @@
 //!
 //! What such an object referred to was lowered when it was handled, and made gray if a trace ran, so it is reported, and its bits
 //! and marks are cleared. All names of a block are reported first: so its headers are read one right after another, and none waits
-//! until the one before it has come from memory. The bits of 64 granules are cleared together.
+//! until the one before it has come from memory. The bits of 64 granules are cleared together. Its place is left in the worklist: what
+//! it referred to is looked at later, since a decrementer may have lowered that to 0 and dropped it.
 ghost use Rattle.std.specs.Prelude.{◌≡◌, ◌==◌, ℕ, ◌+◌, ◌*◌, ◌/◌, ◌<◌, ◌≤◌, false, if◌then◌else◌, length};
 ghost use Rattle.lxr_layout.specs.declared.TheConstants.{GRANULES_IN_BLOCK};
 ghost use Rattle.lxr_layout.specs.declared.Name.{Name as NameOf};
 ghost use Rattle.lxr_layout.specs.declared.Shape.{Shape as ShapeOf};
 ghost use Rattle.lxr_layout.specs.Objects.{word_count};
+ghost use Rattle.lxr_layout.specs.Places.{place_at};
 ghost use Rattle.lxr_base.specs.Roomy.{pushed};
 ghost use Rattle.lxr_image.specs.Spaces.{IsSpace, Turns, tables_of};
 ghost use Rattle.lxr_pause_decrements.specs.Cascade.{IsHeader, Keeps, with_lists};
@@ -19,26 +21,28 @@ use crate::reclaiming::{clear_line_marks, clear_logs};
 use lxr_base::take_bit;
 use lxr_image::Space;
 use lxr_image_search::{Wanted, next_block};
-use lxr_layout::{GRANULES_IN_BLOCK, Header, unpack, words_of};
+use lxr_layout::{GRANULES_IN_BLOCK, Header, place_at, unpack, words_of};
 
 /// How many words of bits a block has, a bit for each granule.
 const BIT_WORDS_IN_BLOCK: u32 = GRANULES_IN_BLOCK / 64;
 
-/// Reports the object that begins at a granule as dead.
+/// Reports the object that begins at a granule as dead, and leaves its place in the worklist.
 #[inline(always)]
 fn report_dead(space: &mut Space, granule: u32)
     requires space { IsSpace space.old }
     requires heap { granule < GRANULES_IN_BLOCK * space.old.limits.blocks }
     requires room { length space.old.report.dead.items < space.old.report.dead.room }
+    requires work { length space.old.work.items < space.old.work.room }
     ensures { (n : NameOf) (shape : ShapeOf) → IsHeader (tables_of space.old) (granule + 1) n shape
-        → space.new ≡ with_lists space.old space.old.words space.old.work (pushed space.old.report.dead n) }
+        → space.new ≡ with_lists space.old space.old.words (pushed space.old.work (place_at granule)) (pushed space.old.report.dead n) }
 {
     if let Header::Object(name, _) = unpack(space.heap_word(2 * granule)) {
         space.report.dead.push(name);
+        space.work.push(place_at(granule));
     }
 }
 
-/// Reports the handled objects that begin at 64 granules in a row.
+/// Reports the handled objects that begin at 64 granules in a row, and leaves their places in the worklist.
 #[inline(always)]
 fn report_word(space: &mut Space, at: u32)
     requires at { at < BIT_WORDS_IN_BLOCK * space.old.limits.blocks }
@@ -52,7 +56,7 @@ fn report_word(space: &mut Space, at: u32)
     }
 }
 
-/// Reports the handled objects that begin in a block.
+/// Reports the handled objects that begin in a block, and leaves their places in the worklist.
 fn report_block(space: &mut Space, block: u32)
     requires block { block < space.old.limits.blocks }
     requires stage { MayReport space.old (GRANULES_IN_BLOCK * block) }
@@ -123,7 +127,8 @@ fn reclaim_block(space: &mut Space, block: u32)
     clear_block(space, block);
 }
 
-/// Reclaims each object that a decrementer has handled. Blocks whose state is Free have none, and are passed over.
+/// Reclaims each object that a decrementer has handled, and leaves its place in the worklist. Blocks whose state is Free have none,
+/// and are passed over.
 pub(crate) fn reclaim_all_handled(space: &mut Space)
     requires { MayReclaimAllHandled space.old }
     ensures reclaims { ReclaimsAllHandled space.old space.new }

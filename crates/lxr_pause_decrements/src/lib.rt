@@ -2,10 +2,11 @@
 //! referred to.
 //!
 //! Counts are lowered late, as in LXR (Zhao, Blackburn and McKinley, 2022): a pause queues what was overwritten, decrementers
-//! lower some of it beside the mutators, and the next pause finishes what is left. It reclaims what decrementers have handled,
-//! lowers the entries of the list that none of them drew, and reclaims what they lowered to 0 and dropped.
+//! lower some of it beside the mutators, and the next pause finishes what is left. It reclaims what decrementers have handled, and
+//! what they lowered to 0 and dropped, and lowers the entries of the list that none of them drew.
 #![tactic(auto)]
 
+mod dropped;
 mod finish;
 mod handled;
 mod laws;

@@ -23,13 +23,13 @@ use Rattle.lxr_model_counting.specs.Balance.{lowered}
 use Rattle.lxr_model_counting.proofs.DistinctLemmas.{or_false}
 use Rattle.lxr_invariant.specs.AbstractState.{members}
 use Rattle.lxr_invariant.specs.Standing.{HasBits}
-use Rattle.lxr_invariant.specs.Counting.{HasCounts, HasDecrements, IsUndecremented, count_at, entries_between, waiting_at}
+use Rattle.lxr_invariant.specs.Counting.{HasCounts, HasDecrements, IsUndecremented, count_at, entries_between, undone, waiting_at}
 use Rattle.lxr_invariant.specs.Keeping.{KeepsListsAndCounters}
 use Rattle.lxr_invariant.specs.Lines.{FreeAreUnused, HasBlocks, HasMarks, KeepsRest}
 use Rattle.lxr_invariant.specs.Quiescent.{HoldsMoment}
 use Rattle.lxr_invariant.specs.Raised.{IsRaised, count_raised, settled, with_promoted}
 use Rattle.lxr_invariant.proofs.NameLemmas.{no_member}
-use Rattle.lxr_invariant.proofs.FrameLemmas.{blocks_still, image_still, marks_still, none_undone}
+use Rattle.lxr_invariant.proofs.FrameLemmas.{blocks_still, held_at_rest, image_still, marks_still, none_undone}
 use Rattle.lxr_pause_queue.specs.Appending.{with_entries, with_registers}
 use Rattle.lxr_pause_queue.specs.OldValues.{decrement_list}
 use Rattle.lxr_pause_queue.specs.Queueing.{Queues, with_roots_deferred}
@@ -70,13 +70,20 @@ module _ (s : Space) (m : Moment) (at : Name → ℕ) (promoted stuck : List Nam
             let isnt = neither.0 in absurd (cc)
       ]
 
+  pub undecremented : IsUndecremented u then at
+  undecremented = record { none_done = is.none_done; none_drawn = queued.drawn; positive = is.positive }
+
+  counts_exact : (n : Name) → IsTrue (has us n) → has (union stuck m.stuck) n ≡ false → count_at u at n ≡ references m.state (undone u at us) n + waiting_at u (at n)
+  counts_exact n h unstuck =
+      is.counts.exact n h unstuck ∙ raised_balance m promoted stuck n is.follows is.raised
+      ∙ (λ j. references m.state (sym (none_undone u at us is.none_done) j) n + sym (waits_lowered n h) j)
+
   has_counts : HasCounts u then at
   has_counts = record {
     stuck = is.counts.full;
     below = counts_below;
-    exact = λ n h unstuck.
-        is.counts.exact n h unstuck ∙ raised_balance m promoted stuck n is.follows is.raised
-        ∙ (λ j. references m.state (sym (none_undone u at us is.none_done) j) n + sym (waits_lowered n h) j);
+    exact = counts_exact;
+    held = λ n h unstuck. held_at_rest u then at n undecremented h (counts_exact n h unstuck);
     done = λ n h done. let none = is.none_done (granule_of (at n)) in absurd (cc);
     dead = λ n h done. let none = is.none_done (granule_of (at n)) in absurd (cc);
   }
@@ -92,9 +99,6 @@ module _ (s : Space) (m : Moment) (at : Name → ℕ) (promoted stuck : List Nam
     dones = is.bits.dones;
     unlogged = queued.unlogged;
   }
-
-  pub undecremented : IsUndecremented u then at
-  undecremented = record { none_done = is.none_done; none_drawn = queued.drawn; positive = is.positive }
 
   -- the space with these words, whose logs are empty and whose roots are deferred
   module _ (words : List ℕ) (are : tables_in s.limits words ≡ u) where

@@ -18,7 +18,7 @@ use Rattle.lxr_blocks.specs.declared.states.BlockState.TheVariants.{Free}
 use Rattle.lxr_blocks.specs.States.{state_in}
 use Rattle.lxr_model.specs.Moments.{Moment}
 use Rattle.lxr_model.specs.References.{references}
-use Rattle.lxr_invariant.specs.Counting.{HasCounts, HasDecrements, IsUndecremented, count_at, undone, waiting_at}
+use Rattle.lxr_invariant.specs.Counting.{HasCounts, HasDecrements, IsUndecremented, count_at, listed_at, undone, waiting_at}
 use Rattle.lxr_invariant.specs.Lines.{Covers, FreeAreUnused, HasMarks, IsMarkOf, IsTakenBy, KeepLines, OutsAreTaken}
 use Rattle.lxr_invariant.specs.Standing.{HasBits, IsUnwritten}
 use Rattle.lxr_invariant.proofs.FrameLemmas.{none_undone}
@@ -134,6 +134,12 @@ module _ (threads : ℕ) (t : Tables) (heap : ℕ → ℕ) (blocks : ℕ) (s : S
         ∙ ap (λ q. references (renewed_state threads ns s) (map rn us) q + waiting_at t (at x.name)) (sym x.named)
         ∙ ap (λ p. references (renewed_state threads ns s) (map rn us) n + waiting_at t p) (sym x.place_is)
         ∙ ap (λ qs. references (renewed_state threads ns s) qs n + waiting_at u (at' n)) (sym all');
+    held = λ n h k empty.
+        let x = of_new n h in
+        is.held x.name x.member (unstuck_old n h k) (
+        ap (λ c. c + listed_at t (at x.name)) (sym (references_renewed ns order threads s left x.name x.member))
+        ∙ ap (λ q. references (renewed_state threads ns s) (map rn us) q + listed_at t (at x.name)) (sym x.named)
+        ∙ ap (λ p. references (renewed_state threads ns s) (map rn us) n + listed_at t p) (sym x.place_is) ∙ empty);
     done = λ n h k. not_both (t.dones (granule_of (at' n))) k (none (granule_of (at' n)));
     dead = λ n h k. not_both (t.dones (granule_of (at' n))) k (none (granule_of (at' n)));
   }

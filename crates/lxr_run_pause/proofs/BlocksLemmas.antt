@@ -1,5 +1,5 @@
 -- What the blocks are once some are chosen or released: block 0 alone is World, and no more than an eighth is Chosen.
-use Rattle.std.proofs.Common.{◌≡◌, ◌≢◌, ℕ, zero, suc, ◌+◌, ◌/◌, ◌<◌, ◌≤◌, refl, sym, ap, subst, ◌∙◌, inl, inr, arith, cond, true, false, ◌⊎◌}
+use Rattle.std.proofs.Common.{◌≡◌, ◌≢◌, ℕ, zero, suc, ◌+◌, ◌<◌, ◌≤◌, refl, sym, ap, subst, ◌∙◌, inl, inr, arith, cond, true, false, ◌⊎◌}
 use Rattle.std.specs.Prelude.{Option, Some, None, ◌&&◌, if◌then◌else◌}
 use Rattle.lxr_layout.specs.declared.TheConstants.{REMEMBERED_CURSOR, TRACING_WORD}
 use Rattle.lxr_layout.specs.Spaces.{most_chosen}

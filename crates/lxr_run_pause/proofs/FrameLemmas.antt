@@ -1,6 +1,6 @@
 -- What holds of a space between the steps of a pause stays with another number, another order of stuck names, another trace and other
 -- states of blocks, where nothing was made.
-use Rattle.std.proofs.Common.{◌≡◌, ℕ, ◌*◌, ◌/◌, refl, sym, ap, subst, ◌∙◌, inl, inr, List, [], IsTrue}
+use Rattle.std.proofs.Common.{◌≡◌, ℕ, ◌/◌, refl, sym, ap, subst, ◌∙◌, inl, inr, List, [], IsTrue}
 use Rattle.std.specs.Prelude.{Option}
 use Rattle.lxr_layout.specs.declared.TheConstants.{DECREMENT_COUNT, DECREMENT_CURSOR, GRANULES_IN_BLOCK, GRANULES_IN_LINE}
 use Rattle.lxr_layout.specs.declared.Name.{Name}
@@ -24,7 +24,7 @@ use Rattle.lxr_invariant.specs.Counting.{HasCounts, HasDecrements, IsUndecrement
 use Rattle.lxr_invariant.specs.Lines.{HasBlocks, HasMarks, FreeAreUnused}
 use Rattle.lxr_invariant.specs.Standing.{HasBits, IsUnwritten}
 use Rattle.lxr_invariant.specs.Quiescent.{HoldsMoment}
-use Rattle.lxr_invariant.proofs.FrameLemmas.{bits_still, counts_still, decrements_still, image_still, marks_still, rest_still, undecremented_still}
+use Rattle.lxr_invariant.proofs.FrameLemmas.{bits_still, counts_still, decrements_still, image_still, marks_still, undecremented_still}
 use Rattle.lxr_invariant.proofs.ToldLemmas.{holds_told}
 use Rattle.lxr_run_pause.specs.Steps.{begun, with_names_in_order}
 
@@ -90,6 +90,7 @@ module _ (m : Moment) (number : ℕ) (stuck : List Name) (trace : Option Trace) 
       stuck = λ n k q. h.stuck n k (sym (same n) ∙ q);
       below = λ n k q. h.below n k (sym (same n) ∙ q);
       exact = λ n k q. h.exact n k (sym (same n) ∙ q);
+      held = λ n k q. h.held n k (sym (same n) ∙ q);
       done = h.done;
       dead = λ n k d. dead_by_names m.last m.unreclaimed m.stuck stuck same (h.dead n k d);
     }

@@ -1,5 +1,5 @@
 -- A space at rest is so once an object is made for a thread.
-use Rattle.std.proofs.Common.{◌≡◌, ◌≢◌, ℕ, ◌+◌, ◌-◌, ◌*◌, ◌/◌, ◌^◌, ◌<◌, ◌≤◌, ◌⊎◌, refl, sym, ap, subst, ◌∙◌, inl, inr, arith, false, List, [], ◌∷◌, length, map}
+use Rattle.std.proofs.Common.{◌≡◌, ◌≢◌, ℕ, ◌+◌, ◌-◌, ◌*◌, ◌/◌, ◌^◌, ◌<◌, ◌≤◌, ◌⊎◌, refl, sym, ap, subst, ◌∙◌, inl, inr, arith, false, List, ◌∷◌, length}
 use Rattle.std.specs.Prelude.{Some, IsTrue, slice_set}
 use Rattle.std.specs.List.Sorted.{IsPermutation}
 use Rattle.std.proofs.lemmas.List.{length-map, length-set}
@@ -37,7 +37,7 @@ use Rattle.lxr_model_counting.specs.Following.{FollowsPause}
 use Rattle.lxr_model_counting.proofs.FollowingLemmas.{call_follows}
 use Rattle.lxr_invariant.specs.AbstractState.{AbstractState, members}
 use Rattle.lxr_invariant.specs.Standing.{HasBits}
-use Rattle.lxr_invariant.specs.Counting.{HasCounts, HasDecrements, IsUndecremented, undone, waiting_at}
+use Rattle.lxr_invariant.specs.Counting.{HasCounts, HasDecrements, IsUndecremented, listed_at, undone, waiting_at}
 use Rattle.lxr_invariant.specs.Lines.{AvoidChosen, Covers, HasBlocks, HasMarks, HasStates, KeepLines, KeepsRest, LinesAreOut, OutsAreTaken, FreeAreUnused}
 use Rattle.lxr_invariant.specs.Tracing.{IsTracedBy}
 use Rattle.lxr_invariant.specs.Quiescent.{HoldsMoment, IsAtRest}
@@ -164,6 +164,7 @@ module _ (space after : Space) (g : AbstractState) (thread dest : ℕ) (place : 
         exact = λ q h loose. ap (λ z. t.counts (granule_of z)) (kept_at q h) ∙ old.exact q h loose
             ∙ ap (λ z. references m.last z q + waiting_at t (g.at q)) (undone_all t g.at to m.unreclaimed is.undecremented.none_done)
             ∙ ap (λ z. references m.last (undone t to m.unreclaimed) q + waiting_at t z) (sym (kept_at q h));
+        held = λ q h loose. subst (λ z. references m.last m.unreclaimed q + listed_at t z ≢ 0) (sym (kept_at q h)) (old.held q h loose);
         done = λ q h done. absurd (not_both (t.dones (granule_of (to q))) done (is.undecremented.none_done (granule_of (to q))));
         dead = λ q h done. absurd (not_both (t.dones (granule_of (to q))) done (is.undecremented.none_done (granule_of (to q))));
       }

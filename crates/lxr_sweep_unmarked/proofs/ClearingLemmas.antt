@@ -1,5 +1,5 @@
 -- Taking one unmarked object out takes out its name alone: what is left keeps its bits, marks and counts.
-use Rattle.std.proofs.Common.{◌≡◌, ◌≢◌, ℕ, ◌+◌, ◌*◌, ◌^◌, ◌<◌, refl, sym, ap, subst, ◌∙◌, inl, inr, arith, true, false, List, [], ◌∷◌, ◌++◌, IsTrue, length, length-append, ◌/◌}
+use Rattle.std.proofs.Common.{◌≡◌, ◌≢◌, ℕ, ◌+◌, ◌*◌, ◌<◌, refl, sym, ap, subst, ◌∙◌, inl, inr, arith, true, false, List, [], ◌∷◌, ◌++◌, IsTrue, length, length-append, ◌/◌}
 use Rattle.std.specs.Prelude.{Option, Some, map, not, reverse, slice_get}
 use Rattle.std.proofs.lemmas.List.{length-map, length-reverse, reverse-append}
 use Rattle.std.proofs.lemmas.Bool.{and_from, and_parts, not-true, not_from_false, or_cases, or_left, or_right}
@@ -36,7 +36,7 @@ use Rattle.lxr_invariant.proofs.EntryLemmas.{passing_cleared, passing_few}
 use Rattle.lxr_invariant.proofs.NameLemmas.{distinct_more, in_first, no_member}
 use Rattle.lxr_pause_decrements.specs.Cascade.{Ground, TablesStay}
 use Rattle.lxr_pause_decrements.specs.Wipe.{LosesBits}
-use Rattle.lxr_pause_decrements.proofs.CascadeLemmas.{BeginsAt, IsPlaced, append_group, bare, bits_fall, count_bare, granules_differ, has_reversed, in_heap, marks_fall, placed, places_more, written_other}
+use Rattle.lxr_pause_decrements.proofs.CascadeLemmas.{BeginsAt, IsPlaced, append_group, append_nothing, bare, bits_fall, count_bare, granules_differ, has_reversed, in_heap, marks_fall, placed, places_more, written_other}
 use Rattle.lxr_pause_decrements.proofs.LeftLemmas.{still_left}
 use Rattle.lxr_pause_decrements.proofs.WipeLemmas.{loses_more, loses_none}
 use Rattle.lxr_sweep_unmarked.specs.Clearing.{ClearingStage, IsClearing, TakesOut, UnmarkedAt, cleared_too, clearing, extended, with_swept, without_any}
@@ -82,10 +82,6 @@ pub clearing_ground : (s : Space) (st : ClearingStage) → IsClearing s st → G
 clearing_ground s st is = subst (λ h. Ground h st.was.limits.blocks st.moment st.at) (sym is.stay.keeps.heap) (ground_of st.was st.moment st.at is.can.holds is.can.settled)
 
 -- ---- the first stage
-
-pub append_nothing : {A : Type 0} (xs : List A) → xs ≡ xs ++ []
-append_nothing [] = refl
-append_nothing (x ∷ xs) = ap (λ ys. x ∷ ys) (append_nothing xs)
 
 extended_none : {A : Type 0} (l : Roomy A) → l ≡ extended l []
 extended_none {A = A} l = ap {A = List A} (λ z. record l { items = z }) (append_nothing l.items)

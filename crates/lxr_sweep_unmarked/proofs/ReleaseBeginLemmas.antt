@@ -1,12 +1,11 @@
 -- Where all that is unmarked is out of the heap, what is left is at a stage of the decrements at which all references of what was swept wait.
-use Rattle.std.proofs.Common.{◌≡◌, ℕ, ◌+◌, ◌*◌, ◌≤◌, refl, sym, ap, subst, ◌∙◌, arith, List, [], ◌∷◌, ◌++◌, IsTrue, length, length-append, ◌/◌}
+use Rattle.std.proofs.Common.{◌≡◌, ℕ, ◌+◌, ◌*◌, ◌≤◌, refl, sym, ap, subst, ◌∙◌, arith, List, [], ◌++◌, IsTrue, length, length-append, ◌/◌}
 use Rattle.std.specs.Prelude.{map, reverse}
-use Rattle.std.proofs.lemmas.List.{length-map, length-reverse, reverse-append}
+use Rattle.std.proofs.lemmas.List.{length-map, length-reverse}
 use Rattle.lxr_layout.specs.declared.TheConstants.{DECREMENT_COUNT, DECREMENT_CURSOR, GRANULES_IN_BLOCK, TRACING_WORD}
 use Rattle.lxr_layout.specs.declared.Name.{Name}
 use Rattle.lxr_layout.specs.Places.{first_word}
 use Rattle.lxr_graph.specs.Names.{has, without}
-use Rattle.lxr_graph.specs.State.{Graph}
 use Rattle.lxr_graph.proofs.NameSets.{in_order-without, without_parts}
 use Rattle.lxr_image.specs.declared.space.Space.{Space}
 use Rattle.lxr_image.specs.Tables.{Tables}
@@ -25,13 +24,13 @@ use Rattle.lxr_invariant.proofs.EntryLemmas.{passing_few}
 use Rattle.lxr_invariant.proofs.FrameLemmas.{none_undone}
 use Rattle.lxr_invariant.proofs.NameLemmas.{no_member}
 use Rattle.lxr_pause_decrements.specs.Cascade.{Ground, Remains, waits}
-use Rattle.lxr_pause_decrements.proofs.CascadeLemmas.{has_reversed, in_heap, refs_more}
+use Rattle.lxr_pause_decrements.proofs.CascadeLemmas.{append_nothing, has_reversed, in_heap, refs_reversed}
 use Rattle.lxr_pause_decrements.proofs.GrayLemmas.{grays_none}
 use Rattle.lxr_pause_decrements.proofs.WipeLemmas.{loses_none}
 use Rattle.lxr_sweep_unmarked.specs.Clearing.{IsClearing, clearing, extended}
 use Rattle.lxr_sweep_unmarked.specs.Releasing.{AllAreLeft, ReleaseStage, cascade_of}
 use Rattle.lxr_sweep_unmarked.specs.Sweeping.{CanSweep}
-use Rattle.lxr_sweep_unmarked.proofs.ClearingLemmas.{append_nothing, clearing_ground, clearing_limits, field_there}
+use Rattle.lxr_sweep_unmarked.proofs.ClearingLemmas.{clearing_ground, clearing_limits, field_there}
 use Rattle.lxr_sweep_unmarked.proofs.FollowLemmas.{SweptAre, left_closed}
 use Rattle.lxr_blocks.specs.States.{state_of}
 use Rattle.lxr_image.specs.Reads.{granule_of}
@@ -53,15 +52,7 @@ bits_then t m at vs ss us is = record {
   unlogged = λ w. (λ h. unwritten_too m at vs ss us w ((is.unlogged w).0 h), λ h. (is.unlogged w).1 (too_unwritten m at vs ss us w h));
 }
 
--- ---- names in the other order
-
-refs_reversed : (g : Graph) (ns : List Name) (o : Name) → references_from g (reverse ns) o ≡ references_from g ns o
-refs_reversed g [] o = refl
-refs_reversed g (n ∷ ns) o =
-    let last = ap (λ z. references_from g z o) (reverse-append (n ∷ []) ns) in
-    let more = refs_more g (reverse ns) n o in
-    let rest = refs_reversed g ns o in
-    omega (arith, last, more, rest)
+-- ---- the beginning
 
 -- the first stage of lowering
 abbrev pub releasing : Space → Space → Moment → (Name → ℕ) → List Name → ReleaseStage
@@ -74,7 +65,6 @@ releasing s b m at swept = record {
   gone = [];
   work = [];
   extra = λ o. references_from m.last.graph (reverse swept) o;
-  passed = GRANULES_IN_BLOCK * s.limits.blocks;
 }
 
 module _ (s b : Space) (m : Moment) (at : Name → ℕ) (swept : List Name) (is : IsClearing b (clearing s m at swept (GRANULES_IN_BLOCK * s.limits.blocks))) where
@@ -196,7 +186,7 @@ module _ (s b : Space) (m : Moment) (at : Name → ℕ) (swept : List Name) (is 
         cascade = record {
           remains = remains;
           lowered = lowered;
-          passed = λ n in_n loose below none. absurd (is.can.undecremented.positive n (in_all n in_n) (sym (count_same n in_n) ∙ none));
+          seen = λ n in_n loose seen none. absurd (is.can.undecremented.positive n (in_all n in_n) (sym (count_same n in_n) ∙ none));
           none_done = λ k. ap (λ f. f k) is.dones ∙ is.can.undecremented.none_done k;
           grays = grays_none m.trace t.grays (leaving m left_names) at;
           work = ap (λ w. w.items) worked ∙ ap (λ xs. xs ++ map (place_of at) names) is.can.holds.no_work ∙ append_nothing (map (place_of at) names);

@@ -1,5 +1,5 @@
 -- A reference of a swept object is lowered where its object still begins; where it doesn't, that was swept too, and nothing waits.
-use Rattle.std.proofs.Common.{◌≡◌, ℕ, zero, suc, ◌+◌, ◌-◌, ◌*◌, ◌^◌, ◌<◌, ◌≤◌, refl, sym, ap, subst, ◌∙◌, inl, inr, arith, List, [], ◌∷◌, ◌++◌, IsTrue, length, length-append, drop}
+use Rattle.std.proofs.Common.{◌≡◌, ℕ, zero, suc, ◌+◌, ◌-◌, ◌*◌, ◌<◌, ◌≤◌, refl, sym, ap, subst, ◌∙◌, inl, inr, arith, List, [], ◌∷◌, ◌++◌, IsTrue, length, length-append, drop}
 use Rattle.std.specs.Prelude.{Option, Some, None, map, slice_get}
 use Rattle.std.proofs.lemmas.Bool.{or_left, or_right}
 use Rattle.std.proofs.lemmas.List.{length-map}
@@ -34,10 +34,10 @@ use Rattle.lxr_sweep_unmarked.specs.Releasing.{AllAreLeft, FieldIsLeft, IsReleas
 extra_apart : (l : Limits) (t : Tables) (w : Roomy Place) (d : Roomy Name) (st : CascadeStage) (other : Name → ℕ) → ((o : Name) → IsTrue (has st.moment.unreclaimed o) → other o ≡ st.extra o) → Cascade l t w d st
     → Cascade l t w d (later st st.gone st.work other)
 extra_apart l t w d st other same is = record {
-  remains = remains_still l t d st st.work other st.ungrayed st.passed is.remains;
+  remains = remains_still l t d st st.under st.work other st.ungrayed st.unseen is.remains;
   lowered = lowered_still st.moment.last st.moment.unreclaimed st.moment.stuck st.gone (count_at t st.at) (count_at t st.at) (waits t st) (waits t (later st st.gone st.work other))
       (λ o in_o. refl) (λ o in_o. let e = same o in_o in omega (arith, e)) is.lowered;
-  passed = is.passed;
+  seen = is.seen;
   none_done = is.none_done;
   grays = is.grays;
   work = is.work;

@@ -1,5 +1,5 @@
 -- Where nothing waits any more, what is left holds the moment without what was swept and what died by it.
-use Rattle.std.proofs.Common.{◌≡◌, ◌≢◌, ℕ, ◌*◌, ◌<◌, ◌≤◌, refl, sym, ap, subst, ◌∙◌, inl, inr, arith, Bool, false, List, [], ◌++◌, IsTrue, length}
+use Rattle.std.proofs.Common.{◌≡◌, ◌≢◌, ℕ, ◌+◌, ◌*◌, ◌≤◌, refl, sym, ap, subst, ◌∙◌, inl, inr, arith, Bool, false, List, [], ◌++◌, IsTrue, length}
 use Rattle.std.specs.Prelude.{◌↔◌, Option, Some, None, reverse}
 use Rattle.std.proofs.lemmas.Bool.{false_from_ne_true}
 use Rattle.lxr_layout.specs.declared.TheConstants.{DECREMENT_COUNT, DECREMENT_CURSOR, GRANULES_IN_BLOCK, TRACING_WORD}
@@ -22,16 +22,16 @@ use Rattle.lxr_model_counting.proofs.DistinctLemmas.{tested, without_same}
 use Rattle.lxr_model_counting.proofs.LoweringLemmas.{over}
 use Rattle.lxr_invariant.specs.AbstractState.{leaving}
 use Rattle.lxr_invariant.specs.Standing.{AreLogged, HasBits, IsImaged}
-use Rattle.lxr_invariant.specs.Counting.{HasCounts, IsUndecremented, count_at, entries_between, is_done, waiting_at}
+use Rattle.lxr_invariant.specs.Counting.{HasCounts, IsUndecremented, count_at, entries_between, is_done, undone, waiting_at}
 use Rattle.lxr_invariant.specs.Lines.{HasBlocks, HasMarks, KeepsRest}
 use Rattle.lxr_invariant.specs.Quiescent.{HoldsMoment}
-use Rattle.lxr_invariant.proofs.FrameLemmas.{AreAsMany, blocks_still, imaged_left, none_undone, out_still, rest_left, unchosen_still}
+use Rattle.lxr_invariant.proofs.FrameLemmas.{AreAsMany, blocks_still, held_at_rest, imaged_left, none_undone, out_still, rest_left, unchosen_still}
 use Rattle.lxr_invariant.proofs.KeepingLemmas.{keeps_both as lists_both}
 use Rattle.lxr_invariant.proofs.NameLemmas.{in_either, in_first, in_second}
 use Rattle.lxr_pause_decrements.specs.Cascade.{CascadeStage, Keeps, waits, with_lists}
 use Rattle.lxr_pause_decrements.specs.Finishing.{FinishesGrays}
 use Rattle.lxr_pause_decrements.specs.Wipe.{LosesBits}
-use Rattle.lxr_pause_decrements.proofs.CascadeLemmas.{granules_differ, has_reversed, in_heap}
+use Rattle.lxr_pause_decrements.proofs.CascadeLemmas.{granules_differ, has_reversed}
 use Rattle.lxr_pause_decrements.proofs.GrayLemmas.{grays_end}
 use Rattle.lxr_pause_decrements.proofs.WipeLemmas.{loses_same}
 use Rattle.lxr_sweep_unmarked.specs.Clearing.{IsClearing, clearing, extended}
@@ -145,9 +145,7 @@ module _ (s b c : Space) (m : Moment) (at : Name → ℕ) (swept : List Name) (i
 
   -- nothing without a count is left
   empty : IsOver us m.stuck gone (count_at u at)
-  empty n in_n loose none =
-      let h = (in_heap u.heap c.limits.blocks (leaving m us) at done.stage.cascade.remains.ground n in_n).1 in
-      done.stage.cascade.passed n in_n loose (subst (λ l. granule_of (at n) < GRANULES_IN_BLOCK * l.blocks) limits h) none
+  empty n in_n loose none = done.stage.cascade.seen n in_n loose refl none
 
   -- exactly the dead of what is left are gone
   gone_are : (n : Name) → IsTrue (has gone n) ↔ Dead m.last us m.stuck n
@@ -183,21 +181,6 @@ module _ (s b c : Space) (m : Moment) (at : Name → ℕ) (swept : List Name) (i
   stays : (n : Name) → IsTrue (has us n) → has (without m.stuck names) n ≡ false → has m.stuck n ≡ false
   stays n in_n loose = false_from_ne_true (has m.stuck n) (λ k. not_both _ (in_without m.stuck names n k (λ q. not_both (has names n) q (without_parts m.unreclaimed names n in_n).1)) loose)
 
-  counts_left : HasCounts u (swept_moment m names died) at
-  counts_left = record {
-    stuck = λ n h k. done.stage.cascade.remains.stuck n (in_left n h) (without_parts m.stuck names n k).0;
-    below = λ n h k. done.stage.cascade.remains.below n (in_left n h) (stays n (in_left n h) k);
-    exact = λ n h k.
-        let e = done.stage.cascade.lowered.exact n (in_left n h) (stays n (in_left n h) k) in
-        let none = none_waits n in
-        let listed : waiting_at u (at n) ≡ 0 = none_entries u.decs (u.cursors DECREMENT_CURSOR) (u.cursors DECREMENT_COUNT) (at n) none_listed in
-        let q = ap (λ z. references m.last z n) (none_undone u at vs done.stage.cascade.none_done) in
-        let same = ap (λ z. references m.last z n) same_then in
-        omega (arith, e, none, listed, q, same);
-    done = λ n h k. not_both (is_done u at n) k (done.stage.cascade.none_done (granule_of (at n)));
-    dead = λ n h k. not_both (is_done u at n) k (done.stage.cascade.none_done (granule_of (at n)));
-  }
-
   undecremented_left : IsUndecremented u (swept_moment m names died) at
   undecremented_left = record {
     none_done = done.stage.cascade.none_done;
@@ -208,6 +191,25 @@ module _ (s b c : Space) (m : Moment) (at : Name → ℕ) (swept : List Name) (i
           | inl k ↦ let e = done.stage.cascade.remains.stuck n parts.0 k in omega (arith, e, z)
           | inr k ↦ not_both (has died n) (has_reversed gone n ∙ empty n parts.0 k z) parts.1
         ];
+  }
+
+  exact_left : (n : Name) → IsTrue (has vs n) → has (without m.stuck names) n ≡ false → count_at u at n ≡ references m.last (undone u at vs) n + waiting_at u (at n)
+  exact_left n h k =
+      let e = done.stage.cascade.lowered.exact n (in_left n h) (stays n (in_left n h) k) in
+      let none = none_waits n in
+      let listed : waiting_at u (at n) ≡ 0 = none_entries u.decs (u.cursors DECREMENT_CURSOR) (u.cursors DECREMENT_COUNT) (at n) none_listed in
+      let q = ap (λ z. references m.last z n) (none_undone u at vs done.stage.cascade.none_done) in
+      let same = ap (λ z. references m.last z n) same_then in
+      omega (arith, e, none, listed, q, same)
+
+  counts_left : HasCounts u (swept_moment m names died) at
+  counts_left = record {
+    stuck = λ n h k. done.stage.cascade.remains.stuck n (in_left n h) (without_parts m.stuck names n k).0;
+    below = λ n h k. done.stage.cascade.remains.below n (in_left n h) (stays n (in_left n h) k);
+    exact = exact_left;
+    held = λ n h k. held_at_rest u (swept_moment m names died) at n undecremented_left h (exact_left n h k);
+    done = λ n h k. not_both (is_done u at n) k (done.stage.cascade.none_done (granule_of (at n)));
+    dead = λ n h k. not_both (is_done u at n) k (done.stage.cascade.none_done (granule_of (at n)));
   }
 
   image_left : IsImaged after (swept_moment m names died) at

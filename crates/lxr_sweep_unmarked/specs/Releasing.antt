@@ -30,14 +30,13 @@ pub record ReleaseStage : Type 0 where
   pub work : List Name
   -- what waits to be lowered beside the references of `work`
   pub extra : Name → ℕ
-  -- below this granule no object without a count is left
-  pub passed : ℕ
 
 -- the names that aren't swept
 abbrev pub unswept : ReleaseStage → List Name
 unswept st = without st.moment.unreclaimed st.swept
 
--- the stage of the decrements: swept objects are no more, their places lie under the worklist, and what they referred to isn't made gray
+-- the stage of the decrements: swept objects are no more, their places lie under the worklist, what they referred to isn't made gray, and
+-- nothing was dropped
 abbrev pub cascade_of : ReleaseStage → CascadeStage
 cascade_of st = record {
   moment = leaving st.moment (unswept st);
@@ -49,7 +48,7 @@ cascade_of st = record {
   under = map (place_of st.at) st.swept;
   extra = st.extra;
   ungrayed = λ o. 0;
-  passed = st.passed;
+  unseen = λ o. 0;
 }
 
 -- the stage with other names gone and in the worklist, and other names waiting

@@ -1,32 +1,40 @@
--- The counts of a line are one word: it is 0 exactly where each of them is.
-use Rattle.std.proofs.Common.{◌≡◌, ℕ, zero, suc, ◌+◌, ◌*◌, ◌/◌, ◌%◌, ◌^◌, ◌<◌, ◌≤◌, refl, sym, ap, subst, ◌∙◌, inl, inr, arith, List, length, drop, lit<}
-use Rattle.std.specs.Prelude.{◌↔◌, slice_index, slice_set}
+-- Words are compared as lanes, a group at a time; and the counts of a line are one word, which is 0 exactly where each of them is.
+use Rattle.std.proofs.Common.{◌≡◌, ℕ, zero, suc, ◌+◌, ◌*◌, ◌/◌, ◌%◌, ◌^◌, ◌<◌, ◌≤◌, refl, sym, ap, subst, ◌∙◌, inl, inr, arith, List, [], ◌∷◌, length, drop, lit<}
+use Rattle.std.specs.Prelude.{⊤, ◌↔◌, slice_index}
+use Rattle.std.specs.Int.Bits.{bit_or}
 use Rattle.std.proofs.lemmas.Bool.Decides.{eqb_tells}
-use Rattle.std.proofs.lemmas.List.{get_or-set_same, get_or-set_other}
 use Rattle.std.proofs.Math.Nat.{eq_of_mul-eq-mul_right, mod-eq_of_lt}
 use Rattle.std.proofs.lemmas.Nat.{mod-pow-add, pow_pos}
 use Rattle.lxr_layout.specs.declared.TheConstants.{COUNT_BITS, COUNT_WORDS_IN_BLOCK, GRANULES_IN_BLOCK, GRANULES_IN_LINE, LINES_IN_BLOCK}
 use Rattle.lxr_tables.specs.declared.counts.TheConstants.{COUNTS_IN_WORD}
 use Rattle.lxr_tables.specs.Entries.{table}
+use Rattle.lxr_tables.specs.declared.lanes.TheConstants.{LANES}
+use Rattle.lxr_tables.proofs.BitLemmas.{TellsOf, more_fit, more_told}
 use Rattle.lxr_tables.proofs.EntryLemmas.{read_at}
 
 -- ---- words, one after another
 
--- so many words in a row, from one on
-abbrev pub AreWordsFrom : List ℕ → ℕ → List ℕ → ℕ → Type 0
-AreWordsFrom ws first lines n = (i : ℕ) → i < n → (slice_index lines i ≡ slice_index ws (first + i)) × (slice_index lines i < 2 ^ 64)
+-- words that were read one after another, from the word k behind a first one on
+abbrev pub AreReadFrom : List ℕ → ℕ → ℕ → List ℕ → Type 0
+AreReadFrom ws first k [] = ⊤
+AreReadFrom ws first k (w ∷ lines) = (w ≡ slice_index ws (first + k)) × AreReadFrom ws first (suc k) lines
 
--- with the word that was read it is one more
-pub more_words : (ws lines : List ℕ) (first at w : ℕ) → length lines ≡ LINES_IN_BLOCK → at < LINES_IN_BLOCK → w ≡ slice_index ws (first + at) → w < 2 ^ 64 → AreWordsFrom ws first lines at → AreWordsFrom ws first (slice_set lines at w) (at + 1)
-more_words ws lines first at w len within is fits before i below = elim (eqb_tells i at) [
-  | inl e ↦
-      let here : slice_index (slice_set lines at w) i ≡ w = ap (slice_index (slice_set lines at w)) e.1 ∙ get_or-set_same lines at w 0 (omega arith) in
-      (here ∙ is ∙ ap (λ k. slice_index ws (first + k)) (sym e.1), subst (λ x. x < 2 ^ 64) (sym here) fits)
-  | inr e ↦
-      let there : slice_index (slice_set lines at w) i ≡ slice_index lines i = get_or-set_other lines at i w 0 e.1 in
-      let old = before i (let other = e.1 in omega arith) in
-      (there ∙ old.0, subst (λ x. x < 2 ^ 64) (sym there) old.1)
-]
+-- each of them is the word at its place
+pub read_each : (ws : List ℕ) (first k : ℕ) (lines : List ℕ) → AreReadFrom ws first k lines → (i : ℕ) → i < length lines → slice_index lines i ≡ slice_index ws (first + (k + i))
+read_each ws first k [] read i within = absurd (omega (arith, within))
+read_each ws first k (w ∷ lines) read zero within = let e : first + k ≡ first + (k + 0) = omega arith in read.0 ∙ ap (slice_index ws) e
+read_each ws first k (w ∷ lines) read (suc i) within = let e : first + (suc k + i) ≡ first + (k + suc i) = omega arith in read_each ws first (suc k) lines read.1 i (omega (arith, within)) ∙ ap (slice_index ws) e
+
+-- ---- lanes, a group at a time
+
+-- the mask with the bits of one more group of lanes
+pub more_lanes : (fact : ℕ → Type 0) (group bits told : ℕ) → LANES * group + LANES ≤ LINES_IN_BLOCK → bits < 2 ^ (LANES * group) → told < 2 ^ LANES → TellsOf fact (LANES * group) bits → TellsOf (λ i. fact (LANES * group + i)) LANES told
+    → (bit_or bits (told * 2 ^ (LANES * group) % 2 ^ 128) < 2 ^ (LANES * (group + 1))) × TellsOf fact (LANES * (group + 1)) (bit_or bits (told * 2 ^ (LANES * group) % 2 ^ 128))
+more_lanes fact group bits told room fit fits before lanes =
+    let next : LANES * group + LANES ≡ LANES * (group + 1) = omega arith in (
+      subst (λ k. bit_or bits (told * 2 ^ (LANES * group) % 2 ^ 128) < 2 ^ k) next (more_fit fact 128 LANES (LANES * group) bits told room fit fits),
+      subst (λ k. TellsOf fact k (bit_or bits (told * 2 ^ (LANES * group) % 2 ^ 128))) next (more_told fact 128 LANES (LANES * group) bits told room fit fits before lanes),
+    )
 
 -- ---- the counts of a word
 

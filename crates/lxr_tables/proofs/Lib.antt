@@ -1,6 +1,5 @@
 pub mod BitLemmas
 pub mod EntryLemmas
-pub mod GatheringLemmas
 pub mod LanesLemmas
 pub mod MaskLemmas
 pub mod LayoutLemmas

@@ -2,4 +2,3 @@ pub mod Counts
 pub mod Entries
 pub mod Pages
 pub mod Words
-pub mod Gathering

@@ -1,5 +1,5 @@
 use Rattle.std.proofs.Common.{◌≡◌, false, inl, inr, subst, sym}
-use Rattle.std.specs.Prelude.{◌==◌, not}
+use Rattle.std.specs.Prelude.{not}
 use Rattle.std.proofs.lemmas.Bool.{and_left}
 use Rattle.lxr_image.specs.Spaces.{tables_of}
 use Rattle.lxr_image_search.specs.Search.{is_wanted}
@@ -12,10 +12,7 @@ returns-in-Object c clear k from below =
     let none = zero_word t.starts c.args.at c.start_word.result c.start_word.ensures clear k from below in
     elim c.in-Object.is [
       | inl object ↦ subst (λ w. is_wanted t w k ≡ false) (sym object) none
-      | inr other ↦ elim other [
-        | inl unmarked ↦ subst (λ w. is_wanted t w k ≡ false) (sym unmarked) (and_left (t.starts k) (not (t.marks k)) none)
-        | inr dropped ↦ subst (λ w. is_wanted t w k ≡ false) (sym dropped) (and_left (t.starts k) (t.counts k == 0) none)
-      ]
+      | inr unmarked ↦ subst (λ w. is_wanted t w k ≡ false) (sym unmarked) (and_left (t.starts k) (not (t.marks k)) none)
     ]
 
 pub returns-in-ToScan : goal.returns-in-ToScan

@@ -1,5 +1,5 @@
 use Rattle.std.specs.Prelude.{[], reverse}
-use Rattle.lxr_pause_decrements.specs.Cascade.{come_to, later}
+use Rattle.lxr_pause_decrements.specs.Cascade.{later, seeking}
 use Rattle.lxr_pause_decrements.proofs.BridgeLemmas.{finishes, first_stage, opening}
 use Rattle.lxr_pause_decrements.proofs.SpaceLemmas.{leaves_both}
 use Rattle.lxr_pause_decrements.proofs.finish.finish_decrements.Goals as goal
@@ -7,24 +7,25 @@ use Rattle.lxr_pause_decrements.proofs.finish.finish_decrements.Goals as goal
 pub reclaim_all_handled-requires : goal.reclaim_all_handled-requires
 reclaim_all_handled-requires c = (first_stage c.args.space.now c.requires.0 c.requires.1, opening c.args.space.now c.requires.0 c.requires.1 c.requires.2)
 
-pub lower_all-requires : goal.lower_all-requires
-lower_all-requires c =
-    let x = c.reclaim_all_handled.ensures.reclaims (first_stage c.args.space.now c.requires.0 c.requires.1) (opening c.args.space.now c.requires.0 c.requires.1 c.requires.2) in
-    (_, x.1)
-
 pub reclaim_all_dropped-requires : goal.reclaim_all_dropped-requires
 reclaim_all_dropped-requires c =
     let st = first_stage c.args.space.now c.requires.0 c.requires.1 in
     let x = c.reclaim_all_handled.ensures.reclaims st (opening c.args.space.now c.requires.0 c.requires.1 c.requires.2) in
-    let y = c.lower_all.ensures.lowers (come_to (later st x.0 [] (λ o. 0)) 0) x.1 in
-    (later st y.0 [] (λ o. 0), y.1)
+    (later st x.0 [] (λ o. 0), reverse x.0, x.1)
+
+pub lower_all-requires : goal.lower_all-requires
+lower_all-requires c =
+    let st = first_stage c.args.space.now c.requires.0 c.requires.1 in
+    let x = c.reclaim_all_handled.ensures.reclaims st (opening c.args.space.now c.requires.0 c.requires.1 c.requires.2) in
+    let y = c.reclaim_all_dropped.ensures.drops (later st x.0 [] (λ o. 0)) (reverse x.0) x.1 in
+    (_, y.1)
 
 pub returns : goal.returns
 returns c = λ m at can.
     let st = first_stage c.args.space.now m at in
     let x = c.reclaim_all_handled.ensures.reclaims st (opening c.args.space.now m at can) in
-    let y = c.lower_all.ensures.lowers (come_to (later st x.0 [] (λ o. 0)) 0) x.1 in
-    let z = c.reclaim_all_dropped.ensures.drops (later st y.0 [] (λ o. 0)) y.1 in
-    let leaves = leaves_both c.args.space.now c.reclaim_all_handled.new.space c.reclaim_all_dropped.new.space c.reclaim_all_handled.ensures.keeps.leaves
-    (leaves_both c.reclaim_all_handled.new.space c.lower_all.new.space c.reclaim_all_dropped.new.space c.lower_all.ensures.leaves c.reclaim_all_dropped.ensures.keeps.leaves) in
-    (reverse z.0, finishes c.args.space.now c.reclaim_all_dropped.new.space m at z.0 _ can z.1 leaves)
+    let y = c.reclaim_all_dropped.ensures.drops (later st x.0 [] (λ o. 0)) (reverse x.0) x.1 in
+    let z = c.lower_all.ensures.lowers (seeking (later st y.0 [] (λ o. 0)) [] (λ o. 0)) y.1 in
+    let leaves = leaves_both c.args.space.now c.reclaim_all_handled.new.space c.lower_all.new.space c.reclaim_all_handled.ensures.keeps.leaves
+    (leaves_both c.reclaim_all_handled.new.space c.reclaim_all_dropped.new.space c.lower_all.new.space c.reclaim_all_dropped.ensures.keeps.leaves c.lower_all.ensures.leaves) in
+    (reverse z.0, finishes c.args.space.now c.lower_all.new.space m at z.0 can z.1 leaves)

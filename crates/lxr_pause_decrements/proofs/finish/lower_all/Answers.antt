@@ -2,6 +2,7 @@ use Rattle.std.proofs.Common.{[], ap, length, refl}
 use Rattle.lxr_pause_decrements.specs.Cascade.{later}
 use Rattle.lxr_pause_decrements.proofs.SpaceLemmas.{leaves_both, leaves_none}
 use Rattle.lxr_pause_decrements.proofs.DrainLemmas.{opened}
+use Rattle.lxr_pause_decrements.proofs.DropLemmas.{finished}
 use Rattle.lxr_pause_decrements.proofs.finish.lower_all.Goals as goal
 
 pub lower_place-requires : goal.lower_place-requires
@@ -38,12 +39,12 @@ pub empty_list-requires-clause-opening : goal.empty_list-requires-clause-opening
 empty_list-requires-clause-opening c =
     let st = c.requires.0 in
     let x = c.loop-space.invariant.stage st c.requires.1 in
-    (_, record { stage = x.1; work = refl; under = c.requires.1.under; between = c.requires.1.between; extra = λ o. refl })
+    (_, record { stage = x.1; work = refl; under = c.requires.1.under; between = c.requires.1.between; extra = λ o. refl; unseen = c.requires.1.unseen })
 
 pub returns-clause-lowers : goal.returns-clause-lowers
 returns-clause-lowers c = λ st is.
     let x = c.loop-space.invariant.stage st is in
-    (x.0, c.empty_list.ensures.empties (later st x.0 [] (λ o. 0)) (record { stage = x.1; work = refl; under = is.under; between = is.between; extra = λ o. refl }))
+    (x.0, finished c.empty_list.new.space (later st x.0 [] (λ o. 0)) (c.empty_list.ensures.empties (later st x.0 [] (λ o. 0)) (record { stage = x.1; work = refl; under = is.under; between = is.between; extra = λ o. refl; unseen = is.unseen })))
 
 pub returns-clause-leaves : goal.returns-clause-leaves
 returns-clause-leaves c = leaves_both c.args.space.now c.loop-space.space c.empty_list.new.space c.loop-space.invariant.leaves c.empty_list.ensures.leaves

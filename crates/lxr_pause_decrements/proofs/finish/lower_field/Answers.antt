@@ -8,13 +8,13 @@ use Rattle.lxr_pause_decrements.proofs.finish.lower_field.Goals as goal
 pub field_word-requires : goal.field_word-requires
 field_word-requires c =
     let f = c.requires.field in
-    let h = field_place c.args.space.now c.args.place c.args.index f.0 f.1 f.2 f.3 in
+    let h = field_place c.args.space.now c.args.place c.args.index f.0 f.1 f.3.stage f.3.field in
     (h.0, h.1)
 
 pub heap_word-word-requires : goal.heap_word-word-requires
 heap_word-word-requires c =
     let f = c.requires.field in
-    let h = field_place c.args.space.now c.args.place c.args.index f.0 f.1 f.2 f.3 in
+    let h = field_place c.args.space.now c.args.place c.args.index f.0 f.1 f.3.stage f.3.field in
     let word = c.field_word.ensures in
     record { space = f.3.stage.space; at = omega (arith, h.2, word) }
 

@@ -25,6 +25,16 @@ report_dead-requires-clause-room c =
     let tells = same_word c.args.space.now c.loop-bit.space c.args.at c.done_word-rest.result so_far.1.only c.done_word-rest.ensures in
     (next_dead c.loop-bit.space t c.args.at c.done_word-rest.result so_far.0 c.in-Some.bit (later st x.0 st.work st.extra) tells next x.1).2.room
 
+pub report_dead-requires-clause-work : goal.report_dead-requires-clause-work
+report_dead-requires-clause-work c =
+    let so_far = c.loop-bit.invariant in
+    let next = next_taken c.done_word-rest.result c.loop-bit.rest _ so_far.0 c.in-Some.bit so_far.1.left c.in-Some.ensures.taken in
+    let t = c.requires.stage.0 in
+    let st = c.requires.stage.1 in
+    let x = so_far.1.reports t st c.requires.stage.2 in
+    let tells = same_word c.args.space.now c.loop-bit.space c.args.at c.done_word-rest.result so_far.1.only c.done_word-rest.ensures in
+    (next_dead c.loop-bit.space t c.args.at c.done_word-rest.result so_far.0 c.in-Some.bit (later st x.0 st.work st.extra) tells next x.1).2.work_room
+
 pub loop-bit-preserved : goal.loop-bit-preserved
 loop-bit-preserved c =
     let so_far = c.loop-bit.invariant in
@@ -47,7 +57,7 @@ loop-bit-preserved c =
                   (c.report_dead.ensures y.0 y.1 (next_header s t c.args.at dones so_far.0 c.in-Some.bit st2 tells next x.1)),
             );
         only = only_both c.args.space.now s c.report_dead.new.space so_far.1.only
-            (only_one s c.report_dead.new.space y0.0 (c.report_dead.ensures y0.0 y0.1 (next_header s t0 c.args.at dones so_far.0 c.in-Some.bit (later st0 x0.0 st0.work st0.extra) tells next x0.1)));
+            (only_one s c.report_dead.new.space (64 * c.args.at + c.in-Some.bit) y0.0 (c.report_dead.ensures y0.0 y0.1 (next_header s t0 c.args.at dones so_far.0 c.in-Some.bit (later st0 x0.0 st0.work st0.extra) tells next x0.1)));
         within = let w = next.within in omega (arith, w);
         left = left_behind dones c.loop-bit.rest _ so_far.0 c.in-Some.bit so_far.1.left c.in-Some.ensures.taken;
       },
