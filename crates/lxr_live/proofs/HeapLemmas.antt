@@ -1,5 +1,5 @@
 -- Wherever a heap stands it stands for a legal history, and an epoch that is closed for a pause is one of the run of what was asked by its end.
-use Rattle.std.proofs.Common.{Bool, true, false, ◌≡◌, ◌∙◌, ℕ, ◌+◌, ◌<◌, ◌≤◌, refl, sym, ap, subst, arith, inl, inr, List, [], ◌∷◌, length, map}
+use Rattle.std.proofs.Common.{Bool, true, false, ◌≡◌, ◌∙◌, ℕ, ◌+◌, ◌<◌, ◌≤◌, refl, sym, ap, subst, arith, inl, inr, List, [], ◌∷◌, ◌++◌, length, map}
 use Rattle.std.specs.List.{list_any}
 use Rattle.std.specs.Prelude.{drop, not, IfErr, IsTrue, None, Option, Result, Err, Ok, Some, slice_get}
 use Rattle.std.proofs.lemmas.List.{length-map}
@@ -48,7 +48,9 @@ use Rattle.lxr_live.specs.declared.live.NotClosed.{NotClosed}
 use Rattle.lxr_live.specs.declared.live.NotClosed.TheVariants as why
 use Rattle.lxr_live.specs.declared.station.NotOut.{NotOut}
 use Rattle.lxr_live.specs.declared.station.NotOut.TheVariants as kept
-use Rattle.lxr_live.specs.Stations.{IsHandedIn, IsNotOut, Lived, Stationed}
+use Rattle.lxr_live.specs.declared.station.Arrival.{Arrival}
+use Rattle.lxr_live.specs.Arriving.{HasComeHome, IsHandedIn, Tells}
+use Rattle.lxr_live.specs.Stations.{IsNotOut, Lived, Stationed}
 use Rattle.lxr_live.specs.Gathering.{HaveEndedFrom, HoldGivenUp, IsUnclosed}
 use Rattle.lxr_live.specs.declared.settings.Settings.{Settings}
 use Rattle.lxr_live.specs.Heaps.{AreAsHandedIn, ComesToRest, HasOpened, HasPaused, HasPausedWith, Heaped, HeapsHaveHistories, IsAtRest, IsHeapOf, IsKept, IsRenewed, Pauses, PausesWith, Resumes, StandsFor, actors_of, paused_for, space_at, still_asked}
@@ -61,7 +63,7 @@ use Rattle.lxr_live.proofs.LivingLemmas.{live_as, live_given, live_run}
 use Rattle.lxr_live.proofs.IdleLemmas.{idle_behind}
 use Rattle.lxr_live.specs.Telling.{EndByNewest, EndsByNewest, HaveReplied}
 use Rattle.lxr_live.proofs.RecallLemmas.{answers_newest, newest_renewed}
-use Rattle.lxr_live.proofs.SeenLemmas.{seen_begins}
+use Rattle.lxr_live.proofs.SeenLemmas.{beginning_leads, seen_begins}
 use Rattle.lxr_live.proofs.TellingLemmas.{ends_newest, have_replied}
 
 -- ---- histories
@@ -111,7 +113,7 @@ resumed_same resumed.Memory before after is script h of = is.2.holds script h of
 
 -- An epoch of a run with these settings has come to this space and these actors: its mutators were asked for more by its end, and the history has gone
 -- on by calls alone.
-pub record RunsOn (settings : Settings) (script : Script) (h : List Item) (epoch : Sharing) (open_epoch : HasOpened (run_of settings script) h epoch) (handed : List (Option Stationed)) (space : Space) (actors : List AnyActor) : Type 0 where
+pub record RunsOn (settings : Settings) (script : Script) (h : List Item) (epoch : Sharing) (open_epoch : HasOpened (run_of settings script) h epoch) (handed : List (Option Arrival)) (space : Space) (actors : List AnyActor) : Type 0 where
   pub script' : Script
   pub goes_on : GoesOn script script'
   pub schedule : List Event
@@ -119,7 +121,8 @@ pub record RunsOn (settings : Settings) (script : Script) (h : List Item) (epoch
   pub told : calls ≡ (tell_all (beginning_of (run_of settings script) open_epoch.space h open_epoch.abstract_state) open_epoch.running.opened schedule).history
   pub come : mutators_in actors ≡ map given_up (mutators_in (run any_machine epoch.opening schedule).actors)
   pub seen : (number : ℕ) (s : Stationed) → IsHandedIn handed number s → IsSeen schedule number s.pass.seen
-  pub begins : (number : ℕ) (s : Stationed) → IsHandedIn handed number s
+  pub begun : (number : ℕ) (s : Stationed) → HasComeHome handed number s → (rest : List Event) × (schedule ≡ s.pass.seen ++ rest)
+  pub begins : (number : ℕ) (s : Stationed) → Tells handed number s
       → Extends (length script) settings.every (tell_all (beginning_of (run_of settings script) open_epoch.space h open_epoch.abstract_state) open_epoch.running.opened s.pass.seen).history calls
   pub extends : Extends (length script) settings.every h calls
   pub before : List AnyActor
@@ -128,7 +131,7 @@ pub record RunsOn (settings : Settings) (script : Script) (h : List Item) (epoch
   pub live : AreLive (mutators_in actors)
   pub newest : EndByNewest calls (mutators_in actors)
 
-module _ (settings : Settings) (script : Script) (h : List Item) (epoch : Sharing) (open_epoch : HasOpened (run_of settings script) h epoch) (handed : List (Option Stationed)) (space : Space) (actors : List AnyActor)
+module _ (settings : Settings) (script : Script) (h : List Item) (epoch : Sharing) (open_epoch : HasOpened (run_of settings script) h epoch) (handed : List (Option Arrival)) (space : Space) (actors : List AnyActor)
     (closes : ClosesLive (beginning_of (run_of settings script) open_epoch.space h open_epoch.abstract_state) epoch open_epoch.running handed space actors) where
   abbrev b : Beginning
   b = beginning_of (run_of settings script) open_epoch.space h open_epoch.abstract_state
@@ -204,8 +207,12 @@ module _ (settings : Settings) (script : Script) (h : List Item) (epoch : Sharin
         come = ap mutators_in closes.closes.gave ∙ given_mutators end.core.actors
             ∙ ap (λ (k : Core AnyActor). map given_up (mutators_in k.actors)) (ran_is ∙ ap (λ k. run any_machine k closes.schedule) open_epoch.running.core);
         seen = closes.seen;
-        begins = λ number s at. subst (λ n. Extends n settings.every (tell_all b open_epoch.running.opened s.pass.seen).history end.history) threads_are
-            (seen_begins b open_epoch.running.opened closes.schedule number s.pass.seen open_epoch.running.holds (closes.seen number s at));
+        begun = closes.begins;
+        begins = λ number s tells. subst (λ n. Extends n settings.every (tell_all b open_epoch.running.opened s.pass.seen).history end.history) threads_are
+            (elim tells [
+              | inl at ↦ seen_begins b open_epoch.running.opened closes.schedule number s.pass.seen open_epoch.running.holds (closes.seen number s at)
+              | inr at ↦ (let first = closes.begins number s at in beginning_leads b open_epoch.running.opened closes.schedule s.pass.seen first.0 open_epoch.running.holds first.1)
+            ]);
         extends = subst (λ n. Extends n settings.every h end.history) threads_are closes.closes.extends;
         before = open_epoch.actors;
         abstract_state = m;
@@ -217,7 +224,7 @@ module _ (settings : Settings) (script : Script) (h : List Item) (epoch : Sharin
       }
 
 -- where the epoch of a heap is closed for a pause, a run has made one
-pub epoch_made : (settings : Settings) (script : Script) (h : List Item) (epoch : Sharing) (open_epoch : HasOpened (run_of settings script) h epoch) (handed : List (Option Stationed)) (space : Space) (actors : List AnyActor)
+pub epoch_made : (settings : Settings) (script : Script) (h : List Item) (epoch : Sharing) (open_epoch : HasOpened (run_of settings script) h epoch) (handed : List (Option Arrival)) (space : Space) (actors : List AnyActor)
     → ((b : Beginning) (running : IsRunning b epoch) → ClosesLive b epoch running handed space actors) → RunsOn settings script h epoch open_epoch handed space actors
 epoch_made settings script h epoch open_epoch handed space actors closes =
     runs_on settings script h epoch open_epoch handed space actors (closes (beginning_of (run_of settings script) open_epoch.space h open_epoch.abstract_state) open_epoch.running)
@@ -299,7 +306,7 @@ newest_behind task report calls mutators space actors h g (inr behind) amid newe
     answers_newest (pace_of task.options) behind.collected mutators (mutators_in actors) behind.paused behind.answered (Pause report ∷ calls) h behind.answers newest
 
 -- and once the pause is made behind it, the heap stands for what that has led to
-pub has_paused : (handed : List (Option Stationed)) (settings : Settings) (script : Script) (h : List Item) (live : Lived) (now : Stage) (of : IsHeapOf script h (record { settings = settings; stage = stage.Within live })) (space : Space) (actors : List AnyActor)
+pub has_paused : (handed : List (Option Arrival)) (settings : Settings) (script : Script) (h : List Item) (live : Lived) (now : Stage) (of : IsHeapOf script h (record { settings = settings; stage = stage.Within live })) (space : Space) (actors : List AnyActor)
     → RunsOn settings script h live.epoch of.stands handed space actors
     → ((script : Script) (earlier : List AnyActor) (calls : List Item) (g : AbstractState) → HasRunEpoch (run_of settings script) space None None earlier actors calls g → EndByNewest calls (mutators_in actors) → ComesToRest settings script calls (mutators_in actors) now)
     → HasPaused script h (record { settings = settings; stage = stage.Within live }) of (record { settings = settings; stage = now })
@@ -321,7 +328,7 @@ has_paused handed settings script h live now of space actors on comes =
     }
 
 -- so it is with mutators that were handed in
-pub has_paused_with : (handed : List (Option Stationed)) (settings : Settings) (script : Script) (h : List Item) (live : Lived) (now : Stage) (of : IsHeapOf script h (record { settings = settings; stage = stage.Within live })) (space : Space) (actors : List AnyActor)
+pub has_paused_with : (handed : List (Option Arrival)) (settings : Settings) (script : Script) (h : List Item) (live : Lived) (now : Stage) (of : IsHeapOf script h (record { settings = settings; stage = stage.Within live })) (space : Space) (actors : List AnyActor)
     → RunsOn settings script h live.epoch of.stands handed space actors
     → ((script : Script) (earlier : List AnyActor) (calls : List Item) (g : AbstractState) → HasRunEpoch (run_of settings script) space None None earlier actors calls g → EndByNewest calls (mutators_in actors) → ComesToRest settings script calls (mutators_in actors) now)
     → AreAsHandedIn handed (mutators_in actors) → HasPausedWith handed script h (record { settings = settings; stage = stage.Within live }) of (record { settings = settings; stage = now })
@@ -330,6 +337,7 @@ has_paused_with handed settings script h live now of space actors on comes same 
   made = has_paused handed settings script h live now of space actors on comes;
   as_handed_in = same;
   seen = on.seen;
+  begun = on.begun;
   begins = on.begins;
 }
 
@@ -356,14 +364,14 @@ actors_many settings script h live of =
     ap (λ (k : Core AnyActor). length k.actors) (sym open_epoch.running.core) ∙ (omega arith)
 
 -- where an epoch is not closed, nothing has changed
-pub not_closed : (settings : Settings) (live : Lived) (handed : List (Option Stationed)) (reason : NotClosed) → length live.epoch.opening.actors ≡ actors_of settings → IsUnclosed (length live.epoch.opening.actors) 0 handed reason
+pub not_closed : (settings : Settings) (live : Lived) (handed : List (Option Arrival)) (reason : NotClosed) → length live.epoch.opening.actors ≡ actors_of settings → IsUnclosed (length live.epoch.opening.actors) 0 handed reason
     → (reason ≡ why.NotWanted → ¬ HaveEndedFrom (length live.epoch.opening.actors) 0 handed) → PausesWith handed (paused_for reason) (record { settings = settings; stage = stage.Within live }) (record { settings = settings; stage = stage.Within live })
 not_closed settings live handed (why.Away number) many (from, less, none) unended = ((tt, subst (λ n. number < n) many less, refl), none)
 not_closed settings live handed why.NotWanted many none unended = ((tt, refl), (λ number s at. none number s (omega arith) at), subst (λ n. ¬ HaveEndedFrom n 0 handed) many (unended refl))
 not_closed settings live handed why.Shared many is unended = (tt, refl)
 
 -- the wish for a pause with stations that are handed in is one for a pause
-pub pauses_alone : (handed : List (Option Stationed)) (p : Paused) (before after : Heaped) → PausesWith handed p before after → Pauses p before after
+pub pauses_alone : (handed : List (Option Arrival)) (p : Paused) (before after : Heaped) → PausesWith handed p before after → Pauses p before after
 pauses_alone handed paused.Made before after is = (is.0, λ script h of. (is.1 script h of).made)
 pauses_alone handed paused.NotWanted before after is = is.0
 pauses_alone handed (paused.Away number) before after is = is.0
@@ -373,7 +381,7 @@ pauses_alone handed paused.Ended before after is = is
 pauses_alone handed paused.Lost before after is = is
 
 -- mutators that were handed in are those of the pause, since mutators come first among actors
-pub as_handed_in : (handed : List (Option Stationed)) (actors : List AnyActor) → AreInOrder actors → HoldGivenUp handed actors → AreAsHandedIn handed (mutators_in actors)
+pub as_handed_in : (handed : List (Option Arrival)) (actors : List AnyActor) → AreInOrder actors → HoldGivenUp handed actors → AreAsHandedIn handed (mutators_in actors)
 as_handed_in handed actors order hold number s m at is = mutator_at actors number (given_up m) order (hold number s at ∙ ap (λ a. Some (actor_given_up a)) is)
 
 -- ---- the last report

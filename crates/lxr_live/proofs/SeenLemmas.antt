@@ -1,5 +1,5 @@
 -- The history of an epoch goes on by calls alone from what each pass has seen to what its end has led to.
-use Rattle.std.proofs.Common.{Bool, true, false, ◌≡◌, ◌∙◌, ℕ, zero, suc, ◌+◌, ◌≤◌, ◌⊎◌, inl, inr, refl, sym, ap, subst, arith, List, [], ◌∷◌, ◌++◌, length}
+use Rattle.std.proofs.Common.{Bool, true, false, ◌≡◌, ◌∙◌, ℕ, zero, suc, ◌+◌, ◌≤◌, ◌⊎◌, inl, inr, refl, sym, ap, subst, arith, List, [], ◌∷◌, ◌++◌, append_assoc, length}
 use Rattle.std.specs.Prelude.{Option, Some, None, if◌then◌else◌, slice_get}
 use Rattle.lxr_graph.specs.declared.Op.{Op}
 use Rattle.lxr_graph.specs.declared.Reply.{Reply}
@@ -17,7 +17,7 @@ use Rattle.lxr_core.specs.declared.actors.AnyActor.TheVariants as any
 use Rattle.lxr_core.specs.Executions.{Execution, HoldsExecution, after_step, epoch_state_of, tell, tell_all}
 use Rattle.lxr_core.proofs.ExecutionLemmas.{epoch_invariant_holds}
 use Rattle.lxr_shared_passes.specs.Passing.{Every, IsSeen, Opened, Passing}
-use Rattle.lxr_live.specs.Homes.{ArePassesFrom}
+use Rattle.lxr_live.specs.Homes.{ArePassesFrom, GoesOnFrom}
 
 -- ---- histories
 
@@ -81,12 +81,17 @@ module _ (b : Beginning) where
   tell_behind execution [] rest = refl
   tell_behind execution (e ∷ first) rest = tell_behind (tell b execution e) first rest
 
-  -- what was seen has led to a beginning of what the schedule has led to
-  pub seen_begins : (execution : Execution) (schedule : List Event) (number : ℕ) (seen : List Event) → HoldsExecution b execution → IsSeen schedule number seen
+  -- a beginning of the schedule has led to a beginning of what it has led to
+  pub beginning_leads : (execution : Execution) (schedule seen rest : List Event) → HoldsExecution b execution → schedule ≡ seen ++ rest
       → Extends (limits_of b).threads b.every (tell_all b execution seen).history (tell_all b execution schedule).history
-  seen_begins execution schedule number seen holds (rest, whole, none) =
+  beginning_leads execution schedule seen rest holds whole =
       subst (λ (x : Execution). Extends (limits_of b).threads b.every (tell_all b execution seen).history x.history) (sym (ap (tell_all b execution) whole ∙ tell_behind execution seen rest))
       (all_extend (tell_all b execution seen) rest (epoch_invariant_holds b execution seen holds).holds)
+
+  -- so has what was seen
+  pub seen_begins : (execution : Execution) (schedule : List Event) (number : ℕ) (seen : List Event) → HoldsExecution b execution → IsSeen schedule number seen
+      → Extends (limits_of b).threads b.every (tell_all b execution seen).history (tell_all b execution schedule).history
+  seen_begins execution schedule number seen holds (rest, whole, none) = beginning_leads execution schedule seen rest holds whole
 
 -- ---- passes
 
@@ -104,3 +109,7 @@ seen_at epoch passes are schedule all number p at = let first : 0 + number ≡ n
     from_on from (q ∷ ps) are all (suc k) p at =
         let place : suc from + k ≡ from + suc k = omega arith in
         subst (λ n. IsSeen schedule n p.seen) place (from_on (suc from) ps are.1 all.1 k p at)
+
+-- and of one that it goes on from, its schedule begins with what that one saw
+pub goes_on_begins : (schedule : List Event) (number : ℕ) (p q : Passing AnyActor) → GoesOnFrom p q → IsSeen schedule number q.seen → (rest : List Event) × (schedule ≡ p.seen ++ rest)
+goes_on_begins schedule number p q on (rest, whole, none) = (on.more ++ rest, whole ∙ ap (λ es. es ++ rest) on.seen ∙ append_assoc p.seen on.more rest)

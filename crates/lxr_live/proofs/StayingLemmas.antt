@@ -1,5 +1,5 @@
 -- An event of a pass leads its actor on from where the events before had led it, so what is done with a pass leaves it a pass of its epoch.
-use Rattle.std.proofs.Common.{Bool, ◌≡◌, ◌∙◌, ℕ, true, false, List, [], ◌∷◌, ◌++◌, Some, refl, sym, ap, subst}
+use Rattle.std.proofs.Common.{Bool, ◌≡◌, ◌∙◌, ℕ, true, false, List, [], ◌∷◌, ◌++◌, append_assoc, Some, refl, sym, ap, subst}
 use Rattle.std.specs.Prelude.{if◌then◌else◌, slice_get}
 use Rattle.std.proofs.lemmas.Option.{slice_get_within}
 use Rattle.lxr_graph.specs.declared.Op.{Op}
@@ -16,7 +16,10 @@ use Rattle.lxr_core.specs.Actors.{any_machine}
 use Rattle.lxr_shared_passes.specs.Passing.{Came, DoesStep, GoesOn, IsAt, Opened, Passing, Told, Turned}
 use Rattle.lxr_live.specs.declared.heap.Stage.TheVariants as stage
 use Rattle.lxr_live.specs.Heaps.{StaysPassOf}
-use Rattle.lxr_live.specs.Homes.{IsPassAt, StaysPass}
+use Rattle.atomic_table.specs.Seated.{TableId}
+use Rattle.lxr_live.specs.declared.homes.Absence.{Absence}
+use Rattle.lxr_live.specs.Homes.{GoesOnFrom, IsAbsent, IsPassAt, StaysPass}
+use Rattle.lxr_live.proofs.HomeLemmas.{goes_on_further, goes_on_same}
 use Rattle.lxr_live.specs.Stations.{Stationed, housed_in, table_of}
 
 -- a pass of an epoch, be it in a unit
@@ -87,6 +90,41 @@ order_rests (any.Tracer d) b o took is rests = ap (λ (t : AnyActor × Bool). an
 pub ordered_stays : (p : Passing AnyActor) (o : Op) (took : Bool) (q : Passing AnyActor) → Told any_machine p (Order p.number o) q → (q.actor, took) ≡ any_machine.ordered p.actor o → StaysPass p q
 ordered_stays p o took q told answer epoch number is =
     at_rest epoch number q (came_on epoch number p told.0 (Order p.number o) q refl told.1 (of_pass epoch number p is)) (order_rests p.actor q.actor o took answer is.rests)
+
+-- ---- what goes on
+
+-- behind an event a pass has seen more
+came_from : (p : Passing AnyActor) (others : List Event) (e : Event) (q : Passing AnyActor) → Came any_machine p others e q → GoesOnFrom p q
+came_from p others e q (none, at, is) = record {
+  same = record { epoch = ap (λ (r : Passing AnyActor). r.epoch) is; opening = ap (λ (r : Passing AnyActor). r.opening) is; number = ap (λ (r : Passing AnyActor). r.number) is };
+  more = others ++ e ∷ [];
+  seen = ap (λ (r : Passing AnyActor). r.seen) is ∙ append_assoc p.seen others (e ∷ []);
+}
+
+steps_from : (p : Passing AnyActor) (olds : List ℕ) (q : Passing AnyActor) → GoesOn any_machine p olds q → GoesOnFrom p q
+steps_from p [] q is = subst (GoesOnFrom p) (sym is) (goes_on_same p)
+steps_from p (old ∷ olds) q t = let d = t.1.1 in goes_on_further p t.1.0 q (came_from p d.1 (Step p.number) t.1.0 d.4) (steps_from t.1.0 olds q t.1.2)
+
+-- so it has behind a unit
+pub turned_from : (p : Passing AnyActor) (olds : List ℕ) (q : Passing AnyActor) → Turned any_machine p olds q → GoesOnFrom p q
+turned_from p [] q t = subst (GoesOnFrom p) (sym t.1) (goes_on_same p)
+turned_from p (old ∷ olds) q t = let d = t.1 in goes_on_further p t.0 q (came_from p d.1 (Step p.number) t.0 d.4) (steps_from t.0 olds q t.2)
+
+-- and behind an order
+pub told_from : (p : Passing AnyActor) (e : Event) (q : Passing AnyActor) → Told any_machine p e q → GoesOnFrom p q
+told_from p e q told = came_from p told.0 e q told.1
+
+-- so the pass may come home that the one may from which it goes on
+pub absent_on : (homes : TableId) (number : ℕ) (p q : Passing AnyActor) (a : Absence) → GoesOnFrom p q → IsAbsent homes number p a → IsAbsent homes number q a
+absent_on homes number p q a on away = record {
+  own = away.own;
+  within = away.within;
+  table = away.table;
+  place = away.place;
+  taken = away.taken;
+  tells = away.tells;
+  goes_on = goes_on_further away.taken p q away.goes_on on;
+}
 
 -- ---- stations
 

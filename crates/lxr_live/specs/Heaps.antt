@@ -1,5 +1,5 @@
 -- A heap that threads share: what it stands for wherever it stands, and what its calls do.
-use Rattle.std.specs.Prelude.{◌≡◌, true, ◌↔◌, ◌⊎◌, ℕ, ◌+◌, ◌*◌, ◌<◌, ◌≤◌, ⊤, None, Option, Some, List, [], ◌∷◌, drop, length, map, max, replicate, slice_get}
+use Rattle.std.specs.Prelude.{◌≡◌, true, ◌↔◌, ◌⊎◌, ℕ, ◌+◌, ◌*◌, ◌<◌, ◌≤◌, ⊤, None, Option, Some, List, [], ◌∷◌, ◌++◌, drop, length, map, max, replicate, slice_get}
 use Rattle.lxr_graph.specs.declared.report.Kind.TheVariants as kind
 use Rattle.lxr_layout.specs.declared.Name.{Name}
 use Rattle.lxr_graph.specs.declared.Op.{Op}
@@ -35,13 +35,15 @@ use Rattle.lxr_live.specs.declared.settings.Settings.{Settings}
 use Rattle.lxr_live.specs.declared.station.Answer.TheVariants as answer
 use Rattle.lxr_live.specs.declared.station.NotOut.{NotOut}
 use Rattle.lxr_live.specs.declared.station.NotOut.TheVariants as kept
+use Rattle.lxr_live.specs.declared.station.Arrival.{Arrival}
+use Rattle.lxr_live.specs.Arriving.{HasComeHome, IsHandedIn, Tells}
 use Rattle.lxr_live.specs.Gathering.{HaveEndedFrom}
 use Rattle.lxr_live.specs.Living.{AreLive}
 use Rattle.lxr_live.specs.Renewing.{IsRenewalDue}
 use Rattle.lxr_live.specs.Resting.{GoesOnBehind}
 use Rattle.lxr_live.specs.Running.{IsRunning, shown_of}
 use Rattle.lxr_live.specs.Settings.{AreSettings, run_of}
-use Rattle.lxr_live.specs.Stations.{HasAnswered, HasGoneOn, IsHandedIn, IsStationOf, Stationed, asked, housed_in, is_mutator, replied}
+use Rattle.lxr_live.specs.Stations.{HasAnswered, HasGoneOn, IsStationOf, Stationed, asked, housed_in, is_mutator, replied}
 use Rattle.lxr_live.specs.Telling.{EndByNewest, HaveReplied, TellsAnswer, TellsHistory}
 use Rattle.lxr_live.specs.Wanting.{Wants}
 
@@ -258,20 +260,22 @@ Pauses paused.Lost before after = (before.stage ≡ stage.Lost) × (after ≡ be
 
 -- Each mutator that was handed in is the one of its number, with all that it was asked for and all its replies: of it its log's entries and what it had
 -- drawn alone have gone.
-abbrev pub AreAsHandedIn : List (Option Stationed) → List Mutating → Type 0
+abbrev pub AreAsHandedIn : List (Option Arrival) → List Mutating → Type 0
 AreAsHandedIn handed mutators = (number : ℕ) (s : Stationed) (m : Mutating) → IsHandedIn handed number s → s.pass.actor ≡ any.Mutator m → slice_get mutators number ≡ Some (given_up m)
 
 -- A pause was made, and the mutators that were handed in are those of its history. Each station that was has seen a beginning of the schedule, with all
--- events of its own; so the history in which it told what it answered is a beginning of the pause's.
-pub record HasPausedWith (handed : List (Option Stationed)) (script : Script) (h : List Item) (before : Heaped) (of : IsHeapOf script h before) (after : Heaped) : Type 0 where
+-- events of its own, and each whose homecoming was handed in has seen a beginning. The history in which a station told what it answered is a beginning of the
+-- pause's; and so is that of each station whose homecoming was handed in, in which it told what it had answered when it came home.
+pub record HasPausedWith (handed : List (Option Arrival)) (script : Script) (h : List Item) (before : Heaped) (of : IsHeapOf script h before) (after : Heaped) : Type 0 where
   pub made : HasPaused script h before of after
   pub as_handed_in : AreAsHandedIn handed made.mutators
   pub seen : (number : ℕ) (s : Stationed) → IsHandedIn handed number s → IsSeen made.schedule number s.pass.seen
-  pub begins : (number : ℕ) (s : Stationed) → IsHandedIn handed number s → Extends (length script) before.settings.every (history_behind script h before of s.pass.seen) made.calls
+  pub begun : (number : ℕ) (s : Stationed) → HasComeHome handed number s → (rest : List Event) × (made.schedule ≡ s.pass.seen ++ rest)
+  pub begins : (number : ℕ) (s : Stationed) → Tells handed number s → Extends (length script) before.settings.every (history_behind script h before of s.pass.seen) made.calls
 
--- What has come of the wish for a pause with stations that are handed in: the same, but a pass that is away is none of theirs; and where no pause is wanted
--- none of them wants one, and not all are handed in with all mutators ended.
-abbrev pub PausesWith : List (Option Stationed) → Paused → Heaped → Heaped → Type 0
+-- What has come of the wish for a pause with stations and homecomings that are handed in: the same, but a pass that is away is none of a station's; and where
+-- no pause is wanted none of the stations wants one, and not all are handed in with all mutators ended.
+abbrev pub PausesWith : List (Option Arrival) → Paused → Heaped → Heaped → Type 0
 PausesWith handed paused.Made before after = IsWithin before.stage × ((script : Script) (h : List Item) (of : IsHeapOf script h before) → HasPausedWith handed script h before of after)
 PausesWith handed paused.NotWanted before after = Pauses paused.NotWanted before after × ((number : ℕ) (s : Stationed) → IsHandedIn handed number s → ¬ Wants s.pass.actor) × ¬ HaveEndedFrom (actors_of before.settings) 0 handed
 PausesWith handed (paused.Away number) before after = Pauses (paused.Away number) before after × ((s : Stationed) → ¬ IsHandedIn handed number s)

@@ -1,5 +1,5 @@
 -- Stations: passes that are out with threads, and what has come of the operations that they order.
-use Rattle.std.specs.Prelude.{◌≡◌, ◌↔◌, ℕ, zero, suc, ◌<◌, ◌≤◌, ◌⊎◌, Bool, true, false, Option, None, Some, List, [], ◌∷◌, ◌++◌, IsTrue, length, slice_get}
+use Rattle.std.specs.Prelude.{◌≡◌, ◌↔◌, ℕ, zero, suc, ◌<◌, ◌≤◌, ◌⊎◌, Bool, true, false, Option, None, Some, List, [], ◌∷◌, ◌++◌, IsTrue, length, option_map}
 use Rattle.atomic_table.specs.Seated.{TableId}
 use Rattle.lxr_graph.specs.declared.Op.{Op}
 use Rattle.lxr_graph.specs.declared.Reply.{Reply}
@@ -22,7 +22,8 @@ use Rattle.lxr_live.specs.declared.station.Answer.{Answer}
 use Rattle.lxr_live.specs.declared.station.Answer.TheVariants as answer
 use Rattle.lxr_live.specs.declared.station.NotOut.{NotOut}
 use Rattle.lxr_live.specs.declared.station.NotOut.TheVariants as kept
-use Rattle.lxr_live.specs.Homes.{IsAbsent, IsPassAt}
+use Rattle.lxr_live.specs.declared.homes.Note.{Note}
+use Rattle.lxr_live.specs.Homes.{IsAbsent, IsPassAt, brought_in}
 use Rattle.lxr_live.specs.Wanting.{HasEnded, IsHeldUp}
 
 -- what threads share of an epoch: its name, the words and actors that it was opened with, and the name of its homes
@@ -59,20 +60,14 @@ pub record IsSameStation (s t : Stationed) : Type 0 where
   pub pass : IsSamePass s.pass t.pass
   pub homes : t.homes ≡ s.homes
 
--- ---- stations that are handed in, each in the place of its number
-
--- a station is handed in for this number
-abbrev pub IsHandedIn : List (Option Stationed) → ℕ → Stationed → Type 0
-IsHandedIn handed number s = slice_get handed number ≡ Some (Some s)
-
--- those that are handed in are of this epoch, each for its number
-abbrev pub AreStationsOf : Housed → List (Option Stationed) → Type 0
-AreStationsOf epoch handed = (number : ℕ) (s : Stationed) → IsHandedIn handed number s → IsStationOf epoch number s
-
 -- a pass of this epoch that is away from its home
 pub record IsOut (epoch : Housed) (a : Absence) (p : Passing AnyActor) : Type 0 where
   pub pass : IsPassAt (table_of epoch) a.number p
-  pub absent : IsAbsent epoch.homes a.number a
+  pub absent : IsAbsent epoch.homes a.number p a
+
+-- the station whose pass was brought home to these homes, where a seat tells of one
+abbrev pub homed_in : TableId → Note → Option Stationed
+homed_in homes told = option_map (λ p. record { pass = p; homes = homes }) (brought_in told)
 
 -- why a pass of this number is not let out, where there are so many
 abbrev pub IsNotOut : ℕ → ℕ → NotOut → Type 0

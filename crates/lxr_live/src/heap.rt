@@ -11,7 +11,8 @@ ghost use Rattle.lxr_core.specs.Actors.{mutators_in, script_of};
 ghost use Rattle.lxr_live.specs.Living.{AreLive};
 ghost use Rattle.lxr_live.specs.Resting.{HasMadeEpoch};
 ghost use Rattle.lxr_live.specs.Settings.{AreSettings, run_of};
-ghost use Rattle.lxr_live.specs.Stations.{AreStationsOf, IsHandedIn, Stationed, housed_in};
+ghost use Rattle.lxr_live.specs.Arriving.{AreArrivalsOf, Tells};
+ghost use Rattle.lxr_live.specs.Stations.{Stationed, housed_in};
 ghost use Rattle.lxr_live.specs.Telling.{EndByNewest};
 
 use crate::live::{Live, NotClosed, Unclosed};
@@ -20,7 +21,7 @@ use crate::packed::Packed;
 use crate::pausing::rest;
 use crate::renewing::{renew_where_due, some_waits};
 use crate::settings::Settings;
-use crate::station::{NotOut, Station};
+use crate::station::{Arrival, NotOut, Station};
 use lxr_core::AnyActor;
 use lxr_graph::Report;
 use lxr_image::Space;
@@ -186,27 +187,29 @@ impl Heap {
         self.pause_by(&mut [], watch)
     }
 
-    /// As `pause`, with stations that threads hand in, the k-th place for the pass of number k: a place may be empty, and the list may be short. Each
-    /// is to be of the epoch that is open, which one owner of the heap knows, and nobody behind a lock. A pass that is handed in needn't be at home.
-    /// The history in which each told what it answered is a beginning of the pause's, which so has the replies of all. Where no pause is made, the
-    /// passes that were handed in are at home, which no clause says.
+    /// As `pause`, with what threads hand in, the k-th place for the pass of number k: its station, or the homecoming of one; a place may be empty, and the
+    /// list may be short. Each is to be of the epoch that is open, which one owner of the heap knows, and nobody behind a lock. The pass of a station that
+    /// is handed in needn't be at home. The history in which each station told what it answered, or had answered when it came home, is a beginning of the
+    /// pause's, which so has the replies of all. One is handed in for each number. That a station goes on from a homecoming of its number no clause says,
+    /// and where no pause is made the homecomings are gone. Where none is made passes which were handed in, or were at home, are at home, which no clause
+    /// says either.
     ///
-    /// `Away` is answered of no pass that is handed in, and `NotWanted` not where one of them is of a mutator that is held up or has asked, nor where
-    /// all are handed in and all mutators have ended.
-    pub fn pause_with(&mut self, mut stations: Vec<Option<Station>>) -> Paused
-        requires { (number : ℕ) (s : Stationed) → IsHandedIn stations.items number s → IsPassOf self.old.stage number s }
-        ensures { PausesWith stations.items result self.old self.new }
+    /// `Away` is answered of no pass whose station is handed in, and `NotWanted` not where one of them is of a mutator that is held up or has asked, nor
+    /// where all are handed in and all mutators have ended.
+    pub fn pause_with(&mut self, mut arrivals: Vec<Option<Arrival>>) -> Paused
+        requires { (number : ℕ) (s : Stationed) → Tells arrivals.items number s → IsPassOf self.old.stage number s }
+        ensures { PausesWith arrivals.items result self.old self.new }
     {
-        self.pause_by(&mut stations, &mut Unseen)
+        self.pause_by(&mut arrivals, &mut Unseen)
     }
 
-    /// The pause with stations that are handed in, which a watch looks at.
-    fn pause_by<W: Watch>(&mut self, stations: &mut [Option<Station>], watch: &mut W) -> Paused
-        requires { (number : ℕ) (s : Stationed) → IsHandedIn stations.old number s → IsPassOf self.old.stage number s }
-        ensures { PausesWith stations.old result self.old self.new }
+    /// The pause with what is handed in, which a watch looks at.
+    fn pause_by<W: Watch>(&mut self, arrivals: &mut [Option<Arrival>], watch: &mut W) -> Paused
+        requires { (number : ℕ) (s : Stationed) → Tells arrivals.old number s → IsPassOf self.old.stage number s }
+        ensures { PausesWith arrivals.old result self.old self.new }
     {
         let stage = mem::replace(&mut self.stage, Stage::Lost);
-        let (stage, paused) = stage.paused(stations, self.settings, watch);
+        let (stage, paused) = stage.paused(arrivals, self.settings, watch);
         self.stage = stage;
         paused
     }
@@ -278,19 +281,19 @@ impl Stage {
     /// The epoch that is open ends with a pause.
     fn paused<W: Watch>(
         self,
-        stations: &mut [Option<Station>],
+        arrivals: &mut [Option<Arrival>],
         settings: Settings,
         watch: &mut W,
     ) -> (Stage, Paused)
         requires heap { (script : Script) × (h : List Item) × IsHeapOf script h (record { settings = settings; stage = self }) }
-        requires handed { (number : ℕ) (s : Stationed) → IsHandedIn stations.old number s → IsPassOf self number s }
-        ensures { PausesWith stations.old result.1 (record { settings = settings; stage = self }) (record { settings = settings; stage = result.0 }) }
+        requires handed { (number : ℕ) (s : Stationed) → Tells arrivals.old number s → IsPassOf self number s }
+        ensures { PausesWith arrivals.old result.1 (record { settings = settings; stage = self }) (record { settings = settings; stage = result.0 }) }
     {
         match self {
             Stage::Between { space, actors } => {
                 (Stage::Between { space, actors }, Paused::NotRunning)
             }
-            Stage::Within(live) => close_and_pause(live, stations, settings, watch),
+            Stage::Within(live) => close_and_pause(live, arrivals, settings, watch),
             Stage::Ended { space, actors } => (Stage::Ended { space, actors }, Paused::Ended),
             Stage::Lost => (Stage::Lost, Paused::Lost),
         }
@@ -300,15 +303,15 @@ impl Stage {
 /// Ends an epoch with a pause, where one is wanted and each pass is handed in or at home.
 fn close_and_pause<W: Watch>(
     live: Live,
-    stations: &mut [Option<Station>],
+    arrivals: &mut [Option<Arrival>],
     settings: Settings,
     watch: &mut W,
 ) -> (Stage, Paused)
     requires heap { (script : Script) × (h : List Item) × IsHeapOf script h (record { settings = settings; stage = Stage.Within live }) }
-    requires handed { AreStationsOf (housed_in live) stations.old }
-    ensures { PausesWith stations.old result.1 (record { settings = settings; stage = Stage.Within live }) (record { settings = settings; stage = result.0 }) }
+    requires handed { AreArrivalsOf (housed_in live) arrivals.old }
+    ensures { PausesWith arrivals.old result.1 (record { settings = settings; stage = Stage.Within live }) (record { settings = settings; stage = result.0 }) }
 {
-    match live.close(stations) {
+    match live.close(arrivals) {
         Ok((space, actors)) => (pause_behind(space, actors, settings, watch), Paused::Made),
         Err(Unclosed { live, why }) => (Stage::Within(live), paused_for(why)),
     }

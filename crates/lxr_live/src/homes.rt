@@ -2,14 +2,19 @@
 //!
 //! Each home has a word, which is 1 while its pass is there. Who finds 1 as it writes 0 has the pass, and with it the right to
 //! put the pass back and to write 1 again. So a pass is taken by one swap and brought back by one store, and nobody waits.
-ghost use Rattle.std.specs.Prelude.{◌≡◌, ℕ, ◌+◌, ◌<◌, ◌≤◌, ◌++◌, IfOk, IfSome, List, Some, [], length, map, replicate, vec_len, vec_capacity};
-ghost use Rattle.lxr_live.specs.Homes.{ArePassesFrom, IsAbsent, IsPassAt};
+ghost use Rattle.std.specs.Prelude.{◌≡◌, ℕ, ◌+◌, ◌<◌, ◌≤◌, ◌++◌, IfOk, IfSome, List, Some, [], length, map, replicate, vec_len, vec_capacity, ◌∷◌};
+ghost use Rattle.lxr_core.specs.declared.actors.AnyActor.{AnyActor};
+ghost use Rattle.lxr_shared_passes.specs.Passing.{Passing};
+ghost use Rattle.lxr_live.specs.declared.homes.Note.TheVariants as note;
+ghost use Rattle.lxr_live.specs.Homes.{ArePassesFrom, GoesOnFrom, IsAbsent, IsPassAt};
+ghost use Rattle.lxr_live.specs.Stations.{Stationed};
 
 use atomic_table::{Play, Refused, Seat, Table, TableRule};
 use lxr_core::AnyActor;
 use lxr_shared::Pass;
 use lxr_shared_passes::Epoch;
 use std::alloc::{AllocError, Global};
+use std::marker::Model;
 
 /// The word of a home whose pass is away.
 const AWAY: u64 = 0;
@@ -17,46 +22,89 @@ const AWAY: u64 = 0;
 /// The word of a home whose pass is there.
 const THERE: u64 = 1;
 
-/// What holds of the homes of an epoch, whose table they are told of: a home that says that its pass is there has it.
+/// What a seat tells of what was done with it, which proofs alone read.
+pub(crate) enum Note {
+    /// Nothing, at the homes of this epoch.
+    Idle(Epoch<AnyActor>),
+    /// It took this pass out of its home, and holds the place.
+    Took(Pass),
+    /// It brought this pass home.
+    Brought(Pass),
+}
+
+/// What holds of an epoch's homes: one that says that its pass is there has it, one that doesn't is that of a pass which some seat has taken and not
+/// brought back, and a pass goes on from each that was brought to its home.
 pub(crate) struct Waiting;
 
-impl TableRule<Option<Pass>, Epoch<AnyActor>, Epoch<AnyActor>> for Waiting {
+impl TableRule<Option<Pass>, Note, Epoch<AnyActor>> for Waiting {
     ghost use Rattle.lxr_live.specs.Homes.{HaveHomes};
+    ghost use Rattle.lxr_live.specs.declared.homes.Note.TheVariants as note;
 
     ghost holds = { λ epoch. HaveHomes epoch };
 
-    ghost first = { λ epoch. epoch };
+    ghost first = { λ epoch. note.Idle epoch };
 }
 
-/// A new seat takes the pass that is at home.
+/// A seat takes the pass that is at home.
 struct Takes;
 
-impl Play<Option<Pass>, Epoch<AnyActor>> for Takes {
+impl Play<Option<Pass>, Note> for Takes {
     ghost use Rattle.std.specs.Prelude.{◌≡◌};
     ghost use Rattle.lxr_live.specs.Homes.{TakesOut};
 
     ghost then = { λ st m r n. r ≡ 1 → TakesOut m.0 st.word n };
 }
 
-/// A seat puts back what it took.
+/// A seat puts a pass back, and tells which.
 struct Brings;
 
-impl Play<Option<Pass>, Epoch<AnyActor>> for Brings {
-    ghost then = { λ st m r n. Unit {0} };
+impl Play<Option<Pass>, Note> for Brings {
+    ghost use Rattle.lxr_live.specs.Homes.{PutsBack};
+
+    ghost then = { λ st m r n. PutsBack m n };
 }
 
 /// The homes of all passes of an epoch.
 #[derive(Drop)]
 pub(crate) struct Homes {
-    pub(crate) table: Table<Option<Pass>, Epoch<AnyActor>, Epoch<AnyActor>, Waiting, Global>,
+    pub(crate) table: Table<Option<Pass>, Note, Epoch<AnyActor>, Waiting, Global>,
     count: usize,
     ghost sized: { (table.shared.table_id.words ≡ count) × (table.shared.table_id.slots ≡ count) },
 }
 
 /// That a pass is away from its home, and the right to bring it back. It has no `Drop`, so that no pass is forgotten.
 pub(crate) struct Absence {
-    pub(crate) number: usize,
-    pub(crate) seat: Seat<Option<Pass>, Epoch<AnyActor>>,
+    number: usize,
+    seat: Seat<Option<Pass>, Note>,
+}
+
+impl Absence {
+    /// The number of the pass that is away.
+    #[inline(always)]
+    pub(crate) fn number(&self) -> usize
+        ensures { result ≡ self.now.number }
+    {
+        self.number
+    }
+}
+
+/// That a pass was brought home, and which: its value is the station that came home. Nothing but bringing a pass home makes one. It holds no share of the
+/// epoch, and dropping it does nothing.
+#[derive(Drop)]
+pub struct Homecoming {
+    seat: Seat<Option<Pass>, Note>,
+}
+
+impl Model for Homecoming {
+    ghost use Rattle.std.specs.Prelude.{◌≡◌, Option, [], IsSome};
+    ghost use Rattle.lxr_live.specs.Homes.{brought_in};
+    ghost use Rattle.lxr_live.specs.Stations.{Stationed, homed_in};
+
+    ghost Value = { Option Stationed };
+
+    ghost view = { λ h. homed_in h.seat.table_id h.seat.me.0 };
+
+    ghost invariant = { λ h. (h.seat.me.1 ≡ []) × IsSome (brought_in h.seat.me.0) };
 }
 
 impl Homes {
@@ -91,25 +139,56 @@ impl Homes {
     pub(crate) fn take(&self, number: usize) -> Option<(Pass, Absence)>
         requires { number < self.now.table.shared.table_id.slots }
         ensures pass { IfSome result (λ taken. IsPassAt self.now.table.shared.key number taken.0) }
-        ensures absence { IfSome result (λ taken. IsAbsent self.now.table.shared.table_id number taken.1) }
+        ensures absence { IfSome result (λ taken. IsAbsent self.now.table.shared.table_id number taken.0 taken.1) }
     {
-        let (found, mut seat) = self.table.shared.swap_new_seat::<Takes>(number, AWAY);
+        let (found, seat) = self.table.shared.swap_new_seat::<Takes>(number, AWAY);
         if found != THERE {
             return None;
         }
+        Some(self.receive(number, seat))
+    }
+
+    /// Takes the pass of a number out of its home, if it is there, by the seat that brought one home there before: the pass goes on from that one.
+    pub(crate) fn take_behind(
+        &self,
+        number: usize,
+        homecoming: Homecoming,
+    ) -> Option<(Pass, Absence)>
+        requires number { number < self.now.table.shared.table_id.slots }
+        requires homecoming { (s : Stationed) → homecoming ≡ Some s → (s.homes ≡ self.now.table.shared.table_id) × IsPassAt self.now.table.shared.key number s.pass }
+        ensures pass { IfSome result (λ taken. IsPassAt self.now.table.shared.key number taken.0) }
+        ensures absence { IfSome result (λ taken. IsAbsent self.now.table.shared.table_id number taken.0 taken.1) }
+        ensures goes_on { IfSome result (λ taken. (s : Stationed) → homecoming ≡ Some s → GoesOnFrom s.pass taken.0) }
+    {
+        let Homecoming { mut seat } = homecoming;
+        if self.table.shared.swap::<Takes>(&mut seat, number, AWAY) != THERE {
+            return None;
+        }
+        Some(self.receive(number, seat))
+    }
+
+    /// The pass that a seat has taken out of its home.
+    #[inline(always)]
+    fn receive(&self, number: usize, mut seat: Seat<Option<Pass>, Note>) -> (Pass, Absence)
+        requires { (number < self.now.table.shared.table_id.slots) × (seat.table_id ≡ self.now.table.shared.table_id) × (p : Passing AnyActor) × (seat.me.1 ≡ (number, Some p) ∷ []) × (seat.me.0 ≡ note.Took p) }
+        ensures pass { seat.me.0 ≡ note.Took result.0 }
+        ensures absence { IsAbsent self.now.table.shared.table_id number result.0 result.1 }
+    {
         let pass = self.table.shared.exchange(&mut seat, number, None).unwrap();
-        Some((pass, Absence { number, seat }))
+        (pass, Absence { number, seat })
     }
 
     /// Brings a pass back to the home that it is away from.
     #[inline(always)]
-    pub(crate) fn bring(&self, pass: Pass, absence: Absence)
+    pub(crate) fn bring(&self, pass: Pass, absence: Absence) -> Homecoming
         requires pass { IsPassAt self.now.table.shared.key absence.number pass }
-        requires absence { IsAbsent self.now.table.shared.table_id absence.number absence }
+        requires absence { IsAbsent self.now.table.shared.table_id absence.number pass absence }
+        ensures { result ≡ Some (record { pass = pass; homes = self.now.table.shared.table_id }) }
     {
         let Absence { number, mut seat } = absence;
         drop(self.table.shared.exchange(&mut seat, number, Some(pass)));
         self.table.shared.store::<Brings>(&mut seat, number, THERE);
+        Homecoming { seat }
     }
 
     /// Lets go of an absence: who alone has the homes ends them, and no pass comes back.

@@ -23,5 +23,6 @@ mod station;
 mod wanted;
 
 pub use heap::{Heap, Paused, Refused, Resumed};
+pub use homes::Homecoming;
 pub use settings::Settings;
-pub use station::{Answer, NotOut, Station};
+pub use station::{Answer, Arrival, NotOut, Station};

@@ -1,5 +1,5 @@
 //! An epoch of live mutators, as its owner has it.
-ghost use Rattle.std.specs.Prelude.{◌≡◌, ◌<◌, ◌≤◌, IfErr, IfOk, IfSome, None, Some, length, map, option_map, slice_set, vec_len, vec_capacity};
+ghost use Rattle.std.specs.Prelude.{◌≡◌, ◌<◌, ◌≤◌, IfErr, IfOk, IfSome, None, Some, length, map, option_map, slice_get, slice_set, vec_len, vec_capacity};
 ghost use Rattle.std.specs.Arc.{arc_value};
 ghost use Rattle.lxr_core_invariant.specs.EpochStates.{Beginning};
 ghost use Rattle.lxr_actor.specs.Run.{AlwaysFits, core_of};
@@ -10,13 +10,15 @@ ghost use Rattle.lxr_core.specs.Opening.{Begins};
 ghost use Rattle.lxr_shared.specs.Ends.{HaveEnds};
 ghost use Rattle.lxr_shared.specs.Sharing.{sharing};
 ghost use Rattle.lxr_live.specs.Gathering.{AreAll, AreGathered, HaveEndedFrom, HoldGivenUp, IsUnclosed, IsUnwanted, actors_in};
-ghost use Rattle.lxr_live.specs.Homes.{IsAbsent, IsPassAt};
+ghost use Rattle.lxr_live.specs.Homes.{GoesOnFrom, IsAbsent, IsPassAt};
 ghost use Rattle.lxr_live.specs.Running.{BeganWith, ClosesEach, ClosesLive, IsRunning};
-ghost use Rattle.lxr_live.specs.Stations.{AreStationsOf, IsHandedIn, IsNotOut, IsStationOf, Stationed, housed_in, table_of};
+ghost use Rattle.lxr_live.specs.declared.station.Arrival.{Arrival};
+ghost use Rattle.lxr_live.specs.Arriving.{AreArrivalsOf, HasComeHome, IsHandedIn};
+ghost use Rattle.lxr_live.specs.Stations.{IsNotOut, IsStationOf, Stationed, housed_in, table_of};
 
 use crate::homes::{Absence, Homes};
 use crate::shared::Shared;
-use crate::station::{NotOut, Station};
+use crate::station::{Arrival, NotOut, Station};
 use crate::wanted::is_pause_wanted;
 use lxr_core::{AnyActor, close_epoch, open_epoch};
 use lxr_image::Space;
@@ -94,22 +96,22 @@ impl Live {
     /// no memory.
     pub(crate) fn close(
         self,
-        stations: &mut [Option<Station>],
+        arrivals: &mut [Option<Arrival>],
     ) -> Result<(Space, Vec<AnyActor>), Unclosed>
         requires running { (b : Beginning) × IsRunning b self.epoch }
-        requires handed { AreStationsOf (housed_in self) stations.old }
-        ensures closed { IfOk result (λ left. (b : Beginning) (running : IsRunning b self.epoch) → ClosesLive b self.epoch running stations.old left.0 left.1.items) }
-        ensures handed { IfOk result (λ left. HoldGivenUp stations.old left.1.items) }
+        requires handed { AreArrivalsOf (housed_in self) arrivals.old }
+        ensures closed { IfOk result (λ left. (b : Beginning) (running : IsRunning b self.epoch) → ClosesLive b self.epoch running arrivals.old left.0 left.1.items) }
+        ensures handed { IfOk result (λ left. HoldGivenUp arrivals.old left.1.items) }
         ensures kept { IfErr result (λ unclosed. unclosed.live ≡ self) }
-        ensures why { IfErr result (λ unclosed. IsUnclosed (length self.epoch.opening.actors) 0 stations.old unclosed.why) }
-        ensures unended { IfErr result (λ unclosed. unclosed.why ≡ NotClosed.NotWanted → ¬ HaveEndedFrom (length self.epoch.opening.actors) 0 stations.old) }
+        ensures why { IfErr result (λ unclosed. IsUnclosed (length self.epoch.opening.actors) 0 arrivals.old unclosed.why) }
+        ensures unended { IfErr result (λ unclosed. unclosed.why ≡ NotClosed.NotWanted → ¬ HaveEndedFrom (length self.epoch.opening.actors) 0 arrivals.old) }
     {
         let Live {
             shared,
             aside,
             mut passes,
         } = self;
-        match gather(shared, 0, &mut passes, stations) {
+        match gather(shared, 0, &mut passes, arrivals) {
             Ok(last) => Ok(finish(last, aside, passes)),
             Err((shared, why)) => Err(Unclosed {
                 live: Live {
@@ -157,34 +159,37 @@ fn finish(last: Shared, aside: Aside, passes: Vec<Pass>) -> (Space, Vec<AnyActor
     (space, actors)
 }
 
-/// Takes the station out of the place of a number, if there is one.
-fn take_station(stations: &mut [Option<Station>], number: usize) -> Option<Station>
-    ensures some { IfSome result (λ s. IsHandedIn stations.old number s) }
-    ensures each { (s : Stationed) → IsHandedIn stations.old number s → result ≡ Some s }
-    ensures left { stations.new ≡ slice_set stations.old number None }
+/// Takes what arrives in the place of a number out of it, if something does.
+fn take_arrival(arrivals: &mut [Option<Arrival>], number: usize) -> Option<Arrival>
+    ensures some { IfSome result (λ x. slice_get arrivals.old number ≡ Some (Some x)) }
+    ensures each { (x : Arrival) → slice_get arrivals.old number ≡ Some (Some x) → result ≡ Some x }
+    ensures left { arrivals.new ≡ slice_set arrivals.old number None }
 {
-    if number < stations.len() {
-        stations[number].take()
+    if number < arrivals.len() {
+        arrivals[number].take()
     } else {
         None
     }
 }
 
-/// The pass of a number: that of the station in its place, which is taken out of it, or else the one that is at home, if it is there.
+/// The pass of a number: that of the station in its place, which is taken out of it, or else the one that is at home, if it is there. Where a homecoming is
+/// in its place, the pass that is at home goes on from the one that was brought.
 fn take_pass(
     shared: &Shared,
     number: usize,
-    stations: &mut [Option<Station>],
+    arrivals: &mut [Option<Arrival>],
 ) -> Option<(Pass, Absence)>
     requires number { number < length shared.now.opening.actors }
-    requires handed { AreStationsOf shared.now stations.old }
+    requires handed { AreArrivalsOf shared.now arrivals.old }
     ensures pass { IfSome result (λ taken. IsPassAt (table_of shared.now) number taken.0) }
-    ensures absence { IfSome result (λ taken. IsAbsent shared.now.homes number taken.1) }
-    ensures handed { (s : Stationed) → IsHandedIn stations.old number s → option_map (λ taken. taken.0) result ≡ Some s.pass }
-    ensures left { stations.new ≡ slice_set stations.old number None }
+    ensures absence { IfSome result (λ taken. IsAbsent shared.now.homes number taken.0 taken.1) }
+    ensures handed { (s : Stationed) → IsHandedIn arrivals.old number s → option_map (λ taken. taken.0) result ≡ Some s.pass }
+    ensures come_home { IfSome result (λ taken. (s : Stationed) → HasComeHome arrivals.old number s → GoesOnFrom s.pass taken.0) }
+    ensures left { arrivals.new ≡ slice_set arrivals.old number None }
 {
-    match take_station(stations, number) {
-        Some(station) => Some(station.into_pass()),
+    match take_arrival(arrivals, number) {
+        Some(Arrival::Out(station)) => Some(station.into_pass()),
+        Some(Arrival::Home(homecoming)) => shared.take_behind(number, homecoming),
         None => shared.take(number),
     }
 }
@@ -195,16 +200,16 @@ fn gather(
     shared: Arc<Shared, Global>,
     number: usize,
     passes: &mut Vec<Pass>,
-    stations: &mut [Option<Station>],
+    arrivals: &mut [Option<Arrival>],
 ) -> Result<Shared, (Arc<Shared, Global>, NotClosed)>
     requires number { number ≤ length (arc_value shared).opening.actors }
     requires taken { vec_len passes.old ≡ number }
     requires room { length (arc_value shared).opening.actors ≤ vec_capacity passes.old }
-    requires handed { AreStationsOf (arc_value shared) stations.old }
-    ensures all { IfOk result (λ last. (last ≡ arc_value shared) × AreGathered (arc_value shared) number stations.old passes.old.items passes.new.items) }
+    requires handed { AreArrivalsOf (arc_value shared) arrivals.old }
+    ensures all { IfOk result (λ last. (last ≡ arc_value shared) × AreGathered (arc_value shared) number arrivals.old passes.old.items passes.new.items) }
     ensures none { IfErr result (λ kept. (kept.0 ≡ shared) × (passes.new.items ≡ passes.old.items)) }
-    ensures why { IfErr result (λ kept. IsUnclosed (length (arc_value shared).opening.actors) number stations.old kept.1) }
-    ensures unwanted { IfErr result (λ kept. kept.1 ≡ NotClosed.NotWanted → IsUnwanted (length (arc_value shared).opening.actors) number stations.old passes.old.items) }
+    ensures why { IfErr result (λ kept. IsUnclosed (length (arc_value shared).opening.actors) number arrivals.old kept.1) }
+    ensures unwanted { IfErr result (λ kept. kept.1 ≡ NotClosed.NotWanted → IsUnwanted (length (arc_value shared).opening.actors) number arrivals.old passes.old.items) }
     ensures room { vec_capacity passes.new ≡ vec_capacity passes.old }
 {
     if number >= shared.count() {
@@ -216,17 +221,17 @@ fn gather(
             Err(shared) => Err((shared, NotClosed::Shared)),
         };
     }
-    let Some((pass, absence)) = take_pass(&shared, number, stations) else {
+    let Some((pass, absence)) = take_pass(&shared, number, arrivals) else {
         return Err((shared, NotClosed::Away(number)));
     };
     passes.push_reserved(pass);
-    match gather(shared, number + 1, passes, stations) {
+    match gather(shared, number + 1, passes, arrivals) {
         Ok(last) => Ok(last.let_go(absence)),
         Err((shared, why)) => {
             let Some(pass) = passes.pop() else {
                 unreachable!()
             };
-            shared.bring(pass, absence);
+            drop(shared.bring(pass, absence));
             Err((shared, why))
         }
     }

@@ -1,9 +1,9 @@
 //! What the threads of an epoch share.
-ghost use Rattle.std.specs.Prelude.{◌≡◌, ◌<◌, length, IfSome};
-ghost use Rattle.lxr_live.specs.Homes.{IsAbsent, IsPassAt};
-ghost use Rattle.lxr_live.specs.Stations.{table_of};
+ghost use Rattle.std.specs.Prelude.{◌≡◌, ◌<◌, Some, length, IfSome};
+ghost use Rattle.lxr_live.specs.Homes.{GoesOnFrom, IsAbsent, IsPassAt};
+ghost use Rattle.lxr_live.specs.Stations.{IsStationOf, Stationed, table_of};
 
-use crate::homes::{Absence, Homes};
+use crate::homes::{Absence, Homecoming, Homes};
 use lxr_core::AnyActor;
 use lxr_shared::Pass;
 use lxr_shared_passes::Epoch;
@@ -57,18 +57,34 @@ impl Shared {
     pub(crate) fn take(&self, number: usize) -> Option<(Pass, Absence)>
         requires { number < length self.now.opening.actors }
         ensures pass { IfSome result (λ taken. IsPassAt (table_of self.now) number taken.0) }
-        ensures absence { IfSome result (λ taken. IsAbsent self.now.homes number taken.1) }
+        ensures absence { IfSome result (λ taken. IsAbsent self.now.homes number taken.0 taken.1) }
     {
         self.homes.take(number)
     }
 
+    /// Takes the pass of a number out of its home, if it is there, behind one that was brought home there before: the pass goes on from that one.
+    pub(crate) fn take_behind(
+        &self,
+        number: usize,
+        homecoming: Homecoming,
+    ) -> Option<(Pass, Absence)>
+        requires number { number < length self.now.opening.actors }
+        requires homecoming { (s : Stationed) → homecoming ≡ Some s → IsStationOf self.now number s }
+        ensures pass { IfSome result (λ taken. IsPassAt (table_of self.now) number taken.0) }
+        ensures absence { IfSome result (λ taken. IsAbsent self.now.homes number taken.0 taken.1) }
+        ensures goes_on { IfSome result (λ taken. (s : Stationed) → homecoming ≡ Some s → GoesOnFrom s.pass taken.0) }
+    {
+        self.homes.take_behind(number, homecoming)
+    }
+
     /// Brings a pass back to the home that it is away from.
     #[inline(always)]
-    pub(crate) fn bring(&self, pass: Pass, absence: Absence)
+    pub(crate) fn bring(&self, pass: Pass, absence: Absence) -> Homecoming
         requires pass { IsPassAt (table_of self.now) absence.number pass }
-        requires absence { IsAbsent self.now.homes absence.number absence }
+        requires absence { IsAbsent self.now.homes absence.number pass absence }
+        ensures { result ≡ Some (record { pass = pass; homes = self.now.homes }) }
     {
-        self.homes.bring(pass, absence);
+        self.homes.bring(pass, absence)
     }
 
     /// The table alone. The homes go, with what is in them.

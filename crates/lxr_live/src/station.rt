@@ -9,7 +9,7 @@ ghost use Rattle.lxr_live.specs.Homes.{IsAbsent};
 ghost use Rattle.lxr_live.specs.Stations.{Ends, HasAnswered, HasGoneOn, HasNoMore, HasTurned, Helps, IsNoOrder, IsNotOut, IsOpen, IsSameStation, IsStationOf, found_work, is_mutator, newest_of, replied};
 ghost use Rattle.lxr_live.specs.Wanting.{HasEnded, IsHeldUp};
 
-use crate::homes::Absence;
+use crate::homes::{Absence, Homecoming};
 use crate::shared::Shared;
 use crate::wanted::{has_ended, is_held_up};
 use lxr_actor::Actor;
@@ -59,6 +59,15 @@ pub struct Station {
     absence: Absence,
 }
 
+/// What is handed in to a pause for the pass of a number.
+#[derive(Drop)]
+pub enum Arrival {
+    /// The station that has the pass.
+    Out(Station),
+    /// The homecoming of a station. Its pass has been at home since, or some thread has it again.
+    Home(Homecoming),
+}
+
 impl Model for Station {
     ghost use Rattle.std.specs.Arc.{arc_value};
     ghost use Rattle.lxr_live.specs.Stations.{IsOut, Stationed};
@@ -92,20 +101,22 @@ impl Station {
         }
     }
 
-    /// Brings the pass home, and lets go of the share of the epoch.
-    pub fn come_home(self) {
+    /// Brings the pass home, and lets go of the share of the epoch. What it answers tells which pass that was, and can be handed in to a pause.
+    pub fn come_home(self) -> Homecoming
+        ensures { result ≡ Some self }
+    {
         let Station {
             shared,
             pass,
             absence,
         } = self;
-        shared.bring(pass, absence);
+        shared.bring(pass, absence)
     }
 
     /// The pass, with its absence. It lets go of the share of the epoch.
     pub(crate) fn into_pass(self) -> (Pass, Absence)
         ensures pass { result.0 ≡ self.pass }
-        ensures absence { IsAbsent self.homes self.pass.number result.1 }
+        ensures absence { IsAbsent self.homes self.pass.number self.pass result.1 }
     {
         let Station {
             shared: _,
@@ -119,7 +130,7 @@ impl Station {
     pub fn number(&self) -> usize
         ensures { result ≡ self.now.pass.number }
     {
-        self.absence.number
+        self.absence.number()
     }
 
     /// The actor.
@@ -336,6 +347,6 @@ fn found_work(turn: Turn) -> bool
 
 impl Drop for Station {
     fn drop(self) {
-        self.come_home();
+        drop(self.come_home());
     }
 }

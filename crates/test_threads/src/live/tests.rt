@@ -2,7 +2,7 @@
 use crate::live::Host;
 use lxr_graph::{Op, Reply};
 use lxr_layout::{Name, Shape};
-use lxr_live::{Answer, Heap, NotOut, Paused, Refused, Resumed, Settings, Station};
+use lxr_live::{Answer, Arrival, Heap, NotOut, Paused, Refused, Resumed, Settings, Station};
 use std::alloc::{AllocError, Global};
 use std::sync::{Mutex, Wait};
 use std::test::Fail;
@@ -168,23 +168,50 @@ fn a_pause_is_made_where_it_is_wanted(rt: HostRuntime) -> Result<(), Fail> {
     Ok(())
 }
 
+/// How the pass of mutator 0 is handed in to a pause.
+#[derive(Clone, Copy, PartialEq, Eq)]
+enum Way {
+    /// Its station is.
+    Out,
+    /// It is at home, and its homecoming is.
+    Home,
+    /// It came home, its homecoming is handed in, and some thread has it again.
+    Again,
+}
+
 /// Orders an operation of mutator 0, and hands its pass in to a pause. The answer, and what has come of the wish.
-fn hand_in(alloc: Global, heap: &mut Heap, op: Op) -> Result<Option<(Answer, Paused)>, AllocError> {
+fn hand_in(
+    alloc: Global,
+    heap: &mut Heap,
+    op: Op,
+    way: Way,
+) -> Result<Option<(Answer, Paused)>, AllocError> {
     let Ok(mut station) = heap.let_out(0) else {
         return Ok(None);
     };
     let answer = station.operate(op);
-    let paused = heap.pause_with(vec![in alloc; Some(station)]?);
+    if way == Way::Out {
+        let paused = heap.pause_with(vec![in alloc; Some(Arrival::Out(station))]?);
+        return Ok(Some((answer, paused)));
+    }
+    let homecoming = station.come_home();
+    let again = if way == Way::Again {
+        heap.let_out(0).ok()
+    } else {
+        None
+    };
+    let paused = heap.pause_with(vec![in alloc; Some(Arrival::Home(homecoming))]?);
+    drop(again);
     Ok(Some((answer, paused)))
 }
 
 /// Whether a pause with a pass that is handed in is made where that asks for it, and neither where nobody does nor while another one is away.
-fn hands_in(alloc: Global, heap: &mut Heap) -> Result<bool, AllocError> {
-    let unwanted = hand_in(alloc, heap, NIL)?;
+fn hands_in(alloc: Global, heap: &mut Heap, way: Way) -> Result<bool, AllocError> {
+    let unwanted = hand_in(alloc, heap, NIL, way)?;
     let away = heap.let_out(2);
-    let refused = hand_in(alloc, heap, Op::Pause)?;
+    let refused = hand_in(alloc, heap, Op::Pause, way)?;
     drop(away);
-    let asked = hand_in(alloc, heap, NIL)?;
+    let asked = hand_in(alloc, heap, NIL, way)?;
     let is_kept = unwanted == Some((Answer::Done(Reply::Cleared), Paused::NotWanted))
         && refused == Some((Answer::Done(Reply::Paused), Paused::Away(2)));
     let is_made = asked.map(|(_, paused)| paused) == Some(Paused::Made);
@@ -196,7 +223,26 @@ fn a_pass_is_handed_in(rt: HostRuntime) -> Result<(), Fail> {
     let Some(mut heap) = begin(rt.alloc(), SETTINGS) else {
         panic!(rt; "there is memory for a small heap")
     };
-    assert!(rt; hands_in(rt.alloc(), &mut heap)?);
+    assert!(rt; hands_in(rt.alloc(), &mut heap, Way::Out)?);
+    Ok(())
+}
+
+#[test]
+fn a_homecoming_is_handed_in(rt: HostRuntime) -> Result<(), Fail> {
+    let Some(mut heap) = begin(rt.alloc(), SETTINGS) else {
+        panic!(rt; "there is memory for a small heap")
+    };
+    assert!(rt; hands_in(rt.alloc(), &mut heap, Way::Home)?);
+    Ok(())
+}
+
+#[test]
+fn a_homecoming_is_no_pass(rt: HostRuntime) -> Result<(), Fail> {
+    let Some(mut heap) = begin(rt.alloc(), SETTINGS) else {
+        panic!(rt; "there is memory for a small heap")
+    };
+    let again = hand_in(rt.alloc(), &mut heap, Op::Pause, Way::Again)?;
+    assert!(rt; again == Some((Answer::Done(Reply::Paused), Paused::Away(0))));
     Ok(())
 }
 

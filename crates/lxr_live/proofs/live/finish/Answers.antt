@@ -13,7 +13,7 @@ use Rattle.lxr_live.proofs.EpochLemmas.{closed_many, may_close}
 use Rattle.lxr_live.specs.Wanting.{IsPauseWanted as WantedBy}
 use Rattle.lxr_live.proofs.WantingLemmas.{wanted_is}
 use Rattle.lxr_live.proofs.HomeLemmas.{all_of_epoch, all_rest, same_numbers}
-use Rattle.lxr_live.proofs.SeenLemmas.{seen_at}
+use Rattle.lxr_live.proofs.SeenLemmas.{goes_on_begins, seen_at}
 use Rattle.lxr_live.proofs.live.finish.Goals as goal
 
 pub close_shared-space-requires-clause-epoch : goal.close_shared-space-requires-clause-epoch
@@ -42,7 +42,7 @@ close_epoch-requires c =
     )
 
 pub returns-clause-closes : goal.returns-clause-closes
-returns-clause-closes c = λ b running handed hold.
+returns-clause-closes c = λ b running handed hold home.
     let whole : Sharing = sharing (table_of c.args.last) c.args.aside in
     let is : c.from_parts-epoch.result ≡ whole = c.from_parts-epoch.ensures ∙ ap (λ t. sharing t c.args.aside) c.into_table.ensures in
     let space = c.close_shared-space.result.0 in
@@ -57,6 +57,7 @@ returns-clause-closes c = λ b running handed hold.
     record {
       schedule = end.0;
       seen = λ number s at. seen_at (table_of c.args.last) c.args.passes.items c.requires.all.each end.0 end.3 number s.pass (hold number s (omega arith) at);
+      begins = λ number s at. let (q, there, on) = home number s (omega arith) at in goes_on_begins end.0 number s.pass q on (seen_at (table_of c.args.last) c.args.passes.items c.requires.all.each end.0 end.3 number q there);
       middle = space;
       words = may.space_is;
       due = subst (λ actors. IsPauseExplained b execution actors) (sym same) (c.close_epoch.ensures.due b execution (subst (MayClose b execution space) (sym c.deref_mut.ensures.value) may)

@@ -6,7 +6,7 @@ use Rattle.lxr_shared_passes.specs.Passing.{Told}
 use Rattle.lxr_live.specs.Heaps.{StaysPassOf}
 use Rattle.lxr_live.specs.Stations.{IsNoOrder, Stationed, table_of}
 use Rattle.lxr_live.proofs.ReplyLemmas.{answered, opened, unanswered}
-use Rattle.lxr_live.proofs.StayingLemmas.{ordered_stays, station_stays, stays_further}
+use Rattle.lxr_live.proofs.StayingLemmas.{absent_on, ordered_stays, station_stays, stays_further, told_from}
 use Rattle.lxr_live.proofs.station.Station.operate.Goals as goal
 
 pub returns-then-not-order_at-clause-answer : goal.returns-then-not-order_at-clause-answer
@@ -73,11 +73,11 @@ returns-in-None-clause-stays c =
 pub invariant_of-self : goal.invariant_of-self
 invariant_of-self c = record {
   pass = ordered_stays c.self.inside.pass c.args.op c.order_at.result c.order_at.new.self c.order_at.ensures.event c.order_at.ensures.answer (table_of (arc_value c.self.inside.shared)) c.self.inside.absence.number c.self.invariant.pass;
-  absent = c.self.invariant.absent;
+  absent = absent_on (arc_value c.self.inside.shared).homes c.self.inside.absence.number c.self.inside.pass c.order_at.new.self c.self.inside.absence (told_from c.self.inside.pass (Order c.self.inside.pass.number c.args.op) c.order_at.new.self c.order_at.ensures.event) c.self.invariant.absent;
 }
 
 pub invariant_of-self-2 : goal.invariant_of-self-2
 invariant_of-self-2 c = record {
   pass = ordered_stays c.self.inside.pass c.args.op c.order_at.result c.order_at.new.self c.order_at.ensures.event c.order_at.ensures.answer (table_of (arc_value c.self.inside.shared)) c.self.inside.absence.number c.self.invariant.pass;
-  absent = c.self.invariant.absent;
+  absent = absent_on (arc_value c.self.inside.shared).homes c.self.inside.absence.number c.self.inside.pass c.order_at.new.self c.self.inside.absence (told_from c.self.inside.pass (Order c.self.inside.pass.number c.args.op) c.order_at.new.self c.order_at.ensures.event) c.self.invariant.absent;
 }

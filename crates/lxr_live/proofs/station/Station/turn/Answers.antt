@@ -2,7 +2,7 @@ use Rattle.std.proofs.Common.{subst}
 use Rattle.std.specs.Arc.{arc_value}
 use Rattle.lxr_live.specs.Heaps.{StaysPassOf}
 use Rattle.lxr_live.specs.Stations.{Stationed, table_of}
-use Rattle.lxr_live.proofs.StayingLemmas.{station_stays, turned_stays}
+use Rattle.lxr_live.proofs.StayingLemmas.{absent_on, station_stays, turned_from, turned_stays}
 use Rattle.lxr_live.proofs.station.Station.turn.Goals as goal
 
 pub returns-clause-stays : goal.returns-clause-stays
@@ -17,4 +17,7 @@ pub invariant_of-self : goal.invariant_of-self
 invariant_of-self c =
     let unit = c.turn_at.ensures.unit in
     let shared = arc_value c.self.inside.shared in
-    record { pass = turned_stays c.self.inside.pass unit.0 c.turn_at.new.self unit.2 (table_of shared) c.self.inside.absence.number c.self.invariant.pass; absent = c.self.invariant.absent }
+    record {
+      pass = turned_stays c.self.inside.pass unit.0 c.turn_at.new.self unit.2 (table_of shared) c.self.inside.absence.number c.self.invariant.pass;
+      absent = absent_on shared.homes c.self.inside.absence.number c.self.inside.pass c.turn_at.new.self c.self.inside.absence (turned_from c.self.inside.pass unit.0 c.turn_at.new.self unit.2) c.self.invariant.absent;
+    }
