@@ -63,7 +63,6 @@ impl Board {
         mutators: usize,
         players: usize,
         seed: u64,
-        counts: bool,
     ) -> Result<Board, AllocError> {
         let mut seats = Vec::new(alloc);
         for _ in 0..mutators {
@@ -76,7 +75,7 @@ impl Board {
             players,
             turn: 0,
             stand: Stand::Running,
-            watching: Watching::new(alloc, counts),
+            watching: Watching::new(alloc),
             order: Items::new(alloc),
         };
         board.draw_turn();

@@ -1,4 +1,4 @@
-//! Plays scripts on a heap that threads share, and prints what a run of the script prints.
+//! Plays scripts on a heap that threads share, and prints what a run of the script prints without counts.
 //!
 //! The input is a table of cases. Each begins with a line `== case` whose further words say how it is played, and has the script behind that. Each thread
 //! of the script is a mutator, and a thread of the machine plays it: it orders an operation when it has seen the last reply, and comes home where a
@@ -11,7 +11,6 @@
 //! | `race` | threads order as they come, beside helpers; this is so without `turns` |
 //! | `help` | with `turns`: helpers take turns too |
 //! | `order` | with `turns`: the order of calls and pauses is printed behind the replies |
-//! | `counts` | counts are printed in reports |
 //! | `helpers=N` | how many decrementers there are, and as many tracers |
 //! | `blocks=N`, `log=N`, `remember=N`, `every=N`, `trace=N`, `within=N` | the settings of the heap, which have the defaults of a run |
 #![tactic(auto)]

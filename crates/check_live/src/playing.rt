@@ -87,8 +87,7 @@ pub fn play<R: Threads + Wait + Sync>(
     };
     let seed = case.turns().unwrap_or(0);
     let mutators = case.script.operations.len();
-    let counts = case.has("counts");
-    let board = Board::new(alloc, heap, mutators, players.len(), seed, counts)?;
+    let board = Board::new(alloc, heap, mutators, players.len(), seed)?;
     let shared = Shared::new(board);
     play_all(rt, alloc, &shared, &mut players);
     let board = shared.into_board();

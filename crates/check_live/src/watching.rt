@@ -22,11 +22,10 @@ pub struct Answered {
     pub is_full: bool,
 }
 
-/// A watch that prints the reports of pauses, and notes what it sees of those of one call.
+/// A watch that prints the reports of pauses, without counts, which nobody has told then, and notes what it sees of those of one call.
 #[derive(Drop)]
 pub struct Watching {
     pub reports: Plenty,
-    counts: bool,
     is_behind: bool,
     pauses: Vec<Seen>,
     /// Whether memory ran out.
@@ -35,10 +34,9 @@ pub struct Watching {
 
 impl Watching {
     /// A watch that has seen nothing.
-    pub fn new(alloc: Global, counts: bool) -> Watching {
+    pub fn new(alloc: Global) -> Watching {
         Watching {
             reports: Plenty::new(alloc),
-            counts,
             is_behind: false,
             pauses: Vec::new(alloc),
             is_lost: false,
@@ -110,7 +108,7 @@ impl Watch for Watching {
                 last.behind = news;
                 last.collects = space.report.kind == Kind::Collect;
             }
-            if print_pause(&space.report, self.counts, &mut self.reports).is_err() {
+            if print_pause(&space.report, false, &mut self.reports).is_err() {
                 self.is_lost = true;
             }
         } else {

@@ -51,10 +51,6 @@ paused_room objects pauses x y collect room paused = record {
 pub paused_fresh : (x y : HostHeap) → SomeHistory x.heap → ((h : List LargeItem) → IsHeapOf x.heap h → Pauses x y h true) → y.heap.fresh ≡ true
 paused_fresh x y some paused = ∥∥₁_elim some (Bool-set _ _) (λ of. let p = (paused of.0 of.1).heap in p.holds.fresh.1 p.kind)
 
--- behind any pause one was made
-pub paused_some : (x y : HostHeap) (collect : Bool) → SomeHistory x.heap → ((h : List LargeItem) → IsHeapOf x.heap h → Pauses x y h collect) → 1 ≤ y.heap.space.pauses
-paused_some x y collect some paused = ∥∥₁_elim some le_prop (λ of. let one = paused_pauses x.heap y.heap of.0 collect of.1 (paused of.0 of.1).heap in omega (arith, one))
-
 -- a heap that was renewed has room
 pub renewed_room : (x y : HostHeap) → SomeHistory x.heap → ((h : List LargeItem) → IsHeapOf x.heap h → RenewsHeap x.heap y.heap h) → HasRoom 2 3 y
 renewed_room x y some renewed = record {

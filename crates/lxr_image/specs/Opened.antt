@@ -79,7 +79,7 @@ pub record HasReportRoom (r : Report) (granules : ℕ) : Type 0 where
   pub dead : r.dead.room ≡ 2 * granules
   pub stuck : r.stuck.room ≡ granules
   pub swept : r.swept.room ≡ granules
-  pub counts : r.counts.room ≡ granules
+  pub told : r.told.room ≡ granules
 
 -- the room that each list of a space has, from the opening on
 pub record HasRoom (s : Space) : Type 0 where
@@ -98,6 +98,7 @@ pub record IsBlank (r : Report) : Type 0 where
   pub stuck : r.stuck.items ≡ []
   pub swept : r.swept.items ≡ []
   pub counts : r.counts.items ≡ []
+  pub told : r.told.items ≡ []
 
 -- nothing was done yet
 abbrev pub no_tally : Tally

@@ -12,7 +12,7 @@ ghost use Rattle.lxr_layout.specs.declared.TheConstants.{MOST_GRANULES};
 ghost use Rattle.lxr_layout.specs.Spaces.{AreLimits, all_regions, region_begin};
 
 use crate::{Places, Space, Tally};
-use lxr_base::Listed;
+use lxr_base::{Chronicle, Listed};
 use lxr_graph::{Kind, Report};
 use lxr_layout::{
     FREE_BLOCK_COUNT, GRANULES_IN_BLOCK, GRANULES_IN_LINE, LINES_IN_BLOCK, Limits, Name, Place,
@@ -74,7 +74,8 @@ fn blank_report(alloc: Global, granules: usize) -> Result<Report, AllocError>
         dead: Listed::with_room(alloc, 2 * granules)?,
         stuck: Listed::with_room(alloc, granules)?,
         swept: Listed::with_room(alloc, granules)?,
-        counts: Listed::with_room(alloc, granules)?,
+        counts: Chronicle::new(),
+        told: Listed::with_room(alloc, granules)?,
     })
 }
 
@@ -108,7 +109,8 @@ impl Space {
                 dead: Listed::new(alloc),
                 stuck: Listed::new(alloc),
                 swept: Listed::new(alloc),
-                counts: Listed::new(alloc),
+                counts: Chronicle::new(),
+                told: Listed::new(alloc),
             },
             tally: NO_TALLY,
             pauses: 0,

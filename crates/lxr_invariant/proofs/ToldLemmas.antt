@@ -11,12 +11,12 @@ use Rattle.lxr_invariant.specs.Quiescent.{HoldsMoment}
 use Rattle.lxr_invariant.proofs.FrameLemmas.{rest_still}
 
 -- the space with another report, tally and number of pauses
-abbrev pub with_told : Space → Report → Tally → ℕ → Space
-with_told s r tally pauses = record s { report = r; tally = tally; pauses = pauses }
+abbrev pub with_report_and_tally : Space → Report → Tally → ℕ → Space
+with_report_and_tally s r tally pauses = record s { report = r; tally = tally; pauses = pauses }
 
 -- where the report has room, such a space holds the moments that the space holds
 pub holds_told : (s : Space) (m : Moment) (at : Name → ℕ) (r : Report) (tally : Tally) (pauses : ℕ) → HasReportRoom r (GRANULES_IN_BLOCK * s.limits.blocks) → HoldsMoment s m at
-    → HoldsMoment (with_told s r tally pauses) m at
+    → HoldsMoment (with_report_and_tally s r tally pauses) m at
 holds_told s m at r tally pauses room h = record {
   space = record { limits = h.space.limits; size = h.space.size };
   room = record { registers = h.room.registers; deferred = h.room.deferred; logged = h.room.logged; work = h.room.work; report = room };
@@ -33,6 +33,6 @@ holds_told s m at r tally pauses room h = record {
   unchosen = h.unchosen;
   unused = h.unused;
   blocks = h.blocks;
-  rest = record { rest = rest_still s (with_told s r tally pauses) refl refl refl refl refl h.rest.rest; apart = h.rest.apart };
+  rest = record { rest = rest_still s (with_report_and_tally s r tally pauses) refl refl refl refl refl h.rest.rest; apart = h.rest.apart };
   no_work = h.no_work;
 }

@@ -2,7 +2,7 @@
 ghost use Rattle.std.specs.Prelude.{◌≡◌, ◌+◌, ◌-◌, ◌^◌, ◌<◌, IfOk, OnOk, count_by, filter, map, slice_index_or};
 ghost use Rattle.lxr_layout.specs.declared.Name.{Name as NameOf};
 ghost use Rattle.lxr_graph.specs.State.{object_at, refs_of};
-ghost use Rattle.lxr_graph.specs.History.{report_of};
+ghost use Rattle.lxr_graph.specs.History.{HasToldCounts, report_of};
 ghost use Rattle.lxr_model.specs.Reports.{field_holds, newly_held};
 ghost use Rattle.lxr_model.specs.Reports as pause;
 ghost use Rattle.lxr_judge_sets.specs.ByName.{value_at};
@@ -14,6 +14,7 @@ ghost use Rattle.lxr_judge_report.specs.Stages.{drained_of, raised_now, swept_no
 
 use crate::Position;
 use crate::position::Written;
+use lxr_base::Chronicle;
 use lxr_graph::{Count, Counts, Graph, Kind, Names, Report};
 use lxr_judge_sets::{NameSet, Tally, dead, promoted, reachable, references};
 use lxr_layout::{Name, STUCK};
@@ -134,11 +135,12 @@ fn count_names(
 }
 
 impl Position {
-    /// The report of a pause of this kind. It takes time for what isn't reclaimed, and for what was made and written since the last
-    /// pause.
+    /// The report of a pause of this kind, whose counts are told. It takes time for what isn't reclaimed, and for what was made and
+    /// written since the last pause.
     pub fn report(&self, alloc: Global, kind: Kind) -> Result<Report, AllocError>
         requires { self.now.last.number < 2 ^ 32 - 1 }
-        ensures { IfOk result (λ report. IsReportAt self.now kind (report_of report)) }
+        ensures report { IfOk result (λ report. IsReportAt self.now kind (report_of report)) }
+        ensures told { IfOk result HasToldCounts }
     {
         let gains = self.gains(alloc)?;
         let losses = self.losses(alloc, kind, &gains)?;
@@ -150,7 +152,8 @@ impl Position {
             dead: losses.dead.into_names(),
             stuck: gains.newly_stuck.into_names(),
             swept: losses.swept.into_names(),
-            counts,
+            counts: Chronicle::of(&counts),
+            told: counts,
         })
     }
 

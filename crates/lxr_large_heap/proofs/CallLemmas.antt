@@ -41,6 +41,7 @@ use Rattle.lxr_large_heap.proofs.ApartLemmas.{changed_apart, placed_apart}
 use Rattle.lxr_large_heap.proofs.BodyLemmas.{held_changed, held_more, held_names, word_same}
 use Rattle.lxr_large_heap.proofs.CountLemmas.{counts_called}
 use Rattle.lxr_large_heap.proofs.HeapLemmas.{StandsFor, behind, is_step_of, keeps_beside, lower_and_other, one_thread, other_names, same_terms, stands, stepped}
+use Rattle.lxr_large_heap.proofs.SameLemmas.{same_heap}
 use Rattle.lxr_large_heap.proofs.MomentLemmas.{none_chosen, quiescent, sixteen, two_rows}
 
 -- `false` is no test that holds
@@ -86,6 +87,7 @@ module _ (x : Heap) (h : List LargeItem) (is : IsHeapOf x h) where
         apart = is.apart;
         fresh = stale_now st.stale;
         collected = λ f. absurd (st.stale f);
+        drained = λ f. absurd (st.stale f);
       }
 
   -- ---- a new large object
@@ -126,6 +128,7 @@ module _ (x : Heap) (h : List LargeItem) (is : IsHeapOf x h) where
             (held_names (λ q. rank_of q < rank_of n) m x.bodies.bodies s.large is.bodies (lower s.large (lower_and_other x.made n s.large named is.names))) run;
         fresh = stale_now (λ no. no);
         collected = λ f. absurd f;
+        drained = λ f. absurd f;
       }
     where
       lower : (ls : List Large) → AllByRecursion (λ (l : Large). (rank_of l.name < rank_of n) × (same_name l.name n ≡ false)) ls → AllByRecursion (λ (l : Large). rank_of l.name < rank_of n) ls
@@ -163,6 +166,7 @@ module _ (x : Heap) (h : List LargeItem) (is : IsHeapOf x h) where
     apart = is.apart;
     fresh = stale_now (λ no. no);
     collected = λ f. absurd f;
+    drained = λ f. absurd f;
   }
 
   -- a `bput` that changes nothing
@@ -186,6 +190,7 @@ module _ (x : Heap) (h : List LargeItem) (is : IsHeapOf x h) where
         apart = is.apart;
         fresh = stale_now (λ no. no);
         collected = λ f. absurd f;
+        drained = λ f. absurd f;
       }
 
   names_changed : (made : ℕ) (n : Name) (i v : ℕ) (ls : List Large) → AllByRecursion (IsMade made) ls → AllByRecursion (IsMade made) (with_body ls n (λ words. slice_set words i v))
@@ -229,6 +234,7 @@ module _ (x : Heap) (h : List LargeItem) (is : IsHeapOf x h) where
         apart = changed_apart x.bodies.blocks n i v x.bodies.bodies is.apart;
         fresh = stale_now (λ no. no);
         collected = λ f. absurd f;
+        drained = λ f. absurd f;
       }
 
   -- ---- refusals
@@ -246,39 +252,7 @@ module _ (x : Heap) (h : List LargeItem) (is : IsHeapOf x h) where
 
   pub refused_new : (dest : ℕ) (shape : Shape) → IsWellFormed (op.New dest shape) → MayBeFull (terms_of x) h (large_op.Small (op.New dest shape))
       → IsHeapOf x (Called (large_op.Small (op.New dest shape)) (large_reply.Small reply.Full) ∷ h)
-  refused_new dest shape formed may = record {
-    legal = (is.legal, record { operation = formed; reply = may });
-    at = is.at;
-    rests = is.rests;
-    untraced = is.untraced;
-    limits = is.limits;
-    tally = is.tally;
-    state = is.state;
-    world = is.world;
-    next = is.next;
-    counts = is.counts;
-    names = is.names;
-    bodies = is.bodies;
-    apart = is.apart;
-    fresh = is.fresh;
-    collected = is.collected;
-  }
+  refused_new dest shape formed may = same_heap x h is x.space.report.told.items (Called (large_op.Small (op.New dest shape)) (large_reply.Small reply.Full) ∷ h) record { moment = refl; state = refl; reported = refl; fresh = (λ f. f, λ f. f) } (is.legal, record { operation = formed; reply = may })
 
   pub refused_big : (dest blocks : ℕ) → IsLargeOp (large_op.Big dest blocks) → MayBeFull (terms_of x) h (large_op.Big dest blocks) → IsHeapOf x (Called (large_op.Big dest blocks) large_reply.Full ∷ h)
-  refused_big dest blocks formed may = record {
-    legal = (is.legal, record { operation = formed; reply = may });
-    at = is.at;
-    rests = is.rests;
-    untraced = is.untraced;
-    limits = is.limits;
-    tally = is.tally;
-    state = is.state;
-    world = is.world;
-    next = is.next;
-    counts = is.counts;
-    names = is.names;
-    bodies = is.bodies;
-    apart = is.apart;
-    fresh = is.fresh;
-    collected = is.collected;
-  }
+  refused_big dest blocks formed may = same_heap x h is x.space.report.told.items (Called (large_op.Big dest blocks) large_reply.Full ∷ h) record { moment = refl; state = refl; reported = refl; fresh = (λ f. f, λ f. f) } (is.legal, record { operation = formed; reply = may })

@@ -1,11 +1,9 @@
--- How many objects there are: a name joins a set of others, names leave a set that has them, and the numbers that a heap keeps follow.
-use Rattle.std.proofs.Common.{◌≡◌, ℕ, suc, ◌+◌, ◌<◌, ◌≤◌, refl, sym, ap, subst, ◌∙◌, inl, inr, ◌⊎◌, arith, Bool, true, false, cond, List, [], ◌∷◌, length}
-use Rattle.std.specs.Prelude.{◌||◌, IsTrue}
-use Rattle.std.specs.Ordering.{is_lt}
+-- How many objects there are: the numbers that a heap keeps follow its calls and pauses.
+use Rattle.std.proofs.Common.{◌≡◌, ℕ, ◌+◌, ◌<◌, ◌≤◌, refl, sym, ap, subst, ◌∙◌, inl, inr, ◌⊎◌, arith, Bool, true, false, [], ◌∷◌, length}
+use Rattle.std.specs.Prelude.{IsTrue}
 use Rattle.std.proofs.lemmas.Bool.{false_from_ne_true}
 use Rattle.lxr_layout.specs.declared.Name.{Name}
-use Rattle.lxr_graph.specs.Distinct.{IsDistinct}
-use Rattle.lxr_graph.specs.Names.{AreInOrder, has, insert_name, name_order, same_name, union, without}
+use Rattle.lxr_graph.specs.Names.{AreInOrder, has, insert_name, union, without}
 use Rattle.lxr_graph.specs.History.{PauseReport}
 use Rattle.lxr_graph.specs.State.{State, next_name, world_name}
 use Rattle.lxr_graph.specs.Step.{step}
@@ -14,7 +12,7 @@ use Rattle.lxr_graph.specs.declared.Reply.{Reply}
 use Rattle.lxr_graph.specs.declared.Reply.TheVariants as reply
 use Rattle.lxr_graph.specs.declared.report.Kind.{Kind}
 use Rattle.lxr_graph.specs.declared.report.Kind.TheVariants as kind
-use Rattle.lxr_graph.proofs.NameSets.{has-union, has_one, in_order-none, in_order-one, in_order-union, in_order-without, in_without, not_both, one_list, same_itself, union_cases, union_left, union_right, without_parts}
+use Rattle.lxr_graph.proofs.NameSets.{has_one, in_order-none, in_order-one, in_order-union, not_both, union_cases, union_right, without_parts}
 use Rattle.lxr_graph.proofs.RowLemmas.{next_none}
 use Rattle.lxr_model.specs.Moments.{Moment, after_call, after_pause, made_after, unreclaimed_after}
 use Rattle.lxr_model.specs.Reports.{AreDrained, IsReport, IsReportWith, IsSwept, PauseParts, is_draining, kept_names as kept_by}
@@ -23,62 +21,12 @@ use Rattle.lxr_model.proofs.ObjectLemmas.{no_object}
 use Rattle.lxr_model.proofs.ReachableLemmas.{dead_parts, promoted_made}
 use Rattle.lxr_model_counting.specs.Following.{FollowsPause}
 use Rattle.lxr_model_counting.proofs.DistinctLemmas.{in_order_distinct}
+use Rattle.lxr_run_pause.proofs.LeftLemmas.{Reclaims, insert_length, left_length, union_length, without_length}
 use Rattle.lxr_large_model.specs.Full.{kept_names}
 use Rattle.lxr_large_model.specs.Pauses.{IsLargeKind}
 use Rattle.lxr_direct.specs.Operating.{IsOfFirstVersion}
 use Rattle.lxr_large_heap.specs.Holding.{CountsObjects, made_with}
 use Rattle.lxr_large_heap.proofs.RowLemmas.{step_counts}
-
--- ---- sets
-
--- one more than a set that hasn't the name
-insert_length : (n : Name) (ms : List Name) → has ms n ≡ false → length (insert_name n ms) ≡ suc (length ms)
-insert_length n [] none = refl
-insert_length n (m ∷ ms) none = elim (is_lt (name_order m n)) as (λ b. length (cond b (m ∷ insert_name n ms) (cond (same_name n m) (m ∷ ms) (n ∷ m ∷ ms))) ≡ suc (suc (length ms))) [
-  | true ↦ ap suc (insert_length n ms (behind (same_name n m) none))
-  | false ↦ elim (same_name n m) as (λ b. (b || has ms n) ≡ false → length (cond b (m ∷ ms) (n ∷ m ∷ ms)) ≡ suc (suc (length ms))) [
-    | true ↦ λ no. let both : true ≡ false = no in absurd (cc)
-    | false ↦ λ no. refl
-  ] none
-]
-  where
-    behind : (b : Bool) → (b || has ms n) ≡ false → has ms n ≡ false
-    behind true e = let both : true ≡ false = e in absurd (cc)
-    behind false e = e
-
--- names of two sets that have none in common
-union_length : (ns ms : List Name) → IsDistinct ns → ((n : Name) → IsTrue (has ns n) → has ms n ≡ false) → length (union ns ms) ≡ length ns + length ms
-union_length [] ms distinct apart = let zero : length ms ≡ 0 + length ms = omega arith in zero
-union_length (n ∷ ns) ms distinct apart =
-    let rest : length (union ns ms) ≡ length ns + length ms = union_length ns ms distinct.1 (λ q h. apart q (or_second (same_name q n) (has ns q) h)) in
-    let none : has (union ns ms) n ≡ false = has-union ns ms n ∙ ap (λ b. b || has ms n) distinct.0 ∙ apart n (or_first (same_name n n) (has ns n) (same_self n)) in
-    let more : length (insert_name n (union ns ms)) ≡ suc (length (union ns ms)) = insert_length n (union ns ms) none in
-    more ∙ omega (arith, rest)
-  where
-    same_self : (q : Name) → IsTrue (same_name q q)
-    same_self q = same_itself q
-
-    or_first : (a b : Bool) → IsTrue a → IsTrue (a || b)
-    or_first true b t = refl
-    or_first false b t = let no : false ≡ true = t in absurd (cc)
-
-    or_second : (a b : Bool) → IsTrue b → IsTrue (a || b)
-    or_second true b t = refl
-    or_second false b t = t
-
--- names that leave a set that has them
-pub without_length : (ns out : List Name) → AreInOrder ns → AreInOrder out → ((n : Name) → IsTrue (has out n) → IsTrue (has ns n)) → length out + length (without ns out) ≡ length ns
-without_length ns out order out_order among =
-    let left : List Name = without ns out in
-    let whole : union out left ≡ ns = one_list (union out left) ns (in_order-union out left (in_order-without ns out order)) order (λ q. (
-      λ h. elim (union_cases out left q h) [ inl o ↦ among q o | inr k ↦ (without_parts ns out q k).0 ],
-      λ h. by q (has out q) refl h,
-    )) in
-    sym (union_length out left (in_order_distinct out out_order) (λ n o. false_from_ne_true (has left n) (λ k. not_both (has out n) o (without_parts ns out n k).1))) ∙ ap length whole
-  where
-    by : (q : Name) (b : Bool) → has out q ≡ b → IsTrue (has ns q) → IsTrue (has (union out (without ns out)) q)
-    by q true e h = union_left out (without ns out) q e
-    by q false e h = union_right out (without ns out) q (in_without ns out q h (λ o. not_both (has out q) o e))
 
 -- ---- what is kept
 
@@ -139,12 +87,6 @@ counts_called left made_before made m o r follows rows first told counts = count
 
 -- ---- a pause
 
--- What a pause reclaims was unreclaimed or is promoted; and nothing is both dead and swept.
-pub record Reclaims (m : Moment) (r : PauseReport) : Type 0 where
-  pub dead : (n : Name) → IsTrue (has r.dead n) → IsTrue (has (union r.promoted m.unreclaimed) n)
-  pub swept : (n : Name) → IsTrue (has r.swept n) → IsTrue (has (union r.promoted m.unreclaimed) n)
-  pub once : (n : Name) → IsTrue (has r.dead n) → has r.swept n ≡ false
-
 module _ (m : Moment) (r : PauseReport) (parts : PauseParts) (is : IsReportWith m parts r) (follows : FollowsPause m) where
   -- what is swept is what counting left
   swept_left : (k : Kind) → IsLargeKind k → IsSwept m (without (kept_by m parts r) parts.second_dead) r.swept k → (n : Name) → IsTrue (has r.swept n) → IsTrue (has (without (kept_by m parts r) parts.second_dead) n)
@@ -152,6 +94,12 @@ module _ (m : Moment) (r : PauseReport) (parts : PauseParts) (is : IsReportWith 
   swept_left kind.Begin large swept n h = absurd large
   swept_left (kind.End j) large swept n h = absurd large
   swept_left kind.Collect large swept n h = ((swept.members n).0 h).0
+
+  swept_order : (k : Kind) → IsLargeKind k → IsSwept m (without (kept_by m parts r) parts.second_dead) r.swept k → AreInOrder r.swept
+  swept_order kind.Plain large none = subst AreInOrder (sym none) in_order-none
+  swept_order kind.Begin large none = absurd large
+  swept_order (kind.End j) large ends = absurd large
+  swept_order kind.Collect large set = set.in_order
 
   -- what died first was unreclaimed, and isn't kept
   first_gone : (n : Name) → IsTrue (has parts.first_dead n) → IsTrue (has (kept_by m parts r) n) → ⊥
@@ -172,13 +120,19 @@ module _ (m : Moment) (r : PauseReport) (parts : PauseParts) (is : IsReportWith 
   third_unswept false drained n h = let no : false ≡ true = subst (λ ns. IsTrue (has ns n)) drained.1 h in absurd (cc)
   third_unswept true drained n h = (without_parts (without (kept_by m parts r) parts.second_dead) r.swept n (dead_parts ((drained.1.members n).0 h)).member).1
 
+  -- nothing is both dead and swept, and all of it was unreclaimed or is promoted
   pub reclaims : IsLargeKind r.kind → Reclaims m r
   reclaims large = record {
-    dead = λ n h. elim ((is.dead.members n).0 h) [
+    unreclaimed = follows.unreclaimed;
+    promoted = is.promoted.in_order;
+    dead = is.dead.in_order;
+    swept = swept_order r.kind large is.swept;
+    new = λ n h. follows.apart n (promoted_made ((is.promoted.members n).0 h));
+    dead_were = λ n h. elim ((is.dead.members n).0 h) [
       | inl one ↦ union_right r.promoted m.unreclaimed n (dead_parts ((is.first_dead.members n).0 one)).member
       | inr later ↦ kept_all m r parts is n (drained_kept (is_draining r.kind) is.drained n later)
     ];
-    swept = λ n h. kept_all m r parts is n (without_parts (kept_by m parts r) parts.second_dead n (swept_left r.kind large is.swept n h)).0;
+    swept_were = λ n h. kept_all m r parts is n (without_parts (kept_by m parts r) parts.second_dead n (swept_left r.kind large is.swept n h)).0;
     once = λ n h. false_from_ne_true (has r.swept n) (λ s.
         let left = without_parts (kept_by m parts r) parts.second_dead n (swept_left r.kind large is.swept n s) in
         elim ((is.dead.members n).0 h) [
@@ -194,32 +148,20 @@ pub record CountsPause (left made_before made : ℕ) (m : Moment) (r : PauseRepo
   pub gone : length r.dead + length r.swept ≤ left + length r.promoted
   pub after : (now : ℕ) → now + (length r.dead + length r.swept) ≡ left + length r.promoted → CountsObjects now made made (after_pause m r)
 
-swept_order : (m : Moment) (left swept : List Name) (k : Kind) → IsLargeKind k → IsSwept m left swept k → AreInOrder swept
-swept_order m left swept kind.Plain large none = subst AreInOrder (sym none) in_order-none
-swept_order m left swept kind.Begin large none = absurd large
-swept_order m left swept (kind.End j) large ends = absurd large
-swept_order m left swept kind.Collect large set = set.in_order
-
 pub counts_paused : (left made_before made : ℕ) (m : Moment) (r : PauseReport) → FollowsPause m → FollowsPause (after_pause m r) → IsReport m r → IsLargeKind r.kind → CountsObjects left made_before made m
     → CountsPause left made_before made m r
 counts_paused left made_before made m r follows then is large counts =
-    let members = is.1.promoted.members in
-    let some = without_length m.made r.promoted follows.made is.1.promoted.in_order (λ n h. promoted_made ((members n).0 h)) in
-    let all : List Name = union r.promoted m.unreclaimed in
-    let order : AreInOrder all = in_order-union r.promoted m.unreclaimed follows.unreclaimed in
-    let whole = union_length r.promoted m.unreclaimed (in_order_distinct r.promoted is.1.promoted.in_order) (λ n h. follows.apart n (promoted_made ((members n).0 h))) in
-    let out = reclaims m r is.0 is.1 follows large in
-    let first = without_length all r.dead order is.1.dead.in_order out.dead in
-    let second = without_length (without all r.dead) r.swept (in_order-without all r.dead order) (swept_order m (without (kept_by m is.0 r) is.0.second_dead) r.swept r.kind large is.1.swept)
-    (λ n h. in_without all r.dead n (out.swept n h) (λ d. not_both (has r.swept n) h (out.once n d))) in
+    let some = without_length m.made r.promoted follows.made is.1.promoted.in_order (λ n h. promoted_made ((is.1.promoted.members n).0 h)) in
+    let gone = reclaims m r is.0 is.1 follows large in
+    let behind = left_length m r gone in
     let unreclaimed = counts.unreclaimed in
     let young = counts.young in
     let few = counts.few in
     -- the world is left
-    let rest = without_length (unreclaimed_after m r) (world_name ∷ []) (in_order-without (without all r.dead) r.swept (in_order-without all r.dead order)) (in_order-one world_name) (λ n h. subst (λ q. IsTrue (has (unreclaimed_after m r) q)) (sym (has_one world_name n h)) (world_kept (after_pause m r) then)) in
+    let rest = without_length (unreclaimed_after m r) (world_name ∷ []) then.unreclaimed (in_order-one world_name) (λ n h. subst (λ q. IsTrue (has (unreclaimed_after m r) q)) (sym (has_one world_name n h)) (world_kept (after_pause m r) then)) in
     let one : length (world_name ∷ []) ≡ 1 = refl in
     record {
       promoted = omega (arith, some, young);
-      gone = omega (arith, whole, first, second, unreclaimed, rest, one);
-      after = λ now is. record { unreclaimed = omega (arith, whole, first, second, unreclaimed, rest, one, is); few = omega (arith, some, young, few, is); young = omega arith };
+      gone = omega (arith, behind, unreclaimed, rest, one);
+      after = λ now is. record { unreclaimed = omega (arith, behind, unreclaimed, rest, one, is); few = omega (arith, some, young, few, is); young = omega arith };
     }

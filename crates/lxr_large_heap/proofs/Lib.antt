@@ -6,6 +6,7 @@ pub mod BlockLemmas
 pub mod CountLemmas
 pub mod StayLemmas
 pub mod HeapLemmas
+pub mod SameLemmas
 pub mod CallLemmas
 pub mod FullLemmas
 pub mod ActingLemmas
@@ -13,4 +14,5 @@ pub mod PausingLemmas
 pub mod OpeningLemmas
 pub mod BulkLemmas
 pub mod LookingLemmas
+pub mod TellingLemmas
 pub mod RenewingLemmas

@@ -36,7 +36,9 @@ opened_heap space blocks bodies opened is image = record {
     apart = tt;
     fresh = stale_now (λ no. no);
     collected = λ f. absurd f;
+    drained = λ f. absurd f;
   };
   made = refl;
   terms = λ i. record { blocks = (opened.limits i).blocks; bodies = bodies };
+  untold = opened.report.told;
 }

@@ -12,6 +12,7 @@ use Rattle.lxr_image.specs.declared.space.Space.{Space}
 use Rattle.lxr_image.specs.declared.space.Tally.{Tally}
 use Rattle.lxr_image.specs.Opened.{no_tally}
 use Rattle.lxr_model.specs.Moments.{Moment, Trace, after_pause, going_on, trace_after}
+use Rattle.lxr_model.specs.Reports.{is_draining}
 use Rattle.lxr_invariant.specs.AbstractState.{paused}
 use Rattle.lxr_large_model.specs.History.{LargeItem, Paused, large_moment, large_state}
 use Rattle.lxr_large_model.specs.Pauses.{IsLargeKind, IsLegalLarge}
@@ -20,7 +21,7 @@ use Rattle.lxr_run_pause.specs.declared.Ask.{Ask}
 use Rattle.lxr_run_pause.specs.declared.Ask.TheVariants as ask
 use Rattle.lxr_run_pause.specs.declared.Pace.{Pace}
 use Rattle.lxr_run_pause.specs.Deciding.{kind_of}
-use Rattle.lxr_run_pause.specs.Pausing.{CanPause, KeepsObjects, Pauses}
+use Rattle.lxr_run_pause.specs.Pausing.{CanPause, IsDrained, KeepsObjects, Pauses}
 use Rattle.lxr_run_pause.specs.Relocating.{IsEnd}
 use Rattle.lxr_large_heap.specs.declared.heap.Heap.{Heap}
 use Rattle.lxr_large_heap.specs.Holding.{IsHeapOf, abstract_after, limits_of, terms_of}
@@ -136,5 +137,6 @@ pauses_heap x h is space left collect pace at' apart p left_is =
         apart = left_apart r x.bodies.blocks x.bodies.bodies is.apart;
         fresh = fresh_behind collect r.kind told;
         collected = λ f. collected m r (good x.space (abstract_after h is.at) is.rests (one_thread x h is) is.untraced) p.reports f;
+        drained = λ f. subst (λ k. IsDrained space (is_draining k)) f p.drained;
       };
     }

@@ -1,5 +1,5 @@
 -- Right behind a pause that collected the names of all that is left may be renewed, and the heap is then that of the history with the renewal.
-use Rattle.std.proofs.Common.{◌≡◌, ℕ, suc, ◌+◌, ◌-◌, ◌*◌, ◌^◌, ◌<◌, ◌≤◌, refl, sym, ap, subst, ◌∙◌, inl, inr, ◌⊎◌, arith, Bool, true, false, cond, List, [], ◌∷◌, length, map, filter, Option, Some, None}
+use Rattle.std.proofs.Common.{◌≡◌, ℕ, ◌+◌, ◌^◌, ◌≤◌, refl, sym, ap, subst, ◌∙◌, inl, inr, arith, Bool, true, false, cond, List, [], ◌∷◌, length, map, filter, Some}
 use Rattle.std.specs.Prelude.{◌↔◌, ◌||◌, IsTrue}
 use Rattle.std.specs.List.{AllByRecursion}
 use Rattle.std.specs.List.Sorted.{IsStrictlySortedBy}
@@ -8,51 +8,42 @@ use Rattle.std.proofs.lemmas.Bool.Decides.{nat_tests}
 use Rattle.std.proofs.lemmas.List.{length-map}
 use Rattle.std.specs.declared.cmp.Ordering.TheVariants.{Less}
 use Rattle.lxr_layout.specs.declared.Name.{Name}
-use Rattle.lxr_layout.specs.declared.TheConstants.{GRANULES_IN_BLOCK}
+use Rattle.lxr_layout.specs.declared.TheConstants.{DECREMENT_COUNT}
 use Rattle.lxr_layout.specs.declared.limits.Limits.{Limits}
-use Rattle.lxr_graph.specs.Names.{AreInOrder, has, name_order, same_name, union}
-use Rattle.lxr_graph.specs.History.{PauseReport, report_of}
-use Rattle.lxr_graph.specs.State.{Graph, State, next_name, object_at, world_name}
-use Rattle.lxr_graph.specs.declared.Op.TheVariants as op
-use Rattle.lxr_graph.specs.declared.Reply.TheVariants as reply
-use Rattle.lxr_graph.specs.declared.report.Count.{Count}
-use Rattle.lxr_graph.specs.declared.report.Kind.{Kind}
-use Rattle.lxr_graph.specs.declared.report.Kind.TheVariants as kind
+use Rattle.lxr_graph.specs.Names.{AreInOrder, has, name_order, same_name}
+use Rattle.lxr_graph.specs.State.{State, object_at, world_name}
 use Rattle.lxr_graph.proofs.NameSets.{same_names}
 use Rattle.lxr_image.specs.declared.space.Space.{Space}
 use Rattle.lxr_image.specs.Opened.{no_tally}
-use Rattle.lxr_model.specs.Moments.{Moment, unreclaimed_after}
+use Rattle.lxr_image.specs.Tables.{Tables}
+use Rattle.lxr_model.specs.Moments.{Moment}
 use Rattle.lxr_model.specs.Reachable.{Reachable, Refers, held}
-use Rattle.lxr_model.specs.Reports.{AreCounts, count_entry, is_draining}
 use Rattle.lxr_model_counting.proofs.DistinctLemmas.{later_has}
 use Rattle.lxr_invariant.specs.Quiescent.{IsAtRest}
-use Rattle.lxr_invariant.specs.AbstractState.{AbstractState}
 use Rattle.lxr_full.specs.Room.{HasWorld}
-use Rattle.lxr_large_model.specs.declared.LargeOp.{LargeOp}
-use Rattle.lxr_large_model.specs.declared.LargeOp.TheVariants as large_op
-use Rattle.lxr_large_model.specs.declared.LargeReply.{LargeReply}
-use Rattle.lxr_large_model.specs.declared.LargeReply.TheVariants as large_reply
-use Rattle.lxr_large_model.specs.Full.{IsFresh, LargeTerms}
-use Rattle.lxr_large_model.specs.History.{LargeItem, Called, Paused, Renewed, large_moment, large_state}
+use Rattle.lxr_large_model.specs.Full.{IsFresh}
+use Rattle.lxr_large_model.specs.History.{LargeItem, Renewed, large_moment, large_state}
 use Rattle.lxr_large_model.specs.Pauses.{IsLegalLarge}
 use Rattle.lxr_graph.specs.Renewing.{renewed_graph, renewed_held, renewed_name, renewed_object, renewed_state}
 use Rattle.lxr_model.specs.Moments.{renewed_moment}
 use Rattle.lxr_large_model.specs.Renewing.{AreCounted, counted_name, renewed_body}
-use Rattle.lxr_large_model.specs.State.{Large, LargeState}
-use Rattle.lxr_large_bodies.specs.Bodies.{AreAmong, Body, Held, renamed}
+use Rattle.lxr_large_model.specs.State.{Large}
+use Rattle.lxr_large_bodies.specs.Bodies.{AreAmong, Body, renamed}
 use Rattle.lxr_large_bodies.specs.Kept.{HoldsBodies, Kept, kept_of}
 use Rattle.lxr_renew.specs.Renewing.{MayRenew, Renews}
 use Rattle.lxr_renew.proofs.FewLemmas.{unreclaimed_few}
 use Rattle.lxr_renew.proofs.NameLemmas.{has_map, map_has, renewed_one, same_renewed}
-use Rattle.lxr_renew.proofs.StateLemmas.{IsLeft, object_renewed, reachable_still, shape_renewed}
+use Rattle.lxr_renew.proofs.StateLemmas.{IsLeft, reachable_still}
 use Rattle.lxr_large_model.proofs.SerialLemmas.{serial_tells}
 use Rattle.lxr_large_heap.specs.declared.heap.Heap.{Heap}
-use Rattle.lxr_large_heap.specs.Holding.{AreApart, CountsObjects, IsCollected, IsHeapOf, IsMade, IsOther, abstract_after, last_report, limits_of, terms_of}
+use Rattle.lxr_large_heap.specs.Holding.{AreApart, IsCollected, IsHeapOf, IsMade, IsOther, abstract_after, last_report, limits_of, terms_of}
 use Rattle.lxr_large_heap.specs.Renewing.{RenewsHeap}
-use Rattle.lxr_large_heap.proofs.BodyLemmas.{by_tests, held_names, held_pass, kept_by}
+use Rattle.lxr_large_heap.specs.Telling.{TellsHeap}
+use Rattle.lxr_large_heap.proofs.BodyLemmas.{by_tests, held_pass, kept_by}
 use Rattle.lxr_large_heap.proofs.FullLemmas.{of_thread}
 use Rattle.lxr_large_heap.proofs.HeapLemmas.{one_thread}
 use Rattle.lxr_large_heap.proofs.MomentLemmas.{two_rows}
+use Rattle.lxr_large_heap.proofs.TellingLemmas.{same_state, settled}
 
 -- ---- what is left behind a pause that collected
 
@@ -75,31 +66,6 @@ begins_with_world (m ∷ ms) order h = elim (or_cases (same_name world_name m) (
   | inl e ↦ (ms, ap (λ z. z ∷ ms) (sym (same_names world_name m e)))
   | inr k ↦ absurd (after_first m ms order.0 k)
 ]
-
--- the state is that of the last pause
-same_state : (h : List LargeItem) → IsFresh h → (large_moment h).last ≡ (large_moment h).state
-same_state [] fresh = absurd fresh
-same_state (Paused report ∷ h) fresh = refl
-same_state (Renewed ns ∷ h) fresh = ap (renewed_state 1 ns) (same_state h fresh)
-same_state (Called (large_op.Small (op.New dest shape)) (large_reply.Small reply.Full) ∷ h) fresh = same_state h fresh
-same_state (Called (large_op.Big dest blocks) large_reply.Full ∷ h) fresh = same_state h fresh
-same_state (Called o r ∷ h) fresh = absurd fresh
-
-entries_named : (m : Moment) (us stuck ns : List Name) → map counted_name (map (count_entry m.state us stuck) ns) ≡ ns
-entries_named m us stuck [] = refl
-entries_named m us stuck (n ∷ ns) = ap (λ z. n ∷ z) (entries_named m us stuck ns)
-
--- the last pause counted what is unreclaimed, unless names were renewed since
-counts_left : (terms : LargeTerms) (h : List LargeItem) → IsLegalLarge terms h → IsFresh h → 1 ≤ (large_moment h).number → map counted_name (last_report h).counts ≡ (large_moment h).unreclaimed
-counts_left terms [] legal fresh some = absurd fresh
-counts_left terms (Paused report ∷ h) legal fresh some =
-    let m = large_moment h in
-    let told : AreCounts m report true = subst (λ k. AreCounts m report (is_draining k)) fresh legal.1.reports.1.counts in
-    ap (λ (cs : List Count). map counted_name cs) told ∙ entries_named m (unreclaimed_after m report) (union report.stuck m.stuck) (unreclaimed_after m report)
-counts_left terms (Renewed ns ∷ h) legal fresh some = absurd (omega (arith, some))
-counts_left terms (Called (large_op.Small (op.New dest shape)) (large_reply.Small reply.Full) ∷ h) legal fresh some = counts_left terms h legal.0 fresh some
-counts_left terms (Called (large_op.Big dest blocks) large_reply.Full ∷ h) legal fresh some = counts_left terms h legal.0 fresh some
-counts_left terms (Called o r ∷ h) legal fresh some = absurd fresh
 
 -- ---- bodies
 
@@ -167,12 +133,16 @@ apart_renewed ns order blocks (b ∷ bs) all apart = (
 
 -- ---- the heap
 
-module _ (x : Heap) (h : List LargeItem) (is : IsHeapOf x h) (fresh : IsTrue x.fresh) (paused : 1 ≤ x.space.pauses) where
+-- x is the heap before what is left is told, and y behind that
+module _ (x y : Heap) (h : List LargeItem) (fresh : IsTrue x.fresh) (tells : TellsHeap x y h) where
+  abbrev is : IsHeapOf y h
+  is = tells.holds
+
   abbrev m : Moment
   m = large_moment h
 
   abbrev f : IsFresh h
-  f = is.fresh.0 fresh
+  f = is.fresh.0 (ap (λ (z : Heap). z.fresh) tells.heap ∙ fresh)
 
   abbrev c : IsCollected m
   c = is.collected f
@@ -192,39 +162,34 @@ module _ (x : Heap) (h : List LargeItem) (is : IsHeapOf x h) (fresh : IsTrue x.f
 
   few : length ns ≤ 2 ^ 27
   few =
-      let most = unreclaimed_few x.space m is.at is.rests.safepoint.holds in
+      let most = unreclaimed_few y.space m is.at is.rests.safepoint.holds in
       let blocks = is.rests.safepoint.holds.space.limits.blocks.1 in
       let long = ap length names in
       omega (arith, most, blocks, long)
 
-  all_counted : map counted_name x.space.report.counts.items ≡ m.unreclaimed
-  all_counted =
-      let number = is.rests.safepoint.numbers.pauses in
-      ap (λ (r : PauseReport). map counted_name r.counts) is.rests.safepoint.numbers.report ∙ counts_left (terms_of x) h is.legal f (omega (arith, number, paused))
-
-  pub counted : AreCounted x.space.report.counts.items ns
-  counted = record { names = all_counted ∙ names; order = order; few = let k = few in omega (arith, k) }
+  pub counted : AreCounted y.space.report.told.items ns
+  counted = record { names = tells.names ∙ names; order = order; few = let k = few in omega (arith, k) }
 
   -- one count more than names but the world's
-  pub counted_many : length x.space.report.counts.items ≡ length ns + 1
-  counted_many = let all = ap length counted.names in let long = length-map x.space.report.counts.items counted_name in omega (arith, all, long)
+  pub counted_many : length y.space.report.told.items ≡ length ns + 1
+  counted_many = let all = ap length counted.names in let long = length-map y.space.report.told.items counted_name in omega (arith, all, long)
 
-  pub counted_few : length x.space.report.counts.items ≤ 2 ^ 27 + 1
+  pub counted_few : length y.space.report.told.items ≤ 2 ^ 27 + 1
   counted_few = let k = few in let all = counted_many in omega (arith, k, all)
 
-  pub may_renew : MayRenew x.space (abstract_after h is.at) ns
+  pub may_renew : MayRenew y.space (abstract_after h is.at) ns
   may_renew = record {
     rests = is.rests;
-    rows = (let two = two_rows x.space (abstract_after h is.at) is.rests (one_thread x h is) in let one = one_thread x h is in omega (arith, two, one));
-    settled = record { same = same_state h f; none_made = c.made; none_written = c.written };
+    rows = (let two = two_rows y.space (abstract_after h is.at) is.rests (one_thread y h is) in let one = one_thread y h is in omega (arith, two, one));
+    settled = settled y h is f;
     untraced = is.untraced;
     names = names;
-    counted = counted;
+    told = counted;
   }
 
   -- each body is that of one of them
-  bodies_left : AllByRecursion (λ (b : Body). IsTrue (has (world_name ∷ ns) b.name)) x.bodies.bodies
-  bodies_left = left x.bodies.bodies (held_pass m x.bodies.bodies (large_state h).large is.bodies)
+  bodies_left : AllByRecursion (λ (b : Body). IsTrue (has (world_name ∷ ns) b.name)) y.bodies.bodies
+  bodies_left = left y.bodies.bodies (held_pass m y.bodies.bodies (large_state h).large is.bodies)
     where
       one : (n : Name) → (has m.unreclaimed n || has m.made n) ≡ true → IsTrue (has (world_name ∷ ns) n)
       one n e = elim (or_cases (has m.unreclaimed n) (has m.made n) e) [
@@ -236,8 +201,8 @@ module _ (x : Heap) (h : List LargeItem) (is : IsHeapOf x h) (fresh : IsTrue x.f
       left [] all = tt
       left (b ∷ bs) all = (one b.name all.0, left bs all.1)
 
-  pub among : AreAmong x.space.report.counts.items x.bodies.bodies
-  among = subst (λ us. AllByRecursion (λ (b : Body). IsTrue (has us b.name)) x.bodies.bodies) (sym (all_counted ∙ names)) bodies_left
+  pub among : AreAmong y.space.report.told.items y.bodies.bodies
+  among = subst (λ us. AllByRecursion (λ (b : Body). IsTrue (has us b.name)) y.bodies.bodies) (sym (tells.names ∙ names)) bodies_left
 
   -- exactly the large names that are left are kept
   large_left : (ls : List Large) → AllByRecursion (λ (l : Large). l.name.thread ≡ 1) ls → AllByRecursion (λ (l : Large). (has m.unreclaimed l.name || has m.made l.name) ≡ has ns l.name) ls
@@ -265,21 +230,21 @@ module _ (x : Heap) (h : List LargeItem) (is : IsHeapOf x h) (fresh : IsTrue x.f
             (follows.closed u n (subst (λ us. IsTrue (has us u)) (sym names) member) (subst (λ (s : State). Refers s.graph u n) (sym same) refers));
       }
 
-  module _ (space : Space) (r : Renews x.space space (abstract_after h is.at) ns) (left : ℕ) (all : left ≡ length ns) where
+  module _ (space : Space) (r : Renews y.space space (abstract_after h is.at) ns) (left : ℕ) (all : left ≡ length ns) where
     abbrev after : Heap
-    after = record x { space = space; bodies = record x.bodies { bodies = map (renamed ns) x.bodies.bodies }; made = left; made_before = left; left = left }
+    after = record y { space = space; bodies = record y.bodies { bodies = map (renamed ns) y.bodies.bodies }; made = left; made_before = left; left = left }
 
-    keeps : space.limits ≡ x.space.limits
+    keeps : space.limits ≡ y.space.limits
     keeps = ap (λ (s : Space). s.limits) r.space
 
     none : space.pauses ≡ 0
     none = ap (λ (s : Space). s.pauses) r.space
 
     rests : IsAtRest space (abstract_after (Renewed ns ∷ h) r.at)
-    rests = subst (λ t. IsAtRest space (record { moment = renewed_moment t ns m; at = r.at; reported = last_report h })) (one_thread x h is) r.rests
+    rests = subst (λ t. IsAtRest space (record { moment = renewed_moment t ns m; at = r.at; reported = last_report h })) (one_thread y h is) r.rests
 
-    terms : terms_of after ≡ terms_of x
-    terms = λ i. record { blocks = (keeps i).blocks; bodies = x.bodies.blocks }
+    terms : terms_of after ≡ terms_of y
+    terms = λ i. record { blocks = (keeps i).blocks; bodies = y.bodies.blocks }
 
     world : HasWorld (renewed_graph 1 ns (large_state h).small.graph)
     world =
@@ -290,9 +255,9 @@ module _ (x : Heap) (h : List LargeItem) (is : IsHeapOf x h) (fresh : IsTrue x.f
     bodies : HoldsBodies after.bodies (renewed_moment 1 ns m) (large_state (Renewed ns ∷ h)).large
     bodies =
         let ls = (large_state h).large in
-        kept_renamed ns x.bodies.bodies
+        kept_renamed ns y.bodies.bodies
         ∙ ap (λ ks. map (renamed_kept ns) ks) (is.bodies ∙ by_tests m ls)
-        ∙ sym (large_renamed ns (has m.unreclaimed) (has m.made) (has (map (renewed_name ns) m.unreclaimed)) (has []) ls (large_left ls (of_thread x.made ls is.names))
+        ∙ sym (large_renamed ns (has m.unreclaimed) (has m.made) (has (map (renewed_name ns) m.unreclaimed)) (has []) ls (large_left ls (of_thread y.made ls is.names))
         (λ n. ap (λ z. has z n) c.made) (λ n. refl) (λ n e. has_map (renewed_name ns) m.unreclaimed n (subst (λ us. IsTrue (has us n)) (sym names) (later n e))))
         ∙ sym (by_tests (renewed_moment 1 ns m) (large_state (Renewed ns ∷ h)).large)
       where
@@ -314,8 +279,9 @@ module _ (x : Heap) (h : List LargeItem) (is : IsHeapOf x h) (fresh : IsTrue x.f
       made = all;
       few = let k = few in omega (arith, k, all);
       pauses = none;
-      bodies = refl;
-      terms = terms;
+      bodies = ap (λ (z : Heap). record z.bodies { bodies = map (renamed ns) z.bodies.bodies }) tells.heap;
+      terms = terms ∙ ap terms_of tells.heap;
+      told = ap (λ (s : Space). map counted_name s.report.told.items) r.space ∙ tells.names ∙ names;
       holds = record {
         legal = subst (λ t. IsLegalLarge t (Renewed ns ∷ h)) (sym terms) (is.legal, record { fresh = f; names = names });
         at = r.at;
@@ -333,8 +299,9 @@ module _ (x : Heap) (h : List LargeItem) (is : IsHeapOf x h) (fresh : IsTrue x.f
         };
         names = subst (λ k. AllByRecursion (IsMade k) (large_state (Renewed ns ∷ h)).large) (sym all) (names_renewed ns order (large_state h).large);
         bodies = bodies;
-        apart = apart_renewed ns order x.bodies.blocks x.bodies.bodies bodies_left is.apart;
+        apart = apart_renewed ns order y.bodies.blocks y.bodies.bodies bodies_left is.apart;
         fresh = is.fresh;
         collected = λ e. record { made = refl; written = refl; exactly = exactly };
+        drained = λ e. ap (λ (t : Tables). t.cursors DECREMENT_COUNT) r.tables ∙ is.drained e;
       };
     }

@@ -3,13 +3,14 @@ use Rattle.std.specs.Prelude.{◌≡◌, ℕ, ◌+◌, ◌*◌, ◌≤◌, ◌�
 use Rattle.std.specs.List.{AllByRecursion}
 use Rattle.lxr_layout.specs.declared.limits.Limits.{Limits}
 use Rattle.lxr_layout.specs.declared.Name.{Name}
-use Rattle.lxr_layout.specs.declared.TheConstants.{WORDS_IN_BLOCK}
+use Rattle.lxr_layout.specs.declared.TheConstants.{DECREMENT_COUNT, WORDS_IN_BLOCK}
 use Rattle.lxr_graph.specs.declared.Reply.{Reply}
 use Rattle.lxr_graph.specs.declared.Reply.TheVariants as reply
 use Rattle.lxr_graph.specs.Names.{has, same_name}
 use Rattle.lxr_graph.specs.History.{PauseReport}
 use Rattle.lxr_graph.specs.State.{next_name}
 use Rattle.lxr_image.specs.Opened.{no_tally}
+use Rattle.lxr_image.specs.Spaces.{tables_of}
 use Rattle.lxr_model.specs.Moments.{Moment}
 use Rattle.lxr_model.specs.Reachable.{Reachable}
 use Rattle.lxr_invariant.specs.AbstractState.{AbstractState, no_report}
@@ -86,8 +87,8 @@ abbrev pub StayInBlocks : List Body → List Body → Type 0
 StayInBlocks before after = (n : Name) (a b : Body) → body_of before n ≡ Some a → body_of after n ≡ Some b → (b.first ≡ a.first) × (b.blocks ≡ a.blocks)
 
 -- A heap is that of a history: its space is at rest for the moment that the history leads to, and no trace runs; its bodies are those of the
--- large names that are kept; it knows how many names were made and how many objects there are, and whether a pause is fresh; and the history is
--- legal, so each reply was that of a step, or `full` where it may be, and each report that of its pause.
+-- large names that are kept; it knows how many names were made and how many objects there are, and whether a pause is fresh, where no decrement
+-- waits; and the history is legal, so each reply was that of a step, or `full` where it may be, and each report that of its pause.
 pub record IsHeapOf (x : Heap) (h : List LargeItem) : Type 0 where
   pub legal : IsLegalLarge (terms_of x) h
   pub at : Name → ℕ
@@ -104,9 +105,11 @@ pub record IsHeapOf (x : Heap) (h : List LargeItem) : Type 0 where
   pub apart : AreApart x.bodies.blocks x.bodies.bodies
   pub fresh : IsTrue x.fresh ↔ IsFresh h
   pub collected : IsFresh h → IsCollected (large_moment h)
+  pub drained : IsFresh h → (tables_of x.space).cursors DECREMENT_COUNT ≡ 0
 
--- a heap without a history yet: one of these blocks, and of these for bodies
+-- a heap without a history yet: one of these blocks, and of these for bodies; nothing is told of counts
 pub record IsOpenedHeap (x : Heap) (blocks bodies : ℕ) : Type 0 where
   pub holds : IsHeapOf x []
   pub made : x.made ≡ 0
   pub terms : terms_of x ≡ record { blocks = blocks; bodies = bodies }
+  pub untold : x.space.report.told.items ≡ []

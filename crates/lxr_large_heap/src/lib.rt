@@ -13,8 +13,9 @@ mod looking;
 mod opening;
 mod pausing;
 mod renewing;
+mod telling;
 
-ghost use Rattle.std.specs.Prelude.{◌≡◌, ◌↔◌, ◌+◌, ◌-◌, ◌^◌, ◌<◌, ◌≤◌, IfOk, IsTrue, List, None, length, unwrap_or};
+ghost use Rattle.std.specs.Prelude.{◌≡◌, ◌↔◌, ◌+◌, ◌-◌, ◌^◌, ◌<◌, ◌≤◌, IfOk, IsTrue, List, [], None, length, unwrap_or};
 ghost use Rattle.lxr_layout.specs.declared.TheConstants.{MOST_BLOCKS};
 ghost use Rattle.lxr_graph.specs.State.{register_at};
 ghost use Rattle.lxr_image.specs.Spaces.{tables_of};
@@ -28,6 +29,7 @@ ghost use Rattle.lxr_large_heap.specs.Holding.{IsHeapOf, IsOpenedHeap};
 ghost use Rattle.lxr_large_heap.specs.Looking.{shape_held};
 ghost use Rattle.lxr_large_heap.specs.Pausing.{PausesHeap};
 ghost use Rattle.lxr_large_heap.specs.Renewing.{RenewsHeap};
+ghost use Rattle.lxr_large_heap.specs.Telling.{TellsHeap};
 
 pub use bulk::BodyReply;
 use heap::Heap;
@@ -126,28 +128,38 @@ impl LargeHeap {
     }
 
     /// Makes a pause, which collects all that is unreachable, or counts alone. Of the bodies it leaves exactly those whose names it leaves.
-    /// There are fewer than 2^32 pauses, since a report has its number.
+    /// There are fewer than 2^32 pauses, since a report has its number. Behind it nothing is told of counts.
     pub fn pause(&mut self, collect: bool)
         requires number { self.old.space.pauses + 1 < 2 ^ 32 }
-        ensures { (h : List LargeItem) → IsHeapOf self.old h → PausesHeap self.old self.new h collect }
+        ensures pauses { (h : List LargeItem) → IsHeapOf self.old h → PausesHeap self.old self.new h collect }
+        ensures untold { self.new.space.report.told.items ≡ [] }
     {
         pausing::pause(&mut self.heap, collect)
     }
 
+    /// Lists the world and each object that the last pause left with its count, or none where it is stuck, in the order of names: in `told`
+    /// of what `report` gives. A count is what the table of counts has. Behind a pause that collected, or such refusals alone, that is the
+    /// number of references to the object, as that pause reported it unless names were renewed since. It takes no memory: it goes once over
+    /// the heap's start bits, looks at the header and the count of each of these objects, and sorts them by name, in place (n log n).
+    pub fn tell_counts(&mut self)
+        ensures { (h : List LargeItem) → IsHeapOf self.old h → TellsHeap self.old self.new h }
+    {
+        telling::tell(&mut self.heap)
+    }
+
     /// Gives each object that is left a new name, 1.1, 1.2, 1.3, .., in order of the old ones, and counts pauses from 0 again, so that a
-    /// heap lives for ever though names and pauses have 32 bits. It stands right behind a pause that collected, or such refusals alone, and
-    /// not twice behind one pause. What registers and objects refer to and the words of bodies are as they were, and nothing moves. The
-    /// last pause's report stays, with the old names. It takes no memory: it goes once over the heap's start bits, and looks up each name
-    /// that is left.
+    /// heap lives for ever though names and pauses have 32 bits. It stands right behind a pause that collected, or such refusals alone. What
+    /// registers and objects refer to and the words of bodies are as they were, and nothing moves. The last pause's report stays, but for
+    /// `told`, which lists what was left, with the old names. It takes no memory: it tells what is left, goes once more over the heap's start
+    /// bits, and looks up each name.
     pub fn renew(&mut self)
         requires fresh { IsTrue self.old.fresh }
-        requires paused { 1 ≤ self.old.space.pauses }
         ensures { (h : List LargeItem) → IsHeapOf self.old h → RenewsHeap self.old self.new h }
     {
         renewing::renew(&mut self.heap)
     }
 
-    /// What the last pause reported.
+    /// What the last pause reported, with what was told since of the counts of what it left.
     pub fn report(&self) -> &Report
         ensures { result.now ≡ self.now.space.report }
     {

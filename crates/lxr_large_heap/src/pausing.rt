@@ -1,5 +1,5 @@
 //! One pause of a heap.
-ghost use Rattle.std.specs.Prelude.{◌≡◌, ◌≢◌, ◌+◌, ◌^◌, ◌%◌, ◌<◌, ◌≤◌, List, if◌then◌else◌, length};
+ghost use Rattle.std.specs.Prelude.{◌≡◌, ◌≢◌, ◌+◌, ◌^◌, ◌%◌, ◌<◌, ◌≤◌, List, [], if◌then◌else◌, length};
 ghost use Rattle.lxr_large_model.specs.History.{LargeItem};
 ghost use Rattle.lxr_run_pause.specs.declared.Ask.TheVariants as ask;
 ghost use Rattle.lxr_run_pause.specs.Deciding.{IsPace};
@@ -49,11 +49,12 @@ fn left_after(left: u32, report: &Report) -> u32
 }
 
 /// Makes a pause. What is unreachable is reclaimed where it is to collect, and else what counts show to be dead; bodies stay where their names
-/// do.
+/// do. Nothing is told of counts.
 pub(crate) fn pause(heap: &mut Heap, collect: bool)
     requires holds { (h : List LargeItem) × IsHeapOf heap.old h }
     requires number { heap.old.space.pauses + 1 < 2 ^ 32 }
-    ensures { (h : List LargeItem) → IsHeapOf heap.old h → PausesHeap heap.old heap.new h collect }
+    ensures pauses { (h : List LargeItem) → IsHeapOf heap.old h → PausesHeap heap.old heap.new h collect }
+    ensures untold { heap.new.space.report.told.items ≡ [] }
 {
     let ask = asked(collect);
     let pace = untraced_pace(heap.space.pauses + 1);

@@ -1,4 +1,4 @@
--- Names that are renewed where there are large objects: their bodies go by the new names, which are told by the counts of the last pause.
+-- Names that are renewed where there are large objects: their bodies go by the new names, by the counts of all that is left.
 use Rattle.std.specs.Prelude.{◌≡◌, ◌^◌, ◌<◌, List, ◌∷◌, filter, length, map}
 use Rattle.lxr_layout.specs.declared.Name.{Name}
 use Rattle.lxr_graph.specs.declared.report.Count.{Count}

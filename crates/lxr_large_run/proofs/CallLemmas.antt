@@ -1,16 +1,19 @@
 -- What a script may call a heap with, and what one call or one pause adds to the numbers of a heap.
-use Rattle.std.proofs.Common.{◌≡◌, ℕ, ◌+◌, ◌<◌, ◌≤◌, ◌∙◌, refl, sym, ap, inl, inr, arith, Bool, true, false, List, ◌∷◌, length, ◌⊎◌, Option, Some, None}
+use Rattle.std.proofs.Common.{◌≡◌, ℕ, ◌+◌, ◌<◌, ◌≤◌, ◌∙◌, refl, sym, ap, subst, inl, inr, arith, Bool, true, false, List, ◌∷◌, length, ◌⊎◌, Option, Some, None}
+use Rattle.std.specs.Prelude.{◌&&◌, IsTrue, not}
 use Rattle.lxr_layout.specs.declared.Name.{Name}
 use Rattle.lxr_graph.specs.declared.Op.{Op}
 use Rattle.lxr_graph.specs.declared.Op.TheVariants as op
 use Rattle.lxr_graph.specs.declared.Reply.{Reply}
 use Rattle.lxr_graph.specs.declared.Reply.TheVariants as reply
 use Rattle.lxr_graph.specs.declared.report.Kind.{Kind}
-use Rattle.lxr_graph.specs.History.{report_of}
+use Rattle.lxr_graph.specs.declared.report.Report.{Report}
+use Rattle.lxr_graph.specs.History.{HasToldCounts, PauseReport, report_of}
 use Rattle.lxr_graph.specs.State.{State, next_name, register_at, row_of}
 use Rattle.lxr_graph.specs.Step.{fresh, make, step}
 use Rattle.lxr_text_script.specs.declared.Version.TheVariants.{One}
 use Rattle.lxr_text_script.specs.Spelling.{operation_version}
+use Rattle.lxr_text_print.specs.Reports.{is_plain}
 use Rattle.lxr_direct.specs.Operating.{IsOfFirstVersion}
 use Rattle.lxr_large_model.specs.declared.LargeOp.{LargeOp}
 use Rattle.lxr_large_model.specs.declared.LargeOp.TheVariants as large_op
@@ -23,8 +26,9 @@ use Rattle.lxr_large_model.specs.Step.{large_after, large_step, put_at, put_to, 
 use Rattle.lxr_large_text.specs.Limits.{IsLargeOperation}
 use Rattle.lxr_large_heap.specs.declared.heap.Heap.{Heap}
 use Rattle.lxr_large_heap.specs.Acting.{MayBeCalled}
-use Rattle.lxr_large_heap.specs.Holding.{IsHeapOf, abstract_after, made_with}
+use Rattle.lxr_large_heap.specs.Holding.{IsHeapOf, StayInBlocks, abstract_after, made_with, terms_of}
 use Rattle.lxr_large_heap.specs.Pausing.{PausesHeap, kind_asked}
+use Rattle.lxr_large_heap.specs.Telling.{TellsHeap}
 use Rattle.lxr_large_heap.proofs.HeapLemmas.{one_thread}
 use Rattle.lxr_large_heap.proofs.MomentLemmas.{two_rows}
 use Rattle.lxr_large_heap.proofs.RowLemmas.{make_counts, step_counts}
@@ -76,6 +80,33 @@ called_pauses x y h o r is then = pauses_are y (Called o r ∷ h) then ∙ same_
 pub paused_pauses : (x y : Heap) (h : List LargeItem) (collect : Bool) → IsHeapOf x h → PausesHeap x y h collect → y.space.pauses ≡ x.space.pauses + 1
 paused_pauses x y h collect is then =
     pauses_are y (Paused (report_of y.space.report) ∷ h) then.holds ∙ then.holds.legal.1.reports.1.number ∙ ap (λ n. n + 1) (sym (pauses_are x h is))
+
+-- ---- a pause whose counts are told
+
+-- behind a pause whose counts were told the heap is the one behind the pause
+pub told_pauses : (x y z : Heap) (h : List LargeItem) (collect : Bool) → PausesHeap x y h collect → TellsHeap y z (Paused (report_of y.space.report) ∷ h) → PausesHeap x z h collect
+told_pauses x y z h collect paused tells = record {
+  kind = ap (λ (w : Heap). w.space.report.kind) tells.heap ∙ paused.kind;
+  holds = subst (λ (r : PauseReport). IsHeapOf z (Paused r ∷ h)) (sym (ap (λ (w : Heap). report_of w.space.report) tells.heap)) tells.holds;
+  made = ap (λ (w : Heap). w.made) tells.heap ∙ paused.made;
+  stay = subst (λ (w : Heap). StayInBlocks x.bodies.bodies w.bodies.bodies) (sym tells.heap) paused.stay;
+  terms = ap terms_of tells.heap ∙ paused.terms;
+}
+
+-- and one that collected has told what it counted
+pub told_counts : (x y z : Heap) (h : List LargeItem) → IsHeapOf x h → PausesHeap x y h true → TellsHeap y z (Paused (report_of y.space.report) ∷ h) → HasToldCounts z.space.report
+told_counts x y z h is paused tells = let one = paused_pauses x y h true is paused in tells.told paused.kind (omega (arith, one))
+
+-- a pause is plain unless it collects
+not_plain : (collect : Bool) (k : Kind) → k ≡ kind_asked collect → not (is_plain k) ≡ collect
+not_plain true k is = ap (λ q. not (is_plain q)) is
+not_plain false k is = ap (λ q. not (is_plain q)) is
+
+-- where counts are told that are asked for, the report may be printed
+pub may_print : (x y : Heap) (r : Report) (h : List LargeItem) (collect counts : Bool) → r ≡ y.space.report → PausesHeap x y h collect → (IsTrue (counts && collect) → HasToldCounts y.space.report)
+    → IsTrue (counts && not (is_plain r.kind)) → HasToldCounts r
+may_print x y r h collect counts is paused told asked =
+    subst HasToldCounts (sym is) (told (subst (λ b. IsTrue (counts && b)) (not_plain collect r.kind (ap (λ (q : Report). q.kind) is ∙ paused.kind)) asked))
 
 -- ---- what was made
 

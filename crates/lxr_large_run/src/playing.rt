@@ -1,6 +1,6 @@
 //! The operations of a script, one by one, with the pauses before and behind them.
-ghost use Rattle.std.specs.Prelude.{◌≡◌, ℕ, ◌+◌, ◌-◌, ◌^◌, ◌<◌, ◌≤◌, [], ◌∷◌, Bool, List, IfOk, OnErr, OnOk, length};
-ghost use Rattle.lxr_graph.specs.History.{report_of};
+ghost use Rattle.std.specs.Prelude.{◌≡◌, ℕ, ◌+◌, ◌-◌, ◌^◌, ◌<◌, ◌≤◌, [], ◌∷◌, ◌&&◌, Bool, IsTrue, List, IfOk, OnErr, OnOk, length};
+ghost use Rattle.lxr_graph.specs.History.{HasToldCounts, report_of};
 ghost use Rattle.lxr_text_print.specs.Reports.{report_text};
 ghost use Rattle.lxr_text_stream.specs.Streams.{Appends, AppendsFront, Rose};
 ghost use Rattle.lxr_large_model.specs.declared.LargeOp.{LargeOp as LargeOpOf};
@@ -21,6 +21,18 @@ use lxr_large_model::{Acted, LargeOp, LargeReply};
 use lxr_text_print::print_pause;
 use lxr_text_stream::{Sink, WriteError};
 
+/// Makes a pause, and tells its counts where they are asked for and it collects.
+fn pause_and_tell(heap: &mut LargeHeap, collect: bool, counts: bool)
+    requires number { heap.old.space.pauses + 1 < 2 ^ 32 }
+    ensures pauses { (h : List LargeItem) → IsHeapOf heap.old h → PausesHeap heap.old heap.new h collect }
+    ensures told { (h : List LargeItem) → IsHeapOf heap.old h → IsTrue (counts && collect) → HasToldCounts heap.new.space.report }
+{
+    heap.pause(collect);
+    if counts && collect {
+        heap.tell_counts();
+    }
+}
+
 /// Makes a pause and prints its report. After an error a prefix of the report is written.
 fn pause<O: Sink>(
     heap: &mut LargeHeap,
@@ -28,6 +40,7 @@ fn pause<O: Sink>(
     counts: bool,
     output: &mut O,
 ) -> Result<(), WriteError>
+    requires holds { (h : List LargeItem) × IsHeapOf heap.old h }
     requires number { heap.old.space.pauses + 1 < 2 ^ 32 }
     ensures pauses { (h : List LargeItem) → IsHeapOf heap.old h → PausesHeap heap.old heap.new h collect }
     ensures ok { OnOk result (Appends (O.written output.old) (O.written output.new) (report_text counts (report_of heap.new.space.report))) }
@@ -35,7 +48,7 @@ fn pause<O: Sink>(
     ensures faults { O.faults output.old ≤ O.faults output.new }
     ensures cause { result ≡ Err WriteError.Fault → Rose (O.faults output.old) (O.faults output.new) }
 {
-    heap.pause(collect);
+    pause_and_tell(heap, collect, counts);
     print_pause(heap.report(), counts, output)
 }
 

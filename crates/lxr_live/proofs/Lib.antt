@@ -13,6 +13,7 @@ pub mod NewestLemmas
 pub mod RecallLemmas
 pub mod TellingLemmas
 pub mod HeapLemmas
+pub mod ToldLemmas
 pub mod RenewingLemmas
 pub mod IdleLemmas
 pub mod DueLemmas

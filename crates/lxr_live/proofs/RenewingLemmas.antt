@@ -11,6 +11,7 @@ use Rattle.std.proofs.lemmas.Option.{slice_get-map, slice_get_within}
 use Rattle.lxr_layout.specs.declared.Name.{Name}
 use Rattle.lxr_layout.specs.declared.TheConstants.{MOST_GRANULES}
 use Rattle.lxr_layout.specs.declared.limits.Limits.{Limits}
+use Rattle.lxr_graph.specs.declared.report.Count.{Count}
 use Rattle.lxr_graph.specs.History.{Call, Item, Pause, PauseReport, Renew, report_of}
 use Rattle.lxr_graph.specs.Names.{AreInOrder as InOrder, has, name_order, same_name}
 use Rattle.lxr_graph.proofs.NameSets.{same_names}
@@ -22,10 +23,11 @@ use Rattle.lxr_model.specs.Moments.{Moment, Trace, moment, renewed_moment}
 use Rattle.lxr_model.specs.Renewing.{IsBehindDraining}
 use Rattle.lxr_model.specs.Reports.{is_draining}
 use Rattle.lxr_model.specs.Terms.{Terms}
-use Rattle.lxr_model.proofs.DrainLemmas.{exact_counts}
 use Rattle.lxr_model.proofs.HistoryLemmas.{good_history}
 use Rattle.lxr_invariant.specs.AbstractState.{AbstractState}
 use Rattle.lxr_invariant.specs.Settled.{IsSettled}
+use Rattle.lxr_pause_queue.specs.Counting.{ListsCounts}
+use Rattle.lxr_pause_queue.specs.Entries.{with_told}
 use Rattle.lxr_large_model.specs.Renewing.{AreCounted, counted_name}
 use Rattle.lxr_renew.specs.Renewing.{MayRenew, Renews}
 use Rattle.lxr_renew.proofs.FewLemmas.{unreclaimed_few}
@@ -49,12 +51,12 @@ use Rattle.lxr_live.specs.Living.{AreLive, IsLive}
 use Rattle.lxr_live.specs.Renewing.{CanActorRenew, HasRenewed, StandsIdle, actor_renewed, has_drained, is_at_end, is_renewal_due, is_worn}
 use Rattle.lxr_live.specs.Settings.{run_of}
 use Rattle.lxr_live.specs.Wanting.{is_ended}
+use Rattle.lxr_live.proofs.ToldLemmas.{between_told}
 
 -- what a history that ends with a draining pause tells
 record IsDrained (threads : ℕ) (h : List Item) : Type 0 where
   behind : IsBehindDraining h
   settled : IsSettled (moment threads h)
-  counts : map counted_name (last_report h).counts ≡ (moment threads h).unreclaimed
 
 drained_by : (terms : Terms) (h : List Item) → IsLegalSoFar terms h → JustPaused h → 1 ≤ (moment terms.threads h).number → IsTrue (is_draining (last_report h).kind) → IsDrained terms.threads h
 drained_by terms [] legal paused some drains = absurd (omega (arith, some))
@@ -63,7 +65,6 @@ drained_by terms (Renew ns ∷ h) legal paused some drains = absurd (omega (arit
 drained_by terms (Pause report ∷ h) legal paused some drains = record {
   behind = drains;
   settled = record { same = refl; none_made = refl; none_written = refl };
-  counts = (exact_counts terms h report legal drains).0;
 }
 
 -- ---- what is left, with the world first
@@ -224,13 +225,6 @@ module _ (settings : Settings) (script : Script) (space : Space) (actors : List 
       let long = ap length left_names.1 in
       omega (arith, most, blocks, long)
 
-  counted : AreCounted space.report.counts.items ns
-  counted = record {
-    names = ap (λ (r : PauseReport). map counted_name r.counts) reported ∙ drained.counts ∙ sym (ap (λ (m : Moment). m.unreclaimed) come.stands.moment) ∙ left_names.1;
-    order = subst InOrder left_names.1 come.safepoint.holds.follows.unreclaimed;
-    few = (let k = few in omega (arith, k));
-  }
-
   untraced : g.moment.trace ≡ None
   untraced = none_traced g.moment.trace space.trace come.safepoint.numbers.trace told.1
 
@@ -241,28 +235,43 @@ module _ (settings : Settings) (script : Script) (space : Space) (actors : List 
       let threads = ap (λ (l : Limits). l.threads) come.limits in
       omega (arith, old, same, threads)
 
-  pub may_renew : MayRenew space g ns
-  may_renew = record {
-    rests = record {
-      safepoint = amid.between.safepoint;
-      undecremented = amid.between.undecremented;
-      lines = amid.between.lines;
-      outs = amid.between.outs;
-      states = amid.between.states;
-    };
-    rows = rows;
-    settled = subst IsSettled (sym come.stands.moment) drained.settled;
-    untraced = untraced;
-    names = left_names.1;
-    counted = counted;
-  }
+  -- what is left was listed
+  module _ (listing : Space) (tells : ListsCounts space listing g.moment g.at) where
+    abbrev entries : List Count
+    entries = listing.report.told.items
 
-  -- one count more than names but the world's
-  pub counted_many : length space.report.counts.items ≡ length ns + 1
-  counted_many = let all = ap length counted.names in let long = length-map space.report.counts.items counted_name in omega (arith, all, long)
+    counted : AreCounted entries ns
+    counted = record {
+      names = tells.names ∙ left_names.1;
+      order = subst InOrder left_names.1 come.safepoint.holds.follows.unreclaimed;
+      few = (let k = few in omega (arith, k));
+    }
 
-  pub counted_few : length space.report.counts.items ≤ MOST_GRANULES + 1
-  counted_few = let k = few in let all = counted_many in omega (arith, k, all)
+    pub still_amid : IsBetweenEpochs task (with_told space entries) None None actors h g
+    still_amid = between_told task space None None actors h g entries amid
+
+    pub may_renew : MayRenew listing g ns
+    may_renew = subst (λ s. MayRenew s g ns) (sym tells.space) (record {
+      rests = record {
+        safepoint = still_amid.between.safepoint;
+        undecremented = still_amid.between.undecremented;
+        lines = still_amid.between.lines;
+        outs = still_amid.between.outs;
+        states = still_amid.between.states;
+      };
+      rows = rows;
+      settled = subst IsSettled (sym come.stands.moment) drained.settled;
+      untraced = untraced;
+      names = left_names.1;
+      told = counted;
+    })
+
+    -- one entry more than names but the world's
+    pub counted_many : length entries ≡ length ns + 1
+    counted_many = let all = ap length counted.names in let long = length-map entries counted_name in omega (arith, all, long)
+
+    pub counted_few : length entries ≤ MOST_GRANULES + 1
+    counted_few = let k = few in let all = counted_many in omega (arith, k, all)
 
   go_on : (i : ℕ) (m : Mutating) → slice_get (mutators_in actors) i ≡ Some m → m.end ≢ Some ends.Ended
   go_on = none_at_end actors (not-true (list_any is_at_end actors) (and_parts (list_any is_worn actors) (not (list_any is_at_end actors)) asked.1).1)
@@ -316,12 +325,14 @@ module _ (settings : Settings) (script : Script) (space : Space) (actors : List 
             let same : anew left m ≡ m' = cc in
             subst IsLive same (stands.live i m e)
 
-    pub has_renewed : (after : Space) → Renews space after g ns → HasRenewed settings actors after actors' h
-    has_renewed after r = record {
-      names = ns;
-      begin_anew = ap (λ k. map (actor_renewed k) actors) all;
-      abstract_state = record { moment = renewed_moment space.limits.threads ns g.moment; at = r.at; reported = g.reported };
-      between = run_renewed task space after None None actors actors' h g ns amid
-          (record { renews = refl; behind = drained.behind; untraced = untraced; left = left_names.1; go_on = go_on }) r are;
-      live = still_live;
-    }
+    pub has_renewed : (listing after : Space) → ListsCounts space listing g.moment g.at → Renews listing after g ns → HasRenewed settings actors after actors' h
+    has_renewed listing after tells renews =
+        let r = subst (λ s. Renews s after g ns) tells.space renews in
+        record {
+          names = ns;
+          begin_anew = ap (λ k. map (actor_renewed k) actors) all;
+          abstract_state = record { moment = renewed_moment space.limits.threads ns g.moment; at = r.at; reported = g.reported };
+          between = run_renewed task (with_told space (entries listing tells)) after None None actors actors' h g ns (still_amid listing tells)
+              (record { renews = refl; behind = drained.behind; untraced = untraced; left = left_names.1; go_on = go_on }) r are;
+          live = still_live;
+        }

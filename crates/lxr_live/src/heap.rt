@@ -215,6 +215,7 @@ impl Heap {
     }
 
     /// The report of the last pause: some exactly where no epoch is open, the heap is not lost, and a pause was made.
+    /// Its counts are for proofs alone: a heap lists what is left only where it renews names.
     pub fn report(&self) -> Option<&Report>
         ensures some { (script : Script) (h : List Item) → IsHeapOf script h self.now → IsSome result ↔ (IsAtRest self.now.stage × (0 < (last_report h).number)) }
         ensures last { (script : Script) (h : List Item) → IsHeapOf script h self.now → IfSome result (λ report. report_of report.now ≡ last_report h) }

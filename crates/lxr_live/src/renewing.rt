@@ -14,17 +14,19 @@ use lxr_core::AnyActor;
 use lxr_graph::Kind;
 use lxr_image::Space;
 use lxr_mutator::MutEnd;
+use lxr_pause_queue::tell_counts;
 use lxr_renew::renew_names;
 
 /// Renews names where that is due: nothing was served behind the last pause, which drained and left no trace running, some mutator was
-/// ordered more than half of what it may be ordered since names were last renewed, and no thread has ended. Then each mutator counts anew.
-/// It takes no memory.
+/// ordered more than half of what it may be ordered since names were last renewed, and no thread has ended. What is left is listed for
+/// that, and each mutator counts anew. It takes no memory.
 pub(crate) fn renew_where_due(space: &mut Space, actors: &mut [AnyActor], idle: bool)
     requires { (settings : SettingsOf) × (script : Script) × (h : List Item) × (g : AbstractState) × StandsIdle settings script space.old actors.old h g idle }
     ensures { RenewsWhere (idle && is_renewal_due space.old actors.old) space.old actors.old idle space.new actors.new }
 {
     if idle && is_renewal_due(space, actors) {
-        let left = space.report.counts.len() as u32 - 1;
+        tell_counts(space);
+        let left = space.report.told.len() as u32 - 1;
         renew_names(space);
         renew_actors(actors, left);
     }
@@ -62,7 +64,7 @@ fn has_drained(space: &Space) -> bool
     (space.pauses > 0 && is_draining(space.report.kind)) && space.trace.is_none()
 }
 
-/// Whether a pause of this kind finishes its decrements and counts what is left.
+/// Whether a pause of this kind finishes its decrements, so that what is left can be counted.
 fn is_draining(kind: Kind) -> bool
     ensures { result ≡ is_draining kind }
 {

@@ -1,4 +1,3 @@
-pub mod Marks
 pub mod AgendaLemmas
 pub mod RunLemmas
 pub mod OrderLemmas

@@ -8,9 +8,8 @@ ghost use Rattle.lxr_alloc.specs.declared.TheConstants.{MOST_OPERATIONS};
 ghost use Rattle.lxr_mutator.specs.Keeping.{kept_with, next_kept};
 ghost use Rattle.lxr_mutator.specs.Dialogues.{begun_anew, first_dialogue, has_more_room, newest, op_at_hand, with_op, with_reply};
 
-use crate::chronicle::Chronicle;
 use lxr_alloc::MOST_OPERATIONS;
-use lxr_base::Listed;
+use lxr_base::{Chronicle, Listed};
 use lxr_graph::{Op, Operations, Replies, Reply};
 use std::alloc::{AllocError, Global};
 use std::marker::Model;

@@ -6,7 +6,6 @@
 #![tactic(auto)]
 
 mod agenda;
-mod chronicle;
 mod laws;
 mod mutator;
 mod operating;

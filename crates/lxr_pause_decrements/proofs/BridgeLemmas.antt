@@ -128,7 +128,7 @@ room_stays s words dead is = record {
     dead = is.report.dead;
     stuck = is.report.stuck;
     swept = is.report.swept;
-    counts = is.report.counts;
+    told = is.report.told;
   };
 }
 

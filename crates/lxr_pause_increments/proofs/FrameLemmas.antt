@@ -117,7 +117,7 @@ room_stays a c leaves has =
         dead = has.report.dead;
         stuck = has.report.stuck;
         swept = has.report.swept;
-        counts = has.report.counts;
+        told = has.report.told;
       };
     } in
     subst HasRoom (sym leaves.space) there

@@ -13,7 +13,7 @@ use Rattle.lxr_layout.specs.Objects.{header_of}
 use Rattle.lxr_image.specs.declared.space.Space.{Space}
 use Rattle.lxr_image.specs.Spaces.{tables_of}
 use Rattle.lxr_image.specs.Tables.{Tables}
-use Rattle.lxr_pause_queue.specs.Entries.{entries_below, entry_at, entry_in, with_counts}
+use Rattle.lxr_pause_queue.specs.Entries.{entries_below, entry_at, entry_in, with_told}
 use Rattle.lxr_graph.specs.declared.report.Count.{Count}
 use Rattle.lxr_image_search.specs.declared.Wanted.TheVariants.{Object}
 use Rattle.lxr_image_search.specs.Search.{NoneWanted}
@@ -44,11 +44,11 @@ none_told t from (suc k) past none = elim (leb_tells (suc k) from) [
 ]
 
 -- where none is wanted up to a block, nothing more is told before it
-pub none_more_told : (s mid : Space) (from end : ℕ) → mid ≡ with_counts s (entries_below (tables_of s) (GRANULES_IN_BLOCK * from)) → from ≤ end
-    → NoneWanted (tables_of mid) Object (GRANULES_IN_BLOCK * from) (GRANULES_IN_BLOCK * end) → mid ≡ with_counts s (entries_below (tables_of s) (GRANULES_IN_BLOCK * end))
+pub none_more_told : (s mid : Space) (from end : ℕ) → mid ≡ with_told s (entries_below (tables_of s) (GRANULES_IN_BLOCK * from)) → from ≤ end
+    → NoneWanted (tables_of mid) Object (GRANULES_IN_BLOCK * from) (GRANULES_IN_BLOCK * end) → mid ≡ with_told s (entries_below (tables_of s) (GRANULES_IN_BLOCK * end))
 none_more_told s mid from end told past none =
     let none_there = subst (λ t. NoneWanted t Object (GRANULES_IN_BLOCK * from) (GRANULES_IN_BLOCK * end)) (ap tables_of told) none in
-    told ∙ ap {A = List Count} (with_counts s) (sym (none_told (tables_of s) (GRANULES_IN_BLOCK * from) (GRANULES_IN_BLOCK * end) (omega (arith, past)) (λ g above below. none_there g above below)))
+    told ∙ ap {A = List Count} (with_told s) (sym (none_told (tables_of s) (GRANULES_IN_BLOCK * from) (GRANULES_IN_BLOCK * end) (omega (arith, past)) (λ g above below. none_there g above below)))
 
 -- ---- how many there are
 
@@ -101,29 +101,29 @@ module _ (t : Tables) (at word : ℕ) (tells : (i : ℕ) → i < 64 → t.starts
 pub record AreToldTo (s mid : Space) (at word rest from : ℕ) : Type 0 where
   pub within : from ≤ 64
   pub left : AreLeft word rest from
-  pub told : mid ≡ with_counts s (entries_below (tables_of s) (64 * at + from))
+  pub told : mid ≡ with_told s (entries_below (tables_of s) (64 * at + from))
 
 -- it begins where those before are told
-pub begins_told : (s : Space) (at word : ℕ) → s.report.counts.items ≡ entries_below (tables_of s) (64 * at) → AreToldTo s s at word word 0
+pub begins_told : (s : Space) (at word : ℕ) → s.report.told.items ≡ entries_below (tables_of s) (64 * at) → AreToldTo s s at word word 0
 begins_told s at word told =
     let start : 64 * at ≡ 64 * at + 0 = omega arith in
-    record { within = omega arith; left = all_left word; told = ap (with_counts s) (told ∙ ap (entries_below (tables_of s)) start) }
+    record { within = omega arith; left = all_left word; told = ap (with_told s) (told ∙ ap (entries_below (tables_of s)) start) }
 
 module _ (s mid : Space) (at word rest from : ℕ) (is : AreToldTo s mid at word rest from) where
   -- there is room for one more
-  pub room_for_next : (after bit : ℕ) → at < 32 * s.limits.blocks → GRANULES_IN_BLOCK * s.limits.blocks ≤ s.report.counts.room → TakesLowest rest after bit
-      → length mid.report.counts.items < mid.report.counts.room
+  pub room_for_next : (after bit : ℕ) → at < 32 * s.limits.blocks → GRANULES_IN_BLOCK * s.limits.blocks ≤ s.report.told.room → TakesLowest rest after bit
+      → length mid.report.told.items < mid.report.told.room
   room_for_next after bit inside room takes =
       let next = next_taken word rest after from bit is.left takes in
       let reached = next.reached in
       let within = next.within in
       let few = few_below (tables_of s) (64 * at + from) in
-      let left : length (entries_below (tables_of s) (64 * at + from)) < s.report.counts.room = omega (arith, inside, reached, within, few, room) in
-      subst (λ (z : Space). length z.report.counts.items < z.report.counts.room) (sym is.told) left
+      let left : length (entries_below (tables_of s) (64 * at + from)) < s.report.told.room = omega (arith, inside, reached, within, few, room) in
+      subst (λ (z : Space). length z.report.told.items < z.report.told.room) (sym is.told) left
 
   module _ (tells : (i : ℕ) → i < 64 → (tables_of s).starts (64 * at + i) ≡ (bit_at word i == 1)) where
     -- one more is told
-    pub one_more_told : (after bit : ℕ) (new : Space) → TakesLowest rest after bit → new ≡ with_counts mid (mid.report.counts.items ++ entry_at (tables_of mid) (64 * at + bit))
+    pub one_more_told : (after bit : ℕ) (new : Space) → TakesLowest rest after bit → new ≡ with_told mid (mid.report.told.items ++ entry_at (tables_of mid) (64 * at + bit))
         → AreToldTo s new at word after (bit + 1)
     one_more_told after bit new takes added =
         let next = next_taken word rest after from bit is.left takes in
@@ -132,22 +132,22 @@ module _ (s mid : Space) (at word rest from : ℕ) (is : AreToldTo s mid at word
           within = omega (arith, within);
           left = left_behind word rest after from bit is.left takes;
           told = added
-              ∙ ap (λ (z : Space). with_counts z (z.report.counts.items ++ entry_at (tables_of z) (64 * at + bit))) is.told
-              ∙ ap (with_counts s) (next_told (tables_of s) at word tells from bit next);
+              ∙ ap (λ (z : Space). with_told z (z.report.told.items ++ entry_at (tables_of z) (64 * at + bit))) is.told
+              ∙ ap (with_told s) (next_told (tables_of s) at word tells from bit next);
         }
 
     -- no more are left
-    pub all_are_told : rest ≡ 0 → mid ≡ with_counts s (entries_below (tables_of s) (64 * (at + 1)))
+    pub all_are_told : rest ≡ 0 → mid ≡ with_told s (entries_below (tables_of s) (64 * (at + 1)))
     all_are_told none =
-        is.told ∙ ap (with_counts s) (sym (rest_told (tables_of s) at word tells from is.within (none_left word rest from is.left none)))
+        is.told ∙ ap (with_told s) (sym (rest_told (tables_of s) at word tells from is.within (none_left word rest from is.left none)))
 
 -- ---- the pass over the heap
 
 -- nothing is told at its begin
-pub begins_with_none : (s : Space) → s.report.counts.items ≡ [] → s ≡ with_counts s (entries_below (tables_of s) 0)
-begins_with_none s empty = ap (with_counts s) (empty ∙ sym (none_below (tables_of s)))
+pub begins_with_none : (s : Space) → s.report.told.items ≡ [] → s ≡ with_told s (entries_below (tables_of s) 0)
+begins_with_none s empty = ap (with_told s) (empty ∙ sym (none_below (tables_of s)))
 
 -- the objects of one block more are told
-pub told_then : (s mid new : Space) (from end : ℕ) → mid ≡ with_counts s (entries_below (tables_of s) from) → new ≡ with_counts mid (entries_below (tables_of mid) end)
-    → new ≡ with_counts s (entries_below (tables_of s) end)
-told_then s mid new from end told more = more ∙ ap (λ (z : Space). with_counts z (entries_below (tables_of z) end)) told
+pub told_then : (s mid new : Space) (from end : ℕ) → mid ≡ with_told s (entries_below (tables_of s) from) → new ≡ with_told mid (entries_below (tables_of mid) end)
+    → new ≡ with_told s (entries_below (tables_of s) end)
+told_then s mid new from end told more = more ∙ ap (λ (z : Space). with_told z (entries_below (tables_of z) end)) told

@@ -6,4 +6,5 @@ pub mod PlaceLemmas
 pub mod RaisedLemmas
 pub mod HoldsLemmas
 pub mod EntryLemmas
+pub mod CountedLemmas
 pub mod ToldLemmas

@@ -106,7 +106,7 @@ module _ (s : Space) (g : AbstractState) (ns : List Name) (may : MayRenew s g ns
           so_far.others (2 * granule_of (g.at found.name)) (λ n h below e. absurd (omega (arith, below, reached, at, e))) in
           record {
             space = heads_space s now g ns from may so_far;
-            counted = subst (λ (x : Space). AreCounted x.report.counts.items ns) (sym so_far.rest) may.counted;
+            told = subst (λ (x : Space). AreCounted x.report.told.items ns) (sym so_far.rest) may.told;
             member = subst (λ us. IsTrue (has us found.name)) may.names found.member;
             whole = subst (λ k. StandsWhole (tables_of now) now.limits.blocks k found.name (shape_of found.object)) at (record {
               name = whole.name;

@@ -161,10 +161,10 @@ renews_names s mid g ns may heads =
     } in
     record {
       at = renewed_at ns g.at;
-      stay = λ n h. ap g.at (old_of_renewed ns may.counted.order n (subst (λ us. IsTrue (has us n)) may.names h));
+      stay = λ n h. ap g.at (old_of_renewed ns may.told.order n (subst (λ us. IsTrue (has us n)) may.names h));
       rests = subst (λ (x : Space). IsAtRest x (record { moment = renewed_moment s.limits.threads ns m; at = renewed_at ns g.at; reported = g.reported })) (sym whole)
           (subst (λ (x : Moment). IsAtRest (uncounted s mid) (record { moment = x; at = renewed_at ns g.at; reported = g.reported })) (sym (ap (renewed_moment s.limits.threads ns) is))
-          (still_rests s mid m.state m.number ns m.stuck g.at g.reported may.rows may.counted.few rests same writes));
+          (still_rests s mid m.state m.number ns m.stuck g.at g.reported may.rows may.told.few rests same writes));
       space = whole;
       tables = heads.tables;
       others = λ w other. heads.others w (λ n h below. other n h);

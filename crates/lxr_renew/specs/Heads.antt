@@ -16,7 +16,7 @@ use Rattle.lxr_large_model.specs.Renewing.{AreCounted}
 -- At a granule stands the header of an object under its old name, which is one of those that are counted.
 pub record IsHead (s : Space) (granule : ℕ) (ns : List Name) (n : Name) (shape : Shape) : Type 0 where
   pub space : IsSpace s
-  pub counted : AreCounted s.report.counts.items ns
+  pub told : AreCounted s.report.told.items ns
   pub member : IsTrue (has (world_name ∷ ns) n)
   pub whole : StandsWhole (tables_of s) s.limits.blocks granule n shape
 

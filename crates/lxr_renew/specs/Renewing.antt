@@ -15,14 +15,14 @@ use Rattle.lxr_model.specs.Moments.{renewed_moment}
 use Rattle.lxr_large_model.specs.Renewing.{AreCounted}
 
 -- The names of what is left may be renewed, which are these and the world's: the space is at rest, and the graph has a row for each of its
--- threads and the world's; nothing was done since the last pause, no trace runs, and that pause counted what is left.
+-- threads and the world's; nothing was done since the last pause, no trace runs, and what is left was told since.
 pub record MayRenew (s : Space) (g : AbstractState) (ns : List Name) : Type 0 where
   pub rests : IsAtRest s g
   pub rows : length g.moment.state.graph ≡ s.limits.threads + 1
   pub settled : IsSettled g.moment
   pub untraced : g.moment.trace ≡ None
   pub names : g.moment.unreclaimed ≡ world_name ∷ ns
-  pub counted : AreCounted s.report.counts.items ns
+  pub told : AreCounted s.report.told.items ns
 
 -- Names were renewed: the space is at rest for the moment with its names renewed, each object stands where it stood, and nothing but words and
 -- numbers has changed, which begin anew. No table but the heap has changed, and of that the headers of what is left alone.

@@ -24,7 +24,7 @@ fn renew_head(space: &mut Space, granule: u32)
 {
     let word = word_of(place_at(granule));
     if let Header::Object(name, shape) = unpack(space.heap_word(word)) {
-        let name = renewed(space.report.counts.as_slice(), name);
+        let name = renewed(space.report.told.as_slice(), name);
         space.put_heap(word, pack(name, shape));
     }
 }

@@ -2,10 +2,12 @@ pub mod EpochLemmas
 pub mod OpeningLemmas
 pub mod ProgressLemmas
 pub mod FewLemmas
+pub mod TellingLemmas
 pub mod ServeLemmas
 pub mod FollowingLemmas
 pub mod RoundLemmas
 pub mod PrintLemmas
+pub mod LiveLemmas
 pub mod SummingLemmas
 pub mod PrintedLemmas
 pub mod ThreadLemmas

@@ -37,10 +37,13 @@ use Rattle.lxr_run_history.specs.Sums.{fulls_by, fulls_in, operations_in, pauses
 use Rattle.lxr_run_history.specs.Tally.{tally_of}
 use Rattle.lxr_run_history.proofs.TallyLemmas.{pauses_stay}
 use Rattle.lxr_run_history.proofs.ThreadSums.{counted_in, one, replied}
-use Rattle.lxr_run_invariant.specs.LoopInvariant.{HasRunTo, Task, done_of, threads_of}
+use Rattle.lxr_run_invariant.specs.LoopInvariant.{HasRunTo, Task, done_of, terms_of, threads_of}
 use Rattle.lxr_run_invariant.proofs.ActorLemmas.{calls_are_done, kind_is}
 use Rattle.lxr_run_invariant.proofs.PauseLemmas.{all_done_few}
+use Rattle.lxr_run_loop.specs.declared.course.Course.{Course}
+use Rattle.lxr_run_loop.specs.Progress.{IsComplete}
 use Rattle.lxr_run_loop.specs.Summing.{KeepAll, calls_by, is_full, refusals_by}
+use Rattle.lxr_run_loop.proofs.LiveLemmas.{counts_left, drawn_unrenewed}
 
 -- ---- what is counted of actors
 
@@ -206,3 +209,23 @@ module _ (task : Task) (space : Space) (written : Option (List ℕ)) (seen : Opt
       let operations : calls - ended ≡ operations_in h = omega arith in
       same_sums space.limits.threads (threads_of task) (calls - ended) (operations_in h) space.tally.pauses (pauses_in h) totals (totals_of h) refusals (fulls_in h)
       live (length (moment (threads_of task) h).unreclaimed) threads_are operations all_pauses are (refusals_is ∙ all_refusals) (live_is ∙ all_live)
+
+-- ---- what is left
+
+-- By the totals of a complete run: no more was reclaimed than there was, and what is left is what the last pause counted.
+pub record LeavesBy (totals : Totals) (space : Space) : Type 0 where
+  pub room : 1 + totals.promoted < 2 ^ 64
+  pub gone : totals.dead + totals.swept ≤ 1 + totals.promoted
+  pub live : 1 + totals.promoted - totals.dead - totals.swept ≡ length space.report.counts.items
+
+pub leaves : (task : Task) (space : Space) (written : Option (List ℕ)) (seen : Option (List Sight)) (actors : List AnyActor) (course : Course) (totals : Totals) → course.totals ≡ totals
+    → IsComplete task space written seen actors course → LeavesBy totals space
+leaves task space written seen actors course totals same (h, run, drawn, are, noted, full) =
+    subst (λ t. LeavesBy t space) (sym are ∙ same)
+    (let counts = counts_left (terms_of task) h run.history.legal.0 (drawn_unrenewed task h course.generator space actors drawn) in
+    let left = counts.left in
+    let few = counts.few in
+    let live = all_live task space written seen actors h run in
+    let done = calls_are_done task h (mutators_in actors) run.history.legal.0 run.actors_rest.mutators in
+    let calls = few_calls task space written seen actors h run in
+    record { room = omega (arith, few, done, calls); gone = omega (arith, left); live = omega (arith, left, live) })

@@ -2,6 +2,7 @@ pub mod Orders
 pub mod Courses
 pub mod Made
 pub mod Opening
+pub mod Telling
 pub mod Pausing
 pub mod Answering
 pub mod Serving

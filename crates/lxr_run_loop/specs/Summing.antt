@@ -5,15 +5,15 @@ use Rattle.lxr_graph.specs.declared.Reply.TheVariants as reply
 use Rattle.lxr_graph.specs.History.{Item}
 use Rattle.lxr_image.specs.declared.space.Space.{Space}
 use Rattle.lxr_mutator.specs.Mutators.{IsFull}
-use Rattle.lxr_core.specs.Actors.{mutators_in}
-use Rattle.lxr_core.specs.Ordering.{AreFull}
 use Rattle.lxr_core.specs.declared.actors.AnyActor.{AnyActor}
 use Rattle.lxr_core.specs.declared.actors.AnyActor.TheVariants as any
 use Rattle.lxr_text_print.specs.declared.summary.Sums.{Sums}
 use Rattle.lxr_run_watch.specs.Sights.{Sight}
 use Rattle.lxr_run_history.specs.declared.totals.Totals.{Totals}
 use Rattle.lxr_run_history.specs.Sums.{sums_of, totals_of}
-use Rattle.lxr_run_invariant.specs.LoopInvariant.{HasRun, HasRunTo, Task, threads_of}
+use Rattle.lxr_run_invariant.specs.LoopInvariant.{HasRunTo, Task, threads_of}
+use Rattle.lxr_run_loop.specs.declared.course.Course.{Course}
+use Rattle.lxr_run_loop.specs.Progress.{IsComplete}
 
 -- how many operations the thread of an actor has done, its end among them; a helper has none
 abbrev pub calls_by : AnyActor → ℕ
@@ -42,9 +42,9 @@ KeepsReplies (any.Tracer d) = ⊤
 abbrev pub KeepAll : List AnyActor → Type 0
 KeepAll actors = (i : ℕ) (a : AnyActor) → slice_get actors i ≡ Some a → KeepsReplies a
 
--- some run has come to its end with this space and these actors, no mutator of which has room for a further operation
-abbrev pub SomeHasRun : Space → List AnyActor → Type 0
-SomeHasRun space actors = (task : Task) × (written : Option (List ℕ)) × (seen : Option (List Sight)) × HasRun task space written seen actors × AreFull (mutators_in actors)
+-- some run is complete with this space and these actors, and its reports have these totals
+abbrev pub SomeHasRun : Space → List AnyActor → Totals → Type 0
+SomeHasRun space actors totals = (task : Task) × (written : Option (List ℕ)) × (seen : Option (List Sight)) × (course : Course) × (course.totals ≡ totals) × IsComplete task space written seen actors course
 
 -- these are the sums of the history of each such run, where these are the totals of its reports
 abbrev pub AreSums : Sums → Space → List AnyActor → Totals → Type 0

@@ -23,6 +23,7 @@ mod pauses;
 mod printing;
 mod run;
 mod serving;
+mod telling;
 
 pub use course::Course;
 pub use following::follow_epoch;

@@ -1,16 +1,18 @@
 //! The pauses between epochs.
-ghost use Rattle.std.specs.Prelude.{◌≡◌, ◌+◌, ◌≤◌, [], ◌∷◌, IsOk, OnErr, OnOk, length};
+ghost use Rattle.std.specs.Prelude.{◌≡◌, ◌+◌, ◌≤◌, [], ◌∷◌, IsOk, IsTrue, OnErr, OnOk, length};
 ghost use Rattle.lxr_text_stream.specs.Streams.{Appends, AppendsFront, Rose};
 ghost use Rattle.lxr_words.specs.Ranges.{AreInRange};
 ghost use Rattle.lxr_run_invariant.specs.LoopInvariant.{FitsCounts, pace_of};
-ghost use Rattle.lxr_graph.specs.History.{report_of};
+ghost use Rattle.lxr_graph.specs.History.{HasToldCounts, report_of};
 ghost use Rattle.lxr_run_history.specs.Sums.{with_report};
 ghost use Rattle.lxr_run_history.specs.Texts.{told_report};
 ghost use Rattle.lxr_run_loop.specs.Courses.{AreFew};
 ghost use Rattle.lxr_run_loop.specs.Orders.{Notes};
 ghost use Rattle.lxr_run_loop.specs.Pausing.{GoesOnByPause, IsCutOffByPause, MakesPause, SomePauseIsDue, TellsNothing};
+ghost use Rattle.lxr_run_loop.specs.Telling.{prints_counts};
 
 use crate::order::Order;
+use crate::telling::tell_where_printed;
 use lxr_graph::{Item, Report};
 use lxr_image::Space;
 use lxr_run_history::Totals;
@@ -30,9 +32,10 @@ fn pace_of(options: Options) -> Pace
     }
 }
 
-/// Prints what is told of a pause by the command: its report, with counts where the options want them; `load` tells nothing, and `large`
-/// and `judge` run no threads. After an error a prefix of the text is written.
+/// Prints what is told of a pause by the command: its report, with counts where the options want them, which were listed then; `load`
+/// tells nothing, and `large` and `judge` run no threads. After an error a prefix of the text is written.
 fn tell<O: Sink>(report: &Report, options: &Options, output: &mut O) -> Result<(), WriteError>
+    requires told { IsTrue (prints_counts options.now.command options.now.counts report.now.kind) → HasToldCounts report.now }
     ensures ok { OnOk result (Appends (O.written output.old) (O.written output.new) (told_report options.now.command options.now.counts (report_of report.now))) }
     ensures err { OnErr result (AppendsFront (O.written output.old) (O.written output.new) (told_report options.now.command options.now.counts (report_of report.now))) }
     ensures quiet { TellsNothing options.now.command → IsOk result }
@@ -50,7 +53,7 @@ fn tell<O: Sink>(report: &Report, options: &Options, output: &mut O) -> Result<(
 }
 
 /// Makes a pause that is asked for so, at which the watch looks right before and right after it. Then its report is added to the
-/// totals and told by the command; and it is noted in the order.
+/// totals and told by the command, its counts where they are printed; and it is noted in the order.
 pub(crate) fn pause<W: Watch, O: Sink>(
     space: &mut Space,
     ask: Ask,
@@ -80,6 +83,7 @@ pub(crate) fn pause<W: Watch, O: Sink>(
     watch.look(space);
     one_pause(space, ask, pace_of(options));
     watch.look(space);
+    tell_where_printed(space, &options);
     totals.add(&space.report);
     order.note(Item::Pause);
     tell(&space.report, &options, output)

@@ -1,5 +1,5 @@
 //! What a run prints at its end.
-ghost use Rattle.std.specs.Prelude.{◌≡◌, ◌≤◌, ◌<◌, ◌^◌, [], ◌∷◌, ◌++◌, OnErr, OnOk, count_by, sum_by};
+ghost use Rattle.std.specs.Prelude.{◌≡◌, ◌+◌, ◌-◌, ◌≤◌, ◌<◌, ◌^◌, [], ◌∷◌, ◌++◌, OnErr, OnOk, count_by, sum_by};
 ghost use Rattle.lxr_text_stream.specs.Streams.{Appends, AppendsFront, Rose};
 ghost use Rattle.lxr_core.specs.Actors.{mutators_in};
 ghost use Rattle.lxr_text_map.specs.Map.{CanBeMapped, map_text};
@@ -110,9 +110,18 @@ fn refusals(actors: &[AnyActor]) -> u64
     count
 }
 
-/// What a run did, in numbers. The last pause collected, so it counted each unreclaimed object.
+/// How many objects are left, by the totals of all reports: the world, and what was promoted and not reclaimed.
+fn live(totals: &Totals) -> u64
+    requires room { 1 + totals.now.promoted < 2 ^ 64 }
+    requires gone { totals.now.dead + totals.now.swept ≤ 1 + totals.now.promoted }
+    ensures { result ≡ 1 + totals.now.promoted - totals.now.dead - totals.now.swept }
+{
+    1 + totals.promoted - totals.dead - totals.swept
+}
+
+/// What a run did, in numbers.
 fn sums(space: &Space, actors: &[AnyActor], totals: &Totals) -> Sums
-    requires { SomeHasRun space.now actors.now }
+    requires { SomeHasRun space.now actors.now totals.now }
     ensures { AreSums result space.now actors.now totals.now }
 {
     let threads = space.limits.threads;
@@ -125,7 +134,7 @@ fn sums(space: &Space, actors: &[AnyActor], totals: &Totals) -> Sums
         swept: totals.swept,
         stuck: totals.stuck,
         full: refusals(actors),
-        live: space.report.counts.len() as u64,
+        live: live(totals),
     }
 }
 

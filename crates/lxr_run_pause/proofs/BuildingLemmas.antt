@@ -175,6 +175,7 @@ module _ (s k : Space) (g : AbstractState) (can : CanPause s g) (at' : Name → 
           swept = names.swept_once;
         };
         counts = counts.tells.counts;
+        told = counts.tells.told;
       }
 
       -- a line that is free in other tables was free once counting was done, unless it is let go

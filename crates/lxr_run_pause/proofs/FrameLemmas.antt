@@ -32,10 +32,10 @@ use Rattle.lxr_run_pause.specs.Steps.{begun, with_names_in_order}
 
 -- the reports of a pause have the room that they had
 pub begun_room : (r : Report) (k granules : ℕ) → HasReportRoom r granules → HasReportRoom (begun r k) granules
-begun_room r k granules h = record { promoted = h.promoted; dead = h.dead; stuck = h.stuck; swept = h.swept; counts = h.counts }
+begun_room r k granules h = record { promoted = h.promoted; dead = h.dead; stuck = h.stuck; swept = h.swept; told = h.told }
 
 pub ordered_room : (r : Report) (granules : ℕ) → HasReportRoom r granules → HasReportRoom (with_names_in_order r) granules
-ordered_room r granules h = record { promoted = h.promoted; dead = h.dead; stuck = h.stuck; swept = h.swept; counts = h.counts }
+ordered_room r granules h = record { promoted = h.promoted; dead = h.dead; stuck = h.stuck; swept = h.swept; told = h.told }
 
 -- ---- another number, order of stuck names and trace
 
@@ -206,4 +206,4 @@ module _ (c x : Space) (began : Option ℕ) (is : IsReworded c x began) where
 -- the report may have another kind
 pub holds_of_kind : (s : Space) (m : Moment) (at : Name → ℕ) (k : Kind) → HoldsMoment s m at → HoldsMoment (record s { report = record s.report { kind = k } }) m at
 holds_of_kind s m at k h = holds_told s m at (record s.report { kind = k }) s.tally s.pauses
-    (record { promoted = h.room.report.promoted; dead = h.room.report.dead; stuck = h.room.report.stuck; swept = h.room.report.swept; counts = h.room.report.counts }) h
+    (record { promoted = h.room.report.promoted; dead = h.room.report.dead; stuck = h.room.report.stuck; swept = h.room.report.swept; told = h.room.report.told }) h

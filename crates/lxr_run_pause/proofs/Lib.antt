@@ -22,3 +22,5 @@ pub mod AnyKindLemmas
 pub mod PausingLemmas
 pub mod WholeLemmas
 pub mod OpenedLemmas
+pub mod TellingLemmas
+pub mod LeftLemmas

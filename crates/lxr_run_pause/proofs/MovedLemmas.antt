@@ -494,7 +494,7 @@ module _ (s k : Space) (g : AbstractState) (can : CanPause s g) (at' : Name → 
         dead = moves.holds.room.report.dead;
         stuck = moves.holds.room.report.stuck;
         swept = moves.holds.room.report.swept;
-        counts = moves.holds.room.report.counts;
+        told = moves.holds.room.report.told;
       }) moves.holds
 
   is_reworded : IsReworded tallied x None

@@ -50,7 +50,7 @@ use Rattle.lxr_run_pause.specs.Relocating.{ChoosesBlocks, Evacuates, Relocates}
 use Rattle.lxr_run_pause.proofs.ReportLemmas.{entries_same, goes_on, moment_then, parts_in_order, reports, reports_with, stuck_then, stuck_told, told, unreclaimed_then}
 use Rattle.lxr_run_pause.proofs.OrderLemmas.{has_in_order}
 use Rattle.lxr_run_pause.proofs.BlocksLemmas.{chooses_swept}
-use Rattle.lxr_invariant.proofs.ToldLemmas.{holds_told, with_told}
+use Rattle.lxr_invariant.proofs.ToldLemmas.{holds_told, with_report_and_tally}
 use Rattle.lxr_run_pause.proofs.FrameLemmas.{AgreesApartFromBlocks, holds_renumbered, holds_reworded, ordered_room, renumbered, rest_reworded, undecremented_renumbered, undecremented_reworded}
 use Rattle.lxr_run_pause.proofs.RelocatingLemmas.{evacuates_still, relocates_still}
 use Rattle.lxr_run_pause.proofs.RememberedLemmas.{same_both}
@@ -66,7 +66,7 @@ leaves_swept (kind.End j) t u v blocks same is = λ none. same_both t u v (is no
 leaves_swept kind.Collect t u v blocks same is = λ none. same_both t u v (is none) same
 
 -- so is a list of decrements
-queues_swept : (k : Kind) (s x y : Space) → y.registers ≡ x.registers → (tables_of y).decs ≡ (tables_of x).decs → (tables_of y).cursors DECREMENT_COUNT ≡ (tables_of x).cursors DECREMENT_COUNT → QueuesOldValues k s x → QueuesOldValues k s y
+pub queues_swept : (k : Kind) (s x y : Space) → y.registers ≡ x.registers → (tables_of y).decs ≡ (tables_of x).decs → (tables_of y).cursors DECREMENT_COUNT ≡ (tables_of x).cursors DECREMENT_COUNT → QueuesOldValues k s x → QueuesOldValues k s y
 queues_swept kind.Plain s x y registers decs count is = (λ i. first_entries (decs i) (count i)) ∙ is ∙ ap (λ z. old_values (record s { registers = z })) (sym registers)
 queues_swept kind.Begin s x y registers decs count is = tt
 queues_swept (kind.End j) s x y registers decs count is = tt
@@ -120,7 +120,6 @@ module _ (s x : Space) (g : AbstractState) (asked : Ask) (pace : Pace) (can : Ca
     settled = record { same = refl; none_made = refl; none_written = refl };
     undecremented = swept_undecremented;
     empty = ap (λ z. z.cursors DECREMENT_COUNT) tables ∙ drained;
-    none_counted = settles.tells.counts;
   }
 
   -- ---- the counts
@@ -169,7 +168,7 @@ module _ (s x : Space) (g : AbstractState) (asked : Ask) (pace : Pace) (can : Ca
 
     -- the space at the end of the pause
     abbrev pub at_end : Space
-    at_end = with_told swept report (record x.tally { pauses = x.tally.pauses + 1 }) (x.pauses + 1)
+    at_end = with_report_and_tally swept report (record x.tally { pauses = x.tally.pauses + 1 }) (x.pauses + 1)
 
     abbrev then : Moment
     then = renumbered leads leads.number (stuck_after m said) leads.trace
@@ -183,7 +182,7 @@ module _ (s x : Space) (g : AbstractState) (asked : Ask) (pace : Pace) (can : Ca
     holds_then : HoldsMoment at_end then at'
     holds_then =
         holds_told swept then at' report at_end.tally at_end.pauses
-        (record { promoted = settles.holds.room.report.promoted; dead = settles.holds.room.report.dead; stuck = settles.holds.room.report.stuck; swept = settles.holds.room.report.swept; counts = settles.holds.room.report.counts })
+        (record { promoted = settles.holds.room.report.promoted; dead = settles.holds.room.report.dead; stuck = settles.holds.room.report.stuck; swept = settles.holds.room.report.swept; told = settles.holds.room.report.told })
         (holds_renumbered swept leads leads.number (stuck_after m said) leads.trace at' stuck_is refl holds_swept.blocks holds_swept)
 
     holds : HoldsMoment at_end (after_pause m said) at'
@@ -392,6 +391,10 @@ module _ (s x swept : Space) (report : Report) (g : AbstractState) (asked : Ask)
         ends
         ∙ ap with_pause_counted (counted_is (is_draining k) counts)
         ∙ ap (λ (y : Space). with_pause_counted (record y { report = record y.report { counts = record y.report.counts { items = z.report.counts.items } } })) sorted_is
+
+    -- and nothing is told yet
+    pub nothing_told : counted.report.told.items ≡ []
+    nothing_told = ap (λ (y : Space). y.report.told.items) ends_at ∙ settles.tells.told
 
     pub pauses : Pauses s counted g at' asked pace
     pauses = subst (λ y. Pauses s y g at' asked pace) (sym ends_at)

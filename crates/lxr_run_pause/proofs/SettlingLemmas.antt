@@ -138,6 +138,7 @@ module _ (s began : Space) (g : AbstractState) (can : CanPause s g) (begins : be
         raised = raise.raised.raised;
         swept = ap (λ (x : Space). x.report.swept.items) raise.space ∙ ap (λ (x : Space). x.report.swept.items) finish.space ∙ ap (λ (x : Space). x.report.swept.items) begins;
         counts = ap (λ (x : Space). x.report.counts.items) raise.space ∙ ap (λ (x : Space). x.report.counts.items) finish.space ∙ ap (λ (x : Space). x.report.counts.items) begins;
+        told = ap (λ (x : Space). x.report.told.items) raise.space ∙ ap (λ (x : Space). x.report.told.items) finish.space ∙ ap (λ (x : Space). x.report.told.items) begins;
       }
 
       few_gone : length raised.report.dead.items ≤ GRANULES_IN_BLOCK * raised.limits.blocks

@@ -1,5 +1,5 @@
 -- The steps of a pause one after another: each finds what it asks for, and at their end a pause was made.
-use Rattle.std.proofs.Common.{◌≡◌, ℕ, ◌+◌, ◌^◌, ◌<◌, List, sym, ap, subst, ◌∙◌, arith, Bool, true, false}
+use Rattle.std.proofs.Common.{◌≡◌, ℕ, ◌+◌, ◌^◌, ◌<◌, List, [], sym, ap, subst, ◌∙◌, arith, Bool, true, false}
 use Rattle.std.specs.Prelude.{Option}
 use Rattle.std.specs.Option.{option_map}
 use Rattle.lxr_layout.specs.declared.Name.{Name}
@@ -22,7 +22,7 @@ use Rattle.lxr_run_pause.specs.Tracing.{HasTraced, MayTrace}
 use Rattle.lxr_run_pause.proofs.BuildingLemmas.{now}
 use Rattle.lxr_run_pause.proofs.AnyKindLemmas.{HasSettled, may_trace, settled_by_kind}
 use Rattle.lxr_run_pause.proofs.DecidingLemmas.{begins_where_none, ends_where_running, grays_in_heap, has_kind, grays_used}
-use Rattle.lxr_run_pause.proofs.PausingLemmas.{can_count_sorted, pauses}
+use Rattle.lxr_run_pause.proofs.PausingLemmas.{can_count_sorted, nothing_told, pauses}
 use Rattle.lxr_image_search.specs.declared.Wanted.TheVariants.{ToScan}
 use Rattle.lxr_image_search.specs.Search.{AvoidsFree}
 use Rattle.lxr_blocks.specs.States.{FreeBlocksAreFree}
@@ -114,6 +114,9 @@ module _ (s k : Space) (g : AbstractState) (can : CanPause s g) (counts : (g : A
                 let c = ap (λ (t : Tally). t.pauses) done.settles.tally in
                 let few = can.counted.1 in
                 omega (arith, a, b, c, few)
+
+            pub is_untold : (ended : Space) → ended ≡ with_pause_counted z → ended.report.told.items ≡ []
+            is_untold ended ends = nothing_told s x swept report g asked pace can at' done.parts done.moved done.kept done.settles is done.kind_is kind_is turns orders z ended told ends
 
             pub pause_made : (ended : Space) → ended ≡ with_pause_counted z → Pauses s ended g at' asked pace
             pause_made ended ends = pauses s x swept report g asked pace can at' done.parts done.moved done.kept done.settles is done.kind_is kind_is turns orders z ended told ends

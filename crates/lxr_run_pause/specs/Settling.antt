@@ -41,7 +41,7 @@ survived m gone = leaving m (without m.unreclaimed gone)
 abbrev pub counted : Moment → List Name → Report → Moment
 counted m gone r = record (settled (survived m gone) r.promoted.items r.stuck.items) { number = m.number + 1; trace = going_on m (report_of r) m.trace }
 
--- the report of a pause has each name that died, was promoted or became stuck so far, once and in some order
+-- the report of a pause has each name that died, was promoted or became stuck so far, once and in some order, and nothing is told yet
 pub record TellsCounts (r : Report) (m : Moment) (gone : List Name) : Type 0 where
   pub number : r.number ≡ m.number + 1
   pub dead : r.dead.items ≡ gone
@@ -50,6 +50,7 @@ pub record TellsCounts (r : Report) (m : Moment) (gone : List Name) : Type 0 whe
   pub raised : AreRaised (survived m gone) r.promoted.items r.stuck.items
   pub swept : r.swept.items ≡ []
   pub counts : r.counts.items ≡ []
+  pub told : r.told.items ≡ []
 
 -- where a trace runs, all that is gray is marked exactly where nothing was left to trace at the safepoint
 abbrev pub TellsTheEnd : Space → Space → AbstractState → List Name → Option Trace → Type 0
@@ -147,7 +148,8 @@ IsSweptBy m parts r kind.Begin = r.swept.items ≡ []
 IsSweptBy m parts r (kind.End j) = IsSweptOf r.swept.items m.trace
 IsSweptBy m parts r kind.Collect = (n : Name) → IsTrue (has r.swept.items n) ↔ (IsTrue (has (drained_by m parts r) n) × ¬ Reachable m.state n)
 
--- the report of a pause has each name of these parts, and each promoted, newly stuck and swept one, once and in some order
+-- the report of a pause has each name of these parts, and each promoted, newly stuck and swept one, once and in some order, and nothing is
+-- told yet
 pub record Tells (r : Report) (parts : PauseParts) (m : Moment) : Type 0 where
   pub number : r.number ≡ m.number + 1
   pub dead : r.dead.items ≡ parts.first_dead ++ (parts.second_dead ++ parts.third_dead)
@@ -157,6 +159,7 @@ pub record Tells (r : Report) (parts : PauseParts) (m : Moment) : Type 0 where
   pub swept : IsSweptBy m parts r r.kind
   pub distinct : HasDistinctNames r
   pub counts : r.counts.items ≡ []
+  pub told : r.told.items ≡ []
 
 -- Counting and tracing are done: the report tells what died and was promoted, stuck and swept, and the space holds the moment that it
 -- leads to. Promoted objects are copied where lines fit them, apart from what lives on, those that stood in Chosen blocks as a trace ended are

@@ -20,7 +20,8 @@ begun r number = record {
   dead = emptied r.dead;
   stuck = emptied r.stuck;
   swept = emptied r.swept;
-  counts = emptied r.counts;
+  counts = record r.counts { items = [] };
+  told = emptied r.told;
 }
 
 -- the space once the report of its next pause has begun

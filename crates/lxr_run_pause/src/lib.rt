@@ -11,7 +11,7 @@ mod laws;
 mod report;
 mod tracing;
 
-ghost use Rattle.std.specs.Prelude.{ℕ, ◌≡◌, ◌+◌, ◌^◌, ◌<◌};
+ghost use Rattle.std.specs.Prelude.{ℕ, ◌≡◌, ◌+◌, ◌^◌, ◌<◌, []};
 ghost use Rattle.lxr_layout.specs.declared.Name.{Name as NameOf};
 ghost use Rattle.lxr_invariant.specs.AbstractState.{AbstractState};
 ghost use Rattle.lxr_run_pause.specs.Deciding.{IsPace};
@@ -57,15 +57,16 @@ fn count_pause(space: &mut Space)
 /// Makes a pause, whatever decrementers and tracers have done since the last one. What they left of decrements is finished,
 /// counts are raised for what was stored and is held newly, and lowered later for what was overwritten and is held no more. Then
 /// it begins a trace, lets one go on, ends one or collects, as it is asked and the pace says; where it does more than count, it
-/// also finishes the decrements that it queued, and reports the count of each object that it leaves. Blocks get the states of
-/// their lines, and the report the order of names.
+/// also finishes the decrements that it queued, and reports the count of each object that it leaves, for proofs alone: no object is
+/// looked at for it, and nothing is told yet. Blocks get the states of their lines, and the report the order of names.
 ///
 /// What is promoted is copied to the first free lines that fit it, so that what threads made and dropped between it leaves whole lines
 /// behind (young evacuation, as in LXR); where no lines fit it, it stays where it was made.
 pub fn one_pause(space: &mut Space, ask: Ask, pace: Pace)
     requires pace { IsPace pace }
     requires space { (g : AbstractState) × CanPause space.old g }
-    ensures { (g : AbstractState) → CanPause space.old g → (at' : NameOf → ℕ) × Pauses space.old space.new g at' ask pace }
+    ensures pauses { (g : AbstractState) → CanPause space.old g → (at' : NameOf → ℕ) × Pauses space.old space.new g at' ask pace }
+    ensures untold { space.new.report.told.items ≡ [] }
 {
     settle_counts(space);
     let kind = decide_kind(space, ask, pace);

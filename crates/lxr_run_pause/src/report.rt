@@ -6,6 +6,7 @@ ghost use Rattle.lxr_model.specs.Moments.{Moment};
 ghost use Rattle.lxr_model.specs.Reports.{is_draining};
 ghost use Rattle.lxr_run_pause.specs.Steps.{CanCountWhere, CountsWhere, HasDistinctNames, in_order, with_names_in_order, with_report_begun};
 
+use lxr_base::Chronicle;
 use lxr_graph::{Kind, Names, Report, sort_names};
 use lxr_image::Space;
 use lxr_pause_queue::count_unreclaimed;
@@ -21,7 +22,8 @@ pub(crate) fn begin_report(space: &mut Space)
     space.report.dead.clear();
     space.report.stuck.clear();
     space.report.swept.clear();
-    space.report.counts.clear();
+    space.report.counts = Chronicle::new();
+    space.report.told.clear();
 }
 
 /// Puts names into their order.
@@ -43,7 +45,7 @@ pub(crate) fn sort_report(report: &mut Report)
     put_in_order(&mut report.swept);
 }
 
-/// Reports the count of each unreclaimed object, unless the pause is plain.
+/// Reports the count of each unreclaimed object, for proofs alone, unless the pause is plain.
 pub(crate) fn count_where_drained(space: &mut Space, kind: Kind)
     requires { (m : Moment) × (at : Name → ℕ) × CanCountWhere (is_draining kind) space.old m at }
     ensures { (m : Moment) (at : Name → ℕ) → CanCountWhere (is_draining kind) space.old m at → CountsWhere (is_draining kind) space.old space.new m }

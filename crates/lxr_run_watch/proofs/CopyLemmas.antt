@@ -20,7 +20,7 @@ report_of_room to from granules room within = record {
   dead = omega (arith, room.dead, within.dead);
   stuck = omega (arith, room.stuck, within.stuck);
   swept = omega (arith, room.swept, within.swept);
-  counts = omega (arith, room.counts, within.counts);
+  told = omega (arith, room.told, within.told);
 }
 
 room_for_report : (to from : Report) (granules : ℕ) → HasReportRoom to granules → FitsReportRoom from granules → HasReportRoomFor to from
@@ -29,7 +29,7 @@ room_for_report to from granules room fits = record {
   dead = omega (arith, room.dead, fits.dead);
   stuck = omega (arith, room.stuck, fits.stuck);
   swept = omega (arith, room.swept, fits.swept);
-  counts = omega (arith, room.counts, fits.counts);
+  told = omega (arith, room.told, fits.told);
 }
 
 words_of_space : (s : Space) → IsSpace s → length s.words ≡ region_begin s.limits all_regions

@@ -15,7 +15,7 @@ pub record FitsReportRoom (r : Report) (granules : ℕ) : Type 0 where
   pub dead : length r.dead.items ≤ 2 * granules
   pub stuck : length r.stuck.items ≤ granules
   pub swept : length r.swept.items ≤ granules
-  pub counts : length r.counts.items ≤ granules
+  pub told : length r.told.items ≤ granules
 
 -- a space fits the room of one that is opened with these limits: it has as many words, and no list has more items
 -- than that one has room for
@@ -33,7 +33,7 @@ pub record HasReportRoomFor (to from : Report) : Type 0 where
   pub dead : length from.dead.items ≤ to.dead.room
   pub stuck : length from.stuck.items ≤ to.stuck.room
   pub swept : length from.swept.items ≤ to.swept.room
-  pub counts : length from.counts.items ≤ to.counts.room
+  pub told : length from.told.items ≤ to.told.room
 
 -- a space's lists have room for the items of another's
 pub record HasRoomFor (to from : Space) : Type 0 where

@@ -3,6 +3,7 @@ use Rattle.std.specs.Prelude.{◌≡◌, ℕ, Option, Some, None, List, [], ◌�
 use Rattle.lxr_layout.specs.declared.limits.Limits.{Limits}
 use Rattle.lxr_layout.specs.declared.LogEntry.{LogEntry}
 use Rattle.lxr_layout.specs.declared.Place.{Place}
+use Rattle.lxr_graph.specs.declared.report.Count.{Count}
 use Rattle.lxr_graph.specs.History.{PauseReport, report_of}
 use Rattle.lxr_image.specs.declared.space.Space.{Space}
 use Rattle.lxr_image.specs.declared.space.Tally.{Tally}
@@ -17,6 +18,8 @@ pub record Sight : Type 0 where
   pub logged : List LogEntry
   pub work : List Place
   pub report : PauseReport
+  -- what was told of what is left
+  pub told : List Count
   pub tally : Tally
   pub pauses : ℕ
   pub trace : Option ℕ
@@ -33,6 +36,7 @@ sight_of s = record {
   logged = s.logged.items;
   work = s.work.items;
   report = report_of s.report;
+  told = s.report.told.items;
   tally = s.tally;
   pauses = s.pauses;
   trace = s.trace;

@@ -21,7 +21,7 @@ fn report_fits(report: &Report, granules: usize) -> bool
         && report.dead.len() <= 2 * granules
         && report.stuck.len() <= granules
         && report.swept.len() <= granules
-        && report.counts.len() <= granules
+        && report.told.len() <= granules
 }
 
 /// Whether a space fits the room of one that is opened with these limits.
@@ -60,10 +60,11 @@ fn copy_list<T: Copy + Drop>(to: &mut Listed<T>, from: &Listed<T>)
     }
 }
 
-/// Puts what one report says in place of what another says, in its room.
+/// Puts what one report says, and what of its counts was told, in place of what another says, in its room.
 fn copy_report(to: &mut Report, from: &Report)
     requires { HasReportRoomFor to.old from.now }
-    ensures { report_of to.new ≡ report_of from.now }
+    ensures says { report_of to.new ≡ report_of from.now }
+    ensures told { to.new.told.items ≡ from.now.told.items }
 {
     to.number = from.number;
     to.kind = from.kind;
@@ -71,7 +72,8 @@ fn copy_report(to: &mut Report, from: &Report)
     copy_list(&mut to.dead, &from.dead);
     copy_list(&mut to.stuck, &from.stuck);
     copy_list(&mut to.swept, &from.swept);
-    copy_list(&mut to.counts, &from.counts);
+    to.counts = from.counts.same();
+    copy_list(&mut to.told, &from.told);
 }
 
 /// Makes a space what another one is, in its room.

@@ -97,7 +97,7 @@ room_stays s words swept dead is = record {
     dead = is.report.dead;
     stuck = is.report.stuck;
     swept = is.report.swept;
-    counts = is.report.counts;
+    told = is.report.told;
   };
 }
 

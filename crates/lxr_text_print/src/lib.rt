@@ -14,6 +14,6 @@ mod summary;
 pub use laws::{text_grows_by_calls, text_is_of_operations};
 pub use orders::print_order;
 pub use pages::{LINE, PAGE, Page};
-pub use pauses::print_pause;
+pub use pauses::{has_counts, print_pause};
 pub use replies::{print_replies, push_answer, push_thread, push_word};
 pub use summary::{Sums, print_summary};

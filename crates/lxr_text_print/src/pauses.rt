@@ -1,6 +1,6 @@
 //! The report of a pause: its number and kind, its lists of names, and, where they are asked for, its counts.
-ghost use Rattle.std.specs.Prelude.{◌≡◌, ◌+◌, ◌<◌, ◌≤◌, [], ◌∷◌, ◌++◌, OnErr, OnOk, decimal, flat_map, length, not};
-ghost use Rattle.lxr_graph.specs.History.{report_of};
+ghost use Rattle.std.specs.Prelude.{◌≡◌, ◌+◌, ◌<◌, ◌≤◌, [], ◌∷◌, ◌++◌, ◌&&◌, IsTrue, OnErr, OnOk, decimal, flat_map, length, not};
+ghost use Rattle.lxr_graph.specs.History.{HasToldCounts, report_of};
 ghost use Rattle.lxr_text_stream.specs.Streams.{Appends, AppendsFront, Rose};
 ghost use Rattle.lxr_text_print.specs.Lines.{spaced_name, words};
 ghost use Rattle.lxr_text_print.specs.Pages.{Moves};
@@ -11,9 +11,10 @@ use lxr_graph::{Count, Counts, Kind, Names, Report};
 use lxr_layout::Name;
 use lxr_text_stream::{Sink, WriteError};
 
-/// Prints the report of a pause, with its counts where they are asked for and the pause isn't plain. After an error a
-/// front of the text is written.
+/// Prints the report of a pause, with its counts where they are asked for and the pause isn't plain: then they were told. After an
+/// error a front of the text is written.
 pub fn print_pause<O: Sink>(report: &Report, counts: bool, output: &mut O) -> Result<(), WriteError>
+    requires told { IsTrue (counts && not (is_plain report.now.kind)) → HasToldCounts report.now }
     ensures ok { let text = report_text counts (report_of report.now) in
         OnOk result (Appends (O.written output.old) (O.written output.new) text) }
     ensures err { let text = report_text counts (report_of report.now) in
@@ -105,6 +106,7 @@ fn put_asked_counts<O: Sink>(
     asked: bool,
     report: &Report,
 ) -> Result<(), WriteError>
+    requires told { IsTrue (asked && not (is_plain report.now.kind)) → HasToldCounts report.now }
     ensures ok { OnOk result (Moves (O.written output.old) (O.written output.new)
         (page.old ++ counts_text asked (report_of report.now)) page.new) }
     ensures err { OnErr result (AppendsFront (O.written output.old) (O.written output.new)
@@ -113,14 +115,14 @@ fn put_asked_counts<O: Sink>(
     ensures cause { result ≡ Err WriteError.Fault → Rose (O.faults output.old) (O.faults output.new) }
 {
     if asked && has_counts(report.kind) {
-        put_counts(page, output, &report.counts)
+        put_counts(page, output, &report.told)
     } else {
         Ok(())
     }
 }
 
-/// Whether a pause of this kind has counts.
-fn has_counts(kind: Kind) -> bool
+/// Whether a pause of this kind has counts: one that isn't plain has.
+pub fn has_counts(kind: Kind) -> bool
     ensures { result ≡ not (is_plain kind) }
 {
     match kind {

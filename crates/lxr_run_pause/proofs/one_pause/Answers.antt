@@ -1,4 +1,4 @@
-use Rattle.lxr_run_pause.proofs.WholeLemmas.{at', few_pauses, few_tallied, free_traced, grays_avoid, grays_lie, leads, may_count, names_once, pause_made, space_counted, space_traced, stands, traces_may}
+use Rattle.lxr_run_pause.proofs.WholeLemmas.{at', few_pauses, few_tallied, free_traced, grays_avoid, grays_lie, is_untold, leads, may_count, names_once, pause_made, space_counted, space_traced, stands, traces_may}
 use Rattle.lxr_run_pause.proofs.one_pause.Goals as goal
 
 pub decide_kind-kind-requires-clause-space : goal.decide_kind-kind-requires-clause-space
@@ -53,8 +53,14 @@ count_pause-requires-clause-tally c =
     c.trace_by_kind.new.space c.trace_by_kind.ensures c.sweep_lines.new.space c.sweep_lines.ensures.states c.sort_report.new.report c.sort_report.ensures
     c.count_where_drained.new.space c.count_where_drained.ensures
 
-pub returns : goal.returns
-returns c g can = (
+pub returns-clause-untold : goal.returns-clause-untold
+returns-clause-untold c =
+    is_untold c.args.space.now c.settle_counts.new.space c.requires.space.0 c.requires.space.1 c.settle_counts.ensures c.args.ask c.args.pace c.decide_kind-kind.result c.decide_kind-kind.ensures
+    c.trace_by_kind.new.space c.trace_by_kind.ensures c.sweep_lines.new.space c.sweep_lines.ensures.states c.sort_report.new.report c.sort_report.ensures
+    c.count_where_drained.new.space c.count_where_drained.ensures c.count_pause.new.space c.count_pause.ensures
+
+pub returns-clause-pauses : goal.returns-clause-pauses
+returns-clause-pauses c g can = (
   at' c.args.space.now c.settle_counts.new.space g can c.settle_counts.ensures c.args.ask c.args.pace c.decide_kind-kind.result c.decide_kind-kind.ensures c.trace_by_kind.new.space c.trace_by_kind.ensures,
   pause_made c.args.space.now c.settle_counts.new.space g can c.settle_counts.ensures c.args.ask c.args.pace c.decide_kind-kind.result c.decide_kind-kind.ensures
       c.trace_by_kind.new.space c.trace_by_kind.ensures c.sweep_lines.new.space c.sweep_lines.ensures.states c.sort_report.new.report c.sort_report.ensures

@@ -13,7 +13,7 @@ pause-requires g c =
     let (task, same, rest, h, p, wants) = c.requires.wants in
     let few = few_replies task c.args.op rest c.args.heap.now (g.O.Sink.written c.args.output.now) c.args.replies.now.items h p in
     let pauses = p.pauses in
-    record { number = omega (arith, few, pauses) }
+    record { holds = (h, p.holds); number = omega (arith, few, pauses) }
 
 pub returns-in_err-pause-clause-err : goal.returns-in_err-pause-clause-err
 returns-in_err-pause-clause-err g c = OnErr-always c.from_residual.result (λ task same rest h p wants.

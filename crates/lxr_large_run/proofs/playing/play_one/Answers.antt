@@ -13,7 +13,7 @@ pause-requires g c =
     let (k, came) = c.in_ok-reply.ensures.ok task same rest h p in
     let few = few_replies task c.args.op rest c.args.heap.now (g.O.Sink.written c.args.output.now) c.args.replies.now.items h p in
     let pauses = came.pauses in
-    record { number = omega (arith, few, pauses) }
+    record { holds = (_, came.holds); number = omega (arith, few, pauses) }
 
 pub returns-in-None-clause-ok : goal.returns-in-None-clause-ok
 returns-in-None-clause-ok g c = λ task same rest h p.

@@ -3,7 +3,7 @@ use Rattle.lxr_layout.specs.declared.TheConstants.{GRANULES_IN_BLOCK}
 use Rattle.lxr_image.specs.Spaces.{tables_of}
 use Rattle.lxr_image_search.specs.declared.Wanted.TheVariants.{Object}
 use Rattle.lxr_image_search.specs.Search.{NoneWanted}
-use Rattle.lxr_pause_queue.specs.Entries.{entries_below, with_counts}
+use Rattle.lxr_pause_queue.specs.Entries.{entries_below, with_told}
 use Rattle.lxr_pause_queue.proofs.EntryLemmas.{begins_with_none, none_more_told, told_then}
 use Rattle.lxr_pause_queue.proofs.counting.add_counts.Goals as goal
 
@@ -17,8 +17,8 @@ add_words-requires-clause-told c =
     let is = c.loop-block.invariant in
     let next = c.in-Some.ensures.next in
     let block = c.in-Some.block in
-    let told : mid ≡ with_counts s (entries_below (tables_of s) (GRANULES_IN_BLOCK * block)) = none_more_told s mid c.loop-block.from block is.told next.reached next.passed in
-    ap (λ z. z.report.counts.items) told ∙ ap (λ z. entries_below (tables_of z) (GRANULES_IN_BLOCK * block)) (sym is.told)
+    let told : mid ≡ with_told s (entries_below (tables_of s) (GRANULES_IN_BLOCK * block)) = none_more_told s mid c.loop-block.from block is.told next.reached next.passed in
+    ap (λ z. z.report.told.items) told ∙ ap (λ z. entries_below (tables_of z) (GRANULES_IN_BLOCK * block)) (sym is.told)
 
 pub loop-block-preserved : goal.loop-block-preserved
 loop-block-preserved c =

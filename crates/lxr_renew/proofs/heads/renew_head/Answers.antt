@@ -18,7 +18,7 @@ returns-in-Object c = λ ns n shape h.
     sym c.in-Object.is ∙ c.unpack.ensures ∙ ap header_of (c.heap_word.ensures ∙ ap (tables_of c.args.space.now).heap word ∙ h.whole.header) ∙ header_unpacked n shape h.whole.name h.whole.shape in
     let name : c.in-Object.name ≡ n = cc in
     let same : c.in-Object.shape ≡ shape = cc in
-    let counted : AreCounted c.as_slice.result.now ns = subst (λ cs. AreCounted cs ns) (sym c.as_slice.ensures) h.counted in
+    let counted : AreCounted c.as_slice.result.now ns = subst (λ cs. AreCounted cs ns) (sym c.as_slice.ensures) h.told in
     let value : c.pack.result ≡ header_word (renewed_name ns n) shape = c.pack.ensures.word ∙ (λ i. header_word ((c.renewed-name.ensures ns counted ∙ ap (renewed_name ns) name) i) (same i)) in
     subst (λ w. Turns c.args.space.now c.put_heap.new.self (with_heap (tables_of c.args.space.now) w (header_word (renewed_name ns n) shape))) word
     (subst (λ v. Turns c.args.space.now c.put_heap.new.self (with_heap (tables_of c.args.space.now) c.word_of-word.result v)) value c.put_heap.ensures)

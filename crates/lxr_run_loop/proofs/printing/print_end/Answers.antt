@@ -31,8 +31,8 @@ print_heap_too-requires-clause-heap g c =
 pub sums-requires : goal.sums-requires
 sums-requires g c =
     let has : SomeIsComplete c.args.options c.args.space.now (g.O.Sink.written c.args.output.now) c.args.actors.now c.args.course.now.totals c.args.course.now.order = c.requires in
-    let (task, with_options, seen, course, same, ordered, (h, run, drawn, totals, noted, full)) = has in
-    (task, g.O.Sink.written c.args.output.now, seen, (h, run), full)
+    let (task, with_options, seen, course, same, ordered, complete) = has in
+    (task, g.O.Sink.written c.args.output.now, seen, course, same, complete)
 
 pub returns-in-Run-clause-ok : goal.returns-in-Run-clause-ok
 returns-in-Run-clause-ok g c = on_ok (λ printed. λ task with_options seen course same ordered (h, run, drawn, totals, noted, full).

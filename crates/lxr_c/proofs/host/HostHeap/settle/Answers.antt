@@ -2,7 +2,7 @@ use Rattle.std.proofs.Common.{true, refl, inl, inr}
 use Rattle.std.proofs.lemmas.Bool.{iff_false}
 use mathlib.Core.Logic.{∥∥₁_elim, ∥∥₁_prop}
 use Rattle.lxr_c.specs.Hosting.{behind_pause}
-use Rattle.lxr_c.proofs.RoomLemmas.{early_room, paused_fresh, paused_some, renewed_room}
+use Rattle.lxr_c.proofs.RoomLemmas.{early_room, paused_fresh, renewed_room}
 use Rattle.lxr_c.proofs.host.HostHeap.settle.Goals as goal
 
 pub returns-then-not-is_at_end-clause-settled : goal.returns-then-not-is_at_end-clause-settled
@@ -12,10 +12,7 @@ pub returns-then-not-is_at_end-clause-room : goal.returns-then-not-is_at_end-cla
 returns-then-not-is_at_end-clause-room c = early_room c.args.ends c.args.self.now c.requires.ends c.requires.serving (iff_false c.is_at_end.ensures c.if-not-is_at_end.true)
 
 pub renew-requires : goal.renew-requires
-renew-requires c = record {
-  fresh = paused_fresh c.args.self.now c.pause.new.self c.requires.serving.holds c.pause.ensures;
-  paused = paused_some c.args.self.now c.pause.new.self true c.requires.serving.holds c.pause.ensures;
-}
+renew-requires c = record { fresh = paused_fresh c.args.self.now c.pause.new.self c.requires.serving.holds c.pause.ensures }
 
 pub returns-clause-settled : goal.returns-clause-settled
 returns-clause-settled c = λ h is.

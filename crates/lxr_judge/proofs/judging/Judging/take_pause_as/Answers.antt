@@ -19,7 +19,7 @@ returns-then-not-branch-2-clause-tried c = λ h keeps place text some report is 
     let e = c.args.sources.now in
     let r = report_of c.in_ok-report.report in
     let p = pause_passed e h c.args.kind report is passes in
-    let at = c.in_ok-report.ensures (moment e.terms.threads h) keeps.position in
+    let at = c.in_ok-report.ensures.report (moment e.terms.threads h) keeps.position in
     never c.in_ok-is_report.field-0 c.if-not-branch-2.true c.in_ok-is_report.ensures.1
     (ap (λ (b : Bool). report_text b r) c.terms.ensures.1 ∙ (ap (report_text e.counts) (at ∙ sym p.is_at) ∙ (p.text ∙ sym text)))
 
@@ -28,7 +28,7 @@ returns-clause-tried c = λ h keeps place text some.
     let e = c.args.sources.now in
     let r = report_of c.in_ok-report.report in
     let after : Judging = record { position = c.pause.new.self; progress = c.note_pause.new.self; page = c.args.self.now.page } in
-    let at = c.in_ok-report.ensures (moment e.terms.threads h) keeps.position in
+    let at = c.in_ok-report.ensures.report (moment e.terms.threads h) keeps.position in
     let may = (c.in_ok-may_pause.ensures h keeps).0 c.if-not-branch.false in
     let printed = sym (ap (λ (b : Bool). report_text b r) c.terms.ensures.1) ∙ c.in_ok-is_report.ensures.0 c.if-not-branch-2.false in (
       Pause r,

@@ -3,11 +3,11 @@ use Rattle.std.proofs.Common.{◌+◌, ap, ◌∙◌, ℕ}
 use Rattle.lxr_judge_report.specs.Positions.{Present}
 use Rattle.lxr_judge_report.proofs.position.Position.report.Goals as goal
 
-pub returns : goal.returns
-returns c = λ m at.
+pub returns-clause-report : goal.returns-clause-report
+returns-clause-report c = λ m at.
     let gains = c.in_ok-gains.ensures m at in
     let losses = c.in_ok-losses.ensures m at gains.kept_are gains.stuck_are in
-    let counts = c.in_ok-counts.ensures m at gains.promoted_are gains.stuck_are losses in
+    let counts = c.of.ensures ∙ c.in_ok-counts.ensures m at gains.promoted_are gains.stuck_are losses in
     let number = ap (λ (n : ℕ). n + 1) (c.number.ensures ∙ ap (λ (p : Present). p.last.number) c.self.view_is ∙ at.last.number) in
     let promoted = c.into_names.ensures ∙ gains.promoted_are in
     let dead = c.into_names-2.ensures ∙ losses.dead_are in

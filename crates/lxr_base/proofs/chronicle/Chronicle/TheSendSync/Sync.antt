@@ -2,7 +2,7 @@
 use denote.RattleType.{RattleType}
 use denote.Param.Send.{IsSync, cell_keyless}
 use denote.Memory.{part_of, raw_all}
-use Rattle.lxr_mutator.specs.contracts.chronicle.Chronicle.{the_row}
+use Rattle.lxr_base.specs.contracts.chronicle.Chronicle.{the_row}
 
 pub sync : (A : RattleType) → IsSync A → IsSync (the_row A)
 unfolding part_of

@@ -2,13 +2,14 @@
 ghost use Rattle.std.specs.Prelude.{◌≡◌, List, [], ◌∷◌, ◌++◌};
 ghost use Rattle.std.specs.Borrow.{ftrue};
 
-use lxr_base::Listed;
+use crate::Listed;
 use std::marker::{Model, PhantomData};
 
 /// The items that came, in order. It keeps none of them: it takes no memory, and its methods do nothing as they run.
 #[derive(Drop)]
 pub struct Chronicle<T> {
-    of: PhantomData<T>,
+    /// It takes no memory; it makes the type one of items. Open for who makes a chronicle whose items a proof names.
+    pub marker: PhantomData<T>,
     pub ghost items: { List T },
 }
 
@@ -27,7 +28,9 @@ impl<T> Chronicle<T> {
     pub fn new() -> Chronicle<T>
         ensures { result.items ≡ [] }
     {
-        Chronicle { of: PhantomData }
+        Chronicle {
+            marker: PhantomData,
+        }
     }
 
     /// The items of a list.
@@ -35,7 +38,19 @@ impl<T> Chronicle<T> {
     pub fn of(_list: &Listed<T>) -> Chronicle<T>
         ensures { result.items ≡ _list.now.items }
     {
-        Chronicle { of: PhantomData }
+        Chronicle {
+            marker: PhantomData,
+        }
+    }
+
+    /// The same items.
+    #[inline(always)]
+    pub fn same(&self) -> Chronicle<T>
+        ensures { result.items ≡ self.now.items }
+    {
+        Chronicle {
+            marker: PhantomData,
+        }
     }
 
     /// With one more item at the end.
@@ -43,6 +58,8 @@ impl<T> Chronicle<T> {
     pub fn and(&self, _item: &T) -> Chronicle<T>
         ensures { result.items ≡ self.now.items ++ _item.now ∷ [] }
     {
-        Chronicle { of: PhantomData }
+        Chronicle {
+            marker: PhantomData,
+        }
     }
 }

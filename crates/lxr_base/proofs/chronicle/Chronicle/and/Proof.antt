@@ -30,12 +30,12 @@ use denote.Triple.Spec.{Meets, triple_of}
 use denote.Triple.Table.{entered}
 use denote.Triple.Walked.{says, Stays, stay_dropped, walk_of, ends_at, walk_Meets, Goes-dropped}
 use Rattle.std.specs.contracts.marker.PhantomData as Mark
-use Rattle.lxr_mutator.specs.contracts.chronicle.Chronicle as Chronicle
-use Rattle.lxr_mutator.specs.contracts.chronicle.Chronicle.and as F
-use Rattle.lxr_mutator.specs.contracts.chronicle.Chronicle.and.Key.{name as #self}
-use Rattle.lxr_mutator.proofs.Marks.{none, one, one_made}
-use Rattle.lxr_mutator.proofs.chronicle.Chronicle.and.Statement as stated
-use Rattle.lxr_mutator.proofs.chronicle.Chronicle.and.Code as code
+use Rattle.lxr_base.specs.contracts.chronicle.Chronicle as Chronicle
+use Rattle.lxr_base.specs.contracts.chronicle.Chronicle.and as F
+use Rattle.lxr_base.specs.contracts.chronicle.Chronicle.and.Key.{name as #self}
+use Rattle.lxr_base.proofs.Marks.{none, one, one_made}
+use Rattle.lxr_base.proofs.chronicle.Chronicle.and.Statement as stated
+use Rattle.lxr_base.proofs.chronicle.Chronicle.and.Code as code
 
 module _ (A : RattleType) where
   abbrev args : Args
@@ -67,7 +67,7 @@ module _ (A : RattleType) where
       walks =
           let a = z.0.3 in
           let vss = z.0.4 in
-          let made : (Chronicle.the_row (param 0 A)).Denot = record { of = record {}; items = a.0.now.items ++ a.1.0.now ∷ [] } in
+          let made : (Chronicle.the_row (param 0 A)).Denot = record { marker = record {}; items = a.0.now.items ++ a.1.0.now ∷ [] } in
           qed 𝓛 ((raw toks ⊛ ‵ (owns (types_at ended.signature.params z.0.0) a vss)) ∷ raw ((held z.0.0 a).requires z.1) ∷ []) ∵
           keep ! (0 ∷ []) $ split ! $ move ! (1 ∷ []) $
           fsplit ! $ fsplit ! $ feq_l ! (λ is₀. drop ! $ fsplit ! $ fsplit ! $ feq_l ! (λ is₁. drop ! $ drop ! $

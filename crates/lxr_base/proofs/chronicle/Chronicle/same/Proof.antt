@@ -1,4 +1,4 @@
--- `of` makes the empty struct, with the items that its clause names.
+-- `same` makes the empty struct, with the items that its clause names.
 use Rattle.std.proofs.Common.{List, [], ◌∷◌, ◌++◌, refl}
 use seplogic.Ra.Ura.{Ura}
 use mir.Syntax.{Fn, Args, a_type}
@@ -30,13 +30,12 @@ use denote.Triple.Spec.{Meets, triple_of}
 use denote.Triple.Table.{entered}
 use denote.Triple.Walked.{says, Stays, stay_dropped, walk_of, ends_at, walk_Meets, Goes-dropped}
 use Rattle.std.specs.contracts.marker.PhantomData as Mark
-use Rattle.lxr_base.specs.contracts.lists.Listed as Listed
-use Rattle.lxr_mutator.specs.contracts.chronicle.Chronicle as Chronicle
-use Rattle.lxr_mutator.specs.contracts.chronicle.Chronicle.of as F
-use Rattle.lxr_mutator.specs.contracts.chronicle.Chronicle.of.Key.{name as #self}
-use Rattle.lxr_mutator.proofs.Marks.{none, one, one_made}
-use Rattle.lxr_mutator.proofs.chronicle.Chronicle.of.Statement as stated
-use Rattle.lxr_mutator.proofs.chronicle.Chronicle.of.Code as code
+use Rattle.lxr_base.specs.contracts.chronicle.Chronicle as Chronicle
+use Rattle.lxr_base.specs.contracts.chronicle.Chronicle.same as F
+use Rattle.lxr_base.specs.contracts.chronicle.Chronicle.same.Key.{name as #self}
+use Rattle.lxr_base.proofs.Marks.{none, one, one_made}
+use Rattle.lxr_base.proofs.chronicle.Chronicle.same.Statement as stated
+use Rattle.lxr_base.proofs.chronicle.Chronicle.same.Code as code
 
 module _ (A : RattleType) where
   abbrev args : Args
@@ -49,7 +48,7 @@ module _ (A : RattleType) where
   ended = F.ended A
 
   abbrev stayed : Stays ended.signature.params ended.kept
-  stayed = (stay_dropped (RefOf (0 ∷ []) tt (plain (λ _. Listed.the_row (param 0 A))) (λ _. tt)) yes, tt)
+  stayed = (stay_dropped (RefOf (0 ∷ []) tt (plain (λ _. Chronicle.the_row (param 0 A))) (λ _. tt)) yes, tt)
 
   module _ {M : Type 1} {𝓤 : Ura M} (𝓛 : Logic 𝓤) (at_mem : Memory → SProp 𝓤) (run : Routine → Fun 𝓤) where
     open 𝓛 use {H}
@@ -68,7 +67,7 @@ module _ (A : RattleType) where
       walks =
           let a = z.0.3 in
           let vss = z.0.4 in
-          let made : (Chronicle.the_row (param 0 A)).Denot = record { of = record {}; items = a.0.now.items } in
+          let made : (Chronicle.the_row (param 0 A)).Denot = record { marker = record {}; items = a.0.now.items } in
           qed 𝓛 ((raw toks ⊛ ‵ (owns (types_at ended.signature.params z.0.0) a vss)) ∷ raw ((held z.0.0 a).requires z.1) ∷ []) ∵
           keep ! (0 ∷ []) $ split ! $ move ! (1 ∷ []) $
           fsplit ! $ fsplit ! $ feq_l ! (λ is. drop ! $ drop ! $
@@ -85,12 +84,12 @@ module _ (A : RattleType) where
 
     meets : (𝓣 : Tables 𝓤 H) → Meets 𝓛 ended.signature (WpFn 𝓤 H 𝓣.C 𝓣.Λ function) (closing 𝓛 ended held)
     meets 𝓣 =
-        walk_Meets 𝓛 ended stayed (Goes-dropped 𝓛 2 (RefOf (0 ∷ []) tt (plain (λ _. Listed.the_row (param 0 A))) (λ _. tt)) yes (λ κs x f. refl), tt) held
+        walk_Meets 𝓛 ended stayed (Goes-dropped 𝓛 2 (RefOf (0 ∷ []) tt (plain (λ _. Chronicle.the_row (param 0 A))) (λ _. tt)) yes (λ κs x f. refl), tt) held
         (WpFn 𝓤 H 𝓣.C 𝓣.Λ function) (WpFn-mono 𝓤 H 𝓛.laws 𝓣 function) (walks 𝓣.C 𝓣.Λ)
 
-pub of_spec : {M : Type 1} → stated.statement M
+pub same_spec : {M : Type 1} → stated.statement M
 unfolding tables_of
-of_spec 𝓤 𝓛 𝓜 𝓡 wired A LA =
+same_spec 𝓤 𝓛 𝓜 𝓡 wired A LA =
     let 𝓣 : Tables 𝓤 𝓛.H = tables_of 𝓤 𝓛.H 𝓜 (tables 𝓤 𝓛.H 𝓜 𝓡 𝓡.env) in
     entered 𝓤 𝓛.H (triple_of 𝓛 (ended A).signature (closing 𝓛 (ended A) (held A 𝓛 𝓜.mem 𝓡.returns))) 𝓣.C 𝓣.Λ (#self (args A)) (function A)
     (code.unfolded 𝓤 𝓛.H 𝓜 𝓡 wired (A, tt)) (meets A 𝓛 𝓜.mem 𝓡.returns 𝓣)
