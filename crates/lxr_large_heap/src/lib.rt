@@ -138,9 +138,10 @@ impl LargeHeap {
     }
 
     /// Lists the world and each object that the last pause left with its count, or none where it is stuck, in the order of names: in `told`
-    /// of what `report` gives. A count is what the table of counts has. Behind a pause that collected, or such refusals alone, that is the
-    /// number of references to the object, as that pause reported it unless names were renewed since. It takes no memory: it goes once over
-    /// the heap's start bits, looks at the header and the count of each of these objects, and sorts them by name, in place (n log n).
+    /// of what `report` gives. A count is what the table of counts has. Behind a pause that collected, with nothing but refusals (`full`) and
+    /// renewals between, that is the number of references to the object, as that pause reported it unless names were renewed since. It takes
+    /// no memory: it goes once over the heap's start bits, looks at the header and the count of each of these objects, and sorts them by
+    /// name, in place (n log n).
     pub fn tell_counts(&mut self)
         ensures { (h : List LargeItem) → IsHeapOf self.old h → TellsHeap self.old self.new h }
     {
@@ -148,10 +149,10 @@ impl LargeHeap {
     }
 
     /// Gives each object that is left a new name, 1.1, 1.2, 1.3, .., in order of the old ones, and counts pauses from 0 again, so that a
-    /// heap lives for ever though names and pauses have 32 bits. It stands right behind a pause that collected, or such refusals alone. What
-    /// registers and objects refer to and the words of bodies are as they were, and nothing moves. The last pause's report stays, but for
-    /// `told`, which lists what was left, with the old names. It takes no memory: it tells what is left, goes once more over the heap's start
-    /// bits, and looks up each name.
+    /// heap lives for ever though names and pauses have 32 bits. It stands behind a pause that collected, with nothing but refusals (`full`)
+    /// and other renewals between. What registers and objects refer to and the words of bodies are as they were, and nothing moves. The last
+    /// pause's report stays, but for `told`, which lists what was left, with the old names. It takes no memory: it tells what is left, goes
+    /// once more over the heap's start bits, and looks up each name.
     pub fn renew(&mut self)
         requires fresh { IsTrue self.old.fresh }
         ensures { (h : List LargeItem) → IsHeapOf self.old h → RenewsHeap self.old self.new h }
