@@ -2,7 +2,7 @@
 use crate::draws::Draws;
 use crate::watching::{Answered, Watching};
 use lxr_graph::{Item, Items, Reply};
-use lxr_live::{Heap, Paused, Resumed, Station};
+use lxr_shared_heap::{Heap, Paused, Resumed, Station};
 use std::alloc::{AllocError, Global};
 
 /// Where the pass of a mutator stands.

@@ -1,5 +1,5 @@
 //! A case: how a script is played, and the script.
-use lxr_live::Settings;
+use lxr_shared_heap::Settings;
 use lxr_text_script::{Script, read_script};
 use std::alloc::Global;
 

@@ -2,7 +2,7 @@
 use crate::board::{Awaited, Board, Seat};
 use crate::shared::Shared;
 use lxr_graph::{Op, Operations, Replies, Reply};
-use lxr_live::{Answer, Station};
+use lxr_shared_heap::{Answer, Station};
 use std::alloc::{AllocError, Global};
 use std::sync::Wait;
 

@@ -3,7 +3,7 @@ use crate::board::{Board, Stand};
 use crate::cases::Case;
 use crate::player::{Player, Way};
 use crate::shared::Shared;
-use lxr_live::{Heap, Resumed};
+use lxr_shared_heap::{Heap, Resumed};
 use std::alloc::{AllocError, Global};
 use std::sync::Wait;
 use std::thread;

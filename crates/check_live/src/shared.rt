@@ -1,6 +1,6 @@
 //! The lock, and how threads wait for one another.
 use crate::board::{Awaited, Board, Seat};
-use lxr_live::Station;
+use lxr_shared_heap::Station;
 use std::alloc::Global;
 use std::sync::{Condvar, Mutex, MutexGuard, Wait};
 

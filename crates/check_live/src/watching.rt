@@ -1,7 +1,7 @@
 //! What is seen of pauses: their reports, and behind which of them each `new` that waited was served.
 use lxr_graph::{Item, Items, Kind};
 use lxr_image::Space;
-use lxr_run_watch::Watch;
+use lxr_sights::Watch;
 use lxr_text_print::print_pause;
 use lxr_text_stream::Plenty;
 use std::alloc::{AllocError, Global};

@@ -4,9 +4,9 @@ use Rattle.std.specs.Prelude.{Result, Ok, Err}
 use Rattle.lxr_large_model.specs.declared.LargeOp.{LargeOp}
 use Rattle.lxr_large_model.specs.declared.LargeReply.{LargeReply}
 use Rattle.lxr_large_model.specs.History.{LargeItem}
-use Rattle.lxr_large_heap.specs.declared.bulk.BodyReply.{BodyReply}
-use Rattle.lxr_large_heap.specs.Bulk.{WritesWords}
-use Rattle.lxr_large_heap.specs.Holding.{IsHeapOf}
+use Rattle.lxr_heap.specs.declared.bulk.BodyReply.{BodyReply}
+use Rattle.lxr_heap.specs.Bulk.{WritesWords}
+use Rattle.lxr_heap.specs.Holding.{IsHeapOf}
 use Rattle.lxr_c.specs.declared.codes.Code.{Code}
 use Rattle.lxr_c.specs.declared.codes.Code.TheVariants as code
 use Rattle.lxr_c.specs.declared.host.HostHeap.{HostHeap}

@@ -1,9 +1,9 @@
 -- A heap that was opened with settings is one that was opened by the wishes that they come of.
 use Rattle.std.proofs.Common.{◌≡◌, Some}
 use Rattle.std.specs.Prelude.{Result, Ok, Err, IfOk}
-use Rattle.lxr_live.specs.declared.heap.Refused.{Refused}
-use Rattle.lxr_live.specs.declared.settings.Settings.{Settings}
-use Rattle.lxr_live.specs.Heaps.{Heaped, IsOpened}
+use Rattle.lxr_shared_heap.specs.declared.heap.Refused.{Refused}
+use Rattle.lxr_shared_heap.specs.declared.settings.Settings.{Settings}
+use Rattle.lxr_shared_heap.specs.Heaps.{Heaped, IsOpened}
 use Rattle.lxr_c.specs.declared.settings.Wishes.{Wishes}
 use Rattle.lxr_c.specs.Sharing.{IsOpenedBy, settings_of}
 

@@ -10,9 +10,9 @@ use Rattle.lxr_large_model.specs.declared.LargeOp.{LargeOp}
 use Rattle.lxr_large_model.specs.declared.LargeOp.TheVariants as large_op
 use Rattle.lxr_large_model.specs.State.{LargeState, body_of}
 use Rattle.lxr_large_model.specs.Step.{get_from as get_large, got as got_large, large_step, put_at as put_large_at, put_to as put_large, word_in}
-use Rattle.lxr_large_heap.specs.declared.heap.Heap.{Heap}
-use Rattle.lxr_large_heap.specs.Acting.{FindsNoLog, FindsNoPlace, MayBeCalled, made_by}
-use Rattle.lxr_large_heap.specs.Holding.{made_with}
+use Rattle.lxr_heap.specs.declared.heap.Heap.{Heap}
+use Rattle.lxr_heap.specs.Acting.{FindsNoLog, FindsNoPlace, MayBeCalled, made_by}
+use Rattle.lxr_heap.specs.Holding.{made_with}
 use Rattle.lxr_c.specs.Requests.{IsMaking, IsQuiet, IsStoring}
 
 -- ---- each may be called

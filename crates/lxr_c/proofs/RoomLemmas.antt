@@ -14,13 +14,13 @@ use Rattle.lxr_large_model.specs.declared.LargeReply.TheVariants as large_reply
 use Rattle.lxr_large_model.specs.Full.{LargeReplies, LargeTerms}
 use Rattle.lxr_large_model.specs.History.{LargeItem, Called, large_moment, large_state}
 use Rattle.lxr_large_model.specs.Step.{IsLargeReply}
-use Rattle.lxr_large_heap.specs.declared.heap.Heap.{Heap}
-use Rattle.lxr_large_heap.specs.Acting.{IsReplied, MayBeCalled, made_by, Acts as HeapActs}
-use Rattle.lxr_large_heap.specs.Holding.{IsHeapOf, IsOpenedHeap, terms_of}
-use Rattle.lxr_large_heap.specs.declared.bulk.BodyReply.{BodyReply}
-use Rattle.lxr_large_heap.specs.declared.bulk.BodyReply.TheVariants as body_reply
-use Rattle.lxr_large_heap.specs.Bulk.{WritesWords, with_puts, with_written}
-use Rattle.lxr_large_heap.specs.Renewing.{RenewsHeap}
+use Rattle.lxr_heap.specs.declared.heap.Heap.{Heap}
+use Rattle.lxr_heap.specs.Acting.{IsReplied, MayBeCalled, made_by, Acts as HeapActs}
+use Rattle.lxr_heap.specs.Holding.{IsHeapOf, IsOpenedHeap, terms_of}
+use Rattle.lxr_heap.specs.declared.bulk.BodyReply.{BodyReply}
+use Rattle.lxr_heap.specs.declared.bulk.BodyReply.TheVariants as body_reply
+use Rattle.lxr_heap.specs.Bulk.{WritesWords, with_puts, with_written}
+use Rattle.lxr_heap.specs.Renewing.{RenewsHeap}
 use Rattle.lxr_large_run.specs.Asking.{WantsNoPause, WantsPause}
 use Rattle.lxr_large_run.proofs.CallLemmas.{called_makes, called_pauses, paused_pauses, pauses_are}
 use Rattle.lxr_large_run.proofs.RoomLemmas.{wanted_wants_none}

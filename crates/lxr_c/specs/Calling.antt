@@ -5,7 +5,7 @@ use Rattle.lxr_large_model.specs.declared.LargeOp.{LargeOp}
 use Rattle.lxr_large_model.specs.declared.LargeReply.{LargeReply}
 use Rattle.lxr_large_model.specs.declared.LargeReply.TheVariants as large_reply
 use Rattle.lxr_large_model.specs.History.{LargeItem}
-use Rattle.lxr_large_heap.specs.Holding.{IsHeapOf}
+use Rattle.lxr_heap.specs.Holding.{IsHeapOf}
 use Rattle.lxr_c.specs.declared.codes.Code.{Code}
 use Rattle.lxr_c.specs.declared.codes.Code.TheVariants as code
 use Rattle.lxr_c.specs.declared.host.HostHeap.{HostHeap}

@@ -5,10 +5,10 @@ use Rattle.lxr_graph.specs.History.{report_of}
 use Rattle.lxr_large_model.specs.declared.LargeOp.{LargeOp}
 use Rattle.lxr_large_model.specs.declared.LargeReply.{LargeReply}
 use Rattle.lxr_large_model.specs.History.{LargeItem, Paused, Renewed, large_moment}
-use Rattle.lxr_large_heap.specs.Acting.{FindsNoLog, FindsNoPlace, IsReplied}
-use Rattle.lxr_large_heap.specs.Holding.{IsHeapOf, IsOpenedHeap}
-use Rattle.lxr_large_heap.specs.Pausing.{PausesHeap}
-use Rattle.lxr_large_heap.specs.Renewing.{RenewsHeap}
+use Rattle.lxr_heap.specs.Acting.{FindsNoLog, FindsNoPlace, IsReplied}
+use Rattle.lxr_heap.specs.Holding.{IsHeapOf, IsOpenedHeap}
+use Rattle.lxr_heap.specs.Pausing.{PausesHeap}
+use Rattle.lxr_heap.specs.Renewing.{RenewsHeap}
 use Rattle.lxr_c.specs.declared.host.Ends.{Ends}
 use Rattle.lxr_c.specs.declared.host.TheConstants.{ENDS}
 use Rattle.lxr_c.specs.declared.host.HostHeap.{HostHeap}

@@ -7,11 +7,11 @@ use Rattle.lxr_blocks.specs.Listing.{listed_frees}
 use Rattle.lxr_large_model.specs.Full.{kept_names}
 use Rattle.lxr_large_model.specs.History.{LargeItem, large_moment, large_state}
 use Rattle.lxr_large_bodies.specs.Bodies.{blocks_held}
-use Rattle.lxr_large_heap.specs.declared.bulk.BodyReply.{BodyReply}
-use Rattle.lxr_large_heap.specs.declared.bulk.BodyReply.TheVariants as body_reply
-use Rattle.lxr_large_heap.specs.Bulk.{WritesWords, base_held, bulk_reply, words_held}
-use Rattle.lxr_large_heap.specs.Holding.{IsHeapOf}
-use Rattle.lxr_large_heap.specs.Looking.{shape_held}
+use Rattle.lxr_heap.specs.declared.bulk.BodyReply.{BodyReply}
+use Rattle.lxr_heap.specs.declared.bulk.BodyReply.TheVariants as body_reply
+use Rattle.lxr_heap.specs.Bulk.{WritesWords, base_held, bulk_reply, words_held}
+use Rattle.lxr_heap.specs.Holding.{IsHeapOf}
+use Rattle.lxr_heap.specs.Looking.{shape_held}
 use Rattle.lxr_c.specs.declared.codes.Code.{Code}
 use Rattle.lxr_c.specs.declared.codes.Code.TheVariants as code
 use Rattle.lxr_c.specs.declared.counts.Counted.{Counted}

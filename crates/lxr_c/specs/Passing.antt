@@ -5,13 +5,13 @@ use Rattle.lxr_graph.specs.declared.Reply.{Reply}
 use Rattle.lxr_graph.specs.declared.Reply.TheVariants as reply
 use Rattle.lxr_large_model.specs.declared.LargeReply.TheVariants as large_reply
 use Rattle.lxr_core.specs.declared.actors.AnyActor.{AnyActor}
-use Rattle.lxr_live.specs.declared.station.Answer.{Answer}
-use Rattle.lxr_live.specs.declared.station.Answer.TheVariants as answer
-use Rattle.lxr_live.specs.declared.station.NotOut.{NotOut}
-use Rattle.lxr_live.specs.declared.station.NotOut.TheVariants as kept
-use Rattle.lxr_live.specs.Heaps.{Heaped, IsKept, IsPassOf}
-use Rattle.lxr_live.specs.Stations.{HasAnswered, HasGoneOn, Helps, IsOpen, IsSameStation, Stationed, is_mutator, newest_of}
-use Rattle.lxr_live.specs.Wanting.{HasEnded, IsHeldUp}
+use Rattle.lxr_shared_heap.specs.declared.station.Answer.{Answer}
+use Rattle.lxr_shared_heap.specs.declared.station.Answer.TheVariants as answer
+use Rattle.lxr_shared_heap.specs.declared.station.NotOut.{NotOut}
+use Rattle.lxr_shared_heap.specs.declared.station.NotOut.TheVariants as kept
+use Rattle.lxr_shared_heap.specs.Heaps.{Heaped, IsKept, IsPassOf}
+use Rattle.lxr_shared_heap.specs.Stations.{HasAnswered, HasGoneOn, Helps, IsOpen, IsSameStation, Stationed, is_mutator, newest_of}
+use Rattle.lxr_shared_heap.specs.Wanting.{HasEnded, IsHeldUp}
 use Rattle.lxr_c.specs.declared.codes.Code.{Code}
 use Rattle.lxr_c.specs.declared.codes.Code.TheVariants as code
 use Rattle.lxr_c.specs.declared.owned.Owned.{Owned}

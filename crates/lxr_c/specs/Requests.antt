@@ -5,7 +5,7 @@ use Rattle.lxr_graph.specs.declared.Op.TheVariants as op
 use Rattle.lxr_large_model.specs.declared.LargeOp.{LargeOp}
 use Rattle.lxr_large_model.specs.declared.LargeOp.TheVariants as large_op
 use Rattle.lxr_large_model.specs.declared.TheConstants.{MOST_BODY_BLOCKS}
-use Rattle.lxr_large_heap.specs.Acting.{MayBeCalled}
+use Rattle.lxr_heap.specs.Acting.{MayBeCalled}
 use Rattle.lxr_c.specs.declared.codes.Code.{Code}
 use Rattle.lxr_c.specs.declared.codes.Code.TheVariants as code
 

@@ -5,13 +5,13 @@ use Rattle.lxr_graph.specs.declared.report.Kind.TheVariants as kind
 use Rattle.lxr_graph.specs.History.{Item, PauseReport}
 use Rattle.lxr_model.specs.Belongs.{Script}
 use Rattle.lxr_run_history.specs.Left.{last_report}
-use Rattle.lxr_live.specs.declared.heap.Paused.{Paused}
-use Rattle.lxr_live.specs.declared.heap.Paused.TheVariants as paused
-use Rattle.lxr_live.specs.declared.heap.Resumed.{Resumed}
-use Rattle.lxr_live.specs.declared.heap.Resumed.TheVariants as resumed
-use Rattle.lxr_live.specs.declared.settings.Settings.{Settings}
-use Rattle.lxr_live.specs.Heaps.{Heaped, IsAtRest, IsHeapOf, IsOpened, Pauses, Resumes, most_asked}
-use Rattle.lxr_live.specs.Settings.{AreSettings}
+use Rattle.lxr_shared_heap.specs.declared.heap.Paused.{Paused}
+use Rattle.lxr_shared_heap.specs.declared.heap.Paused.TheVariants as paused
+use Rattle.lxr_shared_heap.specs.declared.heap.Resumed.{Resumed}
+use Rattle.lxr_shared_heap.specs.declared.heap.Resumed.TheVariants as resumed
+use Rattle.lxr_shared_heap.specs.declared.settings.Settings.{Settings}
+use Rattle.lxr_shared_heap.specs.Heaps.{Heaped, IsAtRest, IsHeapOf, IsOpened, Pauses, Resumes, most_asked}
+use Rattle.lxr_shared_heap.specs.Settings.{AreSettings}
 use Rattle.lxr_c.specs.declared.codes.Code.{Code}
 use Rattle.lxr_c.specs.declared.codes.Code.TheVariants as code
 use Rattle.lxr_c.specs.declared.owned.Owned.{Owned}

@@ -1,7 +1,7 @@
 //! What a heap counts, by the numbers that a program in C gives.
 ghost use Rattle.std.specs.Prelude.{◌≡◌, List};
 ghost use Rattle.lxr_large_model.specs.History.{LargeItem};
-ghost use Rattle.lxr_large_heap.specs.Holding.{IsHeapOf};
+ghost use Rattle.lxr_heap.specs.Holding.{IsHeapOf};
 ghost use Rattle.lxr_c.specs.Looking.{Counts, counted_by as is_counted_by};
 
 use crate::codes::Code;

@@ -1,13 +1,13 @@
 //! The heap of a program, with the pauses that it makes by itself.
 ghost use Rattle.std.specs.Prelude.{◌≡◌, ◌+◌, ◌-◌, ◌^◌, ◌<◌, ◌≤◌, ◌↔◌, false, List, IsTrue, IfOk};
 ghost use Rattle.lxr_large_model.specs.History.{LargeItem};
-ghost use Rattle.lxr_large_heap.specs.Holding.{IsHeapOf};
-ghost use Rattle.lxr_large_heap.specs.Acting.{MayBeCalled};
+ghost use Rattle.lxr_heap.specs.Holding.{IsHeapOf};
+ghost use Rattle.lxr_heap.specs.Acting.{MayBeCalled};
 ghost use Rattle.lxr_large_run.specs.Asking.{WantsNoPause};
 ghost use Rattle.lxr_c.specs.Hosting.{Acts, HasRoom, IsAtEnd, IsBlockCount, IsDue, IsOpened, IsServing, IsWithin, Makes, Pauses, PausesAsked, PausesWhere, Replies, SettlesAt, Stores};
 ghost use Rattle.lxr_c.specs.Requests.{IsMaking, IsQuiet, IsStoring};
 
-use lxr_large_heap::LargeHeap;
+use lxr_heap::LargeHeap;
 use lxr_large_model::{Acted, LargeOp, LargeReply};
 use std::alloc::{AllocError, Global};
 

@@ -1,7 +1,7 @@
 //! A garbage-collected heap for one thread, for programs in C and what can call as C does.
 //!
 //! Each call takes the program's handle, a struct of two words of its own that begins as zeros, and answers a code. No call has a condition: a
-//! handle without a heap, a register, a size or an index that there isn't is answered. What is done is that of `LargeHeap` (`lxr_large_heap`),
+//! handle without a heap, a register, a size or an index that there isn't is answered. What is done is that of `LargeHeap` (`lxr_heap`),
 //! with the pauses that this asks for; objects are held by sixteen registers and known by nothing else, since pauses move them.
 #![tactic(auto)]
 
@@ -25,7 +25,7 @@ mod sharing;
 ghost use Rattle.std.specs.Prelude.{◌≡◌, ℕ, Bool, true, false, Option, OnErr, Result, option_map};
 ghost use Rattle.lxr_c.specs.Calling as calling;
 ghost use Rattle.lxr_layout.specs.declared.Shape.{Shape as ShapeOf};
-ghost use Rattle.lxr_large_heap.specs.declared.bulk.BodyReply.{BodyReply as BodyReplyOf};
+ghost use Rattle.lxr_heap.specs.declared.bulk.BodyReply.{BodyReply as BodyReplyOf};
 ghost use Rattle.lxr_c.specs.Calling.{AsksPause, Calls, Closes, Opens, SetsEvery, Tells, flag as is_flag, written_over};
 ghost use Rattle.lxr_c.specs.declared.codes.Code.{Code as CodeOf};
 ghost use Rattle.lxr_c.specs.Codes.{answered as is_answered, number_of};
@@ -36,7 +36,7 @@ ghost use Rattle.lxr_c.specs.Requests as asking;
 use codes::{Code, code_of};
 use handle::Handle;
 use lxr_graph::Reply;
-use lxr_large_heap::BodyReply;
+use lxr_heap::BodyReply;
 use lxr_large_model::LargeReply;
 use lxr_layout::Shape;
 use std::alloc::Global;

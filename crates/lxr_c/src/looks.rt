@@ -1,8 +1,8 @@
 //! What calls do that only look at the heap of a handle, or go over words of a body in a row.
 ghost use Rattle.std.specs.Prelude.{◌≡◌, ◌<◌, List, OnErr};
 ghost use Rattle.lxr_large_model.specs.History.{LargeItem};
-ghost use Rattle.lxr_large_heap.specs.Bulk.{WritesWords};
-ghost use Rattle.lxr_large_heap.specs.Holding.{IsHeapOf};
+ghost use Rattle.lxr_heap.specs.Bulk.{WritesWords};
+ghost use Rattle.lxr_heap.specs.Holding.{IsHeapOf};
 ghost use Rattle.lxr_c.specs.Hosting.{IsServing};
 ghost use Rattle.lxr_c.specs.Looking.{Counts, Looks, SeesNil, SeesShape, SeesWords, Writes, counted_by as is_counted_by};
 ghost use Rattle.lxr_c.specs.Requests.{register_of as is_register_of};
@@ -12,7 +12,7 @@ use crate::counts::counted_by;
 use crate::handle::Handle;
 use crate::host::HostHeap;
 use crate::requests::register_of;
-use lxr_large_heap::BodyReply;
+use lxr_heap::BodyReply;
 use lxr_layout::Shape;
 use std::alloc::Global;
 

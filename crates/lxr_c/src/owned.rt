@@ -1,5 +1,5 @@
 //! What a program in C has of a heap that threads share: the heap, or a station with a pass that is away or at home.
-use lxr_live::{Heap, Station};
+use lxr_shared_heap::{Heap, Station};
 
 /// A heap, or a station.
 #[derive(Drop)]

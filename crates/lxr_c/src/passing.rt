@@ -1,6 +1,6 @@
 //! What the calls of a program do at a station.
 ghost use Rattle.std.specs.Prelude.{◌≡◌, Some, Err, IfErr, IfOk};
-ghost use Rattle.lxr_live.specs.Heaps.{IsPassOf};
+ghost use Rattle.lxr_shared_heap.specs.Heaps.{IsPassOf};
 ghost use Rattle.lxr_c.specs.Holding.{At};
 ghost use Rattle.lxr_c.specs.Passing.{Answers, AnswersPass, ClosesStation, ComesHome, HelpsBy, HelpsPass, IsNotSent, IsRefusal, IsSentBy, LetsOut, LetsOutOf, Operates, Orders, SeesWanted, SendsPass, is_post, not_out_code as is_not_out_code, only as is_only, told_by as is_told_by, told_going as is_told_going, told_newest as is_told_newest, word_of as is_word_of};
 
@@ -9,7 +9,7 @@ use crate::holder::Holder;
 use crate::owned::Owned;
 use lxr_graph::{Op, Reply};
 use lxr_large_model::LargeReply;
-use lxr_live::{Answer, Heap, NotOut, Station};
+use lxr_shared_heap::{Answer, Heap, NotOut, Station};
 use std::alloc::Global;
 use std::mem;
 

@@ -2,7 +2,7 @@
 ghost use Rattle.std.specs.Prelude.{◌≡◌};
 ghost use Rattle.lxr_c.specs.Sharing.{settings_of as is_settings_of};
 
-use lxr_live::Settings;
+use lxr_shared_heap::Settings;
 
 /// The settings of a heap, as `lxr_settings` has them.
 #[repr(C)]

@@ -9,7 +9,7 @@ use crate::holder::Holder;
 use crate::owned::Owned;
 use crate::settings::{Wishes, settings_of};
 use lxr_graph::{Kind, Report};
-use lxr_live::{Heap, Paused, Refused, Resumed};
+use lxr_shared_heap::{Heap, Paused, Refused, Resumed};
 use std::alloc::Global;
 
 /// What is counted of the last pause.

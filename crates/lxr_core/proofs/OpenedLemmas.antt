@@ -32,8 +32,8 @@ use Rattle.lxr_mutator.specs.Mutating.{Mutating, nil, rests_in}
 use Rattle.lxr_mutator.specs.Mutators.{IsHeld, IsMutator, MayBeIn, again, phase_again}
 use Rattle.lxr_decrement.specs.Decrementing.{DecrementerState}
 use Rattle.lxr_decrement.specs.Decrementers.{again as empty_again}
-use Rattle.lxr_pocket.specs.Indexes.{HaveIndexes}
-use Rattle.lxr_pocket.specs.Words.{InHeap}
+use Rattle.lxr_helper.specs.Indexes.{HaveIndexes}
+use Rattle.lxr_helper.specs.Words.{InHeap}
 use Rattle.lxr_trace.specs.declared.phases.TracerPhase.TheVariants as trace_phase
 use Rattle.lxr_trace.specs.Tracing.{TracerState}
 use Rattle.lxr_trace.specs.Phases.{IsIn as IsTracerIn}

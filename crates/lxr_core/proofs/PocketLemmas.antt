@@ -17,7 +17,7 @@ use Rattle.lxr_image.specs.Reads.{granule_of}
 use Rattle.lxr_image_search.specs.declared.Wanted.TheVariants.{ToScan}
 use Rattle.lxr_image_search.specs.Search.{IsNextWanted, NoneWanted, is_wanted}
 use Rattle.lxr_actor.proofs.Runs.{slice_get-set_other}
-use Rattle.lxr_pocket.specs.Words.{is_in_heap}
+use Rattle.lxr_helper.specs.Words.{is_in_heap}
 use Rattle.lxr_trace.specs.Tracing.{TracerState}
 use Rattle.lxr_trace.specs.Steps.{offered}
 use Rattle.lxr_core_sim_helpers.specs.TracerShowing.{IsTracerOf}

@@ -2,8 +2,8 @@
 use Rattle.std.proofs.Common.{◌≡◌, ℕ, Bool, true, false, refl, ap}
 use Rattle.std.specs.Prelude.{◌&&◌, nat_eq, if◌then◌else◌}
 use Rattle.lxr_layout.specs.declared.Place.{Place}
-use Rattle.lxr_pocket.specs.Words.{granule_of}
-use Rattle.lxr_pocket.specs.Helpers.{goes_to, tries_next}
+use Rattle.lxr_helper.specs.Words.{granule_of}
+use Rattle.lxr_helper.specs.Helpers.{goes_to, tries_next}
 use Rattle.lxr_decrement.specs.declared.phases.DecrementerPhase.TheVariants as phase
 use Rattle.lxr_decrement.specs.Decrementing.{DecrementerState}
 use Rattle.lxr_core_access.specs.declared.TableEntry.TheVariants as table_entry

@@ -17,7 +17,7 @@ use Rattle.lxr_image.proofs.ImageLemmas.{starts_stand_whole}
 use Rattle.lxr_image.proofs.ReadLemmas.{header_unpacked}
 use Rattle.lxr_invariant.specs.AbstractState.{members}
 use Rattle.lxr_invariant.proofs.NameLemmas.{in_first}
-use Rattle.lxr_pocket.specs.Words.{references_in, references_told, referent_in}
+use Rattle.lxr_helper.specs.Words.{references_in, references_told, referent_in}
 use Rattle.lxr_decrement.specs.Words.{listed_in}
 use Rattle.lxr_core_access.specs.declared.Access.{Access}
 use Rattle.lxr_core_access.specs.Accesses.{done_to}

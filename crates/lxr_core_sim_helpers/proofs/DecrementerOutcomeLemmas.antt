@@ -1,8 +1,8 @@
 -- A decrementer's step is the access of what it is about to do.
 use Rattle.std.proofs.Common.{◌≡◌, Bool, true, false, refl}
 use Rattle.std.specs.Prelude.{nat_lt, if◌then◌else◌}
-use Rattle.lxr_pocket.specs.Helpers.{Outcome, ends, goes_to}
-use Rattle.lxr_pocket.specs.Helpers as helper
+use Rattle.lxr_helper.specs.Helpers.{Outcome, ends, goes_to}
+use Rattle.lxr_helper.specs.Helpers as helper
 use Rattle.lxr_decrement.specs.declared.phases.DecEnd.{DecEnd}
 use Rattle.lxr_decrement.specs.declared.phases.DecEnd.TheVariants.{Worked}
 use Rattle.lxr_decrement.specs.declared.phases.DecrementerPhase.{DecrementerPhase}

@@ -4,8 +4,8 @@ use Rattle.std.specs.Prelude.{IsSome, Option, Some, None, slice_get}
 use Rattle.lxr_layout.specs.declared.Place.{Place}
 use Rattle.lxr_layout.specs.declared.limits.Regions.{Regions}
 use Rattle.lxr_layout.specs.Spaces.{regions_of}
-use Rattle.lxr_pocket.specs.Words.{InHeap}
-use Rattle.lxr_pocket.specs.Helpers.{in_phase, spared}
+use Rattle.lxr_helper.specs.Words.{InHeap}
+use Rattle.lxr_helper.specs.Helpers.{in_phase, spared}
 use Rattle.lxr_decrement.specs.declared.phases.DecrementerPhase.{DecrementerPhase}
 use Rattle.lxr_decrement.specs.declared.phases.DecrementerPhase.TheVariants as phase
 use Rattle.lxr_decrement.specs.Decrementing.{DecrementerState, rests_in}

@@ -6,8 +6,8 @@ use Rattle.lxr_layout.specs.declared.TheConstants.{DECREMENT_COUNT, DECREMENT_CU
 use Rattle.lxr_layout.specs.declared.Place.{Place}
 use Rattle.lxr_layout.specs.Spaces.{regions_of}
 use Rattle.lxr_image.specs.Tables.{Tables}
-use Rattle.lxr_pocket.specs.Words.{referent_in}
-use Rattle.lxr_pocket.specs.Helpers.{ends, goes_to}
+use Rattle.lxr_helper.specs.Words.{referent_in}
+use Rattle.lxr_helper.specs.Helpers.{ends, goes_to}
 use Rattle.lxr_decrement.specs.declared.phases.DecEnd.TheVariants.{Nothing}
 use Rattle.lxr_decrement.specs.declared.phases.DecrementerPhase.TheVariants as phase
 use Rattle.lxr_decrement.specs.Decrementing.{DecrementerState}

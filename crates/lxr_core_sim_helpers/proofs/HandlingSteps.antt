@@ -10,7 +10,7 @@ use Rattle.lxr_layout.specs.Places.{field_word, first_word}
 use Rattle.lxr_image.specs.Tables.{Tables}
 use Rattle.lxr_image.specs.Reads.{granule_of}
 use Rattle.lxr_model.specs.Moments.{Moment}
-use Rattle.lxr_pocket.specs.Words.{references_in, referent_in}
+use Rattle.lxr_helper.specs.Words.{references_in, referent_in}
 use Rattle.lxr_decrement.specs.declared.phases.DecrementerPhase.TheVariants as phase
 use Rattle.lxr_decrement.specs.declared.phases.Handling.TheVariants as handled
 use Rattle.lxr_decrement.specs.Decrementing.{DecrementerState}

@@ -4,7 +4,7 @@ use Rattle.std.specs.Prelude.{Some, None, ◌&&◌, nat_le, if◌then◌else◌}
 use Rattle.lxr_layout.specs.declared.limits.Limits.{Limits}
 use Rattle.lxr_layout.specs.declared.limits.Regions.{Regions}
 use Rattle.lxr_layout.specs.Spaces.{regions_of}
-use Rattle.lxr_pocket.specs.Words.{referent_in}
+use Rattle.lxr_helper.specs.Words.{referent_in}
 use Rattle.lxr_core_invariant.specs.Counted.{IsInHeap}
 
 -- both of two tests hold

@@ -9,13 +9,13 @@ use Rattle.lxr_layout.specs.Spaces.{regions_of}
 use Rattle.lxr_image.specs.Tables.{tables_in}
 use Rattle.lxr_actor.specs.declared.Action.{Action}
 use Rattle.lxr_actor.specs.Run.{acted}
-use Rattle.lxr_pocket.specs.declared.states.HelperState.{HelperState}
-use Rattle.lxr_pocket.specs.Pockets.{has_room, last_of}
-use Rattle.lxr_pocket.specs.Words.{InHeap, is_in_heap}
-use Rattle.lxr_pocket.specs.Helpers.{Work, action, after_in, begun, helper_machine, in_phase, looks_on, spared}
-use Rattle.lxr_pocket.specs.HelperLaws.{IsLawful}
-use Rattle.lxr_pocket.proofs.HelperLemmas.{stay_so, unfinished}
-use Rattle.lxr_pocket.proofs.PocketLemmas.{last_holds}
+use Rattle.lxr_helper.specs.declared.states.HelperState.{HelperState}
+use Rattle.lxr_helper.specs.Pockets.{has_room, last_of}
+use Rattle.lxr_helper.specs.Words.{InHeap, is_in_heap}
+use Rattle.lxr_helper.specs.Helpers.{Work, action, after_in, begun, helper_machine, in_phase, looks_on, spared}
+use Rattle.lxr_helper.specs.HelperLaws.{IsLawful}
+use Rattle.lxr_helper.proofs.HelperLemmas.{stay_so, unfinished}
+use Rattle.lxr_helper.proofs.PocketLemmas.{last_holds}
 use Rattle.lxr_core_access.specs.declared.Access.{Access}
 use Rattle.lxr_core_access.specs.Accesses.{MayBeDone, Tells, action_of, done_to, table_entry_of}
 use Rattle.lxr_core_access.proofs.AccessLemmas.{access_done, regions_are}

@@ -5,7 +5,7 @@ use Rattle.lxr_layout.specs.declared.TheConstants.{STUCK}
 use Rattle.lxr_layout.specs.declared.Place.{Place}
 use Rattle.lxr_image.specs.Tables.{Tables}
 use Rattle.lxr_image.specs.Reads.{granule_of}
-use Rattle.lxr_pocket.specs.Helpers.{goes_to, keeping}
+use Rattle.lxr_helper.specs.Helpers.{goes_to, keeping}
 use Rattle.lxr_decrement.specs.declared.phases.DecrementerPhase.TheVariants as phase
 use Rattle.lxr_decrement.specs.declared.phases.Handling as machine
 use Rattle.lxr_decrement.specs.Decrementing.{DecrementerState}

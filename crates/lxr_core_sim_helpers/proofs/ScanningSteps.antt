@@ -8,8 +8,8 @@ use Rattle.lxr_layout.specs.Spaces.{regions_of}
 use Rattle.lxr_layout.specs.Places.{field_word, first_word}
 use Rattle.lxr_layout.specs.Runs.{word_of_entry}
 use Rattle.lxr_image.specs.Reads.{granule_of}
-use Rattle.lxr_pocket.specs.Words.{has_bit, references_in, referent_in}
-use Rattle.lxr_pocket.specs.Helpers.{goes_to}
+use Rattle.lxr_helper.specs.Words.{has_bit, references_in, referent_in}
+use Rattle.lxr_helper.specs.Helpers.{goes_to}
 use Rattle.lxr_trace.specs.declared.phases.Scan.{Scan}
 use Rattle.lxr_trace.specs.declared.phases.TracerPhase.TheVariants as phase
 use Rattle.lxr_trace.specs.Tracing.{TracerState}

@@ -3,8 +3,8 @@ use Rattle.std.proofs.Common.{◌≡◌, Bool, true, false, refl, ap}
 use Rattle.std.specs.Prelude.{◌&&◌, if◌then◌else◌}
 use Rattle.lxr_layout.specs.declared.Place.{Place}
 use Rattle.lxr_layout.specs.declared.TheConstants.{TRACING_WORD}
-use Rattle.lxr_pocket.specs.Words.{granule_of}
-use Rattle.lxr_pocket.specs.Helpers.{goes_to, tries_next}
+use Rattle.lxr_helper.specs.Words.{granule_of}
+use Rattle.lxr_helper.specs.Helpers.{goes_to, tries_next}
 use Rattle.lxr_trace.specs.declared.phases.TracerPhase.TheVariants as phase
 use Rattle.lxr_trace.specs.Tracing.{TracerState}
 use Rattle.lxr_core_access.specs.declared.TableEntry.TheVariants as table_entry

@@ -12,7 +12,7 @@ use Rattle.lxr_layout.specs.Spaces.{regions_of}
 use Rattle.lxr_image.specs.Tables.{Tables}
 use Rattle.lxr_model.specs.Moments.{Moment}
 use Rattle.lxr_trace.specs.Words.{remember_room}
-use Rattle.lxr_pocket.specs.Words.{references_in, references_told, referent_in}
+use Rattle.lxr_helper.specs.Words.{references_in, references_told, referent_in}
 use Rattle.lxr_core_invariant.specs.Counted.{IsInHeap}
 use Rattle.lxr_core_inv_trace.proofs.ScansGroundLemmas.{IsObjectAt}
 

@@ -1,8 +1,8 @@
 -- A tracer's step is the access of what it is about to do.
 use Rattle.std.proofs.Common.{◌≡◌, ℕ, ◌+◌, Bool, true, false, refl}
 use Rattle.std.specs.Prelude.{nat_lt, if◌then◌else◌}
-use Rattle.lxr_pocket.specs.Helpers.{Outcome, ends, goes_to}
-use Rattle.lxr_pocket.specs.Helpers as helper
+use Rattle.lxr_helper.specs.Helpers.{Outcome, ends, goes_to}
+use Rattle.lxr_helper.specs.Helpers as helper
 use Rattle.lxr_trace.specs.declared.phases.Scan.{Scan}
 use Rattle.lxr_trace.specs.declared.phases.TraceEnd.{TraceEnd}
 use Rattle.lxr_trace.specs.declared.phases.TracerPhase.{TracerPhase}

@@ -7,8 +7,8 @@ use Rattle.lxr_layout.specs.Spaces.{AreLimits, all_regions, region_begin, region
 use Rattle.lxr_image.specs.Tables.{tables_in}
 use Rattle.lxr_actor.specs.Machine.{Fits}
 use Rattle.lxr_actor.specs.Run.{stepped}
-use Rattle.lxr_pocket.specs.declared.states.HelperState.{HelperState}
-use Rattle.lxr_pocket.specs.Helpers.{IsHelper, Work, action, again, first, helper_machine, offered, spared}
+use Rattle.lxr_helper.specs.declared.states.HelperState.{HelperState}
+use Rattle.lxr_helper.specs.Helpers.{IsHelper, Work, action, again, first, helper_machine, offered, spared}
 use Rattle.lxr_core_access.specs.declared.Access.{Access}
 use Rattle.lxr_core_access.specs.Accesses.{done_to}
 use Rattle.lxr_core_invariant.specs.EpochStates.{Beginning, EpochState, limits_of}

@@ -1,5 +1,5 @@
 -- What holds of a decrementer holds of it from the first on.
-use Rattle.lxr_pocket.proofs.HelperLemmas as lemma
+use Rattle.lxr_helper.proofs.HelperLemmas as lemma
 use Rattle.lxr_decrement.specs.Laws.{StaysSo}
 use Rattle.lxr_decrement.specs.Lawful.{decrementer_lawful}
 use Rattle.lxr_decrement.specs.Steps.{decrementer_work}

@@ -1,6 +1,6 @@
 -- What holds of each decrementer, and what becomes of it between its steps.
 use Rattle.lxr_layout.specs.declared.limits.Limits.{Limits}
-use Rattle.lxr_pocket.specs.Helpers as helper
+use Rattle.lxr_helper.specs.Helpers as helper
 use Rattle.lxr_decrement.specs.Decrementing.{DecrementerState}
 use Rattle.lxr_decrement.specs.Steps.{decrementer_work}
 

@@ -1,6 +1,6 @@
 -- What contracts see of a decrementer.
 use Rattle.std.specs.Prelude.{Bool, true, false}
-use Rattle.lxr_pocket.specs.declared.states.HelperState.{HelperState}
+use Rattle.lxr_helper.specs.declared.states.HelperState.{HelperState}
 use Rattle.lxr_decrement.specs.declared.phases.DecEnd.{DecEnd}
 use Rattle.lxr_decrement.specs.declared.phases.DecrementerPhase.{DecrementerPhase}
 use Rattle.lxr_decrement.specs.declared.phases.DecrementerPhase.TheVariants as phase

@@ -4,11 +4,11 @@ use Rattle.std.specs.Prelude.{◌&&◌, ◌||◌, nat_eq, nat_le, nat_lt, if◌t
 use Rattle.lxr_layout.specs.declared.TheConstants.{STUCK}
 use Rattle.lxr_layout.specs.declared.Place.{Place}
 use Rattle.lxr_layout.specs.declared.limits.Regions.{Regions}
-use Rattle.lxr_pocket.specs.Words.{InHeap, IsObject, has_bit, referent_in}
-use Rattle.lxr_pocket.specs.Helpers.{Outcome, ends, goes_to, tries_next}
-use Rattle.lxr_pocket.specs.HelperLaws.{IsInUnit, IsLawful, MayLead}
-use Rattle.lxr_pocket.proofs.HelperLemmas.{either}
-use Rattle.lxr_pocket.proofs.WordLemmas.{header_object, referent_within}
+use Rattle.lxr_helper.specs.Words.{InHeap, IsObject, has_bit, referent_in}
+use Rattle.lxr_helper.specs.Helpers.{Outcome, ends, goes_to, tries_next}
+use Rattle.lxr_helper.specs.HelperLaws.{IsInUnit, IsLawful, MayLead}
+use Rattle.lxr_helper.proofs.HelperLemmas.{either}
+use Rattle.lxr_helper.proofs.WordLemmas.{header_object, referent_within}
 use Rattle.lxr_decrement.specs.declared.phases.DecEnd.{DecEnd}
 use Rattle.lxr_decrement.specs.declared.phases.DecEnd.TheVariants.{Worked, Nothing}
 use Rattle.lxr_decrement.specs.declared.phases.Handling.{Handling}

@@ -1,5 +1,5 @@
 -- What holds of every decrementer, and what its units do. Each law is the contract of a function with an empty body.
-use Rattle.lxr_pocket.specs.HelperLaws as helper
+use Rattle.lxr_helper.specs.HelperLaws as helper
 use Rattle.lxr_decrement.specs.Steps.{decrementer_work}
 use Rattle.lxr_decrement.specs.Units.{DoesUnit}
 

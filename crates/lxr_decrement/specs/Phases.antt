@@ -1,7 +1,7 @@
 -- What holds in each phase of a decrementer.
 use Rattle.std.specs.Prelude.{◌+◌, ◌<◌, ◌≤◌}
 use Rattle.lxr_layout.specs.declared.limits.Regions.{Regions}
-use Rattle.lxr_pocket.specs.Words.{InHeap, IsObject}
+use Rattle.lxr_helper.specs.Words.{InHeap, IsObject}
 use Rattle.lxr_decrement.specs.declared.phases.Handling.{Handling}
 use Rattle.lxr_decrement.specs.declared.phases.Handling.TheVariants.{Entry, References}
 use Rattle.lxr_decrement.specs.declared.phases.DecrementerPhase.{DecrementerPhase}

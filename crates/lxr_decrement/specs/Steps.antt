@@ -7,9 +7,9 @@ use Rattle.lxr_tables.specs.declared.counts.TheConstants.{COUNTS_IN_WORD}
 use Rattle.lxr_actor.specs.declared.Action.{Action}
 use Rattle.lxr_actor.specs.declared.Kindred.TheVariants.{Add, Sub}
 use Rattle.lxr_actor.specs.Machine.{Machine}
-use Rattle.lxr_pocket.specs.Helpers.{Outcome, Work, ends, goes_to, helper_machine, tries_next}
-use Rattle.lxr_pocket.specs.Words.{granule_of, has_bit, references_in, referent_in}
-use Rattle.lxr_pocket.specs.Looks.{bit_setting, graying, header_look, load, reference_look, start_look, tracing_look}
+use Rattle.lxr_helper.specs.Helpers.{Outcome, Work, ends, goes_to, helper_machine, tries_next}
+use Rattle.lxr_helper.specs.Words.{granule_of, has_bit, references_in, referent_in}
+use Rattle.lxr_helper.specs.Looks.{bit_setting, graying, header_look, load, reference_look, start_look, tracing_look}
 use Rattle.lxr_decrement.specs.declared.phases.DecEnd.{DecEnd}
 use Rattle.lxr_decrement.specs.declared.phases.DecEnd.TheVariants.{Worked, Nothing}
 use Rattle.lxr_decrement.specs.declared.phases.Handling.{Handling}

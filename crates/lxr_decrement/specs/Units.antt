@@ -4,11 +4,11 @@ use Rattle.lxr_layout.specs.declared.TheConstants.{STUCK}
 use Rattle.lxr_layout.specs.declared.Place.{Place}
 use Rattle.lxr_layout.specs.declared.limits.Regions.{Regions}
 use Rattle.lxr_base.specs.Roomy.{Roomy}
-use Rattle.lxr_pocket.specs.Pockets.{kept}
-use Rattle.lxr_pocket.specs.Words.{references_in, referent_in}
-use Rattle.lxr_pocket.specs.HelperUnits as helper
-use Rattle.lxr_pocket.specs.Looks.{graying, header_look, reference_look, tracing_look}
-use Rattle.lxr_pocket.specs.Units.{Told, told}
+use Rattle.lxr_helper.specs.Pockets.{kept}
+use Rattle.lxr_helper.specs.Words.{references_in, referent_in}
+use Rattle.lxr_helper.specs.HelperUnits as helper
+use Rattle.lxr_helper.specs.Looks.{graying, header_look, reference_look, tracing_look}
+use Rattle.lxr_helper.specs.Units.{Told, told}
 use Rattle.lxr_decrement.specs.declared.phases.DecEnd.{DecEnd}
 use Rattle.lxr_decrement.specs.declared.phases.DecEnd.TheVariants.{Worked, Nothing}
 use Rattle.lxr_decrement.specs.Words.{count_in, is_uncounted, listed_in}

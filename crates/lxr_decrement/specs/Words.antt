@@ -4,7 +4,7 @@ use Rattle.lxr_layout.specs.declared.TheConstants.{COUNT_BITS}
 use Rattle.lxr_layout.specs.declared.Place.{Place}
 use Rattle.lxr_layout.specs.declared.limits.Regions.{Regions}
 use Rattle.lxr_tables.specs.declared.counts.TheConstants.{COUNTS_IN_WORD}
-use Rattle.lxr_pocket.specs.Words.{granule_of}
+use Rattle.lxr_helper.specs.Words.{granule_of}
 
 -- the count of the object at a place, in its word of the table of counts
 abbrev pub count_in : Place → ℕ → ℕ

@@ -1,7 +1,7 @@
 //! Decrementers.
 
 use crate::phases::{DecEnd, DecrementerPhase};
-use lxr_pocket::Helper;
+use lxr_helper::Helper;
 
 /// A decrementer, as a machine. One unit is one entry of the list of decrements, or one dead object.
 ///

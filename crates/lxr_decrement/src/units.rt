@@ -1,21 +1,21 @@
 //! Units: what each step of a decrementer does, and where it leads.
 ghost use Rattle.std.specs.Prelude.{◌≡◌, ◌+◌, true};
 ghost use Rattle.lxr_layout.specs.declared.limits.Regions.{Regions};
-ghost use Rattle.lxr_pocket.specs.Indexes.{HaveIndexes};
-ghost use Rattle.lxr_pocket.specs.Words.{InHeap};
-ghost use Rattle.lxr_pocket.specs.Helpers.{after_in, goes_to, keeping, led};
+ghost use Rattle.lxr_helper.specs.Indexes.{HaveIndexes};
+ghost use Rattle.lxr_helper.specs.Words.{InHeap};
+ghost use Rattle.lxr_helper.specs.Helpers.{after_in, goes_to, keeping, led};
 ghost use Rattle.lxr_decrement.specs.Phases.{IsHandled, IsIn};
 ghost use Rattle.lxr_decrement.specs.Steps.{count_look, decrementer_work, handled, keeps_in, lowering};
 
 use crate::phases::{DecEnd, DecrementerPhase, Handling};
 use crate::words::{count_in, listed_in, shift_of};
 use lxr_actor::{Action, Kindred};
+use lxr_helper::{
+    HelperState, Phase, Unit, bit_look, bit_setting, has_bit, references_in, referent_in,
+};
 use lxr_layout::{
     DECREMENT_COUNT, DECREMENT_CURSOR, Place, Regions, STUCK, TRACING_WORD, field_word, granule_of,
     word_of,
-};
-use lxr_pocket::{
-    HelperState, Phase, Unit, bit_look, bit_setting, has_bit, references_in, referent_in,
 };
 use lxr_tables::COUNTS_IN_WORD;
 

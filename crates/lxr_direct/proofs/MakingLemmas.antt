@@ -9,9 +9,9 @@ use Rattle.lxr_graph.specs.State.{register_index}
 use Rattle.lxr_image.specs.declared.space.Space.{Space}
 use Rattle.lxr_image.specs.ImageLaws.{placed}
 use Rattle.lxr_invariant.specs.AbstractState.{AbstractState}
-use Rattle.lxr_run_placing.specs.Placing.{IsServable, IsServed, IsServedFrom}
-use Rattle.lxr_run_placing.proofs.NewLemmas.{is_beside}
-use Rattle.lxr_run_placing.proofs.ServedLemmas.{KeepsOthers, served_keeps}
+use Rattle.lxr_placing.specs.Placing.{IsServable, IsServed, IsServedFrom}
+use Rattle.lxr_placing.proofs.NewLemmas.{is_beside}
+use Rattle.lxr_placing.proofs.ServedLemmas.{KeepsOthers, served_keeps}
 use Rattle.lxr_direct.specs.Operating.{IsDone, IsPlacedIn, KeepsBeside, MayOperate}
 use Rattle.lxr_direct.proofs.DoneLemmas.{done_unchanged}
 use Rattle.lxr_direct.proofs.RegisterLemmas.{row_there}

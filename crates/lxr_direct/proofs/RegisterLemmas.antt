@@ -21,7 +21,7 @@ use Rattle.lxr_model_counting.proofs.FollowingLemmas.{call_follows}
 use Rattle.lxr_invariant.specs.AbstractState.{AbstractState}
 use Rattle.lxr_core_invariant.proofs.HeldLemmas.{in_register}
 use Rattle.lxr_core_invariant.proofs.TellingLemmas.{same_by_place}
-use Rattle.lxr_run_placing.proofs.ServedLemmas.{row_of_thread}
+use Rattle.lxr_placing.proofs.ServedLemmas.{row_of_thread}
 use Rattle.lxr_direct.specs.Operating.{IsDone, MayOperate, nil, with_places, without_registers}
 use Rattle.lxr_direct.proofs.DoneLemmas.{MakesNothing, done_turned, done_unchanged, holding, registers_turned}
 use Rattle.lxr_direct.proofs.HeldLemmas.{register_place}

@@ -20,7 +20,7 @@ use Rattle.lxr_model.specs.Moments.{Moment, after_call}
 use Rattle.lxr_model_counting.specs.Distinct.{has_field}
 use Rattle.lxr_invariant.specs.AbstractState.{AbstractState, members}
 use Rattle.lxr_invariant.specs.Quiescent.{IsAtRest}
-use Rattle.lxr_run_placing.specs.Placing.{with_register}
+use Rattle.lxr_placing.specs.Placing.{with_register}
 use Rattle.lxr_direct.specs.declared.reading.Base.{Base}
 use Rattle.lxr_direct.specs.declared.Operated.{Operated}
 use Rattle.lxr_direct.specs.declared.Operated.TheVariants as came

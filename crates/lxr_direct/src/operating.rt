@@ -13,7 +13,7 @@ use crate::registers::{clear, held, hold};
 use lxr_graph::{Op, Reply};
 use lxr_image::Space;
 use lxr_layout::{Name, Place, Shape};
-use lxr_run_placing::serve;
+use lxr_placing::serve;
 
 /// Register `dest` gets what `source` holds.
 #[inline(always)]

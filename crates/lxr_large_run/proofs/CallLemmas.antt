@@ -24,14 +24,14 @@ use Rattle.lxr_large_model.specs.Pauses.{AsksFor}
 use Rattle.lxr_large_model.specs.State.{LargeState, body_of, handle}
 use Rattle.lxr_large_model.specs.Step.{large_after, large_step, put_at, put_to, word_in}
 use Rattle.lxr_large_text.specs.Limits.{IsLargeOperation}
-use Rattle.lxr_large_heap.specs.declared.heap.Heap.{Heap}
-use Rattle.lxr_large_heap.specs.Acting.{MayBeCalled}
-use Rattle.lxr_large_heap.specs.Holding.{IsHeapOf, StayInBlocks, abstract_after, made_with, terms_of}
-use Rattle.lxr_large_heap.specs.Pausing.{PausesHeap, kind_asked}
-use Rattle.lxr_large_heap.specs.Telling.{TellsHeap}
-use Rattle.lxr_large_heap.proofs.HeapLemmas.{one_thread}
-use Rattle.lxr_large_heap.proofs.MomentLemmas.{two_rows}
-use Rattle.lxr_large_heap.proofs.RowLemmas.{make_counts, step_counts}
+use Rattle.lxr_heap.specs.declared.heap.Heap.{Heap}
+use Rattle.lxr_heap.specs.Acting.{MayBeCalled}
+use Rattle.lxr_heap.specs.Holding.{IsHeapOf, StayInBlocks, abstract_after, made_with, terms_of}
+use Rattle.lxr_heap.specs.Pausing.{PausesHeap, kind_asked}
+use Rattle.lxr_heap.specs.Telling.{TellsHeap}
+use Rattle.lxr_heap.proofs.HeapLemmas.{one_thread}
+use Rattle.lxr_heap.proofs.MomentLemmas.{two_rows}
+use Rattle.lxr_heap.proofs.RowLemmas.{make_counts, step_counts}
 use Rattle.lxr_large_text.proofs.HistoryLemmas.{same_number}
 use Rattle.lxr_large_run.specs.Asking.{asked_by}
 

@@ -12,9 +12,9 @@ use Rattle.lxr_large_model.specs.Full.{LargeTerms}
 use Rattle.lxr_large_model.specs.Pauses.{IsLegalLarge}
 use Rattle.lxr_large_text.specs.Replies.{AreLargePrintable, IsNoEnd, large_text}
 use Rattle.lxr_large_text.specs.Limits.{IsLargeOperation, IsLargeScript, IsLargeWritten}
-use Rattle.lxr_large_heap.specs.declared.heap.Heap.{Heap}
-use Rattle.lxr_large_heap.specs.Holding.{IsOpenedHeap, limits_of}
-use Rattle.lxr_large_heap.proofs.MomentLemmas.{quiescent}
+use Rattle.lxr_heap.specs.declared.heap.Heap.{Heap}
+use Rattle.lxr_heap.specs.Holding.{IsOpenedHeap, limits_of}
+use Rattle.lxr_heap.proofs.MomentLemmas.{quiescent}
 use Rattle.lxr_large_text.specs.Histories.{IsLargeHistory, called_in, replied_in, with_end}
 use Rattle.lxr_large_text.specs.Texts.{large_reports_text}
 use Rattle.lxr_large_text.proofs.HistoryLemmas.{as_many, ends_fresh, has_done}

@@ -10,9 +10,9 @@ use Rattle.lxr_large_model.specs.declared.LargeReply.{LargeReply}
 use Rattle.lxr_large_model.specs.Full.{LargeTerms}
 use Rattle.lxr_large_model.specs.History.{LargeItem, Called, Paused}
 use Rattle.lxr_large_model.specs.Pauses.{AsksFor, IsLegalLarge, IsMadeFor, PausesHaveCauses}
-use Rattle.lxr_large_heap.specs.declared.heap.Heap.{Heap}
-use Rattle.lxr_large_heap.specs.Acting.{IsReplied, MayBeCalled}
-use Rattle.lxr_large_heap.specs.Pausing.{PausesHeap, kind_asked}
+use Rattle.lxr_heap.specs.declared.heap.Heap.{Heap}
+use Rattle.lxr_heap.specs.Acting.{IsReplied, MayBeCalled}
+use Rattle.lxr_heap.specs.Pausing.{PausesHeap, kind_asked}
 use Rattle.lxr_large_text.specs.Histories.{CausesSoFar, called_in}
 use Rattle.lxr_large_text.specs.Texts.{large_reports_text}
 use Rattle.lxr_large_text.proofs.CauseLemmas.{any_call_may_come, asked_are_followed, pauses_are_made_for, unasked_owe_nothing}

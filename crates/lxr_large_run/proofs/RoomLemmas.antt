@@ -26,14 +26,14 @@ use Rattle.lxr_large_model.specs.History.{LargeItem, Paused, large_moment, large
 use Rattle.lxr_large_model.specs.Pauses.{IsMadeFor}
 use Rattle.lxr_large_model.specs.State.{body_of as large_of, handle}
 use Rattle.lxr_large_bodies.specs.Bodies.{Body, body_of}
-use Rattle.lxr_large_heap.specs.declared.heap.Heap.{Heap}
-use Rattle.lxr_large_heap.specs.Acting.{FindsNoLog, FindsNoPlace, HasRun, MayBeCalled}
-use Rattle.lxr_large_heap.specs.Holding.{IsHeapOf, abstract_after, terms_of}
-use Rattle.lxr_large_heap.specs.Pausing.{PausesHeap, kind_asked}
-use Rattle.lxr_large_heap.proofs.BlockLemmas.{found_all, found_named, found_whole, no_run_left, same_sums, slots_by}
-use Rattle.lxr_large_heap.proofs.BodyLemmas.{held_names, held_pass, words_same}
-use Rattle.lxr_large_heap.proofs.FullLemmas.{not_ours, of_thread, slots_words}
-use Rattle.lxr_large_heap.proofs.MomentLemmas.{none_chosen}
+use Rattle.lxr_heap.specs.declared.heap.Heap.{Heap}
+use Rattle.lxr_heap.specs.Acting.{FindsNoLog, FindsNoPlace, HasRun, MayBeCalled}
+use Rattle.lxr_heap.specs.Holding.{IsHeapOf, abstract_after, terms_of}
+use Rattle.lxr_heap.specs.Pausing.{PausesHeap, kind_asked}
+use Rattle.lxr_heap.proofs.BlockLemmas.{found_all, found_named, found_whole, no_run_left, same_sums, slots_by}
+use Rattle.lxr_heap.proofs.BodyLemmas.{held_names, held_pass, words_same}
+use Rattle.lxr_heap.proofs.FullLemmas.{not_ours, of_thread, slots_words}
+use Rattle.lxr_heap.proofs.MomentLemmas.{none_chosen}
 use Rattle.lxr_large_run.specs.Asking.{WantsNoPause, WantsPause}
 
 -- ---- no room

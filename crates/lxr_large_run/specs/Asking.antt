@@ -4,9 +4,9 @@ use Rattle.lxr_graph.specs.declared.Op.TheVariants as op
 use Rattle.lxr_large_model.specs.declared.LargeOp.{LargeOp}
 use Rattle.lxr_large_model.specs.declared.LargeOp.TheVariants as large_op
 use Rattle.lxr_large_model.specs.History.{LargeItem, large_moment}
-use Rattle.lxr_large_heap.specs.declared.heap.Heap.{Heap}
-use Rattle.lxr_large_heap.specs.Acting.{FindsNoLog, FindsNoPlace}
-use Rattle.lxr_large_heap.specs.Holding.{IsHeapOf}
+use Rattle.lxr_heap.specs.declared.heap.Heap.{Heap}
+use Rattle.lxr_heap.specs.Acting.{FindsNoLog, FindsNoPlace}
+use Rattle.lxr_heap.specs.Holding.{IsHeapOf}
 
 -- whether an operation asks for a pause, and whether that collects
 abbrev pub asked_by : LargeOp → Option Bool

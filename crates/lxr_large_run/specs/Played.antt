@@ -10,7 +10,7 @@ use Rattle.lxr_invariant.specs.Quiescent.{IsQuiescent}
 use Rattle.lxr_large_model.specs.Full.{LargeTerms}
 use Rattle.lxr_large_model.specs.History.{LargeItem, large_moment, large_state}
 use Rattle.lxr_large_text.specs.Limits.{IsLargeScript}
-use Rattle.lxr_large_heap.specs.Holding.{IsOpenedHeap, abstract_after, limits_of}
+use Rattle.lxr_heap.specs.Holding.{IsOpenedHeap, abstract_after, limits_of}
 use Rattle.lxr_large_text.specs.Histories.{IsLargeHistory}
 use Rattle.lxr_large_text.specs.Texts.{large_run_text}
 use Rattle.lxr_large_run.specs.declared.LargeRun.{LargeRun}

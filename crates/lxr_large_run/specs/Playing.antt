@@ -7,8 +7,8 @@ use Rattle.lxr_large_model.specs.Full.{LargeTerms}
 use Rattle.lxr_large_model.specs.History.{LargeItem, Called}
 use Rattle.lxr_large_model.specs.Pauses.{PausesHaveCauses}
 use Rattle.lxr_large_text.specs.Limits.{IsLargeScript}
-use Rattle.lxr_large_heap.specs.declared.heap.Heap.{Heap}
-use Rattle.lxr_large_heap.specs.Holding.{IsHeapOf, terms_of}
+use Rattle.lxr_heap.specs.declared.heap.Heap.{Heap}
+use Rattle.lxr_heap.specs.Holding.{IsHeapOf, terms_of}
 use Rattle.lxr_large_text.specs.Histories.{EndsAtPause, IsLargeSoFar, called_in, replied_in, with_end}
 use Rattle.lxr_large_text.specs.Texts.{large_reports_text}
 use Rattle.lxr_large_run.specs.Asking.{WantsPause}

@@ -13,8 +13,8 @@ ghost use Rattle.lxr_large_run.specs.Played.{IsCutOff, IsPlayed, IsReady};
 mod playing;
 
 use lxr_base::Listed;
+use lxr_heap::LargeHeap;
 use lxr_image::Space;
-use lxr_large_heap::LargeHeap;
 use lxr_large_model::LargeReply;
 use lxr_large_text::{LargeOperations, print_large};
 use lxr_text_stream::{Sink, WriteError};

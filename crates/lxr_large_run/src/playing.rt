@@ -6,9 +6,9 @@ ghost use Rattle.lxr_text_stream.specs.Streams.{Appends, AppendsFront, Rose};
 ghost use Rattle.lxr_large_model.specs.declared.LargeOp.{LargeOp as LargeOpOf};
 ghost use Rattle.lxr_large_model.specs.History.{LargeItem};
 ghost use Rattle.lxr_large_text.specs.Limits.{IsLargeScript};
-ghost use Rattle.lxr_large_heap.specs.Acting.{IsReplied, MayBeCalled};
-ghost use Rattle.lxr_large_heap.specs.Holding.{IsHeapOf};
-ghost use Rattle.lxr_large_heap.specs.Pausing.{PausesHeap};
+ghost use Rattle.lxr_heap.specs.Acting.{IsReplied, MayBeCalled};
+ghost use Rattle.lxr_heap.specs.Holding.{IsHeapOf};
+ghost use Rattle.lxr_heap.specs.Pausing.{PausesHeap};
 ghost use Rattle.lxr_large_text.specs.Histories.{with_end};
 ghost use Rattle.lxr_large_run.specs.Asking as asking;
 ghost use Rattle.lxr_large_run.specs.Asking.{WantsNoPause, WantsPause};
@@ -16,7 +16,7 @@ ghost use Rattle.lxr_large_run.specs.Playing.{HasCome, IsCutEarly, IsPlaying, La
 
 use lxr_base::Listed;
 use lxr_graph::Op;
-use lxr_large_heap::LargeHeap;
+use lxr_heap::LargeHeap;
 use lxr_large_model::{Acted, LargeOp, LargeReply};
 use lxr_text_print::print_pause;
 use lxr_text_stream::{Sink, WriteError};

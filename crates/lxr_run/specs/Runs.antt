@@ -2,7 +2,7 @@
 use Rattle.std.specs.Prelude.{◌≡◌, ℕ, Option, List}
 use Rattle.lxr_image.specs.declared.space.Space.{Space}
 use Rattle.lxr_text_stream.specs.Streams.{Appends, AppendsFront, Rose}
-use Rattle.lxr_run_watch.specs.Sights.{Sight}
+use Rattle.lxr_sights.specs.Sights.{Sight}
 
 -- a stream before and after a run, with what it tells of itself: its bytes, where it tells them, and how often it failed
 pub record Stream (X : Type 0) : Type 0 where

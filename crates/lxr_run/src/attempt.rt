@@ -12,7 +12,7 @@ use crate::script::{AnyScript, script_for};
 use lxr_image::Space;
 use lxr_large_run::{open_large, play_large};
 use lxr_run_loop::{open, run_and_print};
-use lxr_run_watch::{Gate, Watch};
+use lxr_sights::{Gate, Watch};
 use lxr_text_stream::{Sink, Source, WriteError};
 use lxr_words::{WordError, read_words};
 use std::alloc::{AllocError, Global};

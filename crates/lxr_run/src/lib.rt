@@ -33,11 +33,11 @@ mod script;
 
 use attempt::{Stop, attempt};
 use lxr_image::Space;
-pub use lxr_run_pause::{Ask, Pace, one_pause};
+pub use lxr_one_pause::{Ask, Pace, one_pause};
 pub use lxr_run_replay::{order_epoch, replay_epoch};
-pub use lxr_run_serve::{Served, serve_waiting};
 pub use lxr_run_threads::run_epoch;
-pub use lxr_run_watch::{Gate, Open, Seen, Unseen, Watch};
+pub use lxr_serve::{Served, serve_waiting};
+pub use lxr_sights::{Gate, Open, Seen, Unseen, Watch};
 use lxr_text_stream::{Sink, Source};
 pub use lxr_words::{Command, Options, WordError, WordFault, read_words};
 pub use refusal::{Refusal, tell};

@@ -7,7 +7,7 @@ use Rattle.lxr_graph.specs.declared.Op.{Op}
 use Rattle.lxr_graph.specs.declared.Reply.{Reply}
 use Rattle.lxr_graph.specs.History.{Item, Call, Pause, PauseReport}
 use Rattle.lxr_image.specs.Image.{opening_at}
-use Rattle.lxr_run_watch.specs.Sights.{Looks, Sight}
+use Rattle.lxr_sights.specs.Sights.{Looks, Sight}
 use Rattle.lxr_core_invariant.specs.EpochStates.{Extends, same, called}
 use Rattle.lxr_image.specs.declared.space.Tally.{Tally}
 use Rattle.lxr_run_history.specs.Sights.{HasSeen, SeesPause, SeesTo}

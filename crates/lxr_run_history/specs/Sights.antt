@@ -9,7 +9,7 @@ use Rattle.lxr_image.specs.Image.{opening_at}
 use Rattle.lxr_invariant.specs.AbstractState.{AbstractState}
 use Rattle.lxr_invariant.specs.Quiescent.{IsAtSafepoint, IsQuiescent}
 use Rattle.lxr_invariant.specs.Tracing.{IsInChosen}
-use Rattle.lxr_run_watch.specs.Sights.{Sight, sight_of, sight_tables}
+use Rattle.lxr_sights.specs.Sights.{Sight, sight_of, sight_tables}
 use Rattle.lxr_run_history.specs.Left.{StandsAfter}
 use Rattle.lxr_run_history.specs.Tally.{Evacuated, evacuated_in, none_evacuated}
 

@@ -15,17 +15,17 @@ use Rattle.lxr_image.specs.declared.space.Space.{Space}
 use Rattle.lxr_blocks.specs.Placing.{IsFull}
 use Rattle.lxr_invariant.specs.AbstractState.{AbstractState}
 use Rattle.lxr_invariant.specs.Quiescent.{IsQuiescent}
-use Rattle.lxr_run_watch.specs.Sights.{Sight}
+use Rattle.lxr_sights.specs.Sights.{Sight}
 use Rattle.lxr_mutator.specs.declared.phases.Waiting.{Waiting}
 use Rattle.lxr_mutator.specs.Mutating.{IsWaiting, Mutating, next_name as next_made, op_now}
 use Rattle.lxr_core.specs.declared.actors.AnyActor.{AnyActor}
 use Rattle.lxr_core.specs.Actors.{mutators_in}
 use Rattle.lxr_core.specs.Resting.{FitsThread, HelpersRest, RestsAfter}
-use Rattle.lxr_run_placing.specs.Placing.{served_abstract_state}
-use Rattle.lxr_run_serve.specs.Answering.{AnswersAll, TakeTurns, TakesTurn, WantsCollection, begins, next, passes, refuses, serves}
-use Rattle.lxr_run_serve.specs.Serving.{CanServe}
-use Rattle.lxr_run_serve.proofs.MutatorLemmas.{waits_by, waits_for}
-use Rattle.lxr_run_serve.proofs.SpaceLemmas.{IsNewServed, IsServableBetween, new_served}
+use Rattle.lxr_placing.specs.Placing.{served_abstract_state}
+use Rattle.lxr_serve.specs.Answering.{AnswersAll, TakeTurns, TakesTurn, WantsCollection, begins, next, passes, refuses, serves}
+use Rattle.lxr_serve.specs.Serving.{CanServe}
+use Rattle.lxr_serve.proofs.MutatorLemmas.{waits_by, waits_for}
+use Rattle.lxr_serve.proofs.SpaceLemmas.{IsNewServed, IsServableBetween, new_served}
 use Rattle.lxr_run_history.specs.Left.{last_report}
 use Rattle.lxr_run_invariant.specs.LoopInvariant.{HasCome, IsCollectedSince, IsServing, Task, done_of, task_limits, threads_of}
 use Rattle.lxr_run_invariant.proofs.ActorLemmas.{as_many, done_more}

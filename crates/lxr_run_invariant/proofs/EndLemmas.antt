@@ -5,8 +5,8 @@ use Rattle.std.proofs.lemmas.Option.{slice_get_within}
 use Rattle.lxr_graph.specs.History.{Item, Pause, PauseReport, calls_of, replies_of}
 use Rattle.lxr_image.specs.declared.space.Space.{Space}
 use Rattle.lxr_invariant.specs.AbstractState.{AbstractState}
-use Rattle.lxr_run_watch.specs.Sights.{Sight}
-use Rattle.lxr_run_pause.specs.declared.Ask.{Ask}
+use Rattle.lxr_sights.specs.Sights.{Sight}
+use Rattle.lxr_one_pause.specs.declared.Ask.{Ask}
 use Rattle.lxr_text_print.specs.Replies.{ArePrintable, replies_text, thread_text}
 use Rattle.lxr_mutator.specs.Mutating.{Mutating}
 use Rattle.lxr_core_invariant.specs.ThreadStates.{all_of}

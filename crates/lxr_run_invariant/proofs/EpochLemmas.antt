@@ -20,7 +20,7 @@ use Rattle.lxr_model_laws.proofs.ScriptLemmas.{as_many_go_on}
 use Rattle.lxr_invariant.specs.AbstractState.{AbstractState}
 use Rattle.lxr_invariant.proofs.NameLemmas.{in_first}
 use Rattle.lxr_text_stream.specs.Streams.{Appends}
-use Rattle.lxr_run_watch.specs.Sights.{Sight}
+use Rattle.lxr_sights.specs.Sights.{Sight}
 use Rattle.lxr_mutator.specs.Mutating.{Mutating, is_loaded, is_new, is_stored}
 use Rattle.lxr_core_invariant.specs.EpochStates.{CountsObjects, Extends, called, same}
 use Rattle.lxr_core_invariant.proofs.ObjectLemmas.{legal_counts}

@@ -10,10 +10,10 @@ use Rattle.lxr_model.specs.Belongs.{asks_for_pause, has_asked}
 use Rattle.lxr_model.specs.Kinds.{IsRunning, MayCollect, MayStand, MustCollect, NeedsNoTrace, OnlyNewsSincePause, collect_called, ends}
 use Rattle.lxr_model.specs.Moments.{Moment, Trace}
 use Rattle.lxr_model.specs.Terms.{Terms}
-use Rattle.lxr_run_pause.specs.declared.Ask.{Ask}
-use Rattle.lxr_run_pause.specs.declared.Ask.TheVariants as ask
-use Rattle.lxr_run_pause.specs.declared.Pace.{Pace}
-use Rattle.lxr_run_pause.specs.Deciding.{kind_of}
+use Rattle.lxr_one_pause.specs.declared.Ask.{Ask}
+use Rattle.lxr_one_pause.specs.declared.Ask.TheVariants as ask
+use Rattle.lxr_one_pause.specs.declared.Pace.{Pace}
+use Rattle.lxr_one_pause.specs.Deciding.{kind_of}
 use Rattle.lxr_run_invariant.specs.LoopInvariant.{asked_by}
 
 -- ---- where `collect` was called

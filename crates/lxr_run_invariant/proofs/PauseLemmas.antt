@@ -20,13 +20,13 @@ use Rattle.lxr_model.proofs.ReachableLemmas.{promoted_made}
 use Rattle.lxr_invariant.specs.AbstractState.{AbstractState, paused}
 use Rattle.lxr_full.proofs.RoomLemmas.{log_is_written}
 use Rattle.lxr_pause_trace_laws.proofs.HistoryLemmas.{history_keeps}
-use Rattle.lxr_run_pause.specs.declared.Ask.{Ask}
-use Rattle.lxr_run_pause.specs.declared.Ask.TheVariants as ask
-use Rattle.lxr_run_pause.specs.Deciding.{kind_of}
-use Rattle.lxr_run_pause.specs.Pausing.{CanPause, KeepsObjects, Pauses}
+use Rattle.lxr_one_pause.specs.declared.Ask.{Ask}
+use Rattle.lxr_one_pause.specs.declared.Ask.TheVariants as ask
+use Rattle.lxr_one_pause.specs.Deciding.{kind_of}
+use Rattle.lxr_one_pause.specs.Pausing.{CanPause, KeepsObjects, Pauses}
 use Rattle.lxr_text_stream.specs.Streams.{Appends, AppendsFront}
 use Rattle.lxr_text_stream.proofs.StreamLemmas.{Appends-append, AppendsFront-after}
-use Rattle.lxr_run_watch.specs.Sights.{Looks, Sight, sight_of}
+use Rattle.lxr_sights.specs.Sights.{Looks, Sight, sight_of}
 use Rattle.lxr_core.specs.declared.actors.AnyActor.{AnyActor}
 use Rattle.lxr_core.specs.Actors.{mutators_in}
 use Rattle.lxr_core.specs.Resting.{RestsAfter}

@@ -36,7 +36,7 @@ use Rattle.lxr_text_stream.specs.Streams.{Appends}
 use Rattle.lxr_words.specs.declared.Command.{Command}
 use Rattle.lxr_words.specs.declared.Command.TheVariants.{Judge, Large, Load, Map, Order, Run}
 use Rattle.lxr_words.specs.declared.Options.{Options}
-use Rattle.lxr_run_watch.specs.Sights.{Sight}
+use Rattle.lxr_sights.specs.Sights.{Sight}
 use Rattle.lxr_run_history.specs.Left.{run_limits}
 use Rattle.lxr_run_history.specs.Run.{run_terms_with}
 use Rattle.lxr_run_history.specs.Sights.{HasSeen}

@@ -30,10 +30,10 @@ use Rattle.lxr_invariant.specs.AbstractState.{AbstractState}
 use Rattle.lxr_invariant.specs.Quiescent.{IsQuiescent}
 use Rattle.lxr_invariant.proofs.NameLemmas.{in_first}
 use Rattle.lxr_text_stream.specs.Streams.{Appends}
-use Rattle.lxr_run_watch.specs.Sights.{Sight}
-use Rattle.lxr_run_placing.specs.Placing.{served_abstract_state}
-use Rattle.lxr_run_serve.proofs.MutatorLemmas.{answered_mutator, with_registers}
-use Rattle.lxr_run_serve.proofs.SpaceLemmas.{IsNewServed}
+use Rattle.lxr_sights.specs.Sights.{Sight}
+use Rattle.lxr_placing.specs.Placing.{served_abstract_state}
+use Rattle.lxr_serve.proofs.MutatorLemmas.{answered_mutator, with_registers}
+use Rattle.lxr_serve.proofs.SpaceLemmas.{IsNewServed}
 use Rattle.lxr_mutator.specs.Mutating.{IsWaiting, Mutating, next_name as next_made, op_now}
 use Rattle.lxr_mutator.specs.Mutators.{IsHeld, answered}
 use Rattle.lxr_mutator.proofs.NowLemmas.{formed_now}

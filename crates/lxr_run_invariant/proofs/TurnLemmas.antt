@@ -20,7 +20,7 @@ use Rattle.lxr_model.specs.Kinds.{MustCollect, OnlyNewsSincePause}
 use Rattle.lxr_model.specs.Legal.{KeepsPromise}
 use Rattle.lxr_invariant.specs.AbstractState.{AbstractState}
 use Rattle.lxr_invariant.specs.Quiescent.{IsQuiescent}
-use Rattle.lxr_run_watch.specs.Sights.{Sight}
+use Rattle.lxr_sights.specs.Sights.{Sight}
 use Rattle.lxr_actor.proofs.Runs.{slice_get-set_same}
 use Rattle.lxr_mutator.specs.Mutating.{IsWaiting, Mutating, op_now}
 use Rattle.lxr_mutator.specs.Mutators.{IsAnswered, IsThrough, answered}
@@ -29,11 +29,11 @@ use Rattle.lxr_core.specs.declared.actors.AnyActor.{AnyActor}
 use Rattle.lxr_core.specs.Actors.{mutators_in}
 use Rattle.lxr_core.specs.Ordering.{ordered_in}
 use Rattle.lxr_core.specs.Resting.{HelpersRest, RestsAfter}
-use Rattle.lxr_run_pause.specs.declared.Ask.{Ask}
-use Rattle.lxr_run_pause.specs.declared.Ask.TheVariants as ask
-use Rattle.lxr_run_serve.specs.Serving.{KeepsHelpers, NewsWait}
-use Rattle.lxr_run_serve.proofs.FitLemmas.{set_each}
-use Rattle.lxr_run_serve.proofs.MutatorLemmas.{AnswersWith, answers_with, with_registers}
+use Rattle.lxr_one_pause.specs.declared.Ask.{Ask}
+use Rattle.lxr_one_pause.specs.declared.Ask.TheVariants as ask
+use Rattle.lxr_serve.specs.Serving.{KeepsHelpers, NewsWait}
+use Rattle.lxr_serve.proofs.FitLemmas.{set_each}
+use Rattle.lxr_serve.proofs.MutatorLemmas.{AnswersWith, answers_with, with_registers}
 use Rattle.lxr_run_history.specs.Sights.{SeesTo}
 use Rattle.lxr_run_history.specs.Tally.{HasNumbersOf, evacuated_in}
 use Rattle.lxr_run_history.proofs.HistoryLemmas.{promise_kept, since_call, was_early}

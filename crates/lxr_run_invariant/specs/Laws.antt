@@ -7,15 +7,15 @@ use Rattle.lxr_image.specs.declared.space.Space.{Space}
 use Rattle.lxr_invariant.specs.AbstractState.{AbstractState}
 use Rattle.lxr_invariant.specs.Quiescent.{IsQuiescent}
 use Rattle.lxr_invariant.specs.Listed.{FreeBlocksAreListed, IsListed}
-use Rattle.lxr_run_watch.specs.Sights.{Sight}
+use Rattle.lxr_sights.specs.Sights.{Sight}
 use Rattle.lxr_core_invariant.specs.EpochStates.{Beginning}
 use Rattle.lxr_core.specs.declared.actors.AnyActor.{AnyActor}
 use Rattle.lxr_core.specs.Actors.{decrementers_in, mutators_in, script_of, tracers_in}
 use Rattle.lxr_core.specs.Closing.{Closes, IsPauseExplained}
 use Rattle.lxr_core.specs.Opening.{Begins}
 use Rattle.lxr_core.specs.Executions.{Execution}
-use Rattle.lxr_run_pause.specs.declared.Ask.{Ask}
-use Rattle.lxr_run_serve.specs.Serving.{KeepsHelpers}
+use Rattle.lxr_one_pause.specs.declared.Ask.{Ask}
+use Rattle.lxr_serve.specs.Serving.{KeepsHelpers}
 use Rattle.lxr_run_history.specs.Sums.{totals_of}
 use Rattle.lxr_run_invariant.specs.LoopInvariant.{HasRun, HasRunEpoch, HaveEnded, IsBetweenEpochs, IsPaused, IsServing, Task, done_of}
 

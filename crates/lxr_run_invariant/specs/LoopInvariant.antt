@@ -19,17 +19,17 @@ use Rattle.lxr_model.specs.Terms.{Terms}
 use Rattle.lxr_invariant.specs.AbstractState.{AbstractState}
 use Rattle.lxr_invariant.specs.Quiescent.{IsAtSafepoint, IsQuiescent}
 use Rattle.lxr_invariant.specs.Listed.{FreeBlocksAreListed, IsListed}
-use Rattle.lxr_run_watch.specs.Sights.{Sight}
+use Rattle.lxr_sights.specs.Sights.{Sight}
 use Rattle.lxr_mutator.specs.Mutating.{IsWaiting, Mutating, has_collected, op_now}
 use Rattle.lxr_mutator.specs.Mutators.{IsThrough}
 use Rattle.lxr_core.specs.declared.actors.AnyActor.{AnyActor}
 use Rattle.lxr_core.specs.Actors.{decrementers_in, mutators_in, script_of, tracers_in}
 use Rattle.lxr_core.specs.Ordering.{orders_of}
 use Rattle.lxr_core.specs.Resting.{AreServed, HelpersRest, RestAfter}
-use Rattle.lxr_run_pause.specs.declared.Ask.{Ask}
-use Rattle.lxr_run_pause.specs.declared.Ask.TheVariants as ask
-use Rattle.lxr_run_pause.specs.declared.Pace.{Pace}
-use Rattle.lxr_run_serve.specs.Serving.{NewsWait}
+use Rattle.lxr_one_pause.specs.declared.Ask.{Ask}
+use Rattle.lxr_one_pause.specs.declared.Ask.TheVariants as ask
+use Rattle.lxr_one_pause.specs.declared.Pace.{Pace}
+use Rattle.lxr_serve.specs.Serving.{NewsWait}
 use Rattle.lxr_words.specs.declared.Options.{Options}
 use Rattle.lxr_run_history.specs.Left.{IsLeftBy, StandsAfter, run_limits}
 use Rattle.lxr_run_history.specs.Run.{IsHistoryWith, script_terms_with}

@@ -13,7 +13,7 @@ use Rattle.lxr_mutator.specs.Mutating.{Mutating}
 use Rattle.lxr_mutator.specs.Mutators.{renewed}
 use Rattle.lxr_core.specs.declared.actors.AnyActor.{AnyActor}
 use Rattle.lxr_core.specs.Actors.{AreInOrder, decrementers_in, mutators_in, script_of, tracers_in}
-use Rattle.lxr_run_watch.specs.Sights.{Sight}
+use Rattle.lxr_sights.specs.Sights.{Sight}
 use Rattle.lxr_run_invariant.specs.LoopInvariant.{IsBetweenEpochs, Task}
 
 -- of the objects that are left, which have these names, thread 1 has all

@@ -24,7 +24,7 @@ use Rattle.lxr_core.proofs.ScriptLemmas.{opened_full, opened_script, scripts_sta
 use Rattle.lxr_run_replay.proofs.ClosingLemmas.{may_close}
 use Rattle.lxr_run_threads.specs.Running.{CanRun}
 use Rattle.lxr_run_threads.proofs.OpenedLemmas.{opened_can_run, started_helpers}
-use Rattle.lxr_run_watch.specs.Sights.{Sight}
+use Rattle.lxr_sights.specs.Sights.{Sight}
 use Rattle.lxr_words.specs.declared.Options.{Options}
 use Rattle.lxr_words.specs.Ranges.{AreInRange}
 use Rattle.lxr_run_invariant.specs.LoopInvariant.{Task}

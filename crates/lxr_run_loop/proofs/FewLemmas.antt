@@ -33,9 +33,9 @@ use Rattle.lxr_invariant.specs.AbstractState.{members}
 use Rattle.lxr_invariant.proofs.NameLemmas.{in_first, in_second}
 use Rattle.lxr_invariant.proofs.PlaceLemmas.{granules_differ}
 use Rattle.lxr_pause_promote.proofs.EitherLemmas.{some_granules}
-use Rattle.lxr_run_pause.specs.declared.Ask.{Ask}
-use Rattle.lxr_run_pause.specs.declared.Pace.{Pace}
-use Rattle.lxr_run_watch.specs.Sights.{Sight}
+use Rattle.lxr_one_pause.specs.declared.Ask.{Ask}
+use Rattle.lxr_one_pause.specs.declared.Pace.{Pace}
+use Rattle.lxr_sights.specs.Sights.{Sight}
 use Rattle.lxr_words.specs.declared.Options.{Options}
 use Rattle.lxr_run_history.specs.declared.totals.Totals.{Totals}
 use Rattle.lxr_run_history.specs.Sums.{with_report}

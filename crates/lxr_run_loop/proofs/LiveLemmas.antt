@@ -23,11 +23,11 @@ use Rattle.lxr_mutator.specs.Mutating.{Mutating}
 use Rattle.lxr_core_invariant.specs.EpochStates.{Extends, called, same}
 use Rattle.lxr_core.specs.declared.actors.AnyActor.{AnyActor}
 use Rattle.lxr_core.specs.Actors.{mutators_in}
-use Rattle.lxr_run_pause.specs.declared.Pace.{Pace}
-use Rattle.lxr_run_pause.proofs.LeftLemmas.{Reclaims, left_length, without_length}
-use Rattle.lxr_run_serve.specs.Answering.{Answers, TakeTurns, TakesTurn, begins, next, passes, refuses, serves}
-use Rattle.lxr_run_serve.specs.declared.Served.{Served}
-use Rattle.lxr_run_serve.specs.declared.Served.TheVariants as outcome
+use Rattle.lxr_one_pause.specs.declared.Pace.{Pace}
+use Rattle.lxr_one_pause.proofs.LeftLemmas.{Reclaims, left_length, without_length}
+use Rattle.lxr_serve.specs.Answering.{Answers, TakeTurns, TakesTurn, begins, next, passes, refuses, serves}
+use Rattle.lxr_serve.specs.declared.Served.{Served}
+use Rattle.lxr_serve.specs.declared.Served.TheVariants as outcome
 use Rattle.lxr_run_history.specs.Sums.{totals_of}
 use Rattle.lxr_run_history.proofs.ThreadSums.{counted_in, one}
 use Rattle.lxr_run_invariant.specs.LoopInvariant.{Task, pace_of}

@@ -31,8 +31,8 @@ use Rattle.lxr_image.specs.Opened.{IsOpened}
 use Rattle.lxr_model.specs.Moments.{opening_moment}
 use Rattle.lxr_invariant.specs.Quiescent.{IsQuiescent}
 use Rattle.lxr_invariant.specs.Listed.{IsListedWhole}
-use Rattle.lxr_run_placing.specs.Opening.{opening_abstract_state}
-use Rattle.lxr_run_watch.specs.Sights.{Sight}
+use Rattle.lxr_placing.specs.Opening.{opening_abstract_state}
+use Rattle.lxr_sights.specs.Sights.{Sight}
 use Rattle.lxr_words.specs.declared.Command.{Command}
 use Rattle.lxr_words.specs.declared.Command.TheVariants.{Order}
 use Rattle.lxr_words.specs.declared.Options.{Options}

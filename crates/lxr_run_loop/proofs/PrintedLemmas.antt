@@ -6,7 +6,7 @@ use Rattle.std.proofs.lemmas.List.{append-nil, take_all}
 use Rattle.std.proofs.lemmas.Option.{get_or_from_slice_get, slice_get_within}
 use Rattle.lxr_text_stream.specs.Streams.{Appends, AppendsFront}
 use Rattle.lxr_text_stream.proofs.StreamLemmas.{Appends-append, AppendsFront-after}
-use Rattle.lxr_run_watch.specs.Sights.{Sight}
+use Rattle.lxr_sights.specs.Sights.{Sight}
 use Rattle.lxr_graph.specs.History.{Item}
 use Rattle.lxr_graph.specs.Order.{order_of}
 use Rattle.lxr_graph.specs.declared.Item as kept

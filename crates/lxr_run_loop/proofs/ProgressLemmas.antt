@@ -7,9 +7,9 @@ use Rattle.lxr_graph.specs.History.{Item, Pause, PauseReport, report_of}
 use Rattle.lxr_image.specs.declared.space.Space.{Space}
 use Rattle.lxr_invariant.specs.AbstractState.{AbstractState}
 use Rattle.lxr_model.specs.Kinds.{MustCollect}
-use Rattle.lxr_run_pause.specs.declared.Ask.{Ask}
-use Rattle.lxr_run_pause.specs.declared.Ask.TheVariants as ask
-use Rattle.lxr_run_watch.specs.Sights.{Sight}
+use Rattle.lxr_one_pause.specs.declared.Ask.{Ask}
+use Rattle.lxr_one_pause.specs.declared.Ask.TheVariants as ask
+use Rattle.lxr_sights.specs.Sights.{Sight}
 use Rattle.lxr_text_stream.specs.declared.transfer.WriteError.{WriteError}
 use Rattle.lxr_text_stream.specs.declared.transfer.WriteError.TheVariants as error
 use Rattle.lxr_words.specs.declared.Options.{Options}

@@ -9,14 +9,14 @@ use Rattle.lxr_mutator.specs.Mutating.{Mutating}
 use Rattle.lxr_core.specs.declared.actors.AnyActor.{AnyActor}
 use Rattle.lxr_model.specs.Kinds.{MustCollect}
 use Rattle.lxr_model.specs.Moments.{Moment, moment}
-use Rattle.lxr_run_pause.specs.declared.Ask.{Ask}
-use Rattle.lxr_run_pause.specs.declared.Ask.TheVariants as ask
-use Rattle.lxr_run_pause.specs.declared.Pace.{Pace}
-use Rattle.lxr_run_serve.specs.Answering.{Answers, AnswersAll, TakeTurns, TakesTurn, WantsCollection, begins, next, passes, refuses, serves}
-use Rattle.lxr_run_serve.specs.Serving.{KeepsHelpers, NewsWait}
-use Rattle.lxr_run_serve.specs.declared.Served.{Served}
-use Rattle.lxr_run_serve.specs.declared.Served.TheVariants as outcome
-use Rattle.lxr_run_watch.specs.Sights.{Sight}
+use Rattle.lxr_one_pause.specs.declared.Ask.{Ask}
+use Rattle.lxr_one_pause.specs.declared.Ask.TheVariants as ask
+use Rattle.lxr_one_pause.specs.declared.Pace.{Pace}
+use Rattle.lxr_serve.specs.Answering.{Answers, AnswersAll, TakeTurns, TakesTurn, WantsCollection, begins, next, passes, refuses, serves}
+use Rattle.lxr_serve.specs.Serving.{KeepsHelpers, NewsWait}
+use Rattle.lxr_serve.specs.declared.Served.{Served}
+use Rattle.lxr_serve.specs.declared.Served.TheVariants as outcome
+use Rattle.lxr_sights.specs.Sights.{Sight}
 use Rattle.lxr_words.specs.declared.Options.{Options}
 use Rattle.lxr_run_history.specs.declared.totals.Totals.{Totals}
 use Rattle.lxr_run_history.specs.Sums.{totals_of}

@@ -28,7 +28,7 @@ use Rattle.lxr_core.specs.Actors.{mutators_in}
 use Rattle.lxr_core.specs.Ordering.{AreFull}
 use Rattle.lxr_core.proofs.OrderLemmas.{mutator_at}
 use Rattle.lxr_text_print.specs.declared.summary.Sums.{Sums}
-use Rattle.lxr_run_watch.specs.Sights.{Sight}
+use Rattle.lxr_sights.specs.Sights.{Sight}
 use Rattle.lxr_words.specs.declared.Options.{Options}
 use Rattle.lxr_run_history.specs.declared.totals.Totals.{Totals}
 use Rattle.lxr_run_history.specs.Left.{last_report}

@@ -14,12 +14,12 @@ use Rattle.lxr_invariant.specs.AbstractState.{AbstractState, paused}
 use Rattle.lxr_invariant.specs.Quiescent.{HoldsMoment}
 use Rattle.lxr_pause_queue.specs.Counting.{ListsCounts}
 use Rattle.lxr_pause_queue.specs.Entries.{with_told}
-use Rattle.lxr_run_pause.specs.declared.Ask.{Ask}
-use Rattle.lxr_run_pause.specs.declared.Pace.{Pace}
-use Rattle.lxr_run_pause.specs.Pausing.{CanPause, Pauses}
-use Rattle.lxr_run_pause.proofs.TellingLemmas.{pauses_told, quiescent_told, safepoint_told, told_behind}
+use Rattle.lxr_one_pause.specs.declared.Ask.{Ask}
+use Rattle.lxr_one_pause.specs.declared.Pace.{Pace}
+use Rattle.lxr_one_pause.specs.Pausing.{CanPause, Pauses}
+use Rattle.lxr_one_pause.proofs.TellingLemmas.{pauses_told, quiescent_told, safepoint_told, told_behind}
 use Rattle.lxr_text_print.specs.Reports.{is_plain}
-use Rattle.lxr_run_watch.specs.Sights.{Sight}
+use Rattle.lxr_sights.specs.Sights.{Sight}
 use Rattle.lxr_words.specs.declared.Command.{Command}
 use Rattle.lxr_words.specs.declared.Command.TheVariants.{Judge, Large, Load, Map, Order, Run}
 use Rattle.lxr_run_invariant.specs.LoopInvariant.{HasCome, IsPaused, Task, WasCutOff}

@@ -3,10 +3,10 @@ use Rattle.std.specs.Prelude.{Bool, true, List, ◌∷◌}
 use Rattle.lxr_graph.specs.History.{Item, Pause, report_of}
 use Rattle.lxr_image.specs.declared.space.Space.{Space}
 use Rattle.lxr_mutator.specs.Mutating.{Mutating}
-use Rattle.lxr_run_pause.specs.declared.Ask.TheVariants as ask
-use Rattle.lxr_run_pause.specs.declared.Pace.{Pace}
-use Rattle.lxr_run_serve.specs.declared.Served.TheVariants as outcome
-use Rattle.lxr_run_serve.specs.Answering.{Answers}
+use Rattle.lxr_one_pause.specs.declared.Ask.TheVariants as ask
+use Rattle.lxr_one_pause.specs.declared.Pace.{Pace}
+use Rattle.lxr_serve.specs.declared.Served.TheVariants as outcome
+use Rattle.lxr_serve.specs.Answering.{Answers}
 use Rattle.lxr_run_loop.specs.Pausing.{MakesPause}
 
 -- Before and after stand the mutators, the space and the history; `collected` tells whether the pause that stands before collected. Either all that

@@ -17,14 +17,14 @@ use Rattle.lxr_core.specs.Actors.{any_machine, decrementers_in, mutators_in, scr
 use Rattle.lxr_core.specs.Closing.{AreFinished, AreResting, Closes}
 use Rattle.lxr_core.specs.Executions.{tell_all}
 use Rattle.lxr_core.specs.Opening.{Begins, Opens, execution_at}
-use Rattle.lxr_run_pause.specs.declared.Ask.{Ask}
-use Rattle.lxr_run_pause.specs.declared.Ask.TheVariants as ask
-use Rattle.lxr_run_placing.specs.Listing.{ListsAll}
-use Rattle.lxr_run_serve.specs.Serving.{KeepsHelpers}
+use Rattle.lxr_one_pause.specs.declared.Ask.{Ask}
+use Rattle.lxr_one_pause.specs.declared.Ask.TheVariants as ask
+use Rattle.lxr_placing.specs.Listing.{ListsAll}
+use Rattle.lxr_serve.specs.Serving.{KeepsHelpers}
 use Rattle.lxr_run_replay.specs.Replaying.{Replays}
 use Rattle.lxr_run_invariant.specs.LoopInvariant.{Task, pace_of, task_limits, terms_of}
 use Rattle.lxr_run_invariant.specs.Laws.{beginning_of}
-use Rattle.lxr_run_watch.specs.Sights.{Sight}
+use Rattle.lxr_sights.specs.Sights.{Sight}
 use Rattle.lxr_run_loop.specs.Made.{AreMade}
 use Rattle.lxr_run_loop.specs.Orders.{NotesCalls}
 use Rattle.lxr_run_loop.specs.Pausing.{PausesBehind}

@@ -8,10 +8,10 @@ use Rattle.lxr_model.specs.Kinds.{MustCollect}
 use Rattle.lxr_core.specs.declared.actors.AnyActor.{AnyActor}
 use Rattle.lxr_core.specs.Actors.{mutators_in}
 use Rattle.lxr_core.specs.Ordering.{orders_of}
-use Rattle.lxr_run_pause.specs.declared.Ask.TheVariants as ask
-use Rattle.lxr_run_placing.specs.Listing.{ListsAll}
-use Rattle.lxr_run_serve.specs.Serving.{KeepsHelpers}
-use Rattle.lxr_run_watch.specs.Sights.{Sight}
+use Rattle.lxr_one_pause.specs.declared.Ask.TheVariants as ask
+use Rattle.lxr_placing.specs.Listing.{ListsAll}
+use Rattle.lxr_serve.specs.Serving.{KeepsHelpers}
+use Rattle.lxr_sights.specs.Sights.{Sight}
 use Rattle.lxr_words.specs.declared.Options.{Options}
 use Rattle.lxr_run_history.specs.declared.totals.Totals.{Totals}
 use Rattle.lxr_run_history.specs.Sums.{totals_of}

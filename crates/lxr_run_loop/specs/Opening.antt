@@ -3,7 +3,7 @@ use Rattle.std.specs.Prelude.{ℕ, false, Option, List}
 use Rattle.lxr_image.specs.declared.space.Space.{Space}
 use Rattle.lxr_model.specs.Belongs.{Script}
 use Rattle.lxr_core.specs.declared.actors.AnyActor.{AnyActor}
-use Rattle.lxr_run_watch.specs.Sights.{Sight}
+use Rattle.lxr_sights.specs.Sights.{Sight}
 use Rattle.lxr_words.specs.declared.Options.{Options}
 use Rattle.lxr_run_loop.specs.Courses.{opening_course}
 use Rattle.lxr_run_loop.specs.Progress.{IsUnderWay}

@@ -8,7 +8,7 @@ use Rattle.lxr_mutator.specs.Mutators.{IsFull}
 use Rattle.lxr_core.specs.declared.actors.AnyActor.{AnyActor}
 use Rattle.lxr_core.specs.declared.actors.AnyActor.TheVariants as any
 use Rattle.lxr_text_print.specs.declared.summary.Sums.{Sums}
-use Rattle.lxr_run_watch.specs.Sights.{Sight}
+use Rattle.lxr_sights.specs.Sights.{Sight}
 use Rattle.lxr_run_history.specs.declared.totals.Totals.{Totals}
 use Rattle.lxr_run_history.specs.Sums.{sums_of, totals_of}
 use Rattle.lxr_run_invariant.specs.LoopInvariant.{HasRunTo, Task, threads_of}

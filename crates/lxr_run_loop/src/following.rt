@@ -15,10 +15,10 @@ use crate::serving::answer_waiting;
 use lxr_core::AnyActor;
 use lxr_image::Space;
 use lxr_mutator::MutEnd;
+use lxr_one_pause::Ask;
+use lxr_placing::list_for_epoch;
 use lxr_run_history::Totals;
-use lxr_run_pause::Ask;
-use lxr_run_placing::list_for_epoch;
-use lxr_run_watch::Watch;
+use lxr_sights::Watch;
 use lxr_text_stream::{Sink, WriteError};
 use lxr_words::Options;
 

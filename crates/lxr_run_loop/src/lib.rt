@@ -29,7 +29,7 @@ pub use course::Course;
 pub use following::follow_epoch;
 use lxr_core::AnyActor;
 use lxr_image::Space;
-use lxr_run_watch::{Gate, Watch};
+use lxr_sights::{Gate, Watch};
 use lxr_text_stream::{Sink, WriteError};
 use lxr_words::Options;
 pub use opening::{add_helpers, open};

@@ -7,7 +7,7 @@ ghost use Rattle.lxr_layout.specs.Spaces.{AreLimits};
 ghost use Rattle.lxr_text_script.specs.Limits.{IsScript};
 ghost use Rattle.lxr_text_script.specs.Reading.{lists_in};
 ghost use Rattle.lxr_words.specs.Ranges.{AreInRange};
-ghost use Rattle.lxr_run_watch.specs.Sights.{Sight};
+ghost use Rattle.lxr_sights.specs.Sights.{Sight};
 ghost use Rattle.lxr_run_loop.specs.Made.{AreMade, HelpersStandBehind};
 ghost use Rattle.lxr_run_loop.specs.Opening.{IsOpenedRun};
 

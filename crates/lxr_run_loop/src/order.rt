@@ -10,7 +10,7 @@ use lxr_core::AnyActor;
 use lxr_graph::{Item, Items};
 use lxr_image::Space;
 use lxr_run_replay::{order_epoch, replay_epoch};
-use lxr_run_watch::Gate;
+use lxr_sights::Gate;
 use lxr_words::Command;
 use std::alloc::{AllocError, Global};
 use std::marker::Model;

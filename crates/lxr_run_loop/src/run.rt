@@ -15,7 +15,7 @@ use crate::order::Order;
 use lxr_core::{AnyActor, close_epoch, open_epoch};
 use lxr_image::Space;
 use lxr_run_threads::run_epoch;
-use lxr_run_watch::{Gate, Watch};
+use lxr_sights::{Gate, Watch};
 use lxr_text_stream::{Sink, WriteError};
 use lxr_words::Options;
 use std::alloc::{AllocError, Global};

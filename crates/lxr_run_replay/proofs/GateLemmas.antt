@@ -13,8 +13,8 @@ use Rattle.lxr_core.specs.declared.actors.AnyActor.{AnyActor}
 use Rattle.lxr_core.specs.declared.actors.AnyActor.TheVariants as any
 use Rattle.lxr_core.specs.Actors.{AreInOrder, any_machine, mutators_in}
 use Rattle.lxr_core.proofs.OrderLemmas.{mutator_at, mutators_put}
-use Rattle.lxr_run_watch.specs.Gates.{HavePassed, IsLetPass, IsLetPassSince}
-use Rattle.lxr_run_watch.proofs.GateLemmas.{passed_none, passed_step}
+use Rattle.lxr_sights.specs.Gates.{HavePassed, IsLetPass, IsLetPassSince}
+use Rattle.lxr_sights.proofs.GateLemmas.{passed_none, passed_step}
 use Rattle.lxr_run_replay.specs.Replaying.{LetsPass}
 use Rattle.lxr_run_replay.proofs.PickLemmas.{helper_leaves, tracer_leaves}
 

@@ -8,7 +8,7 @@ use Rattle.lxr_actor.specs.Run.{AlwaysFits, core_of, event, run}
 use Rattle.lxr_image.specs.declared.space.Space.{Space}
 use Rattle.lxr_mutator.specs.Mutating.{Mutating}
 use Rattle.lxr_mutator.specs.Mutators.{IsMutator}
-use Rattle.lxr_run_watch.specs.Gates.{IsLetPass}
+use Rattle.lxr_sights.specs.Gates.{IsLetPass}
 use Rattle.lxr_core_invariant.specs.EpochStates.{Beginning}
 use Rattle.lxr_core.specs.declared.actors.AnyActor.{AnyActor}
 use Rattle.lxr_core.specs.declared.actors.AnyActor.TheVariants as any

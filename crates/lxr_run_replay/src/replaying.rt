@@ -8,7 +8,7 @@ ghost use Rattle.lxr_actor.specs.Machine.{Fits};
 ghost use Rattle.lxr_actor.specs.Run.{FitsAt, core_of, event, run, stepped};
 ghost use Rattle.lxr_core.specs.Actors.{any_machine, mutators_in};
 ghost use Rattle.lxr_core.specs.Closing.{AreFinished, AreResting};
-ghost use Rattle.lxr_run_watch.specs.Gates.{HavePassed, IsLetPass};
+ghost use Rattle.lxr_sights.specs.Gates.{HavePassed, IsLetPass};
 ghost use Rattle.lxr_run_replay.specs.Replaying.{CanBeReplayed, Draws, IsPicked, LetsPass, Replays, may_be_drawn, unfinished};
 ghost use Rattle.lxr_run_replay.specs.Finishing.{IsFinishing, RestBefore};
 ghost use Rattle.lxr_run_replay.specs.Recording.{AreCallsOf, HasRoom, all_left, call_at, call_by, calls_in, recorded};
@@ -20,7 +20,7 @@ use lxr_base::draw;
 use lxr_core::AnyActor;
 use lxr_graph::Items;
 use lxr_image::Space;
-use lxr_run_watch::{Gate, pass_gate};
+use lxr_sights::{Gate, pass_gate};
 use lxr_tables::PlainWords;
 use std::alloc::{AllocError, Global};
 

@@ -5,10 +5,10 @@ use Rattle.lxr_layout.specs.declared.TheConstants.{STUCK}
 use Rattle.lxr_layout.specs.declared.Place.{Place}
 use Rattle.lxr_layout.specs.declared.limits.Regions.{Regions}
 use Rattle.lxr_actor.specs.Run.{run}
-use Rattle.lxr_pocket.specs.Words.{has_bit, references_in, referent_in}
-use Rattle.lxr_pocket.specs.Helpers.{Outcome}
-use Rattle.lxr_pocket.proofs.HelperLemmas.{either}
-use Rattle.lxr_pocket.proofs.DrainLemmas as lemma
+use Rattle.lxr_helper.specs.Words.{has_bit, references_in, referent_in}
+use Rattle.lxr_helper.specs.Helpers.{Outcome}
+use Rattle.lxr_helper.proofs.HelperLemmas.{either}
+use Rattle.lxr_helper.proofs.DrainLemmas as lemma
 use Rattle.lxr_decrement.specs.declared.phases.DecEnd.{DecEnd}
 use Rattle.lxr_decrement.specs.declared.phases.Handling.{Handling}
 use Rattle.lxr_decrement.specs.declared.phases.Handling.TheVariants.{Entry, References}

@@ -12,8 +12,8 @@ use Rattle.lxr_core.specs.declared.actors.AnyActor.TheVariants as any
 use Rattle.lxr_core.specs.Actors.{AreInOrder, any_machine, mutators_in}
 use Rattle.lxr_core.specs.Closing.{AreResting}
 use Rattle.lxr_core.proofs.OrderLemmas.{mutator_from}
-use Rattle.lxr_run_watch.specs.Gates.{HavePassed, IsLetPass, IsLetPassSince}
-use Rattle.lxr_run_watch.proofs.GateLemmas.{passed_none}
+use Rattle.lxr_sights.specs.Gates.{HavePassed, IsLetPass, IsLetPassSince}
+use Rattle.lxr_sights.proofs.GateLemmas.{passed_none}
 use Rattle.lxr_shared_passes.specs.Passing.{DoesStep, GoesOn, Passing, Turned, dealt}
 use Rattle.lxr_shared.specs.Sharing.{Sharing}
 use Rattle.lxr_run_replay.specs.Replaying.{CanBeReplayed}

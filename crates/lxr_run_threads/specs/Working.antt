@@ -10,7 +10,7 @@ use Rattle.lxr_core.specs.declared.actors.AnyActor.TheVariants as any
 use Rattle.lxr_core.specs.Actors.{any_machine}
 use Rattle.lxr_shared_passes.specs.Passing.{Opened, Passing}
 use Rattle.lxr_shared.specs.Sharing.{Sharing}
-use Rattle.lxr_run_watch.specs.Gates.{IsLetPassSince}
+use Rattle.lxr_sights.specs.Gates.{IsLetPassSince}
 use Rattle.lxr_run_replay.specs.Working.{work}
 use Rattle.lxr_run_threads.specs.Dealing.{numbers_of}
 

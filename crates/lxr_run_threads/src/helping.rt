@@ -19,7 +19,7 @@ use lxr_decrement::Decrementer;
 use lxr_hints::{AnyPlace, Hinter, Shared, hinters_under};
 use lxr_layout::Place;
 use lxr_shared::{Pass, Turn};
-use lxr_shared_passes::Epoch;
+use lxr_shared_passes::PassTable;
 use lxr_trace::Tracer;
 use std::alloc::{AllocError, Global};
 use std::marker::Model;
@@ -138,7 +138,7 @@ pub fn make_hints(alloc: Global, workers: u8) -> Result<Vec<Hints>, AllocError>
 
 /// A helper's part in a round: a turn, unless it has nothing to do and doesn't look for a hint in this round.
 #[inline(always)]
-pub fn let_help<K>(table: &Epoch<AnyActor>, pass: &mut Pass, exchange: &mut Exchange<K>)
+pub fn let_help<K>(table: &PassTable<AnyActor>, pass: &mut Pass, exchange: &mut Exchange<K>)
     requires can { CanBeReplayed table.now.opening }
     requires pass { IsPassOf table.now pass.old }
     requires helper { is_helper pass.old.actor ≡ true }
@@ -155,7 +155,7 @@ pub fn let_help<K>(table: &Epoch<AnyActor>, pass: &mut Pass, exchange: &mut Exch
 /// A turn of a helper with what it shares. Before it, a helper that has found nothing is offered a place that some helper has spared, so that no
 /// epoch ends with an offer that was taken and not worked on; after it, a helper that has more than one place spares one. That the place which is
 /// offered is one that was taken as a hint no clause says.
-fn help<K>(table: &Epoch<AnyActor>, pass: &mut Pass, exchange: &mut Exchange<K>)
+fn help<K>(table: &PassTable<AnyActor>, pass: &mut Pass, exchange: &mut Exchange<K>)
     requires can { CanBeReplayed table.now.opening }
     requires pass { IsPassOf table.now pass.old }
     requires helper { is_helper pass.old.actor ≡ true }
@@ -171,7 +171,7 @@ fn help<K>(table: &Epoch<AnyActor>, pass: &mut Pass, exchange: &mut Exchange<K>)
 }
 
 /// One turn of a helper of any kind, and how it ended.
-pub(crate) fn make_turn(table: &Epoch<AnyActor>, pass: &mut Pass) -> Turn
+pub(crate) fn make_turn(table: &PassTable<AnyActor>, pass: &mut Pass) -> Turn
     requires can { CanBeReplayed table.now.opening }
     requires pass { IsPassOf table.now pass.old }
     requires helper { is_helper pass.old.actor ≡ true }
@@ -186,7 +186,7 @@ pub(crate) fn make_turn(table: &Epoch<AnyActor>, pass: &mut Pass) -> Turn
 }
 
 /// Offers a helper that has no further step a place that was spared, if there is one. No clause says that the place which is offered is the one that was taken.
-fn take_hint<K>(table: &Epoch<AnyActor>, pass: &mut Pass, exchange: &mut Exchange<K>)
+fn take_hint<K>(table: &PassTable<AnyActor>, pass: &mut Pass, exchange: &mut Exchange<K>)
     requires pass { IsPassOf table.now pass.old }
     requires helper { is_helper pass.old.actor ≡ true }
     ensures pass { IsPassOf table.now pass.new }
@@ -203,7 +203,7 @@ fn take_hint<K>(table: &Epoch<AnyActor>, pass: &mut Pass, exchange: &mut Exchang
 }
 
 /// Gives a place of a helper's pocket, where it has more than one and the exchange takes it in.
-fn give_hint<K>(table: &Epoch<AnyActor>, pass: &mut Pass, exchange: &mut Exchange<K>)
+fn give_hint<K>(table: &PassTable<AnyActor>, pass: &mut Pass, exchange: &mut Exchange<K>)
     requires pass { IsPassOf table.now pass.old }
     requires helper { is_helper pass.old.actor ≡ true }
     requires served { HasServed pass.old.actor }

@@ -16,7 +16,7 @@
 ghost use Rattle.std.specs.Prelude.{◌≡◌, All, IfOk, vec_len};
 ghost use Rattle.lxr_core.specs.Actors.{mutators_in};
 ghost use Rattle.lxr_run_replay.specs.Replaying.{CanBeReplayed};
-ghost use Rattle.lxr_run_watch.specs.Gates.{HavePassed};
+ghost use Rattle.lxr_sights.specs.Gates.{HavePassed};
 ghost use Rattle.lxr_run_threads.specs.Dealing.{numbers_from, numbers_of};
 ghost use Rattle.lxr_run_threads.specs.Running.{CanRun, HasRun, HaveHelpers, OpenedEpochsCanRun};
 ghost use Rattle.lxr_run_threads.specs.Working.{HaveWorked, IsPassOf};
@@ -32,9 +32,9 @@ pub use dealing::{Dealing, Hand};
 pub use helping::{Hints, make_hints};
 use lxr_core::AnyActor;
 use lxr_image::Space;
-use lxr_run_watch::Gate;
 use lxr_shared::{Pass, close_shared, open_shared};
-use lxr_shared_passes::Epoch;
+use lxr_shared_passes::PassTable;
+use lxr_sights::Gate;
 use lxr_words::Options;
 use std::alloc::{AllocError, Global};
 use std::sync::Wait;
@@ -65,7 +65,7 @@ pub fn run_epoch<R: Threads + Wait + Sync, G: Gate>(
 fn let_all_work<R: Threads + Wait + Sync, G: Gate>(
     rt: &R,
     alloc: Global,
-    table: &Epoch<AnyActor>,
+    table: &PassTable<AnyActor>,
     passes: Vec<Pass>,
     options: &Options,
     gate: &G,

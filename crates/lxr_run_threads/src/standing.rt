@@ -17,9 +17,9 @@ use lxr_actor::Actor;
 use lxr_core::AnyActor;
 use lxr_decrement::DecEnd;
 use lxr_mutator::MutEnd;
-use lxr_run_watch::Gate;
 use lxr_shared::{Pass, Turn};
-use lxr_shared_passes::Epoch;
+use lxr_shared_passes::PassTable;
+use lxr_sights::Gate;
 use lxr_stand::{Turns, relay};
 use lxr_trace::TraceEnd;
 use lxr_words::Options;
@@ -38,7 +38,7 @@ impl Standing {
     /// One turn: a unit of a mutator, whose operation was let pass, or of a helper. Whether the pass is through with the epoch: its unit
     /// ended with neither `OpDone` nor `Worked` nor `RememberFull`, or was a helper's last one of as many as it may make.
     #[inline(always)]
-    fn take_turn(&mut self, table: &Epoch<AnyActor>, most: u32) -> bool
+    fn take_turn(&mut self, table: &PassTable<AnyActor>, most: u32) -> bool
         requires { IsStanding table.now most self.old }
         ensures { MakesTurn table.now most self.old self.new result }
     {
@@ -51,7 +51,7 @@ impl Standing {
     }
 
     /// A helper's unit, in a turn that is counted already. Whether it was the helper's last one.
-    fn help(&mut self, table: &Epoch<AnyActor>, most: u32) -> bool
+    fn help(&mut self, table: &PassTable<AnyActor>, most: u32) -> bool
         requires can { CanBeReplayed table.now.opening }
         requires pass { IsPassOf table.now self.old.pass }
         requires helper { is_helper self.old.pass.actor ≡ true }
@@ -99,7 +99,7 @@ fn next_operation(actor: &AnyActor) -> Option<(u8, u32)>
 /// What threads do with the passes of an epoch: its table, how many turns a helper may make, and the gate.
 #[derive(Drop)]
 struct Work<'a, G: Gate> {
-    table: &'a Epoch<AnyActor>,
+    table: &'a PassTable<AnyActor>,
     most: u32,
     gate: &'a G,
 }
@@ -126,7 +126,7 @@ impl<'a, G: Gate> Turns<Standing> for Work<'a, G> {
 pub(crate) fn let_standing_work<R: Threads + Wait + Sync, G: Gate>(
     rt: &R,
     alloc: Global,
-    table: &Epoch<AnyActor>,
+    table: &PassTable<AnyActor>,
     passes: Vec<Pass>,
     options: &Options,
     gate: &G,

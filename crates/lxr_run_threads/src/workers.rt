@@ -8,7 +8,7 @@ ghost use Rattle.lxr_shared_passes.specs.Passing.{Turned};
 ghost use Rattle.lxr_shared.specs.Ends.{GoesOnByEnd};
 ghost use Rattle.lxr_run_replay.specs.Replaying.{CanBeReplayed};
 ghost use Rattle.lxr_run_threads.specs.Dealing.{numbers_from, numbers_of};
-ghost use Rattle.lxr_run_watch.specs.Gates.{IsLetPass};
+ghost use Rattle.lxr_sights.specs.Gates.{IsLetPass};
 ghost use Rattle.lxr_run_threads.specs.Keeping.{KeepsOthers};
 ghost use Rattle.lxr_run_threads.specs.Working.{HasPassed, HasServed, HaveWorked, IsDoneOf, IsPassOf, goes_on, is_finished, is_helper, work_in, work_of};
 
@@ -16,9 +16,9 @@ use crate::dealing::{Dealing, Hand};
 use crate::helping::{Hints, let_help, make_hints};
 use lxr_actor::Actor;
 use lxr_core::AnyActor;
-use lxr_run_watch::{Gate, pass_gate};
 use lxr_shared::Pass;
-use lxr_shared_passes::Epoch;
+use lxr_shared_passes::PassTable;
+use lxr_sights::{Gate, pass_gate};
 use std::alloc::{AllocError, Global};
 use std::thread;
 use std::thread::Threads;
@@ -30,7 +30,7 @@ const HELPERS: usize = 2;
 pub(crate) fn let_dealt_work<R: Threads + Sync, G: Gate>(
     rt: &R,
     alloc: Global,
-    table: &Epoch<AnyActor>,
+    table: &PassTable<AnyActor>,
     mut passes: Vec<Pass>,
     workers: u8,
     gate: &G,
@@ -62,7 +62,7 @@ pub(crate) fn let_dealt_work<R: Threads + Sync, G: Gate>(
 #[cycle(hands)]
 fn let_work<R: Threads + Sync, G: Gate>(
     rt: &R,
-    table: &Epoch<AnyActor>,
+    table: &PassTable<AnyActor>,
     hands: &mut [Hand],
     gate: &G,
 )
@@ -86,7 +86,7 @@ fn let_work<R: Threads + Sync, G: Gate>(
 #[cycle(hands)]
 fn let_both_work<R: Threads + Sync, G: Gate>(
     rt: &R,
-    table: &Epoch<AnyActor>,
+    table: &PassTable<AnyActor>,
     gate: &G,
     hand: &mut Hand,
     others: &mut [Hand],
@@ -116,7 +116,12 @@ fn let_both_work<R: Threads + Sync, G: Gate>(
 
 /// Makes rounds with the passes of a worker, until no mutator among them goes on: one round, where there is none. Each pass has served
 /// then, and is still a pass of the table with the number that it had. Mutators gain replies to operations alone that the gate let pass.
-pub fn work<G: Gate>(table: &Epoch<AnyActor>, passes: &mut Vec<Pass>, hints: &mut Hints, gate: &G)
+pub fn work<G: Gate>(
+    table: &PassTable<AnyActor>,
+    passes: &mut Vec<Pass>,
+    hints: &mut Hints,
+    gate: &G,
+)
     requires can { CanBeReplayed table.now.opening }
     requires passes { All (IsPassOf table.now) passes.old.items }
     ensures done { All (IsDoneOf table.now) passes.new.items }
@@ -134,7 +139,12 @@ pub fn work<G: Gate>(table: &Epoch<AnyActor>, passes: &mut Vec<Pass>, hints: &mu
 
 /// Makes so many rounds of mutators alone, while no helper has anything to do.
 #[inline(always)]
-fn let_mutators_go_on<G: Gate>(table: &Epoch<AnyActor>, passes: &mut [Pass], rounds: u32, gate: &G)
+fn let_mutators_go_on<G: Gate>(
+    table: &PassTable<AnyActor>,
+    passes: &mut [Pass],
+    rounds: u32,
+    gate: &G,
+)
     requires can { CanBeReplayed table.now.opening }
     requires passes { All (IsPassOf table.now) passes.old }
     ensures passes { All (IsPassOf table.now) passes.new }
@@ -149,7 +159,7 @@ fn let_mutators_go_on<G: Gate>(table: &Epoch<AnyActor>, passes: &mut [Pass], rou
 
 /// Lets each mutator take its part in a round, from the last to the first of the passes behind those of the helpers.
 #[inline(always)]
-fn let_mutators_turn<G: Gate>(table: &Epoch<AnyActor>, passes: &mut [Pass], gate: &G)
+fn let_mutators_turn<G: Gate>(table: &PassTable<AnyActor>, passes: &mut [Pass], gate: &G)
     requires can { CanBeReplayed table.now.opening }
     requires passes { All (IsPassOf table.now) passes.old }
     ensures passes { All (IsPassOf table.now) passes.new }
@@ -166,7 +176,7 @@ fn let_mutators_turn<G: Gate>(table: &Epoch<AnyActor>, passes: &mut [Pass], gate
 
 /// A mutator's part in a round; a helper has none in this one.
 #[inline(always)]
-fn take_mutator_turn<G: Gate>(table: &Epoch<AnyActor>, pass: &mut Pass, gate: &G)
+fn take_mutator_turn<G: Gate>(table: &PassTable<AnyActor>, pass: &mut Pass, gate: &G)
     requires can { CanBeReplayed table.now.opening }
     requires pass { IsPassOf table.now pass.old }
     ensures pass { IsPassOf table.now pass.new }
@@ -182,7 +192,7 @@ fn take_mutator_turn<G: Gate>(table: &Epoch<AnyActor>, pass: &mut Pass, gate: &G
 /// Lets each pass take its part in a round, from the last to the first: mutators come first. Whether some mutator goes on.
 #[inline(always)]
 fn make_round<G: Gate>(
-    table: &Epoch<AnyActor>,
+    table: &PassTable<AnyActor>,
     passes: &mut [Pass],
     hints: &mut Hints,
     gate: &G,
@@ -209,7 +219,12 @@ fn make_round<G: Gate>(
 /// A pass's part in a round: a turn of a mutator that isn't finished, or of a helper that has something to do. Whether its mutator goes on.
 #[inline(always)]
 #[tactic(auto, using(crate::proofs::HelpLemmas::helpers_have_none))]
-fn take_turn<G: Gate>(table: &Epoch<AnyActor>, pass: &mut Pass, hints: &mut Hints, gate: &G) -> bool
+fn take_turn<G: Gate>(
+    table: &PassTable<AnyActor>,
+    pass: &mut Pass,
+    hints: &mut Hints,
+    gate: &G,
+) -> bool
     requires can { CanBeReplayed table.now.opening }
     requires pass { IsPassOf table.now pass.old }
     ensures pass { IsPassOf table.now pass.new }
@@ -234,7 +249,7 @@ fn take_turn<G: Gate>(table: &Epoch<AnyActor>, pass: &mut Pass, hints: &mut Hint
 
 /// One turn of a mutator, with a call of the gate before its operation; none where it is finished. Whether it goes on.
 #[inline(always)]
-fn let_mutate<G: Gate>(table: &Epoch<AnyActor>, pass: &mut Pass, gate: &G) -> bool
+fn let_mutate<G: Gate>(table: &PassTable<AnyActor>, pass: &mut Pass, gate: &G) -> bool
     requires can { CanBeReplayed table.now.opening }
     requires pass { IsPassOf table.now pass.old }
     requires mutator { is_helper pass.old.actor ≡ false }
@@ -253,7 +268,7 @@ fn let_mutate<G: Gate>(table: &Epoch<AnyActor>, pass: &mut Pass, gate: &G) -> bo
 
 /// One turn of a mutator, whose operation was let pass. Whether it goes on: behind a unit it does exactly where that ended with `OpDone`.
 #[inline(always)]
-pub(crate) fn mutate(table: &Epoch<AnyActor>, pass: &mut Pass) -> bool
+pub(crate) fn mutate(table: &PassTable<AnyActor>, pass: &mut Pass) -> bool
     requires can { CanBeReplayed table.now.opening }
     requires pass { IsPassOf table.now pass.old }
     requires mutator { is_helper pass.old.actor ≡ false }

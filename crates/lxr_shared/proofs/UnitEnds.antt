@@ -28,8 +28,8 @@ use Rattle.lxr_mutator.specs.Operating.{dest_of, found_reply, index_of, indexed_
 use Rattle.lxr_mutator.specs.Mutating.{Mutating, nil, op_now, register, rests_in as mut_rests_in}
 use Rattle.lxr_mutator.specs.Orders.{takes_order, with_order}
 use Rattle.lxr_mutator.specs.Steps as mutator
-use Rattle.lxr_pocket.specs.Helpers as helper
-use Rattle.lxr_pocket.proofs.HelperLemmas as lemma
+use Rattle.lxr_helper.specs.Helpers as helper
+use Rattle.lxr_helper.proofs.HelperLemmas as lemma
 use Rattle.lxr_decrement.specs.declared.phases.DecEnd.{DecEnd}
 use Rattle.lxr_decrement.specs.Decrementing.{DecrementerState}
 use Rattle.lxr_decrement.specs.Steps.{decrementer_work}

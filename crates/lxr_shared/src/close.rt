@@ -6,7 +6,7 @@ ghost use Rattle.lxr_core.specs.Actors.{any_machine};
 use crate::epoch::{Epoch, Pass};
 use lxr_core::AnyActor;
 use lxr_image::Space;
-use lxr_shared_passes::close_passes;
+use lxr_shared_passes::{ActorPass, close_passes};
 
 /// Ends the epoch, on the condition that all of its passes are there, in order. Words and actors are those of one
 /// schedule from the opening, of which each pass has seen a beginning with all events of its own. What else the space has
@@ -29,7 +29,7 @@ pub fn close_shared(epoch: Epoch, passes: Vec<Pass>) -> (Space, Vec<AnyActor>)
 }
 
 /// Makes passes of any actors of passes of a space's actors.
-fn unseal(passes: Vec<Pass>, opened: &mut Vec<lxr_shared_passes::Pass<AnyActor>>)
+fn unseal(passes: Vec<Pass>, opened: &mut Vec<ActorPass<AnyActor>>)
     requires room { (opened.old.items ≡ []) × (vec_len passes ≤ vec_capacity opened.old) }
     ensures { opened.new.items ≡ passes.items }
 {

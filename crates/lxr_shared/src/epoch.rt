@@ -12,17 +12,18 @@ use crate::turns::{Turn, last_turn, unit_is_short};
 use lxr_core::AnyActor;
 use lxr_graph::Op;
 use lxr_layout::Place;
+use lxr_shared_passes::{ActorPass, PassTable};
 use std::marker::Model;
 
 /// An epoch on running threads: the words of a space as one atomic table, and what else the space has. Passes turn on it
 /// through a `&`.
 #[derive(Drop)]
 pub struct Epoch {
-    pub(crate) passes: lxr_shared_passes::Epoch<AnyActor>,
+    pub(crate) passes: PassTable<AnyActor>,
     /// The space without its words.
     pub(crate) rest: Rest,
     /// Emptied; closing uses its room.
-    pub(crate) spare: Vec<lxr_shared_passes::Pass<AnyActor>>,
+    pub(crate) spare: Vec<ActorPass<AnyActor>>,
 }
 
 impl Model for Epoch {
@@ -39,7 +40,7 @@ impl Model for Epoch {
 impl Epoch {
     /// The table of the words, which threads share.
     #[inline(always)]
-    pub fn table(&self) -> &lxr_shared_passes::Epoch<AnyActor>
+    pub fn table(&self) -> &PassTable<AnyActor>
         ensures { result.now ≡ record { id = self.now.id; opening = self.now.opening } }
     {
         &self.passes
@@ -49,7 +50,7 @@ impl Epoch {
 /// An actor of an epoch, with the right to do its steps. Between its turns the actor rests.
 #[derive(Drop)]
 pub struct Pass {
-    pub(crate) pass: lxr_shared_passes::Pass<AnyActor>,
+    pub(crate) pass: ActorPass<AnyActor>,
 }
 
 impl Model for Pass {
@@ -99,7 +100,7 @@ impl Pass {
 
     /// The same, at the table of its epoch.
     #[inline(always)]
-    pub fn turn_at(&mut self, table: &lxr_shared_passes::Epoch<AnyActor>) -> Turn
+    pub fn turn_at(&mut self, table: &PassTable<AnyActor>) -> Turn
         requires { self.old.epoch ≡ table.now.id }
         ensures pass { IsSamePass self.old self.new }
         ensures unit { (olds : List ℕ) × (length olds ≤ any_machine.left self.old.actor) × Turned any_machine self.old olds self.new }
@@ -127,7 +128,7 @@ impl Pass {
     }
 
     /// The same, at the table of its epoch.
-    pub fn offer_at(&mut self, table: &lxr_shared_passes::Epoch<AnyActor>, place: Place) -> bool
+    pub fn offer_at(&mut self, table: &PassTable<AnyActor>, place: Place) -> bool
         requires { self.old.epoch ≡ table.now.id }
         ensures pass { IsSamePass self.old self.new }
         ensures answer { (self.new.actor, result) ≡ any_machine.offered self.old.actor place }
@@ -150,7 +151,7 @@ impl Pass {
     }
 
     /// The same, at the table of its epoch.
-    pub fn surplus_at(&mut self, table: &lxr_shared_passes::Epoch<AnyActor>) -> Option<Place>
+    pub fn surplus_at(&mut self, table: &PassTable<AnyActor>) -> Option<Place>
         requires { self.old.epoch ≡ table.now.id }
         ensures pass { IsSamePass self.old self.new }
         ensures answer { (self.new.actor, result) ≡ any_machine.spared self.old.actor }
@@ -176,7 +177,7 @@ impl Pass {
 
     /// The same, at the table of its epoch.
     #[inline(always)]
-    pub fn order_at(&mut self, table: &lxr_shared_passes::Epoch<AnyActor>, op: Op) -> bool
+    pub fn order_at(&mut self, table: &PassTable<AnyActor>, op: Op) -> bool
         requires { self.old.epoch ≡ table.now.id }
         ensures pass { IsSamePass self.old self.new }
         ensures answer { (self.new.actor, result) ≡ any_machine.ordered self.old.actor op }

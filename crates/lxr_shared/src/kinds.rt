@@ -5,13 +5,13 @@ use lxr_actor::{Actor, Steps, do_unit};
 use lxr_core::AnyActor;
 use lxr_decrement::Decrementer;
 use lxr_mutator::Mutator;
-use lxr_shared_passes::{Epoch, Seated, Turning};
+use lxr_shared_passes::{PassTable, Seated, Turning};
 use lxr_trace::Tracer;
 
 /// The table of an epoch, for steps of actors whose kind is known.
 #[derive(Drop)]
 pub struct KindTable<'a> {
-    epoch: &'a Epoch<AnyActor>,
+    epoch: &'a PassTable<AnyActor>,
 }
 
 impl<'a> Steps<Mutator, KindTable<'a>> for Seated<AnyActor> {
@@ -74,7 +74,7 @@ pub(crate) struct ByKind;
 // What LLVM makes of a match of three arms asks for the last one first; most units are mutators'.
 impl Turning<AnyActor> for ByKind {
     #[inline(always)]
-    fn do_unit(actor: &mut AnyActor, seated: &mut Seated<AnyActor>, epoch: &Epoch<AnyActor>) {
+    fn do_unit(actor: &mut AnyActor, seated: &mut Seated<AnyActor>, epoch: &PassTable<AnyActor>) {
         let table = KindTable { epoch };
         match actor {
             AnyActor::Tracer(tracer) => do_unit(tracer, seated, &table),

@@ -10,7 +10,7 @@ use crate::epoch::{Epoch, Pass};
 use crate::rest::Rest;
 use lxr_core::AnyActor;
 use lxr_image::Space;
-use lxr_shared_passes::open_passes;
+use lxr_shared_passes::{ActorPass, open_passes};
 use std::alloc::{AllocError, Global};
 
 /// Shares the words of a space, and gives each actor a pass, in order. The condition is that there are words, that all
@@ -42,7 +42,7 @@ pub fn open_shared(
 }
 
 /// Makes passes of a space's actors of passes of any actors.
-fn seal(passes: Vec<lxr_shared_passes::Pass<AnyActor>>, sealed: &mut Vec<Pass>)
+fn seal(passes: Vec<ActorPass<AnyActor>>, sealed: &mut Vec<Pass>)
     requires between { All (λ p. IsBetweenUnits p.actor) passes.items }
     requires room { (sealed.old.items ≡ []) × (vec_len passes ≤ vec_capacity sealed.old) }
     ensures { sealed.new.items ≡ passes.items }

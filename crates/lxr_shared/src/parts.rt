@@ -5,6 +5,7 @@ ghost use Rattle.lxr_shared.specs.Sharing.{sharing};
 use crate::epoch::Epoch;
 use crate::rest::Rest;
 use lxr_core::AnyActor;
+use lxr_shared_passes::{ActorPass, PassTable};
 use std::marker::Model;
 
 /// What an epoch has beside its table. Unlike the table it may not be looked at from several threads.
@@ -12,7 +13,7 @@ use std::marker::Model;
 pub struct Aside {
     rest: Rest,
     /// Emptied; closing uses its room.
-    spare: Vec<lxr_shared_passes::Pass<AnyActor>>,
+    spare: Vec<ActorPass<AnyActor>>,
 }
 
 impl Model for Aside {
@@ -28,7 +29,7 @@ impl Model for Aside {
 
 impl Epoch {
     /// Parts the table from what else the epoch has, so that threads can share the one and the other waits aside.
-    pub fn into_parts(self) -> (lxr_shared_passes::Epoch<AnyActor>, Aside)
+    pub fn into_parts(self) -> (PassTable<AnyActor>, Aside)
         ensures parts { sharing result.0 result.1 ≡ self }
         ensures room { length result.0.opening.actors ≤ result.1.room }
     {
@@ -41,7 +42,7 @@ impl Epoch {
     }
 
     /// Makes an epoch of its parts again.
-    pub fn from_parts(table: lxr_shared_passes::Epoch<AnyActor>, aside: Aside) -> Epoch
+    pub fn from_parts(table: PassTable<AnyActor>, aside: Aside) -> Epoch
         requires { length table.opening.actors ≤ aside.room }
         ensures { result ≡ sharing table aside }
     {

@@ -4,7 +4,7 @@ ghost use Rattle.lxr_actor.specs.Run.{core_of};
 ghost use Rattle.lxr_shared_passes.specs.Rule.{view, held_of};
 ghost use Rattle.lxr_shared_passes.specs.Passing.{dealt, IsEnd};
 
-use crate::pass::{Epoch, Pass};
+use crate::pass::{ActorPass, PassTable};
 use crate::rule::{Merge, Opening, Running, Sit, View};
 use crate::seated::Seated;
 use atomic_table::{Seat, Table};
@@ -14,13 +14,16 @@ use std::alloc::Global;
 
 /// Ends the epoch, on the condition that all of its passes are there, in order. The words and actors are those of
 /// one schedule from the opening, and each pass has seen a beginning of it that has all events of the pass.
-pub fn close_passes<A: Actor>(epoch: Epoch<A>, passes: Vec<Pass<A>>) -> (PlainWords, Vec<A>)
+pub fn close_passes<A: Actor>(
+    epoch: PassTable<A>,
+    passes: Vec<ActorPass<A>>,
+) -> (PlainWords, Vec<A>)
     requires epoch { All (λ p. p.epoch ≡ epoch.id) passes.items }
     requires order { map (λ p. p.number) passes.items ≡ map (λ p. p.number) (dealt epoch.id epoch.opening 0 epoch.opening.actors) }
     ensures actors { result.1.items ≡ map (λ p. p.actor) passes.items }
     ensures run { IsEnd A.machine epoch.opening result.0 result.1.items passes.items }
 {
-    let Epoch {
+    let PassTable {
         table,
         spare: mut actors,
     } = epoch;
@@ -34,7 +37,7 @@ pub fn close_passes<A: Actor>(epoch: Epoch<A>, passes: Vec<Pass<A>>) -> (PlainWo
 fn gather<A: Actor>(
     table: &Table<(), View<A>, Opening<A>, Running<A>, Global>,
     main: &mut Seat<(), View<A>>,
-    passes: Vec<Pass<A>>,
+    passes: Vec<ActorPass<A>>,
     actors: &mut Vec<A>,
 )
     requires table { (main.old.table_id ≡ table.now.shared.table_id) × (0 < main.old.table_id.words) }
@@ -47,7 +50,7 @@ fn gather<A: Actor>(
 {
     let mut rest = passes.into_iter();
     while let Some(pass) = rest.next() {
-        let Pass { actor, seated } = pass;
+        let ActorPass { actor, seated } = pass;
         let Seated { number: _, seat } = seated;
         table.shared.join_seat::<Merge<A>>(main, seat);
         actors.push_reserved(actor);

@@ -16,6 +16,6 @@ mod turning;
 
 pub use close::close_passes;
 pub use open::open_passes;
-pub use pass::{Epoch, Pass};
+pub use pass::{ActorPass, PassTable};
 pub use seated::Seated;
 pub use turning::{StepByStep, Turning};

@@ -4,7 +4,7 @@ ghost use Rattle.lxr_actor.specs.Run.{core_of, AlwaysFits};
 ghost use Rattle.lxr_shared_passes.specs.Rule.{held, view, whole, first_of, rest_of};
 ghost use Rattle.lxr_shared_passes.specs.Passing.{passing, dealt};
 
-use crate::pass::{Epoch, Pass};
+use crate::pass::{ActorPass, PassTable};
 use crate::rule::{First, Opening, OpeningOf, Running, View};
 use crate::seated::Seated;
 use atomic_table::{Seat, Table};
@@ -19,7 +19,7 @@ pub fn open_passes<A: Actor + Drop>(
     alloc: Global,
     words: PlainWords,
     actors: Vec<A>,
-) -> Result<(Epoch<A>, Vec<Pass<A>>), AllocError>
+) -> Result<(PassTable<A>, Vec<ActorPass<A>>), AllocError>
     requires words { 0 < length words }
     requires fits { AlwaysFits A.machine (core_of words actors.items) }
     ensures epoch { IfOk result (λ r. r.0.opening ≡ core_of words actors.items) }
@@ -31,7 +31,7 @@ pub fn open_passes<A: Actor + Drop>(
         &actors,
     );
     deal(&table, &mut main, actors, &mut passes);
-    Ok((Epoch { table, spare }, passes))
+    Ok((PassTable { table, spare }, passes))
 }
 
 /// Deals the actors of the main seat to passes.
@@ -39,7 +39,7 @@ fn deal<A: Actor>(
     table: &Table<(), View<A>, Opening<A>, Running<A>, Global>,
     main: &mut Seat<(), View<A>>,
     actors: Vec<A>,
-    passes: &mut Vec<Pass<A>>,
+    passes: &mut Vec<ActorPass<A>>,
 )
     requires table { (main.old.table_id ≡ table.now.shared.table_id) × (0 < main.old.table_id.words) × (main.old.table_id.words ≡ length main.old.me.0.core.words) }
     requires fits { AlwaysFits A.machine main.old.me.0.core }
@@ -62,7 +62,7 @@ fn pass_for<A: Actor>(
     main: &mut Seat<(), View<A>>,
     number: usize,
     actor: A,
-) -> Pass<A>
+) -> ActorPass<A>
     requires table { (main.old.table_id ≡ table.now.shared.table_id) × (0 < main.old.table_id.words) × (main.old.table_id.words ≡ length main.old.me.0.core.words) }
     requires fits { AlwaysFits A.machine main.old.me.0.core }
     requires front { (first_of main.old.me.0.held ≡ held number actor [] ∷ []) × (main.old.me.1 ≡ []) }
@@ -71,7 +71,7 @@ fn pass_for<A: Actor>(
     ensures pass { result ≡ passing main.old.table_id main.old.me.0.core number actor [] }
 {
     let seat = table.shared.split_seat::<First<A>>(main);
-    Pass {
+    ActorPass {
         actor,
         seated: Seated { number, seat },
     }

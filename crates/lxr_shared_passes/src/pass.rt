@@ -12,12 +12,12 @@ use std::marker::Model;
 
 /// The shared words, from opening to closing. Passes step on it through a `&`.
 #[derive(Drop)]
-pub struct Epoch<A: Actor> {
+pub struct PassTable<A: Actor> {
     pub(crate) table: Table<(), View<A>, Opening<A>, Running<A>, Global>,
     pub(crate) spare: Vec<A>,
 }
 
-impl<A: Actor> Model for Epoch<A> {
+impl<A: Actor> Model for PassTable<A> {
     ghost use Rattle.std.specs.Prelude.{◌≡◌, ◌<◌, ◌≤◌, [], length, vec_capacity};
     ghost use Rattle.lxr_actor.specs.Run.{core_of};
     ghost use Rattle.lxr_shared_passes.specs.Passing.{Opened};
@@ -29,7 +29,7 @@ impl<A: Actor> Model for Epoch<A> {
     ghost invariant = { λ e. (0 < e.table.shared.table_id.words) × (e.table.shared.table_id.slots ≡ 0) × (e.spare.items ≡ []) × (length e.table.shared.key.actors.items ≤ vec_capacity e.spare) };
 }
 
-impl<A: Actor> Epoch<A> {
+impl<A: Actor> PassTable<A> {
     /// What the word of an index is right now, if there is such a word. A look is no event of the epoch, and what it tells may be over at once.
     #[inline(always)]
     pub fn look(&self, index: usize) -> Option<u64>
@@ -45,12 +45,12 @@ impl<A: Actor> Epoch<A> {
 
 /// An actor of an epoch, with the right to do its steps.
 #[derive(Drop)]
-pub struct Pass<A: Actor> {
+pub struct ActorPass<A: Actor> {
     pub(crate) actor: A,
     pub(crate) seated: Seated<A>,
 }
 
-impl<A: Actor> Model for Pass<A> {
+impl<A: Actor> Model for ActorPass<A> {
     ghost use Rattle.lxr_shared_passes.specs.Passing.{Passing};
     ghost use Rattle.lxr_shared_passes.specs.Rule.{IsSeated};
     ghost use Rattle.lxr_shared_passes.specs.Seats.{pass_of};
@@ -62,7 +62,7 @@ impl<A: Actor> Model for Pass<A> {
     ghost invariant = { λ p. IsSeated A.machine p.seated.number p.actor p.seated.seat };
 }
 
-impl<A: Actor> Pass<A> {
+impl<A: Actor> ActorPass<A> {
     /// The actor.
     pub fn actor(&self) -> &A
         ensures { result.now ≡ self.now.actor }
@@ -80,7 +80,7 @@ impl<A: Actor> Pass<A> {
 
     /// Does one unit of the actor, by no more steps than the actor's bound. A finished actor makes no step.
     #[inline(always)]
-    pub fn turn(&mut self, epoch: &Epoch<A>)
+    pub fn turn(&mut self, epoch: &PassTable<A>)
         requires { self.old.epoch ≡ epoch.now.id }
         ensures pass { IsSamePass self.old self.new }
         ensures unit { (olds : List ℕ) × (length olds ≤ A.machine.left self.old.actor) × Turned A.machine self.old olds self.new }
@@ -90,7 +90,7 @@ impl<A: Actor> Pass<A> {
 
     /// Does one unit in the way `W`, by no more steps than the actor's bound. A finished actor makes no step.
     #[inline(always)]
-    pub fn turn_by<W: Turning<A>>(&mut self, epoch: &Epoch<A>)
+    pub fn turn_by<W: Turning<A>>(&mut self, epoch: &PassTable<A>)
         requires { self.old.epoch ≡ epoch.now.id }
         ensures pass { IsSamePass self.old self.new }
         ensures unit { (olds : List ℕ) × (length olds ≤ A.machine.left self.old.actor) × Turned A.machine self.old olds self.new }

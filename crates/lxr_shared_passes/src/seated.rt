@@ -4,7 +4,7 @@ ghost use Rattle.lxr_shared_passes.specs.Rule.{one, seen_in, Advanced};
 ghost use Rattle.lxr_shared_passes.specs.Passing.{DoesStep};
 ghost use Rattle.lxr_shared_passes.specs.Seats.{Sits, pass_of};
 
-use crate::pass::Epoch;
+use crate::pass::PassTable;
 use crate::rule::{Advance, View};
 use atomic_table::Seat;
 use lxr_actor::{Action, Actor, Kindred, Steps};
@@ -19,7 +19,7 @@ pub struct Seated<A> {
 impl<A: Actor> Seated<A> {
     /// Does the next step of the actor, which this action is. The answer is what the word was, and the actor is yet to be told.
     #[inline(always)]
-    pub fn act(&mut self, epoch: &Epoch<A>, action: Action) -> u64
+    pub fn act(&mut self, epoch: &PassTable<A>, action: Action) -> u64
         requires { (a : A) × Sits A.machine epoch.now.id self.old a × (A.machine.action a ≡ Some action) }
         ensures step { (a : A) → Sits A.machine epoch.now.id self.old a → A.machine.action a ≡ Some action
             → DoesStep A.machine (pass_of self.old a) result (pass_of self.new (A.machine.after a result)) }
@@ -30,7 +30,7 @@ impl<A: Actor> Seated<A> {
     }
 }
 
-impl<A: Actor> Steps<A, Epoch<A>> for Seated<A> {
+impl<A: Actor> Steps<A, PassTable<A>> for Seated<A> {
     ghost use Rattle.lxr_shared_passes.specs.Seats.{Did, Sits};
 
     ghost holds = { λ epoch s a. Sits A.machine epoch.id s a };
@@ -38,7 +38,7 @@ impl<A: Actor> Steps<A, Epoch<A>> for Seated<A> {
     ghost did = { Did A.machine };
 
     #[inline(always)]
-    fn step(&mut self, epoch: &Epoch<A>, actor: &A) -> u64 {
+    fn step(&mut self, epoch: &PassTable<A>, actor: &A) -> u64 {
         let Some(action) = actor.next() else {
             unreachable!()
         };
@@ -49,7 +49,7 @@ impl<A: Actor> Steps<A, Epoch<A>> for Seated<A> {
 /// Does one step of the actor that the seat holds, on the table alone. The answer is what the word was.
 #[inline(always)]
 fn perform<A: Actor>(
-    epoch: &Epoch<A>,
+    epoch: &PassTable<A>,
     seat: &mut Seat<(), View<A>>,
     number: usize,
     action: Action,

@@ -4,7 +4,7 @@ ghost use Rattle.lxr_actor.specs.declared.Event.TheVariants.{Give, Out, Order};
 ghost use Rattle.lxr_shared_passes.specs.Rule.{one, seen_in, TakesOffer, TakesOrder, GivesUp};
 ghost use Rattle.lxr_shared_passes.specs.Passing.{IsSamePass, Told};
 
-use crate::pass::{Epoch, Pass};
+use crate::pass::{ActorPass, PassTable};
 use crate::rule::{Asking, Given, Offering, Ordered, Spared, View};
 use atomic_table::Seat;
 use lxr_actor::Actor;
@@ -12,9 +12,9 @@ use lxr_graph::Op;
 use lxr_layout::Place;
 use std::marker::Brand;
 
-impl<A: Actor> Pass<A> {
+impl<A: Actor> ActorPass<A> {
     /// Offers the actor a place. Whether it took the place.
-    pub fn offer(&mut self, epoch: &Epoch<A>, place: Place) -> bool
+    pub fn offer(&mut self, epoch: &PassTable<A>, place: Place) -> bool
         requires { self.old.epoch ≡ epoch.now.id }
         ensures pass { IsSamePass self.old self.new }
         ensures answer { (self.new.actor, result) ≡ A.machine.offered self.old.actor place }
@@ -26,7 +26,7 @@ impl<A: Actor> Pass<A> {
     }
 
     /// Takes one of the actor's places out, if it has one.
-    pub fn surplus(&mut self, epoch: &Epoch<A>) -> Option<Place>
+    pub fn surplus(&mut self, epoch: &PassTable<A>) -> Option<Place>
         requires { self.old.epoch ≡ epoch.now.id }
         ensures pass { IsSamePass self.old self.new }
         ensures answer { (self.new.actor, result) ≡ A.machine.spared self.old.actor }
@@ -39,7 +39,7 @@ impl<A: Actor> Pass<A> {
 
     /// Orders an operation of the actor, behind those that it has. Whether it took the operation.
     #[inline(always)]
-    pub fn order(&mut self, epoch: &Epoch<A>, op: Op) -> bool
+    pub fn order(&mut self, epoch: &PassTable<A>, op: Op) -> bool
         requires { self.old.epoch ≡ epoch.now.id }
         ensures pass { IsSamePass self.old self.new }
         ensures answer { (self.new.actor, result) ≡ A.machine.ordered self.old.actor op }
@@ -54,7 +54,7 @@ impl<A: Actor> Pass<A> {
 /// Notes at the table that the actor is ordered an operation.
 #[inline(always)]
 fn say_ordered<A: Actor, O: Asking>(
-    epoch: &Epoch<A>,
+    epoch: &PassTable<A>,
     seat: &mut Seat<(), View<A>>,
     number: usize,
     actor: &A,
@@ -71,7 +71,7 @@ fn say_ordered<A: Actor, O: Asking>(
 
 /// Notes at the table that the actor is offered a place.
 fn say_given<A: Actor, O: Offering>(
-    epoch: &Epoch<A>,
+    epoch: &PassTable<A>,
     seat: &mut Seat<(), View<A>>,
     number: usize,
     actor: &A,
@@ -87,7 +87,12 @@ fn say_given<A: Actor, O: Offering>(
 }
 
 /// Notes at the table that the actor gives up a place.
-fn say_spared<A: Actor>(epoch: &Epoch<A>, seat: &mut Seat<(), View<A>>, number: usize, actor: &A)
+fn say_spared<A: Actor>(
+    epoch: &PassTable<A>,
+    seat: &mut Seat<(), View<A>>,
+    number: usize,
+    actor: &A,
+)
     requires epoch { (seat.old.table_id ≡ epoch.now.id) × (0 < seat.old.table_id.words) }
     requires holds { seat.old.me ≡ (one seat.old.me.0.core number actor.now (seen_in seat.old.me.0), []) }
     ensures seat { (seat.new.table_id ≡ seat.old.table_id) × (seat.new.me.1 ≡ []) }

@@ -3,14 +3,14 @@ ghost use Rattle.std.specs.Prelude.{◌≡◌};
 ghost use Rattle.lxr_actor.specs.Steps.{DoesUnit};
 ghost use Rattle.lxr_shared_passes.specs.Seats.{Did, Sits};
 
-use crate::pass::Epoch;
+use crate::pass::PassTable;
 use crate::seated::Seated;
 use lxr_actor::Actor;
 
 /// A way to do units of actors of a type.
 pub trait Turning<A: Actor> {
     /// Does one unit of the actor that the seat holds, and no step of a finished one.
-    fn do_unit(actor: &mut A, seated: &mut Seated<A>, epoch: &Epoch<A>)
+    fn do_unit(actor: &mut A, seated: &mut Seated<A>, epoch: &PassTable<A>)
         requires seat { Sits A.machine epoch.now.id seated.old actor.old }
         ensures seat { Sits A.machine epoch.now.id seated.new actor.new }
         ensures unit { DoesUnit A.machine (Did A.machine) actor.old seated.old actor.new seated.new };
@@ -21,7 +21,7 @@ pub struct StepByStep;
 
 impl<A: Actor> Turning<A> for StepByStep {
     #[inline(always)]
-    fn do_unit(actor: &mut A, seated: &mut Seated<A>, epoch: &Epoch<A>) {
+    fn do_unit(actor: &mut A, seated: &mut Seated<A>, epoch: &PassTable<A>) {
         lxr_actor::do_unit(actor, seated, epoch);
     }
 }

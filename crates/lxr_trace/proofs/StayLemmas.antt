@@ -1,5 +1,5 @@
 -- What holds of a tracer holds of it from the first on.
-use Rattle.lxr_pocket.proofs.HelperLemmas as lemma
+use Rattle.lxr_helper.proofs.HelperLemmas as lemma
 use Rattle.lxr_trace.specs.Laws.{StaysSo}
 use Rattle.lxr_trace.specs.Lawful.{tracer_lawful}
 use Rattle.lxr_trace.specs.Steps.{tracer_work}

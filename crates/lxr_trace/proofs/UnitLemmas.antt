@@ -5,14 +5,14 @@ use Rattle.lxr_layout.specs.declared.Place.{Place}
 use Rattle.lxr_layout.specs.declared.limits.Regions.{Regions}
 use Rattle.lxr_base.specs.Roomy.{Roomy, pushed}
 use Rattle.lxr_actor.specs.declared.Action.{Action}
-use Rattle.lxr_pocket.specs.Words.{has_bit, references_in, referent_in}
-use Rattle.lxr_pocket.specs.Looks.{graying, header_look, reference_look, start_look, tracing_look}
-use Rattle.lxr_pocket.specs.Pockets.{kept}
-use Rattle.lxr_pocket.specs.Units.{Told, told}
-use Rattle.lxr_pocket.specs.HelperUnits as whole_unit
-use Rattle.lxr_pocket.specs.Helpers.{Outcome, ends, goes_to}
-use Rattle.lxr_pocket.specs.Helpers as helper
-use Rattle.lxr_pocket.proofs.HelperUnitLemmas as lemma
+use Rattle.lxr_helper.specs.Words.{has_bit, references_in, referent_in}
+use Rattle.lxr_helper.specs.Looks.{graying, header_look, reference_look, start_look, tracing_look}
+use Rattle.lxr_helper.specs.Pockets.{kept}
+use Rattle.lxr_helper.specs.Units.{Told, told}
+use Rattle.lxr_helper.specs.HelperUnits as whole_unit
+use Rattle.lxr_helper.specs.Helpers.{Outcome, ends, goes_to}
+use Rattle.lxr_helper.specs.Helpers as helper
+use Rattle.lxr_helper.proofs.HelperUnitLemmas as lemma
 use Rattle.lxr_trace.specs.declared.phases.Scan.{Scan}
 use Rattle.lxr_trace.specs.declared.phases.TraceEnd.{TraceEnd}
 use Rattle.lxr_trace.specs.declared.phases.TraceEnd.TheVariants.{Nothing}

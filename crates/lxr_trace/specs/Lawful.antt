@@ -3,11 +3,11 @@ use Rattle.std.proofs.Common.{◌≡◌, ℕ, ◌+◌, ◌-◌, ◌*◌, ◌^◌
 use Rattle.std.specs.Prelude.{◌&&◌, nat_lt, if◌then◌else◌, IsSome, Option, Some, None}
 use Rattle.lxr_layout.specs.declared.Place.{Place}
 use Rattle.lxr_layout.specs.declared.limits.Regions.{Regions}
-use Rattle.lxr_pocket.specs.Words.{InHeap, IsObject, has_bit, references_in, referent_in}
-use Rattle.lxr_pocket.specs.Helpers.{Outcome, ends, goes_to, tries_next}
-use Rattle.lxr_pocket.specs.HelperLaws.{IsInUnit, IsLawful, MayLead}
-use Rattle.lxr_pocket.proofs.HelperLemmas.{either}
-use Rattle.lxr_pocket.proofs.WordLemmas.{header_object, referent_within}
+use Rattle.lxr_helper.specs.Words.{InHeap, IsObject, has_bit, references_in, referent_in}
+use Rattle.lxr_helper.specs.Helpers.{Outcome, ends, goes_to, tries_next}
+use Rattle.lxr_helper.specs.HelperLaws.{IsInUnit, IsLawful, MayLead}
+use Rattle.lxr_helper.proofs.HelperLemmas.{either}
+use Rattle.lxr_helper.proofs.WordLemmas.{header_object, referent_within}
 use Rattle.lxr_trace.specs.declared.phases.Scan.{Scan}
 use Rattle.lxr_trace.specs.declared.phases.TraceEnd.{TraceEnd}
 use Rattle.lxr_trace.specs.declared.phases.TraceEnd.TheVariants.{Worked, Nothing, RememberFull}

@@ -1,7 +1,7 @@
 -- What holds in each phase of a tracer.
 use Rattle.std.specs.Prelude.{◌^◌, ◌<◌}
 use Rattle.lxr_layout.specs.declared.limits.Regions.{Regions}
-use Rattle.lxr_pocket.specs.Words.{InHeap, IsObject}
+use Rattle.lxr_helper.specs.Words.{InHeap, IsObject}
 use Rattle.lxr_trace.specs.declared.phases.Scan.{Scan}
 use Rattle.lxr_trace.specs.declared.phases.TracerPhase.{TracerPhase}
 use Rattle.lxr_trace.specs.declared.phases.TracerPhase.TheVariants as phase

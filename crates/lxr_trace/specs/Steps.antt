@@ -8,9 +8,9 @@ use Rattle.lxr_layout.specs.Runs.{word_of_entry}
 use Rattle.lxr_actor.specs.declared.Action.{Action}
 use Rattle.lxr_actor.specs.declared.Kindred.TheVariants.{Add, Store}
 use Rattle.lxr_actor.specs.Machine.{Machine}
-use Rattle.lxr_pocket.specs.Helpers.{Outcome, Work, ends, goes_to, helper_machine, tries_next}
-use Rattle.lxr_pocket.specs.Words.{has_bit, references_in, referent_in}
-use Rattle.lxr_pocket.specs.Looks.{bit_look, bit_setting, graying, header_look, load, reference_look, start_look, tracing_look}
+use Rattle.lxr_helper.specs.Helpers.{Outcome, Work, ends, goes_to, helper_machine, tries_next}
+use Rattle.lxr_helper.specs.Words.{has_bit, references_in, referent_in}
+use Rattle.lxr_helper.specs.Looks.{bit_look, bit_setting, graying, header_look, load, reference_look, start_look, tracing_look}
 use Rattle.lxr_trace.specs.declared.phases.Scan.{Scan}
 use Rattle.lxr_trace.specs.declared.phases.TraceEnd.{TraceEnd}
 use Rattle.lxr_trace.specs.declared.phases.TraceEnd.TheVariants.{Worked, Nothing, RememberFull}

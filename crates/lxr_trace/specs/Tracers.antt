@@ -1,6 +1,6 @@
 -- What holds of each tracer, and what becomes of it between its steps.
 use Rattle.lxr_layout.specs.declared.limits.Limits.{Limits}
-use Rattle.lxr_pocket.specs.Helpers as helper
+use Rattle.lxr_helper.specs.Helpers as helper
 use Rattle.lxr_trace.specs.Tracing.{TracerState}
 use Rattle.lxr_trace.specs.Steps.{tracer_work}
 

@@ -1,6 +1,6 @@
 -- What contracts see of a tracer.
 use Rattle.std.specs.Prelude.{Bool, true, false}
-use Rattle.lxr_pocket.specs.declared.states.HelperState.{HelperState}
+use Rattle.lxr_helper.specs.declared.states.HelperState.{HelperState}
 use Rattle.lxr_trace.specs.declared.phases.TraceEnd.{TraceEnd}
 use Rattle.lxr_trace.specs.declared.phases.TracerPhase.{TracerPhase}
 use Rattle.lxr_trace.specs.declared.phases.TracerPhase.TheVariants as phase

@@ -3,11 +3,11 @@ use Rattle.std.specs.Prelude.{◌≡◌, ℕ, ◌+◌, ◌<◌, ◌≤◌, Bool,
 use Rattle.lxr_layout.specs.declared.Place.{Place}
 use Rattle.lxr_layout.specs.declared.limits.Regions.{Regions}
 use Rattle.lxr_base.specs.Roomy.{Roomy}
-use Rattle.lxr_pocket.specs.Pockets.{kept}
-use Rattle.lxr_pocket.specs.Words.{has_bit, references_in, referent_in}
-use Rattle.lxr_pocket.specs.HelperUnits as helper
-use Rattle.lxr_pocket.specs.Looks.{graying, header_look, reference_look, start_look, tracing_look}
-use Rattle.lxr_pocket.specs.Units.{Told, told}
+use Rattle.lxr_helper.specs.Pockets.{kept}
+use Rattle.lxr_helper.specs.Words.{has_bit, references_in, referent_in}
+use Rattle.lxr_helper.specs.HelperUnits as helper
+use Rattle.lxr_helper.specs.Looks.{graying, header_look, reference_look, start_look, tracing_look}
+use Rattle.lxr_helper.specs.Units.{Told, told}
 use Rattle.lxr_trace.specs.declared.phases.TraceEnd.{TraceEnd}
 use Rattle.lxr_trace.specs.declared.phases.TraceEnd.TheVariants.{Nothing}
 use Rattle.lxr_trace.specs.Words.{counter_in, is_chosen, line_of_field, remember_room}

@@ -1,7 +1,7 @@
 //! Tracers.
 
 use crate::phases::{TraceEnd, TracerPhase};
-use lxr_pocket::Helper;
+use lxr_helper::Helper;
 
 /// A tracer, as a machine. One unit is one object.
 ///

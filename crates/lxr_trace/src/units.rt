@@ -1,20 +1,20 @@
 //! Units: what each step of a tracer does, and where it leads.
 ghost use Rattle.std.specs.Prelude.{◌≡◌, ◌+◌, ◌<◌, ◌≤◌, true};
 ghost use Rattle.lxr_layout.specs.Places.{IsPlace};
-ghost use Rattle.lxr_pocket.specs.Indexes.{HaveIndexes};
-ghost use Rattle.lxr_pocket.specs.Words.{InHeap, IsObject};
-ghost use Rattle.lxr_pocket.specs.Helpers.{after_in, led};
+ghost use Rattle.lxr_helper.specs.Indexes.{HaveIndexes};
+ghost use Rattle.lxr_helper.specs.Words.{InHeap, IsObject};
+ghost use Rattle.lxr_helper.specs.Helpers.{after_in, led};
 ghost use Rattle.lxr_trace.specs.Phases.{IsIn, IsScan};
 ghost use Rattle.lxr_trace.specs.Steps.{at_reference, scanned, tracer_work};
 
 use crate::phases::{Scan, TraceEnd, TracerPhase};
 use crate::words::{counter_in, is_chosen, line_of_field, remember_room};
 use lxr_actor::Action;
+use lxr_helper::{
+    HelperState, Phase, Unit, bit_look, bit_setting, has_bit, references_in, referent_in,
+};
 use lxr_layout::{
     Place, REMEMBERED_CURSOR, Regions, TRACING_WORD, block_of, entry_word, field_word, word_of,
-};
-use lxr_pocket::{
-    HelperState, Phase, Unit, bit_look, bit_setting, has_bit, references_in, referent_in,
 };
 
 /// What a tracer has at hand.

@@ -1,7 +1,7 @@
 //! Threads of a host that share a heap and come and go: each takes whichever pass is at home, and whoever finds all of them at home makes the pause.
 use lxr_graph::{Op, Reply};
 use lxr_layout::{Name, Shape};
-use lxr_live::{Answer, Heap, Paused, Resumed, Station};
+use lxr_shared_heap::{Answer, Heap, Paused, Resumed, Station};
 use std::alloc::Global;
 use std::sync::{Mutex, Wait};
 

@@ -5,7 +5,7 @@ ghost use Rattle.lxr_shared_passes.specs.Passing.{IsSamePass};
 ghost use Rattle.test_threads.specs.Serving.{IsServed, Ran};
 
 use lxr_actor::Actor;
-use lxr_shared_passes::{Epoch, Pass, close_passes, open_passes};
+use lxr_shared_passes::{ActorPass, PassTable, close_passes, open_passes};
 use lxr_tables::PlainWords;
 use std::alloc::{AllocError, Global};
 use std::thread;
@@ -33,8 +33,8 @@ pub fn run_passes<A: Actor + Drop + Send + Sync, R: Threads + Sync>(
 /// Gives each pass so many turns.
 fn all_turns<A: Actor + Send + Sync, R: Threads + Sync>(
     rt: &R,
-    epoch: &Epoch<A>,
-    passes: &mut [Pass<A>],
+    epoch: &PassTable<A>,
+    passes: &mut [ActorPass<A>],
     threads: usize,
     rounds: usize,
 )
@@ -48,7 +48,7 @@ fn all_turns<A: Actor + Send + Sync, R: Threads + Sync>(
         rt,
         passes,
         threads,
-        &|_, pass: &mut Pass<A>|
+        &|_, pass: &mut ActorPass<A>|
             requires { pass.old.epoch ≡ epoch.now.id }
             ensures { (pass.new.epoch ≡ pass.old.epoch) × (pass.new.number ≡ pass.old.number) × IsServed A.machine rounds pass.new }
         { turns(epoch, pass, rounds) },
@@ -56,7 +56,7 @@ fn all_turns<A: Actor + Send + Sync, R: Threads + Sync>(
 }
 
 /// Gives one pass so many turns.
-fn turns<A: Actor>(epoch: &Epoch<A>, pass: &mut Pass<A>, rounds: usize)
+fn turns<A: Actor>(epoch: &PassTable<A>, pass: &mut ActorPass<A>, rounds: usize)
     requires { pass.old.epoch ≡ epoch.now.id }
     ensures pass { IsSamePass pass.old pass.new }
     ensures served { IsServed A.machine rounds pass.new }

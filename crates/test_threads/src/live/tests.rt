@@ -2,7 +2,7 @@
 use crate::live::Host;
 use lxr_graph::{Op, Reply};
 use lxr_layout::{Name, Shape};
-use lxr_live::{Answer, Arrival, Heap, NotOut, Paused, Refused, Resumed, Settings, Station};
+use lxr_shared_heap::{Answer, Arrival, Heap, NotOut, Paused, Refused, Resumed, Settings, Station};
 use std::alloc::{AllocError, Global};
 use std::sync::{Mutex, Wait};
 use std::test::Fail;

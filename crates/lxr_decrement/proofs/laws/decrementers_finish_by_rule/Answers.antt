@@ -1,4 +1,4 @@
-use Rattle.lxr_pocket.proofs.HelperLemmas.{finished_by_rule}
+use Rattle.lxr_helper.proofs.HelperLemmas.{finished_by_rule}
 use Rattle.lxr_decrement.specs.Steps.{decrementer_work}
 use Rattle.lxr_decrement.specs.Lawful.{decrementer_lawful}
 use Rattle.lxr_decrement.proofs.laws.decrementers_finish_by_rule.Goals as goal

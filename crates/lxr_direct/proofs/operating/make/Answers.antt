@@ -1,5 +1,5 @@
 use Rattle.std.proofs.Common.{subst}
-use Rattle.lxr_run_placing.specs.Placing.{Serves}
+use Rattle.lxr_placing.specs.Placing.{Serves}
 use Rattle.lxr_direct.proofs.MakingLemmas.{make_done, next_made}
 use Rattle.lxr_direct.proofs.operating.make.Goals as goal
 

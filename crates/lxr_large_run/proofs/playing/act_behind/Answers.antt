@@ -1,5 +1,5 @@
 use Rattle.std.proofs.Common.{◌∙◌, inl, inr, subst, sym, true≢false}
-use Rattle.lxr_large_heap.specs.Acting.{Acts}
+use Rattle.lxr_heap.specs.Acting.{Acts}
 use Rattle.lxr_large_run.proofs.playing.act_behind.Goals as goal
 
 pub unreachable-requires : goal.unreachable-requires

@@ -1,5 +1,5 @@
 use Rattle.std.proofs.Common.{subst}
-use Rattle.lxr_large_heap.specs.Pausing.{PausesHeap}
+use Rattle.lxr_heap.specs.Pausing.{PausesHeap}
 use Rattle.lxr_large_run.proofs.CallLemmas.{told_counts, told_pauses}
 use Rattle.lxr_large_run.proofs.playing.pause_and_tell.Goals as goal
 

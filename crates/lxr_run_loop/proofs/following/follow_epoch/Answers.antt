@@ -5,7 +5,7 @@ use Rattle.lxr_image.specs.declared.space.Space.{Space}
 use Rattle.lxr_text_print.proofs.PageLemmas.{OnErr-always}
 use Rattle.lxr_core.specs.declared.actors.AnyActor.{AnyActor}
 use Rattle.lxr_core.specs.Actors.{mutators_in}
-use Rattle.lxr_run_serve.specs.Serving.{KeepsHelpers}
+use Rattle.lxr_serve.specs.Serving.{KeepsHelpers}
 use Rattle.lxr_run_invariant.specs.LoopInvariant.{done_of}
 use Rattle.lxr_run_loop.specs.Following.{IsNextDue}
 use Rattle.lxr_run_loop.specs.Serving.{AllAreAnswered, AllAreCutOff, CanServeAll}

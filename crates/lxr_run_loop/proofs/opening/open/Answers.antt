@@ -1,8 +1,8 @@
 use Rattle.std.proofs.Common.{ap}
 use Rattle.lxr_layout.specs.declared.limits.Limits.{Limits}
 use Rattle.lxr_run_history.specs.Left.{run_limits}
-use Rattle.lxr_run_placing.proofs.OpenedListLemmas.{opened_is_listed}
-use Rattle.lxr_run_placing.proofs.OpeningLemmas.{opened_is_quiescent}
+use Rattle.lxr_placing.proofs.OpenedListLemmas.{opened_is_listed}
+use Rattle.lxr_placing.proofs.OpeningLemmas.{opened_is_quiescent}
 use Rattle.lxr_run_loop.proofs.OpeningLemmas.{opened_run}
 use Rattle.lxr_run_loop.proofs.opening.open.Goals as goal
 

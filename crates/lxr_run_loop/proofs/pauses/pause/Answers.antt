@@ -4,14 +4,14 @@ use Rattle.lxr_layout.specs.declared.Name.{Name}
 use Rattle.lxr_image.specs.declared.space.Space.{Space}
 use Rattle.lxr_image.specs.declared.space.Tally.{Tally}
 use Rattle.lxr_invariant.specs.AbstractState.{AbstractState, paused}
-use Rattle.lxr_run_watch.specs.Sights.{Looks, sight_of}
+use Rattle.lxr_sights.specs.Sights.{Looks, sight_of}
 use Rattle.lxr_graph.specs.History.{report_of}
 use Rattle.lxr_text_stream.specs.Streams.{Appends, AppendsFront}
 use Rattle.lxr_pause_queue.specs.Entries.{with_told}
-use Rattle.lxr_run_pause.specs.declared.Ask.{Ask}
-use Rattle.lxr_run_pause.specs.declared.Pace.{Pace}
-use Rattle.lxr_run_pause.specs.Deciding.{IsPace}
-use Rattle.lxr_run_pause.specs.Pausing.{CanPause, Pauses}
+use Rattle.lxr_one_pause.specs.declared.Ask.{Ask}
+use Rattle.lxr_one_pause.specs.declared.Pace.{Pace}
+use Rattle.lxr_one_pause.specs.Deciding.{IsPace}
+use Rattle.lxr_one_pause.specs.Pausing.{CanPause, Pauses}
 use Rattle.lxr_words.specs.declared.Options.{Options}
 use Rattle.lxr_run_invariant.specs.LoopInvariant.{pace_of}
 use Rattle.lxr_run_invariant.proofs.PauseLemmas.{can_pause, cut_off_after, safepoint_by, paused_after}

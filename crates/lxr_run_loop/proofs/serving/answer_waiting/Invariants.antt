@@ -2,7 +2,7 @@ use Rattle.std.proofs.Common.{◌≡◌, ℕ, ◌+◌, ◌≤◌, false, List, c
 use Rattle.lxr_graph.specs.History.{Item}
 use Rattle.lxr_invariant.specs.AbstractState.{AbstractState}
 use Rattle.lxr_core.specs.Actors.{mutators_in}
-use Rattle.lxr_run_serve.specs.Serving.{KeepsHelpers}
+use Rattle.lxr_serve.specs.Serving.{KeepsHelpers}
 use Rattle.lxr_run_invariant.specs.LoopInvariant.{IsServing, Task, left_of, pace_of}
 use Rattle.lxr_run_history.specs.Sums.{totals_of}
 use Rattle.lxr_run_loop.specs.Courses.{AreFew}

@@ -5,7 +5,7 @@ use Rattle.lxr_actor.specs.Run.{core_of, run}
 use Rattle.lxr_core.specs.declared.actors.AnyActor.{AnyActor}
 use Rattle.lxr_core.specs.Actors.{any_machine, mutators_in}
 use Rattle.lxr_core.specs.Closing.{AreFinished}
-use Rattle.lxr_run_watch.specs.Gates.{HavePassed}
+use Rattle.lxr_sights.specs.Gates.{HavePassed}
 use Rattle.lxr_run_replay.specs.Replaying.{CanBeReplayed, some_act}
 use Rattle.lxr_run_replay.specs.Finishing.{StepsOfFirst}
 use Rattle.lxr_run_replay.specs.Recording.{AreCallsOf, calls_in}

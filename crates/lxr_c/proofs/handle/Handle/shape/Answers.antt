@@ -1,6 +1,6 @@
 use Rattle.std.proofs.Common.{◌∙◌, ap, subst, sym, List}
 use Rattle.lxr_large_model.specs.History.{LargeItem}
-use Rattle.lxr_large_heap.specs.Holding.{IsHeapOf}
+use Rattle.lxr_heap.specs.Holding.{IsHeapOf}
 use Rattle.lxr_c.specs.declared.host.HostHeap.{HostHeap}
 use Rattle.lxr_c.specs.Keeping.{kept_of}
 use Rattle.lxr_c.specs.Looking.{SeesShape}

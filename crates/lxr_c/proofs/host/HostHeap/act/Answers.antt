@@ -1,8 +1,8 @@
 use Rattle.std.proofs.Common.{refl, inr, subst, arith, true, false, List}
 use mathlib.Core.Logic.{∥∥₁_elim, ∥∥₁_prop}
 use Rattle.lxr_large_model.specs.History.{LargeItem}
-use Rattle.lxr_large_heap.specs.Acting.{Acts as HeapActs}
-use Rattle.lxr_large_heap.specs.Holding.{IsHeapOf}
+use Rattle.lxr_heap.specs.Acting.{Acts as HeapActs}
+use Rattle.lxr_heap.specs.Holding.{IsHeapOf}
 use Rattle.lxr_c.proofs.RoomLemmas.{acts_behind, asked_number, behind_room, behind_serves, replied_needs_none, replied_room, some_wants_none, weaker_room}
 use Rattle.lxr_c.proofs.host.HostHeap.act.Goals as goal
 

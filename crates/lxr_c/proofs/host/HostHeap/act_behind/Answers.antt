@@ -1,6 +1,6 @@
 use Rattle.std.proofs.Common.{◌∙◌, refl, inl, inr, subst, sym, true≢false}
 use mathlib.Core.Logic.{∥∥₁_elim}
-use Rattle.lxr_large_heap.specs.Acting.{Acts as HeapActs}
+use Rattle.lxr_heap.specs.Acting.{Acts as HeapActs}
 use Rattle.lxr_c.proofs.host.HostHeap.act_behind.Goals as goal
 
 pub unreachable-requires : goal.unreachable-requires

@@ -1,6 +1,6 @@
 use Rattle.std.proofs.Common.{refl, inl, inr, subst}
 use mathlib.Core.Logic.{∥∥₁_elim}
-use Rattle.lxr_large_heap.specs.Acting.{Acts as HeapActs}
+use Rattle.lxr_heap.specs.Acting.{Acts as HeapActs}
 use Rattle.lxr_c.proofs.OperationLemmas.{quiet_log, quiet_may, quiet_place}
 use Rattle.lxr_c.proofs.RoomLemmas.{quiet_room}
 use Rattle.lxr_c.proofs.host.HostHeap.reply.Goals as goal

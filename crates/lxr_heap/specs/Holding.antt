@@ -1,0 +1,115 @@
+-- What a heap holds that a thread calls directly: it is always that of a legal history, and stands for the state that this leads to.
+use Rattle.std.specs.Prelude.{◌≡◌, ℕ, ◌+◌, ◌*◌, ◌≤◌, ◌↔◌, ◌⊎◌, false, None, Some, List, [], ◌∷◌, IsTrue, length}
+use Rattle.std.specs.List.{AllByRecursion}
+use Rattle.lxr_layout.specs.declared.limits.Limits.{Limits}
+use Rattle.lxr_layout.specs.declared.Name.{Name}
+use Rattle.lxr_layout.specs.declared.TheConstants.{DECREMENT_COUNT, WORDS_IN_BLOCK}
+use Rattle.lxr_graph.specs.declared.Reply.{Reply}
+use Rattle.lxr_graph.specs.declared.Reply.TheVariants as reply
+use Rattle.lxr_graph.specs.Names.{has, same_name}
+use Rattle.lxr_graph.specs.History.{PauseReport}
+use Rattle.lxr_graph.specs.State.{next_name}
+use Rattle.lxr_image.specs.Opened.{no_tally}
+use Rattle.lxr_image.specs.Spaces.{tables_of}
+use Rattle.lxr_model.specs.Moments.{Moment}
+use Rattle.lxr_model.specs.Reachable.{Reachable}
+use Rattle.lxr_invariant.specs.AbstractState.{AbstractState, no_report}
+use Rattle.lxr_invariant.specs.Quiescent.{IsAtRest}
+use Rattle.lxr_full.specs.Room.{HasWorld}
+use Rattle.lxr_large_model.specs.Full.{IsFresh, LargeTerms}
+use Rattle.lxr_large_model.specs.History.{LargeItem, Called, Paused, Renewed, large_moment, large_state}
+use Rattle.lxr_large_model.specs.Pauses.{IsLegalLarge}
+use Rattle.lxr_large_model.specs.State.{Large}
+use Rattle.lxr_large_bodies.specs.Bodies.{Body, body_of}
+use Rattle.lxr_large_bodies.specs.Kept.{HoldsBodies}
+use Rattle.lxr_heap.specs.declared.heap.Heap.{Heap}
+
+-- the limits of the space: one thread, whose log has 1,024 entries; no trace runs beside it, so nothing is remembered for one
+abbrev pub limits_of : ℕ → Limits
+limits_of blocks = record { blocks = blocks; threads = 1; log = 1024; remember = 1 }
+
+-- the blocks of the heap, and those for bodies
+abbrev pub terms_of : Heap → LargeTerms
+terms_of x = record { blocks = x.space.limits.blocks; bodies = x.bodies.blocks }
+
+-- the report of the last pause of a history; a renewal leaves it as it was
+abbrev pub last_report : List LargeItem → PauseReport
+last_report [] = no_report
+last_report (Called o r ∷ h) = last_report h
+last_report (Paused report ∷ h) = report
+last_report (Renewed ns ∷ h) = last_report h
+
+-- what a space stands for after a history, with objects at these places
+abbrev pub abstract_after : List LargeItem → (Name → ℕ) → AbstractState
+abstract_after h at = record { moment = large_moment h; at = at; reported = last_report h }
+
+-- Nothing has come behind a pause that collected: nothing is made or written since, and exactly what is reachable is unreclaimed.
+pub record IsCollected (m : Moment) : Type 0 where
+  pub made : m.made ≡ []
+  pub written : m.written ≡ []
+  pub exactly : (n : Name) → IsTrue (has m.unreclaimed n) ↔ Reachable m.state n
+
+-- a body is that of another name, and stands before or behind the other
+pub record IsOther (a b : Body) : Type 0 where
+  pub named : same_name a.name b.name ≡ false
+  pub apart : (a.first + a.blocks ≤ b.first) ⊎ (b.first + b.blocks ≤ a.first)
+
+-- a body has whole blocks among so many
+pub record IsWhole (blocks : ℕ) (b : Body) : Type 0 where
+  pub words : length b.words ≡ WORDS_IN_BLOCK * b.blocks
+  pub some : 1 ≤ b.blocks
+  pub within : b.first + b.blocks ≤ blocks
+
+-- bodies are whole blocks, no two share one, and each is of a name of its own
+abbrev pub AreApart : ℕ → List Body → Type 0
+AreApart blocks [] = Unit {0}
+AreApart blocks (b ∷ bs) = IsWhole blocks b × AllByRecursion (IsOther b) bs × AreApart blocks bs
+
+-- a large name is one of so many that were made
+pub record IsMade (made : ℕ) (l : Large) : Type 0 where
+  pub thread : l.name.thread ≡ 1
+  pub serial : l.name.serial ≤ made
+
+-- how many objects were made, with the one of which a reply tells
+abbrev pub made_with : ℕ → Reply → ℕ
+made_with made (reply.New n) = made + 1
+made_with made _ = made
+
+-- Numbers tell how many objects there are: the last pause left so many but for the world, and they are some of those that were made before it; all
+-- others that were made are those that were made since.
+pub record CountsObjects (left made_before made : ℕ) (m : Moment) : Type 0 where
+  pub unreclaimed : left + 1 ≡ length m.unreclaimed
+  pub few : left ≤ made_before
+  pub young : made_before + length m.made ≡ made
+
+-- a body that was held and still is has the blocks that it had: bodies never move
+abbrev pub StayInBlocks : List Body → List Body → Type 0
+StayInBlocks before after = (n : Name) (a b : Body) → body_of before n ≡ Some a → body_of after n ≡ Some b → (b.first ≡ a.first) × (b.blocks ≡ a.blocks)
+
+-- A heap is that of a history: its space is at rest for the moment that the history leads to, and no trace runs; its bodies are those of the
+-- large names that are kept; it knows how many names were made and how many objects there are, and whether a pause is fresh, where no decrement
+-- waits; and the history is legal, so each reply was that of a step, or `full` where it may be, and each report that of its pause.
+pub record IsHeapOf (x : Heap) (h : List LargeItem) : Type 0 where
+  pub legal : IsLegalLarge (terms_of x) h
+  pub at : Name → ℕ
+  pub rests : IsAtRest x.space (abstract_after h at)
+  pub untraced : (large_moment h).trace ≡ None
+  pub limits : x.space.limits ≡ limits_of x.space.limits.blocks
+  pub tally : x.space.tally ≡ record no_tally { pauses = x.space.pauses }
+  pub state : (large_moment h).state ≡ (large_state h).small
+  pub world : HasWorld (large_state h).small.graph
+  pub next : next_name (large_state h).small.graph 1 ≡ record { thread = 1; serial = x.made + 1 }
+  pub counts : CountsObjects x.left x.made_before x.made (large_moment h)
+  pub names : AllByRecursion (IsMade x.made) (large_state h).large
+  pub bodies : HoldsBodies x.bodies (large_moment h) (large_state h).large
+  pub apart : AreApart x.bodies.blocks x.bodies.bodies
+  pub fresh : IsTrue x.fresh ↔ IsFresh h
+  pub collected : IsFresh h → IsCollected (large_moment h)
+  pub drained : IsFresh h → (tables_of x.space).cursors DECREMENT_COUNT ≡ 0
+
+-- a heap without a history yet: one of these blocks, and of these for bodies; nothing is told of counts
+pub record IsOpenedHeap (x : Heap) (blocks bodies : ℕ) : Type 0 where
+  pub holds : IsHeapOf x []
+  pub made : x.made ≡ 0
+  pub terms : terms_of x ≡ record { blocks = blocks; bodies = bodies }
+  pub untold : x.space.report.told.items ≡ []

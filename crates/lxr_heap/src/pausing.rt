@@ -1,0 +1,66 @@
+//! One pause of a heap.
+ghost use Rattle.std.specs.Prelude.{◌≡◌, ◌≢◌, ◌+◌, ◌^◌, ◌%◌, ◌<◌, ◌≤◌, List, [], if◌then◌else◌, length};
+ghost use Rattle.lxr_large_model.specs.History.{LargeItem};
+ghost use Rattle.lxr_one_pause.specs.declared.Ask.TheVariants as ask;
+ghost use Rattle.lxr_one_pause.specs.Deciding.{IsPace};
+ghost use Rattle.lxr_heap.specs.Holding.{IsHeapOf};
+ghost use Rattle.lxr_heap.specs.Pausing.{PausesHeap};
+
+use crate::heap::Heap;
+use lxr_graph::Report;
+use lxr_one_pause::{Ask, Pace, one_pause};
+
+/// A pace by which no trace begins at the pause of this number: of two numbers that follow each other it is no multiple of both, for a number
+/// below their product.
+fn untraced_pace(number: u32) -> Pace
+    requires { 1 ≤ number }
+    ensures pace { IsPace result }
+    ensures apart { number % result.trace ≢ 0 }
+{
+    if number % 1_000_000 == 0 {
+        Pace {
+            trace: 999_999,
+            within: 1,
+        }
+    } else {
+        Pace {
+            trace: 1_000_000,
+            within: 1,
+        }
+    }
+}
+
+/// What the pause is asked for.
+fn asked(collect: bool) -> Ask
+    ensures { result ≡ (if collect then ask.Collect else ask.Ordinary) }
+{
+    if collect { Ask::Collect } else { Ask::Ordinary }
+}
+
+/// How many objects a pause leaves, where the one before it left so many, by its report.
+fn left_after(left: u32, report: &Report) -> u32
+    requires few { left + length report.now.promoted.items < 2 ^ 32 }
+    requires gone { length report.now.dead.items + length report.now.swept.items ≤ left + length report.now.promoted.items }
+    ensures { result + (length report.now.dead.items + length report.now.swept.items) ≡ left + length report.now.promoted.items }
+{
+    let promoted = report.promoted.len() as u32;
+    let gone = (report.dead.len() + report.swept.len()) as u32;
+    left + promoted - gone
+}
+
+/// Makes a pause. What is unreachable is reclaimed where it is to collect, and else what counts show to be dead; bodies stay where their names
+/// do. Nothing is told of counts.
+pub(crate) fn pause(heap: &mut Heap, collect: bool)
+    requires holds { (h : List LargeItem) × IsHeapOf heap.old h }
+    requires number { heap.old.space.pauses + 1 < 2 ^ 32 }
+    ensures pauses { (h : List LargeItem) → IsHeapOf heap.old h → PausesHeap heap.old heap.new h collect }
+    ensures untold { heap.new.space.report.told.items ≡ [] }
+{
+    let ask = asked(collect);
+    let pace = untraced_pace(heap.space.pauses + 1);
+    one_pause(&mut heap.space, ask, pace);
+    heap.bodies.after_pause(&heap.space.report);
+    heap.left = left_after(heap.left, &heap.space.report);
+    heap.made_before = heap.made;
+    heap.fresh = collect;
+}

@@ -1,0 +1,16 @@
+//! The counts of what the last pause left, told behind it.
+ghost use Rattle.std.specs.Prelude.{List};
+ghost use Rattle.lxr_large_model.specs.History.{LargeItem};
+ghost use Rattle.lxr_heap.specs.Holding.{IsHeapOf};
+ghost use Rattle.lxr_heap.specs.Telling.{TellsHeap};
+
+use crate::heap::Heap;
+use lxr_pause_queue::tell_counts;
+
+/// Lists the world and each object that the last pause left, with its count.
+pub(crate) fn tell(heap: &mut Heap)
+    requires holds { (h : List LargeItem) × IsHeapOf heap.old h }
+    ensures { (h : List LargeItem) → IsHeapOf heap.old h → TellsHeap heap.old heap.new h }
+{
+    tell_counts(&mut heap.space);
+}

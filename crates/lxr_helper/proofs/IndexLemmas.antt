@@ -1,0 +1,28 @@
+-- The regions of the largest space have few enough words.
+use Rattle.std.proofs.Common.{◌+◌, ◌*◌, ◌≤◌, mul-le-mul, arith}
+use Rattle.lxr_layout.specs.declared.limits.Limits.{Limits}
+use Rattle.lxr_layout.specs.Spaces.{AreLimits}
+use Rattle.lxr_helper.specs.Indexes.{SpacesHaveIndexes}
+
+-- the list of decrements has few words
+few_listed : (l : Limits) → AreLimits l → l.threads * (l.log + 16) ≤ 16 * 65552
+few_listed l are =
+    let threads : l.threads ≤ 16 = omega arith in
+    let entries : l.log + 16 ≤ 65552 = omega arith in
+    mul-le-mul threads entries
+
+pub have_indexes : SpacesHaveIndexes
+have_indexes l are = record {
+  size = omega arith;
+  heap = omega arith;
+  counts = omega arith;
+  starts = omega arith;
+  marks = omega arith;
+  grays = omega arith;
+  dones = omega arith;
+  reuse = omega arith;
+  states = omega arith;
+  decs = omega arith;
+  remembered = omega arith;
+  cursors = omega (arith, few_listed l are);
+}

@@ -1,6 +1,0 @@
-use Rattle.std.proofs.Common.{subst}
-use Rattle.lxr_live.specs.Heaps.{IsPassOf}
-use Rattle.lxr_live.proofs.heap.Stage.paused.Goals as goal
-
-pub close_and_pause-requires-clause-handed : goal.close_and_pause-requires-clause-handed
-close_and_pause-requires-clause-handed w c = λ number s at. subst (λ x. IsPassOf x number s) c.in-Within.is (c.requires.handed number s at)

@@ -1,5 +1,0 @@
-use Rattle.lxr_live.proofs.HeapLemmas.{heaps_have_histories as histories}
-use Rattle.lxr_live.proofs.heap.heaps_have_histories.Goals as goal
-
-pub returns : goal.returns
-returns c = histories

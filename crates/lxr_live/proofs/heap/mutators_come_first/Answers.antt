@@ -1,5 +1,0 @@
-use Rattle.lxr_live.proofs.TellingLemmas.{mutators_come_first as first}
-use Rattle.lxr_live.proofs.heap.mutators_come_first.Goals as goal
-
-pub returns : goal.returns
-returns c = first

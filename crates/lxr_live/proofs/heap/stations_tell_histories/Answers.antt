@@ -1,5 +1,0 @@
-use Rattle.lxr_live.proofs.TellingLemmas.{stations_tell_histories as told}
-use Rattle.lxr_live.proofs.heap.stations_tell_histories.Goals as goal
-
-pub returns : goal.returns
-returns c = told

@@ -1,5 +1,0 @@
-use Rattle.lxr_run_watch.proofs.CopyLemmas.{roomy_spaces_fit}
-use Rattle.lxr_run_watch.proofs.laws.roomy_spaces_fit.Goals as goal
-
-pub returns : goal.returns
-returns c = roomy_spaces_fit

@@ -1,0 +1,293 @@
+-- A unit of an actor changes nothing of what it was asked for, and leaves its replies or adds one to them.
+use Rattle.std.proofs.Common.{◌≡◌, ◌∙◌, ℕ, ◌+◌, ◌-◌, Bool, true, false, Option, Some, None, List, [], ◌∷◌, ◌++◌, length, length-append, inl, inr, ⊎_elim, refl, sym, ap, subst, arith}
+use Rattle.std.specs.Prelude.{◌&&◌, ◌⊎◌, if◌then◌else◌, nat_eq, nat_le, nat_lt, slice_get, slice_index}
+use Rattle.lxr_layout.specs.declared.LogEntry.{LogEntry}
+use Rattle.lxr_layout.specs.declared.Place.{Place}
+use Rattle.lxr_layout.specs.declared.Shape.{Shape}
+use Rattle.lxr_layout.specs.Objects.{header_of, word_count}
+use Rattle.lxr_layout.specs.Places.{place_in}
+use Rattle.lxr_base.specs.Roomy.{Roomy}
+use Rattle.lxr_graph.specs.declared.Op.{Op}
+use Rattle.lxr_graph.specs.declared.Op.TheVariants as op
+use Rattle.lxr_graph.specs.declared.Reply.{Reply}
+use Rattle.lxr_graph.specs.declared.Reply.TheVariants as reply
+use Rattle.lxr_actor.specs.declared.Event.TheVariants.{Order}
+use Rattle.lxr_actor.specs.Run.{run}
+use Rattle.lxr_alloc.specs.Spans.{block_span, run_span}
+use Rattle.lxr_barrier.specs.declared.StoreEnd.{StoreEnd}
+use Rattle.lxr_barrier.specs.declared.StoreEnd.TheVariants as store_end
+use Rattle.lxr_barrier.specs.Storing.{Storing, end_of as store_end_of, log_after, store_after}
+use Rattle.lxr_mutator.specs.declared.phases.MutEnd.TheVariants as ends
+use Rattle.lxr_mutator.specs.declared.phases.MutatorPhase.{MutatorPhase}
+use Rattle.lxr_mutator.specs.declared.phases.MutatorPhase.TheVariants as phase
+use Rattle.lxr_mutator.specs.declared.phases.Stop.TheVariants as stop
+use Rattle.std.specs.Option.{option_or}
+use Rattle.lxr_mutator.specs.Mutating.{Mutating, nil, op_now, register, reply_in, rests_in}
+use Rattle.lxr_mutator.specs.Orders.{takes_order, with_order}
+use Rattle.lxr_mutator.specs.Mutators.{MayTakeOrder}
+use Rattle.lxr_mutator.proofs.OrderLemmas.{takes_order_decides}
+use Rattle.lxr_mutator.specs.Operating.{dest_of, found_reply, index_of, indexed_fields}
+use Rattle.lxr_mutator.specs.Steps as mutator
+use Rattle.lxr_core.specs.declared.actors.AnyActor.{AnyActor}
+use Rattle.lxr_core.specs.declared.actors.AnyActor.TheVariants as any
+use Rattle.lxr_core.specs.Actors.{any_machine}
+use Rattle.lxr_shared.proofs.UnitEnds.{acted_actor}
+use Rattle.lxr_shared_passes.specs.Passing.{DoesStep, GoesOn, Passing, Told, Turned}
+use Rattle.lxr_shared_heap.specs.declared.station.Answer.{Answer}
+use Rattle.lxr_shared_heap.specs.declared.station.Answer.TheVariants as answer
+use Rattle.lxr_shared_heap.specs.Stations.{HasAnswered, HasGoneOn, HasNoMore, HasTurned, IsNoOrder, IsOpen, TakesUp, asked, newest_of, replied}
+
+-- no reply came, or one came and the actor rests
+pub record Grows (a b : AnyActor) : Type 0 where
+  pub same : asked b ≡ asked a
+  pub replies : (replied b ≡ replied a) ⊎ ((r : Reply) × (replied b ≡ replied a ++ r ∷ []) × (any_machine.rests b ≡ true))
+
+-- ---- a step of a mutator
+
+abbrev Goes : Mutating → Mutating → Type 0
+Goes m x = Grows (any.Mutator m) (any.Mutator x)
+
+-- nothing of the two changes
+stays : (m x : Mutating) → x.operations ≡ m.operations → x.replies.items ≡ m.replies.items → Goes m x
+stays m x same items = record { same = same; replies = inl items }
+
+either : (m x y : Mutating) (b : Bool) → Goes m x → Goes m y → Goes m (if b then x else y)
+either m x y true first second = first
+either m x y false first second = second
+
+in_either : (m : Mutating) (p q : MutatorPhase) (b : Bool) → Goes m (record m { phase = if b then p else q })
+in_either m p q true = stays m (record m { phase = p }) refl refl
+in_either m p q false = stays m (record m { phase = q }) refl refl
+
+-- where an operation is done the mutator rests
+done_rests : (b : Bool) → rests_in (if b then phase.Finished else phase.Ready) ≡ true
+done_rests true = refl
+done_rests false = refl
+
+-- an operation is done, behind changes to other parts of the mutator
+done : (m doing : Mutating) (r : Reply) → doing.operations ≡ m.operations → doing.replies.items ≡ m.replies.items → Goes m (mutator.done_with doing r)
+done m doing r same items = record { same = same; replies = inr (r, ap (λ rs. rs ++ r ∷ []) items, done_rests (nat_le doing.every (doing.since + 1))) }
+
+placed : (m : Mutating) (shape : Shape) → Goes m (mutator.placed m shape)
+placed m shape =
+    either m _ _ (mutator.has_room m.spans.current shape) (stays m (mutator.in_current m shape m.spans.current) refl refl)
+    (either m _ _ (mutator.is_medium shape && mutator.has_room m.spans.overflow shape) (stays m (mutator.in_overflow m shape m.spans.overflow) refl refl)
+    (stays m (record m { phase = mutator.draws_for shape }) refl refl))
+
+based : (m : Mutating) (base : Place) → Goes m (mutator.based m base)
+based m base = either m _ _ (nat_eq base.0 0) (done m m reply.Bad refl refl) (stays m (record m { phase = phase.Base base }) refl refl)
+
+started : (m : Mutating) (o : Op) → Goes m (mutator.started m o)
+started m (op.New dest shape) = placed m shape
+started m (op.Load dest base index) = based m (register m base)
+started m (op.Store base index source) = based m (register m base)
+started m (op.Put base index value) = based m (register m base)
+started m (op.Get base index) = based m (register m base)
+started m (op.Swap dest base index source) = based m (register m base)
+started m (op.Add base index value) = based m (register m base)
+started m (op.Move dest source) = done m (mutator.with_register m dest (register m source)) reply.Moved refl refl
+started m (op.Nil dest) = done m (mutator.with_register m dest nil) reply.Cleared refl refl
+started m (op.Same left right) = done m m (reply.Same (nat_eq (register m left).0 (register m right).0)) refl refl
+started m op.Pause = stays m (record m { phase = phase.Asking }) refl refl
+started m op.Collect = stays m (record m { phase = phase.Asking }) refl refl
+started m op.End = record { same = refl; replies = inr (reply.Ended, refl, refl) }
+
+loaded : (m doing : Mutating) (place : Place) → doing.operations ≡ m.operations → doing.replies.items ≡ m.replies.items → Goes m (mutator.loaded doing place)
+loaded m doing place same items =
+    let named = mutator.with_register doing (dest_of (op_now doing)) place in
+    either m _ _ (nat_eq place.0 0) (done m named (found_reply (op_now doing) None) same items) (stays m (record named { phase = phase.Referent place }) same items)
+
+stored : (m : Mutating) (store : Storing) (log : Roomy LogEntry) (e : Option StoreEnd) → Goes m (mutator.stored m store log e)
+stored m store log None = stays m (record m { log = log; phase = phase.Storing store }) refl refl
+stored m store log (Some store_end.Stored) = done m (record m { log = log }) reply.Stored refl refl
+stored m store log (Some (store_end.Swapped old)) = loaded m (record m { log = log }) old refl refl
+stored m store log (Some store_end.LogFull) = stays m (record m { log = log; phase = phase.GivingUp stop.LogFull }) refl refl
+
+after_in : (m : Mutating) (p : MutatorPhase) (old : ℕ) → Goes m (mutator.after_in m p old)
+after_in m phase.Ready old = either m _ _ (nat_eq old 1) (stays m (mutator.finished m ends.Asked) refl refl) (started m (op_now m))
+after_in m phase.Finished old = stays m m refl refl
+after_in m (phase.Base base) old =
+    let shape = mutator.shape_told (header_of old) in
+    either m _ _ (nat_lt (index_of (op_now m)) (indexed_fields (op_now m) shape)) (stays m (record m { phase = mutator.reaching m base shape (op_now m) }) refl refl) (done m m reply.Range refl refl)
+after_in m (phase.Reference base) old = loaded m m (place_in old) refl refl
+after_in m (phase.Referent place) old = done m m _ refl refl
+after_in m (phase.Datum base refs) old = done m m _ refl refl
+after_in m (phase.Putting base refs) old = done m m _ refl refl
+after_in m (phase.Adding base refs) old = done m m _ refl refl
+after_in m (phase.Storing store) old = stored m (store_after store m.log old) (log_after store m.log old) (store_end_of (store_after store m.log old))
+after_in m phase.DrawsRun old = stays m (record m { phase = phase.RunNumber old }) refl refl
+after_in m (phase.RunNumber number) old = in_either m (phase.Run number) phase.DrawsBlock (nat_lt number old)
+after_in m (phase.Run number) old = stays m (mutator.in_current m (mutator.shape_now m) (run_span (mutator.run_in old))) refl refl
+after_in m phase.DrawsBlock old = stays m (record m { phase = phase.BlockNumber old }) refl refl
+after_in m (phase.BlockNumber number) old = in_either m (phase.Block number) (phase.GivingUp stop.NoRun) (nat_lt number old)
+after_in m (phase.Block number) old =
+    let shape = mutator.shape_now m in
+    either m _ _ (mutator.is_medium shape) (stays m (mutator.in_overflow m shape (block_span old)) refl refl) (stays m (mutator.in_current m shape (block_span old)) refl refl)
+after_in m (phase.Wiping place next) old = in_either m (phase.Wiping place (next + 1)) (phase.Heading place) (nat_lt (next + 1) (word_count (mutator.shape_now m)))
+after_in m (phase.Heading place) old = done m (mutator.with_register m (dest_of (op_now m)) place) _ refl refl
+after_in m phase.Asking old = done m m _ refl refl
+after_in m (phase.GivingUp why) old = stays m (mutator.finished m (mutator.end_by why)) refl refl
+
+-- whatever the word was
+after : (m : Mutating) (old : ℕ) → Goes m (mutator.after m old)
+after m old = either m _ _ (mutator.accepts_in m m.phase old) (after_in m m.phase old) (done m m reply.Bad refl refl)
+
+-- ---- a unit of an actor
+
+after_actor : (a : AnyActor) (old : ℕ) → Grows a (any_machine.after a old)
+after_actor (any.Mutator m) old = after m old
+after_actor (any.Decrementer d) old = record { same = refl; replies = inl refl }
+after_actor (any.Tracer t) old = record { same = refl; replies = inl refl }
+
+step_grows : (p q : Passing AnyActor) (old : ℕ) → DoesStep any_machine p old q → Grows p.actor q.actor
+step_grows p q old d =
+    let words = (run any_machine p.opening (p.seen ++ d.1)).words in
+    let is : q.actor ≡ any_machine.after p.actor (slice_index words d.0.word) = ap (λ (r : Passing AnyActor). r.actor) d.4.2 ∙ acted_actor words p.actor d.0 d.2 in
+    subst (Grows p.actor) (sym is) (after_actor p.actor (slice_index words d.0.word))
+
+-- no reply came, and then what came
+behind : (a b c : AnyActor) → asked b ≡ asked a → replied b ≡ replied a → Grows b c → Grows a c
+behind a b c same items g = record {
+  same = g.same ∙ same;
+  replies = ⊎_elim (λ e. inl (e ∙ items)) (λ t. inr (t.0, t.1 ∙ ap (λ rs. rs ++ t.0 ∷ []) items, t.2)) g.replies;
+}
+
+-- with the further steps of the unit
+goes_on_grows : (olds : List ℕ) (p r q : Passing AnyActor) → Grows p.actor r.actor → GoesOn any_machine r olds q → Grows p.actor q.actor
+goes_on_grows [] p r q g t = subst (λ (x : Passing AnyActor). Grows p.actor x.actor) (sym t) g
+goes_on_grows (old ∷ olds) p r q g t =
+    ⊎_elim
+    (λ items. goes_on_grows olds p t.1.0 q (behind p.actor r.actor t.1.0.actor g.same items (step_grows r t.1.0 old t.1.1)) t.1.2)
+    (λ came. let busy : any_machine.rests r.actor ≡ false = t.0 in let rests : any_machine.rests r.actor ≡ true = came.2 in absurd (cc))
+    g.replies
+
+-- A turn leaves what the actor was asked for. It leaves the replies, or adds one.
+pub turn_grows : (olds : List ℕ) (p q : Passing AnyActor) → Turned any_machine p olds q → Grows p.actor q.actor
+turn_grows [] p q t = subst (λ (x : Passing AnyActor). Grows p.actor x.actor) (sym t.1) (record { same = refl; replies = inl refl })
+turn_grows (old ∷ olds) p q t = goes_on_grows olds p t.0 q (step_grows p t.0 old t.1) t.2
+
+-- ---- what a station tells of it
+
+-- the answer for a reply, or for none
+abbrev pub answer_of : Option Reply → Answer
+answer_of (Some r) = answer.Done r
+answer_of None = answer.Waits
+
+-- the last of some replies is the one behind the others
+read_last : (rs : List Reply) (r : Reply) → slice_get (rs ++ r ∷ []) (length (rs ++ r ∷ []) - 1) ≡ Some r
+read_last rs r = ap (slice_get (rs ++ r ∷ [])) (let more = length-append rs (r ∷ []) in omega (arith, more)) ∙ read_behind rs r
+  where
+    read_behind : (rs : List Reply) (r : Reply) → slice_get (rs ++ r ∷ []) (length rs) ≡ Some r
+    read_behind [] r = refl
+    read_behind (x ∷ rs) r = read_behind rs r
+
+-- where one more reply came, it is the newest
+newest_came : (b : AnyActor) (rs : List Reply) (r : Reply) → replied b ≡ rs ++ r ∷ [] → newest_of b ≡ Some r
+newest_came (any.Mutator m) rs r e = ap (λ o. option_or o (reply_in m.end)) (ap (λ xs. slice_get xs (length xs - 1)) e ∙ read_last rs r)
+newest_came (any.Decrementer d) rs r e = let none = ap length e in let more = length-append rs (r ∷ []) in absurd (omega (arith, none, more))
+newest_came (any.Tracer d) rs r e = let none = ap length e in let more = length-append rs (r ∷ []) in absurd (omega (arith, none, more))
+
+-- as many replies as before are those of before
+pub none_came : (p q : Passing AnyActor) → IsOpen p.actor → HasTurned p q → length (replied q.actor) ≡ length (replied p.actor) → HasGoneOn p None q
+none_came p q pending turned same =
+    let g = turn_grows turned.0 p q turned.1 in (
+      λ _. turned,
+      λ shut. absurd (shut pending),
+      g.same,
+      ⊎_elim (λ e. e) (λ t. let more = ap length t.1 ∙ length-append (replied p.actor) (t.0 ∷ []) in absurd (omega (arith, more, same))) g.replies,
+    )
+
+-- where there are others, one came, and it is the newest
+pub one_came : (p q : Passing AnyActor) (o : Option Reply) → IsOpen p.actor → HasTurned p q → ¬ (length (replied q.actor) ≡ length (replied p.actor)) → o ≡ newest_of q.actor → HasGoneOn p o q
+one_came p q o pending turned other read =
+    let g = turn_grows turned.0 p q turned.1 in
+    ⊎_elim
+    (λ e. absurd (other (ap length e)))
+    (λ t. subst (λ x. HasGoneOn p x q) (sym (read ∙ newest_came q.actor (replied p.actor) t.0 t.1)) (turned, pending, g.same, t.1))
+    g.replies
+
+-- ---- orders
+
+-- what a mutator is once it is ordered an operation, by whether it takes it
+abbrev ordered_if : Bool → Mutating → Op → Mutating × Bool
+ordered_if c m o = if c then (with_order m o, true) else (m, false)
+
+-- a mutator that answers that it took the operation has it behind the others, and its replies
+mutator_taken : (c : Bool) (m : Mutating) (o : Op) (b : AnyActor) → (ordered_if c m o).1 ≡ true → b ≡ any.Mutator (ordered_if c m o).0 → (asked b ≡ m.operations ++ o ∷ []) × (replied b ≡ m.replies.items)
+mutator_taken true m o b took is = (ap asked is, ap replied is)
+mutator_taken false m o b took is = absurd (cc)
+
+-- an order that was taken stands behind what the actor was asked for, and leaves the replies
+pub order_taken : (a b : AnyActor) (o : Op) → (b, true) ≡ any_machine.ordered a o → (asked b ≡ asked a ++ o ∷ []) × (replied b ≡ replied a)
+order_taken (any.Mutator m) b o is = mutator_taken (takes_order m o) m o b (sym (ap (λ (t : AnyActor × Bool). t.1) is)) (ap (λ (t : AnyActor × Bool). t.0) is)
+order_taken (any.Decrementer d) b o is = let no : true ≡ false = ap (λ (t : AnyActor × Bool). t.1) is in absurd (cc)
+order_taken (any.Tracer t) b o is = let no : true ≡ false = ap (λ (x : AnyActor × Bool). x.1) is in absurd (cc)
+
+-- what took an order may take it
+pub taken_up : (a b : AnyActor) (o : Op) → (b, true) ≡ any_machine.ordered a o → TakesUp a o
+taken_up (any.Mutator m) b o is = (takes_order_decides m o).0 (mutator_took (takes_order m o) m o (sym (ap (λ (t : AnyActor × Bool). t.1) is)))
+  where
+    mutator_took : (c : Bool) (m : Mutating) (o : Op) → (ordered_if c m o).1 ≡ true → c ≡ true
+    mutator_took true m o e = refl
+    mutator_took false m o e = e
+taken_up (any.Decrementer d) b o is = let no : true ≡ false = ap (λ (t : AnyActor × Bool). t.1) is in absurd (cc)
+taken_up (any.Tracer t) b o is = let no : true ≡ false = ap (λ (x : AnyActor × Bool). x.1) is in absurd (cc)
+
+-- what took none may take none, and is as it was
+pub not_taken : (a b : AnyActor) (o : Op) → (b, false) ≡ any_machine.ordered a o → (b ≡ a) × ¬ TakesUp a o
+not_taken (any.Mutator m) b o is = by (takes_order m o) (takes_order_decides m o).1 (ap (λ (t : AnyActor × Bool). t.1) is) (ap (λ (t : AnyActor × Bool). t.0) is)
+  where
+    by : (c : Bool) → (MayTakeOrder m o → c ≡ true) → false ≡ (ordered_if c m o).1 → b ≡ any.Mutator (ordered_if c m o).0 → (b ≡ any.Mutator m) × ¬ MayTakeOrder m o
+    by true may e is = absurd (cc)
+    by false may e is = (is, λ takes. let no = may takes in absurd (cc))
+not_taken (any.Decrementer d) b o is = (ap (λ (t : AnyActor × Bool). t.0) is, λ no. no)
+not_taken (any.Tracer t) b o is = (ap (λ (x : AnyActor × Bool). x.0) is, λ no. no)
+
+-- an actor that may take an order has a reply for each of its operations
+all_replied : (a : AnyActor) (o : Op) → TakesUp a o → HasNoMore a → length (replied a) ≡ length (asked a)
+all_replied (any.Mutator m) o may no_more =
+    let idle = may.idle in
+    ⊎_elim
+    (λ none. let ready : mutator.action_in m phase.Ready ≡ None = subst (λ p. mutator.action_in m p ≡ None) may.ready none in absurd (cc))
+    (λ few. omega (arith, idle, few))
+    no_more
+all_replied (any.Decrementer d) o may no_more = absurd may
+all_replied (any.Tracer d) o may no_more = absurd may
+
+-- it has an open operation once it is ordered one
+pub opened : (a b : AnyActor) (o : Op) → (b, true) ≡ any_machine.ordered a o → HasNoMore a → IsOpen b
+opened a b o is no_more =
+    let taken = order_taken a b o is in
+    let same = all_replied a o (taken_up a b o is) no_more in
+    let longer = ap length taken.0 ∙ length-append (asked a) (o ∷ []) in
+    let replies = ap length taken.1 in
+    omega (arith, same, longer, replies)
+
+-- an operation that was ordered is the open one, and what comes of it is what the order is answered with
+pub answered : (p r q : Passing AnyActor) (o : Op) (reply : Option Reply) → Told any_machine p (Order p.number o) r → (r.actor, true) ≡ any_machine.ordered p.actor o → HasNoMore p.actor → HasGoneOn r reply q → HasAnswered p o (answer_of reply) q
+answered p r q o reply told is no_more gone =
+    let taken = order_taken p.actor r.actor o is in
+    tell reply gone (all_replied p.actor o (taken_up p.actor r.actor o is) no_more) taken (opened p.actor r.actor o is no_more)
+  where
+    tell : (reply : Option Reply) → HasGoneOn r reply q → length (replied p.actor) ≡ length (asked p.actor) → (asked r.actor ≡ asked p.actor ++ o ∷ []) × (replied r.actor ≡ replied p.actor) → IsOpen r.actor → HasAnswered p o (answer_of reply) q
+    tell (Some x) gone same taken pending = ((r, told, gone.0), same, gone.2 ∙ taken.0, gone.3 ∙ ap (λ rs. rs ++ x ∷ []) taken.1)
+    tell None gone same taken pending = ((r, told, gone.0 pending), same, gone.2 ∙ taken.0, gone.3 ∙ taken.1)
+
+-- where none was taken, the answer says why
+pub unanswered : (p q : Passing AnyActor) (o : Op) (said : Answer) → (q.actor, false) ≡ any_machine.ordered p.actor o → IsNoOrder q.actor said → HasAnswered p o said q
+unanswered p q o said is why =
+    let none = not_taken p.actor q.actor o is in
+    tell said none.0 none.1 (subst (λ a. IsNoOrder a said) none.0 why)
+  where
+    tell : (said : Answer) → q.actor ≡ p.actor → ¬ TakesUp p.actor o → IsNoOrder p.actor said → HasAnswered p o said q
+    tell (answer.Done r) same takes why = absurd why
+    tell answer.Waits same takes why = absurd why
+    tell answer.Pause same takes why = (same, takes, why)
+    tell answer.Ended same takes why = (same, takes, why)
+    tell answer.Refused same takes why = (same, takes, why.0, why.1)
+
+-- ---- units of any actor
+
+-- a unit leaves what the actor was asked for
+pub asked_stays : (p q : Passing AnyActor) → HasTurned p q → asked q.actor ≡ asked p.actor
+asked_stays p q turned = (turn_grows turned.0 p q turned.1).same

@@ -1,0 +1,13 @@
+use Rattle.std.proofs.Common.{subst, sym}
+use Rattle.lxr_shared_heap.specs.Heaps.{IsHeapOf}
+use Rattle.lxr_shared_heap.proofs.HeapLemmas.{resumed_same}
+use Rattle.lxr_shared_heap.proofs.heap.Heap.resume.Goals as goal
+
+pub invariant_of-self : goal.invariant_of-self
+invariant_of-self c =
+    let (script, h, of) = c.self.invariant in (
+      script,
+      h,
+      resumed_same c.resumed-stage.result.1 _ _ (c.resumed-stage.ensures c.self.inside.settings) script h
+          (subst (λ s. IsHeapOf script h (record { settings = c.self.inside.settings; stage = s })) (sym c.replace-stage.ensures.value) of),
+    )

@@ -1,0 +1,56 @@
+-- What is done between two epochs: the pause, and what waited for it.
+use Rattle.std.specs.Prelude.{◌≡◌, ◌↔◌, ◌⊎◌, Bool, true, false, None, IsTrue, List, ◌∷◌}
+use Rattle.lxr_graph.specs.declared.report.Kind.TheVariants as kind
+use Rattle.lxr_graph.specs.History.{Item, Pause, PauseReport, report_of}
+use Rattle.lxr_image.specs.declared.space.Space.{Space}
+use Rattle.lxr_invariant.specs.AbstractState.{AbstractState}
+use Rattle.lxr_model.specs.Kinds.{MustCollect, ends}
+use Rattle.lxr_mutator.specs.Mutating.{Mutating}
+use Rattle.lxr_core.specs.declared.actors.AnyActor.{AnyActor}
+use Rattle.lxr_core.specs.Actors.{mutators_in}
+use Rattle.lxr_core.specs.Ordering.{orders_of}
+use Rattle.lxr_run_loop.specs.Answering.{AnswersWaiting}
+use Rattle.lxr_run_invariant.specs.LoopInvariant.{HasRunEpoch, HasRunTo, HaveEnded, HaveMutators, IsBetweenEpochs, Task, pace_of, terms_of}
+use Rattle.lxr_shared_heap.specs.declared.settings.Settings.{Settings}
+use Rattle.lxr_shared_heap.specs.Settings.{run_of}
+use Rattle.lxr_model.specs.Belongs.{Script}
+
+-- Behind a pause with this report, which stands behind these calls, the `new`s that waited were answered, with collecting pauses where they needed
+-- room, and the history has gone on to this one. Before and after stand the mutators.
+pub record AnswersBehind (task : Task) (report : PauseReport) (calls : List Item) (mutators mutators' : List Mutating) (h : List Item) : Type 0 where
+  pub collected : Bool
+  pub collects : IsTrue collected ↔ (report.kind ≡ kind.Collect)
+  pub mutators_rest : HaveMutators task calls mutators
+  pub paused : Space
+  pub reported : report_of paused.report ≡ report
+  pub answered : Space
+  pub answers : AnswersWaiting (pace_of task.options) collected mutators paused (Pause report ∷ calls) mutators' answered h
+
+-- where all threads have ended that pause is the last item; else what waited was answered
+abbrev pub GoesOnBehind : Task → PauseReport → List Item → List Mutating → List Mutating → List Item → Type 0
+GoesOnBehind task report calls mutators mutators' h = ((ends calls ≡ (terms_of task).threads) × (h ≡ Pause report ∷ calls)) ⊎ AnswersBehind task report calls mutators mutators' h
+
+-- the run is at its end, or between two epochs again
+abbrev pub StandsBehind : Bool → Task → Space → List AnyActor → List Item → Type 0
+StandsBehind true task space actors h = HasRunTo task space None None actors h
+StandsBehind false task space actors h = (g : AbstractState) × IsBetweenEpochs task space None None actors h g
+
+-- The pause behind an epoch was made, which collects exactly where it must, and what waited is answered. Nobody was asked for anything. It is the last one
+-- where all mutators have ended.
+pub record HasRested (task : Task) (calls : List Item) (actors : List AnyActor) (space' : Space) (actors' : List AnyActor) (ended : Bool) : Type 0 where
+  pub report : PauseReport
+  pub collects : (report.kind ≡ kind.Collect) ↔ MustCollect (terms_of task) calls
+  pub history : List Item
+  pub behind : GoesOnBehind task report calls (mutators_in actors) (mutators_in actors') history
+  pub stands : StandsBehind ended task space' actors' history
+  pub asked : orders_of (mutators_in actors') ≡ orders_of (mutators_in actors)
+  pub all_ended : IsTrue ended → HaveEnded (mutators_in actors')
+
+-- a run with these settings has made an epoch that came to this space and these actors
+abbrev pub HasMadeEpoch : Settings → Space → List AnyActor → Type 0
+HasMadeEpoch settings space actors = (script : Script) × (before : List AnyActor) × (calls : List Item) × (g : AbstractState) × HasRunEpoch (run_of settings script) space None None before actors calls g
+
+-- each such run has rested
+abbrev pub RestsEach : Settings → Space → List AnyActor → Space → List AnyActor → Bool → Type 0
+RestsEach settings space actors space' actors' ended =
+    (script : Script) (before : List AnyActor) (calls : List Item) (g : AbstractState) → HasRunEpoch (run_of settings script) space None None before actors calls g → HasRested (run_of settings script) calls actors space' actors' ended

@@ -1,0 +1,187 @@
+//! A space that may go to another thread.
+//!
+//! The words of a space are plain memory, which stays with one thread. As a table of atomic words they may go anywhere. So a space is
+//! packed by opening a table over its words, on which nobody steps, and unpacked by closing it: they are the same words.
+ghost use Rattle.std.specs.Prelude.{◌≡◌, ◌<◌, length};
+
+use atomic_table::{Seat, Table, TableRule};
+use lxr_graph::Report;
+use lxr_image::{Entries, Places, Space, Tally};
+use lxr_layout::Limits;
+use lxr_tables::{KeyFrom, PlainWords, Words};
+use std::alloc::Global;
+use std::marker::Model;
+
+/// The words that a table is opened over, for contracts alone.
+struct SameWords;
+
+impl KeyFrom<(), PlainWords> for SameWords {
+    ghost key = { λ _ words. words };
+}
+
+/// The rule of a table on which nobody steps: its words are those that it was opened over.
+struct Still;
+
+impl TableRule<(), (), PlainWords> for Still {
+    ghost use Rattle.lxr_shared_heap.specs.Packing.{AreStill};
+
+    ghost holds = { AreStill };
+
+    ghost first = { λ _. tt };
+}
+
+/// Words in a table on which nobody steps.
+#[derive(Drop)]
+struct StillWords {
+    table: Table<(), (), PlainWords, Still, Global>,
+    seat: Seat<(), ()>,
+}
+
+impl Model for StillWords {
+    ghost use Rattle.std.specs.Prelude.{◌≡◌, ℕ, List};
+
+    ghost Value = { List ℕ };
+
+    ghost view = { λ w. w.table.shared.key };
+
+    ghost invariant = { λ w. (w.seat.table_id ≡ w.table.shared.table_id) × (w.table.shared.table_id.slots ≡ 0) };
+}
+
+impl StillWords {
+    /// Opens a table over words. It copies none and takes no memory; at the first time it fills what isn't written.
+    fn of(words: PlainWords) -> StillWords
+        requires { 0 < length words }
+        ensures { result ≡ words }
+    {
+        let (table, seat) = words.open::<(), PlainWords, Still, (), SameWords>(&());
+        StillWords { table, seat }
+    }
+
+    /// Closes the table.
+    fn into_words(self) -> PlainWords
+        ensures { result ≡ self }
+    {
+        let StillWords { table, seat } = self;
+        PlainWords::close(table, seat)
+    }
+}
+
+/// A space in a form that may go to another thread.
+#[derive(Drop)]
+pub(crate) struct Packed {
+    /// None where there are no words.
+    words: Option<StillWords>,
+    limits: Limits,
+    registers: Places,
+    deferred: Places,
+    logged: Entries,
+    work: Places,
+    report: Report,
+    tally: Tally,
+    pauses: u32,
+    trace: Option<u32>,
+    rest_next: u32,
+    rest_end: u32,
+}
+
+impl Model for Packed {
+    ghost use Rattle.lxr_image.specs.declared.space.Space.{Space};
+    ghost use Rattle.lxr_tables.specs.Words.{words_in};
+
+    ghost Value = { Space };
+
+    ghost view = { λ p. record { words = words_in p.words; limits = p.limits; registers = p.registers; deferred = p.deferred; logged = p.logged; work = p.work; report = p.report; tally = p.tally; pauses = p.pauses; trace = p.trace; rest_next = p.rest_next; rest_end = p.rest_end } };
+}
+
+impl Packed {
+    /// Packs a space. It takes no memory.
+    pub(crate) fn of(space: Space) -> Packed
+        ensures { result ≡ space }
+    {
+        let Space {
+            words,
+            limits,
+            registers,
+            deferred,
+            logged,
+            work,
+            report,
+            tally,
+            pauses,
+            trace,
+            rest_next,
+            rest_end,
+        } = space;
+        let words = if words.count() == 0 {
+            None
+        } else {
+            Some(StillWords::of(words))
+        };
+        Packed {
+            words,
+            limits,
+            registers,
+            deferred,
+            logged,
+            work,
+            report,
+            tally,
+            pauses,
+            trace,
+            rest_next,
+            rest_end,
+        }
+    }
+
+    /// Unpacks it. It takes no memory.
+    pub(crate) fn into_space(self, alloc: Global) -> Space
+        ensures { result ≡ self }
+    {
+        let Packed {
+            words,
+            limits,
+            registers,
+            deferred,
+            logged,
+            work,
+            report,
+            tally,
+            pauses,
+            trace,
+            rest_next,
+            rest_end,
+        } = self;
+        let words = match words {
+            Some(words) => words.into_words(),
+            None => PlainWords::empty(alloc),
+        };
+        Space {
+            words,
+            limits,
+            registers,
+            deferred,
+            logged,
+            work,
+            report,
+            tally,
+            pauses,
+            trace,
+            rest_next,
+            rest_end,
+        }
+    }
+
+    /// The report of the last pause.
+    pub(crate) fn report(&self) -> &Report
+        ensures { result.now ≡ self.now.report }
+    {
+        &self.report
+    }
+
+    /// The number of the last pause.
+    pub(crate) fn pauses(&self) -> u32
+        ensures { result ≡ self.now.pauses }
+    {
+        self.pauses
+    }
+}

@@ -1,0 +1,86 @@
+//! What a host settles once for a heap.
+ghost use Rattle.std.specs.Prelude.{◌≡◌, ◌≤◌, ◌↔◌, IsTrue};
+ghost use Rattle.lxr_shared_heap.specs.Settings.{AreSettings, limits_in, options_of};
+
+use lxr_layout::Limits;
+use lxr_words::{Command, Options};
+
+/// What a heap is opened with.
+#[derive(Clone, Copy, Debug, PartialEq, Eq)]
+pub struct Settings {
+    /// The size of the heap, in blocks of 32 KiB: 1 to 1,024.
+    pub blocks: u32,
+    /// How many mutators there are, each with a number that a thread of the host can have: 1 to 16.
+    pub mutators: u8,
+    /// How many decrementers there are, and as many tracers: 1 to 8. One that no thread lets out does nothing.
+    pub helpers: u8,
+    /// The room of a mutator's log, in entries: 1 to 65,536.
+    pub log: u32,
+    /// The room for remembered fields, in entries: 1 to 1,048,576.
+    pub remember: u32,
+    /// After so many operations since the last pause a mutator does nothing more before the next one: 1 to 1,048,576.
+    pub every: u32,
+    /// A trace may begin at each pause whose number is a multiple of this: 1 to 1,000,000.
+    pub trace: u32,
+    /// After so many pauses a trace ends at the latest: 1 to 1,000,000.
+    pub within: u32,
+}
+
+impl Settings {
+    /// Whether each number is in its range.
+    pub fn are_in_range(self) -> bool
+        ensures { IsTrue result ↔ AreSettings self }
+    {
+        if !is_within(self.blocks, 1024) || !is_within(u32::from(self.mutators), 16) {
+            return false;
+        }
+        if !is_within(u32::from(self.helpers), 8) || !is_within(self.log, 65_536) {
+            return false;
+        }
+        if !is_within(self.remember, 1_048_576) || !is_within(self.every, 1_048_576) {
+            return false;
+        }
+        is_within(self.trace, 1_000_000) && is_within(self.within, 1_000_000)
+    }
+
+    /// The limits of the space.
+    pub(crate) fn limits(self) -> Limits
+        ensures { result ≡ limits_in self }
+    {
+        Limits {
+            blocks: self.blocks,
+            threads: self.mutators,
+            log: self.log,
+            remember: self.remember,
+        }
+    }
+
+    /// The options of a run by these settings that tells nothing.
+    pub(crate) fn options(self) -> Options
+        ensures { result ≡ options_of self }
+    {
+        Options {
+            command: Command::Load(0),
+            blocks: self.blocks,
+            workers: self.helpers,
+            every: self.every,
+            log: self.log,
+            trace: self.trace,
+            within: self.within,
+            remember: self.remember,
+            counts: false,
+            replay: None,
+            stand: false,
+            threads: self.mutators,
+            rounds: 1,
+            bodies: 1,
+        }
+    }
+}
+
+/// Whether a number is at least 1 and at most so much.
+fn is_within(number: u32, most: u32) -> bool
+    ensures { IsTrue result ↔ ((1 ≤ number) × (number ≤ most)) }
+{
+    1 <= number && number <= most
+}

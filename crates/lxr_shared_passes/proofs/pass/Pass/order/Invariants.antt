@@ -1,4 +1,0 @@
-use Rattle.lxr_shared_passes.proofs.pass.Pass.order.Given as goal
-
-abbrev pub ghosts-say_ordered : goal.ghosts-say_ordered
-ghosts-say_ordered g a = record { op = a.op }
