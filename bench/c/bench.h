@@ -16,20 +16,20 @@ static inline double now(void) {
 
 /* Prints how many nanoseconds one of `count` calls takes, of the best of some rounds. Each round counts `i` from 0 on; `before` isn't
  * timed. */
-#define MEASURE_AFTER(name, rounds, count, before, call)                      \
-    do {                                                                      \
-        double best = 1e18;                                                   \
-        for (int round = 0; round < (rounds); round++) {                      \
-            before;                                                           \
-            double begun = now();                                             \
-            for (uint32_t i = 0; i < (uint32_t)(count); i++) {                \
-                call;                                                         \
-                __asm__ volatile("" ::: "memory");                            \
-            }                                                                 \
-            double taken = (now() - begun) / (double)(count);                 \
-            if (taken < best) best = taken;                                   \
-        }                                                                     \
-        printf("%s\t%.2f\n", name, best);                                     \
+#define MEASURE_AFTER(name, rounds, count, before, call) \
+    do { \
+        double best = 1e18; \
+        for (int round = 0; round < (rounds); round++) { \
+            before; \
+            double begun = now(); \
+            for (uint32_t i = 0; i < (uint32_t)(count); i++) { \
+                call; \
+                __asm__ volatile("" ::: "memory"); \
+            } \
+            double taken = (now() - begun) / (double)(count); \
+            if (taken < best) best = taken; \
+        } \
+        printf("%s\t%.2f\n", name, best); \
     } while (0)
 
 #define MEASURE(name, rounds, count, call) MEASURE_AFTER(name, rounds, count, , call)
@@ -78,7 +78,7 @@ static inline void print_pauses(const char *name, struct pauses *pauses) {
     for (size_t at = 0; at < pauses->count; at++) all += pauses->times[at];
     if (!pauses->count) return;
     printf("%s\t%zu\t%.1f\t%.1f\t%.1f\t%.1f\n", name, pauses->count, pauses->times[pauses->count / 2] / 1e3,
-        pauses->times[pauses->count * 99 / 100] / 1e3, pauses->times[pauses->count - 1] / 1e3, all / 1e6);
+           pauses->times[pauses->count * 99 / 100] / 1e3, pauses->times[pauses->count - 1] / 1e3, all / 1e6);
     free(pauses->times);
     *pauses = (struct pauses){ NULL, 0, 0 };
 }

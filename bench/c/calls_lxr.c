@@ -5,7 +5,8 @@
  *        calls_lxr new LIVE EVERY      a new object beside LIVE others: dropped at once, and put in the place of one of them
  *        calls_lxr pauses LIVE EVERY   the pauses while objects are replaced so
  *
- * The heap has three times what LIVE objects take, with lxr_pause_every(EVERY).
+ * The heap has three times what LIVE objects take. EVERY is how many new objects' bytes are made between two pauses, 0 for no pace, or
+ * `room` for that of LXR_SETTINGS.
  */
 #include "bench.h"
 
@@ -16,21 +17,29 @@ enum { WORLD, TOP, TABLE, MADE, OBJECT, OTHER, BODY, SPARE };
 
 static lxr_heap heap;
 
-static void must(uint32_t code) {
+static void must(lxr_code code) {
     if (code == LXR_OK) return;
     fprintf(stderr, "calls_lxr: %s\n", lxr_message(code));
     exit(1);
 }
 
+static void open_heap(uint32_t blocks, uint32_t body_blocks, uint64_t pace) {
+    lxr_settings settings = LXR_SETTINGS(blocks, body_blocks);
+    settings.pace = pace;
+    must(lxr_open(&heap, &settings));
+}
+
+static uint64_t pace_of(const char *every) { return strcmp(every, "room") == 0 ? LXR_PACE_ROOM : strtoull(every, NULL, 10) * OBJECT_BYTES; }
+
 static void measure_calls(void) {
     static uint64_t words[LXR_BLOCK_WORDS];
     uint64_t word = 0;
     uint32_t answer = 0, refs, data, blocks;
-    must(lxr_open(&heap, 64, 64));
+    open_heap(64, 64, LXR_PACE_NEVER);
     must(lxr_new(&heap, OBJECT, 4, 4));
     must(lxr_new(&heap, OTHER, 4, 4));
     must(lxr_new(&heap, TABLE, IN_TABLE, 0));
-    must(lxr_big(&heap, BODY, 1));
+    must(lxr_large_new(&heap, BODY, 1));
     must(lxr_pause(&heap));
     for (uint32_t at = 0; at < 4; at++) must(lxr_store(&heap, OBJECT, at, OTHER));
     MEASURE_CALL("lxr_version", answer += lxr_version());
@@ -44,27 +53,26 @@ static void measure_calls(void) {
     MEASURE_CALL("lxr_nil", lxr_nil(&heap, SPARE));
     MEASURE_CALL("lxr_is_nil", lxr_is_nil(&heap, SPARE, &answer));
     MEASURE_CALL("lxr_shape", lxr_shape(&heap, OBJECT, &refs, &data, &blocks));
-    MEASURE_CALL("lxr_bget", lxr_bget(&heap, BODY, i & 4095, &word));
-    MEASURE_CALL("lxr_bput", lxr_bput(&heap, BODY, i & 4095, i));
-    MEASURE("lxr_bread, 4,096 words", 20, 1000, lxr_bread(&heap, BODY, 0, words, LXR_BLOCK_WORDS));
-    MEASURE("lxr_bwrite, 4,096 words", 20, 1000, lxr_bwrite(&heap, BODY, 0, words, LXR_BLOCK_WORDS));
-    MEASURE_CALL("lxr_count, pauses", lxr_count(&heap, LXR_PAUSES, &word));
-    MEASURE("lxr_count, free blocks", 20, 1000, lxr_count(&heap, LXR_FREE_BLOCKS, &word));
+    MEASURE_CALL("lxr_large_get", lxr_large_get(&heap, BODY, i & 4095, &word));
+    MEASURE_CALL("lxr_large_put", lxr_large_put(&heap, BODY, i & 4095, i));
+    MEASURE("lxr_large_read, 4,096 words", 20, 1000, lxr_large_read(&heap, BODY, 0, words, LXR_BLOCK_WORDS));
+    MEASURE("lxr_large_write, 4,096 words", 20, 1000, lxr_large_write(&heap, BODY, 0, words, LXR_BLOCK_WORDS));
+    MEASURE_CALL("lxr_count, pauses", lxr_count(&heap, LXR_COUNT_PAUSES, &word));
+    MEASURE("lxr_count, free blocks", 20, 1000, lxr_count(&heap, LXR_COUNT_FREE_BLOCKS, &word));
     MEASURE("lxr_pause, nothing to do", 20, 1000, lxr_pause(&heap));
     MEASURE("lxr_collect, nothing to do", 20, 1000, lxr_collect(&heap));
     MEASURE("lxr_new of 4 words, dropped at once", 5, 1000000, lxr_new(&heap, MADE, 2, 2));
-    must(lxr_pause_every(&heap, 10000));
+    must(lxr_set_pace(&heap, 10000 * OBJECT_BYTES));
     MEASURE("lxr_new of 4 words, dropped at once, a pause every 10,000", 5, 1000000, lxr_new(&heap, MADE, 2, 2));
-    must(lxr_pause_every(&heap, 0));
-    MEASURE("lxr_big of one block, dropped at once", 20, 1000, lxr_big(&heap, BODY, 1));
+    must(lxr_set_pace(&heap, LXR_PACE_NEVER));
+    MEASURE("lxr_large_new of one block, dropped at once", 20, 1000, lxr_large_new(&heap, BODY, 1));
     must(lxr_close(&heap));
 }
 
 /* As many live objects as are told, in tables of the object TOP; the heap has three times the blocks that they take. */
-static void fill(uint32_t live, uint32_t every) {
+static void fill(uint32_t live, uint64_t pace) {
     uint64_t bytes = (uint64_t)live * OBJECT_BYTES + (uint64_t)live / IN_TABLE * (IN_TABLE + 2) * 8;
-    must(lxr_open(&heap, (uint32_t)(3 * bytes / 32768 + 1), 1));
-    must(lxr_pause_every(&heap, every));
+    open_heap((uint32_t)(3 * bytes / 32768 + 1), 1, pace);
     must(lxr_new(&heap, TOP, live / IN_TABLE, 0));
     for (uint32_t table = 0; table < live / IN_TABLE; table++) {
         must(lxr_new(&heap, TABLE, IN_TABLE, 0));
@@ -83,9 +91,9 @@ static inline void replace_one(uint32_t live) {
     lxr_store(&heap, TABLE, drawn % IN_TABLE, MADE);
 }
 
-static void measure_new(uint32_t live, uint32_t every) {
+static void measure_new(uint32_t live, const char *every) {
     char name[80];
-    fill(live, every);
+    fill(live, pace_of(every));
     snprintf(name, sizeof name, "a new object dropped at once, beside %u", live);
     MEASURE(name, 5, 1000000, must(lxr_new(&heap, MADE, 2, 2)));
     snprintf(name, sizeof name, "one of %u objects replaced by a new one", live);
@@ -94,21 +102,21 @@ static void measure_new(uint32_t live, uint32_t every) {
 }
 
 /* A pause is made by lxr_new, or by lxr_store where the log is full. */
-static void measure_pauses(uint32_t live, uint32_t every) {
+static void measure_pauses(uint32_t live, const char *every) {
     struct pauses pauses = { NULL, 0, 0 };
     uint64_t before = 0, after = 0;
     char name[80];
-    fill(live, every);
-    must(lxr_count(&heap, LXR_PAUSES, &before));
+    fill(live, pace_of(every));
+    must(lxr_count(&heap, LXR_COUNT_PAUSES, &before));
     for (uint32_t at = 0; at < 2000000; at++) {
         double begun = now();
         replace_one(live);
         double ended = now();
-        lxr_count(&heap, LXR_PAUSES, &after);
+        lxr_count(&heap, LXR_COUNT_PAUSES, &after);
         if (after != before) keep_pause(&pauses, ended - begun);
         before = after;
     }
-    snprintf(name, sizeof name, "lxr, %u live, every %u", live, every);
+    snprintf(name, sizeof name, "lxr, %u live, every %s", live, every);
     print_pauses(name, &pauses);
     must(lxr_close(&heap));
 }
@@ -117,8 +125,8 @@ int main(int count, char **words) {
     if (count == 2 && strcmp(words[1], "calls") == 0) {
         measure_calls();
     } else if (count == 4) {
-        uint32_t live = (uint32_t)strtoul(words[2], NULL, 10), every = (uint32_t)strtoul(words[3], NULL, 10);
-        (strcmp(words[1], "new") == 0 ? measure_new : measure_pauses)(live, every);
+        uint32_t live = (uint32_t)strtoul(words[2], NULL, 10);
+        (strcmp(words[1], "new") == 0 ? measure_new : measure_pauses)(live, words[3]);
     } else {
         return 2;
     }

@@ -15,7 +15,7 @@ enum { WORLD, OLD, NEW, MADE };
 
 static lxr_heap heap;
 
-static void must(uint32_t code) {
+static void must(lxr_code code) {
     if (code == LXR_OK) return;
     fprintf(stderr, "heaps_lxr: %s\n", lxr_message(code));
     exit(1);
@@ -56,7 +56,9 @@ int main(int count, char **words) {
         puts("blocks\tlive\tyoung\tnothing\tkept\tdropped\tgarbage\tcollect");
         return 0;
     }
-    must(lxr_open(&heap, blocks, 1));
+    lxr_settings settings = LXR_SETTINGS(blocks, 1);
+    settings.pace = LXR_PACE_NEVER;
+    must(lxr_open(&heap, &settings));
     make_list(OLD, live);
     must(lxr_collect(&heap));
     for (int round = 0; round < 7; round++) {

@@ -10,8 +10,16 @@ struct Handle {
     block: *mut c_void,
 }
 
+#[repr(C)]
+struct Settings {
+    size: u64,
+    blocks: u32,
+    body_blocks: u32,
+    pace: u64,
+}
+
 unsafe extern "C" {
-    fn lxr_open(heap: *mut Handle, blocks: u32, body_blocks: u32) -> u32;
+    fn lxr_open(heap: *mut Handle, settings: *const Settings) -> u32;
     fn lxr_close(heap: *mut Handle) -> u32;
     fn lxr_new(heap: *mut Handle, dest: u32, refs: u32, words: u32) -> u32;
     fn lxr_load(heap: *mut Handle, dest: u32, base: u32, index: u32) -> u32;
@@ -23,14 +31,14 @@ unsafe extern "C" {
     fn lxr_nil(heap: *mut Handle, dest: u32) -> u32;
     fn lxr_is_nil(heap: *mut Handle, source: u32, is_nil: *mut u32) -> u32;
     fn lxr_shape(heap: *mut Handle, base: u32, refs: *mut u32, words: *mut u32, blocks: *mut u32) -> u32;
-    fn lxr_big(heap: *mut Handle, dest: u32, blocks: u32) -> u32;
-    fn lxr_bget(heap: *mut Handle, base: u32, index: u32, word: *mut u64) -> u32;
-    fn lxr_bput(heap: *mut Handle, base: u32, index: u32, word: u64) -> u32;
-    fn lxr_bread(heap: *mut Handle, base: u32, index: u32, into: *mut u64, count: usize) -> u32;
-    fn lxr_bwrite(heap: *mut Handle, base: u32, index: u32, from: *const u64, count: usize) -> u32;
+    fn lxr_large_new(heap: *mut Handle, dest: u32, blocks: u32) -> u32;
+    fn lxr_large_get(heap: *mut Handle, base: u32, index: u32, word: *mut u64) -> u32;
+    fn lxr_large_put(heap: *mut Handle, base: u32, index: u32, word: u64) -> u32;
+    fn lxr_large_read(heap: *mut Handle, base: u32, index: u32, into: *mut u64, count: usize) -> u32;
+    fn lxr_large_write(heap: *mut Handle, base: u32, index: u32, from: *const u64, count: usize) -> u32;
     fn lxr_pause(heap: *mut Handle) -> u32;
     fn lxr_collect(heap: *mut Handle) -> u32;
-    fn lxr_pause_every(heap: *mut Handle, news: u32) -> u32;
+    fn lxr_set_pace(heap: *mut Handle, bytes: u64) -> u32;
 }
 
 /// The heap under the clock. Each call has to answer 0.
@@ -39,7 +47,8 @@ struct Heap(Handle);
 impl Heap {
     fn open(blocks: u32, bodies: u32) -> Heap {
         let mut heap = Heap(Handle { live: 0, block: null_mut() });
-        done(unsafe { lxr_open(&mut heap.0, blocks, bodies) });
+        let settings = Settings { size: size_of::<Settings>() as u64, blocks, body_blocks: bodies, pace: 0 };
+        done(unsafe { lxr_open(&mut heap.0, &settings) });
         heap
     }
 
@@ -251,7 +260,7 @@ fn recording() {
 fn making() {
     for (name, every, kept) in [("none is kept", 65_536, 0), ("none is kept, a pause behind 4,096", 4096, 0), ("of 65,536 the last 64 are kept", 65_536, 64)] {
         let mut heap = Heap::open(1024, 1);
-        done(unsafe { lxr_pause_every(&mut heap.0, every) });
+        done(unsafe { lxr_set_pace(&mut heap.0, 48 * u64::from(every)) });
         let called = heap.time(CALLS, |heap, at| unsafe {
             done(lxr_new(heap, 1, 1, 3));
             if at % every < kept { lxr_store(heap, 0, at % every, 1) } else { 0 }
@@ -269,7 +278,7 @@ fn bodies() {
         let handle = &raw mut heap.0;
         for at in 0..count {
             unsafe {
-                done(lxr_big(handle, 1, 1));
+                done(lxr_large_new(handle, 1, 1));
                 // The world's first reference leads to lists of a thousand.
                 if at % 1000 == 0 {
                     done(lxr_new(handle, 2, 1000, 0));
@@ -280,14 +289,14 @@ fn bodies() {
         }
         let mut plain = vec![vec![0u64; 4096]];
         let mut word = 0;
-        let called = heap.time(CALLS, |heap, at| unsafe { lxr_bget(heap, 1, black_box(at & 4095), &mut word) });
+        let called = heap.time(CALLS, |heap, at| unsafe { lxr_large_get(heap, 1, black_box(at & 4095), &mut word) });
         row(&format!("bget, of {count} bodies"), called, Some(least(CALLS, |at| word = plain[black_box(0)][at as usize & 4095])));
-        let called = heap.time(CALLS, |heap, at| unsafe { lxr_bput(heap, 1, black_box(at & 4095), 1) });
+        let called = heap.time(CALLS, |heap, at| unsafe { lxr_large_put(heap, 1, black_box(at & 4095), 1) });
         row(&format!("bput, of {count} bodies"), called, Some(least(CALLS, |at| plain[black_box(0)][at as usize & 4095] = 1)));
         black_box(word);
         let mut into = vec![0; 4096];
-        row("bread of 4,096 words", heap.time(10_000, |heap, _| unsafe { lxr_bread(heap, 1, 0, into.as_mut_ptr(), 4096) }), None);
-        row("bwrite of 4,096 words", heap.time(10_000, |heap, _| unsafe { lxr_bwrite(heap, 1, 0, into.as_ptr(), 4096) }), None);
+        row("bread of 4,096 words", heap.time(10_000, |heap, _| unsafe { lxr_large_read(heap, 1, 0, into.as_mut_ptr(), 4096) }), None);
+        row("bwrite of 4,096 words", heap.time(10_000, |heap, _| unsafe { lxr_large_write(heap, 1, 0, into.as_ptr(), 4096) }), None);
     }
 }
 

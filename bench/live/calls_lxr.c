@@ -15,41 +15,41 @@ enum { WORLD, OBJECT, OTHER, TABLE, FOUND, MADE };
 enum { MOST_THREADS = 16, ROUNDS = 200, CALLS = 20000 };
 
 static uint32_t count;
-static lxr_threads *threads;
+static lxr_shared_heap *heap;
 static pthread_barrier_t barrier;
 static atomic_uint begun;
 static double taken[MOST_THREADS];
 static uint64_t kept[MOST_THREADS * 16];
 
-static void must(uint32_t code) {
+static void must(lxr_code code) {
     if (code == LXR_OK) return;
     fprintf(stderr, "calls_lxr: %s\n", lxr_message(code));
     exit(1);
 }
 
 /* All threads wait here for each other, and hold up no pause meanwhile. */
-static void meet(lxr_thread *thread) {
-    must(lxr_thread_rest(thread));
+static void meet(lxr_mutator *mutator) {
+    must(lxr_mutator_rest(mutator));
     pthread_barrier_wait(&barrier);
-    must(lxr_thread_wake(thread));
+    must(lxr_mutator_wake(mutator));
 }
 
 /* The first thread makes a pause while the others rest. */
-static void pause_before(lxr_thread *thread, uint32_t number) {
+static void pause_before(lxr_mutator *mutator, uint32_t number) {
     if (number) {
-        must(lxr_thread_rest(thread));
+        must(lxr_mutator_rest(mutator));
         pthread_barrier_wait(&barrier);
-        must(lxr_thread_wake(thread));
+        must(lxr_mutator_wake(mutator));
     } else {
-        must(lxr_thread_pause(thread));
-        meet(thread);
+        must(lxr_mutator_pause(mutator));
+        meet(mutator);
     }
 }
 
 /* All threads go on from here at once. */
-static void begin_together(lxr_thread *thread, uint32_t round) {
+static void begin_together(lxr_mutator *mutator, uint32_t round) {
     atomic_fetch_add(&begun, 1);
-    while (atomic_load(&begun) < count * round) must(lxr_thread_poll(thread));
+    while (atomic_load(&begun) < count * round) must(lxr_mutator_poll(mutator));
 }
 
 /* Prints the greatest time of the threads in a round, and keeps the least of the rounds. */
@@ -60,50 +60,50 @@ static void keep_best(double *best) {
 }
 
 /* A measure: `first` isn't timed, and `call` has its number from 0 on in `i`. */
-#define MEASURE(name, calls, first, call)                                       \
-    do {                                                                        \
-        double best = 1e18;                                                     \
-        for (int at = 0; at < ROUNDS; at++) {                                   \
-            pause_before(thread, number);                                       \
-            first;                                                              \
-            begin_together(thread, ++round);                                    \
-            uint64_t from = clock_now();                                        \
-            for (uint32_t i = 0; i < (uint32_t)(calls); i++) {                  \
-                call;                                                           \
-                __asm__ volatile("" ::: "memory");                              \
-            }                                                                   \
-            taken[number] = (double)(clock_now() - from) / (double)(calls);     \
-            meet(thread);                                                       \
-            if (!number) keep_best(&best);                                      \
-        }                                                                       \
-        if (!number) printf("%s\t%.1f\n", name, best);                          \
+#define MEASURE(name, calls, first, call) \
+    do { \
+        double best = 1e18; \
+        for (int at = 0; at < ROUNDS; at++) { \
+            pause_before(mutator, number); \
+            first; \
+            begin_together(mutator, ++round); \
+            uint64_t from = clock_now(); \
+            for (uint32_t i = 0; i < (uint32_t)(calls); i++) { \
+                call; \
+                __asm__ volatile("" ::: "memory"); \
+            } \
+            taken[number] = (double)(clock_now() - from) / (double)(calls); \
+            meet(mutator); \
+            if (!number) keep_best(&best); \
+        } \
+        if (!number) printf("%s\t%.1f\n", name, best); \
     } while (0)
 
 /* So that further stores find their references logged. */
-static void store_both(lxr_thread *thread) {
-    must(lxr_thread_store(thread, OBJECT, 0, OTHER));
-    must(lxr_thread_store(thread, OBJECT, 1, OTHER));
+static void store_both(lxr_mutator *mutator) {
+    must(lxr_mutator_store(mutator, OBJECT, 0, OTHER));
+    must(lxr_mutator_store(mutator, OBJECT, 1, OTHER));
 }
 
 static void *run(void *given) {
     uint32_t number = (uint32_t)(uintptr_t)given, round = 0;
     uint64_t *word = &kept[number * 16];
-    lxr_thread *thread = NULL;
-    must(lxr_thread_enter(threads, &thread));
-    must(lxr_thread_new(thread, OBJECT, 2, 2));
-    must(lxr_thread_new(thread, OTHER, 2, 2));
-    must(lxr_thread_new(thread, TABLE, IN_TABLE, 0));
-    store_both(thread);
-    MEASURE("get", CALLS, , must(lxr_thread_get(thread, OBJECT, i & 1, word)));
-    MEASURE("put", CALLS, , must(lxr_thread_put(thread, OBJECT, i & 1, i)));
-    MEASURE("add", CALLS, , must(lxr_thread_add(thread, OBJECT, i & 1, 1, word)));
-    MEASURE("load", CALLS, , must(lxr_thread_load(thread, FOUND, OBJECT, i & 1)));
-    MEASURE("store, the first since a pause", IN_TABLE, , must(lxr_thread_store(thread, TABLE, i, OTHER)));
-    MEASURE("store, a further one", CALLS, store_both(thread), must(lxr_thread_store(thread, OBJECT, i & 1, OTHER)));
-    MEASURE("swap", CALLS, store_both(thread), must(lxr_thread_swap(thread, FOUND, OBJECT, i & 1, OTHER)));
-    MEASURE("move", CALLS, , must(lxr_thread_move(thread, FOUND, OTHER)));
-    MEASURE("new of two words", CALLS, , must(lxr_thread_new(thread, MADE, 1, 1)));
-    must(lxr_thread_leave(&thread));
+    lxr_mutator *mutator = NULL;
+    must(lxr_mutator_enter(heap, &mutator));
+    must(lxr_mutator_new(mutator, OBJECT, 2, 2));
+    must(lxr_mutator_new(mutator, OTHER, 2, 2));
+    must(lxr_mutator_new(mutator, TABLE, IN_TABLE, 0));
+    store_both(mutator);
+    MEASURE("get", CALLS, , must(lxr_mutator_get(mutator, OBJECT, i & 1, word)));
+    MEASURE("put", CALLS, , must(lxr_mutator_put(mutator, OBJECT, i & 1, i)));
+    MEASURE("add", CALLS, , must(lxr_mutator_add(mutator, OBJECT, i & 1, 1, word)));
+    MEASURE("load", CALLS, , must(lxr_mutator_load(mutator, FOUND, OBJECT, i & 1)));
+    MEASURE("store, the first since a pause", IN_TABLE, , must(lxr_mutator_store(mutator, TABLE, i, OTHER)));
+    MEASURE("store, a further one", CALLS, store_both(mutator), must(lxr_mutator_store(mutator, OBJECT, i & 1, OTHER)));
+    MEASURE("swap", CALLS, store_both(mutator), must(lxr_mutator_swap(mutator, FOUND, OBJECT, i & 1, OTHER)));
+    MEASURE("move", CALLS, , must(lxr_mutator_move(mutator, FOUND, OTHER)));
+    MEASURE("new of two words", CALLS, , must(lxr_mutator_new(mutator, MADE, 1, 1)));
+    must(lxr_mutator_leave(&mutator));
     return NULL;
 }
 
@@ -111,15 +111,15 @@ int main(int words_count, char **words) {
     pthread_t started[MOST_THREADS];
     count = words_count == 2 ? (uint32_t)strtoul(words[1], NULL, 10) : 0;
     if (count < 1 || count > MOST_THREADS) return 2;
-    lxr_threads_settings settings = LXR_THREADS_SETTINGS(LXR_MOST_SHARED_BLOCKS, count);
+    lxr_shared_heap_settings settings = LXR_SHARED_HEAP_SETTINGS(LXR_MOST_SHARED_BLOCKS, count);
     settings.helpers = 0;
     settings.log = LXR_MOST_LOG;
     settings.every = LXR_MOST_EVERY;
-    must(lxr_threads_open(&threads, &settings));
+    must(lxr_shared_heap_open(&heap, &settings));
     pthread_barrier_init(&barrier, NULL, count);
     for (uintptr_t at = 0; at < count; at++) pthread_create(&started[at], NULL, run, (void *)at);
     for (uint32_t at = 0; at < count; at++) pthread_join(started[at], NULL);
     pthread_barrier_destroy(&barrier);
-    must(lxr_threads_close(&threads));
+    must(lxr_shared_heap_close(&heap));
     return 0;
 }

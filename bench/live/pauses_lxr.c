@@ -15,11 +15,11 @@ enum { WORLD, TOP, TABLE, MADE, OTHER };
 
 static struct work work;
 static struct times home, pause;
-static lxr_threads *threads;
+static lxr_shared_heap *heap;
 static pthread_barrier_t barrier;
 static atomic_int is_timed;
 
-static void must(uint32_t code) {
+static void must(lxr_code code) {
     if (code == LXR_OK) return;
     fprintf(stderr, "pauses_lxr: %s\n", lxr_message(code));
     exit(1);
@@ -33,58 +33,58 @@ static void on_pause(void *with, const lxr_pause_times *times) {
 }
 
 /* Register MADE holds what takes a place of a table. */
-static void make_place(lxr_thread *thread, uint64_t word) {
-    must(lxr_thread_new(thread, MADE, REFS, WORDS));
-    must(lxr_thread_put(thread, MADE, 0, word));
+static void make_place(lxr_mutator *mutator, uint64_t word) {
+    must(lxr_mutator_new(mutator, MADE, REFS, WORDS));
+    must(lxr_mutator_put(mutator, MADE, 0, word));
     if (!work.is_cyclic) return;
-    must(lxr_thread_new(thread, OTHER, REFS, WORDS));
-    must(lxr_thread_store(thread, MADE, 0, OTHER));
-    must(lxr_thread_store(thread, OTHER, 0, MADE));
+    must(lxr_mutator_new(mutator, OTHER, REFS, WORDS));
+    must(lxr_mutator_store(mutator, MADE, 0, OTHER));
+    must(lxr_mutator_store(mutator, OTHER, 0, MADE));
 }
 
-static void fill(lxr_thread *thread, uint32_t number) {
-    must(lxr_thread_new(thread, TOP, work.tables, 0));
-    must(lxr_thread_store(thread, WORLD, number, TOP));
+static void fill(lxr_mutator *mutator, uint32_t number) {
+    must(lxr_mutator_new(mutator, TOP, work.tables, 0));
+    must(lxr_mutator_store(mutator, WORLD, number, TOP));
     for (uint32_t table = 0; table < work.tables; table++) {
-        must(lxr_thread_new(thread, TABLE, IN_TABLE, 0));
-        must(lxr_thread_store(thread, TOP, table, TABLE));
+        must(lxr_mutator_new(mutator, TABLE, IN_TABLE, 0));
+        must(lxr_mutator_store(mutator, TOP, table, TABLE));
         for (uint32_t at = 0; at < IN_TABLE; at++) {
-            make_place(thread, at);
-            must(lxr_thread_store(thread, TABLE, at, MADE));
+            make_place(mutator, at);
+            must(lxr_mutator_store(mutator, TABLE, at, MADE));
         }
     }
 }
 
-static void replace(lxr_thread *thread, uint32_t number) {
+static void replace(lxr_mutator *mutator, uint32_t number) {
     uint64_t state = number + 1;
     for (uint32_t round = 0; round < work.rounds; round++) {
         for (int dropped = 0; dropped < DROPPED; dropped++) {
-            must(lxr_thread_new(thread, MADE, REFS, WORDS));
-            must(lxr_thread_put(thread, MADE, 0, round));
+            must(lxr_mutator_new(mutator, MADE, REFS, WORDS));
+            must(lxr_mutator_put(mutator, MADE, 0, round));
         }
         uint32_t drawn = draw_from(&state, work.tables * IN_TABLE);
-        must(lxr_thread_load(thread, TABLE, TOP, drawn / IN_TABLE));
-        make_place(thread, round);
-        must(lxr_thread_store(thread, TABLE, drawn % IN_TABLE, MADE));
+        must(lxr_mutator_load(mutator, TABLE, TOP, drawn / IN_TABLE));
+        make_place(mutator, round);
+        must(lxr_mutator_store(mutator, TABLE, drawn % IN_TABLE, MADE));
     }
 }
 
 /* All threads, and the one that takes the time, wait here for each other. */
-static void meet(lxr_thread *thread) {
-    must(lxr_thread_rest(thread));
+static void meet(lxr_mutator *mutator) {
+    must(lxr_mutator_rest(mutator));
     pthread_barrier_wait(&barrier);
-    must(lxr_thread_wake(thread));
+    must(lxr_mutator_wake(mutator));
 }
 
 static void *run(void *given) {
     uint32_t number = (uint32_t)(uintptr_t)given;
-    lxr_thread *thread = NULL;
-    must(lxr_thread_enter(threads, &thread));
-    fill(thread, number);
-    meet(thread);
-    replace(thread, number);
-    meet(thread);
-    must(lxr_thread_leave(&thread));
+    lxr_mutator *mutator = NULL;
+    must(lxr_mutator_enter(heap, &mutator));
+    fill(mutator, number);
+    meet(mutator);
+    replace(mutator, number);
+    meet(mutator);
+    must(lxr_mutator_leave(&mutator));
     return NULL;
 }
 
@@ -101,14 +101,14 @@ int main(int count, char **words) {
     char name[40];
     if (count != 5) return 2;
     work = work_of(4, words);
-    lxr_threads_settings settings = LXR_THREADS_SETTINGS(work.megabytes * 2000000u / 32768u, THREADS);
+    lxr_shared_heap_settings settings = LXR_SHARED_HEAP_SETTINGS(work.megabytes * 2000000u / 32768u, THREADS);
     settings.helpers = HELPERS;
     settings.log = 8192;
     settings.every = (uint32_t)strtoul(words[4], NULL, 10);
     settings.trace = pauses_between_traces(settings.every);
     settings.within = settings.trace / 2;
     settings.paused = on_pause;
-    must(lxr_threads_open(&threads, &settings));
+    must(lxr_shared_heap_open(&heap, &settings));
     pthread_barrier_init(&barrier, NULL, THREADS + 1);
     for (uintptr_t at = 0; at < THREADS; at++) pthread_create(&started[at], NULL, run, (void *)at);
     pthread_barrier_wait(&barrier);
@@ -119,7 +119,7 @@ int main(int count, char **words) {
     atomic_store(&is_timed, 0);
     for (uint32_t at = 0; at < THREADS; at++) pthread_join(started[at], NULL);
     pthread_barrier_destroy(&barrier);
-    must(lxr_threads_close(&threads));
+    must(lxr_shared_heap_close(&heap));
     snprintf(name, sizeof name, "this collector, every %u", settings.every);
     print_row(name, work, &home, &pause, taken);
     return 0;

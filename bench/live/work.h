@@ -78,7 +78,7 @@ static inline void print_times(struct times *times) {
     }
     qsort(times->at, times->count, sizeof *times->at, compare_times);
     printf("\t%.0f\t%.0f\t%.0f", (double)times->at[times->count / 2] / 1e3, (double)times->at[times->count * 99 / 100] / 1e3,
-        (double)times->at[times->count - 1] / 1e3);
+           (double)times->at[times->count - 1] / 1e3);
 }
 
 /* A row: until all are home, the pause itself, and the whole work, in milliseconds. */

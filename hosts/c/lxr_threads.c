@@ -1,8 +1,8 @@
 /*
  * lxr_threads.c: the waiting behind lxr_threads.h, over POSIX threads. SPDX: MIT OR Apache-2.0
  *
- * Each thread has a station (lxr_passes.h), and its pass is away while the thread runs. Who finds that a pause is wanted brings its pass
- * home and waits; the last whose pass comes home makes the pause and opens the next epoch, under the heap's lock, and wakes all. A thread
+ * Each mutator has a station (lxr_passes.h), and its pass is away while its thread runs. Who finds that a pause is wanted brings its pass
+ * home and waits; the last whose pass comes home makes the pause and opens the next epoch, under the heap's lock, and wakes all. A mutator
  * that rests has its pass at home, so that nobody waits for it. An operation takes no lock: it calls the archive and looks at the code.
  *
  * What the lock guards: the heap's handle, how many passes are away, and what is marked so below. An epoch is open whenever the lock is
@@ -19,23 +19,23 @@
 #include <stdlib.h>
 #include <time.h>
 
-/* Operations that the archive lets a thread be ordered from one renewal of names to the next; fewer where a test says so, with the mock. */
+/* Operations that the archive lets a mutator be ordered from one renewal of names to the next; fewer where a test says so, with the mock. */
 #ifndef LXR_OPERATIONS
 #define LXR_OPERATIONS 67108864u
 #endif
 
 enum {
-    SPARE = 8,  /* operations of an epoch beyond those that a thread makes before it asks for a pause */
+    SPARE = 8,  /* operations of an epoch beyond those that a mutator makes before it asks for a pause */
     UNITS = 64, /* units of a helper's work between two looks at whether a pause is wanted */
-    APART = 64, /* bytes that keep two threads' counters off one cache line */
-    TOLD = LXR_SWEPT + 1,
+    APART = 64, /* bytes that keep two mutators' counters off one cache line */
+    TOLD = LXR_COUNT_SWEPT + 1,
 
-    /* From so many operations of some thread on a collecting pause is made, so that names are renewed; and again behind so many more. */
+    /* From so many operations of some mutator on a collecting pause is made, so that names are renewed; and again after so many more. */
     WORN = LXR_OPERATIONS / 4 * 3,
     FURTHER = LXR_OPERATIONS / 1024
 };
 
-/* A number of a thread, taken or free. */
+/* A number of a mutator, taken or free. */
 struct place {
     bool taken;    /* guarded; what follows is, while it isn't taken */
     bool spoiled;  /* its registers weren't cleared: it isn't taken again */
@@ -45,42 +45,44 @@ struct place {
 
 /* A helper: a thread with two passes, of which one lowers counts and one traces. */
 struct helper {
-    lxr_threads *heap;
+    lxr_shared_heap *heap;
     uint32_t number;
     pthread_t thread;
     lxr_station counts, traces;
 };
 
-struct lxr_threads {
+struct lxr_shared_heap {
     pthread_mutex_t lock;
     pthread_cond_t moved; /* told where an epoch has opened, the heap is lost, or it is to be closed */
-    lxr_threads_settings settings;
+    lxr_shared_heap_settings settings;
 
     /* Guarded. */
-    lxr_shared shared;
-    uint64_t epoch;                /* how many were opened */
-    uint32_t away;                 /* passes that are away */
-    uint32_t entered, resting;     /* threads */
-    bool wanted;                   /* a pause is, by a thread that waits for it .. */
-    struct timespec since;         /* .. since then */
+    lxr_passes passes;
+    uint64_t epoch;            /* how many were opened */
+    uint32_t away;             /* passes that are away */
+    uint32_t entered, resting; /* mutators */
+    bool wanted;               /* a pause is, by a mutator that waits for it .. */
+    struct timespec since;     /* .. since then */
+    bool collecting;           /* it collects */
     bool lost, closing;
-    uint64_t told[TOLD];           /* what the last pause left to be counted */
-    uint64_t paused, collected;    /* pauses, and collecting ones, since it was opened */
-    uint64_t worn;                 /* each thread whose pass leaves collects, once some thread was ordered so many operations .. */
-    bool is_worn;                  /* .. as by the last pause */
-    struct place places[LXR_MOST_THREADS];
+    uint64_t told[TOLD];        /* what the last pause left to be counted */
+    uint64_t paused, collected; /* pauses, and collecting ones, since it was opened */
+    uint64_t worn;              /* each mutator whose pass leaves collects, once some mutator was ordered so many operations .. */
+    bool is_worn;               /* .. as by the last pause */
+    struct place places[LXR_MOST_MUTATORS];
     struct helper helpers[LXR_MOST_HELPERS];
 };
 
-struct lxr_thread {
+struct lxr_mutator {
     lxr_station station;
     uint32_t left;    /* operations until it asks for a pause; 0: it makes none, its pass is at home, and each operation answers */
-    uint32_t stopped; /* this code */
+    lxr_code stopped; /* this code */
     uint32_t granted; /* what `left` and the pauses that it asked for began from */
     uint32_t number;
-    bool collects; /* behind its next operation it asks for a collecting pause */
+    bool collects;      /* after its next operation it asks for a collecting pause */
     uint64_t collected; /* collecting pauses, as its pass left its home */
-    lxr_threads *heap;
+    bool asked;         /* it has asked for one since, and told nobody yet */
+    lxr_shared_heap *heap;
     char apart[APART];
 };
 
@@ -96,26 +98,30 @@ static uint64_t nanoseconds(struct timespec from, struct timespec to) {
     return (uint64_t)(to.tv_sec - from.tv_sec) * 1000000000u + (uint64_t)to.tv_nsec - (uint64_t)from.tv_nsec;
 }
 
-/* Notes what the last pause did. Where its number isn't above that of the one before, names were renewed between the two. */
-static void note_pause(lxr_threads *heap) {
-    uint64_t kind = LXR_PLAIN, asked = 0, before = heap->told[LXR_PAUSES];
-    for (uint32_t what = 0; what < TOLD; what++) lxr_shared_count(&heap->shared, what, &heap->told[what]);
-    heap->paused += heap->told[LXR_PAUSES] - (heap->told[LXR_PAUSES] > before ? before : 0);
-    lxr_shared_count(&heap->shared, LXR_LAST_KIND, &kind);
-    if (kind == LXR_COLLECTS) heap->collected++;
-    lxr_shared_count(&heap->shared, LXR_ASKED, &asked);
+/*
+ * Notes what the last pauses did, which one call has made: one, which collects where a mutator has asked for that, and further ones, which
+ * all collect. Where the number of the last isn't above that of the one before them, names were renewed between the two.
+ */
+static void note_pauses(lxr_shared_heap *heap) {
+    uint64_t asked = 0, before = heap->told[LXR_COUNT_PAUSES];
+    for (uint32_t what = 0; what < TOLD; what++) lxr_passes_count(&heap->passes, what, &heap->told[what]);
+    uint64_t made = heap->told[LXR_COUNT_PAUSES] - (heap->told[LXR_COUNT_PAUSES] > before ? before : 0);
+    heap->paused += made;
+    heap->collected += made - (heap->collecting ? 0 : 1);
+    heap->collecting = false;
+    lxr_passes_count(&heap->passes, LXR_COUNT_ASKED, &asked);
     heap->is_worn = asked >= heap->worn;
     if (heap->is_worn) heap->worn = asked + FURTHER;
     if (asked < WORN) heap->worn = WORN;
 }
 
 /* Makes the pause that is wanted, opens the next epoch and wakes all. The lock is held, and no pass is away. */
-static void make_pause(lxr_threads *heap) {
+static void make_pause(lxr_shared_heap *heap) {
     struct timespec begun = now();
-    bool paused = lxr_shared_pause(&heap->shared) == LXR_OK;
-    if (paused) note_pause(heap);
-    uint32_t code = lxr_shared_resume(&heap->shared);
-    if (code != LXR_OK && code != LXR_EPOCH) heap->lost = true;
+    bool paused = lxr_passes_pause(&heap->passes) == LXR_OK;
+    if (paused) note_pauses(heap);
+    lxr_code code = lxr_passes_resume(&heap->passes);
+    if (code != LXR_OK && code != LXR_E_EPOCH) heap->lost = true;
     heap->wanted = false;
     heap->epoch++;
     pthread_cond_broadcast(&heap->moved);
@@ -126,90 +132,92 @@ static void make_pause(lxr_threads *heap) {
 }
 
 /* A pass has come home. The lock is held: who was the last that a pause waited for makes it. */
-static void count_home(lxr_threads *heap, uint32_t passes) {
+static void count_home(lxr_shared_heap *heap, uint32_t passes) {
     heap->away -= passes;
     if (heap->wanted && heap->away == 0) make_pause(heap);
 }
 
 /* Waits for the pause that is wanted, if one is. The lock is held. */
-static void wait_for_pause(lxr_threads *heap) {
+static void wait_for_pause(lxr_shared_heap *heap) {
     uint64_t epoch = heap->epoch;
     while (heap->wanted && heap->epoch == epoch) pthread_cond_wait(&heap->moved, &heap->lock);
 }
 
-/* ---- Passes of threads ---- */
+/* ---- Passes of mutators ---- */
 
-static struct place *place_of(lxr_thread *thread) { return &thread->heap->places[thread->number]; }
+static struct place *place_of(lxr_mutator *mutator) { return &mutator->heap->places[mutator->number]; }
 
-static uint32_t stop(lxr_thread *thread, uint32_t code) {
-    thread->left = 0;
-    thread->stopped = code;
+static lxr_code stop(lxr_mutator *mutator, lxr_code code) {
+    mutator->left = 0;
+    mutator->stopped = code;
     return code;
 }
 
-/* Counts what the thread has done since its pass left its home. */
-static void count_done(lxr_thread *thread) {
-    struct place *place = place_of(thread);
-    place->done += thread->granted - thread->left;
-    thread->granted = thread->left;
+/* Counts what the mutator has done since its pass left its home. */
+static void count_done(lxr_mutator *mutator) {
+    struct place *place = place_of(mutator);
+    place->done += mutator->granted - mutator->left;
+    mutator->granted = mutator->left;
 }
 
 /* How many operations it may do until it asks for a pause: one at least, since one may wait for its answer. */
-static uint32_t grant(lxr_threads *heap, struct place *place) {
+static uint32_t grant(lxr_shared_heap *heap, struct place *place) {
     if (place->epoch != heap->epoch) place->done = 0;
     place->epoch = heap->epoch;
     return place->done < heap->settings.every ? heap->settings.every - place->done : 1;
 }
 
-/* The thread's pass leaves its home. The lock is held. */
-static uint32_t take_out(lxr_thread *thread) {
-    lxr_threads *heap = thread->heap;
-    uint32_t code = heap->lost ? LXR_LOST : lxr_station_leave(&heap->shared, thread->number, &thread->station);
-    if (code != LXR_OK) return stop(thread, code);
+/* The mutator's pass leaves its home. The lock is held. */
+static lxr_code take_out(lxr_mutator *mutator) {
+    lxr_shared_heap *heap = mutator->heap;
+    lxr_code code = heap->lost ? LXR_E_LOST : lxr_station_leave(&heap->passes, mutator->number, &mutator->station);
+    if (code != LXR_OK) return stop(mutator, code);
     heap->away++;
-    thread->collects = heap->is_worn;
-    thread->left = thread->granted = thread->collects ? 1 : grant(heap, place_of(thread));
-    thread->collected = heap->collected;
+    mutator->collects = heap->is_worn;
+    mutator->left = mutator->granted = mutator->collects ? 1 : grant(heap, place_of(mutator));
+    mutator->collected = heap->collected;
     return LXR_OK;
 }
 
-/* The thread's pass comes home, and the lock is taken. */
-static void bring_home(lxr_thread *thread) {
-    count_done(thread);
-    lxr_station_come_home(&thread->station);
-    pthread_mutex_lock(&thread->heap->lock);
+/* The mutator's pass comes home, and the lock is taken. */
+static void bring_home(lxr_mutator *mutator) {
+    count_done(mutator);
+    lxr_station_come_home(&mutator->station);
+    pthread_mutex_lock(&mutator->heap->lock);
+    if (mutator->asked) mutator->heap->collecting = true;
+    mutator->asked = false;
 }
 
 /* Wants a pause, waits for it at home, and goes out again. */
-static uint32_t take_part(lxr_thread *thread) {
-    lxr_threads *heap = thread->heap;
-    bring_home(thread);
+static lxr_code take_part(lxr_mutator *mutator) {
+    lxr_shared_heap *heap = mutator->heap;
+    bring_home(mutator);
     if (!heap->wanted) heap->since = now();
     heap->wanted = true;
     count_home(heap, 1);
     wait_for_pause(heap);
-    uint32_t code = take_out(thread);
+    lxr_code code = take_out(mutator);
     pthread_mutex_unlock(&heap->lock);
     return code;
 }
 
 /* Stays at home, and holds up nobody. */
-static void stay_home(lxr_thread *thread, uint32_t code) {
-    lxr_threads *heap = thread->heap;
-    bring_home(thread);
-    stop(thread, code);
-    if (code == LXR_RESTS) heap->resting++;
+static void stay_home(lxr_mutator *mutator, lxr_code code) {
+    lxr_shared_heap *heap = mutator->heap;
+    bring_home(mutator);
+    stop(mutator, code);
+    if (code == LXR_E_RESTS) heap->resting++;
     count_home(heap, 1);
     pthread_mutex_unlock(&heap->lock);
 }
 
-/* Goes out again, behind the pause that is wanted, if one is. */
-static uint32_t go_out(lxr_thread *thread) {
-    lxr_threads *heap = thread->heap;
+/* Goes out again, after the pause that is wanted, if one is. */
+static lxr_code go_out(lxr_mutator *mutator) {
+    lxr_shared_heap *heap = mutator->heap;
     pthread_mutex_lock(&heap->lock);
     wait_for_pause(heap);
-    if (thread->stopped == LXR_RESTS) heap->resting--;
-    uint32_t code = take_out(thread);
+    if (mutator->stopped == LXR_E_RESTS) heap->resting--;
+    lxr_code code = take_out(mutator);
     pthread_mutex_unlock(&heap->lock);
     return code;
 }
@@ -217,268 +225,269 @@ static uint32_t go_out(lxr_thread *thread) {
 /* ---- Asking for pauses ---- */
 
 /* Asks for a pause, where none is wanted yet. */
-static uint32_t ask(lxr_thread *thread, bool collect) {
+static lxr_code ask(lxr_mutator *mutator, bool collect) {
     uint32_t wants = 0;
-    lxr_station_wants_pause(&thread->station, &wants);
-    if (wants) return LXR_HELD;
-    thread->granted++;
-    return collect ? lxr_station_ask_collect(&thread->station) : lxr_station_ask_pause(&thread->station);
+    lxr_station_wants_pause(&mutator->station, &wants);
+    if (wants) return LXR_E_HELD;
+    mutator->granted++;
+    return collect ? lxr_station_ask_collect(&mutator->station) : lxr_station_ask_pause(&mutator->station);
 }
 
 /* Takes part in a pause, one that is wanted already or one that it asks for. */
-static uint32_t pause_once(lxr_thread *thread, bool collect) {
+static lxr_code pause_once(lxr_mutator *mutator, bool collect) {
     uint64_t word = 0;
-    uint32_t asked = ask(thread, collect);
-    if (asked == LXR_USED_UP) return asked;
+    lxr_code asked = ask(mutator, collect);
+    if (asked == LXR_E_USED_UP) return asked;
     for (;;) {
-        uint32_t code = take_part(thread);
-        if (code != LXR_OK || asked != LXR_WAITS) return code;
-        asked = lxr_station_answer(&thread->station, &word);
+        mutator->asked = collect && asked == LXR_OK;
+        lxr_code code = take_part(mutator);
+        if (code != LXR_OK || asked != LXR_E_WAITS) return code;
+        asked = lxr_station_answer(&mutator->station, &word);
     }
 }
 
 /* Takes part in pauses until a collecting one was made. */
-static uint32_t collect(lxr_thread *thread) {
-    uint64_t collected = thread->collected;
-    uint32_t code = LXR_OK;
-    do code = pause_once(thread, true);
-    while (code == LXR_OK && thread->collected == collected);
+static lxr_code collect(lxr_mutator *mutator) {
+    uint64_t collected = mutator->collected;
+    lxr_code code = LXR_OK;
+    do code = pause_once(mutator, true);
+    while (code == LXR_OK && mutator->collected == collected);
     return code;
 }
 
 /* ---- Operations ---- */
 
-/* What comes of an operation that has answered so: behind the pauses that it waits for. LXR_HELD: it is to be called again. */
-static uint32_t wait_through(lxr_thread *thread, uint32_t code, uint64_t *word) {
-    while (code == LXR_WAITS || code == LXR_HELD) {
-        if (take_part(thread) != LXR_OK) return thread->stopped;
-        if (code == LXR_HELD) return code;
-        code = lxr_station_answer(&thread->station, word);
+/* What comes of an operation that has answered so: after the pauses that it waits for. LXR_E_HELD: it is to be called again. */
+static lxr_code wait_through(lxr_mutator *mutator, lxr_code code, uint64_t *word) {
+    while (code == LXR_E_WAITS || code == LXR_E_HELD) {
+        if (take_part(mutator) != LXR_OK) return mutator->stopped;
+        if (code == LXR_E_HELD) return code;
+        code = lxr_station_answer(&mutator->station, word);
     }
     return code;
 }
 
-/* The thread has done as many operations as it may since the last pause. */
-static void meet_end(lxr_thread *thread) {
-    count_done(thread);
-    uint32_t code = thread->collects ? collect(thread) : pause_once(thread, false);
-    if (code == LXR_USED_UP) thread->left = thread->granted = 1;
+/* The mutator has done as many operations as it may since the last pause. */
+static void meet_end(lxr_mutator *mutator) {
+    count_done(mutator);
+    lxr_code code = mutator->collects ? collect(mutator) : pause_once(mutator, false);
+    if (code == LXR_E_USED_UP) mutator->left = mutator->granted = 1;
 }
 
 /* Does what an operation that has answered so leads to; whether it is to be called again. */
-static bool settle(lxr_thread *thread, uint32_t *code, uint64_t *word) {
-    if (*code >= LXR_WAITS) {
-        *code = wait_through(thread, *code, word);
-        if (*code == LXR_HELD) return true;
-        if (thread->left == 0) return false;
-        thread->left--;
+static bool settle(lxr_mutator *mutator, lxr_code *code, uint64_t *word) {
+    if (*code >= LXR_E_WAITS) {
+        *code = wait_through(mutator, *code, word);
+        if (*code == LXR_E_HELD) return true;
+        if (mutator->left == 0) return false;
+        mutator->left--;
     }
-    if (thread->left == 0) meet_end(thread);
+    if (mutator->left == 0) meet_end(mutator);
     return false;
 }
 
 /* Whether an operation that has answered so is to be called again. Mostly it is done, and that is all. */
-static inline bool again(lxr_thread *thread, uint32_t *code, uint64_t *word) {
-    if (*code < LXR_WAITS && --thread->left) return false;
-    return settle(thread, code, word);
+static inline bool again(lxr_mutator *mutator, lxr_code *code, uint64_t *word) {
+    if (*code < LXR_E_WAITS && --mutator->left) return false;
+    return settle(mutator, code, word);
 }
 
-/* Why a thread makes no operation, if it makes none. */
-static inline uint32_t refusal(const lxr_thread *thread) {
-    if (!thread) return LXR_NO_HEAP;
-    return thread->left ? LXR_OK : thread->stopped;
+/* Why a mutator makes no operation, if it makes none. */
+static inline lxr_code refusal(const lxr_mutator *mutator) {
+    if (!mutator) return LXR_E_NO_HEAP;
+    return mutator->left ? LXR_OK : mutator->stopped;
 }
 
 /* The same of an operation that writes a register: the first keeps the world. */
-static inline uint32_t refusal_of(const lxr_thread *thread, uint32_t dest) {
-    uint32_t code = refusal(thread);
-    return code == LXR_OK && dest == 0 ? LXR_REGISTER : code;
+static inline lxr_code refusal_of(const lxr_mutator *mutator, uint32_t dest) {
+    lxr_code code = refusal(mutator);
+    return code == LXR_OK && dest == 0 ? LXR_E_REGISTER : code;
 }
 
-uint32_t lxr_thread_new(lxr_thread *thread, uint32_t dest, uint32_t refs, uint32_t words) {
+lxr_code lxr_mutator_new(lxr_mutator *mutator, uint32_t dest, uint32_t refs, uint32_t words) {
     uint64_t word = 0;
-    uint32_t code = refusal_of(thread, dest);
+    lxr_code code = refusal_of(mutator, dest);
     if (code != LXR_OK) return code;
-    do code = lxr_station_new(&thread->station, dest, refs, words);
-    while (again(thread, &code, &word));
+    do code = lxr_station_new(&mutator->station, dest, refs, words);
+    while (again(mutator, &code, &word));
     return code;
 }
 
-uint32_t lxr_thread_load(lxr_thread *thread, uint32_t dest, uint32_t base, uint32_t index) {
+lxr_code lxr_mutator_load(lxr_mutator *mutator, uint32_t dest, uint32_t base, uint32_t index) {
     uint64_t word = 0;
-    uint32_t code = refusal_of(thread, dest);
+    lxr_code code = refusal_of(mutator, dest);
     if (code != LXR_OK) return code;
-    do code = lxr_station_load(&thread->station, dest, base, index);
-    while (again(thread, &code, &word));
+    do code = lxr_station_load(&mutator->station, dest, base, index);
+    while (again(mutator, &code, &word));
     return code;
 }
 
-uint32_t lxr_thread_store(lxr_thread *thread, uint32_t base, uint32_t index, uint32_t source) {
+lxr_code lxr_mutator_store(lxr_mutator *mutator, uint32_t base, uint32_t index, uint32_t source) {
     uint64_t word = 0;
-    uint32_t code = refusal(thread);
+    lxr_code code = refusal(mutator);
     if (code != LXR_OK) return code;
-    do code = lxr_station_store(&thread->station, base, index, source);
-    while (again(thread, &code, &word));
+    do code = lxr_station_store(&mutator->station, base, index, source);
+    while (again(mutator, &code, &word));
     return code;
 }
 
-uint32_t lxr_thread_swap(lxr_thread *thread, uint32_t dest, uint32_t base, uint32_t index, uint32_t source) {
+lxr_code lxr_mutator_swap(lxr_mutator *mutator, uint32_t dest, uint32_t base, uint32_t index, uint32_t source) {
     uint64_t word = 0;
-    uint32_t code = refusal_of(thread, dest);
+    lxr_code code = refusal_of(mutator, dest);
     if (code != LXR_OK) return code;
-    do code = lxr_station_swap(&thread->station, dest, base, index, source);
-    while (again(thread, &code, &word));
+    do code = lxr_station_swap(&mutator->station, dest, base, index, source);
+    while (again(mutator, &code, &word));
     return code;
 }
 
-uint32_t lxr_thread_get(lxr_thread *thread, uint32_t base, uint32_t index, uint64_t *word) {
-    uint32_t code = refusal(thread);
+lxr_code lxr_mutator_get(lxr_mutator *mutator, uint32_t base, uint32_t index, uint64_t *word) {
+    lxr_code code = refusal(mutator);
     if (code != LXR_OK) return code;
-    do code = lxr_station_get(&thread->station, base, index, word);
-    while (again(thread, &code, word));
+    do code = lxr_station_get(&mutator->station, base, index, word);
+    while (again(mutator, &code, word));
     return code;
 }
 
-uint32_t lxr_thread_put(lxr_thread *thread, uint32_t base, uint32_t index, uint64_t word) {
+lxr_code lxr_mutator_put(lxr_mutator *mutator, uint32_t base, uint32_t index, uint64_t word) {
     uint64_t none = 0;
-    uint32_t code = refusal(thread);
+    lxr_code code = refusal(mutator);
     if (code != LXR_OK) return code;
-    do code = lxr_station_put(&thread->station, base, index, word);
-    while (again(thread, &code, &none));
+    do code = lxr_station_put(&mutator->station, base, index, word);
+    while (again(mutator, &code, &none));
     return code;
 }
 
-uint32_t lxr_thread_add(lxr_thread *thread, uint32_t base, uint32_t index, uint64_t word, uint64_t *old) {
-    uint32_t code = refusal(thread);
+lxr_code lxr_mutator_add(lxr_mutator *mutator, uint32_t base, uint32_t index, uint64_t word, uint64_t *old) {
+    lxr_code code = refusal(mutator);
     if (code != LXR_OK) return code;
-    do code = lxr_station_add(&thread->station, base, index, word, old);
-    while (again(thread, &code, old));
+    do code = lxr_station_add(&mutator->station, base, index, word, old);
+    while (again(mutator, &code, old));
     return code;
 }
 
-uint32_t lxr_thread_same(lxr_thread *thread, uint32_t left, uint32_t right, uint32_t *same) {
+lxr_code lxr_mutator_same(lxr_mutator *mutator, uint32_t left, uint32_t right, uint32_t *same) {
     uint32_t flag = 2;
     uint64_t answer = 2;
-    uint32_t code = refusal(thread);
+    lxr_code code = refusal(mutator);
     if (code != LXR_OK) return code;
-    do code = lxr_station_same(&thread->station, left, right, &flag);
-    while (again(thread, &code, &answer));
+    do code = lxr_station_same(&mutator->station, left, right, &flag);
+    while (again(mutator, &code, &answer));
     if (code == LXR_OK) *same = answer < 2 ? (uint32_t)answer : flag;
     return code;
 }
 
-uint32_t lxr_thread_move(lxr_thread *thread, uint32_t dest, uint32_t source) {
+lxr_code lxr_mutator_move(lxr_mutator *mutator, uint32_t dest, uint32_t source) {
     uint64_t word = 0;
-    uint32_t code = refusal_of(thread, dest);
+    lxr_code code = refusal_of(mutator, dest);
     if (code != LXR_OK) return code;
-    do code = lxr_station_move(&thread->station, dest, source);
-    while (again(thread, &code, &word));
+    do code = lxr_station_move(&mutator->station, dest, source);
+    while (again(mutator, &code, &word));
     return code;
 }
 
-uint32_t lxr_thread_nil(lxr_thread *thread, uint32_t dest) {
+lxr_code lxr_mutator_nil(lxr_mutator *mutator, uint32_t dest) {
     uint64_t word = 0;
-    uint32_t code = refusal_of(thread, dest);
+    lxr_code code = refusal_of(mutator, dest);
     if (code != LXR_OK) return code;
-    do code = lxr_station_nil(&thread->station, dest);
-    while (again(thread, &code, &word));
+    do code = lxr_station_nil(&mutator->station, dest);
+    while (again(mutator, &code, &word));
     return code;
 }
 
-uint32_t lxr_thread_pause(lxr_thread *thread) {
-    uint32_t code = refusal(thread);
-    return code == LXR_OK ? pause_once(thread, false) : code;
+lxr_code lxr_mutator_pause(lxr_mutator *mutator) {
+    lxr_code code = refusal(mutator);
+    return code == LXR_OK ? pause_once(mutator, false) : code;
 }
 
-uint32_t lxr_thread_collect(lxr_thread *thread) {
-    uint32_t code = refusal(thread);
-    return code == LXR_OK ? collect(thread) : code;
+lxr_code lxr_mutator_collect(lxr_mutator *mutator) {
+    lxr_code code = refusal(mutator);
+    return code == LXR_OK ? collect(mutator) : code;
 }
 
-uint32_t lxr_thread_poll(lxr_thread *thread) {
+lxr_code lxr_mutator_poll(lxr_mutator *mutator) {
     uint32_t wants = 0;
-    uint32_t code = refusal(thread);
+    lxr_code code = refusal(mutator);
     if (code != LXR_OK) return code;
-    lxr_station_wants_pause(&thread->station, &wants);
-    return wants ? take_part(thread) : LXR_OK;
+    lxr_station_wants_pause(&mutator->station, &wants);
+    return wants ? take_part(mutator) : LXR_OK;
 }
 
-/* ---- Threads ---- */
+/* ---- Mutators ---- */
 
-uint32_t lxr_thread_rest(lxr_thread *thread) {
-    uint32_t code = refusal(thread);
-    if (code == LXR_OK) stay_home(thread, LXR_RESTS);
+lxr_code lxr_mutator_rest(lxr_mutator *mutator) {
+    lxr_code code = refusal(mutator);
+    if (code == LXR_OK) stay_home(mutator, LXR_E_RESTS);
     return code;
 }
 
-uint32_t lxr_thread_wake(lxr_thread *thread) {
-    if (!thread) return LXR_NO_HEAP;
-    if (thread->left) return LXR_AWAKE;
-    return thread->stopped == LXR_RESTS ? go_out(thread) : thread->stopped;
+lxr_code lxr_mutator_wake(lxr_mutator *mutator) {
+    if (!mutator) return LXR_E_NO_HEAP;
+    if (mutator->left) return LXR_E_AWAKE;
+    return mutator->stopped == LXR_E_RESTS ? go_out(mutator) : mutator->stopped;
 }
 
 /* Finds a number that is free, and takes its pass out. The lock is held. */
-static uint32_t take_number(lxr_thread *thread) {
-    lxr_threads *heap = thread->heap;
-    for (uint32_t number = 0; number < heap->settings.threads; number++) {
+static lxr_code take_number(lxr_mutator *mutator) {
+    lxr_shared_heap *heap = mutator->heap;
+    for (uint32_t number = 0; number < heap->settings.mutators; number++) {
         struct place *place = &heap->places[number];
         if (place->taken || place->spoiled) continue;
-        thread->number = number;
-        uint32_t code = take_out(thread);
+        mutator->number = number;
+        lxr_code code = take_out(mutator);
         place->taken = code == LXR_OK;
         heap->entered += place->taken;
         return code;
     }
-    return LXR_NUMBER;
+    return LXR_E_NUMBER;
 }
 
-uint32_t lxr_thread_enter(lxr_threads *heap, lxr_thread **handle) {
-    if (!heap) return LXR_NO_HEAP;
-    if (*handle) return LXR_IN_USE;
-    lxr_thread *thread = calloc(1, sizeof *thread);
-    if (!thread) return LXR_MEMORY;
-    thread->heap = heap;
+lxr_code lxr_mutator_enter(lxr_shared_heap *heap, lxr_mutator **handle) {
+    if (!heap) return LXR_E_NO_HEAP;
+    if (*handle) return LXR_E_IN_USE;
+    lxr_mutator *mutator = calloc(1, sizeof *mutator);
+    if (!mutator) return LXR_E_MEMORY;
+    mutator->heap = heap;
     pthread_mutex_lock(&heap->lock);
     wait_for_pause(heap);
-    uint32_t code = take_number(thread);
+    lxr_code code = take_number(mutator);
     pthread_mutex_unlock(&heap->lock);
     if (code == LXR_OK) {
-        *handle = thread;
+        *handle = mutator;
     } else {
-        lxr_station_close(&thread->station);
-        free(thread);
+        lxr_station_close(&mutator->station);
+        free(mutator);
     }
     return code;
 }
 
 /* Lets go of what the registers hold, but the world; whether they are all nil. */
-static bool clear_registers(lxr_thread *thread) {
+static bool clear_registers(lxr_mutator *mutator) {
     uint64_t word = 0;
     bool cleared = true;
-    for (uint32_t dest = 1; dest < LXR_REGISTERS && thread->left; dest++) {
-        uint32_t code = LXR_HELD;
-        while (code == LXR_HELD) code = wait_through(thread, lxr_station_nil(&thread->station, dest), &word);
-        thread->granted++;
+    for (uint32_t dest = 1; dest < LXR_REGISTERS && mutator->left; dest++) {
+        lxr_code code = LXR_E_HELD;
+        while (code == LXR_E_HELD) code = wait_through(mutator, lxr_station_nil(&mutator->station, dest), &word);
+        mutator->granted++;
         cleared = cleared && code == LXR_OK;
     }
     return cleared;
 }
 
-uint32_t lxr_thread_leave(lxr_thread **handle) {
-    lxr_thread *thread = *handle;
-    if (!thread) return LXR_NO_HEAP;
-    lxr_threads *heap = thread->heap;
-    if (!thread->left && thread->stopped != LXR_LOST) go_out(thread);
-    bool spoiled = thread->left && !clear_registers(thread);
-    bool out = thread->left != 0;
-    bring_home(thread);
-    place_of(thread)->spoiled = spoiled;
-    place_of(thread)->taken = false;
+lxr_code lxr_mutator_leave(lxr_mutator **handle) {
+    lxr_mutator *mutator = *handle;
+    if (!mutator) return LXR_E_NO_HEAP;
+    lxr_shared_heap *heap = mutator->heap;
+    if (!mutator->left && mutator->stopped != LXR_E_LOST) go_out(mutator);
+    bool spoiled = mutator->left && !clear_registers(mutator);
+    bool out = mutator->left != 0;
+    bring_home(mutator);
+    place_of(mutator)->spoiled = spoiled;
+    place_of(mutator)->taken = false;
     heap->entered--;
     count_home(heap, out ? 1 : 0);
     pthread_mutex_unlock(&heap->lock);
-    lxr_station_close(&thread->station);
-    free(thread);
+    lxr_station_close(&mutator->station);
+    free(mutator);
     *handle = NULL;
     return LXR_OK;
 }
@@ -491,8 +500,8 @@ static bool help_some(lxr_station *station) {
     return lxr_station_help(station, UNITS, &more) == LXR_OK && more;
 }
 
-/* Whether some thread waits for a pause. */
-static bool is_pause_wanted(lxr_threads *heap) {
+/* Whether some mutator waits for a pause. */
+static bool is_pause_wanted(lxr_shared_heap *heap) {
     pthread_mutex_lock(&heap->lock);
     bool wanted = heap->wanted;
     pthread_mutex_unlock(&heap->lock);
@@ -509,7 +518,7 @@ static void work(struct helper *helper) {
 }
 
 /* Waits until another epoch is open; whether one is that helpers go out in. The lock is held. */
-static bool wait_for_epoch(lxr_threads *heap, uint64_t *epoch) {
+static bool wait_for_epoch(lxr_shared_heap *heap, uint64_t *epoch) {
     while (heap->epoch == *epoch && !heap->closing) pthread_cond_wait(&heap->moved, &heap->lock);
     *epoch = heap->epoch;
     return !heap->closing && !heap->lost;
@@ -517,10 +526,10 @@ static bool wait_for_epoch(lxr_threads *heap, uint64_t *epoch) {
 
 /* Takes the helper's passes out; how many went. The lock is held. */
 static uint32_t send_helper(struct helper *helper) {
-    lxr_threads *heap = helper->heap;
-    uint32_t first = heap->settings.threads + helper->number;
-    uint32_t out = lxr_station_leave(&heap->shared, first, &helper->counts) == LXR_OK;
-    out += lxr_station_leave(&heap->shared, first + heap->settings.helpers, &helper->traces) == LXR_OK;
+    lxr_shared_heap *heap = helper->heap;
+    uint32_t first = heap->settings.mutators + helper->number;
+    uint32_t out = lxr_station_leave(&heap->passes, first, &helper->counts) == LXR_OK;
+    out += lxr_station_leave(&heap->passes, first + heap->settings.helpers, &helper->traces) == LXR_OK;
     heap->away += out;
     return out;
 }
@@ -528,7 +537,7 @@ static uint32_t send_helper(struct helper *helper) {
 /* What a helper does, from its start to its end: in each epoch it goes out, works while there is work, and comes home. */
 static void *be_helper(void *with) {
     struct helper *helper = with;
-    lxr_threads *heap = helper->heap;
+    lxr_shared_heap *heap = helper->heap;
     uint64_t epoch = 0;
     pthread_mutex_lock(&heap->lock);
     while (wait_for_epoch(heap, &epoch)) {
@@ -545,7 +554,7 @@ static void *be_helper(void *with) {
 }
 
 /* Starts helpers; how many were started. */
-static uint32_t start_helpers(lxr_threads *heap) {
+static uint32_t start_helpers(lxr_shared_heap *heap) {
     for (uint32_t number = 0; number < heap->settings.helpers; number++) {
         struct helper *helper = &heap->helpers[number];
         helper->heap = heap;
@@ -557,25 +566,34 @@ static uint32_t start_helpers(lxr_threads *heap) {
 
 /* ---- A heap ---- */
 
-static bool are_settings(const lxr_threads_settings *settings) {
-    return settings->threads >= 1 && settings->threads <= LXR_MOST_THREADS && settings->helpers <= LXR_MOST_HELPERS &&
-           settings->every >= 1 && settings->every <= LXR_MOST_EVERY;
+static bool are_settings(const lxr_shared_heap_settings *settings) {
+    return settings->size == sizeof *settings && settings->mutators >= 1 && settings->mutators <= LXR_MOST_MUTATORS &&
+           settings->helpers <= LXR_MOST_HELPERS && settings->every >= 1 && settings->every <= LXR_MOST_EVERY;
 }
 
 /* Opens the heap and its first epoch. */
-static uint32_t open_shared(lxr_threads *heap) {
-    const lxr_threads_settings *asked = &heap->settings;
-    lxr_settings settings = { asked->blocks, asked->threads, asked->helpers ? asked->helpers : 1, asked->log,
-                              asked->remember, asked->every + SPARE, asked->trace, asked->within };
-    uint32_t code = lxr_shared_open(&heap->shared, &settings);
-    if (code == LXR_OK) code = lxr_shared_resume(&heap->shared);
-    if (code != LXR_OK) lxr_shared_close(&heap->shared);
+static lxr_code open_passes(lxr_shared_heap *heap) {
+    const lxr_shared_heap_settings *asked = &heap->settings;
+    lxr_passes_settings settings = {
+        .size = sizeof settings,
+        .blocks = asked->blocks,
+        .mutators = asked->mutators,
+        .helpers = asked->helpers ? asked->helpers : 1,
+        .log = asked->log,
+        .remember = asked->remember,
+        .every = asked->every + SPARE,
+        .trace = asked->trace,
+        .within = asked->within,
+    };
+    lxr_code code = lxr_passes_open(&heap->passes, &settings);
+    if (code == LXR_OK) code = lxr_passes_resume(&heap->passes);
+    if (code != LXR_OK) lxr_passes_close(&heap->passes);
     heap->epoch = 1;
     return code;
 }
 
 /* Ends so many helpers, and returns all that the heap has. */
-static void end(lxr_threads *heap, uint32_t helpers) {
+static void end(lxr_shared_heap *heap, uint32_t helpers) {
     pthread_mutex_lock(&heap->lock);
     heap->closing = true;
     pthread_cond_broadcast(&heap->moved);
@@ -585,15 +603,15 @@ static void end(lxr_threads *heap, uint32_t helpers) {
         lxr_station_close(&heap->helpers[number].counts);
         lxr_station_close(&heap->helpers[number].traces);
     }
-    lxr_shared_close(&heap->shared);
+    lxr_passes_close(&heap->passes);
     pthread_cond_destroy(&heap->moved);
     pthread_mutex_destroy(&heap->lock);
     free(heap);
 }
 
 /* A heap of these settings without a heap of the archive; null where there is no memory. */
-static lxr_threads *make_heap(const lxr_threads_settings *settings) {
-    lxr_threads *heap = calloc(1, sizeof *heap);
+static lxr_shared_heap *make_heap(const lxr_shared_heap_settings *settings) {
+    lxr_shared_heap *heap = calloc(1, sizeof *heap);
     if (!heap) return NULL;
     heap->settings = *settings;
     heap->worn = WORN;
@@ -609,14 +627,14 @@ static lxr_threads *make_heap(const lxr_threads_settings *settings) {
     return heap;
 }
 
-uint32_t lxr_threads_open(lxr_threads **handle, const lxr_threads_settings *settings) {
-    if (*handle) return LXR_IN_USE;
-    if (!are_settings(settings)) return LXR_SIZE;
-    lxr_threads *heap = make_heap(settings);
-    if (!heap) return LXR_MEMORY;
-    uint32_t code = open_shared(heap);
+lxr_code lxr_shared_heap_open(lxr_shared_heap **handle, const lxr_shared_heap_settings *settings) {
+    if (*handle) return LXR_E_IN_USE;
+    if (!are_settings(settings)) return LXR_E_SIZE;
+    lxr_shared_heap *heap = make_heap(settings);
+    if (!heap) return LXR_E_MEMORY;
+    lxr_code code = open_passes(heap);
     uint32_t helpers = code == LXR_OK ? start_helpers(heap) : 0;
-    if (code == LXR_OK && helpers < settings->helpers) code = LXR_MEMORY;
+    if (code == LXR_OK && helpers < settings->helpers) code = LXR_E_MEMORY;
     if (code == LXR_OK) {
         *handle = heap;
     } else {
@@ -625,34 +643,34 @@ uint32_t lxr_threads_open(lxr_threads **handle, const lxr_threads_settings *sett
     return code;
 }
 
-uint32_t lxr_threads_close(lxr_threads **handle) {
-    lxr_threads *heap = *handle;
-    if (!heap) return LXR_NO_HEAP;
+lxr_code lxr_shared_heap_close(lxr_shared_heap **handle) {
+    lxr_shared_heap *heap = *handle;
+    if (!heap) return LXR_E_NO_HEAP;
     pthread_mutex_lock(&heap->lock);
     bool in_use = heap->entered != 0;
     pthread_mutex_unlock(&heap->lock);
-    if (in_use) return LXR_IN_USE;
+    if (in_use) return LXR_E_IN_USE;
     end(heap, heap->settings.helpers);
     *handle = NULL;
     return LXR_OK;
 }
 
-uint32_t lxr_threads_count(lxr_threads *heap, uint32_t what, uint64_t *number) {
-    uint32_t code = LXR_OK;
-    if (!heap) return LXR_NO_HEAP;
+lxr_code lxr_shared_heap_count(lxr_shared_heap *heap, uint32_t what, uint64_t *number) {
+    lxr_code code = LXR_OK;
+    if (!heap) return LXR_E_NO_HEAP;
     pthread_mutex_lock(&heap->lock);
-    if (what == LXR_PAUSES) {
+    if (what == LXR_COUNT_PAUSES) {
         *number = heap->paused;
     } else if (what < TOLD) {
         *number = heap->told[what];
-    } else if (what == LXR_COLLECTED) {
+    } else if (what == LXR_COUNT_COLLECTING) {
         *number = heap->collected;
-    } else if (what == LXR_ENTERED) {
+    } else if (what == LXR_COUNT_ENTERED) {
         *number = heap->entered;
-    } else if (what == LXR_RESTING) {
+    } else if (what == LXR_COUNT_RESTING) {
         *number = heap->resting;
     } else {
-        code = LXR_WHAT;
+        code = LXR_E_WHAT;
     }
     pthread_mutex_unlock(&heap->lock);
     return code;

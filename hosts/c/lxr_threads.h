@@ -2,24 +2,26 @@
  * lxr_threads.h: a garbage-collected heap that threads share, whose collector is proved. SPDX: MIT OR Apache-2.0
  *
  * The objects are those of lxr.h, without large ones. Up to 16 threads make them, read and write them, and let go of them, all at once.
- * Each thread has sixteen REGISTERS of its own, numbers 0 to 15. A register is nil or holds an object; register 0 holds the WORLD, which
- * is the same object for all threads and has 64 references: what threads share they find from there. As a thread enters, its other
- * registers are nil. What registers hold is kept, and what kept objects refer to; all else is reclaimed by PAUSES.
+ * Each enters the heap and has a MUTATOR there: sixteen REGISTERS of its own, numbers 0 to 15, and the right to call. A register is nil or
+ * holds an object; register 0 holds the WORLD, which is the same object for all mutators and has 64 references: what threads share they
+ * find from there. As a thread enters, its other registers are nil. What registers hold is kept, and what kept objects refer to; all else
+ * is reclaimed by PAUSES.
  *
  * Operations of different threads that meet at one field are atomic and in one order for all (sequentially consistent): a load finds the
  * last store before it, a swap or an add is one step. Nothing else has to be ordered: no operation takes a lock or waits for another
  * thread, but where a pause is wanted. Then each thread waits at its next operation, and the last to come makes the pause and lets all go
- * on. A thread that is about to do something long without operations says so, by lxr_thread_rest and lxr_thread_wake around it, and then
- * holds up nobody; or it asks now and then whether a pause is wanted, by lxr_thread_poll.
+ * on. So a thread that makes no operation holds a pause up. One that is about to do something long without operations says so, by
+ * lxr_mutator_rest and lxr_mutator_wake around it, and then holds up nobody; or it asks now and then whether a pause is wanted, by
+ * lxr_mutator_poll.
  *
  * Each function answers a CODE of lxr.h. At any other code than LXR_OK nothing has changed but that pauses may have been made, and no out
  * parameter was written. No number that is passed can do harm: each is looked at.
  *
- * What a host owes: a handle, which is a pointer to a heap or a thread, begins as null, and is written to by these functions alone; a
- * `lxr_thread` is in one call at a time, in whichever thread of the system; a heap isn't closed while it is in another call; a pointer that
- * is passed isn't null, but for a handle's value, leads to as many words as the call says, and to nothing of another pointer's; a thread
- * that waits for another one, for a lock that others hold, or for input, rests meanwhile; no call is made in a signal handler, nor in a
- * forked process of a heap that was opened before the fork.
+ * What a host owes: a handle, which is a pointer to a heap or a mutator, begins as null, and is written to by these functions alone; a
+ * `lxr_mutator` is in one call at a time, in whichever thread of the system; a heap isn't closed while it is in another call; a pointer
+ * that is passed isn't null, but for a handle's value, leads to as many words as the call says, and to nothing of another pointer's; a
+ * thread that waits for another one, for a lock that others hold, or for input, rests meanwhile; no call is made in a signal handler, nor
+ * in a forked process of a heap that was opened before the fork.
  *
  * lxr_threads.c is the library behind this header: the waiting, in plain C over POSIX threads. What a pass may do and what comes of it is
  * the archive's, liblxr.a (lxr_passes.h), and proved.
@@ -33,18 +35,18 @@
 extern "C" {
 #endif
 
-/* A heap, and a thread of it. */
-typedef struct lxr_threads lxr_threads;
-typedef struct lxr_thread lxr_thread;
+/* A heap, and a mutator of it: a thread's registers, and its right to call. */
+typedef struct lxr_shared_heap lxr_shared_heap;
+typedef struct lxr_mutator lxr_mutator;
 
 /* Limits. */
-#define LXR_MOST_THREADS        16u       /* threads that are in a heap at once */
-#define LXR_MOST_HELPERS        8u        /* helpers of a heap */
-#define LXR_MOST_SHARED_BLOCKS  1024u     /* blocks of a heap: 32 MB */
-#define LXR_MOST_LOG            65536u    /* entries of a thread's log */
-#define LXR_MOST_REMEMBER       1048576u  /* entries of the remembered set */
-#define LXR_MOST_EVERY          1000000u  /* operations of a thread between two pauses */
-#define LXR_MOST_TRACE          1000000u  /* pauses from one trace to the next, and within one */
+#define LXR_MOST_MUTATORS      16u      /* mutators that are in a heap at once */
+#define LXR_MOST_HELPERS       8u       /* helpers of a heap */
+#define LXR_MOST_SHARED_BLOCKS 1024u    /* blocks of a heap: 32 MB */
+#define LXR_MOST_LOG           65536u   /* entries of a mutator's log */
+#define LXR_MOST_REMEMBER      1048576u /* entries of the remembered set */
+#define LXR_MOST_EVERY         1000000u /* operations of a mutator between two pauses */
+#define LXR_MOST_TRACE         1000000u /* pauses from one trace to the next, and within one */
 
 /* How long a pause took; where a collecting one came right behind it, both. */
 typedef struct lxr_pause_times {
@@ -53,158 +55,160 @@ typedef struct lxr_pause_times {
     uint64_t pausing;   /* nanoseconds from there until they could go on */
 } lxr_pause_times;
 
-/* What a heap is made of. */
-typedef struct lxr_threads_settings {
+/* What a heap is made of. The first word is the size of it all, as of lxr_settings. */
+typedef struct lxr_shared_heap_settings {
+    uint64_t size;     /* sizeof(lxr_shared_heap_settings) */
     uint32_t blocks;   /* blocks of 32 KB, 1 to 1,024 */
-    uint32_t threads;  /* threads that may be in it at once, 1 to 16 */
+    uint32_t mutators; /* mutators that may be in it at once, 1 to 16 */
     uint32_t helpers;  /* threads of its own that do work of pauses ahead, 0 to 8: each lowers counts and traces */
-    uint32_t log;      /* overwritten references that a thread records between two pauses, 1 to 65,536: full, it wants a pause */
+    uint32_t log;      /* overwritten references that a mutator records between two pauses, 1 to 65,536: full, it wants a pause */
     uint32_t remember; /* references that a trace remembers, 1 to 1,048,576 */
-    uint32_t every;    /* a thread wants a pause behind so many operations since the last one, 1 to 1,000,000 */
+    uint32_t every;    /* a mutator wants a pause after so many operations since the last one, 1 to 1,000,000 */
     uint32_t trace;    /* each pause whose number is a multiple of it begins a trace, where none runs, 1 to 1,000,000 */
     uint32_t within;   /* a trace ends at the latest so many pauses after it began, 1 to 1,000,000 */
 
-    /* Told of each pause right behind it, unless it is null, by the thread that made it. It waits for no thread and calls none of these. */
+    /* Told of each pause right after it, unless it is null, by the thread that made it. It waits for no thread and calls none of these. */
     void (*paused)(void *with, const lxr_pause_times *times);
     void *with; /* what it is told besides */
-} lxr_threads_settings;
+} lxr_shared_heap_settings;
 
-/* Settings that mostly do, for so many blocks and threads. */
-#define LXR_THREADS_SETTINGS(blocks, threads) { (blocks), (threads), 1, 1024, 65536, 65536, 16, 4, 0, 0 }
+/* Settings that mostly do, for so many blocks and mutators. */
+#define LXR_SHARED_HEAP_SETTINGS(blocks, mutators) \
+    { sizeof(lxr_shared_heap_settings), (blocks), (mutators), 1, 1024, 65536, 65536, 16, 4, 0, 0 }
 
 /* ---- A heap ---- */
 
 /*
  * Opens a heap, and starts its helpers.
- * Codes: LXR_IN_USE, where the handle isn't null; LXR_SIZE, where a setting is out of its range; LXR_MEMORY, which is the answer too where
- * the system starts no further thread. Cost: grows with the number of blocks.
+ * Codes: LXR_E_IN_USE, where the handle isn't null; LXR_E_SIZE, where a setting is out of its range, or `size` none that is known; LXR_E_MEMORY, which is the answer too
+ * where the system starts no further thread. Cost: grows with the number of blocks.
  */
-uint32_t lxr_threads_open(lxr_threads **threads, const lxr_threads_settings *settings);
+lxr_code lxr_shared_heap_open(lxr_shared_heap **heap, const lxr_shared_heap_settings *settings);
 
 /*
- * Closes a heap that no thread is in: its helpers end, all its objects go, its memory is returned, and the handle is null.
- * Codes: LXR_NO_HEAP, where the handle is null; LXR_IN_USE, where a thread is in it.
+ * Closes a heap without mutators: its helpers end, all its objects go, its memory is returned, and the handle is null.
+ * Codes: LXR_E_NO_HEAP, where the handle is null; LXR_E_IN_USE, where a mutator is in it.
  */
-uint32_t lxr_threads_close(lxr_threads **threads);
+lxr_code lxr_shared_heap_close(lxr_shared_heap **heap);
 
-/* What lxr_threads_count tells besides LXR_PAUSES, LXR_PROMOTED, LXR_DEAD, LXR_STUCK and LXR_SWEPT of lxr.h. */
-#define LXR_COLLECTED 8u  /* pauses that were collecting, since the heap was opened */
-#define LXR_ENTERED   9u  /* threads that are in it */
-#define LXR_RESTING   10u /* of these, threads that rest */
+/* What lxr_shared_heap_count tells besides LXR_COUNT_PAUSES, _PROMOTED, _DEAD, _STUCK and _SWEPT of lxr.h. */
+#define LXR_COUNT_COLLECTING 8u  /* pauses that were collecting, since the heap was opened */
+#define LXR_COUNT_ENTERED    9u  /* mutators that are in it */
+#define LXR_COUNT_RESTING    10u /* of these, mutators that rest */
 
 /*
- * `*number` becomes one of these numbers, as it stands behind the last pause.
- * Codes: LXR_NO_HEAP, LXR_WHAT. Cost: constant, and a lock.
+ * `*number` becomes one of these numbers, as it stands after the last pause.
+ * Codes: LXR_E_NO_HEAP, LXR_E_WHAT. Cost: constant, and a lock.
  */
-uint32_t lxr_threads_count(lxr_threads *threads, uint32_t what, uint64_t *number);
+lxr_code lxr_shared_heap_count(lxr_shared_heap *heap, uint32_t what, uint64_t *number);
 
-/* ---- Threads ---- */
+/* ---- Mutators ---- */
 
 /*
- * Enters a heap: the handle is a thread of it, whose register 0 holds the world, and whose other registers are nil. Where a pause is wanted
- * it waits for it.
- * Codes: LXR_NO_HEAP, where the heap's handle is null; LXR_IN_USE, where the thread's isn't; LXR_MEMORY; LXR_NUMBER, where as many threads
- * are in it as may be; LXR_LOST. Cost: constant, and a lock.
+ * Enters a heap: the handle is a mutator of it, whose register 0 holds the world, and whose other registers are nil. Where a pause is
+ * wanted it waits for it.
+ * Codes: LXR_E_NO_HEAP, where the heap's handle is null; LXR_E_IN_USE, where the mutator's isn't; LXR_E_MEMORY; LXR_E_NUMBER, where as many
+ * mutators are in it as may be; LXR_E_LOST. Cost: constant, and a lock.
  */
-uint32_t lxr_thread_enter(lxr_threads *threads, lxr_thread **thread);
+lxr_code lxr_mutator_enter(lxr_shared_heap *heap, lxr_mutator **mutator);
 
 /*
- * Leaves the heap: the thread lets go of what its registers hold, its place is free for another one, and the handle is null. So it is too
- * where the thread rests, or where the heap is lost.
- * Code: LXR_NO_HEAP, where the handle is null. Cost: that of fifteen lxr_thread_nil, and a lock.
+ * Leaves the heap: the mutator lets go of what its registers hold, its place is free for another one, and the handle is null. So it is too
+ * where the mutator rests, or where the heap is lost.
+ * Code: LXR_E_NO_HEAP, where the handle is null. Cost: that of fifteen lxr_mutator_nil, and a lock.
  */
-uint32_t lxr_thread_leave(lxr_thread **thread);
+lxr_code lxr_mutator_leave(lxr_mutator **mutator);
 
 /*
- * From here until lxr_thread_wake the thread holds up no pause, and makes no operation. Where it was the last that a pause waited for, it
+ * From here until lxr_mutator_wake the mutator holds up no pause, and makes no operation. Where it was the last that a pause waited for, it
  * makes the pause.
- * Codes: LXR_NO_HEAP, LXR_RESTS, where it rests already, LXR_LOST. Cost: constant, and a lock.
+ * Codes: LXR_E_NO_HEAP, LXR_E_RESTS, where it rests already, LXR_E_LOST. Cost: constant, and a lock.
  */
-uint32_t lxr_thread_rest(lxr_thread *thread);
+lxr_code lxr_mutator_rest(lxr_mutator *mutator);
 
 /*
- * The thread has rested, and goes on with operations. Its registers hold what they held. Where a pause is wanted it waits for it.
- * Codes: LXR_NO_HEAP, LXR_AWAKE, where it doesn't rest, LXR_LOST. Cost: constant, and a lock.
+ * The mutator has rested, and goes on with operations. Its registers hold what they held. Where a pause is wanted it waits for it.
+ * Codes: LXR_E_NO_HEAP, LXR_E_AWAKE, where it doesn't rest, LXR_E_LOST. Cost: constant, and a lock.
  */
-uint32_t lxr_thread_wake(lxr_thread *thread);
+lxr_code lxr_mutator_wake(lxr_mutator *mutator);
 
 /*
  * Takes part in a pause, where one is wanted; else it does nothing. Codes: those of each operation. Cost: constant, but for the pause.
  */
-uint32_t lxr_thread_poll(lxr_thread *thread);
+lxr_code lxr_mutator_poll(lxr_mutator *mutator);
 
 /* ---- Operations ---- */
 
 /*
- * Registers are the thread's own. `dest` is 1 to 15, since register 0 keeps the world; the others are 0 to 15. An operation and
- * lxr_thread_poll, _pause and _collect have these codes before their own: LXR_NO_HEAP, where the handle is null; LXR_RESTS, where the
- * thread rests; LXR_LOST, where there was no memory to go on behind a pause, so that the heap is only to be left and closed. A thread lives
- * for ever: objects are given new names now and then, by a collecting pause. Only a heap that is so full through sixteen million
- * operations that at each of these pauses an object waited for room has none left to give: then an operation says LXR_USED_UP.
+ * Registers are the mutator's own. `dest` is 1 to 15, since register 0 keeps the world; the others are 0 to 15. An operation and
+ * lxr_mutator_poll, _pause and _collect have these codes before their own: LXR_E_NO_HEAP, where the handle is null; LXR_E_RESTS, where the
+ * mutator rests; LXR_E_LOST, where there was no memory to go on after a pause, so that the heap is only to be left and closed. A mutator
+ * lives for ever: objects are given new names now and then, by a collecting pause. Only a heap that is so full through sixteen million
+ * operations that at each of these pauses an object waited for room has none left to give: then an operation says LXR_E_USED_UP.
  */
 
 /*
  * Register `dest` holds a new object with `refs` references, all nil, and `words` data words, all 0, up to 1,023 each. Where there is no
- * room it waits for a pause, and for a collecting one before it says LXR_FULL: then the objects that can be reached leave no room.
- * Codes: LXR_REGISTER, LXR_SIZE, LXR_FULL. Cost: grows with the size of the object.
+ * room it waits for a pause, and for a collecting one before it says LXR_E_FULL: then the objects that can be reached leave no room.
+ * Codes: LXR_E_REGISTER, LXR_E_SIZE, LXR_E_FULL. Cost: grows with the size of the object.
  */
-uint32_t lxr_thread_new(lxr_thread *thread, uint32_t dest, uint32_t refs, uint32_t words);
+lxr_code lxr_mutator_new(lxr_mutator *mutator, uint32_t dest, uint32_t refs, uint32_t words);
 
 /*
  * Register `dest` holds what reference `index` of the object in register `base` refers to, or is nil where that is nil.
- * Codes: LXR_REGISTER, LXR_NIL, LXR_INDEX. Cost: constant.
+ * Codes: LXR_E_REGISTER, LXR_E_NIL, LXR_E_INDEX. Cost: constant.
  */
-uint32_t lxr_thread_load(lxr_thread *thread, uint32_t dest, uint32_t base, uint32_t index);
+lxr_code lxr_mutator_load(lxr_mutator *mutator, uint32_t dest, uint32_t base, uint32_t index);
 
 /*
  * Reference `index` of the object in register `base` becomes what register `source` holds, or nil. The first store to a reference of a kept
- * object between two pauses, by whichever thread, records what it overwrites.
- * Codes: LXR_REGISTER, LXR_NIL, LXR_INDEX. Cost: constant.
+ * object between two pauses, by whichever mutator, records what it overwrites.
+ * Codes: LXR_E_REGISTER, LXR_E_NIL, LXR_E_INDEX. Cost: constant.
  */
-uint32_t lxr_thread_store(lxr_thread *thread, uint32_t base, uint32_t index, uint32_t source);
+lxr_code lxr_mutator_store(lxr_mutator *mutator, uint32_t base, uint32_t index, uint32_t source);
 
 /*
  * Reference `index` of the object in register `base` becomes what register `source` holds, or nil, and register `dest` holds what it was,
  * in one step: of two threads that swap at once, one finds what the other has left.
- * Codes: LXR_REGISTER, LXR_NIL, LXR_INDEX. Cost: as that of lxr_thread_store.
+ * Codes: LXR_E_REGISTER, LXR_E_NIL, LXR_E_INDEX. Cost: as that of lxr_mutator_store.
  */
-uint32_t lxr_thread_swap(lxr_thread *thread, uint32_t dest, uint32_t base, uint32_t index, uint32_t source);
+lxr_code lxr_mutator_swap(lxr_mutator *mutator, uint32_t dest, uint32_t base, uint32_t index, uint32_t source);
 
 /*
  * `*word` becomes data word `index` of the object in register `base`.
- * Codes: LXR_REGISTER, LXR_NIL, LXR_INDEX. Cost: constant.
+ * Codes: LXR_E_REGISTER, LXR_E_NIL, LXR_E_INDEX. Cost: constant.
  */
-uint32_t lxr_thread_get(lxr_thread *thread, uint32_t base, uint32_t index, uint64_t *word);
+lxr_code lxr_mutator_get(lxr_mutator *mutator, uint32_t base, uint32_t index, uint64_t *word);
 
 /*
  * Data word `index` of the object in register `base` becomes `word`.
- * Codes: LXR_REGISTER, LXR_NIL, LXR_INDEX. Cost: constant.
+ * Codes: LXR_E_REGISTER, LXR_E_NIL, LXR_E_INDEX. Cost: constant.
  */
-uint32_t lxr_thread_put(lxr_thread *thread, uint32_t base, uint32_t index, uint64_t word);
+lxr_code lxr_mutator_put(lxr_mutator *mutator, uint32_t base, uint32_t index, uint64_t word);
 
 /*
  * Data word `index` of the object in register `base` becomes its sum with `word`, modulo 2^64, and `*old` what it was, in one step.
- * Codes: LXR_REGISTER, LXR_NIL, LXR_INDEX. Cost: constant.
+ * Codes: LXR_E_REGISTER, LXR_E_NIL, LXR_E_INDEX. Cost: constant.
  */
-uint32_t lxr_thread_add(lxr_thread *thread, uint32_t base, uint32_t index, uint64_t word, uint64_t *old);
+lxr_code lxr_mutator_add(lxr_mutator *mutator, uint32_t base, uint32_t index, uint64_t word, uint64_t *old);
 
 /*
  * `*same` becomes 1 where both registers are nil or hold one object, and else 0.
- * Code: LXR_REGISTER. Cost: constant.
+ * Code: LXR_E_REGISTER. Cost: constant.
  */
-uint32_t lxr_thread_same(lxr_thread *thread, uint32_t left, uint32_t right, uint32_t *same);
+lxr_code lxr_mutator_same(lxr_mutator *mutator, uint32_t left, uint32_t right, uint32_t *same);
 
 /*
  * Register `dest` holds what register `source` holds, or is nil.
- * Code: LXR_REGISTER. Cost: constant.
+ * Code: LXR_E_REGISTER. Cost: constant.
  */
-uint32_t lxr_thread_move(lxr_thread *thread, uint32_t dest, uint32_t source);
+lxr_code lxr_mutator_move(lxr_mutator *mutator, uint32_t dest, uint32_t source);
 
 /*
  * Register `dest` is nil: it lets go of its object.
- * Code: LXR_REGISTER. Cost: constant.
+ * Code: LXR_E_REGISTER. Cost: constant.
  */
-uint32_t lxr_thread_nil(lxr_thread *thread, uint32_t dest);
+lxr_code lxr_mutator_nil(lxr_mutator *mutator, uint32_t dest);
 
 /* ---- Pauses ---- */
 
@@ -213,13 +217,13 @@ uint32_t lxr_thread_nil(lxr_thread *thread, uint32_t dest);
  * at the same time.
  * Cost: waits until all other threads have come to an operation or rest, and that of the pause.
  */
-uint32_t lxr_thread_pause(lxr_thread *thread);
+lxr_code lxr_mutator_pause(lxr_mutator *mutator);
 
 /*
  * A collecting pause is made before this comes back: exactly what can be reached is left, cycles and all.
- * Cost: as that of lxr_thread_pause, and grows besides with all that can be reached.
+ * Cost: as that of lxr_mutator_pause, and grows besides with all that can be reached.
  */
-uint32_t lxr_thread_collect(lxr_thread *thread);
+lxr_code lxr_mutator_collect(lxr_mutator *mutator);
 
 #ifdef __cplusplus
 }

@@ -2,12 +2,14 @@
  * plain_heap.c: the functions of lxr.h over malloc, for tests. SPDX: MIT OR Apache-2.0
  *
  * A plain graph: objects have addresses, never move, and are freed when the heap is closed and not before. So it is a model of what a host
- * sees, and what a host is held against that is told to be slow or wrong: link it in the archive's place, or beside it (tests/calls.h).
- * LXR_FULL comes only where malloc has no memory. A pause does nothing; a collecting one counts the objects that can be reached
- * (LXR_LIVE).
+ * sees, and what a host is held against that is told to be slow or wrong: link it and lxr_message.c in the archive's place, or it beside the
+ * archive (tests/calls.h).
+ * LXR_E_FULL comes only where malloc has no memory. A pause does nothing; a collecting one counts the objects that can be reached
+ * (LXR_COUNT_LIVE).
  */
 #include "plain_heap.h"
 
+#include <stdbool.h>
 #include <stdlib.h>
 #include <string.h>
 
@@ -82,45 +84,45 @@ static void count_one(void *count, uint32_t refs, uint32_t words, uint32_t block
 static struct heap *heap_of(const lxr_heap *handle) { return handle->live ? handle->block : NULL; }
 
 /* Finds the heap of a handle, and the object in a register of it. */
-static uint32_t find_base(const lxr_heap *handle, uint32_t base, struct object **found) {
+static lxr_code find_base(const lxr_heap *handle, uint32_t base, struct object **found) {
     struct heap *heap = heap_of(handle);
-    if (!heap) return LXR_NO_HEAP;
-    if (base >= LXR_REGISTERS) return LXR_REGISTER;
+    if (!heap) return LXR_E_NO_HEAP;
+    if (base >= LXR_REGISTERS) return LXR_E_REGISTER;
     *found = heap->registers[base];
-    return *found ? LXR_OK : LXR_NIL;
+    return *found ? LXR_OK : LXR_E_NIL;
 }
 
-static uint32_t find_registers(const lxr_heap *handle, uint32_t left, uint32_t right, struct heap **found) {
+static lxr_code find_registers(const lxr_heap *handle, uint32_t left, uint32_t right, struct heap **found) {
     *found = heap_of(handle);
-    if (!*found) return LXR_NO_HEAP;
-    return left < LXR_REGISTERS && right < LXR_REGISTERS ? LXR_OK : LXR_REGISTER;
+    if (!*found) return LXR_E_NO_HEAP;
+    return left < LXR_REGISTERS && right < LXR_REGISTERS ? LXR_OK : LXR_E_REGISTER;
 }
 
 /* Finds one of the data words of an object. */
-static uint32_t find_word(const lxr_heap *handle, uint32_t base, uint32_t index, uint64_t **found) {
+static lxr_code find_word(const lxr_heap *handle, uint32_t base, uint32_t index, uint64_t **found) {
     struct object *it = NULL;
-    uint32_t code = find_base(handle, base, &it);
+    lxr_code code = find_base(handle, base, &it);
     if (code != LXR_OK) return code;
-    if (index >= it->words) return LXR_INDEX;
+    if (index >= it->words) return LXR_E_INDEX;
     *found = words_of(it) + index;
     return LXR_OK;
 }
 
 /* Finds `count` words of the body of an object. */
-static uint32_t find_body(const lxr_heap *handle, uint32_t base, uint32_t index, size_t count, uint64_t **found) {
+static lxr_code find_body(const lxr_heap *handle, uint32_t base, uint32_t index, size_t count, uint64_t **found) {
     struct object *it = NULL;
-    uint32_t code = find_base(handle, base, &it);
+    lxr_code code = find_base(handle, base, &it);
     if (code != LXR_OK) return code;
     size_t words = (size_t)it->blocks * LXR_BLOCK_WORDS;
-    if (!words || index > words || count > words - index) return LXR_INDEX;
+    if (!words || index > words || count > words - index) return LXR_E_INDEX;
     *found = words_of(it) + index;
     return LXR_OK;
 }
 
 /* Makes an object and lets a register hold it. */
-static uint32_t hold_new(struct heap *heap, uint32_t dest, uint32_t refs, uint32_t words, uint32_t blocks) {
+static lxr_code hold_new(struct heap *heap, uint32_t dest, uint32_t refs, uint32_t words, uint32_t blocks) {
     struct object *made = make(heap, refs, words, blocks);
-    if (!made) return LXR_FULL;
+    if (!made) return LXR_E_FULL;
     heap->made++;
     heap->live++;
     heap->registers[dest] = made;
@@ -136,27 +138,33 @@ void plain_each_reachable(lxr_heap *handle, each_object *each, void *with) {
 
 uint32_t lxr_version(void) { return LXR_VERSION; }
 
-uint32_t lxr_open(lxr_heap *handle, uint32_t blocks, uint32_t body_blocks) {
-    if (heap_of(handle)) return LXR_IN_USE;
-    if (!blocks || blocks > LXR_MOST_BLOCKS || !body_blocks || body_blocks > LXR_MOST_BLOCKS) return LXR_SIZE;
+static bool is_block_count(uint32_t blocks) { return blocks >= 1 && blocks <= LXR_MOST_BLOCKS; }
+
+static bool are_settings(const lxr_settings *settings) {
+    return settings->size == sizeof *settings && is_block_count(settings->blocks) && is_block_count(settings->body_blocks);
+}
+
+lxr_code lxr_open(lxr_heap *handle, const lxr_settings *settings) {
+    if (heap_of(handle)) return LXR_E_IN_USE;
+    if (!are_settings(settings)) return LXR_E_SIZE;
     struct heap *heap = calloc(1, sizeof *heap);
-    if (!heap) return LXR_MEMORY;
+    if (!heap) return LXR_E_MEMORY;
     heap->world = make(heap, LXR_WORLD_REFS, 0, 0);
     if (!heap->world) {
         free(heap);
-        return LXR_MEMORY;
+        return LXR_E_MEMORY;
     }
     heap->registers[0] = heap->world;
-    heap->blocks = blocks;
-    heap->body_blocks = body_blocks;
+    heap->blocks = settings->blocks;
+    heap->body_blocks = settings->body_blocks;
     handle->live = 1;
     handle->block = heap;
     return LXR_OK;
 }
 
-uint32_t lxr_close(lxr_heap *handle) {
+lxr_code lxr_close(lxr_heap *handle) {
     struct heap *heap = heap_of(handle);
-    if (!heap) return LXR_NO_HEAP;
+    if (!heap) return LXR_E_NO_HEAP;
     while (heap->newest) {
         struct object *it = heap->newest;
         heap->newest = it->older;
@@ -168,117 +176,117 @@ uint32_t lxr_close(lxr_heap *handle) {
     return LXR_OK;
 }
 
-uint32_t lxr_new(lxr_heap *handle, uint32_t dest, uint32_t refs, uint32_t words) {
+lxr_code lxr_new(lxr_heap *handle, uint32_t dest, uint32_t refs, uint32_t words) {
     struct heap *heap = NULL;
-    uint32_t code = find_registers(handle, dest, dest, &heap);
+    lxr_code code = find_registers(handle, dest, dest, &heap);
     if (code != LXR_OK) return code;
-    if (refs > LXR_MOST_REFS || words > LXR_MOST_WORDS) return LXR_SIZE;
+    if (refs > LXR_MOST_REFS || words > LXR_MOST_WORDS) return LXR_E_SIZE;
     return hold_new(heap, dest, refs, words, 0);
 }
 
-uint32_t lxr_big(lxr_heap *handle, uint32_t dest, uint32_t blocks) {
+lxr_code lxr_large_new(lxr_heap *handle, uint32_t dest, uint32_t blocks) {
     struct heap *heap = NULL;
-    uint32_t code = find_registers(handle, dest, dest, &heap);
+    lxr_code code = find_registers(handle, dest, dest, &heap);
     if (code != LXR_OK) return code;
-    if (!blocks || blocks > LXR_MOST_BODY_BLOCKS) return LXR_SIZE;
+    if (!blocks || blocks > LXR_MOST_BODY_BLOCKS) return LXR_E_SIZE;
     return hold_new(heap, dest, 0, 0, blocks);
 }
 
-uint32_t lxr_load(lxr_heap *handle, uint32_t dest, uint32_t base, uint32_t index) {
+lxr_code lxr_load(lxr_heap *handle, uint32_t dest, uint32_t base, uint32_t index) {
     struct heap *heap = NULL;
     struct object *it = NULL;
-    uint32_t code = find_registers(handle, dest, base, &heap);
+    lxr_code code = find_registers(handle, dest, base, &heap);
     if (code == LXR_OK) code = find_base(handle, base, &it);
     if (code != LXR_OK) return code;
-    if (index >= it->refs) return LXR_INDEX;
+    if (index >= it->refs) return LXR_E_INDEX;
     heap->registers[dest] = refs_of(it)[index];
     return LXR_OK;
 }
 
-uint32_t lxr_store(lxr_heap *handle, uint32_t base, uint32_t index, uint32_t source) {
+lxr_code lxr_store(lxr_heap *handle, uint32_t base, uint32_t index, uint32_t source) {
     struct heap *heap = NULL;
     struct object *it = NULL;
-    uint32_t code = find_registers(handle, base, source, &heap);
+    lxr_code code = find_registers(handle, base, source, &heap);
     if (code == LXR_OK) code = find_base(handle, base, &it);
     if (code != LXR_OK) return code;
-    if (index >= it->refs) return LXR_INDEX;
+    if (index >= it->refs) return LXR_E_INDEX;
     refs_of(it)[index] = heap->registers[source];
     return LXR_OK;
 }
 
-uint32_t lxr_get(lxr_heap *handle, uint32_t base, uint32_t index, uint64_t *word) {
+lxr_code lxr_get(const lxr_heap *handle, uint32_t base, uint32_t index, uint64_t *word) {
     uint64_t *found = NULL;
-    uint32_t code = find_word(handle, base, index, &found);
+    lxr_code code = find_word(handle, base, index, &found);
     if (code == LXR_OK) *word = *found;
     return code;
 }
 
-uint32_t lxr_put(lxr_heap *handle, uint32_t base, uint32_t index, uint64_t word) {
+lxr_code lxr_put(lxr_heap *handle, uint32_t base, uint32_t index, uint64_t word) {
     uint64_t *found = NULL;
-    uint32_t code = find_word(handle, base, index, &found);
+    lxr_code code = find_word(handle, base, index, &found);
     if (code == LXR_OK) *found = word;
     return code;
 }
 
-uint32_t lxr_bget(lxr_heap *handle, uint32_t base, uint32_t index, uint64_t *word) {
+lxr_code lxr_large_get(const lxr_heap *handle, uint32_t base, uint32_t index, uint64_t *word) {
     uint64_t *found = NULL;
-    uint32_t code = find_body(handle, base, index, 1, &found);
+    lxr_code code = find_body(handle, base, index, 1, &found);
     if (code == LXR_OK) *word = *found;
     return code;
 }
 
-uint32_t lxr_bput(lxr_heap *handle, uint32_t base, uint32_t index, uint64_t word) {
+lxr_code lxr_large_put(lxr_heap *handle, uint32_t base, uint32_t index, uint64_t word) {
     uint64_t *found = NULL;
-    uint32_t code = find_body(handle, base, index, 1, &found);
+    lxr_code code = find_body(handle, base, index, 1, &found);
     if (code == LXR_OK) *found = word;
     return code;
 }
 
-uint32_t lxr_bread(lxr_heap *handle, uint32_t base, uint32_t index, uint64_t *into, size_t count) {
+lxr_code lxr_large_read(const lxr_heap *handle, uint32_t base, uint32_t index, uint64_t *into, size_t count) {
     uint64_t *found = NULL;
-    uint32_t code = find_body(handle, base, index, count, &found);
+    lxr_code code = find_body(handle, base, index, count, &found);
     if (code == LXR_OK && count) memcpy(into, found, count * sizeof *into);
     return code;
 }
 
-uint32_t lxr_bwrite(lxr_heap *handle, uint32_t base, uint32_t index, const uint64_t *from, size_t count) {
+lxr_code lxr_large_write(lxr_heap *handle, uint32_t base, uint32_t index, const uint64_t *from, size_t count) {
     uint64_t *found = NULL;
-    uint32_t code = find_body(handle, base, index, count, &found);
+    lxr_code code = find_body(handle, base, index, count, &found);
     if (code == LXR_OK && count) memcpy(found, from, count * sizeof *from);
     return code;
 }
 
-uint32_t lxr_same(lxr_heap *handle, uint32_t left, uint32_t right, uint32_t *same) {
+lxr_code lxr_same(const lxr_heap *handle, uint32_t left, uint32_t right, uint32_t *same) {
     struct heap *heap = NULL;
-    uint32_t code = find_registers(handle, left, right, &heap);
+    lxr_code code = find_registers(handle, left, right, &heap);
     if (code == LXR_OK) *same = heap->registers[left] == heap->registers[right];
     return code;
 }
 
-uint32_t lxr_move(lxr_heap *handle, uint32_t dest, uint32_t source) {
+lxr_code lxr_move(lxr_heap *handle, uint32_t dest, uint32_t source) {
     struct heap *heap = NULL;
-    uint32_t code = find_registers(handle, dest, source, &heap);
+    lxr_code code = find_registers(handle, dest, source, &heap);
     if (code == LXR_OK) heap->registers[dest] = heap->registers[source];
     return code;
 }
 
-uint32_t lxr_nil(lxr_heap *handle, uint32_t dest) {
+lxr_code lxr_nil(lxr_heap *handle, uint32_t dest) {
     struct heap *heap = NULL;
-    uint32_t code = find_registers(handle, dest, dest, &heap);
+    lxr_code code = find_registers(handle, dest, dest, &heap);
     if (code == LXR_OK) heap->registers[dest] = NULL;
     return code;
 }
 
-uint32_t lxr_is_nil(lxr_heap *handle, uint32_t source, uint32_t *is_nil) {
+lxr_code lxr_is_nil(const lxr_heap *handle, uint32_t source, uint32_t *is_nil) {
     struct heap *heap = NULL;
-    uint32_t code = find_registers(handle, source, source, &heap);
+    lxr_code code = find_registers(handle, source, source, &heap);
     if (code == LXR_OK) *is_nil = heap->registers[source] == NULL;
     return code;
 }
 
-uint32_t lxr_shape(lxr_heap *handle, uint32_t base, uint32_t *refs, uint32_t *words, uint32_t *blocks) {
+lxr_code lxr_shape(const lxr_heap *handle, uint32_t base, uint32_t *refs, uint32_t *words, uint32_t *blocks) {
     struct object *it = NULL;
-    uint32_t code = find_base(handle, base, &it);
+    lxr_code code = find_base(handle, base, &it);
     if (code != LXR_OK) return code;
     *refs = it->refs;
     *words = it->words;
@@ -287,43 +295,43 @@ uint32_t lxr_shape(lxr_heap *handle, uint32_t base, uint32_t *refs, uint32_t *wo
 }
 
 /* All objects made since the last pause are kept. */
-static uint32_t pause_heap(struct heap *heap) {
+static lxr_code pause_heap(struct heap *heap) {
     heap->pauses++;
     heap->promoted = heap->made;
     heap->made = 0;
     return LXR_OK;
 }
 
-uint32_t lxr_pause(lxr_heap *handle) {
+lxr_code lxr_pause(lxr_heap *handle) {
     struct heap *heap = heap_of(handle);
-    return heap ? pause_heap(heap) : LXR_NO_HEAP;
+    return heap ? pause_heap(heap) : LXR_E_NO_HEAP;
 }
 
-uint32_t lxr_collect(lxr_heap *handle) {
+lxr_code lxr_collect(lxr_heap *handle) {
     struct heap *heap = heap_of(handle);
-    if (!heap) return LXR_NO_HEAP;
+    if (!heap) return LXR_E_NO_HEAP;
     heap->live = 0;
     each_reachable(heap, count_one, &heap->live);
     return pause_heap(heap);
 }
 
-uint32_t lxr_pause_every(lxr_heap *handle, uint32_t news) {
-    (void)news;
-    return heap_of(handle) ? LXR_OK : LXR_NO_HEAP;
+lxr_code lxr_set_pace(lxr_heap *handle, uint64_t bytes) {
+    (void)bytes;
+    return heap_of(handle) ? LXR_OK : LXR_E_NO_HEAP;
 }
 
-uint32_t lxr_count(lxr_heap *handle, uint32_t what, uint64_t *number) {
+lxr_code lxr_count(const lxr_heap *handle, uint32_t what, uint64_t *number) {
     struct heap *heap = heap_of(handle);
-    if (!heap) return LXR_NO_HEAP;
+    if (!heap) return LXR_E_NO_HEAP;
     switch (what) {
-    case LXR_PAUSES: *number = heap->pauses; return LXR_OK;
-    case LXR_PROMOTED: *number = heap->promoted; return LXR_OK;
-    case LXR_LIVE: *number = heap->live; return LXR_OK;
-    case LXR_DEAD:
-    case LXR_STUCK:
-    case LXR_SWEPT: *number = 0; return LXR_OK;
-    case LXR_FREE_BLOCKS: *number = heap->blocks - 1; return LXR_OK;
-    case LXR_FREE_BODY_BYTES: *number = (uint64_t)heap->body_blocks * LXR_BLOCK_WORDS * sizeof(uint64_t); return LXR_OK;
-    default: return LXR_WHAT;
+    case LXR_COUNT_PAUSES: *number = heap->pauses; return LXR_OK;
+    case LXR_COUNT_PROMOTED: *number = heap->promoted; return LXR_OK;
+    case LXR_COUNT_LIVE: *number = heap->live; return LXR_OK;
+    case LXR_COUNT_DEAD:
+    case LXR_COUNT_STUCK:
+    case LXR_COUNT_SWEPT: *number = 0; return LXR_OK;
+    case LXR_COUNT_FREE_BLOCKS: *number = heap->blocks - 1; return LXR_OK;
+    case LXR_COUNT_FREE_BODY_BYTES: *number = (uint64_t)heap->body_blocks * LXR_BLOCK_WORDS * sizeof(uint64_t); return LXR_OK;
+    default: return LXR_E_WHAT;
     }
 }

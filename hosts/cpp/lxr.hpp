@@ -35,24 +35,24 @@
 namespace lxr {
 
 class heap;
-class thread;
+class mutator;
 
 /// What a call of lxr.h answers.
-enum class errc : std::uint32_t {
-    no_heap = LXR_NO_HEAP,
-    in_use = LXR_IN_USE,
-    no_register = LXR_REGISTER,
-    size = LXR_SIZE,
-    nil = LXR_NIL,
-    index = LXR_INDEX,
-    full = LXR_FULL,
-    memory = LXR_MEMORY,
-    what = LXR_WHAT,
-    number = LXR_NUMBER,
-    rests = LXR_RESTS,
-    awake = LXR_AWAKE,
-    used_up = LXR_USED_UP,
-    lost = LXR_LOST,
+enum class errc : lxr_code {
+    no_heap = LXR_E_NO_HEAP,
+    in_use = LXR_E_IN_USE,
+    no_register = LXR_E_REGISTER,
+    size = LXR_E_SIZE,
+    nil = LXR_E_NIL,
+    index = LXR_E_INDEX,
+    full = LXR_E_FULL,
+    memory = LXR_E_MEMORY,
+    what = LXR_E_WHAT,
+    number = LXR_E_NUMBER,
+    rests = LXR_E_RESTS,
+    awake = LXR_E_AWAKE,
+    used_up = LXR_E_USED_UP,
+    lost = LXR_E_LOST,
 };
 
 namespace detail {
@@ -60,7 +60,7 @@ namespace detail {
 class category final : public std::error_category {
 public:
     const char* name() const noexcept override { return "lxr"; }
-    std::string message(int code) const override { return lxr_message(static_cast<std::uint32_t>(code)); }
+    std::string message(int code) const override { return lxr_message(static_cast<lxr_code>(code)); }
     std::error_condition default_error_condition(int code) const noexcept override {
         switch (static_cast<errc>(code)) {
         case errc::full:
@@ -86,8 +86,7 @@ inline std::error_code make_error_code(errc code) noexcept { return {static_cast
 
 }  // namespace lxr
 
-template <>
-struct std::is_error_code_enum<lxr::errc> : std::true_type {};
+template <> struct std::is_error_code_enum<lxr::errc> : std::true_type {};
 
 namespace lxr {
 
@@ -95,7 +94,7 @@ namespace lxr {
 class error : public std::system_error {
 public:
     explicit error(errc code) : std::system_error(make_error_code(code)) {}
-    errc reason() const noexcept { return static_cast<errc>(code().value()); }
+    [[nodiscard]] errc reason() const noexcept { return static_cast<errc>(code().value()); }
 };
 
 /// How many fields an object has; `blocks` is that of its body, and 0 where it isn't a large object.
@@ -105,7 +104,7 @@ struct shape {
 
 namespace detail {
 
-inline void done(std::uint32_t code) {
+inline void done(lxr_code code) {
     if (code != LXR_OK) throw error(static_cast<errc>(code));
 }
 
@@ -138,7 +137,7 @@ struct state {
     lxr_heap handle{};
     taken_registers taken;
 
-    state(std::uint32_t blocks, std::uint32_t body_blocks) { done(lxr_open(&handle, blocks, body_blocks)); }
+    explicit state(const lxr_settings& settings) { done(lxr_open(&handle, &settings)); }
     state(const state&) = delete;
     state& operator=(const state&) = delete;
     ~state() {
@@ -146,18 +145,17 @@ struct state {
         lxr_close(&handle);
     }
 
-    std::uint32_t load(std::uint32_t dest, std::uint32_t base, std::uint32_t index) { return lxr_load(&handle, dest, base, index); }
-    std::uint32_t store(std::uint32_t base, std::uint32_t index, std::uint32_t source) { return lxr_store(&handle, base, index, source); }
-    std::uint32_t get(std::uint32_t base, std::uint32_t index, std::uint64_t* word) { return lxr_get(&handle, base, index, word); }
-    std::uint32_t put(std::uint32_t base, std::uint32_t index, std::uint64_t word) { return lxr_put(&handle, base, index, word); }
-    std::uint32_t same(std::uint32_t left, std::uint32_t right, std::uint32_t* same) { return lxr_same(&handle, left, right, same); }
-    std::uint32_t move(std::uint32_t dest, std::uint32_t source) { return lxr_move(&handle, dest, source); }
-    std::uint32_t clear(std::uint32_t dest) { return lxr_nil(&handle, dest); }
+    lxr_code load(std::uint32_t dest, std::uint32_t base, std::uint32_t index) { return lxr_load(&handle, dest, base, index); }
+    lxr_code store(std::uint32_t base, std::uint32_t index, std::uint32_t source) { return lxr_store(&handle, base, index, source); }
+    lxr_code get(std::uint32_t base, std::uint32_t index, std::uint64_t* word) const { return lxr_get(&handle, base, index, word); }
+    lxr_code put(std::uint32_t base, std::uint32_t index, std::uint64_t word) { return lxr_put(&handle, base, index, word); }
+    lxr_code same(std::uint32_t left, std::uint32_t right, std::uint32_t* same) const { return lxr_same(&handle, left, right, same); }
+    lxr_code move(std::uint32_t dest, std::uint32_t source) { return lxr_move(&handle, dest, source); }
+    lxr_code clear(std::uint32_t dest) { return lxr_nil(&handle, dest); }
 };
 
-/// What a root of a heap and a local of a thread do alike: holds an object, or is nil. `State` has the registers, and the calls on them.
-template <typename Root, typename State>
-class holder {
+/// What a root of a heap and a local of a mutator do alike: holds an object, or is nil. `State` has the registers, and the calls on them.
+template <typename Root, typename State> class holder {
 public:
     /// Nil, and of no heap: no register is taken.
     holder() noexcept = default;
@@ -184,15 +182,15 @@ public:
     void reset() noexcept { Root().swap(itself()); }
 
     /// Another that holds the same object.
-    Root copy() const {
+    [[nodiscard]] Root copy() const {
         if (!state_) return Root();
         Root made(*state_);
         done(state_->move(made.at_, at_));
         return made;
     }
 
-    /// Whether both are nil or hold one object; of two heaps, or of two threads, whether both are nil.
-    bool same(const Root& other) const {
+    /// Whether both are nil or hold one object; of two heaps, or of two mutators, whether both are nil.
+    [[nodiscard]] bool same(const Root& other) const {
         State* found = state_ ? state_ : other.state_;
         if (!found) return true;
         if (!other.is_of(*found)) return !*this && !other;
@@ -202,7 +200,7 @@ public:
     }
 
     /// What a reference refers to.
-    Root load(std::uint32_t index) const {
+    [[nodiscard]] Root load(std::uint32_t index) const {
         Root found(state());
         done(state().load(found.at_, at_, index));
         return found;
@@ -223,7 +221,7 @@ public:
     /// A reference becomes nil.
     void clear(std::uint32_t index) { done(state().store(at_, index, nil)); }
 
-    std::uint64_t get(std::uint32_t index) const {
+    [[nodiscard]] std::uint64_t get(std::uint32_t index) const {
         std::uint64_t word = 0;
         done(state().get(at_, index, &word));
         return word;
@@ -234,7 +232,7 @@ public:
 private:
     friend Root;
     friend class lxr::heap;
-    friend class lxr::thread;
+    friend class lxr::mutator;
 
     explicit holder(State& state) : state_(&state), at_(state.taken.take()) {}
     holder(State& state, std::uint32_t at) noexcept : state_(&state), at_(at) {}
@@ -271,28 +269,28 @@ class root : public detail::holder<root, detail::state> {
 public:
     using holder::holder;
 
-    lxr::shape shape() const {
+    [[nodiscard]] lxr::shape shape() const {
         lxr::shape found{};
         detail::done(lxr_shape(handle(), at_, &found.refs, &found.words, &found.blocks));
         return found;
     }
 
     /// A word of the body of a large object.
-    std::uint64_t body_get(std::uint32_t index) const {
+    [[nodiscard]] std::uint64_t body_get(std::uint32_t index) const {
         std::uint64_t word = 0;
-        detail::done(lxr_bget(handle(), at_, index, &word));
+        detail::done(lxr_large_get(handle(), at_, index, &word));
         return word;
     }
 
-    void body_put(std::uint32_t index, std::uint64_t word) { detail::done(lxr_bput(handle(), at_, index, word)); }
+    void body_put(std::uint32_t index, std::uint64_t word) { detail::done(lxr_large_put(handle(), at_, index, word)); }
 
     /// Reads `count` words of the body from `index` on: all of them, or it throws.
     void body_read(std::uint32_t index, std::uint64_t* into, std::size_t count) const {
-        detail::done(lxr_bread(handle(), at_, index, into, count));
+        detail::done(lxr_large_read(handle(), at_, index, into, count));
     }
 
     void body_write(std::uint32_t index, const std::uint64_t* from, std::size_t count) {
-        detail::done(lxr_bwrite(handle(), at_, index, from, count));
+        detail::done(lxr_large_write(handle(), at_, index, from, count));
     }
 
 private:
@@ -302,37 +300,41 @@ private:
 /// A heap for one thread. It is moved and not copied, and used by one thread at a time.
 class heap {
 public:
-    /// Opens a heap of 1 to 65,536 blocks of 32 KB for objects, and as many for bodies. All its memory is reserved now.
-    explicit heap(std::uint32_t blocks, std::uint32_t body_blocks = 1) : state_(std::make_unique<detail::state>(blocks, body_blocks)) {}
+    /// Opens a heap of 1 to 65,536 blocks of 32 KB for objects, and as many for bodies, with the header's settings. All its memory is
+    /// reserved now.
+    explicit heap(std::uint32_t blocks, std::uint32_t body_blocks = 1) : heap(lxr_settings LXR_SETTINGS(blocks, body_blocks)) {}
+
+    /// Opens a heap of these settings.
+    explicit heap(const lxr_settings& settings) : state_(std::make_unique<detail::state>(settings)) {}
 
     /// The world: an object with 64 references that is kept for good. It takes no register from the roots.
-    root world() { return root(state(), detail::world); }
+    [[nodiscard]] root world() { return root(state(), detail::world); }
 
     /// A new object with nil references and words of 0.
-    root make(std::uint32_t refs, std::uint32_t words) {
+    [[nodiscard]] root make(std::uint32_t refs, std::uint32_t words) {
         root made(state());
         detail::done(lxr_new(handle(), made.at_, refs, words));
         return made;
     }
 
     /// A new large object, with a body of 1 to 128 blocks of 4,096 words of 0.
-    root make_large(std::uint32_t blocks) {
+    [[nodiscard]] root make_large(std::uint32_t blocks) {
         root made(state());
-        detail::done(lxr_big(handle(), made.at_, blocks));
+        detail::done(lxr_large_new(handle(), made.at_, blocks));
         return made;
     }
 
     /// As `make`, but a nil root where the heap is full.
-    root try_make(std::uint32_t refs, std::uint32_t words) {
+    [[nodiscard]] root try_make(std::uint32_t refs, std::uint32_t words) {
         root made(state());
-        const std::uint32_t code = lxr_new(handle(), made.at_, refs, words);
+        const lxr_code code = lxr_new(handle(), made.at_, refs, words);
         return made_or_nil(std::move(made), code);
     }
 
     /// As `make_large`, but a nil root where the heap is full.
-    root try_make_large(std::uint32_t blocks) {
+    [[nodiscard]] root try_make_large(std::uint32_t blocks) {
         root made(state());
-        const std::uint32_t code = lxr_big(handle(), made.at_, blocks);
+        const lxr_code code = lxr_large_new(handle(), made.at_, blocks);
         return made_or_nil(std::move(made), code);
     }
 
@@ -342,17 +344,17 @@ public:
     /// A pause that leaves exactly what can be reached.
     void collect() { detail::done(lxr_collect(handle())); }
 
-    /// A plain pause after so many new objects; 0: only where it is asked for or needed.
-    void pause_every(std::uint32_t news) { detail::done(lxr_pause_every(handle(), news)); }
+    /// A plain pause after so many bytes of new objects; or `LXR_PACE_NEVER`, `LXR_PACE_ROOM`.
+    void set_pace(std::uint64_t bytes) { detail::done(lxr_set_pace(handle(), bytes)); }
 
-    std::uint64_t pauses() const { return count(LXR_PAUSES); }
-    std::uint64_t promoted() const { return count(LXR_PROMOTED); }
-    std::uint64_t dead() const { return count(LXR_DEAD); }
-    std::uint64_t stuck() const { return count(LXR_STUCK); }
-    std::uint64_t swept() const { return count(LXR_SWEPT); }
-    std::uint64_t live() const { return count(LXR_LIVE); }
-    std::uint64_t free_blocks() const { return count(LXR_FREE_BLOCKS); }
-    std::uint64_t free_body_bytes() const { return count(LXR_FREE_BODY_BYTES); }
+    [[nodiscard]] std::uint64_t pauses() const { return count(LXR_COUNT_PAUSES); }
+    [[nodiscard]] std::uint64_t promoted() const { return count(LXR_COUNT_PROMOTED); }
+    [[nodiscard]] std::uint64_t dead() const { return count(LXR_COUNT_DEAD); }
+    [[nodiscard]] std::uint64_t stuck() const { return count(LXR_COUNT_STUCK); }
+    [[nodiscard]] std::uint64_t swept() const { return count(LXR_COUNT_SWEPT); }
+    [[nodiscard]] std::uint64_t live() const { return count(LXR_COUNT_LIVE); }
+    [[nodiscard]] std::uint64_t free_blocks() const { return count(LXR_COUNT_FREE_BLOCKS); }
+    [[nodiscard]] std::uint64_t free_body_bytes() const { return count(LXR_COUNT_FREE_BODY_BYTES); }
 
 private:
     detail::state& state() const {
@@ -367,8 +369,8 @@ private:
         return number;
     }
 
-    static root made_or_nil(root made, std::uint32_t code) {
-        if (code == LXR_FULL) return root();
+    static root made_or_nil(root made, lxr_code code) {
+        if (code == LXR_E_FULL) return root();
         detail::done(code);
         return made;
     }

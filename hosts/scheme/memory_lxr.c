@@ -3,7 +3,8 @@
  *
  * Each call is one of the collector's, whose registers are the machine's. A plain pause, which goes by counts of references, comes once
  * half of what was free after the last one is used; what it leaves, cycles for instance, goes at the collecting pause that the collector
- * makes by itself where a new object finds no room.
+ * makes by itself where a new object finds no room. The plain pauses are asked for here, and not by the heap's own pace, so that each pause
+ * that is timed is known by its kind.
  */
 #include "memory.h"
 #include "pauses.h"
@@ -19,12 +20,12 @@ static bool is_timed;
 static uint64_t pauses_known;
 
 /* A code that tells a mistake of the interpreter. */
-__attribute__((noreturn, cold)) static void refuse(uint32_t code) {
+__attribute__((noreturn, cold)) static void refuse(lxr_code code) {
     fprintf(stderr, "scheme: the heap refused a call, with code %u\n", (unsigned)code);
     abort();
 }
 
-static inline void want(uint32_t code) {
+static inline void want(lxr_code code) {
     if (code != LXR_OK) refuse(code);
 }
 
@@ -35,7 +36,7 @@ static uint64_t count(uint32_t what) {
 }
 
 static void plan_pause(void) {
-    const uint64_t half = count(LXR_FREE_BLOCKS) * BLOCK_BYTES / 2;
+    const uint64_t half = count(LXR_COUNT_FREE_BLOCKS) * BLOCK_BYTES / 2;
     bytes_left = chosen_bytes ? chosen_bytes : half > LEAST_BETWEEN ? half : LEAST_BETWEEN;
 }
 
@@ -49,7 +50,7 @@ static void pause_plainly(void) {
 
 /* A call may have paused by itself: a new object that found no room has collected, and a store that found its log full has not. */
 static void note_pauses(PauseKind kind, uint64_t began) {
-    const uint64_t pauses = count(LXR_PAUSES);
+    const uint64_t pauses = count(LXR_COUNT_PAUSES);
     if (pauses == pauses_known) return;
     pauses_add(kind, pauses_clock() - began);
     pauses_known = pauses;
@@ -59,15 +60,17 @@ static void note_pauses(PauseKind kind, uint64_t began) {
 bool memory_open(const MemoryOptions *options) {
     chosen_bytes = options->every;
     is_timed = options->pauses;
-    if (lxr_open(&heap, options->blocks, options->body_blocks) != LXR_OK) return false;
+    lxr_settings settings = LXR_SETTINGS(options->blocks, options->body_blocks);
+    settings.pace = LXR_PACE_NEVER;
+    if (lxr_open(&heap, &settings) != LXR_OK) return false;
     plan_pause();
     return true;
 }
 
 void memory_close(void) { want(lxr_close(&heap)); }
 
-static bool is_done(uint32_t code) {
-    if (code == LXR_FULL) return false;
+static bool is_done(lxr_code code) {
+    if (code == LXR_E_FULL) return false;
     want(code);
     return true;
 }
@@ -78,7 +81,7 @@ bool memory_new(unsigned dest, unsigned references, unsigned words) {
     bytes_left = bytes_left < bytes ? 0 : bytes_left - bytes;
     if (!is_timed) return is_done(lxr_new(&heap, dest, references, words));
     const uint64_t began = pauses_clock();
-    const uint32_t code = lxr_new(&heap, dest, references, words);
+    const lxr_code code = lxr_new(&heap, dest, references, words);
     note_pauses(PAUSE_COLLECTING, began);
     return is_done(code);
 }
@@ -111,17 +114,17 @@ bool memory_same(unsigned left, unsigned right) {
 
 bool memory_big(unsigned dest, unsigned blocks) {
     const uint64_t began = is_timed ? pauses_clock() : 0;
-    const uint32_t code = lxr_big(&heap, dest, blocks);
+    const lxr_code code = lxr_large_new(&heap, dest, blocks);
     if (is_timed) note_pauses(PAUSE_COLLECTING, began);
     return is_done(code);
 }
 
 void memory_read(unsigned base, size_t index, Word *into, size_t count_of_words) {
-    want(lxr_bread(&heap, base, (uint32_t)index, into, count_of_words));
+    want(lxr_large_read(&heap, base, (uint32_t)index, into, count_of_words));
 }
 
 void memory_write(unsigned base, size_t index, const Word *from, size_t count_of_words) {
-    want(lxr_bwrite(&heap, base, (uint32_t)index, from, count_of_words));
+    want(lxr_large_write(&heap, base, (uint32_t)index, from, count_of_words));
 }
 
 void memory_collect(void) {

@@ -1,4 +1,6 @@
 pub mod BesideLemmas
+pub mod ClearingAllLemmas
+pub mod ClearingLemmas
 mod EdgeLemmas
 pub mod FreeLemmas
 mod HalvesLemmas

@@ -1,3 +1,5 @@
+pub mod Clearing
+pub mod ClearingAll
 pub mod Handing
 pub mod Kept
 pub mod Lines

@@ -1,5 +1,5 @@
 -- Free lines of a heap, and the runs that they form.
-use Rattle.std.specs.Prelude.{◌≡◌, ℕ, zero, suc, ◌+◌, ◌-◌, ◌*◌, ◌<◌, ◌≤◌, ◌==◌, ◌&&◌, not, Bool, true, false, IsTrue, List, [], ◌∷◌, ◌++◌, if◌then◌else◌}
+use Rattle.std.specs.Prelude.{◌≡◌, ℕ, zero, suc, ◌+◌, ◌-◌, ◌*◌, ◌/◌, ◌<◌, ◌≤◌, ◌==◌, ◌&&◌, not, Bool, true, false, IsTrue, List, [], ◌∷◌, ◌++◌, if◌then◌else◌}
 use Rattle.lxr_layout.specs.declared.TheConstants.{GRANULES_IN_LINE, LINES_IN_BLOCK}
 use Rattle.lxr_layout.specs.declared.runs.Run.{Run}
 use Rattle.lxr_image.specs.Tables.{Tables}
@@ -16,6 +16,13 @@ is_free t n = not (t.outs n) && are_zero t.counts (GRANULES_IN_LINE * n) GRANULE
 -- whether line i of a block is free; a block has 128 lines
 abbrev pub free_in : Tables → ℕ → ℕ → Bool
 free_in t b i = is_free t (LINES_IN_BLOCK * b + i)
+
+-- the first further line of an object that begins at a granule, and the line behind its last one
+abbrev pub next_line : ℕ → ℕ
+next_line granule = granule / GRANULES_IN_LINE + 1
+
+abbrev pub line_behind : ℕ → ℕ → ℕ
+line_behind granule granules = (granule + granules - 1) / GRANULES_IN_LINE + 1
 
 -- lines of one block of the heap that stand in a row and are all free
 pub record IsFreeRun (t : Tables) (blocks : ℕ) (r : Run) : Type 0 where

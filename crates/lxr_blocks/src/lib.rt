@@ -6,6 +6,8 @@
 //! (Blackburn and McKinley, 2008), kept by reference counts as in LXR (Zhao, Blackburn and McKinley, 2022).
 #![tactic(auto)]
 
+mod clearing;
+mod clearing_all;
 mod handing;
 mod in_use;
 mod laws;
@@ -17,6 +19,8 @@ mod states;
 mod sweeping;
 mod zeros;
 
+pub use clearing::{clear_counted, clear_line_marks, clear_logs, clear_object};
+pub use clearing_all::{Bits, clear_all};
 pub use handing::hand_out;
 pub use in_use::next_in_use;
 pub use laws::{free_line_is_told, kept_line_is_taken, placed_is_beside};

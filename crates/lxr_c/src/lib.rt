@@ -5,36 +5,21 @@
 //! with the pauses that this asks for; objects are held by sixteen registers and known by nothing else, since pauses move them.
 #![tactic(auto)]
 
-mod block;
-mod boxed;
-mod calls;
-mod codes;
-mod counts;
-mod handle;
-mod held;
-mod holder;
-mod host;
-mod looks;
-mod owned;
 mod passes;
-mod passing;
-mod requests;
-mod settings;
-mod sharing;
 
 ghost use Rattle.std.specs.Prelude.{◌≡◌, ℕ, Bool, true, false, Option, OnErr, Result, option_map};
-ghost use Rattle.lxr_c.specs.Calling as calling;
 ghost use Rattle.lxr_layout.specs.declared.Shape.{Shape as ShapeOf};
 ghost use Rattle.lxr_heap.specs.declared.bulk.BodyReply.{BodyReply as BodyReplyOf};
-ghost use Rattle.lxr_c.specs.Calling.{AsksPause, Calls, Closes, Opens, SetsEvery, Tells, flag as is_flag, written_over};
-ghost use Rattle.lxr_c.specs.declared.codes.Code.{Code as CodeOf};
-ghost use Rattle.lxr_c.specs.Codes.{answered as is_answered, number_of};
-ghost use Rattle.lxr_c.specs.Hosting.{Makes, Replies, Stores};
-ghost use Rattle.lxr_c.specs.Looking.{Counts, Looks, SeesNil, SeesShape, SeesWords, Writes, bulk_code as is_bulk_code, code_in, counted_by, of_object as is_of_object, told};
-ghost use Rattle.lxr_c.specs.Requests as asking;
+ghost use Rattle.lxr_c_base.specs.Codes.{answered as is_answered, code_in, flag as is_flag, number_of, told, written_over};
+ghost use Rattle.lxr_c_base.specs.Requests as asking;
+ghost use Rattle.lxr_c_base.specs.declared.codes.Code.{Code as CodeOf};
+ghost use Rattle.lxr_c_heap.specs.Calling.{AsksPause, Calls, Closes, Opens, SetsPace};
+ghost use Rattle.lxr_c_heap.specs.Hosting.{Makes, Replies, Stores};
+ghost use Rattle.lxr_c_heap.specs.Looking as looking;
+ghost use Rattle.lxr_c_heap.specs.Looking.{Counts, Looks, SeesNil, SeesShape, SeesWords, Tells, Writes, bulk_code as is_bulk_code, counted_by, of_object as is_of_object};
 
-use codes::{Code, code_of};
-use handle::Handle;
+use lxr_c_base::{Code, code_of, requests};
+use lxr_c_heap::{Handle, Settings};
 use lxr_graph::Reply;
 use lxr_heap::BodyReply;
 use lxr_large_model::LargeReply;
@@ -58,7 +43,7 @@ fn answered(answer: Result<LargeReply, Code>) -> u32
 /// The word that an answer tells, if it does.
 #[inline(always)]
 fn word_in(answer: Result<LargeReply, Code>) -> Option<u64>
-    ensures { result ≡ calling.word_in answer }
+    ensures { result ≡ looking.word_in answer }
 {
     match answer {
         Ok(LargeReply::Small(Reply::Got(word)) | LargeReply::Got(word)) => Some(word),
@@ -69,7 +54,7 @@ fn word_in(answer: Result<LargeReply, Code>) -> Option<u64>
 /// Whether two registers hold the same, if an answer tells it.
 #[inline(always)]
 fn same_in(answer: Result<LargeReply, Code>) -> Option<bool>
-    ensures { result ≡ calling.same_in answer }
+    ensures { result ≡ looking.same_in answer }
 {
     match answer {
         Ok(LargeReply::Small(Reply::Same(same))) => Some(same),
@@ -136,12 +121,15 @@ pub extern "C" fn lxr_version() -> u32
     VERSION
 }
 
-/// Opens a heap of so many blocks of 32 KB, and so many for bodies, 1 to 65,536 each. Register 0 holds the world.
+/// Opens a heap of these settings: so many blocks of 32 KB, and so many for bodies, 1 to 65,536 each. Register 0 holds the world.
+///
+/// The first word of the settings is their size, and there is one size today. A later version with more fields takes a pointer to that word:
+/// it reads the word first, then as many fields as a known size has, and gives the others the values that they have had before.
 #[unsafe(no_mangle)]
-pub extern "C" fn lxr_open(alloc: Global, heap: &mut Handle, blocks: u32, body_blocks: u32) -> u32
-    ensures { (answer : CodeOf) × Opens heap.old.block.value heap.new.block.value blocks body_blocks answer × (result ≡ number_of answer) }
+pub extern "C" fn lxr_open(alloc: Global, heap: &mut Handle, settings: &Settings) -> u32
+    ensures { (answer : CodeOf) × Opens heap.old.block.value heap.new.block.value settings.now answer × (result ≡ number_of answer) }
 {
-    heap.open(alloc, blocks, body_blocks).number()
+    heap.open(alloc, settings).number()
 }
 
 /// Closes the heap, and frees what it has.
@@ -154,165 +142,130 @@ pub extern "C" fn lxr_close(alloc: Global, heap: &mut Handle) -> u32
 
 /// Register `dest` gets a new object with so many references, which are nil, and data words, which are 0.
 #[unsafe(no_mangle)]
-pub extern "C" fn lxr_new(alloc: Global, heap: &mut Handle, dest: u32, refs: u32, words: u32) -> u32
+pub extern "C" fn lxr_new(heap: &mut Handle, dest: u32, refs: u32, words: u32) -> u32
     ensures { Calls Makes heap.old.block.value heap.new.block.value (asking.new dest refs words) result }
 {
-    answered(heap.make(alloc, requests::new(dest, refs, words)))
+    answered(heap.make(requests::new(dest, refs, words)))
 }
 
 /// Register `dest` gets reference `index` of the object that `base` holds.
 #[unsafe(no_mangle)]
-pub extern "C" fn lxr_load(
-    alloc: Global,
-    heap: &mut Handle,
-    dest: u32,
-    base: u32,
-    index: u32,
-) -> u32
+pub extern "C" fn lxr_load(heap: &mut Handle, dest: u32, base: u32, index: u32) -> u32
     ensures { Calls Replies heap.old.block.value heap.new.block.value (asking.load dest base index) result }
 {
-    answered(heap.reply(alloc, requests::load(dest, base, index)))
+    answered(heap.reply(requests::load(dest, base, index)))
 }
 
 /// Reference `index` of the object that `base` holds becomes what `source` holds.
 #[unsafe(no_mangle)]
-pub extern "C" fn lxr_store(
-    alloc: Global,
-    heap: &mut Handle,
-    base: u32,
-    index: u32,
-    source: u32,
-) -> u32
+pub extern "C" fn lxr_store(heap: &mut Handle, base: u32, index: u32, source: u32) -> u32
     ensures { Calls Stores heap.old.block.value heap.new.block.value (asking.store base index source) result }
 {
-    answered(heap.store(alloc, requests::set_reference(base, index, source)))
+    answered(heap.store(requests::set_reference(base, index, source)))
 }
 
 /// Writes data word `index` of the object that `base` holds to `word`.
 #[unsafe(no_mangle)]
-pub extern "C" fn lxr_get(
-    alloc: Global,
-    heap: &mut Handle,
-    base: u32,
-    index: u32,
-    word: &mut u64,
-) -> u32
-    ensures { Tells calling.word_in Replies heap.old.block.value heap.new.block.value (asking.get base index) result word.old word.new }
+pub extern "C" fn lxr_get(heap: &mut Handle, base: u32, index: u32, word: &mut u64) -> u32
+    ensures { Tells looking.word_in heap.old.block.value heap.new.block.value (asking.get base index) result word.old word.new }
 {
-    let answer = heap.reply(alloc, requests::get(base, index));
+    let answer = heap.see(requests::get(base, index));
     tell(word, word_in(answer));
     answered(answer)
 }
 
 /// Data word `index` of the object that `base` holds becomes `word`.
 #[unsafe(no_mangle)]
-pub extern "C" fn lxr_put(alloc: Global, heap: &mut Handle, base: u32, index: u32, word: u64) -> u32
+pub extern "C" fn lxr_put(heap: &mut Handle, base: u32, index: u32, word: u64) -> u32
     ensures { Calls Replies heap.old.block.value heap.new.block.value (asking.put base index word) result }
 {
-    answered(heap.reply(alloc, requests::put(base, index, word)))
+    answered(heap.reply(requests::put(base, index, word)))
 }
 
 /// Writes to `same` 1 where both registers are nil or hold one object, and else 0.
 #[unsafe(no_mangle)]
-pub extern "C" fn lxr_same(
-    alloc: Global,
-    heap: &mut Handle,
-    left: u32,
-    right: u32,
-    same: &mut u32,
-) -> u32
-    ensures { Tells calling.same_flag Replies heap.old.block.value heap.new.block.value (asking.same left right) result same.old same.new }
+pub extern "C" fn lxr_same(heap: &mut Handle, left: u32, right: u32, same: &mut u32) -> u32
+    ensures { Tells looking.same_flag heap.old.block.value heap.new.block.value (asking.same left right) result same.old same.new }
 {
-    let answer = heap.reply(alloc, requests::same(left, right));
+    let answer = heap.see(requests::same(left, right));
     tell_flag(same, same_in(answer));
     answered(answer)
 }
 
 /// Register `dest` gets what `source` holds.
 #[unsafe(no_mangle)]
-pub extern "C" fn lxr_move(alloc: Global, heap: &mut Handle, dest: u32, source: u32) -> u32
+pub extern "C" fn lxr_move(heap: &mut Handle, dest: u32, source: u32) -> u32
     ensures { Calls Replies heap.old.block.value heap.new.block.value (asking.copy dest source) result }
 {
-    answered(heap.reply(alloc, requests::copy(dest, source)))
+    answered(heap.reply(requests::copy(dest, source)))
 }
 
 /// Register `dest` becomes nil.
 #[unsafe(no_mangle)]
-pub extern "C" fn lxr_nil(alloc: Global, heap: &mut Handle, dest: u32) -> u32
+pub extern "C" fn lxr_nil(heap: &mut Handle, dest: u32) -> u32
     ensures { Calls Replies heap.old.block.value heap.new.block.value (asking.nil dest) result }
 {
-    answered(heap.reply(alloc, requests::nil(dest)))
+    answered(heap.reply(requests::nil(dest)))
 }
 
 /// Register `dest` gets a new large object, whose body has so many blocks of 4,096 words, which are 0.
 #[unsafe(no_mangle)]
-pub extern "C" fn lxr_big(alloc: Global, heap: &mut Handle, dest: u32, blocks: u32) -> u32
+pub extern "C" fn lxr_large_new(heap: &mut Handle, dest: u32, blocks: u32) -> u32
     ensures { Calls Makes heap.old.block.value heap.new.block.value (asking.big dest blocks) result }
 {
-    answered(heap.make(alloc, requests::big(dest, blocks)))
+    answered(heap.make(requests::big(dest, blocks)))
 }
 
 /// Writes word `index` of the body of the object that `base` holds to `word`.
 #[unsafe(no_mangle)]
-pub extern "C" fn lxr_bget(
-    alloc: Global,
-    heap: &mut Handle,
-    base: u32,
-    index: u32,
-    word: &mut u64,
-) -> u32
-    ensures { Tells calling.word_in Replies heap.old.block.value heap.new.block.value (asking.big_get base index) result word.old word.new }
+pub extern "C" fn lxr_large_get(heap: &mut Handle, base: u32, index: u32, word: &mut u64) -> u32
+    ensures { Tells looking.word_in heap.old.block.value heap.new.block.value (asking.big_get base index) result word.old word.new }
 {
-    let answer = heap.reply(alloc, requests::big_get(base, index));
+    let answer = heap.see(requests::big_get(base, index));
     tell(word, word_in(answer));
     answered(answer)
 }
 
 /// Word `index` of the body of the object that `base` holds becomes `word`.
 #[unsafe(no_mangle)]
-pub extern "C" fn lxr_bput(
-    alloc: Global,
-    heap: &mut Handle,
-    base: u32,
-    index: u32,
-    word: u64,
-) -> u32
+pub extern "C" fn lxr_large_put(heap: &mut Handle, base: u32, index: u32, word: u64) -> u32
     ensures { Calls Replies heap.old.block.value heap.new.block.value (asking.big_put base index word) result }
 {
-    answered(heap.reply(alloc, requests::big_put(base, index, word)))
+    answered(heap.reply(requests::big_put(base, index, word)))
 }
 
 /// Makes a pause by reference counts alone.
 #[unsafe(no_mangle)]
-pub extern "C" fn lxr_pause(alloc: Global, heap: &mut Handle) -> u32
+pub extern "C" fn lxr_pause(heap: &mut Handle) -> u32
     ensures { (answer : CodeOf) × AsksPause heap.old.block.value heap.new.block.value false answer × (result ≡ number_of answer) }
 {
-    heap.pause(alloc, false).number()
+    heap.pause(false).number()
 }
 
 /// Makes a pause that reclaims everything that is unreachable.
 #[unsafe(no_mangle)]
-pub extern "C" fn lxr_collect(alloc: Global, heap: &mut Handle) -> u32
+pub extern "C" fn lxr_collect(heap: &mut Handle) -> u32
     ensures { (answer : CodeOf) × AsksPause heap.old.block.value heap.new.block.value true answer × (result ≡ number_of answer) }
 {
-    heap.pause(alloc, true).number()
+    heap.pause(true).number()
 }
 
-/// Before an object is made a pause is made once so many were made since the last one; 0: none.
+/// Before an object is made a plain pause is made once so many bytes of objects were made since the last pause; 0: none, and the greatest
+/// number: half of what the last pause left free.
 #[unsafe(no_mangle)]
-pub extern "C" fn lxr_pause_every(alloc: Global, heap: &mut Handle, news: u32) -> u32
-    ensures { (answer : CodeOf) × SetsEvery heap.old.block.value heap.new.block.value news answer × (result ≡ number_of answer) }
+pub extern "C" fn lxr_set_pace(heap: &mut Handle, bytes: u64) -> u32
+    ensures { (answer : CodeOf) × SetsPace heap.old.block.value heap.new.block.value bytes answer × (result ≡ number_of answer) }
 {
-    heap.pause_every(alloc, news).number()
+    heap.set_pace(bytes).number()
 }
 
 /// Writes to `is_nil` 1 where register `source` is nil, and else 0.
 #[unsafe(no_mangle)]
-pub extern "C" fn lxr_is_nil(alloc: Global, heap: &mut Handle, source: u32, is_nil: &mut u32) -> u32
+pub extern "C" fn lxr_is_nil(heap: &mut Handle, source: u32, is_nil: &mut u32) -> u32
     ensures { (answer : Result Bool CodeOf) × Looks SeesNil heap.old.block.value heap.new.block.value (asking.register_of source) answer
         × (result ≡ number_of (code_in answer)) × (is_nil.new ≡ written_over is_nil.old (told is_flag answer)) }
 {
-    match heap.is_nil(alloc, source) {
+    match heap.is_nil(source) {
         Err(code) => code.number(),
         Ok(nil) => {
             *is_nil = flag(nil);
@@ -324,7 +277,6 @@ pub extern "C" fn lxr_is_nil(alloc: Global, heap: &mut Handle, source: u32, is_n
 /// Writes how many references and data words the object has that `base` holds, and how many blocks its body has, 0 where it has none.
 #[unsafe(no_mangle)]
 pub extern "C" fn lxr_shape(
-    alloc: Global,
     heap: &mut Handle,
     base: u32,
     refs: &mut u32,
@@ -337,7 +289,7 @@ pub extern "C" fn lxr_shape(
         × (words.new ≡ written_over words.old (told (λ s. s.0.values) (is_of_object answer)))
         × (blocks.new ≡ written_over blocks.old (told (λ s. s.1) (is_of_object answer))) }
 {
-    match of_object(heap.shape(alloc, base)) {
+    match of_object(heap.shape(base)) {
         Err(code) => code.number(),
         Ok(found) => {
             *refs = found.0.refs as u32;
@@ -350,41 +302,29 @@ pub extern "C" fn lxr_shape(
 
 /// Reads `count` words of the body of the object that `base` holds, from word `index` on: all of them or none.
 #[unsafe(no_mangle)]
-pub extern "C" fn lxr_bread(
-    alloc: Global,
-    heap: &mut Handle,
-    base: u32,
-    index: u32,
-    into: &mut [u64],
-) -> u32
+pub extern "C" fn lxr_large_read(heap: &mut Handle, base: u32, index: u32, into: &mut [u64]) -> u32
     ensures { (answer : Result BodyReplyOf CodeOf) × Looks (SeesWords index into.old into.new) heap.old.block.value heap.new.block.value (asking.register_of base) answer
         × OnErr answer (into.new ≡ into.old) × (result ≡ number_of (is_bulk_code answer)) }
 {
-    bulk_code(heap.read(alloc, base, index, into)).number()
+    bulk_code(heap.read(base, index, into)).number()
 }
 
 /// Writes `count` words over those of the body of the object that `base` holds, from word `index` on: all of them or none.
 #[unsafe(no_mangle)]
-pub extern "C" fn lxr_bwrite(
-    alloc: Global,
-    heap: &mut Handle,
-    base: u32,
-    index: u32,
-    from: &[u64],
-) -> u32
+pub extern "C" fn lxr_large_write(heap: &mut Handle, base: u32, index: u32, from: &[u64]) -> u32
     ensures { (answer : Result BodyReplyOf CodeOf) × Writes heap.old.block.value heap.new.block.value (asking.register_of base) index from.now answer
         × (result ≡ number_of (is_bulk_code answer)) }
 {
-    bulk_code(heap.write(alloc, base, index, from)).number()
+    bulk_code(heap.write(base, index, from)).number()
 }
 
 /// Writes how many there are of what `what` counts.
 #[unsafe(no_mangle)]
-pub extern "C" fn lxr_count(alloc: Global, heap: &mut Handle, what: u32, number: &mut u64) -> u32
+pub extern "C" fn lxr_count(heap: &mut Handle, what: u32, number: &mut u64) -> u32
     ensures { (answer : Result ℕ CodeOf) × Looks Counts heap.old.block.value heap.new.block.value (counted_by what) answer
         × (result ≡ number_of (code_in answer)) × (number.new ≡ written_over number.old (told (λ n. n) answer)) }
 {
-    match heap.count(alloc, what) {
+    match heap.count(what) {
         Err(code) => code.number(),
         Ok(count) => {
             *number = count;

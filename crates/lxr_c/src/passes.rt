@@ -1,23 +1,18 @@
 //! A heap that threads share, for programs in C: the calls of `lxr_passes.h`. None waits, starts a thread, or calls back.
 ghost use Rattle.std.specs.Prelude.{◌≡◌, ℕ, Ok, Err, option_map, Result, Bool};
 ghost use Rattle.lxr_graph.specs.declared.Op.TheVariants as op;
-ghost use Rattle.lxr_c.specs.Calling.{flag, written_over};
-ghost use Rattle.lxr_c.specs.Codes.{number_of};
-ghost use Rattle.lxr_c.specs.Holding.{At};
-ghost use Rattle.lxr_c.specs.Looking.{code_in, told};
-ghost use Rattle.lxr_c.specs.Passing.{Answers, ClosesStation, ComesHome, HelpsBy, LetsOut, OrdersBy, SeesWanted, TellsBy, flag_of, only};
-ghost use Rattle.lxr_c.specs.Requests as asking;
-ghost use Rattle.lxr_c.specs.Requests.{small_of as is_small_of};
-ghost use Rattle.lxr_c.specs.Sharing.{ClosesHeap, CountsPause, OpensHeap, PausesHeap, ResumesHeap};
-ghost use Rattle.lxr_c.specs.declared.codes.Code.{Code as CodeOf};
-ghost use Rattle.lxr_c.specs.declared.passing.Told.{Told as ToldOf};
+ghost use Rattle.lxr_c_base.specs.Codes.{code_in, flag, number_of, told, written_over};
+ghost use Rattle.lxr_c_shared.specs.Holding.{At};
+ghost use Rattle.lxr_c_shared.specs.Passing.{Answers, ClosesStation, ComesHome, HelpsBy, LetsOut, OrdersBy, SeesWanted, TellsBy, flag_of, only};
+ghost use Rattle.lxr_c_base.specs.Requests as asking;
+ghost use Rattle.lxr_c_base.specs.Requests.{small_of as is_small_of};
+ghost use Rattle.lxr_c_shared.specs.Sharing.{ClosesHeap, CountsPause, OpensHeap, PausesHeap, ResumesHeap};
+ghost use Rattle.lxr_c_base.specs.declared.codes.Code.{Code as CodeOf};
+ghost use Rattle.lxr_c_shared.specs.declared.passing.Told.{Told as ToldOf};
 
-use crate::codes::Code;
-use crate::holder::Holder;
-use crate::passing::Told;
-use crate::requests;
-use crate::requests::small_of;
-use crate::settings::Wishes;
+use lxr_c_base::requests::small_of;
+use lxr_c_base::{Code, requests};
+use lxr_c_shared::{Holder, Told, Wishes};
 use lxr_graph::Op;
 use std::alloc::Global;
 
@@ -58,7 +53,7 @@ fn tell_test(test: Result<bool, Code>, place: &mut u32) -> u32
 
 /// Opens a heap that threads share, between epochs.
 #[unsafe(no_mangle)]
-pub extern "C" fn lxr_shared_open(alloc: Global, heap: &mut Holder, settings: &Wishes) -> u32
+pub extern "C" fn lxr_passes_open(alloc: Global, heap: &mut Holder, settings: &Wishes) -> u32
     ensures { (answer : CodeOf) × OpensHeap heap.old.held.value heap.new.held.value settings.now answer × (result ≡ number_of answer) }
 {
     heap.open_heap(alloc, settings).number()
@@ -66,7 +61,7 @@ pub extern "C" fn lxr_shared_open(alloc: Global, heap: &mut Holder, settings: &W
 
 /// Closes it.
 #[unsafe(no_mangle)]
-pub extern "C" fn lxr_shared_close(alloc: Global, heap: &mut Holder) -> u32
+pub extern "C" fn lxr_passes_close(alloc: Global, heap: &mut Holder) -> u32
     ensures { (answer : CodeOf) × ClosesHeap heap.old.held.value heap.new.held.value answer × (result ≡ number_of answer) }
 {
     heap.close_heap(alloc).number()
@@ -74,7 +69,7 @@ pub extern "C" fn lxr_shared_close(alloc: Global, heap: &mut Holder) -> u32
 
 /// Opens the next epoch.
 #[unsafe(no_mangle)]
-pub extern "C" fn lxr_shared_resume(alloc: Global, heap: &mut Holder) -> u32
+pub extern "C" fn lxr_passes_resume(alloc: Global, heap: &mut Holder) -> u32
     ensures { (answer : CodeOf) × At CodeOf.NoHeap ResumesHeap heap.old.held.value heap.new.held.value answer × (result ≡ number_of answer) }
 {
     heap.resume(alloc).number()
@@ -82,7 +77,7 @@ pub extern "C" fn lxr_shared_resume(alloc: Global, heap: &mut Holder) -> u32
 
 /// Closes the epoch and makes a pause, where one is wanted.
 #[unsafe(no_mangle)]
-pub extern "C" fn lxr_shared_pause(alloc: Global, heap: &mut Holder) -> u32
+pub extern "C" fn lxr_passes_pause(alloc: Global, heap: &mut Holder) -> u32
     ensures { (answer : CodeOf) × At CodeOf.NoHeap PausesHeap heap.old.held.value heap.new.held.value answer × (result ≡ number_of answer) }
 {
     heap.pause(alloc).number()
@@ -90,7 +85,7 @@ pub extern "C" fn lxr_shared_pause(alloc: Global, heap: &mut Holder) -> u32
 
 /// Writes what `what` counts of the last pause.
 #[unsafe(no_mangle)]
-pub extern "C" fn lxr_shared_count(
+pub extern "C" fn lxr_passes_count(
     alloc: Global,
     heap: &mut Holder,
     what: u32,

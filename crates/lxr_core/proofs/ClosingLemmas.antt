@@ -210,10 +210,10 @@ may_all_give b s space actors is =
           let m = is.mutators i x there in
           let room = log_room b s space actors i x is there in
           let fits = room.1 in let same = room.0 in
-          let replies = m.sound.few_replies in let few_operations = m.sound.few in
+          let replies = m.sound.few_replies in let few_operations = m.sound.setup.few in
           record {
             rests = mutator_rests b s space actors i x is there;
-            sixteen = m.sound.registers;
+            sixteen = m.sound.registers.sixteen;
             log = omega (arith, fits, same, log);
             replies = omega (arith, replies, few_operations);
           };
@@ -340,16 +340,9 @@ mutator_still l m is rests =
     let sound = is.sound in
     record {
       sound = record {
-        thread = sound.thread;
-        operations = sound.operations;
-        few = sound.few;
-        every = sound.every;
+        setup = sound.setup;
         registers = sound.registers;
-        held = sound.held;
         spans = (omega arith, omega arith);
-        before = sound.before;
-        indexes = sound.indexes;
-        room = sound.room;
         few_replies = sound.few_replies;
         replies = sound.replies;
         busy = sound.busy;
@@ -454,7 +447,7 @@ some_turns b s space actors is =
     let many = mutator_count b s space actors is in
     let some = is.epoch.begins.between.safepoint.holds.space.limits.threads.0 in
     let (m, there) = first_item (mutators_in actors) (omega (arith, many, some)) in
-    let turns = (is.mutators 0 m there).sound.every.0 in
+    let turns = (is.mutators 0 m there).sound.setup.every.0 in
     let same = (is.epoch.called.each 0 (thread_state_of m) (shown_end b s space actors 0 m is there)).every in
     omega (arith, turns, same)
 

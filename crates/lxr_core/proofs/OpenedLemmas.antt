@@ -29,7 +29,7 @@ use Rattle.lxr_mutator.specs.declared.phases.MutEnd.TheVariants as ends
 use Rattle.lxr_mutator.specs.declared.phases.MutatorPhase.{MutatorPhase}
 use Rattle.lxr_mutator.specs.declared.phases.MutatorPhase.TheVariants as phase
 use Rattle.lxr_mutator.specs.Mutating.{Mutating, nil, rests_in}
-use Rattle.lxr_mutator.specs.Mutators.{IsHeld, IsMutator, MayBeIn, again, phase_again}
+use Rattle.lxr_mutator.specs.Mutators.{AreRegisters, IsHeld, IsMutator, MayBeIn, again, phase_again}
 use Rattle.lxr_decrement.specs.Decrementing.{DecrementerState}
 use Rattle.lxr_decrement.specs.Decrementers.{again as empty_again}
 use Rattle.lxr_helper.specs.Indexes.{HaveIndexes}
@@ -141,24 +141,17 @@ stage_again v m (Some ends.Ended) same all few = subst (λ r. StartsIn v (Throug
 stage_again v m e same all few = anew (few (λ z. cc))
 
 -- it is a mutator still
-again_mutator : (l : Limits) (m : Mutating) (registers : List Place) → IsMutatorOf l m → rests_in m.phase ≡ true → length registers ≡ 16 → All IsHeld registers → IsMutatorOf l (again m registers)
-again_mutator l m registers is rests many held = record {
+again_mutator : (l : Limits) (m : Mutating) (registers : List Place) → IsMutatorOf l m → rests_in m.phase ≡ true → AreRegisters registers → IsMutatorOf l (again m registers)
+again_mutator l m registers is rests are = record {
   sound = let sound = is.sound in record {
-    thread = sound.thread;
-    operations = sound.operations;
-    few = sound.few;
-    every = sound.every;
-    registers = many;
-    held = held;
+    setup = sound.setup;
+    registers = are;
     spans = sound.spans;
-    before = sound.before;
-    indexes = sound.indexes;
-    room = sound.room;
     few_replies = sound.few_replies;
     replies = elim sound.replies [ inl through ↦ inl (ap phase_again through.1, through.1) | inr few ↦ inr few ];
     busy = λ e. let k : true ≡ false = sym (rests_again m.end) ∙ e in cc;
     waits = sound.waits;
-    since = λ turn. let some = sound.every.0 in omega (arith, some);
+    since = λ turn. let some = sound.setup.every.0 in omega (arith, some);
     phase = may_again (again m registers) m.end;
   };
   regions = is.regions;
@@ -176,12 +169,12 @@ again_starts b places i m are many less rests =
     let sound = rests.mutator.sound in
     record {
       thread = rests.thread;
-      formed = λ k d h. (sound.operations k d h).0;
-      endless = λ k d h. (sound.operations k d h).1;
-      few = sound.few;
+      formed = λ k d h. (sound.setup.operations k d h).0;
+      endless = λ k d h. (sound.setup.operations k d h).1;
+      few = sound.setup.few;
       began = subst (λ t. m.before ≡ objects_before t b.history) (sym rests.thread) rests.began;
-      few_began = sound.before;
-      every = (rests.every, sound.every.0);
+      few_began = sound.setup.before;
+      every = (rests.every, sound.setup.every.0);
       registers = holds_registers b.abstract_state.moment.state b.abstract_state.at places (limits_of b).threads i (thread_state_of (again m (registers_in places i))) are many less rests.thread refl;
       log = rests.log;
       spans = rests.spans;
@@ -362,7 +355,7 @@ module _ (b : Beginning) (before after : List AnyActor) (begins : IsBeginning b)
       let rests = rest.mutators.each i old.was old.stood in
       subst (IsMutatorOf (limits_of b)) (sym old.is)
       (again_mutator (limits_of b) old.was (registers_in b.space.registers.items i) rests.mutator rests.rests
-      (sixteen_of b.space.registers.items (limits_of b).threads i many (below_threads i old.was old.stood)) (registers_held b.space.registers.items i places_held))
+      (record { sixteen = sixteen_of b.space.registers.items (limits_of b).threads i many (below_threads i old.was old.stood); held = registers_held b.space.registers.items i places_held }))
 
   -- all decrementers are so still
   pub all_helpers : (i : ℕ) (d : DecrementerState) → slice_get (decrementers_in after) i ≡ Some d → IsDecrementerOf (limits_of b) d

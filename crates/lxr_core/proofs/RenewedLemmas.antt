@@ -32,18 +32,19 @@ module _ (m : Mutating) (before : ℕ) where
   pub renewed_is : IsMutator m → rests_in m.phase ≡ true → m.end ≢ Some ends.NoRun → before ≤ MOST_GRANULES → IsMutator (renewed m before)
   renewed_is is rests none few_before =
       let fewer = length-drop (length m.replies.items) m.operations in
-      let few = is.few in let room = is.room in
+      let few = is.setup.few in let room = is.setup.room in
       record {
-        thread = is.thread;
-        operations = All-drop IsOperation (length m.replies.items) m.operations is.operations;
-        few = omega (arith, fewer, few);
-        every = is.every;
+        setup = record {
+          thread = is.setup.thread;
+          operations = All-drop IsOperation (length m.replies.items) m.operations is.setup.operations;
+          few = omega (arith, fewer, few);
+          room = omega (arith, fewer, room);
+          indexes = is.setup.indexes;
+          every = is.setup.every;
+          before = few_before;
+        };
         registers = is.registers;
-        held = is.held;
         spans = is.spans;
-        before = few_before;
-        indexes = is.indexes;
-        room = omega (arith, fewer, room);
         few_replies = omega arith;
         replies = inr (omega arith);
         busy = λ e. (let k : true ≡ false = sym rests ∙ e in absurd (cc));

@@ -1,14 +1,10 @@
 -- An epoch, and what comes before and behind it, changes what threads are ordered by orders alone, and by none where no mutator has room.
 use Rattle.std.proofs.Common.{◌≡◌, ℕ, zero, suc, ◌+◌, ◌<◌, ◌≤◌, refl, sym, ap, subst, ◌∙◌, arith, Bool, true, false, List, [], ◌∷◌, ◌++◌, length, cond, nat_eq, append-nil, append_assoc}
-use Rattle.std.specs.Prelude.{Option, Some, None, slice_get, slice_index, slice_set, ◌==◌, if◌then◌else◌, nat_lt, ◌&&◌, map}
+use Rattle.std.specs.Prelude.{Option, Some, None, slice_get, slice_index, slice_set, ◌==◌, if◌then◌else◌, map}
 use Rattle.std.specs.Option.{option_map_or}
 use Rattle.std.proofs.lemmas.Bool.Decides.{nat_tests}
 use Rattle.std.proofs.lemmas.Option.{slice_get-get_or, slice_get_within}
-use Rattle.lxr_layout.specs.Places.{place_in}
 use Rattle.lxr_layout.specs.declared.Place.{Place}
-use Rattle.lxr_layout.specs.declared.Shape.{Shape}
-use Rattle.lxr_layout.specs.declared.LogEntry.{LogEntry}
-use Rattle.lxr_base.specs.Roomy.{Roomy}
 use Rattle.lxr_graph.specs.declared.Op.{Op}
 use Rattle.lxr_graph.specs.declared.Op.TheVariants as op
 use Rattle.lxr_graph.proofs.RowLemmas.{slice_get-push}
@@ -19,17 +15,14 @@ use Rattle.lxr_actor.specs.declared.Core.{Core}
 use Rattle.lxr_actor.specs.declared.Event.{Event}
 use Rattle.lxr_actor.specs.declared.Event.TheVariants.{Step, Give, Out, Order}
 use Rattle.lxr_actor.specs.Run.{acted, change, event, happened, of_event, run}
-use Rattle.lxr_barrier.specs.declared.StoreEnd.{StoreEnd}
-use Rattle.lxr_barrier.specs.declared.StoreEnd.TheVariants as store_end
-use Rattle.lxr_barrier.specs.Storing.{Storing, end_of, log_after, store_after}
-use Rattle.lxr_mutator.specs.declared.phases.MutatorPhase.{MutatorPhase}
-use Rattle.lxr_mutator.specs.declared.phases.MutatorPhase.TheVariants as phase
-use Rattle.lxr_mutator.specs.Mutating.{Mutating, op_now, register}
-use Rattle.lxr_mutator.specs.Operating.{indexed_fields, index_of}
-use Rattle.lxr_mutator.specs.Steps.{accepts_in, after_in, based, has_room, is_medium, loaded, mutator_machine, placed, started, stored}
+use Rattle.lxr_mutator.specs.Mutating.{Mutating, op_now}
+use Rattle.lxr_mutator.specs.Steps.{mutator_machine}
 use Rattle.lxr_mutator.specs.Mutators.{IsFull, again}
 use Rattle.lxr_mutator.specs.Orders.{ordered, takes_order, with_order}
 use Rattle.lxr_mutator.proofs.OrderLemmas.{orders_by_rule}
+use Rattle.lxr_mutator.specs.Laws.{StepsByRule}
+use Rattle.lxr_mutator.specs.Laws.StepsByRule.{does_one, finds_asked, finds_end, gave_up, goes_on, stands_still}
+use Rattle.lxr_mutator.proofs.StepLemmas.{step_by_rule}
 use Rattle.lxr_decrement.specs.Decrementing.{DecrementerState}
 use Rattle.lxr_decrement.specs.Decrementers.{again as empty_again}
 use Rattle.lxr_decrement.specs.Steps.{decrementer_machine}
@@ -160,62 +153,14 @@ opened_full before after resting started opens = full_as (mutators_in started) (
 
 -- ---- a step
 
--- each step of a mutator keeps its orders, by its phase
-either_keeps : (b : Bool) (m x y : Mutating) → Keeps m x → Keeps m y → Keeps m (if b then x else y)
-either_keeps true m x y p q = p
-either_keeps false m x y p q = q
-
-based_keeps : (m : Mutating) (base : Place) → Keeps m (based m base)
-based_keeps m base = either_keeps (nat_eq base.0 0) m _ _ refl refl
-
-placed_keeps : (m : Mutating) (shape : Shape) → Keeps m (placed m shape)
-placed_keeps m shape =
-    either_keeps (has_room m.spans.current shape) m _ _ refl (either_keeps (is_medium shape && has_room m.spans.overflow shape) m _ _ refl refl)
-
-started_keeps : (m : Mutating) (o : Op) → Keeps m (started m o)
-started_keeps m (op.New dest shape) = placed_keeps m shape
-started_keeps m (op.Load dest base index) = based_keeps m (register m base)
-started_keeps m (op.Store base index source) = based_keeps m (register m base)
-started_keeps m (op.Put base index value) = based_keeps m (register m base)
-started_keeps m (op.Get base index) = based_keeps m (register m base)
-started_keeps m (op.Swap dest base index source) = based_keeps m (register m base)
-started_keeps m (op.Add base index value) = based_keeps m (register m base)
-started_keeps m (op.Move dest source) = refl
-started_keeps m (op.Nil dest) = refl
-started_keeps m (op.Same left right) = refl
-started_keeps m op.Pause = refl
-started_keeps m op.Collect = refl
-started_keeps m op.End = refl
-
-loaded_keeps : (m : Mutating) (place : Place) → Keeps m (loaded m place)
-loaded_keeps m place = either_keeps (nat_eq place.0 0) m _ _ refl refl
-
-stored_keeps : (m : Mutating) (s : Storing) (log : Roomy LogEntry) (e : Option StoreEnd) → Keeps m (stored m s log e)
-stored_keeps m s log None = refl
-stored_keeps m s log (Some store_end.Stored) = refl
-stored_keeps m s log (Some (store_end.Swapped old)) = loaded_keeps (record m { log = log }) old
-stored_keeps m s log (Some store_end.LogFull) = refl
-
-after_keeps : (m : Mutating) (p : MutatorPhase) (old : ℕ) → Keeps m (after_in m p old)
-after_keeps m phase.Ready old = either_keeps (nat_eq old 1) m _ _ refl (started_keeps m (op_now m))
-after_keeps m phase.Finished old = refl
-after_keeps m (phase.Base base) old = either_keeps (nat_lt (index_of (op_now m)) (indexed_fields (op_now m) _)) m _ _ refl refl
-after_keeps m (phase.Reference base) old = loaded_keeps m (place_in old)
-after_keeps m (phase.Referent place) old = refl
-after_keeps m (phase.Datum base refs) old = refl
-after_keeps m (phase.Putting base refs) old = refl
-after_keeps m (phase.Adding base refs) old = refl
-after_keeps m (phase.Storing s) old = stored_keeps m (store_after s m.log old) (log_after s m.log old) (end_of (store_after s m.log old))
-after_keeps m phase.DrawsRun old = refl
-after_keeps m (phase.RunNumber number) old = refl
-after_keeps m (phase.Run number) old = refl
-after_keeps m phase.DrawsBlock old = refl
-after_keeps m (phase.BlockNumber number) old = refl
-after_keeps m (phase.Block number) old = either_keeps (is_medium _) m _ _ refl refl
-after_keeps m (phase.Wiping place next) old = refl
-after_keeps m (phase.Heading place) old = refl
-after_keeps m phase.Asking old = refl
-after_keeps m (phase.GivingUp why) old = refl
+-- each step of a mutator keeps its orders
+step_keeps : (m : Mutating) (old : ℕ) (to : Mutating) → StepsByRule m old to → Keeps m to
+step_keeps m old to (goes_on log registers spans p busy) = refl
+step_keeps m old to (finds_asked ready is) = refl
+step_keeps m old to (finds_end ready unasked is) = refl
+step_keeps m old to (gave_up why is) = refl
+step_keeps m old to (does_one log registers r) = refl
+step_keeps m old to (stands_still is) = refl
 
 -- ---- a schedule
 
@@ -224,7 +169,7 @@ acted_keeps : (words : List ℕ) (a : AnyActor) (o : Option Action) → KeepsOrd
 acted_keeps words (any.Mutator m) None = mutator m m refl
 acted_keeps words (any.Mutator m) (Some act) =
     let old = slice_index words act.word in
-    mutator m (mutator_machine.after m old) (either_keeps (accepts_in m m.phase old) m _ _ (after_keeps m m.phase old) refl)
+    mutator m (mutator_machine.after m old) (step_keeps m old (mutator_machine.after m old) (step_by_rule m old))
 acted_keeps words (any.Decrementer d) None = helper d d
 acted_keeps words (any.Decrementer d) (Some act) = helper d (decrementer_machine.after d (slice_index words act.word))
 acted_keeps words (any.Tracer d) None = tracer d d

@@ -1,5 +1,5 @@
 -- All kinds of actor as one machine.
-use Rattle.std.specs.Prelude.{◌≡◌, ℕ, Bool, false, Option, None, List, [], ◌∷◌, ◌++◌, map}
+use Rattle.std.specs.Prelude.{◌≡◌, ℕ, Bool, false, Option, Some, None, List, [], ◌∷◌, ◌++◌, map}
 use Rattle.lxr_layout.specs.declared.Place.{Place}
 use Rattle.lxr_graph.specs.declared.Op.{Op}
 use Rattle.lxr_actor.specs.declared.Action.{Action}
@@ -33,6 +33,12 @@ tracers_in [] = []
 tracers_in (any.Mutator m ∷ actors) = tracers_in actors
 tracers_in (any.Decrementer d ∷ actors) = tracers_in actors
 tracers_in (any.Tracer d ∷ actors) = d ∷ tracers_in actors
+
+-- the mutator, if it is one
+abbrev pub mutator_of : AnyActor → Option Mutating
+mutator_of (any.Mutator m) = Some m
+mutator_of (any.Decrementer d) = None
+mutator_of (any.Tracer d) = None
 
 -- mutators come first, decrementers behind them, and tracers last
 abbrev pub in_order : List Mutating → List DecrementerState → List TracerState → List AnyActor

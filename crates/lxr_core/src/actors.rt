@@ -1,11 +1,13 @@
 //! All kinds of actor as one.
 ghost use Rattle.std.specs.Prelude.{◌≡◌, ◌*◌, ◌≤◌};
 ghost use Rattle.std.specs.List.{All};
+ghost use Rattle.std.specs.Option.{option_copied};
 ghost use Rattle.lxr_layout.specs.declared.TheConstants.{GRANULES_IN_BLOCK};
 ghost use Rattle.lxr_image.specs.Spaces.{IsSpace, tables_of};
 ghost use Rattle.lxr_image_search.specs.Search.{AvoidsFree};
 ghost use Rattle.lxr_image_search.specs.declared.Wanted.TheVariants.{ToScan};
 ghost use Rattle.lxr_mutator.specs.Mutators.{IsHeld};
+ghost use Rattle.lxr_core.specs.Actors.{mutator_of};
 ghost use Rattle.lxr_core.specs.Collecting.{ActorMayGive, MayTakeOf, actor_given_up, taken_of_actor};
 ghost use Rattle.lxr_core.specs.Filling.{FillsActor, MayFill};
 ghost use Rattle.lxr_core.specs.Starting.{HasRegisters, MayStart, registers_in, started_again};
@@ -30,6 +32,17 @@ pub enum AnyActor {
 }
 
 impl AnyActor {
+    /// The mutator, if it is one; a helper is none.
+    #[inline(always)]
+    pub fn mutator(&self) -> Option<&Mutator>
+        ensures { option_copied result ≡ mutator_of self.now }
+    {
+        match self {
+            AnyActor::Mutator(mutator) => Some(mutator),
+            AnyActor::Decrementer(_) | AnyActor::Tracer(_) => None,
+        }
+    }
+
     /// A new epoch begins: the mutator of a number has its registers of these places, and a helper has an empty pocket.
     pub(crate) fn start_again(&mut self, places: &[Place], number: usize)
         requires rests { MayStart self.old }
@@ -54,8 +67,7 @@ impl AnyActor {
         ensures { FillsActor (tables_of space.now) space.now.limits.blocks from result self.old self.new }
     {
         match self {
-            AnyActor::Mutator(_mutator) => from,
-            AnyActor::Decrementer(_decrementer) => from,
+            AnyActor::Mutator(_) | AnyActor::Decrementer(_) => from,
             AnyActor::Tracer(tracer) => fill_pocket(tracer, space, from),
         }
     }
@@ -69,8 +81,7 @@ impl AnyActor {
     {
         match self {
             AnyActor::Mutator(mutator) => collect(space, mutator),
-            AnyActor::Decrementer(_decrementer) => {}
-            AnyActor::Tracer(_tracer) => {}
+            AnyActor::Decrementer(_) | AnyActor::Tracer(_) => {}
         }
     }
 }

@@ -6,7 +6,6 @@ pub mod ImageMakeLemmas
 pub mod ImagePlacedLemmas
 pub mod ImageLeftLemmas
 pub mod LogsThreadStateLemmas
-pub mod LogsPlaceLemmas
 pub mod LogsTurnLemmas
 pub mod LogsCallLemmas
 pub mod LogsReferenceLemmas

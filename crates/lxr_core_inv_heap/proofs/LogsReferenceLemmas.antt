@@ -23,7 +23,7 @@ use Rattle.lxr_core_invariant.specs.Imaged.{IsReferenceAt}
 use Rattle.lxr_core_invariant.specs.Logged.{with_cleared}
 use Rattle.lxr_core_invariant.proofs.HeldLemmas.{reference_held}
 use Rattle.lxr_core_invariant.proofs.TellingLemmas.{one_place, small_place}
-use Rattle.lxr_core_inv_heap.proofs.LogsPlaceLemmas.{one_field}
+use Rattle.lxr_invariant.proofs.FieldLemmas.{field_found}
 
 -- members stand in the heap
 abbrev pub ImageOf : Tables → ℕ → (Name → ℕ) → Moment → Type 0
@@ -65,7 +65,7 @@ set_is_uncleared t blocks at m cleared place index n image bits is set member he
     let q : Name = u.0 in let j : ℕ = u.1 in
     let kept = in_first m.unreclaimed m.made q u.2.member in
     let within = within_object t blocks at m place index n image is member here in
-    let one = one_field t blocks at m.state.graph (members m) image q n j index kept member u.2.index within (sym u.2.word ∙ ap (λ z. field_word z index) here) in (
+    let one = field_found t blocks at m.state.graph (members m) image q n j index kept member u.2.index within (sym u.2.word ∙ ap (λ z. field_word z index) here) in (
       subst (λ z. IsTrue (has m.unreclaimed z)) one.0 u.2.member,
       sym (ap (λ z. has_field cleared (z, j)) one.0 ∙ ap (λ z. has_field cleared (n, z)) one.1) ∙ u.2.unwritten,
     )
@@ -137,7 +137,7 @@ cleared_bits t blocks at m cleared place index n image bits is kept here = recor
     own : (w : ℕ) → w ≡ field_word place index → IsUnwritten (with_cleared m ((n, index) ∷ cleared)) at m.unreclaimed w → ⊥
     own w e (q, j, u) =
         let within = within_object t blocks at m place index n image is (in_first m.unreclaimed m.made n kept) here in
-        let one = one_field t blocks at m.state.graph (members m) image q n j index (in_first m.unreclaimed m.made q u.member) (in_first m.unreclaimed m.made n kept) u.index within
+        let one = field_found t blocks at m.state.graph (members m) image q n j index (in_first m.unreclaimed m.made q u.member) (in_first m.unreclaimed m.made n kept) u.index within
         (sym u.word ∙ e ∙ ap (λ z. field_word z index) here) in
         let none : has_field ((n, index) ∷ cleared) (n, index) ≡ false = sym (ap (λ z. has_field ((n, index) ∷ cleared) (z, j)) one.0 ∙ ap (λ z. has_field ((n, index) ∷ cleared) (n, z)) one.1) ∙ u.unwritten in
         not_both (has_field ((n, index) ∷ cleared) (n, index)) (first_field (n, index) cleared) none

@@ -33,7 +33,8 @@ use Rattle.lxr_core_invariant.specs.Inside.{StaysInsideWhile}
 use Rattle.lxr_core_invariant.specs.Logged.{with_cleared}
 use Rattle.lxr_core_invariant.specs.Remembered.{StillHolds}
 use Rattle.lxr_core_invariant.specs.Epoch.{IsEpoch}
-use Rattle.lxr_core_invariant.proofs.FieldLemmas.{field_found, name_found}
+use Rattle.lxr_core_invariant.proofs.FieldLemmas.{name_found}
+use Rattle.lxr_invariant.proofs.FieldLemmas.{field_found}
 use Rattle.lxr_core_invariant.proofs.PauseLemmas.{AreUnmoved, HaveOnePause, one_pause, unmoved}
 use Rattle.lxr_core_inv_counts.proofs.GroundLemmas as counts
 

@@ -33,7 +33,7 @@ use Rattle.lxr_core_invariant.specs.Happening.{MayClearFirst, MayDoAtOnce, MayFi
 use Rattle.lxr_core_invariant.specs.Imaged.{Knows, KnowsReference}
 use Rattle.lxr_core_invariant.specs.Epoch.{IsEpoch}
 use Rattle.lxr_core_invariant.proofs.ActingLemmas.{Acts, IsBase, acts, base_held, base_nil, same_pair}
-use Rattle.lxr_core_invariant.proofs.FieldLemmas.{field_found}
+use Rattle.lxr_invariant.proofs.FieldLemmas.{field_found}
 use Rattle.lxr_core_invariant.proofs.ObjectLemmas.{state_after_step}
 use Rattle.lxr_core_invariant.proofs.ShowingLemmas.{op_formed}
 use Rattle.lxr_core_invariant.proofs.TellingLemmas.{told_is}

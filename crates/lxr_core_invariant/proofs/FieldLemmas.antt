@@ -1,16 +1,10 @@
--- Places and heap words tell names and references: what stands at a place has one name, and a word is that of one member's reference alone.
-use Rattle.std.proofs.Common.{◌≡◌, ℕ, ◌+◌, ◌-◌, ◌*◌, ◌<◌, ◌≤◌, refl, sym, ap, subst, ◌∙◌, inl, inr, ◌⊎◌, arith, true, false, cond, List, [], ◌∷◌, length}
+-- Places tell names: what stands at a place has one name.
+use Rattle.std.proofs.Common.{◌≡◌, ℕ, sym, ap, ◌∙◌, inl, inr, cond, List, [], ◌∷◌}
 use Rattle.std.specs.Prelude.{IsTrue}
 use Rattle.std.proofs.lemmas.Bool.Decides.{eqb_tells}
 use Rattle.lxr_layout.specs.declared.Name.{Name}
-use Rattle.lxr_graph.specs.Names.{has, same_name}
-use Rattle.lxr_graph.specs.State.{Graph, Object, object_at, refs_of}
-use Rattle.lxr_graph.proofs.NameSets.{same_names}
-use Rattle.lxr_image.specs.Tables.{Tables}
-use Rattle.lxr_image.specs.Image.{IsImage}
-use Rattle.lxr_image.proofs.ImageLemmas.{words_cover, words_even}
+use Rattle.lxr_graph.specs.Names.{has}
 use Rattle.lxr_model_counting.proofs.DistinctLemmas.{first_has, has_split, later_has}
-use Rattle.lxr_invariant.specs.Standing.{word_of_field}
 use Rattle.lxr_core_invariant.specs.Counted.{name_at}
 
 -- the name of what stands at a place where no other does
@@ -22,40 +16,3 @@ name_found at (x ∷ us) n place member one is = elim (eqb_tells (at x) place) [
       let there : IsTrue (has us n) = elim (has_split x us n member) [ inl e ↦ absurd (q.1 (ap at (sym e) ∙ sym is)) | inr h ↦ h ] in
       ap (λ b. cond b x (name_at at us place)) q.0 ∙ name_found at us n place there (λ y h. one y (later_has x us y h)) is
 ]
-
-module _ (t : Tables) (blocks : ℕ) (at : Name → ℕ) (g : Graph) (ms : List Name) (image : IsImage t blocks at g ms) where
-  -- words within two ranges of words, one behind the other, differ
-  near_words : (p q a b i j wa wb : ℕ) → 1 ≤ p → 1 ≤ q → wa ≡ 2 * a → wb ≡ 2 * b → 1 + i < wa → 1 + j < wb → 2 * (p - 1) + 1 + i ≡ 2 * (q - 1) + 1 + j
-      → (p - 1 + a ≤ q - 1) ⊎ (q - 1 + b ≤ p - 1) → ⊥
-  near_words p q a b i j wa wb hp hq ea eb ia jb e (inl h) = omega arith
-  near_words p q a b i j wa wb hp hq ea eb ia jb e (inr h) = omega arith
-
-  -- a reference's word is one of its object
-  within_words : (i r v w : ℕ) → i < r → 1 + r + v ≤ w → 1 + i < w
-  within_words i r v w h k = omega arith
-
-  -- two objects' references have two words
-  fields_apart : (n m : Name) (i j : ℕ) → IsTrue (has ms n) → IsTrue (has ms m) → i < length (refs_of (object_at g n)) → j < length (refs_of (object_at g m))
-      → word_of_field at n i ≡ word_of_field at m j → same_name n m ≡ false → ⊥
-  fields_apart n m i j hn hm within_n within_m e differ =
-      let x = image.stands n hn in let a : Object = x.0 in
-      let y = image.stands m hm in let b : Object = y.0 in
-      let in_a : i < length a.refs = subst (λ z. i < length (refs_of z)) x.1 within_n in
-      let in_b : j < length b.refs = subst (λ z. j < length (refs_of z)) y.1 within_m in
-      near_words (at n) (at m) _ _ i j _ _ x.2.placed y.2.placed (words_even a) (words_even b)
-      (within_words i (length a.refs) (length a.values) _ in_a (words_cover a)) (within_words j (length b.refs) (length b.values) _ in_b (words_cover b)) e
-      (image.apart n m a b hn hm differ x.1 y.1)
-
-  -- one object has one reference at a word
-  same_index : (p i j : ℕ) → 2 * (p - 1) + 1 + i ≡ 2 * (p - 1) + 1 + j → i ≡ j
-  same_index p i j e = omega arith
-
-  -- two members' references with one word are one
-  pub field_found : (n m : Name) (i j : ℕ) → IsTrue (has ms n) → IsTrue (has ms m) → i < length (refs_of (object_at g n)) → j < length (refs_of (object_at g m))
-      → word_of_field at n i ≡ word_of_field at m j → (n ≡ m) × (i ≡ j)
-  field_found n m i j hn hm within_n within_m e = elim (same_name n m) as (λ c. same_name n m ≡ c → (n ≡ m) × (i ≡ j)) [
-    | true ↦ λ k.
-        let same : n ≡ m = same_names n m k in
-        (same, same_index (at m) i j (subst (λ z. word_of_field at z i ≡ word_of_field at m j) same e))
-    | false ↦ λ k. absurd (fields_apart n m i j hn hm within_n within_m e k)
-  ] refl

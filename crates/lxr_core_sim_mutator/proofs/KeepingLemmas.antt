@@ -1,15 +1,13 @@
 -- What a mutator's machine keeps as it goes on, and what it shows then.
-use Rattle.std.proofs.Common.{◌≡◌, ◌≢◌, ℕ, zero, suc, ◌+◌, ◌<◌, ◌≤◌, Bool, true, false, arith, refl, sym, subst, ap, ◌∙◌, inl, inr, List, [], ◌∷◌, ◌++◌, length, length-append, length-set}
-use Rattle.std.specs.Prelude.{Some, nat_eq, nat_le, nat_lt, slice_get, slice_index_or, if◌then◌else◌, replicate}
+use Rattle.std.proofs.Common.{◌≡◌, ◌≢◌, ℕ, zero, suc, ◌+◌, ◌<◌, ◌≤◌, Bool, true, false, arith, refl, sym, subst, ap, ◌∙◌, inl, inr, List, [], ◌∷◌, ◌++◌, length, length-append}
+use Rattle.std.specs.Prelude.{Some, nat_eq, nat_le, nat_lt, slice_get, slice_index_or, if◌then◌else◌}
 use Rattle.std.specs.List.{All}
-use Rattle.std.proofs.lemmas.List.Elements.{All-set, All-get_or, All-cons, All-nil}
+use Rattle.std.proofs.lemmas.List.Elements.{All-get_or}
 use Rattle.lxr_layout.specs.Spaces.{regions_of}
-use Rattle.lxr_layout.specs.declared.TheConstants.{MOST_GRANULES}
 use Rattle.lxr_layout.specs.declared.Place.{Place}
 use Rattle.lxr_layout.specs.declared.LogEntry.{LogEntry}
 use Rattle.lxr_layout.specs.declared.limits.Limits.{Limits}
 use Rattle.lxr_base.specs.Roomy.{Roomy}
-use Rattle.lxr_alloc.specs.declared.TheConstants.{MOST_OPERATIONS}
 use Rattle.lxr_alloc.specs.declared.Spans.{Spans}
 use Rattle.lxr_graph.specs.declared.Op.{Op}
 use Rattle.lxr_graph.specs.declared.Op.TheVariants as op
@@ -20,8 +18,9 @@ use Rattle.lxr_mutator.specs.declared.phases.MutEnd.TheVariants as ends
 use Rattle.lxr_mutator.specs.declared.phases.MutatorPhase.{MutatorPhase}
 use Rattle.lxr_mutator.specs.declared.phases.MutatorPhase.TheVariants as phase
 use Rattle.lxr_mutator.specs.Mutating.{Mutating, nil, op_now, register, rests_in}
-use Rattle.lxr_mutator.specs.Mutators.{AreInHeap, HaveIndexes, IsHeld, IsMutator, IsOperation, MayBeIn}
+use Rattle.lxr_mutator.specs.Mutators.{AreInHeap, AreRegisters, IsHeld, IsMutator, IsOperation, IsSetup, MayBeIn, setup_of}
 use Rattle.lxr_mutator.specs.Steps.{done_with, ended, finished, with_register}
+use Rattle.lxr_mutator.proofs.RegisterLemmas.{registers_cleared, registers_set}
 use Rattle.lxr_core_invariant.specs.ThreadStates.{ThreadState, all_of, is_end, Rests, Through}
 use Rattle.lxr_core_invariant.specs.ThreadStates as why
 use Rattle.lxr_core_invariant.specs.Events as epoch
@@ -29,32 +28,18 @@ use Rattle.lxr_core_sim_mutator.specs.Showing.{IsMutatorOf, IsNew, IsSteadyIn, s
 
 -- what holds of a mutator that goes on, whatever its phase
 pub record GoesOn (m : Mutating) : Type 0 where
-  pub thread : (1 ≤ m.thread) × (m.thread ≤ 16)
-  pub operations : All IsOperation m.operations
-  pub few : length m.operations ≤ MOST_OPERATIONS
-  pub every : (1 ≤ m.every) × (m.every ≤ 1048576)
-  pub registers : length m.registers ≡ 16
-  pub held : All IsHeld m.registers
+  pub setup : IsSetup (setup_of m)
+  pub registers : AreRegisters m.registers
   pub spans : AreInHeap m.spans
-  pub before : m.before ≤ MOST_GRANULES
-  pub indexes : HaveIndexes m.regions
-  pub room : length m.operations + 1 ≤ m.replies.room
   pub replies : length m.replies.items ≤ length m.operations
   pub since : m.since < m.every
 
 -- so it is before it is through
 pub goes_on : (m : Mutating) → IsMutator m → m.phase ≢ phase.Finished → GoesOn m
 goes_on m is goes = record {
-  thread = is.thread;
-  operations = is.operations;
-  few = is.few;
-  every = is.every;
+  setup = is.setup;
   registers = is.registers;
-  held = is.held;
   spans = is.spans;
-  before = is.before;
-  indexes = is.indexes;
-  room = is.room;
   replies = elim is.replies [ inl through ↦ absurd (goes through.0) | inr few ↦ few ];
   since = is.since goes;
 }
@@ -62,16 +47,9 @@ goes_on m is goes = record {
 -- and with another register
 pub with_place : (m : Mutating) (r : ℕ) (p : Place) → GoesOn m → IsHeld p → GoesOn (with_register m r p)
 with_place m r p is held = record {
-  thread = is.thread;
-  operations = is.operations;
-  few = is.few;
-  every = is.every;
-  registers = length-set m.registers r p ∙ is.registers;
-  held = All-set IsHeld m.registers r p held is.held;
+  setup = is.setup;
+  registers = registers_set m.registers r p is.registers held;
   spans = is.spans;
-  before = is.before;
-  indexes = is.indexes;
-  room = is.room;
   replies = is.replies;
   since = is.since;
 }
@@ -79,16 +57,9 @@ with_place m r p is held = record {
 -- and with other spans
 pub with_spans : (m : Mutating) (spans : Spans) → GoesOn m → AreInHeap spans → GoesOn (record m { spans = spans })
 with_spans m spans is within = record {
-  thread = is.thread;
-  operations = is.operations;
-  few = is.few;
-  every = is.every;
+  setup = is.setup;
   registers = is.registers;
-  held = is.held;
   spans = within;
-  before = is.before;
-  indexes = is.indexes;
-  room = is.room;
   replies = is.replies;
   since = is.since;
 }
@@ -96,16 +67,9 @@ with_spans m spans is within = record {
 -- and with another log
 pub with_log : (m : Mutating) (log : Roomy LogEntry) → GoesOn m → GoesOn (record m { log = log })
 with_log m log is = record {
-  thread = is.thread;
-  operations = is.operations;
-  few = is.few;
-  every = is.every;
+  setup = is.setup;
   registers = is.registers;
-  held = is.held;
   spans = is.spans;
-  before = is.before;
-  indexes = is.indexes;
-  room = is.room;
   replies = is.replies;
   since = is.since;
 }
@@ -115,16 +79,9 @@ pub to_phase : (l : Limits) (m : Mutating) (p : MutatorPhase) → GoesOn m → m
     → IsSteadyIn (record m { phase = p }) p → IsMutatorOf l (record m { phase = p })
 to_phase l m p is regions more may steady = record {
   sound = record {
-    thread = is.thread;
-    operations = is.operations;
-    few = is.few;
-    every = is.every;
+    setup = is.setup;
     registers = is.registers;
-    held = is.held;
     spans = is.spans;
-    before = is.before;
-    indexes = is.indexes;
-    room = is.room;
     few_replies = omega (arith, is.replies);
     replies = inr is.replies;
     busy = λ _. more;
@@ -141,16 +98,9 @@ pub to_finished : (l : Limits) (m : Mutating) (how : MutEnd) → GoesOn m → m.
     → IsMutatorOf l (finished m how)
 to_finished l m how is regions waits = record {
   sound = record {
-    thread = is.thread;
-    operations = is.operations;
-    few = is.few;
-    every = is.every;
+    setup = is.setup;
     registers = is.registers;
-    held = is.held;
     spans = is.spans;
-    before = is.before;
-    indexes = is.indexes;
-    room = is.room;
     few_replies = omega (arith, is.replies);
     replies = inr is.replies;
     busy = λ e. absurd (cc);
@@ -166,27 +116,15 @@ to_finished l m how is regions waits = record {
 longer : {A : Type 0} (xs : List A) (x : A) → length (xs ++ x ∷ []) ≡ length xs + 1
 longer xs x = length-append xs (x ∷ [])
 
--- nil is held by as many registers as there are
-all_nil : (n : ℕ) → All IsHeld (replicate n nil)
-all_nil zero = All-nil IsHeld
-all_nil (suc n) = All-cons IsHeld nil (replicate n nil) (omega arith) (all_nil n)
-
 -- its end is done
 pub to_end : (l : Limits) (m : Mutating) → GoesOn m → m.regions ≡ regions_of l → IsMutatorOf l (ended m)
 to_end l m is regions =
     let len = longer m.replies.items reply.Ended in
     record {
       sound = record {
-        thread = is.thread;
-        operations = is.operations;
-        few = is.few;
-        every = is.every;
-        registers = refl;
-        held = all_nil 16;
+        setup = is.setup;
+        registers = registers_cleared;
         spans = is.spans;
-        before = is.before;
-        indexes = is.indexes;
-        room = is.room;
         few_replies = omega (arith, is.replies, len);
         replies = inl (refl, refl);
         busy = λ e. absurd (cc);
@@ -244,16 +182,9 @@ done_kept l m r last e is regions more =
     let len = longer m.replies.items r in
     record {
       sound = record {
-        thread = is.thread;
-        operations = is.operations;
-        few = is.few;
-        every = is.every;
+        setup = is.setup;
         registers = is.registers;
-        held = is.held;
         spans = is.spans;
-        before = is.before;
-        indexes = is.indexes;
-        room = is.room;
         few_replies = omega (arith, more, len);
         replies = inr (omega (arith, more, len));
         busy = λ q. absurd (done_busy last q);
@@ -339,7 +270,7 @@ endless_at os n all within = no_end (slice_index_or os n op.End) (All-get_or IsO
 
 -- an operation of the script is no end
 pub no_end_now : (m : Mutating) → GoesOn m → length m.replies.items < length m.operations → is_end (op_now m) ≡ false
-no_end_now m is more = endless_at m.operations (length m.replies.items) is.operations more
+no_end_now m is more = endless_at m.operations (length m.replies.items) is.setup.operations more
 
 -- what stands at an index, if anything, is nil or a place
 held_at : (ps : List Place) (r : ℕ) → All IsHeld ps → IsHeld (slice_index_or ps r nil)
@@ -355,4 +286,4 @@ held_at ps r all = elim (nat_lt r (length ps)) as (λ b. nat_lt r (length ps) �
 
 -- what a register holds is nil or a place
 pub register_held : (m : Mutating) (r : ℕ) → GoesOn m → IsHeld (register m r)
-register_held m r is = held_at m.registers r is.held
+register_held m r is = held_at m.registers r is.registers.held

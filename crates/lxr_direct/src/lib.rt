@@ -12,8 +12,9 @@ mod reading;
 mod recording;
 mod registers;
 
+pub use fields::get;
 use lxr_graph::Reply;
-pub use operating::operate;
+pub use operating::{operate, same};
 pub use reading::{is_nil, name_in, object_in};
 
 /// What has come of an operation.

@@ -38,7 +38,7 @@ fn nil_register(space: &mut Space, thread: u8, dest: u8)
 
 /// Whether both registers are nil or hold one object.
 #[inline(always)]
-fn same(space: &Space, thread: u8, left: u8, right: u8) -> bool
+pub fn same(space: &Space, thread: u8, left: u8, right: u8) -> bool
     requires state { CanOperate space.now thread }
     requires registers { (left < 16) × (right < 16) }
     ensures { (g : AbstractState) (serial : ℕ) → MayOperate space.now g thread serial → IsDone space.now space.now g thread (op.Same left right) (reply.Same result) }

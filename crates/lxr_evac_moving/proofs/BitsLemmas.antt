@@ -14,7 +14,7 @@ use Rattle.lxr_image.specs.Spaces.{tables_of}
 use Rattle.lxr_image.specs.Reads.{granule_of}
 use Rattle.lxr_image.specs.Image.{granules_of}
 use Rattle.lxr_model.specs.Moments.{Moment}
-use Rattle.lxr_invariant.specs.Lines.{line_behind, next_line}
+use Rattle.lxr_blocks.specs.Lines.{line_behind, next_line}
 use Rattle.lxr_invariant.proofs.EntryLemmas.{changed_cases, changed_here, changed_other}
 use Rattle.lxr_invariant.proofs.PlaceLemmas.{BeginsLine}
 use Rattle.lxr_pause_promote.specs.Promotion.{marked_between, set_between}

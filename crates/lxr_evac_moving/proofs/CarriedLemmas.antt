@@ -19,7 +19,7 @@ use Rattle.lxr_blocks.specs.Kept.{IsAmong, IsKeptGranule, KeepsGranules}
 use Rattle.lxr_blocks.specs.Placing.{granule_count}
 use Rattle.lxr_blocks.specs.States.{KeepsState}
 use Rattle.lxr_model.specs.Moments.{Moment}
-use Rattle.lxr_invariant.specs.Lines.{line_behind, next_line}
+use Rattle.lxr_blocks.specs.Lines.{line_behind, next_line}
 use Rattle.lxr_invariant.proofs.EntryLemmas.{changed_cases}
 use Rattle.lxr_pause_promote.specs.Copying.{Evacuates, StandsAt}
 use Rattle.lxr_pause_promote.proofs.CopyLemmas.{StandsBeside, evacuated_beside}

@@ -26,7 +26,8 @@ use Rattle.lxr_blocks.specs.Kept.{KeepsGranules}
 use Rattle.lxr_blocks.specs.States.{IsOpenRun, KeepsState, is_fixed, state_in, state_of}
 use Rattle.lxr_blocks.proofs.KeptLemmas.{free_line_is_told}
 use Rattle.lxr_model.specs.Moments.{Moment}
-use Rattle.lxr_invariant.specs.Lines.{is_chosen, line_behind, next_line}
+use Rattle.lxr_invariant.specs.Lines.{is_chosen}
+use Rattle.lxr_blocks.specs.Lines.{line_behind, next_line}
 use Rattle.lxr_invariant.specs.Standing.{place_of}
 use Rattle.lxr_invariant.proofs.BlockLemmas.{still_not}
 use Rattle.lxr_invariant.proofs.EntryLemmas.{changed_cases, changed_here, changed_other}
@@ -35,7 +36,8 @@ use Rattle.lxr_invariant.proofs.PlaceLemmas.{line_mark, mark_line, same_object}
 use Rattle.lxr_pause_promote.specs.Copying.{StandsAt}
 use Rattle.lxr_pause_promote.specs.Either.{HoldEither}
 use Rattle.lxr_evac_moving.specs.Stages.{EvacuationStage, HasBitsAndCounts, HasHeap, HasMoved, HasPlace, IsEvacuating, IsMarkAt, IsReferenceAt, IsTaken, granules, with_changed_tables}
-use Rattle.lxr_evac_moving.specs.Steps.{IsClearing, IsNextChosen, NoneBegins, begins_in_chosen, cleared_to, with_cleared}
+use Rattle.lxr_evac_moving.specs.Steps.{IsClearing, IsNextChosen, NoneBegins, begins_in_chosen, cleared_to}
+use Rattle.lxr_blocks.specs.Clearing.{without_counted}
 use Rattle.lxr_evac_moving.proofs.FrameLemmas.{evacuating_with, heap_same, lines_with, turned_changes, turned_outs, turned_tables}
 use Rattle.lxr_evac_moving.proofs.RangeLemmas.{cleared_cases, unmarked_cases}
 use Rattle.lxr_pause_promote.proofs.EitherLemmas.{some_granules}
@@ -230,7 +232,7 @@ module _ (s : Space) (m : Moment) (st : EvacuationStage) (is : IsEvacuating s m 
 -- ---- the place of a moved object is cleared
 
 module _ (a b : Space) (m : Moment) (st : EvacuationStage) (is : IsEvacuating a m st) (n : Name) (o : Object) (member : IsTrue (has m.unreclaimed n)) (has_o : object_at m.state.graph n ≡ Some o) (moved : HasMoved st n)
-    (here : st.cleared ≡ granule_of (st.at n)) (turns : Turns a b (with_cleared (tables_of a) (st.at n) (shape_of o))) where
+    (here : st.cleared ≡ granule_of (st.at n)) (turns : Turns a b (without_counted (tables_of a) (st.at n) (shape_of o))) where
   abbrev gone : ℕ
   gone = granule_of (st.at n)
 
@@ -403,7 +405,7 @@ module _ (a b : Space) (m : Moment) (st : EvacuationStage) (is : IsEvacuating a 
       }
 
   pub place_cleared : IsEvacuating b m later
-  place_cleared = evacuating_cleared a b (with_cleared (tables_of a) (st.at n) (shape_of o)) m st (gone + 1) is turns (record {
+  place_cleared = evacuating_cleared a b (without_counted (tables_of a) (st.at n) (shape_of o)) m st (gone + 1) is turns (record {
     size = refl;
     heap = refl;
     outs = refl;
@@ -473,11 +475,11 @@ module _ (s : Space) (m : Moment) (st : EvacuationStage) (from granule : ℕ) (i
       subst (λ z. StandsAt s z x.name (shape_of x.object)) (left_for q told).1 (stands_at s m (cleared_to st from) is.evacuating x.name x.object x.member x.is)
 
   -- then its old place is cleared
-  pub clears_left : (b : Space) (q : Place) (shape : Shape) → header_of ((tables_of s).heap (2 * granule)) ≡ Moved q → shape ≡ shape_of has_stood.object → Turns s b (with_cleared (tables_of s) (granule + 1) shape)
+  pub clears_left : (b : Space) (q : Place) (shape : Shape) → header_of ((tables_of s).heap (2 * granule)) ≡ Moved q → shape ≡ shape_of has_stood.object → Turns s b (without_counted (tables_of s) (granule + 1) shape)
       → IsClearing b m st (granule + 1)
   clears_left b q shape told same turns =
       let x = has_stood in
-      let there = subst (λ z. Turns s b (with_cleared (tables_of s) z (shape_of x.object))) x.place_is (subst (λ z. Turns s b (with_cleared (tables_of s) (granule + 1) z)) same turns) in
+      let there = subst (λ z. Turns s b (without_counted (tables_of s) z (shape_of x.object))) x.place_is (subst (λ z. Turns s b (without_counted (tables_of s) (granule + 1) z)) same turns) in
       record {
         evacuating = subst (λ k. IsEvacuating b m (cleared_to st (k + 1))) x.granule_is
             (place_cleared s b m (cleared_to st granule) past x.name x.object x.member x.is (left_for q told).0 (sym x.granule_is) there);

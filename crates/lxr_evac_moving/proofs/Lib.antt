@@ -4,7 +4,6 @@ pub mod BeginLemmas
 pub mod BitsLemmas
 pub mod CarriedLemmas
 pub mod ChosenLemmas
-pub mod ClearLemmas
 pub mod ClearingLemmas
 pub mod EndLemmas
 pub mod EntryLemmas

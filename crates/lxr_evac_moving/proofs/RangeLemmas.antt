@@ -6,7 +6,7 @@ use Rattle.lxr_layout.specs.declared.TheConstants.{GRANULES_IN_LINE, STUCK}
 use Rattle.lxr_blocks.specs.Handing.{is_between}
 use Rattle.lxr_invariant.proofs.PlaceLemmas.{BeginsLine}
 use Rattle.lxr_pause_promote.specs.Promotion.{marked_between, set_between}
-use Rattle.lxr_evac_moving.specs.Steps.{clear_between, unmarked_between}
+use Rattle.lxr_blocks.specs.Clearing.{clear_between, unmarked_between}
 
 -- ---- the range
 

@@ -1,6 +1,6 @@
 -- Registers hold either place of what they are to hold; one after another gets the place where that stands now.
 use Rattle.std.proofs.Common.{◌≡◌, ◌≢◌, ℕ, suc, ◌+◌, ◌<◌, ◌≤◌, refl, sym, ap, subst, ◌∙◌, inl, inr, ◌⊎◌, arith, cond, List, [], ◌∷◌, length}
-use Rattle.std.specs.Prelude.{None, Option, Some, slice_get, slice_set, slice_index_or}
+use Rattle.std.specs.Prelude.{IsTrue, None, Option, Some, slice_get, slice_set, slice_index_or}
 use Rattle.std.proofs.Math.ListN.{length-set}
 use Rattle.std.proofs.lemmas.Bool.Decides.{eqb_tells}
 use Rattle.std.proofs.lemmas.Option.{slice_get-get_or, slice_get_within}
@@ -15,7 +15,10 @@ use Rattle.lxr_model.specs.Moments.{Moment}
 use Rattle.lxr_model.specs.Reachable.{held as held_by}
 use Rattle.lxr_pause_promote.specs.Either.{HoldEither, HoldsEither}
 use Rattle.lxr_evac_moving.specs.Stages.{EvacuationStage, HasHeap, IsEvacuating, with_changed_tables, with_changes}
-use Rattle.lxr_evac_moving.specs.Steps.{HoldNow, HoldsMember}
+use Rattle.lxr_graph.specs.Names.{has}
+use Rattle.lxr_evac_moving.specs.declared.registers.Registers.{Registers}
+use Rattle.lxr_evac_moving.specs.declared.registers.Registers.TheVariants.{AtLastPause, Now}
+use Rattle.lxr_evac_moving.specs.Steps.{HoldNow, HoldsMember, held_names, held_places, with_places}
 use Rattle.lxr_evac_moving.proofs.FrameLemmas.{bits_same, evacuating_with, heap_same, lines_same}
 use Rattle.lxr_evac_moving.proofs.StandingLemmas.{held_unreclaimed}
 
@@ -120,11 +123,18 @@ evacuating_held a b m st is keeps registers deferred =
       deferred = deferred;
     })
 
--- ---- registers
+-- ---- registers, now or at the last pause
 
 -- a register is set
-pub registers_keep : (a b : Space) → b ≡ record a { registers = record a.registers { items = b.registers.items } } → KeepsWords a b
-registers_keep a b e = record {
+pub registers_keep : (a b : Space) (registers : Registers) (places : List Place) → b ≡ with_places registers a places → KeepsWords a b
+registers_keep a b Now places e = record {
+  limits = ap (λ (s : Space). s.limits) e;
+  tables = ap tables_of e;
+  rest_next = ap (λ (s : Space). s.rest_next) e;
+  rest_end = ap (λ (s : Space). s.rest_end) e;
+  changes = e ∙ ap (λ s. with_changes a s) (sym e);
+}
+registers_keep a b AtLastPause places e = record {
   limits = ap (λ (s : Space). s.limits) e;
   tables = ap tables_of e;
   rest_next = ap (λ (s : Space). s.rest_next) e;
@@ -132,48 +142,50 @@ registers_keep a b e = record {
   changes = e ∙ ap (λ s. with_changes a s) (sym e);
 }
 
-pub register_member : (s : Space) (m : Moment) (st : EvacuationStage) (k : ℕ) (p : Place) → IsEvacuating s m st → slice_get s.registers.items k ≡ Some p → HoldsMember m st p.0 (slice_index_or m.state.registers k None)
-register_member s m st k p is place_is = record {
-  either = either_there st s.registers.items m.state.registers is.registers k p place_is;
-  member = λ n e. held_unreclaimed s m st is n (k, held_there st s.registers.items m.state.registers is.registers k p place_is ∙ ap Some e);
-}
+pub held_either : (s : Space) (m : Moment) (st : EvacuationStage) (registers : Registers) → IsEvacuating s m st → HoldEither st.at st.now (held_places registers s) (held_names registers m)
+held_either s m st Now is = is.registers
+held_either s m st AtLastPause is = is.deferred
 
-pub register_set : (a b : Space) (m : Moment) (st : EvacuationStage) (k : ℕ) (p q : Place) → IsEvacuating a m st → slice_get a.registers.items k ≡ Some p → q.0 ≡ place_word st.now (slice_index_or m.state.registers k None)
-    → b ≡ record a { registers = record a.registers { items = slice_set a.registers.items k q } } → HoldNow st a.registers.items m.state.registers k
-    → IsEvacuating b m st × HoldNow st b.registers.items m.state.registers (k + 1)
-register_set a b m st k p q is place_is now e before =
-    let items : b.registers.items ≡ slice_set a.registers.items k q = ap (λ (s : Space). s.registers.items) e in
-    let changes : b ≡ record a { registers = record a.registers { items = b.registers.items } } = e ∙ ap (λ xs. record a { registers = record a.registers { items = xs } }) (sym items) in (
-      evacuating_held a b m st is (registers_keep a b changes)
-          (subst (λ xs. HoldEither st.at st.now xs m.state.registers) (sym items) (either_set st a.registers.items m.state.registers is.registers k p place_is q now))
-          (subst (λ (s : Space). HoldEither st.at st.now s.deferred.items m.last.registers) (sym e) is.deferred),
-      subst (λ xs. HoldNow st xs m.state.registers (k + 1)) (sym items) (now_set st a.registers.items m.state.registers is.registers k p place_is q now before),
-    )
+held_member : (s : Space) (m : Moment) (st : EvacuationStage) (registers : Registers) (n : Name) → IsEvacuating s m st → ((k : ℕ) × (slice_get (held_names registers m) k ≡ Some (Some n))) → IsTrue (has m.unreclaimed n)
+held_member s m st Now n is held = held_unreclaimed s m st is n held
+held_member s m st AtLastPause n is held = is.can.holds.follows.kept n (held_by held)
 
--- ---- deferred registers
+pub register_member : (s : Space) (m : Moment) (st : EvacuationStage) (registers : Registers) (k : ℕ) (p : Place) → IsEvacuating s m st → slice_get (held_places registers s) k ≡ Some p
+    → HoldsMember m st p.0 (slice_index_or (held_names registers m) k None)
+register_member s m st registers k p is place_is =
+    let either = held_either s m st registers is in
+    record {
+      either = either_there st (held_places registers s) (held_names registers m) either k p place_is;
+      member = λ n e. held_member s m st registers n is (k, held_there st (held_places registers s) (held_names registers m) either k p place_is ∙ ap Some e);
+    }
 
-pub deferred_keep : (a b : Space) → b ≡ record a { deferred = record a.deferred { items = b.deferred.items } } → KeepsWords a b
-deferred_keep a b e = record {
-  limits = ap (λ (s : Space). s.limits) e;
-  tables = ap tables_of e;
-  rest_next = ap (λ (s : Space). s.rest_next) e;
-  rest_end = ap (λ (s : Space). s.rest_end) e;
-  changes = e ∙ ap (λ s. with_changes a s) (sym e);
-}
+-- both lists of registers hold either place where the one that was written does
+evacuating_set : (a b : Space) (m : Moment) (st : EvacuationStage) (registers : Registers) (places : List Place) → IsEvacuating a m st → b ≡ with_places registers a places
+    → HoldEither st.at st.now places (held_names registers m) → IsEvacuating b m st
+evacuating_set a b m st Now places is e either = evacuating_held a b m st is (registers_keep a b Now places e)
+    (subst (λ (s : Space). HoldEither st.at st.now s.registers.items m.state.registers) (sym e) either) (subst (λ (s : Space). HoldEither st.at st.now s.deferred.items m.last.registers) (sym e) is.deferred)
+evacuating_set a b m st AtLastPause places is e either = evacuating_held a b m st is (registers_keep a b AtLastPause places e)
+    (subst (λ (s : Space). HoldEither st.at st.now s.registers.items m.state.registers) (sym e) is.registers) (subst (λ (s : Space). HoldEither st.at st.now s.deferred.items m.last.registers) (sym e) either)
 
-pub deferred_member : (s : Space) (m : Moment) (st : EvacuationStage) (k : ℕ) (p : Place) → IsEvacuating s m st → slice_get s.deferred.items k ≡ Some p → HoldsMember m st p.0 (slice_index_or m.last.registers k None)
-deferred_member s m st k p is place_is = record {
-  either = either_there st s.deferred.items m.last.registers is.deferred k p place_is;
-  member = λ n e. is.can.holds.follows.kept n (held_by (k, held_there st s.deferred.items m.last.registers is.deferred k p place_is ∙ ap Some e));
-}
+pub places_set : (registers : Registers) (a : Space) (places : List Place) → held_places registers (with_places registers a places) ≡ places
+places_set Now a places = refl
+places_set AtLastPause a places = refl
 
-pub deferred_set : (a b : Space) (m : Moment) (st : EvacuationStage) (k : ℕ) (p q : Place) → IsEvacuating a m st → slice_get a.deferred.items k ≡ Some p → q.0 ≡ place_word st.now (slice_index_or m.last.registers k None)
-    → b ≡ record a { deferred = record a.deferred { items = slice_set a.deferred.items k q } } → HoldNow st a.deferred.items m.last.registers k
-    → IsEvacuating b m st × HoldNow st b.deferred.items m.last.registers (k + 1)
-deferred_set a b m st k p q is place_is now e before =
-    let items : b.deferred.items ≡ slice_set a.deferred.items k q = ap (λ (s : Space). s.deferred.items) e in
-    let changes : b ≡ record a { deferred = record a.deferred { items = b.deferred.items } } = e ∙ ap (λ xs. record a { deferred = record a.deferred { items = xs } }) (sym items) in (
-      evacuating_held a b m st is (deferred_keep a b changes) (subst (λ (s : Space). HoldEither st.at st.now s.registers.items m.state.registers) (sym e) is.registers)
-          (subst (λ xs. HoldEither st.at st.now xs m.last.registers) (sym items) (either_set st a.deferred.items m.last.registers is.deferred k p place_is q now)),
-      subst (λ xs. HoldNow st xs m.last.registers (k + 1)) (sym items) (now_set st a.deferred.items m.last.registers is.deferred k p place_is q now before),
+pub places_twice : (registers : Registers) (a : Space) (places others : List Place) → with_places registers (with_places registers a places) others ≡ with_places registers a others
+places_twice Now a places others = refl
+places_twice AtLastPause a places others = refl
+
+pub places_same : (registers : Registers) (a : Space) → a ≡ with_places registers a (held_places registers a)
+places_same Now a = refl
+places_same AtLastPause a = refl
+
+pub register_set : (a b : Space) (m : Moment) (st : EvacuationStage) (registers : Registers) (k : ℕ) (p q : Place) → IsEvacuating a m st → slice_get (held_places registers a) k ≡ Some p
+    → q.0 ≡ place_word st.now (slice_index_or (held_names registers m) k None) → b ≡ with_places registers a (slice_set (held_places registers a) k q) → HoldNow st (held_places registers a) (held_names registers m) k
+    → IsEvacuating b m st × HoldNow st (held_places registers b) (held_names registers m) (k + 1)
+register_set a b m st registers k p q is place_is now e before =
+    let either = held_either a m st registers is in
+    let set : List Place = slice_set (held_places registers a) k q in
+    let items : held_places registers b ≡ set = ap (held_places registers) e ∙ places_set registers a set in (
+      evacuating_set a b m st registers set is e (either_set st (held_places registers a) (held_names registers m) either k p place_is q now),
+      subst (λ xs. HoldNow st xs (held_names registers m) (k + 1)) (sym items) (now_set st (held_places registers a) (held_names registers m) either k p place_is q now before),
     )

@@ -1,9 +1,9 @@
 -- What each step of evacuation asks, and from which stage to which it leads, for every moment that the space may hold.
-use Rattle.std.specs.Prelude.{◌≡◌, ℕ, ◌+◌, ◌/◌, ◌%◌, ◌<◌, ◌≤◌, ◌&&◌, nat_eq, not, Bool, true, false, Option, Some, List, IsTrue, length, slice_get, if◌then◌else◌}
+use Rattle.std.specs.Prelude.{◌≡◌, ℕ, ◌+◌, ◌/◌, ◌<◌, ◌≤◌, ◌&&◌, not, Bool, true, false, Option, Some, List, IsTrue, length, slice_get, if◌then◌else◌}
 use Rattle.lxr_layout.specs.declared.Name.{Name}
 use Rattle.lxr_layout.specs.declared.Place.{Place}
 use Rattle.lxr_layout.specs.declared.Shape.{Shape}
-use Rattle.lxr_layout.specs.declared.TheConstants.{GRANULES_IN_BLOCK, GRANULES_IN_LINE, REMEMBERED_CURSOR, WORDS_IN_LINE}
+use Rattle.lxr_layout.specs.declared.TheConstants.{GRANULES_IN_BLOCK, REMEMBERED_CURSOR, WORDS_IN_LINE}
 use Rattle.lxr_layout.specs.Objects.{word_count}
 use Rattle.lxr_layout.specs.Places.{first_word}
 use Rattle.lxr_layout.specs.Runs.{word_of_entry}
@@ -14,16 +14,18 @@ use Rattle.lxr_image.specs.Tables.{Tables, changed}
 use Rattle.lxr_image.specs.Spaces.{tables_of}
 use Rattle.lxr_image.specs.Reads.{granule_of}
 use Rattle.lxr_image.specs.Image.{place_word}
-use Rattle.lxr_blocks.specs.Handing.{is_between}
 use Rattle.lxr_blocks.specs.Masks.{one_if}
 use Rattle.lxr_blocks.specs.States.{state_in}
 use Rattle.lxr_model.specs.Moments.{Moment}
-use Rattle.lxr_invariant.specs.Lines.{is_chosen, line_behind, next_line}
+use Rattle.lxr_invariant.specs.Lines.{is_chosen}
+use Rattle.lxr_blocks.specs.Lines.{line_behind, next_line}
 use Rattle.lxr_invariant.specs.Standing.{place_of, word_of_field}
 use Rattle.lxr_invariant.specs.Tracing.{HasOverflowed}
 use Rattle.lxr_pause_promote.specs.Either.{HoldsEither}
 use Rattle.lxr_pause_promote.specs.Promotion.{marked_between, set_between}
 use Rattle.lxr_evac_moving.specs.declared.evacuating.Evacuated.{Evacuated}
+use Rattle.lxr_evac_moving.specs.declared.registers.Registers.{Registers}
+use Rattle.lxr_evac_moving.specs.declared.registers.Registers.TheVariants.{AtLastPause, Now}
 use Rattle.lxr_evac_moving.specs.Evacuation.{CanEvacuate, evacuated_of}
 use Rattle.lxr_evac_moving.specs.Stages.{AreFixed, EvacuationStage, IsEvacuating, IsFixed, IsMovingAway, granules, kept_names, moved_names}
 
@@ -185,41 +187,29 @@ pub record FixesAll (after : Space) (m : Moment) (st : EvacuationStage) : Type 0
 pub record HoldNow (st : EvacuationStage) (places : List Place) (held : List (Option Name)) (count : ℕ) : Type 0 where
   pub first : (k : ℕ) (p : Place) (r : Option Name) → k < count → slice_get places k ≡ Some p → slice_get held k ≡ Some r → p.0 ≡ place_word st.now r
 
+-- the places that registers hold, now or at the last pause; the names that they are to hold; and the space with other places in them
+abbrev pub held_places : Registers → Space → List Place
+held_places Now s = s.registers.items
+held_places AtLastPause s = s.deferred.items
+
+abbrev pub held_names : Registers → Moment → List (Option Name)
+held_names Now m = m.state.registers
+held_names AtLastPause m = m.last.registers
+
+abbrev pub with_places : Registers → Space → List Place → Space
+with_places Now s places = record s { registers = record s.registers { items = places } }
+with_places AtLastPause s places = record s { deferred = record s.deferred { items = places } }
+
 -- the registers before one hold where what they hold stands now; then it does too
-abbrev pub MayFixRegister : Space → ℕ → Type 0
-MayFixRegister s register = (m : Moment) × (st : EvacuationStage) × IsEvacuating s m st × (register < length s.registers.items)
+abbrev pub MayFixRegister : Space → Registers → ℕ → Type 0
+MayFixRegister s registers register = (m : Moment) × (st : EvacuationStage) × IsEvacuating s m st × (register < length (held_places registers s))
 
-abbrev pub FixesRegister : Space → Space → ℕ → Type 0
-FixesRegister before after register =
-    (m : Moment) (st : EvacuationStage) → IsEvacuating before m st → HoldNow st before.registers.items m.state.registers register
-    → IsEvacuating after m st × HoldNow st after.registers.items m.state.registers (register + 1)
-
-abbrev pub MayFixDeferred : Space → ℕ → Type 0
-MayFixDeferred s register = (m : Moment) × (st : EvacuationStage) × IsEvacuating s m st × (register < length s.deferred.items)
-
-abbrev pub FixesDeferred : Space → Space → ℕ → Type 0
-FixesDeferred before after register =
-    (m : Moment) (st : EvacuationStage) → IsEvacuating before m st → HoldNow st before.deferred.items m.last.registers register
-    → IsEvacuating after m st × HoldNow st after.deferred.items m.last.registers (register + 1)
+abbrev pub FixesRegister : Space → Space → Registers → ℕ → Type 0
+FixesRegister before after registers register =
+    (m : Moment) (st : EvacuationStage) → IsEvacuating before m st → HoldNow st (held_places registers before) (held_names registers m) register
+    → IsEvacuating after m st × HoldNow st (held_places registers after) (held_names registers m) (register + 1)
 
 -- ---- old places
-
--- the tables with all gone that they had of an object of a shape at a place: its bits and its count, the marks of its further lines, and the
--- unlogged bits of its references
-abbrev pub unmarked_between : (ℕ → ℕ) → ℕ → ℕ → ℕ → ℕ
-unmarked_between f first end k = if nat_eq (k % GRANULES_IN_LINE) 0 && is_between first end (k / GRANULES_IN_LINE) then 0 else f k
-
-abbrev pub clear_between : (ℕ → Bool) → ℕ → ℕ → ℕ → Bool
-clear_between f first end k = if is_between first end k then false else f k
-
-abbrev pub with_cleared : Tables → ℕ → Shape → Tables
-with_cleared t p shape = record t {
-  starts = changed t.starts (granule_of p) false;
-  marks = changed t.marks (granule_of p) false;
-  grays = changed t.grays (granule_of p) false;
-  counts = unmarked_between (changed t.counts (granule_of p) 0) (next_line (granule_of p)) (line_behind (granule_of p) (word_count shape / 2));
-  unlogged = clear_between t.unlogged (first_word p + 1) (first_word p + 1 + shape.refs);
-}
 
 -- the stage with what stood below a granule cleared
 abbrev pub cleared_to : EvacuationStage → ℕ → EvacuationStage

@@ -8,7 +8,7 @@ use crate::chosen::count_chosen;
 use crate::clearing::clear_old_places;
 use crate::moving::move_objects;
 use crate::references::fix_references;
-use crate::registers::{fix_deferred, fix_registers};
+use crate::registers::{Registers, fix_registers};
 use lxr_image::Space;
 use lxr_remset::overflowed;
 
@@ -37,8 +37,8 @@ pub fn evacuate(space: &mut Space) -> Evacuated
     }
     let evacuated = move_objects(space);
     fix_references(space);
-    fix_registers(space);
-    fix_deferred(space);
+    fix_registers(space, Registers::Now);
+    fix_registers(space, Registers::AtLastPause);
     clear_old_places(space);
     evacuated
 }

@@ -1,57 +1,78 @@
 //! Fixing the registers that hold moved objects, as they are now and as they were at the last pause.
-ghost use Rattle.std.specs.Prelude.{◌≡◌, ◌<◌};
+ghost use Rattle.std.specs.Prelude.{◌≡◌, ◌<◌, Some, length, slice_get, slice_set};
 ghost use Rattle.lxr_image.specs.Image.{ArePlacesOf};
 ghost use Rattle.lxr_model.specs.Moments.{Moment};
 ghost use Rattle.lxr_evac_moving.specs.Stages.{EvacuationStage, IsEvacuating};
-ghost use Rattle.lxr_evac_moving.specs.Steps.{FixesDeferred, FixesRegister, MayFixDeferred, MayFixRegister};
+ghost use Rattle.lxr_evac_moving.specs.Steps.{FixesRegister, MayFixRegister, held_names, held_places, with_places};
 
 use crate::references::present_place;
 use lxr_image::Space;
+use lxr_layout::Place;
+
+/// The registers of all threads at one of the two times that a space tells of.
+#[derive(Clone, Copy)]
+pub(crate) enum Registers {
+    /// As they are now.
+    Now,
+    /// As they were at the last pause.
+    AtLastPause,
+}
+
+impl Registers {
+    /// How many there are.
+    fn count(self, space: &Space) -> usize
+        ensures { result ≡ length (held_places self space.now) }
+    {
+        match self {
+            Registers::Now => space.registers.len(),
+            Registers::AtLastPause => space.deferred.len(),
+        }
+    }
+
+    /// What one of them holds.
+    fn at(self, space: &Space, register: usize) -> Place
+        requires { register < length (held_places self space.now) }
+        ensures { slice_get (held_places self space.now) register ≡ Some result }
+    {
+        match self {
+            Registers::Now => space.registers.at(register),
+            Registers::AtLastPause => space.deferred.at(register),
+        }
+    }
+
+    /// Puts a place into one of them.
+    fn set(self, space: &mut Space, register: usize, place: Place)
+        requires { register < length (held_places self space.old) }
+        ensures { space.new ≡ with_places self space.old (slice_set (held_places self space.old) register place) }
+    {
+        match self {
+            Registers::Now => space.registers.set(register, place),
+            Registers::AtLastPause => space.deferred.set(register, place),
+        }
+    }
+}
 
 /// Puts into a register where what it holds stands now.
-fn fix_register(space: &mut Space, register: usize)
-    requires { MayFixRegister space.old register }
-    ensures fixes { FixesRegister space.old space.new register }
-    ensures rest { space.new ≡ record space.old { registers = record space.old.registers { items = space.new.registers.items } } }
+fn fix_register(space: &mut Space, registers: Registers, register: usize)
+    requires { MayFixRegister space.old registers register }
+    ensures fixes { FixesRegister space.old space.new registers register }
+    ensures rest { space.new ≡ with_places registers space.old (held_places registers space.new) }
 {
-    let held = space.registers.at(register);
+    let held = registers.at(space, register);
     let now = present_place(space, held);
     if now.0 != held.0 {
-        space.registers.set(register, now);
+        registers.set(space, register, now);
     }
 }
 
 /// Puts into each register where what it holds stands now.
-pub(crate) fn fix_registers(space: &mut Space)
+pub(crate) fn fix_registers(space: &mut Space, registers: Registers)
     requires { (m : Moment) × (st : EvacuationStage) × IsEvacuating space.old m st }
-    ensures fixes { (m : Moment) (st : EvacuationStage) → IsEvacuating space.old m st → IsEvacuating space.new m st × ArePlacesOf st.now space.new.registers.items m.state.registers }
-    ensures rest { space.new ≡ record space.old { registers = record space.old.registers { items = space.new.registers.items } } }
+    ensures fixes { (m : Moment) (st : EvacuationStage) → IsEvacuating space.old m st
+        → IsEvacuating space.new m st × ArePlacesOf st.now (held_places registers space.new) (held_names registers m) }
+    ensures rest { space.new ≡ with_places registers space.old (held_places registers space.new) }
 {
-    for register in 0..space.registers.len() {
-        fix_register(space, register);
-    }
-}
-
-/// Puts where what a register held at the last pause stands now.
-fn fix_deferred_register(space: &mut Space, register: usize)
-    requires { MayFixDeferred space.old register }
-    ensures fixes { FixesDeferred space.old space.new register }
-    ensures rest { space.new ≡ record space.old { deferred = record space.old.deferred { items = space.new.deferred.items } } }
-{
-    let held = space.deferred.at(register);
-    let now = present_place(space, held);
-    if now.0 != held.0 {
-        space.deferred.set(register, now);
-    }
-}
-
-/// Puts where what each register held at the last pause stands now.
-pub(crate) fn fix_deferred(space: &mut Space)
-    requires { (m : Moment) × (st : EvacuationStage) × IsEvacuating space.old m st }
-    ensures fixes { (m : Moment) (st : EvacuationStage) → IsEvacuating space.old m st → IsEvacuating space.new m st × ArePlacesOf st.now space.new.deferred.items m.last.registers }
-    ensures rest { space.new ≡ record space.old { deferred = record space.old.deferred { items = space.new.deferred.items } } }
-{
-    for register in 0..space.deferred.len() {
-        fix_deferred_register(space, register);
+    for register in 0..registers.count(space) {
+        fix_register(space, registers, register);
     }
 }

@@ -12,6 +12,7 @@ use Rattle.lxr_graph.specs.declared.Op.TheVariants as op
 use Rattle.lxr_graph.specs.declared.Reply.{Reply}
 use Rattle.lxr_graph.specs.declared.Reply.TheVariants as reply
 use Rattle.lxr_image.specs.declared.space.Space.{Space}
+use Rattle.lxr_invariant.specs.AbstractState.{members}
 use Rattle.lxr_direct.specs.Operating.{FindsLogFull, FindsNoRoom, IsDone, IsOfFirstVersion}
 use Rattle.lxr_large_model.specs.declared.TheConstants.{MOST_BODY_BLOCKS}
 use Rattle.lxr_large_model.specs.declared.Acted.{Acted}
@@ -27,12 +28,19 @@ use Rattle.lxr_large_model.specs.Step.{get_from, got, put_at, put_to, word_in as
 use Rattle.lxr_large_bodies.specs.Bodies.{Body, Held, IsFreeRun, body_of, fresh, with_placed, with_words, word_at}
 use Rattle.lxr_heap.specs.declared.heap.Heap.{Heap}
 use Rattle.lxr_heap.specs.Acting.{Acts, FindsNoPlace, IsReplied, made_by}
-use Rattle.lxr_heap.specs.Holding.{IsHeapOf, abstract_after, made_with, terms_of}
+use Rattle.lxr_heap.specs.Holding.{IsHeapOf, StandAt, StayInPlace, abstract_after, made_with, terms_of}
 use Rattle.lxr_heap.proofs.CallLemmas.{done_get, done_large, done_no_put, done_put, done_small, held_is_kept, held_word, lines_full, refused_big, refused_new}
 use Rattle.lxr_heap.proofs.FullLemmas.{blocks_full}
 use Rattle.lxr_heap.proofs.HeapLemmas.{IsStep, behind, is_step_of, keeps_beside, other_names, same_terms}
 use Rattle.lxr_heap.proofs.BodyLemmas.{held_names}
 use Rattle.lxr_heap.proofs.StayLemmas.{stay_changed, stay_placed, stay_same}
+
+-- ---- places
+
+-- a call that leaves the space as it was, and leads to the same moment
+still : (space : Space) (h : List LargeItem) (o : LargeOp) (r : LargeReply) → ((at : Name → ℕ) → StandAt space h at → StandAt space (Called o r ∷ h) at)
+    → StayInPlace space space h (Called o r ∷ h) (members (large_moment h))
+still space h o r same = λ at stands. (at, same at stands, λ n old kept. refl)
 
 -- ---- an operation on the object graph
 
@@ -42,18 +50,21 @@ place_room x (op.New dest shape) full = full
 place_room x o full = absurd full
 
 pub replied_small : (x : Heap) (h : List LargeItem) (is : IsHeapOf x h) (space : Space) (o : Op) (r : Reply) (made : ℕ) → IsWellFormed o → IsOfFirstVersion o → made ≡ made_with x.made r
-    → IsDone x.space space (abstract_after h is.at) 1 o r × ¬ FindsNoRoom x.space o × ¬ FindsLogFull x.space (large_moment h) 1 o
+    → ((at : Name → ℕ) → StandAt x.space h at → IsDone x.space space (abstract_after h at) 1 o r) → ¬ FindsNoRoom x.space o × ¬ FindsLogFull x.space (large_moment h) 1 o
     → IsReplied x (behind x space x.bodies made) h (large_op.Small o) (large_reply.Small r)
-replied_small x h is space o r made formed first count came =
-    let st : IsStep (terms_of x) h (large_moment h) o r = is_step_of (terms_of x) h (large_moment h) o r is.state came.0.reply in
+replied_small x h is space o r made formed first count done finds =
+    let here = done is.at is.rests in
+    let st : IsStep (terms_of x) h (large_moment h) o r = is_step_of (terms_of x) h (large_moment h) o r is.state here.reply in
     record {
-      holds = subst (λ k. IsHeapOf (behind x space x.bodies k) (Called (large_op.Small o) (large_reply.Small r) ∷ h)) (sym count) (done_small x h is space o r formed first came.0);
-      refused = (λ f. absurd (st.refused f), λ p. absurd (came.1 (place_room x o p)));
+      holds = subst (λ k. IsHeapOf (behind x space x.bodies k) (Called (large_op.Small o) (large_reply.Small r) ∷ h)) (sym count) (done_small x h is space o r formed first here);
+      refused = (λ f. absurd (st.refused f), λ p. absurd (finds.0 (place_room x o p)));
       fresh = λ f. absurd (st.refused f);
-      logged = came.2;
+      logged = finds.1;
       made = count;
+      reported = ap (λ (s : Space). s.report) here.keeps;
+      placed = λ at stands. let d = done at stands in (d.at, d.rests, λ n old kept. d.stay n old);
       stay = stay_same x.bodies.bodies;
-      terms = same_terms x space x.bodies made (keeps_beside x.space space came.0.keeps) refl;
+      terms = same_terms x space x.bodies made (keeps_beside x.space space here.keeps) refl;
     }
 
 -- what comes of an operation that finds no place
@@ -70,6 +81,8 @@ no_place_small x h is (op.New dest shape) formed full = elim x.fresh as (λ c. x
         fresh = λ f. (fresh, refl);
         logged = λ no. no;
         made = refl;
+        reported = refl;
+        placed = still x.space h (large_op.Small (op.New dest shape)) (large_reply.Small reply.Full) (λ at stands. stands);
         stay = stay_same x.bodies.bodies;
         terms = refl;
       }
@@ -106,6 +119,8 @@ no_place_big x h is dest blocks small range none = elim x.fresh as (λ c. x.fres
         fresh = λ f. (fresh, refl);
         logged = λ no. no;
         made = refl;
+        reported = refl;
+        placed = still x.space h (large_op.Big dest blocks) large_reply.Full (λ at stands. stands);
         stay = stay_same x.bodies.bodies;
         terms = refl;
       }
@@ -118,16 +133,19 @@ no_place_big x h is dest blocks small range none = elim x.fresh as (λ c. x.fres
 
 pub replied_big : (x : Heap) (h : List LargeItem) (is : IsHeapOf x h) (space : Space) (held' : Held) (n : Name) (dest blocks first : ℕ) → dest < 16 → (1 ≤ blocks) × (blocks ≤ MOST_BODY_BLOCKS)
     → IsFreeRun x.bodies first blocks → held' ≡ record x.bodies { bodies = with_placed x.bodies.bodies (fresh n first blocks) } → ¬ FindsNoPlace x (large_op.Big dest blocks) → n ≡ record { thread = 1; serial = x.made + 1 }
-    → IsDone x.space space (abstract_after h is.at) 1 (op.New dest handle) (reply.New n) → IsReplied x (behind x space held' (x.made + 1)) h (large_op.Big dest blocks) (large_reply.Big n)
+    → ((at : Name → ℕ) → StandAt x.space h at → IsDone x.space space (abstract_after h at) 1 (op.New dest handle) (reply.New n)) → IsReplied x (behind x space held' (x.made + 1)) h (large_op.Big dest blocks) (large_reply.Big n)
 replied_big x h is space held' n dest blocks first small range run placed some named done =
+    let here = done is.at is.rests in
     subst (λ (held : Held). IsReplied x (behind x space held (x.made + 1)) h (large_op.Big dest blocks) (large_reply.Big n)) (sym placed) (record {
-      holds = done_large x h is space n dest blocks first small range run named done;
+      holds = done_large x h is space n dest blocks first small range run named here;
       refused = (λ no. absurd no, λ p. absurd (some p));
       fresh = λ no. absurd no;
       logged = λ no. no;
       made = refl;
+      reported = ap (λ (s : Space). s.report) here.keeps;
+      placed = λ at stands. let d = done at stands in (d.at, d.rests, λ n old kept. d.stay n old);
       stay = stay_placed x.bodies.bodies (fresh n first blocks) (subst (λ q. body_of x.bodies.bodies q ≡ None) (sym named) (next_has_none x h is));
-      terms = same_terms x space (record x.bodies { bodies = with_placed x.bodies.bodies (fresh n first blocks) }) (x.made + 1) (keeps_beside x.space space done.keeps) refl;
+      terms = same_terms x space (record x.bodies { bodies = with_placed x.bodies.bodies (fresh n first blocks) }) (x.made + 1) (keeps_beside x.space space here.keeps) refl;
     })
 
 -- ---- words of bodies
@@ -162,6 +180,8 @@ replied_get x h is base i v r small e told = record {
   fresh = λ no. absurd no;
   logged = λ no. no;
   made = sym (get_makes x.made (large_state h) i v) ∙ ap (made_by x.made) told;
+  reported = refl;
+  placed = still x.space h (large_op.BigGet base i) r (λ at stands. stands);
   stay = stay_same x.bodies.bodies;
   terms = refl;
 }
@@ -178,6 +198,8 @@ replied_no_put x h is base i value v r small e told = record {
   fresh = λ no. absurd no;
   logged = λ no. no;
   made = sym (put_makes x.made (large_state h) i value v) ∙ ap (λ (p : LargeState × LargeReply). made_by x.made p.1) told;
+  reported = refl;
+  placed = still x.space h (large_op.BigPut base i value) r (λ at stands. stands);
   stay = stay_same x.bodies.bodies;
   terms = refl;
 }
@@ -203,6 +225,8 @@ replied_put x h is base i value n found held' small e told changed =
           fresh = λ no. absurd no;
           logged = λ no. no;
           made = refl;
+          reported = refl;
+          placed = still x.space h (large_op.BigPut base i value) large_reply.Put (λ at stands. stands);
           stay = stay_changed n (λ words. slice_set words i value) x.bodies.bodies;
           terms = refl;
         })

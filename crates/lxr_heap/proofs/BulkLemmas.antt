@@ -226,6 +226,7 @@ writes_nil x h is base i words none = record {
   holds = is;
   unchanged = λ other. refl;
   made = refl;
+  space = refl;
   stay = stay_same x.bodies.bodies;
   terms = refl;
 }
@@ -237,6 +238,7 @@ writes_past x h is base i words n there none = record {
   holds = is;
   unchanged = λ other. refl;
   made = refl;
+  space = refl;
   stay = stay_same x.bodies.bodies;
   terms = refl;
 }
@@ -248,6 +250,7 @@ writes_done x h is base i words n small there some = record {
   holds = puts n base small words i x h is there (has_range x.bodies.blocks x.bodies.bodies n i (length words) is.apart some);
   unchanged = λ other. absurd (other refl);
   made = refl;
+  space = refl;
   stay = stay_changed n (overwritten i words) x.bodies.bodies;
   terms = refl;
 }

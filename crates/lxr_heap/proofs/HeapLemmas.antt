@@ -27,7 +27,7 @@ use Rattle.lxr_large_bodies.specs.Bodies.{Held, rank_of}
 use Rattle.lxr_large_bodies.specs.Kept.{HoldsBodies}
 use Rattle.lxr_heap.specs.declared.heap.Heap.{Heap}
 use Rattle.lxr_heap.specs.Acting.{IsRefusal}
-use Rattle.lxr_heap.specs.Holding.{IsHeapOf, IsMade, abstract_after, made_with, terms_of}
+use Rattle.lxr_heap.specs.Holding.{IsHeapOf, IsMade, StandAt, abstract_after, made_with, terms_of}
 use Rattle.lxr_heap.proofs.BodyLemmas.{held_still, made_still}
 use Rattle.lxr_heap.proofs.RowLemmas.{step_counts}
 
@@ -46,6 +46,10 @@ may_operate x h is =
       thread = (omega arith, omega (arith, one));
       next = ap (λ (s : State). next_name s.graph 1) is.state ∙ is.next;
     }
+
+-- a heap of a history is that with its objects at any places where they stand
+abbrev pub standing : (x : Heap) (h : List LargeItem) → IsHeapOf x h → (at : Name → ℕ) → StandAt x.space h at → IsHeapOf x h
+standing x h is at stands = record is { at = at; rests = stands }
 
 -- ---- what depends on the state alone
 

@@ -16,3 +16,5 @@ pub mod BulkLemmas
 pub mod LookingLemmas
 pub mod TellingLemmas
 pub mod RenewingLemmas
+pub mod NumberLemmas
+pub mod WantingLemmas

@@ -3,12 +3,18 @@ use Rattle.std.proofs.Common.{◌≡◌, ℕ, suc, ◌+◌, ◌≤◌, refl, sym
 use Rattle.std.proofs.lemmas.List.{length-append}
 use Rattle.lxr_layout.specs.declared.Name.{Name}
 use Rattle.lxr_layout.specs.declared.Shape.{Shape}
+use Rattle.lxr_graph.specs.declared.Op.{Op}
+use Rattle.lxr_graph.specs.declared.Reply.{Reply}
 use Rattle.lxr_graph.specs.State.{State, object_at, register_at}
+use Rattle.lxr_graph.specs.Step.{step}
 use Rattle.lxr_image.specs.Tables.{Tables}
 use Rattle.lxr_blocks.specs.Listing.{block_frees, joined, listed_frees, lists_block}
 use Rattle.lxr_blocks.specs.States.{state_in}
 use Rattle.lxr_direct.specs.Operating.{named_shape, shape_found}
+use Rattle.lxr_large_model.specs.declared.LargeOp.TheVariants as large_op
+use Rattle.lxr_large_model.specs.declared.LargeReply.TheVariants as large_reply
 use Rattle.lxr_large_model.specs.History.{LargeItem, large_moment, large_state}
+use Rattle.lxr_large_model.specs.Step.{IsLargeReply}
 use Rattle.lxr_large_model.specs.State.{body_of as large_of}
 use Rattle.lxr_large_bodies.specs.Bodies.{Body, blocks_in, body_of}
 use Rattle.lxr_heap.specs.declared.heap.Heap.{Heap}
@@ -51,6 +57,10 @@ shape_told x h is base n shape blocks told held =
     let counted : blocks ≡ body_blocks (large_of (large_state h).large n) =
     held ∙ blocks_words x.bodies.blocks (body_of x.bodies.bodies n) (λ b found. found_whole x.bodies.blocks x.bodies.bodies n b is.apart found) ∙ ap body_blocks words in
     (λ i. Some (shaped i, counted i)) ∙ sym (ap (shape_held (large_state h)) there)
+
+-- what a step of the object graph replies at the moment, the model's step replies
+pub small_reply : (x : Heap) (h : List LargeItem) → IsHeapOf x h → (o : Op) (r : Reply) → r ≡ (step (large_moment h).state 1 o).1 → IsLargeReply (large_state h) (large_op.Small o) (large_reply.Small r)
+small_reply x h is o r told = ap large_reply.Small (sym (told ∙ ap (λ (s : State). (step s 1 o).1) is.state))
 
 -- ---- Free blocks
 

@@ -12,7 +12,7 @@ use Rattle.lxr_image.specs.declared.space.Space.{Space}
 use Rattle.lxr_image.specs.declared.space.Tally.{Tally}
 use Rattle.lxr_image.specs.Opened.{no_tally}
 use Rattle.lxr_model.specs.Moments.{Moment, Trace, after_pause, going_on, trace_after}
-use Rattle.lxr_model.specs.Reports.{is_draining}
+use Rattle.lxr_model.specs.Reports.{IsReport, is_draining}
 use Rattle.lxr_invariant.specs.AbstractState.{paused}
 use Rattle.lxr_large_model.specs.History.{LargeItem, Paused, large_moment, large_state}
 use Rattle.lxr_large_model.specs.Pauses.{IsLargeKind, IsLegalLarge}
@@ -24,12 +24,12 @@ use Rattle.lxr_one_pause.specs.Deciding.{kind_of}
 use Rattle.lxr_one_pause.specs.Pausing.{CanPause, IsDrained, KeepsObjects, Pauses}
 use Rattle.lxr_one_pause.specs.Relocating.{IsEnd}
 use Rattle.lxr_heap.specs.declared.heap.Heap.{Heap}
-use Rattle.lxr_heap.specs.Holding.{IsHeapOf, abstract_after, limits_of, terms_of}
+use Rattle.lxr_heap.specs.Holding.{IsHeapOf, StandAt, StayInPlace, abstract_after, limits_of, terms_of}
 use Rattle.lxr_heap.specs.Pausing.{PausesHeap, kind_asked}
 use Rattle.lxr_heap.proofs.ApartLemmas.{left_apart}
 use Rattle.lxr_heap.proofs.BodyLemmas.{held_paused}
 use Rattle.lxr_heap.proofs.CountLemmas.{CountsPause, counts_paused}
-use Rattle.lxr_heap.proofs.HeapLemmas.{one_thread}
+use Rattle.lxr_heap.proofs.HeapLemmas.{one_thread, standing}
 use Rattle.lxr_heap.proofs.MomentLemmas.{at_rest, collected, good, promoted_young}
 use Rattle.lxr_heap.proofs.StayLemmas.{stay_left}
 
@@ -103,22 +103,52 @@ numbers_behind x h is space collect pace at' apart p =
     counts_paused x.left x.made_before x.made (large_moment h) (report_of space.report) is.rests.safepoint.holds.follows p.between.safepoint.holds.follows p.reports
     (large_kind collect space.report.kind (kind_was x h is space collect pace at' apart p)) is.counts
 
-pub pauses_heap : (x : Heap) (h : List LargeItem) (is : IsHeapOf x h) (space : Space) (left : ℕ) (collect : Bool) (pace : Pace) (at' : Name → ℕ) → (x.space.pauses + 1) % pace.trace ≢ 0
-    → Pauses x.space space (abstract_after h is.at) at' (asked collect) pace
+-- such a pause moves nothing out of a block
+none_moved : (x : Heap) (h : List LargeItem) (is : IsHeapOf x h) (space : Space) (collect : Bool) (pace : Pace) (at' : Name → ℕ) → (x.space.pauses + 1) % pace.trace ≢ 0
+    → (p : Pauses x.space space (abstract_after h is.at) at' (asked collect) pace) → p.moved ≡ []
+none_moved x h is space collect pace at' apart p =
+    nobody p.moved (λ n member. no_end collect space.report.kind (kind_was x h is space collect pace at' apart p) ((p.evacuates.moved_are.members n).0 member).0.ends)
+
+-- what was made since the last pause was not unreclaimed then
+old_unpromoted : (x : Heap) (h : List LargeItem) → IsHeapOf x h → (r : PauseReport) → IsReport (large_moment h) r → (n : Name) → IsTrue (has (large_moment h).unreclaimed n) → has r.promoted n ≡ false
+old_unpromoted x h is r reports n old = elim (has r.promoted n) as (λ c. has r.promoted n ≡ c → c ≡ false) [
+  | true ↦ λ e. let apart = is.rests.safepoint.holds.follows.apart n (promoted_young (large_moment h) r reports n e) in let both : true ≡ false = sym old ∙ apart in absurd (cc)
+  | false ↦ λ e. refl
+] refl
+
+-- the pause was made, wherever objects stand
+abbrev pub PausesAnywhere : Heap → List LargeItem → Space → Ask → Pace → Type 0
+PausesAnywhere x h space ask pace = (at : Name → ℕ) → StandAt x.space h at → (at' : Name → ℕ) × Pauses x.space space (abstract_after h at) at' ask pace
+
+-- so what was unreclaimed and still is stands where it stood
+pub stays_placed : (x : Heap) (h : List LargeItem) → IsHeapOf x h → (space : Space) (collect : Bool) (pace : Pace) → (x.space.pauses + 1) % pace.trace ≢ 0
+    → PausesAnywhere x h space (asked collect) pace → StayInPlace x.space space h (Paused (report_of space.report) ∷ h) (large_moment h).unreclaimed
+stays_placed x h is space collect pace apart pauses = λ at stands.
+    let (at', p) = pauses at stands in
+    let here = standing x h is at stands in (
+      at',
+      at_rest space (paused (abstract_after h at) at' (report_of space.report)) p.between,
+      λ n old kept. p.relocates.others n (old_unpromoted x h is (report_of space.report) p.reports n old) (ap (λ ns. has ns n) (none_moved x h here space collect pace at' apart p)),
+    )
+
+pub pauses_heap : (x : Heap) (h : List LargeItem) (is : IsHeapOf x h) (space : Space) (left : ℕ) (collect : Bool) (pace : Pace) → (x.space.pauses + 1) % pace.trace ≢ 0
+    → PausesAnywhere x h space (asked collect) pace
     → left + (length space.report.dead.items + length space.report.swept.items) ≡ x.left + length space.report.promoted.items → PausesHeap x (behind_pause x space left collect) h collect
-pauses_heap x h is space left collect pace at' apart p left_is =
+pauses_heap x h is space left collect pace apart pauses left_is =
+    let (at', p) = pauses is.at is.rests in
     let m = large_moment h in
     let r : PauseReport = report_of space.report in
     let told : r.kind ≡ kind_asked collect = kind_was x h is space collect pace at' apart p in
     let keeps : space.limits ≡ x.space.limits = ap (λ (s : Space). s.limits) p.space in
     let counted : space.pauses ≡ x.space.pauses + 1 = ap (λ (s : Space). s.pauses) p.space in
-    let none_moved : p.moved ≡ [] = nobody p.moved (λ n member. no_end collect space.report.kind told ((p.evacuates.moved_are.members n).0 member).0.ends) in
+    let unmoved = none_moved x h is space collect pace at' apart p in
     let none_kept : p.kept ≡ [] = nobody p.kept (λ n member. no_end collect space.report.kind told ((p.evacuates.kept_are.members n).0 member).0.ends) in
-    let tally = p.tally ∙ (λ i. record (is.tally i) { pauses = (is.tally i).pauses + 1; moved = (is.tally i).moved + length (none_moved i); kept = (is.tally i).kept + length (none_kept i) }) in
+    let tally = p.tally ∙ (λ i. record (is.tally i) { pauses = (is.tally i).pauses + 1; moved = (is.tally i).moved + length (unmoved i); kept = (is.tally i).kept + length (none_kept i) }) in
     let terms : terms_of (behind_pause x space left collect) ≡ terms_of x = λ i. record { blocks = (keeps i).blocks; bodies = x.bodies.blocks } in
     record {
       kind = told;
       made = refl;
+      placed = stays_placed x h is space collect pace apart pauses;
       stay = stay_left r x.bodies.blocks x.bodies.bodies is.apart;
       terms = terms;
       holds = record {

@@ -36,13 +36,14 @@ use Rattle.lxr_renew.proofs.NameLemmas.{has_map, map_has, renewed_one, same_rene
 use Rattle.lxr_renew.proofs.StateLemmas.{IsLeft, reachable_still}
 use Rattle.lxr_large_model.proofs.SerialLemmas.{serial_tells}
 use Rattle.lxr_heap.specs.declared.heap.Heap.{Heap}
-use Rattle.lxr_heap.specs.Holding.{AreApart, IsCollected, IsHeapOf, IsMade, IsOther, abstract_after, last_report, limits_of, terms_of}
+use Rattle.lxr_heap.specs.Holding.{AreApart, IsCollected, IsHeapOf, IsMade, IsOther, StandAt, abstract_after, last_report, limits_of, terms_of}
 use Rattle.lxr_heap.specs.Renewing.{RenewsHeap}
 use Rattle.lxr_heap.specs.Telling.{TellsHeap}
 use Rattle.lxr_heap.proofs.BodyLemmas.{by_tests, held_pass, kept_by}
 use Rattle.lxr_heap.proofs.FullLemmas.{of_thread}
 use Rattle.lxr_heap.proofs.HeapLemmas.{one_thread}
 use Rattle.lxr_heap.proofs.MomentLemmas.{two_rows}
+use Rattle.lxr_heap.proofs.SameLemmas.{rests_told}
 use Rattle.lxr_heap.proofs.TellingLemmas.{same_state, settled}
 
 -- ---- what is left behind a pause that collected
@@ -177,15 +178,21 @@ module _ (x y : Heap) (h : List LargeItem) (fresh : IsTrue x.fresh) (tells : Tel
   pub counted_few : length y.space.report.told.items ≤ 2 ^ 27 + 1
   counted_few = let k = few in let all = counted_many in omega (arith, k, all)
 
-  pub may_renew : MayRenew y.space (abstract_after h is.at) ns
-  may_renew = record {
-    rests = is.rests;
-    rows = (let two = two_rows y.space (abstract_after h is.at) is.rests (one_thread y h is) in let one = one_thread y h is in omega (arith, two, one));
+  pub may_renew : (at : Name → ℕ) → StandAt y.space h at → MayRenew y.space (abstract_after h at) ns
+  may_renew at stands = record {
+    rests = stands;
+    rows = (let two = two_rows y.space (abstract_after h at) stands (one_thread y h is) in let one = one_thread y h is in omega (arith, two, one));
     settled = settled y h is f;
     untraced = is.untraced;
     names = names;
     told = counted;
   }
+
+  -- objects stand where they stood before what is left was told
+  stand_told : (at : Name → ℕ) → StandAt x.space h at → StandAt y.space h at
+  stand_told at stands =
+      let at_rest : Heap → Type 0 = λ z. IsAtRest z.space (abstract_after h at) in
+      subst at_rest (sym tells.heap) (rests_told x.space (abstract_after h at) y.space.report.told.items stands)
 
   -- each body is that of one of them
   bodies_left : AllByRecursion (λ (b : Body). IsTrue (has (world_name ∷ ns) b.name)) y.bodies.bodies
@@ -230,7 +237,10 @@ module _ (x y : Heap) (h : List LargeItem) (fresh : IsTrue x.fresh) (tells : Tel
             (follows.closed u n (subst (λ us. IsTrue (has us u)) (sym names) member) (subst (λ (s : State). Refers s.graph u n) (sym same) refers));
       }
 
-  module _ (space : Space) (r : Renews y.space space (abstract_after h is.at) ns) (left : ℕ) (all : left ≡ length ns) where
+  module _ (space : Space) (renews : (at : Name → ℕ) → StandAt y.space h at → Renews y.space space (abstract_after h at) ns) (left : ℕ) (all : left ≡ length ns) where
+    abbrev r : Renews y.space space (abstract_after h is.at) ns
+    r = renews is.at is.rests
+
     abbrev after : Heap
     after = record y { space = space; bodies = record y.bodies { bodies = map (renamed ns) y.bodies.bodies }; made = left; made_before = left; left = left }
 
@@ -240,8 +250,13 @@ module _ (x y : Heap) (h : List LargeItem) (fresh : IsTrue x.fresh) (tells : Tel
     none : space.pauses ≡ 0
     none = ap (λ (s : Space). s.pauses) r.space
 
-    rests : IsAtRest space (abstract_after (Renewed ns ∷ h) r.at)
-    rests = subst (λ t. IsAtRest space (record { moment = renewed_moment t ns m; at = r.at; reported = last_report h })) (one_thread y h is) r.rests
+    stand_renewed : (at : Name → ℕ) (stands : StandAt y.space h at) → StandAt space (Renewed ns ∷ h) (renews at stands).at
+    stand_renewed at stands =
+        let s = renews at stands in
+        subst (λ t. IsAtRest space (record { moment = renewed_moment t ns m; at = s.at; reported = last_report h })) (one_thread y h is) s.rests
+
+    rests : StandAt space (Renewed ns ∷ h) r.at
+    rests = stand_renewed is.at is.rests
 
     terms : terms_of after ≡ terms_of y
     terms = λ i. record { blocks = (keeps i).blocks; bodies = y.bodies.blocks }
@@ -279,6 +294,7 @@ module _ (x y : Heap) (h : List LargeItem) (fresh : IsTrue x.fresh) (tells : Tel
       made = all;
       few = let k = few in omega (arith, k, all);
       pauses = none;
+      placed = λ at stands. let there = stand_told at stands in let s = renews at there in (s.at, stand_renewed at there, s.stay);
       bodies = ap (λ (z : Heap). record z.bodies { bodies = map (renamed ns) z.bodies.bodies }) tells.heap;
       terms = terms ∙ ap terms_of tells.heap;
       told = ap (λ (s : Space). map counted_name s.report.told.items) r.space ∙ tells.names ∙ names;

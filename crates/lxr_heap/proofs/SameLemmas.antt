@@ -23,7 +23,7 @@ pub record LeadsTo (h k : List LargeItem) : Type 0 where
   pub fresh : IsFresh k ↔ IsFresh h
 
 -- with anything told, a space at rest is one of the same state
-rests_told : (s : Space) (g : AbstractState) (told : List Count) → IsAtRest s g → IsAtRest (with_told s told) g
+pub rests_told : (s : Space) (g : AbstractState) (told : List Count) → IsAtRest s g → IsAtRest (with_told s told) g
 rests_told s g told rests = record {
   safepoint = safepoint_told s g told rests.safepoint;
   undecremented = rests.undecremented;

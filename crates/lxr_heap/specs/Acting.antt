@@ -1,9 +1,10 @@
 -- What comes of an operation that a heap is called with.
-use Rattle.std.specs.Prelude.{◌≡◌, ℕ, ◌+◌, ◌↔◌, ◌⊎◌, ⊤, false, List, ◌∷◌, IsTrue}
+use Rattle.std.specs.Prelude.{◌≡◌, ℕ, ◌+◌, ◌↔◌, ◌⊎◌, ⊤, Bool, true, false, List, ◌∷◌, IsTrue}
 use Rattle.lxr_graph.specs.declared.Op.TheVariants as op
 use Rattle.lxr_graph.specs.declared.Reply.TheVariants as reply
 use Rattle.lxr_blocks.specs.Placing.{IsFull}
 use Rattle.lxr_model.specs.Moments.{Moment}
+use Rattle.lxr_invariant.specs.AbstractState.{members}
 use Rattle.lxr_direct.specs.Operating.{FindsLogFull, IsOfFirstVersion}
 use Rattle.lxr_large_model.specs.declared.Acted.{Acted}
 use Rattle.lxr_large_model.specs.declared.Acted.TheVariants as acted
@@ -16,7 +17,7 @@ use Rattle.lxr_large_model.specs.State.{handle}
 use Rattle.lxr_large_model.specs.Step.{IsLargeOp}
 use Rattle.lxr_large_bodies.specs.Bodies.{Held, IsFreeRun}
 use Rattle.lxr_heap.specs.declared.heap.Heap.{Heap}
-use Rattle.lxr_heap.specs.Holding.{IsHeapOf, StayInBlocks, made_with, terms_of}
+use Rattle.lxr_heap.specs.Holding.{IsHeapOf, StayInBlocks, StayInPlace, made_with, terms_of}
 
 -- an operation that a heap may be called with: its registers, its shape and its body fit, and it is one of the first version of scripts
 abbrev pub MayBeCalled : LargeOp → Type 0
@@ -53,13 +54,15 @@ made_by made _ = made
 
 -- It was done: the heap is that of the history with this call, which is legal, so the reply is that of a step of the model and the state is the
 -- one after it; or, exactly where no place is found right behind a pause that collected, it was refused as `full`, and nothing has changed. One
--- object more was made where the reply tells of one, and no body has moved.
+-- object more was made where the reply tells of one, no object and no body has moved, and the last pause's report stays, with what was told in it.
 pub record IsReplied (before after : Heap) (h : List LargeItem) (o : LargeOp) (r : LargeReply) : Type 0 where
   pub holds : IsHeapOf after (Called o r ∷ h)
   pub refused : IsRefusal o r ↔ FindsNoPlace before o
   pub fresh : IsRefusal o r → IsTrue before.fresh × (after ≡ before)
   pub logged : ¬ FindsNoLog before (large_moment h) o
   pub made : after.made ≡ made_by before.made r
+  pub reported : after.space.report ≡ before.space.report
+  pub placed : StayInPlace before.space after.space h (Called o r ∷ h) (members (large_moment h))
   pub stay : StayInBlocks before.bodies.bodies after.bodies.bodies
   pub terms : terms_of after ≡ terms_of before
 
@@ -69,3 +72,16 @@ abbrev pub Acts : Heap → Heap → List LargeItem → LargeOp → Acted → Typ
 Acts before after h o (acted.Replied r) = IsReplied before after h o r
 Acts before after h o acted.Room = FindsNoPlace before o × (before.fresh ≡ false) × (after ≡ before)
 Acts before after h o acted.Log = FindsNoLog before (large_moment h) o × (after ≡ before)
+
+-- ---- the pause that an operation wants
+
+-- An operation wants a pause before it: one that collects where it finds no place, and a plain one where it finds the log full.
+abbrev pub WantsPause : Heap → List LargeItem → LargeOp → Bool → Type 0
+WantsPause x h o true = FindsNoPlace x o
+WantsPause x h o false = FindsNoLog x (large_moment h) o
+
+-- An operation wants no pause before it: it finds a place, or a fresh pause stands before it, and it finds room in the log.
+pub record WantsNoPause (x : Heap) (h : List LargeItem) (o : LargeOp) : Type 0 where
+  pub holds : IsHeapOf x h
+  pub fresh : FindsNoPlace x o → IsTrue x.fresh
+  pub logs : ¬ FindsNoLog x (large_moment h) o

@@ -9,11 +9,12 @@ use Rattle.lxr_graph.specs.declared.Reply.TheVariants as reply
 use Rattle.lxr_graph.specs.Names.{has, same_name}
 use Rattle.lxr_graph.specs.History.{PauseReport}
 use Rattle.lxr_graph.specs.State.{next_name}
+use Rattle.lxr_image.specs.declared.space.Space.{Space}
 use Rattle.lxr_image.specs.Opened.{no_tally}
 use Rattle.lxr_image.specs.Spaces.{tables_of}
 use Rattle.lxr_model.specs.Moments.{Moment}
 use Rattle.lxr_model.specs.Reachable.{Reachable}
-use Rattle.lxr_invariant.specs.AbstractState.{AbstractState, no_report}
+use Rattle.lxr_invariant.specs.AbstractState.{AbstractState, members, no_report}
 use Rattle.lxr_invariant.specs.Quiescent.{IsAtRest}
 use Rattle.lxr_full.specs.Room.{HasWorld}
 use Rattle.lxr_large_model.specs.Full.{IsFresh, LargeTerms}
@@ -42,6 +43,15 @@ last_report (Renewed ns ∷ h) = last_report h
 -- what a space stands for after a history, with objects at these places
 abbrev pub abstract_after : List LargeItem → (Name → ℕ) → AbstractState
 abstract_after h at = record { moment = large_moment h; at = at; reported = last_report h }
+
+-- A space stands for what a history leads to, with objects at these places. The header at a place tells the name of its object.
+abbrev pub StandAt : Space → List LargeItem → (Name → ℕ) → Type 0
+StandAt space h at = IsAtRest space (abstract_after h at)
+
+-- Wherever objects stood, those of these names that are still kept stand there: none of them was moved.
+abbrev pub StayInPlace : Space → Space → List LargeItem → List LargeItem → List Name → Type 0
+StayInPlace before after h k ns = (at : Name → ℕ) → StandAt before h at
+    → (at' : Name → ℕ) × StandAt after k at' × ((n : Name) → IsTrue (has ns n) → IsTrue (has (members (large_moment k)) n) → at' n ≡ at n)
 
 -- Nothing has come behind a pause that collected: nothing is made or written since, and exactly what is reachable is unreclaimed.
 pub record IsCollected (m : Moment) : Type 0 where
@@ -92,7 +102,7 @@ StayInBlocks before after = (n : Name) (a b : Body) → body_of before n ≡ Som
 pub record IsHeapOf (x : Heap) (h : List LargeItem) : Type 0 where
   pub legal : IsLegalLarge (terms_of x) h
   pub at : Name → ℕ
-  pub rests : IsAtRest x.space (abstract_after h at)
+  pub rests : StandAt x.space h at
   pub untraced : (large_moment h).trace ≡ None
   pub limits : x.space.limits ≡ limits_of x.space.limits.blocks
   pub tally : x.space.tally ≡ record no_tally { pauses = x.space.pauses }

@@ -1,22 +1,26 @@
 -- What renewing its names does to a heap.
-use Rattle.std.specs.Prelude.{◌≡◌, ◌^◌, ◌≤◌, List, ◌∷◌, length, map}
+use Rattle.std.specs.Prelude.{◌≡◌, ℕ, ◌^◌, ◌≤◌, List, ◌∷◌, IsTrue, length, map}
 use Rattle.lxr_layout.specs.declared.Name.{Name}
+use Rattle.lxr_graph.specs.Names.{has}
+use Rattle.lxr_graph.specs.Renewing.{renewed_name}
 use Rattle.lxr_graph.specs.State.{world_name}
-use Rattle.lxr_large_model.specs.History.{LargeItem, Renewed}
+use Rattle.lxr_large_model.specs.History.{LargeItem, Renewed, large_moment}
 use Rattle.lxr_large_model.specs.Renewing.{counted_name}
 use Rattle.lxr_large_bodies.specs.Bodies.{renamed}
 use Rattle.lxr_heap.specs.declared.heap.Heap.{Heap}
-use Rattle.lxr_heap.specs.Holding.{IsHeapOf, terms_of}
+use Rattle.lxr_heap.specs.Holding.{IsHeapOf, StandAt, terms_of}
 
 -- Names were renewed: the heap is that of the history with the renewal, which is legal, so the names are those of all that is left, and the graph is
--- the old one under new names. As many objects were made as are left, pauses are counted from 0 again, and each body has its words in its blocks.
--- What is told of counts lists the world and all that was left, under the old names.
+-- the old one under new names; each object stands where it stood. As many objects were made as are left, pauses are counted from 0 again, and each
+-- body has its words in its blocks. What is told of counts lists the world and all that was left, under the old names.
 pub record RenewsHeap (before after : Heap) (h : List LargeItem) : Type 0 where
   pub names : List Name
   pub holds : IsHeapOf after (Renewed names ∷ h)
   pub made : after.made ≡ length names
   pub few : after.made ≤ 2 ^ 27
   pub pauses : after.space.pauses ≡ 0
+  pub placed : (at : Name → ℕ) → StandAt before.space h at
+      → (at' : Name → ℕ) × StandAt after.space (Renewed names ∷ h) at' × ((n : Name) → IsTrue (has (large_moment h).unreclaimed n) → at' (renewed_name names n) ≡ at n)
   pub bodies : after.bodies ≡ record before.bodies { bodies = map (renamed names) before.bodies.bodies }
   pub terms : terms_of after ≡ terms_of before
   pub told : map counted_name after.space.report.told.items ≡ world_name ∷ names

@@ -105,7 +105,7 @@ fn put_reply(found: bool) -> LargeReply
 
 /// The reply of a read, by the word that was found.
 #[inline(always)]
-fn got_reply(word: Option<u64>) -> LargeReply
+pub(crate) fn got_reply(word: Option<u64>) -> LargeReply
     ensures { result ≡ got word }
 {
     match word {

@@ -22,11 +22,12 @@ ghost use Rattle.lxr_image.specs.Spaces.{tables_of};
 ghost use Rattle.lxr_blocks.specs.Listing.{listed_frees};
 ghost use Rattle.lxr_large_model.specs.Full.{kept_names};
 ghost use Rattle.lxr_large_model.specs.History.{LargeItem, large_moment, large_state};
+ghost use Rattle.lxr_large_model.specs.Step.{IsLargeReply};
 ghost use Rattle.lxr_large_bodies.specs.Bodies.{blocks_held};
 ghost use Rattle.lxr_heap.specs.Acting.{Acts, MayBeCalled};
 ghost use Rattle.lxr_heap.specs.Bulk.{WritesWords, base_held, bulk_reply, words_held};
 ghost use Rattle.lxr_heap.specs.Holding.{IsHeapOf, IsOpenedHeap};
-ghost use Rattle.lxr_heap.specs.Looking.{shape_held};
+ghost use Rattle.lxr_heap.specs.Looking.{IsLook, shape_held};
 ghost use Rattle.lxr_heap.specs.Pausing.{PausesHeap};
 ghost use Rattle.lxr_heap.specs.Renewing.{RenewsHeap};
 ghost use Rattle.lxr_heap.specs.Telling.{TellsHeap};
@@ -36,7 +37,7 @@ use heap::Heap;
 use lxr_graph::Report;
 use lxr_image::Space;
 use lxr_large_bodies::Bodies;
-use lxr_large_model::{Acted, LargeOp};
+use lxr_large_model::{Acted, LargeOp, LargeReply};
 use lxr_layout::Shape;
 use std::alloc::{AllocError, Global};
 use std::marker::Model;
@@ -86,6 +87,16 @@ impl LargeHeap {
         ensures { (h : List LargeItem) → IsHeapOf self.old h → Acts self.old self.new h op result }
     {
         acting::act(&mut self.heap, op)
+    }
+
+    /// What an operation that only looks is replied: that of a step, of which nothing changes. No history has it: the heap is that of the
+    /// histories that it was of, and a pause that is fresh stays so.
+    #[inline(always)]
+    pub fn see(&self, op: LargeOp) -> LargeReply
+        requires op { IsLook op }
+        ensures { (h : List LargeItem) → IsHeapOf self.now h → IsLargeReply (large_state h) op result }
+    {
+        looking::see(&self.heap, op)
     }
 
     /// Whether a register is nil.

@@ -4,15 +4,21 @@ ghost use Rattle.lxr_graph.specs.State.{register_at};
 ghost use Rattle.lxr_image.specs.Spaces.{IsSpace, tables_of};
 ghost use Rattle.lxr_blocks.specs.Listing.{listed_frees, lists_block};
 ghost use Rattle.lxr_large_model.specs.Full.{kept_names};
+ghost use Rattle.lxr_large_model.specs.declared.LargeOp.TheVariants as large_op;
+ghost use Rattle.lxr_large_model.specs.declared.LargeReply.TheVariants as large_reply;
 ghost use Rattle.lxr_large_model.specs.History.{LargeItem, large_moment, large_state};
+ghost use Rattle.lxr_large_model.specs.Step.{IsLargeReply};
 ghost use Rattle.lxr_heap.specs.Holding.{IsHeapOf};
-ghost use Rattle.lxr_heap.specs.Looking.{one_if, shape_held};
+ghost use Rattle.lxr_heap.specs.Looking.{IsLook, IsSmallLook, one_if, shape_held};
 
 use crate::MUTATOR;
+use crate::acting::got_reply;
 use crate::heap::Heap;
 use lxr_blocks::{BlockState, state};
-use lxr_direct::{is_nil as is_nil_in, object_in};
+use lxr_direct::{get, is_nil as is_nil_in, name_in, object_in, same};
+use lxr_graph::{Op, Reply};
 use lxr_image::Space;
+use lxr_large_model::{LargeOp, LargeReply};
 use lxr_layout::Shape;
 
 /// Whether a register is nil.
@@ -23,6 +29,47 @@ pub(crate) fn is_nil(heap: &Heap, register: u8) -> bool
     ensures { (h : List LargeItem) → IsHeapOf heap.now h → IsTrue result ↔ (register_at (large_state h).small 1 register ≡ None) }
 {
     is_nil_in(&heap.space, MUTATOR, register)
+}
+
+/// What reading word `index` of the body of what `base` holds is replied.
+#[inline(always)]
+fn see_word(heap: &Heap, base: u8, index: u32) -> LargeReply
+    requires holds { (h : List LargeItem) × IsHeapOf heap.now h }
+    requires base { base < 16 }
+    ensures { (h : List LargeItem) → IsHeapOf heap.now h → IsLargeReply (large_state h) (large_op.BigGet base index) result }
+{
+    match name_in(&heap.space, MUTATOR, base) {
+        None => LargeReply::Bad,
+        Some(name) => got_reply(heap.bodies.word(name, index)),
+    }
+}
+
+/// What an operation on small objects is replied that only looks.
+#[inline(always)]
+fn see_small(heap: &Heap, op: Op) -> Reply
+    requires holds { (h : List LargeItem) × IsHeapOf heap.now h }
+    requires op { IsSmallLook op }
+    ensures { (h : List LargeItem) → IsHeapOf heap.now h → IsLargeReply (large_state h) (large_op.Small op) (large_reply.Small result) }
+{
+    match op {
+        Op::Get { base, index } => get(&heap.space, MUTATOR, base, index),
+        Op::Same { left, right } => Reply::Same(same(&heap.space, MUTATOR, left, right)),
+        _ => unreachable!(),
+    }
+}
+
+/// What an operation is replied that only looks.
+#[inline(always)]
+pub(crate) fn see(heap: &Heap, op: LargeOp) -> LargeReply
+    requires holds { (h : List LargeItem) × IsHeapOf heap.now h }
+    requires op { IsLook op }
+    ensures { (h : List LargeItem) → IsHeapOf heap.now h → IsLargeReply (large_state h) op result }
+{
+    match op {
+        LargeOp::Small(op) => LargeReply::Small(see_small(heap, op)),
+        LargeOp::BigGet { base, index } => see_word(heap, base, index),
+        _ => unreachable!(),
+    }
 }
 
 /// The shape of what a register holds, and how many blocks its body has.

@@ -4,3 +4,4 @@ pub mod Opened
 pub mod Reads
 pub mod Image
 pub mod ImageLaws
+pub mod Parts

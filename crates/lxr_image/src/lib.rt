@@ -10,6 +10,7 @@
 mod laws;
 mod objects;
 mod open;
+mod rest;
 mod space;
 mod tables;
 
@@ -17,5 +18,6 @@ pub use laws::{
     entries_are_within, image_is_read, image_stands_whole, new_keeps_image, none_starts_past,
     outside_keeps_image, put_keeps_image, register_keeps_places, store_keeps_image,
 };
-pub use open::WORLD_STATE;
+pub use open::{NO_TALLY, WORLD_STATE};
+pub use rest::Rest;
 pub use space::{Entries, Places, Space, Tally};

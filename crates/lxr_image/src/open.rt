@@ -27,7 +27,8 @@ pub const WORLD_STATE: u64 = 4;
 /// Where the world stands, in every space and for good.
 const WORLD: Place = Place(1);
 
-const NO_TALLY: Tally = Tally {
+/// The tally of a space in which nothing was done.
+pub const NO_TALLY: Tally = Tally {
     news: 0,
     loads: 0,
     stores: 0,

@@ -1,2 +1,1 @@
 pub mod SearchLemmas
-pub mod ClearingLemmas

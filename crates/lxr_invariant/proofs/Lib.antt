@@ -1,6 +1,7 @@
 pub mod NameLemmas
 pub mod EntryLemmas
 pub mod PlaceLemmas
+pub mod FieldLemmas
 pub mod FrameLemmas
 pub mod OpeningLemmas
 pub mod BlockLemmas

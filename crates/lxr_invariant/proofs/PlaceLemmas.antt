@@ -11,7 +11,8 @@ use Rattle.lxr_image.specs.Tables.{Tables}
 use Rattle.lxr_image.specs.Reads.{granule_of}
 use Rattle.lxr_image.specs.Image.{IsImage, StartsAre, granules_of}
 use Rattle.lxr_model_counting.proofs.DistinctLemmas.{tested}
-use Rattle.lxr_invariant.specs.Lines.{HasMarks, IsMarkOf, line_behind, next_line}
+use Rattle.lxr_invariant.specs.Lines.{HasMarks, IsMarkOf}
+use Rattle.lxr_blocks.specs.Lines.{line_behind, next_line}
 
 pub same_object : (g : Graph) (n : Name) (a b : Object) → object_at g n ≡ Some a → object_at g n ≡ Some b → a ≡ b
 same_object g n a b e f = let q : Some a ≡ Some b = sym e ∙ f in cc

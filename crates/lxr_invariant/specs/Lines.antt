@@ -1,5 +1,5 @@
 -- Line marks, and which lines objects keep.
-use Rattle.std.specs.Prelude.{◌≡◌, ◌≢◌, ℕ, zero, suc, ◌+◌, ◌-◌, ◌/◌, ◌%◌, ◌<◌, ◌≤◌, ◌⊎◌, ⊤, Bool, false, true, Option, Some, None, List, IsTrue, if◌then◌else◌}
+use Rattle.std.specs.Prelude.{◌≡◌, ◌≢◌, ℕ, zero, suc, ◌+◌, ◌/◌, ◌%◌, ◌<◌, ◌≤◌, ◌⊎◌, ⊤, Bool, false, true, Option, Some, None, List, IsTrue, if◌then◌else◌}
 use Rattle.lxr_layout.specs.declared.Name.{Name}
 use Rattle.lxr_layout.specs.declared.TheConstants.{GRANULES_IN_BLOCK, GRANULES_IN_LINE, LINES_IN_BLOCK, STUCK, TRACING_WORD}
 use Rattle.lxr_layout.specs.Spaces.{most_chosen}
@@ -16,13 +16,6 @@ use Rattle.lxr_blocks.specs.States.{is_fixed, state_by_lines, state_in}
 use Rattle.lxr_blocks.specs.Placing.{IsRest}
 use Rattle.lxr_model.specs.Moments.{Moment, Trace}
 use Rattle.lxr_invariant.specs.AbstractState.{members}
-
--- the first further line of an object that begins at a granule, and the line behind its last one
-abbrev pub next_line : ℕ → ℕ
-next_line granule = granule / GRANULES_IN_LINE + 1
-
-abbrev pub line_behind : ℕ → ℕ → ℕ
-line_behind granule granules = (granule + granules - 1) / GRANULES_IN_LINE + 1
 
 -- a granule begins a further line that an object at a place reaches into
 pub record IsMarkOf (at : Name → ℕ) (n : Name) (o : Object) (k : ℕ) : Type 0 where

@@ -1,39 +1,31 @@
--- What a script may call a heap with, and what one call or one pause adds to the numbers of a heap.
-use Rattle.std.proofs.Common.{◌≡◌, ℕ, ◌+◌, ◌<◌, ◌≤◌, ◌∙◌, refl, sym, ap, subst, inl, inr, arith, Bool, true, false, List, ◌∷◌, length, ◌⊎◌, Option, Some, None}
-use Rattle.std.specs.Prelude.{◌&&◌, IsTrue, not}
-use Rattle.lxr_layout.specs.declared.Name.{Name}
+-- What a script may call a heap with, and a pause whose counts are told.
+use Rattle.std.proofs.Common.{◌≡◌, ◌∙◌, refl, sym, ap, subst, arith, Bool, true, false, List, [], ◌∷◌, Some, None}
+use Rattle.std.specs.Prelude.{◌&&◌, IsTrue, if◌then◌else◌, not}
 use Rattle.lxr_graph.specs.declared.Op.{Op}
 use Rattle.lxr_graph.specs.declared.Op.TheVariants as op
-use Rattle.lxr_graph.specs.declared.Reply.{Reply}
-use Rattle.lxr_graph.specs.declared.Reply.TheVariants as reply
+use Rattle.lxr_graph.specs.declared.report.Count.{Count}
 use Rattle.lxr_graph.specs.declared.report.Kind.{Kind}
+use Rattle.lxr_graph.specs.declared.report.Kind.TheVariants as kind
 use Rattle.lxr_graph.specs.declared.report.Report.{Report}
 use Rattle.lxr_graph.specs.History.{HasToldCounts, PauseReport, report_of}
-use Rattle.lxr_graph.specs.State.{State, next_name, register_at, row_of}
-use Rattle.lxr_graph.specs.Step.{fresh, make, step}
 use Rattle.lxr_text_script.specs.declared.Version.TheVariants.{One}
 use Rattle.lxr_text_script.specs.Spelling.{operation_version}
 use Rattle.lxr_text_print.specs.Reports.{is_plain}
 use Rattle.lxr_direct.specs.Operating.{IsOfFirstVersion}
 use Rattle.lxr_large_model.specs.declared.LargeOp.{LargeOp}
 use Rattle.lxr_large_model.specs.declared.LargeOp.TheVariants as large_op
-use Rattle.lxr_large_model.specs.declared.LargeReply.{LargeReply}
-use Rattle.lxr_large_model.specs.declared.LargeReply.TheVariants as large_reply
-use Rattle.lxr_large_model.specs.History.{LargeItem, Called, Paused, large_moment, large_state}
+use Rattle.lxr_large_model.specs.History.{LargeItem, Paused, large_moment}
 use Rattle.lxr_large_model.specs.Pauses.{AsksFor}
-use Rattle.lxr_large_model.specs.State.{LargeState, body_of, handle}
-use Rattle.lxr_large_model.specs.Step.{large_after, large_step, put_at, put_to, word_in}
 use Rattle.lxr_large_text.specs.Limits.{IsLargeOperation}
 use Rattle.lxr_heap.specs.declared.heap.Heap.{Heap}
 use Rattle.lxr_heap.specs.Acting.{MayBeCalled}
-use Rattle.lxr_heap.specs.Holding.{IsHeapOf, StayInBlocks, abstract_after, made_with, terms_of}
+use Rattle.lxr_heap.specs.Holding.{IsHeapOf, StayInBlocks, StayInPlace, abstract_after, terms_of}
 use Rattle.lxr_heap.specs.Pausing.{PausesHeap, kind_asked}
 use Rattle.lxr_heap.specs.Telling.{TellsHeap}
-use Rattle.lxr_heap.proofs.HeapLemmas.{one_thread}
-use Rattle.lxr_heap.proofs.MomentLemmas.{two_rows}
-use Rattle.lxr_heap.proofs.RowLemmas.{make_counts, step_counts}
-use Rattle.lxr_large_text.proofs.HistoryLemmas.{same_number}
+use Rattle.lxr_heap.proofs.NumberLemmas.{paused_pauses}
+use Rattle.lxr_heap.proofs.SameLemmas.{rests_told}
 use Rattle.lxr_large_run.specs.Asking.{asked_by}
+use Rattle.lxr_large_run.specs.Playing.{TellsPrinted}
 
 -- ---- what may be called
 
@@ -66,21 +58,6 @@ asks_none (large_op.Small op.Collect) is k asks = absurd (cc)
 asks_none (large_op.Small op.End) is k asks = absurd (cc)
 asks_none o is k asks = asks
 
--- ---- numbers
-
--- a heap has made as many pauses as its history has
-pub pauses_are : (x : Heap) (h : List LargeItem) → IsHeapOf x h → x.space.pauses ≡ (large_moment h).number
-pauses_are x h is = is.rests.safepoint.numbers.pauses
-
--- a call makes none
-pub called_pauses : (x y : Heap) (h : List LargeItem) (o : LargeOp) (r : LargeReply) → IsHeapOf x h → IsHeapOf y (Called o r ∷ h) → y.space.pauses ≡ x.space.pauses
-called_pauses x y h o r is then = pauses_are y (Called o r ∷ h) then ∙ same_number o r h ∙ sym (pauses_are x h is)
-
--- and a pause is one more
-pub paused_pauses : (x y : Heap) (h : List LargeItem) (collect : Bool) → IsHeapOf x h → PausesHeap x y h collect → y.space.pauses ≡ x.space.pauses + 1
-paused_pauses x y h collect is then =
-    pauses_are y (Paused (report_of y.space.report) ∷ h) then.holds ∙ then.holds.legal.1.reports.1.number ∙ ap (λ n. n + 1) (sym (pauses_are x h is))
-
 -- ---- a pause whose counts are told
 
 -- behind a pause whose counts were told the heap is the one behind the pause
@@ -89,6 +66,8 @@ told_pauses x y z h collect paused tells = record {
   kind = ap (λ (w : Heap). w.space.report.kind) tells.heap ∙ paused.kind;
   holds = subst (λ (r : PauseReport). IsHeapOf z (Paused r ∷ h)) (sym (ap (λ (w : Heap). report_of w.space.report) tells.heap)) tells.holds;
   made = ap (λ (w : Heap). w.made) tells.heap ∙ paused.made;
+  placed = subst (λ (w : Heap). StayInPlace x.space w.space h (Paused (report_of w.space.report) ∷ h) (large_moment h).unreclaimed) (sym tells.heap)
+      (λ at stands. let (at', there, same) = paused.placed at stands in (at', rests_told y.space (abstract_after (Paused (report_of y.space.report) ∷ h) at') z.space.report.told.items there, same));
   stay = subst (λ (w : Heap). StayInBlocks x.bodies.bodies w.bodies.bodies) (sym tells.heap) paused.stay;
   terms = ap terms_of tells.heap ∙ paused.terms;
 }
@@ -102,64 +81,28 @@ not_plain : (collect : Bool) (k : Kind) → k ≡ kind_asked collect → not (is
 not_plain true k is = ap (λ q. not (is_plain q)) is
 not_plain false k is = ap (λ q. not (is_plain q)) is
 
--- where counts are told that are asked for, the report may be printed
-pub may_print : (x y : Heap) (r : Report) (h : List LargeItem) (collect counts : Bool) → r ≡ y.space.report → PausesHeap x y h collect → (IsTrue (counts && collect) → HasToldCounts y.space.report)
-    → IsTrue (counts && not (is_plain r.kind)) → HasToldCounts r
-may_print x y r h collect counts is paused told asked =
-    subst HasToldCounts (sym is) (told (subst (λ b. IsTrue (counts && b)) (not_plain collect r.kind (ap (λ (q : Report). q.kind) is ∙ paused.kind)) asked))
+-- the counts of a report, where they are printed
+abbrev printed : Report → Bool → List Count
+printed r asked = if asked then r.counts.items else []
 
--- ---- what was made
+-- a pause that collected and whose counts were told tells what is printed
+pub tells_asked : (x y z : Heap) (h : List LargeItem) → IsHeapOf x h → PausesHeap x y h true → TellsHeap y z (Paused (report_of y.space.report) ∷ h) → TellsPrinted true z.space.report
+tells_asked x y z h is paused tells =
+    let kind : z.space.report.kind ≡ kind_asked true = ap (λ (w : Heap). w.space.report.kind) tells.heap ∙ paused.kind in
+    told_counts x y z h is paused tells ∙ sym (ap (printed z.space.report) (not_plain true z.space.report.kind kind))
 
-told_row : (before after : ℕ) (r : Reply) → after ≡ made_with before r → after ≤ before + 1
-told_row before after (reply.New n) is = omega (arith, is)
-told_row before after r is = omega (arith, is)
+-- and one that tells nothing does where nothing is asked for, or it doesn't collect
+pub tells_none : (x y : Heap) (h : List LargeItem) (collect counts : Bool) → PausesHeap x y h collect → y.space.report.told.items ≡ [] → (counts && collect) ≡ false → TellsPrinted counts y.space.report
+tells_none x y h collect counts paused none unasked =
+    none ∙ sym (ap (λ b. printed y.space.report (counts && b)) (not_plain collect y.space.report.kind paused.kind) ∙ ap (printed y.space.report) unasked)
 
--- a call leaves the state, or steps
-left_or_stepped : (s : LargeState) (o : LargeOp) (r : LargeReply) → (large_after s o r ≡ s) ⊎ (large_after s o r ≡ (large_step s o).0)
-left_or_stepped s (large_op.Small (op.New dest shape)) (large_reply.Small reply.Full) = inl refl
-left_or_stepped s (large_op.Big dest blocks) large_reply.Full = inl refl
-left_or_stepped s o r = inr refl
+-- before the first pause nothing is told
+pub tells_no_pause : (counts : Bool) (r : Report) → r.told.items ≡ [] → r.kind ≡ kind.Plain → TellsPrinted counts r
+tells_no_pause true r none plain = none ∙ sym (ap (λ k. printed r (not (is_plain k))) plain)
+tells_no_pause false r none plain = none
 
--- a word that is put leaves the graph
-put_leaves : (s : LargeState) (i value : ℕ) (v : Option Name) → (put_to s i value v).0.small ≡ s.small
-put_leaves s i value None = refl
-put_leaves s i value (Some n) = at_word (word_in (body_of s.large n) i)
-  where
-    at_word : (found : Option ℕ) → (put_at s n i value found).0.small ≡ s.small
-    at_word None = refl
-    at_word (Some old) = refl
-
--- a step makes one object at most
-step_makes : (s : LargeState) (o : LargeOp) → 1 < length s.small.graph → MayBeCalled o → length (row_of (large_step s o).0.small.graph 1) ≤ length (row_of s.small.graph 1) + 1
-step_makes s (large_op.Small o) rows may = told_row _ _ (step s.small 1 o).1 (step_counts s.small o rows may.1).length
-step_makes s (large_op.Big dest blocks) rows may =
-    told_row _ _ (make s.small 1 dest (fresh handle) (next_name s.small.graph 1)).1 (make_counts s.small dest handle rows).length
-step_makes s (large_op.BigPut base index value) rows may =
-    let same = ap (λ (z : State). length (row_of z.graph 1)) (put_leaves s index value (register_at s.small 1 base)) in
-    omega (arith, same)
-step_makes s (large_op.BigGet base index) rows may = omega arith
-
--- so does a call
-call_makes : (s : LargeState) (o : LargeOp) (r : LargeReply) → 1 < length s.small.graph → MayBeCalled o → length (row_of (large_after s o r).small.graph 1) ≤ length (row_of s.small.graph 1) + 1
-call_makes s o r rows may = elim (left_or_stepped s o r) [
-  | inl left ↦ let same = ap (λ (z : LargeState). length (row_of z.small.graph 1)) left in omega (arith, same)
-  | inr stepped ↦
-      let same = ap (λ (z : LargeState). length (row_of z.small.graph 1)) stepped in
-      let one = step_makes s o rows may in
-      omega (arith, same, one)
-]
-
--- a heap has made as many objects as the thread's row has
-made_are : (x : Heap) (h : List LargeItem) → IsHeapOf x h → length (row_of (large_state h).small.graph 1) ≡ x.made
-made_are x h is = let serial = ap (λ (n : Name). n.serial) is.next in omega (arith, serial)
-
--- a call makes one at most
-pub called_makes : (x y : Heap) (h : List LargeItem) (o : LargeOp) (r : LargeReply) → IsHeapOf x h → IsHeapOf y (Called o r ∷ h) → MayBeCalled o → y.made ≤ x.made + 1
-called_makes x y h o r is then may =
-    let two = two_rows x.space (abstract_after h is.at) is.rests (one_thread x h is) in
-    let same = ap (λ (z : State). length z.graph) is.state in
-    let rows : 1 < length (large_state h).small.graph = omega (arith, two, same) in
-    let more = call_makes (large_state h) o r rows may in
-    let before = made_are x h is in
-    let after = made_are y (Called o r ∷ h) then in
-    omega (arith, more, before, after)
+-- where the counts are told that are printed, the report may be printed
+pub may_print : (y : Heap) (r : Report) (counts : Bool) → r ≡ y.space.report → TellsPrinted counts y.space.report → IsTrue (counts && not (is_plain r.kind)) → HasToldCounts r
+may_print y r counts is tells asked =
+    let same : TellsPrinted counts r = subst (TellsPrinted counts) (sym is) tells in
+    same ∙ ap (printed r) asked

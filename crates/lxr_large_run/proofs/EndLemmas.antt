@@ -2,6 +2,7 @@
 use Rattle.std.proofs.Common.{◌≡◌, ℕ, ◌+◌, ◌<◌, ◌≤◌, ◌∙◌, refl, sym, ap, subst, arith, List, [], ◌∷◌, suc, drop, drop-cons, drop_of_length-le, get_or, length, length-append, Option}
 use Rattle.std.proofs.lemmas.List.{append-nil}
 use Rattle.lxr_graph.specs.declared.Op.TheVariants as op
+use Rattle.lxr_graph.specs.History.{PauseReport}
 use Rattle.lxr_text_stream.specs.Streams.{Appends, AppendsFront}
 use Rattle.lxr_text_stream.proofs.StreamLemmas.{Appends-append, Appends-nil, AppendsFront-after}
 use Rattle.lxr_large_model.specs.declared.LargeOp.{LargeOp}
@@ -19,6 +20,7 @@ use Rattle.lxr_large_text.specs.Histories.{IsLargeHistory, called_in, replied_in
 use Rattle.lxr_large_text.specs.Texts.{large_reports_text}
 use Rattle.lxr_large_text.proofs.HistoryLemmas.{as_many, ends_fresh, has_done}
 use Rattle.lxr_large_run.specs.Playing.{IsPlaying, LargeTask}
+use Rattle.lxr_large_run.proofs.CallLemmas.{tells_no_pause}
 use Rattle.lxr_large_run.specs.Played.{IsCutLate, IsLeftByLarge, IsPlayed}
 
 -- ---- the beginning
@@ -33,6 +35,7 @@ begins task x blocks bodies os same script opened terms = record {
   causes = tt;
   replies = refl;
   text = Appends-nil task.written;
+  told = tells_no_pause task.counts x.space.report opened.untold (ap (λ (r : PauseReport). r.kind) opened.holds.rests.safepoint.numbers.report);
   pauses = let none = opened.holds.rests.safepoint.numbers.pauses in omega (arith, none);
   made = let none = opened.made in omega (arith, none);
 }
@@ -100,6 +103,7 @@ played task x written written' replies h p os rs same told printed = record {
   text = Appends-append task.written written written' (large_reports_text task.counts h) (large_text task.operations (replied_in h)) p.text
       (subst (λ (t : List ℕ). Appends written written' t) (same_text task x written replies h p os rs same told) printed);
   space_left = space_left task x written replies h p;
+  told = p.told;
 }
 
 -- or were cut off

@@ -17,8 +17,9 @@ use Rattle.lxr_large_text.specs.Histories.{CausesSoFar, called_in}
 use Rattle.lxr_large_text.specs.Texts.{large_reports_text}
 use Rattle.lxr_large_text.proofs.CauseLemmas.{any_call_may_come, asked_are_followed, pauses_are_made_for, unasked_owe_nothing}
 use Rattle.lxr_large_run.specs.Asking.{asked_by}
-use Rattle.lxr_large_run.specs.Playing.{HasCome, IsCutEarly, IsPlaying, LargeTask}
-use Rattle.lxr_large_run.proofs.CallLemmas.{asks_for, asks_none, called_makes, called_pauses, paused_pauses}
+use Rattle.lxr_large_run.specs.Playing.{HasCome, IsCutEarly, IsPlaying, LargeTask, TellsPrinted}
+use Rattle.lxr_heap.proofs.NumberLemmas.{called_makes, called_pauses, paused_pauses}
+use Rattle.lxr_large_run.proofs.CallLemmas.{asks_for, asks_none}
 
 -- ---- a call
 
@@ -33,6 +34,7 @@ module _ (task : LargeTask) (o : LargeOp) (rest : List LargeOp) (x : Heap) (writ
     causes = any_call_may_come task.terms h o r p.causes;
     replies = p.replies;
     text = p.text;
+    told = subst (TellsPrinted task.counts) (sym came.reported) p.told;
     pauses = let same = called_pauses x y h o r p.holds came.holds in let few = p.pauses in omega (arith, same, few);
     made = let more = called_makes x y h o r p.holds came.holds may in let few = p.made in omega (arith, more, few);
   }
@@ -44,8 +46,8 @@ module _ (task : LargeTask) (o : LargeOp) (rest : List LargeOp) (x : Heap) (writ
 
     -- and was done behind it
     pub came_behind : (z : Heap) (written' : Option (List ℕ)) (r : LargeReply) → MayBeCalled o → IsReplied y z (Paused (report_of y.space.report) ∷ h) o r
-        → Appends written written' (report_text task.counts (report_of y.space.report)) → HasCome task o rest r z written' replies (Paused (report_of y.space.report) ∷ h)
-    came_behind z written' r may came printed = record {
+        → Appends written written' (report_text task.counts (report_of y.space.report)) → TellsPrinted task.counts y.space.report → HasCome task o rest r z written' replies (Paused (report_of y.space.report) ∷ h)
+    came_behind z written' r may came printed tells = record {
       script = p.script;
       holds = came.holds;
       terms = came.terms ∙ paused.terms ∙ p.terms;
@@ -53,6 +55,7 @@ module _ (task : LargeTask) (o : LargeOp) (rest : List LargeOp) (x : Heap) (writ
       causes = follows r;
       replies = p.replies;
       text = Appends-append task.written written written' (large_reports_text task.counts h) (report_text task.counts (report_of y.space.report)) p.text printed;
+      told = subst (TellsPrinted task.counts) (sym came.reported) tells;
       pauses =
           let same = called_pauses y z (Paused (report_of y.space.report) ∷ h) o r paused.holds came.holds in
           let one = paused_pauses x y h collect p.holds paused in
@@ -100,6 +103,7 @@ module _ (task : LargeTask) (o : LargeOp) (rest : List LargeOp) (r : LargeReply)
     causes = unasked_owe_nothing task.terms k o r c.causes (asks_none o none);
     replies = ap (λ (rs : List LargeReply). rs ++ r ∷ []) c.replies;
     text = c.text;
+    told = c.told;
     pauses = let longer = one_longer replies r in let few = c.pauses in omega (arith, longer, few);
     made = let longer = one_longer replies r in let few = c.made in omega (arith, longer, few);
   }
@@ -109,9 +113,9 @@ module _ (task : LargeTask) (o : LargeOp) (rest : List LargeOp) (r : LargeReply)
     followed = asked_are_followed task.terms k o r (report_of y.space.report) c.causes (subst (AsksFor o) (sym paused.kind) (asks_for o collect asked))
 
     -- the pause that it asks for is made
-    pub goes_on_behind : (written' : Option (List ℕ)) → Appends written written' (report_text task.counts (report_of y.space.report))
+    pub goes_on_behind : (written' : Option (List ℕ)) → Appends written written' (report_text task.counts (report_of y.space.report)) → TellsPrinted task.counts y.space.report
         → IsPlaying task rest y written' (replies ++ r ∷ []) (Paused (report_of y.space.report) ∷ Called o r ∷ k)
-    goes_on_behind written' printed = record {
+    goes_on_behind written' printed tells = record {
       script = c.script;
       holds = paused.holds;
       terms = paused.terms ∙ c.terms;
@@ -119,6 +123,7 @@ module _ (task : LargeTask) (o : LargeOp) (rest : List LargeOp) (r : LargeReply)
       causes = followed;
       replies = ap (λ (rs : List LargeReply). rs ++ r ∷ []) c.replies;
       text = Appends-append task.written written written' (large_reports_text task.counts k) (report_text task.counts (report_of y.space.report)) c.text printed;
+      told = tells;
       pauses =
           let one = paused_pauses x y (Called o r ∷ k) collect c.holds paused in
           let longer = one_longer replies r in

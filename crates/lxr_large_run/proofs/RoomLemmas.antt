@@ -1,14 +1,12 @@
 -- Why a pause is made that nobody asked for: what is kept can leave no room where none is found, and the log is full of fields that were written.
-use Rattle.std.proofs.Common.{◌≡◌, ℕ, ◌-◌, ◌*◌, ◌/◌, ◌≤◌, ◌∙◌, refl, sym, ap, subst, inl, inr, arith, Bool, true, false, List, [], ◌∷◌, length, Some}
+use Rattle.std.proofs.Common.{◌≡◌, ℕ, ◌-◌, ◌/◌, ◌≤◌, ◌∙◌, sym, ap, subst, inl, inr, arith, Bool, true, false, List, [], ◌∷◌, Some}
 use Rattle.std.specs.Prelude.{◌||◌, IsTrue}
 use Rattle.std.proofs.lemmas.Bool.{or_cases, or_left, or_right}
 use Rattle.lxr_layout.specs.declared.Name.{Name}
 use Rattle.lxr_layout.specs.declared.Shape.{Shape}
-use Rattle.lxr_layout.specs.declared.limits.Limits.{Limits}
 use Rattle.lxr_layout.specs.Objects.{line_count}
 use Rattle.lxr_graph.specs.declared.Op.TheVariants as op
 use Rattle.lxr_graph.specs.declared.report.Kind.TheVariants as kind
-use Rattle.lxr_graph.specs.History.{report_of}
 use Rattle.lxr_graph.specs.Names.{has, union}
 use Rattle.lxr_graph.specs.State.{State, world_name}
 use Rattle.lxr_graph.proofs.NameSets.{in_without, same_names, union_cases, union_left, union_right, without_parts}
@@ -18,23 +16,23 @@ use Rattle.lxr_invariant.specs.Lines.{chosen_count}
 use Rattle.lxr_model.specs.Full.{LeaveNoRun}
 use Rattle.lxr_model.specs.Moments.{Moment}
 use Rattle.lxr_full.specs.Room.{HasWorld}
-use Rattle.lxr_full.proofs.RoomLemmas.{all_leave_no_run, log_is_written}
+use Rattle.lxr_full.proofs.RoomLemmas.{all_leave_no_run}
 use Rattle.lxr_large_model.specs.declared.LargeOp.{LargeOp}
 use Rattle.lxr_large_model.specs.declared.LargeOp.TheVariants as large_op
 use Rattle.lxr_large_model.specs.Full.{LargeTerms, LeaveNoBlocks, LeaveNoLines, body_slots, kept_names}
-use Rattle.lxr_large_model.specs.History.{LargeItem, Paused, large_moment, large_state}
+use Rattle.lxr_large_model.specs.History.{LargeItem, large_moment, large_state}
 use Rattle.lxr_large_model.specs.Pauses.{IsMadeFor}
 use Rattle.lxr_large_model.specs.State.{body_of as large_of, handle}
 use Rattle.lxr_large_bodies.specs.Bodies.{Body, body_of}
 use Rattle.lxr_heap.specs.declared.heap.Heap.{Heap}
-use Rattle.lxr_heap.specs.Acting.{FindsNoLog, FindsNoPlace, HasRun, MayBeCalled}
+use Rattle.lxr_heap.specs.Acting.{FindsNoLog, FindsNoPlace, HasRun, MayBeCalled, WantsPause}
 use Rattle.lxr_heap.specs.Holding.{IsHeapOf, abstract_after, terms_of}
-use Rattle.lxr_heap.specs.Pausing.{PausesHeap, kind_asked}
+use Rattle.lxr_heap.specs.Pausing.{kind_asked}
 use Rattle.lxr_heap.proofs.BlockLemmas.{found_all, found_named, found_whole, no_run_left, same_sums, slots_by}
 use Rattle.lxr_heap.proofs.BodyLemmas.{held_names, held_pass, words_same}
 use Rattle.lxr_heap.proofs.FullLemmas.{not_ours, of_thread, slots_words}
 use Rattle.lxr_heap.proofs.MomentLemmas.{none_chosen}
-use Rattle.lxr_large_run.specs.Asking.{WantsNoPause, WantsPause}
+use Rattle.lxr_heap.proofs.WantingLemmas.{log_room, logged_are}
 
 -- ---- no room
 
@@ -89,13 +87,6 @@ room_made x h is o may none = absurd none
 
 -- ---- a full log
 
--- the log has room for 1,024 entries
-log_room : (x : Heap) (h : List LargeItem) → IsHeapOf x h → x.space.limits.threads * x.space.limits.log ≡ 1024
-log_room x h is = ap (λ (l : Limits). l.threads * l.log) is.limits
-
-logged_are : (x : Heap) (h : List LargeItem) → (is : IsHeapOf x h) → length (large_moment h).written ≡ length x.space.logged.items
-logged_are x h is = log_is_written x.space (abstract_after h is.at) is.rests.safepoint
-
 -- a plain pause is made for what finds no room in the log
 log_made : (terms : LargeTerms) (x : Heap) (h : List LargeItem) → IsHeapOf x h → (o : LargeOp) → FindsNoLog x (large_moment h) o → IsMadeFor terms h kind.Plain o
 log_made terms x h is (large_op.Small (op.Store base i source)) log =
@@ -106,47 +97,9 @@ log_made terms x h is (large_op.Small (op.Store base i source)) log =
     omega (arith, full, few, room, same)
 log_made terms x h is o log = absurd log
 
--- ---- behind such a pause
-
-no_log : (x : Heap) (h : List LargeItem) → IsHeapOf x h → (large_moment h).written ≡ [] → (o : LargeOp) → FindsNoLog x (large_moment h) o → ⊥
-no_log x h is none (large_op.Small (op.Store base i source)) log =
-    let full = log.1 in
-    let room = log_room x h is in
-    let same = logged_are x h is in
-    let zero = ap length none in
-    absurd (omega (arith, full, room, same, zero))
-no_log x h is none o log = absurd log
-
--- what finds no room in the log makes nothing
-log_no_place : (x y : Heap) (m : Moment) (o : LargeOp) → FindsNoLog x m o → FindsNoPlace y o → ⊥
-log_no_place x y m (large_op.Small (op.New dest shape)) log place = log
-log_no_place x y m (large_op.Big dest blocks) log place = log
-log_no_place x y m o log place = place
-
--- behind a pause that collects nothing wants a pause
-fresh_wants_none : (x y : Heap) (h : List LargeItem) (o : LargeOp) → PausesHeap x y h true → WantsNoPause y (Paused (report_of y.space.report) ∷ h) o
-fresh_wants_none x y h o paused = record {
-  holds = paused.holds;
-  fresh = λ place. paused.holds.fresh.1 paused.kind;
-  logs = no_log y (Paused (report_of y.space.report) ∷ h) paused.holds refl o;
-}
-
--- nor does a store behind a plain one
-plain_wants_none : (x y : Heap) (h : List LargeItem) (o : LargeOp) → FindsNoLog x (large_moment h) o → PausesHeap x y h false → WantsNoPause y (Paused (report_of y.space.report) ∷ h) o
-plain_wants_none x y h o log paused = record {
-  holds = paused.holds;
-  fresh = λ place. absurd (log_no_place x y (large_moment h) o log place);
-  logs = no_log y (Paused (report_of y.space.report) ∷ h) paused.holds refl o;
-}
-
 -- ---- a pause that is wanted
 
 -- it is made for the operation
 pub wanted_made : (terms : LargeTerms) (x : Heap) (h : List LargeItem) → IsHeapOf x h → (o : LargeOp) (collect : Bool) → MayBeCalled o → terms_of x ≡ terms → WantsPause x h o collect → IsMadeFor terms h (kind_asked collect) o
 wanted_made terms x h is o true may same none = subst (λ t. IsMadeFor t h kind.Collect o) same (room_made x h is o may none)
 wanted_made terms x h is o false may same log = log_made terms x h is o log
-
--- and behind it the operation wants none
-pub wanted_wants_none : (x y : Heap) (h : List LargeItem) (o : LargeOp) (collect : Bool) → WantsPause x h o collect → PausesHeap x y h collect → WantsNoPause y (Paused (report_of y.space.report) ∷ h) o
-wanted_wants_none x y h o true none paused = fresh_wants_none x y h o paused
-wanted_wants_none x y h o false log paused = plain_wants_none x y h o log paused

@@ -14,7 +14,7 @@ use Rattle.lxr_heap.specs.Holding.{IsOpenedHeap, abstract_after, limits_of}
 use Rattle.lxr_large_text.specs.Histories.{IsLargeHistory}
 use Rattle.lxr_large_text.specs.Texts.{large_run_text}
 use Rattle.lxr_large_run.specs.declared.LargeRun.{LargeRun}
-use Rattle.lxr_large_run.specs.Playing.{IsCutEarly, LargeTask}
+use Rattle.lxr_large_run.specs.Playing.{IsCutEarly, LargeTask, TellsPrinted}
 
 -- A run that is ready: its heap has no history yet, of these blocks and of these for bodies, its script is one that can be read, and there is
 -- room for each reply.
@@ -34,12 +34,14 @@ pub record IsLeftByLarge (terms : LargeTerms) (h : List LargeItem) (space : Spac
   pub state : (large_moment h).state ≡ (large_state h).small
   pub reachable : (n : Name) → IsTrue (has (large_moment h).unreclaimed n) ↔ Reachable (large_moment h).state n
 
--- A script was played to its end: the text of one history of it was written, and the space is left by it.
+-- A script was played to its end: the text of one history of it was written, and the space is left by it, with the counts of its last pause told
+-- where they are printed.
 pub record IsPlayed (task : LargeTask) (written : Option (List ℕ)) (space : Space) : Type 0 where
   pub history : List LargeItem
   pub is_of : IsLargeHistory task.terms task.operations history
   pub text : Appends task.written written (large_run_text task.counts task.operations history)
   pub space_left : IsLeftByLarge task.terms history space
+  pub told : TellsPrinted task.counts space.report
 
 -- Playing was cut off as the replies were printed: a prefix of the text of a whole history was written.
 pub record IsCutLate (task : LargeTask) (written : Option (List ℕ)) : Type 0 where

@@ -1,6 +1,8 @@
 -- How far a script with large objects was played: what holds between its operations, and right behind a call.
-use Rattle.std.specs.Prelude.{◌≡◌, ℕ, ◌+◌, ◌*◌, ◌≤◌, Bool, Option, List, [], ◌∷◌, ◌++◌, length}
+use Rattle.std.specs.Prelude.{◌≡◌, ℕ, ◌+◌, ◌*◌, ◌≤◌, ◌&&◌, if◌then◌else◌, not, Bool, Option, List, [], ◌∷◌, ◌++◌, length}
+use Rattle.lxr_graph.specs.declared.report.Report.{Report}
 use Rattle.lxr_text_stream.specs.Streams.{Appends, AppendsFront}
+use Rattle.lxr_text_print.specs.Reports.{is_plain}
 use Rattle.lxr_large_model.specs.declared.LargeOp.{LargeOp}
 use Rattle.lxr_large_model.specs.declared.LargeReply.{LargeReply}
 use Rattle.lxr_large_model.specs.Full.{LargeTerms}
@@ -11,7 +13,7 @@ use Rattle.lxr_heap.specs.declared.heap.Heap.{Heap}
 use Rattle.lxr_heap.specs.Holding.{IsHeapOf, terms_of}
 use Rattle.lxr_large_text.specs.Histories.{EndsAtPause, IsLargeSoFar, called_in, replied_in, with_end}
 use Rattle.lxr_large_text.specs.Texts.{large_reports_text}
-use Rattle.lxr_large_run.specs.Asking.{WantsPause}
+use Rattle.lxr_heap.specs.Acting.{WantsPause}
 
 -- What playing begins with: how many blocks there are, whether counts are printed, the operations of the script, and what was written before it,
 -- where it is told.
@@ -21,8 +23,12 @@ pub record LargeTask : Type 0 where
   pub operations : List LargeOp
   pub written : Option (List ℕ)
 
+-- A report tells its counts where they are printed: where they are asked for, and the pause isn't plain. Else it tells none.
+abbrev pub TellsPrinted : Bool → Report → Type 0
+TellsPrinted counts r = r.told.items ≡ (if counts && not (is_plain r.kind) then r.counts.items else [])
+
 -- The script was played up to these operations: the heap is that of a history whose calls are those before them, nothing is owed to it, its
--- replies are kept, and its reports were written. Two pauses at most were made for each call, and one object.
+-- replies are kept, its reports were written, and the last one tells the counts that are printed. Two pauses at most were made for each call, and one object.
 pub record IsPlaying (task : LargeTask) (rest : List LargeOp) (x : Heap) (written : Option (List ℕ)) (kept : List LargeReply) (h : List LargeItem) : Type 0 where
   pub script : IsLargeScript task.operations
   pub holds : IsHeapOf x h
@@ -31,6 +37,7 @@ pub record IsPlaying (task : LargeTask) (rest : List LargeOp) (x : Heap) (writte
   pub causes : PausesHaveCauses task.terms [] h
   pub replies : replied_in h ≡ kept
   pub text : Appends task.written written (large_reports_text task.counts h)
+  pub told : TellsPrinted task.counts x.space.report
   pub pauses : x.space.pauses ≤ 2 * length kept
   pub made : x.made ≤ length kept
 
@@ -44,6 +51,7 @@ pub record HasCome (task : LargeTask) (o : LargeOp) (rest : List LargeOp) (r : L
   pub causes : PausesHaveCauses task.terms (Called o r ∷ []) k
   pub replies : replied_in k ≡ kept
   pub text : Appends task.written written (large_reports_text task.counts k)
+  pub told : TellsPrinted task.counts x.space.report
   pub pauses : x.space.pauses ≤ 2 * length kept + 1
   pub made : x.made ≤ length kept + 1
 

@@ -1,18 +1,17 @@
 //! The operations of a script, one by one, with the pauses before and behind them.
-ghost use Rattle.std.specs.Prelude.{◌≡◌, ℕ, ◌+◌, ◌-◌, ◌^◌, ◌<◌, ◌≤◌, [], ◌∷◌, ◌&&◌, Bool, IsTrue, List, IfOk, OnErr, OnOk, length};
-ghost use Rattle.lxr_graph.specs.History.{HasToldCounts, report_of};
+ghost use Rattle.std.specs.Prelude.{◌≡◌, ℕ, ◌+◌, ◌-◌, ◌^◌, ◌<◌, ◌≤◌, [], ◌∷◌, List, IfOk, OnErr, OnOk, length};
+ghost use Rattle.lxr_graph.specs.History.{report_of};
 ghost use Rattle.lxr_text_print.specs.Reports.{report_text};
 ghost use Rattle.lxr_text_stream.specs.Streams.{Appends, AppendsFront, Rose};
 ghost use Rattle.lxr_large_model.specs.declared.LargeOp.{LargeOp as LargeOpOf};
 ghost use Rattle.lxr_large_model.specs.History.{LargeItem};
 ghost use Rattle.lxr_large_text.specs.Limits.{IsLargeScript};
-ghost use Rattle.lxr_heap.specs.Acting.{IsReplied, MayBeCalled};
+ghost use Rattle.lxr_heap.specs.Acting.{IsReplied, MayBeCalled, WantsNoPause, WantsPause};
 ghost use Rattle.lxr_heap.specs.Holding.{IsHeapOf};
 ghost use Rattle.lxr_heap.specs.Pausing.{PausesHeap};
 ghost use Rattle.lxr_large_text.specs.Histories.{with_end};
 ghost use Rattle.lxr_large_run.specs.Asking as asking;
-ghost use Rattle.lxr_large_run.specs.Asking.{WantsNoPause, WantsPause};
-ghost use Rattle.lxr_large_run.specs.Playing.{HasCome, IsCutEarly, IsPlaying, LargeTask, SomeIsPlaying, SomeWantsPause};
+ghost use Rattle.lxr_large_run.specs.Playing.{HasCome, IsCutEarly, IsPlaying, LargeTask, SomeIsPlaying, SomeWantsPause, TellsPrinted};
 
 use lxr_base::Listed;
 use lxr_graph::Op;
@@ -25,7 +24,7 @@ use lxr_text_stream::{Sink, WriteError};
 fn pause_and_tell(heap: &mut LargeHeap, collect: bool, counts: bool)
     requires number { heap.old.space.pauses + 1 < 2 ^ 32 }
     ensures pauses { (h : List LargeItem) → IsHeapOf heap.old h → PausesHeap heap.old heap.new h collect }
-    ensures told { (h : List LargeItem) → IsHeapOf heap.old h → IsTrue (counts && collect) → HasToldCounts heap.new.space.report }
+    ensures told { (h : List LargeItem) → IsHeapOf heap.old h → TellsPrinted counts heap.new.space.report }
 {
     heap.pause(collect);
     if counts && collect {
@@ -43,6 +42,7 @@ fn pause<O: Sink>(
     requires holds { (h : List LargeItem) × IsHeapOf heap.old h }
     requires number { heap.old.space.pauses + 1 < 2 ^ 32 }
     ensures pauses { (h : List LargeItem) → IsHeapOf heap.old h → PausesHeap heap.old heap.new h collect }
+    ensures told { (h : List LargeItem) → IsHeapOf heap.old h → TellsPrinted counts heap.new.space.report }
     ensures ok { OnOk result (Appends (O.written output.old) (O.written output.new) (report_text counts (report_of heap.new.space.report))) }
     ensures err { OnErr result (AppendsFront (O.written output.old) (O.written output.new) (report_text counts (report_of heap.new.space.report))) }
     ensures faults { O.faults output.old ≤ O.faults output.new }

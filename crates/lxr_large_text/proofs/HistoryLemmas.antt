@@ -1,14 +1,12 @@
--- What a history of a script says by its calls: how many replies it has, that calls count no pause, and that a whole one ends with a pause that collects.
+-- What a history of a script says by its calls: how many replies it has, and that a whole one ends with a pause that collects.
 use Rattle.std.proofs.Common.{◌≡◌, ◌+◌, ◌∙◌, refl, sym, ap, subst, inl, inr, arith, List, [], ◌∷◌, ◌++◌, length, length-append}
 use Rattle.lxr_graph.specs.declared.Op.TheVariants as op
 use Rattle.lxr_graph.specs.declared.report.Kind.{Kind}
 use Rattle.lxr_graph.specs.declared.report.Kind.TheVariants as kind
 use Rattle.lxr_large_model.specs.declared.LargeOp.{LargeOp}
 use Rattle.lxr_large_model.specs.declared.LargeOp.TheVariants as large_op
-use Rattle.lxr_large_model.specs.declared.LargeReply.{LargeReply}
-use Rattle.lxr_large_model.specs.declared.LargeReply.TheVariants as large_reply
 use Rattle.lxr_large_model.specs.Full.{IsFresh, LargeTerms}
-use Rattle.lxr_large_model.specs.History.{LargeItem, Called, Paused, Renewed, large_moment}
+use Rattle.lxr_large_model.specs.History.{LargeItem, Called, Paused, Renewed}
 use Rattle.lxr_large_model.specs.Pauses.{AsksFor, WasAskedFor}
 use Rattle.lxr_large_text.specs.Histories.{IsLargeHistory, called_in, replied_in, with_end}
 
@@ -29,12 +27,6 @@ has_done h o rest operations is =
     let a = length-append (called_in h) (o ∷ rest) in
     let b = length-append operations (large_op.Small op.End ∷ []) in
     omega (arith, same, all, a, b)
-
--- a call counts no pause
-pub same_number : (o : LargeOp) (r : LargeReply) (h : List LargeItem) → (large_moment (Called o r ∷ h)).number ≡ (large_moment h).number
-same_number (large_op.Small o) (large_reply.Small r) h = refl
-same_number (large_op.Big dest blocks) (large_reply.Big n) h = refl
-same_number o r h = refl
 
 -- ---- the end
 

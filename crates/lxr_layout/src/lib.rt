@@ -9,11 +9,13 @@ ghost use Rattle.std.specs.Prelude.{◌≡◌, ◌↔◌, ◌<◌, ◌≤◌, Is
 ghost use Rattle.lxr_layout.specs.Objects.{FitsShape, header_of, header_word, line_count, moved_word, word_count};
 ghost use Rattle.lxr_layout.specs.Places.{IsPlace, block_at, field_word as field_at, first_word, granule_of, line_at, place_at};
 
+mod fields;
 mod laws;
 mod limits;
 mod runs;
 mod spaces;
 
+pub use fields::MOST_FIELDS;
 pub use laws::constants_have_numbers;
 pub use limits::{Limits, Regions};
 pub use runs::{LogEntry, Run, entry_of, entry_word, run_of, run_word};
@@ -125,11 +127,11 @@ pub enum Header {
     Moved(Place),
 }
 
-/// Whether an object of this shape can be made: at most 1,023 references and at most 1,023 data words.
+/// Whether an object of this shape can be made: at most [`MOST_FIELDS`] references and at most as many data words.
 pub fn fits_shape(shape: Shape) -> bool
     ensures { IsTrue result ↔ FitsShape shape }
 {
-    shape.refs <= 1023 && shape.values <= 1023
+    shape.refs <= MOST_FIELDS && shape.values <= MOST_FIELDS
 }
 
 /// The words of an object with its header, rounded up to an even number.

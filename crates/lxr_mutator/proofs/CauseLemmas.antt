@@ -71,13 +71,13 @@ found_full x old (s, is, end) =
 -- the last of its turns
 module _ (m x : Mutating) (old : ℕ) (since : x.since ≡ m.since) (every : x.every ≡ m.every) (more : x.phase ≢ phase.Finished) where
   last_turn : (to : Mutating) → StepsByRule x old to → rests_in to.phase ≡ true → to.since ≡ m.since + 1 → m.every ≤ to.since → to.end ≡ Some ends.Turns
-  last_turn to (goes_on y rests still same) rest one last = absurd (cc)
+  last_turn to (goes_on log registers spans p busy) rest one last = absurd (cc)
   last_turn to (finds_asked ready is) rest one last = absurd (omega (arith, one, since))
   last_turn to (finds_end ready unasked is) rest one last = absurd (omega (arith, one, since))
   last_turn to (gave_up why is) rest one last = absurd (omega (arith, one, since))
-  last_turn to (does_one doing r still same) rest one last = elim (leb_tells doing.every (doing.since + 1)) [
+  last_turn to (does_one log registers r) rest one last = elim (leb_tells x.every (x.since + 1)) [
     | inl q ↦ ap (λ b. Some (if b then ends.Turns else ends.OpDone r)) q.0
-    | inr q ↦ (let less = q.1 in absurd (omega (arith, less, same, every, last)))
+    | inr q ↦ (let less = q.1 in absurd (omega (arith, less, every, last)))
   ]
   last_turn to (stands_still is) rest one last = absurd (more is)
 

@@ -7,6 +7,7 @@ pub mod PlacedLemmas
 pub mod NearerLemmas
 pub mod LengthLemmas
 pub mod RuleLemmas
+pub mod RegisterLemmas
 pub mod StayLemmas
 pub mod StepLemmas
 pub mod UnitLemmas

@@ -1,28 +1,35 @@
 -- Each step brings a mutator nearer to the end of its unit.
-use Rattle.std.proofs.Common.{◌≡◌, ℕ, ◌+◌, ◌<◌, ◌≤◌, Bool, true, false, arith, refl, ap}
-use Rattle.std.specs.Prelude.{nat_le, nat_eq, ◌&&◌, if◌then◌else◌, None}
+use Rattle.std.proofs.Common.{◌≡◌, ℕ, ◌+◌, ◌-◌, ◌<◌, ◌≤◌, Bool, true, false, arith, refl, ap}
+use Rattle.std.specs.Prelude.{nat_le, nat_lt, nat_eq, ◌&&◌, if◌then◌else◌, None, Some}
 use Rattle.lxr_tables.specs.Entries.{is_set}
 use Rattle.lxr_layout.specs.declared.TheConstants.{GRANULES_IN_BLOCK}
 use Rattle.lxr_layout.specs.declared.Place.{Place}
 use Rattle.lxr_layout.specs.declared.LogEntry.{LogEntry}
 use Rattle.lxr_layout.specs.declared.Shape.{Shape}
-use Rattle.lxr_layout.specs.Objects.{word_count}
+use Rattle.lxr_layout.specs.Objects.{header_of, word_count}
+use Rattle.lxr_layout.specs.Places.{place_in}
 use Rattle.lxr_base.specs.Roomy.{Roomy}
 use Rattle.lxr_graph.specs.declared.Op.{Op}
 use Rattle.lxr_graph.specs.declared.Op.TheVariants as op
 use Rattle.lxr_graph.specs.declared.Reply.{Reply}
 use Rattle.lxr_graph.specs.declared.Reply.TheVariants as reply
 use Rattle.lxr_actor.specs.Machine.{to_go}
+use Rattle.lxr_alloc.specs.declared.Span.{Span}
+use Rattle.lxr_alloc.specs.Spans.{block_span}
 use Rattle.lxr_barrier.specs.declared.machines.StorePhase.{StorePhase}
 use Rattle.lxr_barrier.specs.declared.machines.StorePhase.TheVariants as store_phase
 use Rattle.lxr_barrier.specs.declared.StoreEnd.TheVariants as store_end
 use Rattle.lxr_barrier.specs.Storing.{Storing, end_in, end_of, phase_after, store_after, log_after, is_full, bit_number}
 use Rattle.lxr_barrier.specs.Storers.{steps_left}
+use Rattle.lxr_mutator.specs.declared.phases.MutatorPhase.{MutatorPhase}
 use Rattle.lxr_mutator.specs.declared.phases.MutatorPhase.TheVariants as phase
 use Rattle.lxr_mutator.specs.declared.phases.MutEnd.TheVariants as ends
-use Rattle.lxr_mutator.specs.Operating.{dest_of, found_reply}
-use Rattle.lxr_mutator.specs.Mutating.{Mutating, nil, op_now, register, rests_in}
-use Rattle.lxr_mutator.specs.Steps.{accepts_in, after_in, based, done_with, draws_for, finished, has_room, in_current, in_overflow, is_medium, left_in, loaded, mutator_machine, next_in, shape_now, started, stored, with_register}
+use Rattle.lxr_mutator.specs.declared.phases.Stop.TheVariants as stop
+use Rattle.lxr_mutator.specs.Operating.{asked_reply, dest_of, found_reply, index_of, indexed_fields}
+use Rattle.lxr_mutator.specs.Mutating.{Mutating, next_name, nil, op_now, register, rests_in}
+use Rattle.lxr_mutator.specs.Steps.{accepts_in, action, action_in, after, after_in, based, done_with, draws_for, finished, has_room, in_current, in_overflow, is_medium, left_in, loaded, mutator_machine, name_told, next_in, reaching, shape_now, shape_told, started, stored, with_register}
+use Rattle.lxr_mutator.specs.Mutators.{IsMutator, MayBeIn}
+use Rattle.lxr_mutator.proofs.NowLemmas.{few_words}
 
 -- an operation that is done leaves nothing to do
 rests_either : (m : Mutating) (b : Bool) → (if rests_in (if b then phase.Finished else phase.Ready) then 0 else left_in m (if b then phase.Finished else phase.Ready)) ≡ 0
@@ -129,3 +136,77 @@ storing_by m s old e false = omega (arith, done_to_go m reply.Bad)
 -- a step of a store brings the mutator nearer
 pub storing_nearer : (m : Mutating) (s : Storing) (old : ℕ) → end_of s ≡ None → to_go mutator_machine (next_in m (phase.Storing s) old) < steps_left s.phase + 1
 storing_nearer m s old e = storing_by m s old e (accepts_in m (phase.Storing s) old)
+
+-- ---- any step
+
+-- where the operation goes on at a field, at most five steps are left
+reaching_to_go : (m : Mutating) (base : Place) (shape : Shape) (o : Op) → to_go mutator_machine (record m { phase = reaching m base shape o }) < 6
+reaching_to_go m base shape (op.Load dest b index) = omega arith
+reaching_to_go m base shape (op.Store b index source) = omega arith
+reaching_to_go m base shape (op.Put b index value) = omega arith
+reaching_to_go m base shape (op.Get b index) = omega arith
+reaching_to_go m base shape (op.Swap dest b index source) = omega arith
+reaching_to_go m base shape (op.Add b index value) = omega arith
+reaching_to_go m base shape o = omega arith
+
+reached_by : (m : Mutating) (base : Place) (shape : Shape) (b : Bool) → to_go mutator_machine (if b then record m { phase = reaching m base shape (op_now m) } else done_with m reply.Range) < 6
+reached_by m base shape true = reaching_to_go m base shape (op_now m)
+reached_by m base shape false = omega (arith, done_to_go m reply.Range)
+
+-- there is a run of this number or not
+run_by : (m : Mutating) (number : ℕ) (b : Bool) → to_go mutator_machine (record m { phase = if b then phase.Run number else phase.DrawsBlock }) < 2052
+run_by m number true = omega arith
+run_by m number false = omega arith
+
+-- there is a block of this number or not
+block_by : (m : Mutating) (number : ℕ) (b : Bool) → to_go mutator_machine (record m { phase = if b then phase.Block number else phase.GivingUp stop.NoRun }) < 2050
+block_by m number true = omega arith
+block_by m number false = omega arith
+
+-- an object in a drawn block, in either span
+in_block_by : (m : Mutating) (shape : Shape) (span : Span) → word_count (shape_now m) ≤ GRANULES_IN_BLOCK → (b : Bool) → to_go mutator_machine (if b then in_overflow m shape span else in_current m shape span) < 2049
+in_block_by m shape span few true = omega arith
+in_block_by m shape span few false = omega arith
+
+-- there is a further word to wipe or not
+wiped_by : (m : Mutating) (place : Place) (next : ℕ) → next < word_count (shape_now m) → (b : Bool) → nat_lt (next + 1) (word_count (shape_now m)) ≡ b
+    → to_go mutator_machine (record m { phase = if b then phase.Wiping place (next + 1) else phase.Heading place }) < word_count (shape_now m) - next + 1
+wiped_by m place next below true e = omega arith
+wiped_by m place next below false e = omega arith
+
+-- where the word tells what the phase looks for
+nearer_in : (m : Mutating) (old : ℕ) (p : MutatorPhase) → MayBeIn m p → word_count (shape_now m) ≤ GRANULES_IN_BLOCK → (action_in m p ≡ None → ⊥) → to_go mutator_machine (after_in m p old) < left_in m p
+nearer_in m old phase.Ready may few some = ready_nearer m old few
+nearer_in m old phase.Finished may few some = absurd (some refl)
+nearer_in m old (phase.Base base) may few some = reached_by m base (shape_told (header_of old)) (nat_lt (index_of (op_now m)) (indexed_fields (op_now m) (shape_told (header_of old))))
+nearer_in m old (phase.Reference base) may few some = omega (arith, found_to_go m (place_in old))
+nearer_in m old (phase.Referent place) may few some = omega (arith, done_to_go m (found_reply (op_now m) (Some (name_told (header_of old)))))
+nearer_in m old (phase.Datum base refs) may few some = omega (arith, done_to_go m (reply.Got old))
+nearer_in m old (phase.Putting base refs) may few some = omega (arith, done_to_go m reply.Put)
+nearer_in m old (phase.Adding base refs) may few some = omega (arith, done_to_go m (reply.Added old))
+nearer_in m old (phase.Storing s) may few some = storing_by m s old may.1 true
+nearer_in m old phase.DrawsRun may few some = omega arith
+nearer_in m old (phase.RunNumber number) may few some = run_by m number (nat_lt number old)
+nearer_in m old (phase.Run number) may few some = omega (arith, few)
+nearer_in m old phase.DrawsBlock may few some = omega arith
+nearer_in m old (phase.BlockNumber number) may few some = block_by m number (nat_lt number old)
+nearer_in m old (phase.Block number) may few some = in_block_by m (shape_now m) (block_span old) few (is_medium (shape_now m))
+nearer_in m old (phase.Wiping place next) may few some = wiped_by m place next may.1.1 (nat_lt (next + 1) (word_count (shape_now m))) refl
+nearer_in m old (phase.Heading place) may few some = omega (arith, done_to_go (with_register m (dest_of (op_now m)) place) (reply.New (next_name m)))
+nearer_in m old phase.Asking may few some = omega (arith, done_to_go m (asked_reply (op_now m)))
+nearer_in m old (phase.GivingUp why) may few some = omega arith
+
+-- some steps are left where there is a next one
+some_left : (m : Mutating) (p : MutatorPhase) → (action_in m p ≡ None → ⊥) → 0 < left_in m p
+some_left m phase.Finished some = absurd (some refl)
+some_left m p some = omega arith
+
+-- whether or not it does
+read_nearer : (m : Mutating) (old : ℕ) (p : MutatorPhase) → MayBeIn m p → word_count (shape_now m) ≤ GRANULES_IN_BLOCK → (action_in m p ≡ None → ⊥) → (b : Bool)
+    → to_go mutator_machine (if b then after_in m p old else done_with m reply.Bad) < left_in m p
+read_nearer m old p may few some true = nearer_in m old p may few some
+read_nearer m old p may few some false = omega (arith, done_to_go m reply.Bad, some_left m p some)
+
+-- each step of a mutator does so
+pub step_nearer : (m : Mutating) (old : ℕ) → IsMutator m → (action m ≡ None → ⊥) → to_go mutator_machine (after m old) < left_in m m.phase
+step_nearer m old is some = read_nearer m old m.phase is.phase (few_words m is) some (accepts_in m m.phase old)

@@ -26,7 +26,7 @@ formed_at (o ∷ os) (suc i) all = formed_at os i (All-tail IsOperation o os all
 
 -- its registers are below 16, and its shape fits
 pub formed_now : (m : Mutating) → IsMutator m → IsWellFormed (op_now m)
-formed_now m is = formed_at m.operations _ is.operations
+formed_now m is = formed_at m.operations _ is.setup.operations
 
 -- so does the shape that it makes
 pub shape_fits : (o : Op) → IsWellFormed o → FitsShape (shape_made o)

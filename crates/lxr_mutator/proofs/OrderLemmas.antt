@@ -55,16 +55,17 @@ module _ (m : Mutating) (o : Op) where
   with_order_stays may is =
       let more = length-append m.operations (o ∷ []) in
       record {
-        thread = is.thread;
-        operations = All-append IsOperation m.operations (o ∷ []) is.operations (All-cons IsOperation o [] may.operation (All-nil IsOperation));
-        few = let few = may.few in omega (arith, more, few);
-        every = is.every;
+        setup = record {
+          thread = is.setup.thread;
+          operations = All-append IsOperation m.operations (o ∷ []) is.setup.operations (All-cons IsOperation o [] may.operation (All-nil IsOperation));
+          few = let few = may.few in omega (arith, more, few);
+          room = let room = may.room in omega (arith, more, room);
+          indexes = is.setup.indexes;
+          every = is.setup.every;
+          before = is.setup.before;
+        };
         registers = is.registers;
-        held = is.held;
         spans = is.spans;
-        before = is.before;
-        indexes = is.indexes;
-        room = let room = may.room in omega (arith, more, room);
         few_replies = let few = is.few_replies in omega (arith, more, few);
         replies = elim is.replies [ inl through ↦ inl through | inr few ↦ inr (omega (arith, more, few)) ];
         busy = λ e. (let few = is.busy e in omega (arith, more, few));

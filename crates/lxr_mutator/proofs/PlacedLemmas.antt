@@ -35,16 +35,9 @@ run_filled m taken after shape span place t p a =
 -- with an object placed, it is a mutator still
 pub placed_is_mutator : (m : Mutating) (shape : Shape) (span : Span) → IsMutator m → rests_in m.phase ≡ false → FitsSpan span shape → span.end ≤ MOST_GRANULES → IsMutator (in_current m shape span)
 placed_is_mutator m shape span is busy room within = record {
-  thread = is.thread;
-  operations = is.operations;
-  few = is.few;
-  every = is.every;
+  setup = is.setup;
   registers = is.registers;
-  held = is.held;
   spans = (within, is.spans.1);
-  before = is.before;
-  indexes = is.indexes;
-  room = is.room;
   few_replies = is.few_replies;
   replies = inr (let n = is.busy busy in omega arith);
   busy = λ e. is.busy busy;

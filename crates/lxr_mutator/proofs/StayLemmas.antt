@@ -1,9 +1,7 @@
 -- Each step leaves a mutator one.
 use Rattle.std.proofs.Common.{◌≡◌, ◌≢◌, ℕ, zero, suc, ◌+◌, ◌<◌, ◌≤◌, ◌⊎◌, List, [], ◌∷◌, Bool, true, false, arith, refl, sym, subst, ap, Some, None, Option, inl, inr, length, ◌∙◌, length-append}
 use Rattle.std.specs.Prelude.{◌&&◌, IsTrue, nat_eq, nat_le, nat_lt, if◌then◌else◌, slice_set, slice_index_or}
-use Rattle.std.specs.List.{All}
-use Rattle.std.proofs.lemmas.List.Elements.{All-set, All-replicate, All-get_or}
-use Rattle.std.proofs.Math.ListN.{length-set}
+use Rattle.std.proofs.lemmas.List.Elements.{All-get_or}
 use Rattle.lxr_layout.specs.declared.TheConstants.{MOST_BLOCKS, MOST_GRANULES}
 use Rattle.lxr_tables.specs.Entries.{is_set}
 use Rattle.lxr_layout.specs.declared.Place.{Place}
@@ -36,10 +34,11 @@ use Rattle.lxr_mutator.specs.declared.phases.Stop.TheVariants as stop
 use Rattle.lxr_mutator.specs.Operating.{dest_of, found_reply, indexed_fields, index_of, shape_made}
 use Rattle.lxr_mutator.specs.Mutating.{Mutating, next_name, nil, op_now, register, rests_in}
 use Rattle.lxr_mutator.specs.Steps.{accepts_in, after_in, done_with, draws_for, end_by, ended, finished, has_room, in_current, in_overflow, is_medium, loaded, placed, reaching, run_in, shape_now, shape_told, started, stored, with_register}
-use Rattle.lxr_mutator.specs.Mutators.{AreInHeap, IsHeld, IsIn, IsMutator, IsThrough, MayBeIn, NeedsBlock, NeedsRun}
+use Rattle.lxr_mutator.specs.Mutators.{AreInHeap, AreRegisters, IsHeld, IsIn, IsMutator, IsThrough, MayBeIn, NeedsBlock, NeedsRun}
 use Rattle.lxr_mutator.specs.Laws.{MutatorsStaySo}
 use Rattle.lxr_mutator.proofs.NowLemmas.{few_words, formed_now}
 use Rattle.lxr_mutator.proofs.PlacedLemmas.{front_is_place, run_in_heap}
+use Rattle.lxr_mutator.proofs.RegisterLemmas.{registers_cleared, registers_set}
 use Rattle.lxr_mutator.proofs.RunLemmas.{FitsRun, fits_run}
 
 -- it may still do an operation, one that is not the end
@@ -49,19 +48,12 @@ pub record GoesOn (m : Mutating) : Type 0 where
 
 -- it goes on in another phase, with another log, other registers and other spans
 pub goes_on : (m : Mutating) (log : Roomy LogEntry) (registers : List Place) (spans : Spans) (p : MutatorPhase) → IsMutator m → GoesOn m
-    → length registers ≡ 16 → All IsHeld registers → AreInHeap spans → IsIn m.regions log spans (shape_now m) p
+    → AreRegisters registers → AreInHeap spans → IsIn m.regions log spans (shape_now m) p
     → IsMutator (record m { log = log; registers = registers; spans = spans; phase = p })
-goes_on m log registers spans p is on sixteen held heap may = record {
-  thread = is.thread;
-  operations = is.operations;
-  few = is.few;
-  every = is.every;
-  registers = sixteen;
-  held = held;
+goes_on m log registers spans p is on are heap may = record {
+  setup = is.setup;
+  registers = are;
   spans = heap;
-  before = is.before;
-  indexes = is.indexes;
-  room = is.room;
   few_replies = is.few_replies;
   replies = inr (let n = on.operation in omega arith);
   busy = λ e. on.operation;
@@ -74,16 +66,9 @@ goes_on m log registers spans p is on sixteen held heap may = record {
 done_by : (m : Mutating) (r : Reply) (b : Bool) → nat_le m.every (m.since + 1) ≡ b → IsMutator m → GoesOn m → length (done_with m r).replies.items ≡ length m.replies.items + 1
     → IsMutator (record (done_with m r) { phase = if b then phase.Finished else phase.Ready; end = Some (if b then ends.Turns else ends.OpDone r) })
 done_by m r true e is on one = record {
-  thread = is.thread;
-  operations = is.operations;
-  few = is.few;
-  every = is.every;
+  setup = is.setup;
   registers = is.registers;
-  held = is.held;
   spans = is.spans;
-  before = is.before;
-  indexes = is.indexes;
-  room = is.room;
   few_replies = (let n = on.operation in omega arith);
   replies = inr (let n = on.operation in omega arith);
   busy = λ q. absurd (cc);
@@ -92,16 +77,9 @@ done_by m r true e is on one = record {
   phase = tt;
 }
 done_by m r false e is on one = record {
-  thread = is.thread;
-  operations = is.operations;
-  few = is.few;
-  every = is.every;
+  setup = is.setup;
   registers = is.registers;
-  held = is.held;
   spans = is.spans;
-  before = is.before;
-  indexes = is.indexes;
-  room = is.room;
   few_replies = (let n = on.operation in omega arith);
   replies = inr (let n = on.operation in omega arith);
   busy = λ q. absurd (cc);
@@ -122,16 +100,9 @@ not_through m turn (inr few) = few
 -- its unit ends without a reply
 pub finish_stays : (m : Mutating) (how : MutEnd) → IsMutator m → m.phase ≢ phase.Finished → (how ≡ ends.NoRun → length m.replies.items < length m.operations) → IsMutator (finished m how)
 finish_stays m how is turn waits = record {
-  thread = is.thread;
-  operations = is.operations;
-  few = is.few;
-  every = is.every;
+  setup = is.setup;
   registers = is.registers;
-  held = is.held;
   spans = is.spans;
-  before = is.before;
-  indexes = is.indexes;
-  room = is.room;
   few_replies = is.few_replies;
   replies = inr (not_through m turn is.replies);
   busy = λ q. absurd (cc);
@@ -143,16 +114,9 @@ finish_stays m how is turn waits = record {
 -- its end is done
 pub end_stays : (m : Mutating) → IsMutator m → m.phase ≢ phase.Finished → IsMutator (ended m)
 end_stays m is turn = let few = not_through m turn is.replies in record {
-  thread = is.thread;
-  operations = is.operations;
-  few = is.few;
-  every = is.every;
-  registers = refl;
-  held = All-replicate IsHeld 16 nil (omega arith);
+  setup = is.setup;
+  registers = registers_cleared;
   spans = is.spans;
-  before = is.before;
-  indexes = is.indexes;
-  room = is.room;
   few_replies = omega (arith, length-append m.replies.items (reply.Ended ∷ []));
   replies = inl (refl, refl);
   busy = λ q. absurd (cc);
@@ -169,12 +133,12 @@ on_busy m p is e busy =
 
 -- it goes on in another phase
 go : (m : Mutating) (p : MutatorPhase) → IsMutator m → GoesOn m → MayBeIn m p → IsMutator (record m { phase = p })
-go m p is on may = goes_on m m.log m.registers m.spans p is on is.registers is.held is.spans may
+go m p is on may = goes_on m m.log m.registers m.spans p is on is.registers is.spans may
 
 -- with another register
 register_stays : (m : Mutating) (r : ℕ) (place : Place) → IsMutator m → GoesOn m → IsHeld place → IsMutator (with_register m r place)
 register_stays m r place is on held =
-    goes_on m m.log (slice_set m.registers r place) m.spans m.phase is on (length-set m.registers r place ∙ is.registers) (All-set IsHeld m.registers r place held is.held) is.spans is.phase
+    goes_on m m.log (slice_set m.registers r place) m.spans m.phase is on (registers_set m.registers r place is.registers held) is.spans is.phase
 
 -- it goes on as before
 register_on : (m : Mutating) (r : ℕ) (place : Place) → GoesOn m → GoesOn (with_register m r place)
@@ -182,7 +146,7 @@ register_on m r place on = record { turn = on.turn; operation = on.operation }
 
 -- what a register holds is nil or a place
 register_held : (m : Mutating) (r : ℕ) → IsMutator m → r < 16 → IsHeld (register m r)
-register_held m r is lt = All-get_or IsHeld m.registers r nil (subst (λ n. r < n) (sym is.registers) lt) is.held
+register_held m r is lt = All-get_or IsHeld m.registers r nil (subst (λ n. r < n) (sym is.registers.sixteen) lt) is.registers.held
 
 -- an operation on a base is done or looks at its header
 based_stays : (m : Mutating) (base : Place) → IsMutator m → GoesOn m → IsHeld base → (b : Bool) → nat_eq base.0 0 ≡ b
@@ -227,13 +191,13 @@ reached_stays m base shape is on at false = done_stays m reply.Range is on
 -- an object is placed at the front of a span
 current_stays : (m : Mutating) (shape : Shape) (span : Span) → IsMutator m → GoesOn m → FitsSpan span shape → span.end ≤ MOST_GRANULES → 1 < word_count (shape_now m) → IsMutator (in_current m shape span)
 current_stays m shape span is on room within words =
-    goes_on m m.log m.registers (record m.spans { current = taken_from span shape }) (phase.Wiping (front_of span) 1) is on is.registers is.held (within, is.spans.1)
+    goes_on m m.log m.registers (record m.spans { current = taken_from span shape }) (phase.Wiping (front_of span) 1) is on is.registers (within, is.spans.1)
     (front_is_place span shape room within, (omega arith, words))
 
 -- so it is in the overflow span
 overflow_stays : (m : Mutating) (shape : Shape) (span : Span) → IsMutator m → GoesOn m → FitsSpan span shape → span.end ≤ MOST_GRANULES → 1 < word_count (shape_now m) → IsMutator (in_overflow m shape span)
 overflow_stays m shape span is on room within words =
-    goes_on m m.log m.registers (record m.spans { overflow = taken_from span shape }) (phase.Wiping (front_of span) 1) is on is.registers is.held (is.spans.0, within)
+    goes_on m m.log m.registers (record m.spans { overflow = taken_from span shape }) (phase.Wiping (front_of span) 1) is on is.registers (is.spans.0, within)
     (front_is_place span shape room within, (omega arith, words))
 
 -- an object has a word behind its header
@@ -301,15 +265,15 @@ store_room s log old (store_phase.Ended how) room = tt
 
 -- what it is between units with this log
 between : (m : Mutating) (log : Roomy LogEntry) → IsMutator m → GoesOn m → IsMutator (record m { log = log; phase = phase.Ready }) × GoesOn (record m { log = log; phase = phase.Ready })
-between m log is on = (goes_on m log m.registers m.spans phase.Ready is on is.registers is.held is.spans tt, record { turn = λ f. absurd (cc); operation = on.operation })
+between m log is on = (goes_on m log m.registers m.spans phase.Ready is on is.registers is.spans tt, record { turn = λ f. absurd (cc); operation = on.operation })
 
 -- a store has gone on; where it has swapped, it has found a place, or nil
 stored_stays : (m : Mutating) (s : Storing) (log : Roomy LogEntry) → IsMutator m → GoesOn m → HasRoomIn s.phase log → (e : Option StoreEnd) → end_of s ≡ e
     → ((place : Place) → e ≡ Some (store_end.Swapped place) → IsHeld place) → IsMutator (stored m s log e)
-stored_stays m s log is on room None end held = goes_on m log m.registers m.spans (phase.Storing s) is on is.registers is.held is.spans (room, end)
+stored_stays m s log is on room None end held = goes_on m log m.registers m.spans (phase.Storing s) is on is.registers is.spans (room, end)
 stored_stays m s log is on room (Some store_end.Stored) end held = let b = between m log is on in done_stays (record m { log = log; phase = phase.Ready }) reply.Stored b.0 b.1
 stored_stays m s log is on room (Some (store_end.Swapped place)) end held = let b = between m log is on in found_stays (record m { log = log; phase = phase.Ready }) place b.0 b.1 (held place refl)
-stored_stays m s log is on room (Some store_end.LogFull) end held = goes_on m log m.registers m.spans (phase.GivingUp stop.LogFull) is on is.registers is.held is.spans tt
+stored_stays m s log is on room (Some store_end.LogFull) end held = goes_on m log m.registers m.spans (phase.GivingUp stop.LogFull) is on is.registers is.spans tt
 
 -- an operation whose turn it is, is none past the last
 within_at : (ops : List Op) (i : ℕ) → slice_index_or ops i op.End ≢ op.End → i < length ops

@@ -119,7 +119,7 @@ module _ (m : Mutating) (front : List ℕ) (x : Mutating) (old : ℕ) (way : Way
 
   -- how its last step ends it
   last_step : (to : Mutating) → StepsByRule x old to → rests_in to.phase ≡ true → EndsByRules m (front ++ old ∷ []) to
-  last_step to (goes_on y rests since every) rest = absurd (cc)
+  last_step to (goes_on log registers spans p busy) rest = absurd (cc)
   last_step to (finds_asked ready is) rest =
       let none : front ≡ [] = known phase.Ready ready in
       record { how = ends.Asked; end = refl; cause = ap (λ (ws : List ℕ). ws ++ old ∷ []) none ∙ ap (λ n. n ∷ []) is }
@@ -129,11 +129,8 @@ module _ (m : Mutating) (front : List ℕ) (x : Mutating) (old : ℕ) (way : Way
       record { how = ends.Ended; end = refl; cause = (ap op_now here ∙ is, old, unasked, ap (λ (ws : List ℕ). ws ++ old ∷ []) none) }
   last_step to (gave_up stop.NoRun is) rest = record { how = ends.NoRun; end = refl; cause = (front, old, refl, known (phase.GivingUp stop.NoRun) is) }
   last_step to (gave_up stop.LogFull is) rest = record { how = ends.LogFull; end = refl; cause = (front, old, refl, known (phase.GivingUp stop.LogFull) is) }
-  last_step to (does_one doing r since every) rest =
-      done_ends (done_with doing r) (nat_le doing.every (doing.since + 1)) (ap (λ n. n + 1) since) r refl (elim (leb_tells doing.every (doing.since + 1)) [
-        | inl q ↦ inl (q.0, subst (λ n. n ≤ doing.since + 1) every q.1)
-        | inr q ↦ inr (q.0, subst (λ n. doing.since + 1 < n) every q.1)
-      ])
+  last_step to (does_one log registers r) rest =
+      done_ends (done_with (record x { log = log; registers = registers }) r) (nat_le x.every (x.since + 1)) refl r refl (leb_tells x.every (x.since + 1))
   last_step to (stands_still is) rest = absurd (known phase.Finished is)
 
   -- the steps so far, with one more

@@ -1,12 +1,17 @@
 -- How long units are, and when they give up. Each law is the contract of a function with an empty body.
-use Rattle.std.specs.Prelude.{◌≡◌, ◌≢◌, ℕ, ◌+◌, ◌≤◌, ◌⊎◌, ◌↔◌, false, true, Some, IsSome, IsTrue}
+use Rattle.std.specs.Prelude.{◌≡◌, ◌≢◌, ℕ, ◌+◌, ◌≤◌, ◌⊎◌, ◌↔◌, false, true, Some, IsSome, IsTrue, List}
 use Rattle.lxr_layout.specs.declared.TheConstants.{FREE_BLOCK_CURSOR, RUN_CURSOR}
+use Rattle.lxr_layout.specs.declared.Place.{Place}
+use Rattle.lxr_layout.specs.declared.LogEntry.{LogEntry}
+use Rattle.lxr_base.specs.Roomy.{Roomy}
 use Rattle.lxr_graph.specs.declared.Op.{Op}
 use Rattle.lxr_graph.specs.declared.Op.TheVariants as op
 use Rattle.lxr_graph.specs.declared.Reply.{Reply}
+use Rattle.lxr_alloc.specs.declared.Spans.{Spans}
 use Rattle.lxr_barrier.specs.declared.StoreEnd.TheVariants as store_end
 use Rattle.lxr_barrier.specs.Storing.{Storing, end_of, store_after}
 use Rattle.lxr_mutator.specs.declared.phases.MutEnd.TheVariants as ends
+use Rattle.lxr_mutator.specs.declared.phases.MutatorPhase.{MutatorPhase}
 use Rattle.lxr_mutator.specs.declared.phases.MutatorPhase.TheVariants as phase
 use Rattle.lxr_mutator.specs.declared.phases.Stop.{Stop}
 use Rattle.lxr_mutator.specs.declared.phases.Stop.TheVariants as stop
@@ -48,15 +53,17 @@ pub record GivesUpByRules (m : Mutating) (old : ℕ) : Type 0 where
 abbrev pub MutatorsGiveUpByRules : Type 0
 MutatorsGiveUpByRules = (m : Mutating) (old : ℕ) → GivesUpByRules m old
 
--- What a step does to the unit that it belongs to. It goes on with it, and then no operation is done; or it ends it: where the pause word was loaded
--- as 1, where the thread's end is done, where a mutator that gave up has asked for a pause, or with an operation that is done. The
--- operation that makes `every` of them in this epoch is the last in it (`done_with`). A finished mutator stands still.
+-- What a step does to the unit that it belongs to. It goes on with it, and then no operation is done: log, registers, spans and phase may change; or it
+-- ends it: where the pause word was loaded as 1, where the thread's end is done, where a mutator that gave up has asked for a pause, or with
+-- an operation that is done, as its step left log and registers. The operation that makes `every` of them in this epoch is the last in it
+-- (`done_with`). A finished mutator stands still.
 pub data StepsByRule (m : Mutating) (old : ℕ) : Mutating → Type 0 where
-  goes_on : (to : Mutating) → rests_in to.phase ≡ false → to.since ≡ m.since → to.every ≡ m.every → StepsByRule m old to
+  goes_on : (log : Roomy LogEntry) (registers : List Place) (spans : Spans) (p : MutatorPhase) → rests_in p ≡ false
+      → StepsByRule m old (record m { log = log; registers = registers; spans = spans; phase = p })
   finds_asked : m.phase ≡ phase.Ready → old ≡ 1 → StepsByRule m old (finished m ends.Asked)
   finds_end : m.phase ≡ phase.Ready → old ≢ 1 → op_now m ≡ op.End → StepsByRule m old (ended m)
   gave_up : (why : Stop) → m.phase ≡ phase.GivingUp why → StepsByRule m old (finished m (end_by why))
-  does_one : (doing : Mutating) (r : Reply) → doing.since ≡ m.since → doing.every ≡ m.every → StepsByRule m old (done_with doing r)
+  does_one : (log : Roomy LogEntry) (registers : List Place) (r : Reply) → StepsByRule m old (done_with (record m { log = log; registers = registers }) r)
   stands_still : m.phase ≡ phase.Finished → StepsByRule m old m
 
 -- it is so with each step

@@ -92,20 +92,41 @@ MayBeIn m = IsIn m.regions m.log m.spans (shape_now m)
 abbrev pub IsThrough : Mutating → Type 0
 IsThrough m = (m.phase ≡ phase.Finished) × (m.end ≡ Some ends.Ended)
 
+-- What no step of a mutator changes: its thread, what that is asked for and the room for its replies, the regions of its space, how many operations it
+-- may do in an epoch, and how many objects it had as it began to count.
+pub record Setup : Type 0 where
+  pub thread : ℕ
+  pub operations : List Op
+  pub room : ℕ
+  pub regions : Regions
+  pub every : ℕ
+  pub before : ℕ
+
+abbrev pub setup_of : Mutating → Setup
+setup_of m = record { thread = m.thread; operations = m.operations; room = m.replies.room; regions = m.regions; every = m.every; before = m.before }
+
+-- what holds of it
+pub record IsSetup (s : Setup) : Type 0 where
+  pub thread : (1 ≤ s.thread) × (s.thread ≤ 16)
+  pub operations : All IsOperation s.operations
+  pub few : length s.operations ≤ MOST_OPERATIONS
+  -- there is room for each reply, that of the thread's end too
+  pub room : length s.operations + 1 ≤ s.room
+  pub indexes : HaveIndexes s.regions
+  pub every : (1 ≤ s.every) × (s.every ≤ 1048576)
+  -- no more objects were left than a heap has granules
+  pub before : s.before ≤ MOST_GRANULES
+
+-- sixteen registers, each of which holds nil or a place
+pub record AreRegisters (places : List Place) : Type 0 where
+  pub sixteen : length places ≡ 16
+  pub held : All IsHeld places
+
 -- what holds of each mutator
 pub record IsMutator (m : Mutating) : Type 0 where
-  pub thread : (1 ≤ m.thread) × (m.thread ≤ 16)
-  pub operations : All IsOperation m.operations
-  pub few : length m.operations ≤ MOST_OPERATIONS
-  pub every : (1 ≤ m.every) × (m.every ≤ 1048576)
-  pub registers : length m.registers ≡ 16
-  pub held : All IsHeld m.registers
+  pub setup : IsSetup (setup_of m)
+  pub registers : AreRegisters m.registers
   pub spans : AreInHeap m.spans
-  -- no more objects were left than a heap has granules
-  pub before : m.before ≤ MOST_GRANULES
-  pub indexes : HaveIndexes m.regions
-  -- there is room for each reply, that of the thread's end too
-  pub room : length m.operations + 1 ≤ m.replies.room
   pub few_replies : length m.replies.items ≤ length m.operations + 1
   pub replies : IsThrough m ⊎ (length m.replies.items ≤ length m.operations)
   -- a unit that is in progress, or that ended for want of lines, is that of an operation

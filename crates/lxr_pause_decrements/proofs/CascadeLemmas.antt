@@ -33,16 +33,19 @@ use Rattle.lxr_model_counting.specs.Lowering.{IsLowered, LoweredAt, TakenFrom, o
 use Rattle.lxr_model_counting.proofs.DistinctLemmas.{tested}
 use Rattle.lxr_model_counting.proofs.LoweringLemmas.{drops, lowered_still, lowers, once_other, once_same, stuck_stays}
 use Rattle.lxr_invariant.specs.Counting.{count_at}
-use Rattle.lxr_invariant.specs.Lines.{HasMarks, IsMarkOf, line_behind, next_line}
+use Rattle.lxr_invariant.specs.Lines.{HasMarks, IsMarkOf}
+use Rattle.lxr_blocks.specs.Lines.{line_behind, next_line}
 use Rattle.lxr_invariant.specs.Standing.{HasBits, IsUnwritten, place_of, word_of_field}
 use Rattle.lxr_invariant.proofs.NameLemmas.{distinct_more, has_more}
 use Rattle.lxr_invariant.proofs.EntryLemmas.{changed_here, changed_other, passing_cleared, unlike_number}
 use Rattle.lxr_invariant.proofs.PlaceLemmas.{line_mark, mark_line, same_object}
 use Rattle.lxr_invariant.proofs.FrameLemmas.{bits_still}
-use Rattle.lxr_pause_decrements.specs.Cascade.{Cascade, CascadeStage, Ground, IsHeader, Remains, grayed_if, graying, kept, later, looking, waits, without_object}
+use Rattle.lxr_pause_decrements.specs.Cascade.{Cascade, CascadeStage, Ground, IsHeader, Remains, grayed_if, graying, kept, later, looking, waits}
+use Rattle.lxr_blocks.specs.Clearing.{without_counted, without_object}
 use Rattle.lxr_pause_decrements.proofs.GrayLemmas.{gray_starts, grays_fall, grays_step}
 use Rattle.lxr_pause_decrements.proofs.LeftLemmas.{left_still, still_left}
-use Rattle.lxr_pause_decrements.proofs.WipeLemmas.{cleared_in, cleared_out, loses_more, range_cases, wipe_cases, wiped_in, wiped_out}
+use Rattle.lxr_pause_decrements.proofs.WipeLemmas.{loses_more, wipe_cases, wiped_in, wiped_out}
+use Rattle.lxr_blocks.proofs.ClearingLemmas.{cleared_in, cleared_out, range_cases}
 
 -- ---- places
 
@@ -307,7 +310,7 @@ logs_apart heap blocks m at ground n r q i in_n in_r ne has_q h =
 
 -- the tables without r's object, whose count is 0
 abbrev pub bare : Tables → (Name → ℕ) → Name → Object → Tables
-bare t at r o = without_object (record t { counts = changed t.counts (granule_of (at r)) 0 }) (at r) (shape_of o)
+bare t at r o = without_counted t (at r) (shape_of o)
 
 -- a bit that was only at start bits
 stays_only : (starts f : ℕ → Bool) (g : ℕ) → ((k : ℕ) → IsTrue (f k) → IsTrue (starts k)) → (k : ℕ) → IsTrue (changed f g false k) → IsTrue (changed starts g false k)

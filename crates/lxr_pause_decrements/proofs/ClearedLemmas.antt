@@ -9,13 +9,13 @@ use Rattle.lxr_layout.specs.Places.{first_word}
 use Rattle.lxr_image.specs.declared.space.Space.{Space}
 use Rattle.lxr_image.specs.Tables.{Tables}
 use Rattle.lxr_image.specs.Spaces.{Turns, replaced_bits, tables_of}
-use Rattle.lxr_invariant.specs.Lines.{line_behind, next_line}
+use Rattle.lxr_blocks.specs.Lines.{line_behind, next_line}
 use Rattle.lxr_image.proofs.SpaceLemmas.{turns_then}
 use Rattle.lxr_invariant.proofs.KeepingLemmas.{keeps_same}
 use Rattle.lxr_pause_decrements.specs.Cascade.{TablesStay}
 use Rattle.lxr_base.specs.Bits.{IsNextBit, NoBit}
 use Rattle.lxr_pause_decrements.specs.Handled.{HandledStand, reclaimed_from, reclaimed_words, shape_in, without_handled, without_reach}
-use Rattle.lxr_pause_decrements.specs.Wipe.{cleared, wiped}
+use Rattle.lxr_blocks.specs.Clearing.{clear_between, unmarked_between}
 use Rattle.lxr_pause_decrements.proofs.SpaceLemmas.{tables_both}
 use Rattle.lxr_pause_decrements.proofs.HandledLemmas.{cut_in, cut_is, cut_out, cut_word, cut_zero, heap_stays, none_between, one_more}
 
@@ -43,7 +43,7 @@ module _ (t : Tables) (at mask from bit : ℕ) (masks : Masks t at mask) (next :
   reach_next =
       let r : Tables = reclaimed_from t (64 * at) from in
       let g : ℕ = 64 * at + bit in
-      ap (λ h. record t { counts = wiped r.counts (next_line g) (line_behind g (word_count (shape_in (h (2 * g))) / 2)); unlogged = cleared r.unlogged (2 * g + 1) (2 * g + 1 + (shape_in (h (2 * g))).refs) })
+      ap (λ h. record t { counts = unmarked_between r.counts (next_line g) (line_behind g (word_count (shape_in (h (2 * g))) / 2)); unlogged = clear_between r.unlogged (2 * g + 1) (2 * g + 1 + (shape_in (h (2 * g))).refs) })
       (sym (heap_stays t (64 * at) from))
       ∙ ap (with_reach t) (sym (one_more t (64 * at) from bit next.reached none bit_done))
 

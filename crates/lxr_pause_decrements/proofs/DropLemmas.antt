@@ -29,7 +29,8 @@ use Rattle.lxr_invariant.specs.Counting.{count_at, entries_between, occurrences_
 use Rattle.lxr_invariant.specs.Standing.{place_of}
 use Rattle.lxr_invariant.proofs.NameLemmas.{has_last, has_more, occurrences_end, occurrences_step, split_last}
 use Rattle.lxr_invariant.proofs.EntryLemmas.{equal_numbers, passing_cleared, same_number}
-use Rattle.lxr_pause_decrements.specs.Cascade.{Cascade, CascadeStage, Drains, IsAt, IsBetween, IsEmptied, IsFinished, IsOpening, IsSeeking, Keeps, LooksAt, LooksFrom, LooksThrough, Reclaims, drawn_count, drawn_from, held_by, later, looking, seeking, waits, without_object}
+use Rattle.lxr_pause_decrements.specs.Cascade.{Cascade, CascadeStage, Drains, IsAt, IsBetween, IsEmptied, IsFinished, IsOpening, IsSeeking, Keeps, LooksAt, LooksFrom, LooksThrough, Reclaims, drawn_count, drawn_from, held_by, later, looking, seeking, waits}
+use Rattle.lxr_blocks.specs.Clearing.{without_object}
 use Rattle.lxr_pause_decrements.proofs.CascadeLemmas.{append_nothing, IsPlaced, bare, bare_uncounted, dropped, granules_differ, in_heap, looked, placed, refs_more, remains_still, same_parts}
 use Rattle.lxr_pause_decrements.proofs.DrainLemmas.{entry_once, field_read, none_between, still_tables}
 

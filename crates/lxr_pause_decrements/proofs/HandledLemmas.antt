@@ -4,7 +4,7 @@ use Rattle.std.specs.Prelude.{◌&&◌, ◌==◌, if◌then◌else◌}
 use Rattle.std.specs.Int.Bits.{bit_and}
 use Rattle.std.specs.Int.{bit_at, bit_not}
 use Rattle.std.proofs.lemmas.Bool.Decides.{eqb_tells, leb_tells, nat_tests}
-use Rattle.std.proofs.lemmas.Nat.Bits.{bit_at-lt, bit_at-zero, bit_at_and, bit_at_not}
+use Rattle.std.proofs.lemmas.Nat.Bits.{bit_at-zero}
 use Rattle.lxr_layout.specs.declared.TheConstants.{GRANULES_IN_BLOCK}
 use Rattle.lxr_layout.specs.declared.Name.{Name}
 use Rattle.lxr_layout.specs.declared.Place.{Place}
@@ -21,13 +21,13 @@ use Rattle.lxr_image.specs.Reads.{IsName}
 use Rattle.lxr_invariant.specs.Standing.{place_of}
 use Rattle.lxr_invariant.proofs.EntryLemmas.{changed_here, changed_other, passing_cleared}
 use Rattle.lxr_pause_decrements.specs.Cascade.{CascadeStage, Handling, IsHeader, later, with_lists}
-use Rattle.lxr_invariant.specs.Lines.{line_behind, next_line}
-use Rattle.lxr_pause_decrements.specs.Wipe.{cleared, wiped}
+use Rattle.lxr_blocks.specs.Lines.{line_behind, next_line}
+use Rattle.lxr_blocks.specs.Clearing.{clear_between, unmarked_between}
 use Rattle.lxr_base.specs.Bits.{IsNextBit, NoBit}
 use Rattle.lxr_pause_decrements.specs.Handled.{IsAhead, OnlyReports, reclaimed_from, reclaimed_words, shape_in, without_handled}
 use Rattle.lxr_pause_decrements.proofs.CascadeLemmas.{placed, started}
 use Rattle.lxr_pause_decrements.proofs.HandlingLemmas.{handled, handling_room, without_done}
-use Rattle.lxr_pause_decrements.proofs.WipeLemmas.{range_cases}
+use Rattle.lxr_blocks.proofs.ClearingLemmas.{bit_without, range_cases}
 
 -- ---- granule after granule
 
@@ -140,18 +140,6 @@ module _ (p : Tables → ℕ → Bool) (each : (t : Tables) (g k : ℕ) → p (w
   cut_is t first zero k = sym (cut_out t.dones (p t) first 0 k (elim (leb_tells first k) [ inl c ↦ inr (let a = c.1 in omega (arith, a)) | inr c ↦ inl c.1 ]))
   cut_is t first (suc n) k = cut_step t first n k (t.dones (first + n)) refl (cut_is t first n k)
 
--- a bit of a word without the bits of another
-pub bit_without : (word mask i : ℕ) → mask < 2 ^ 64 → i < 64 → (bit_at (bit_and word (bit_not w64 mask)) i == 1) ≡ (if bit_at mask i == 1 then false else bit_at word i == 1)
-bit_without word mask i fits within =
-    let both = bit_at_and word (bit_not w64 mask) i in
-    let turned = bit_at_not w64 mask i fits within in
-    let low = bit_at-lt mask i in
-    let small = bit_at-lt word i in
-    elim (eqb_tells (bit_at mask i) 1) [
-      | inl m ↦ let e = m.1 in ap (λ x. x == 1) (let z : bit_at (bit_and word (bit_not w64 mask)) i ≡ 0 = omega (arith, both, turned, e) in z) ∙ sym (ap (λ b. cond b false (bit_at word i == 1)) m.0)
-      | inr m ↦ let e = m.1 in ap (λ x. x == 1) (let z : bit_at (bit_and word (bit_not w64 mask)) i ≡ bit_at word i = omega (arith, both, turned, e, low, small) in z) ∙ sym (ap (λ b. cond b false (bit_at word i == 1)) m.0)
-    ]
-
 -- a word of bits without those of another
 pub cut_word : (dones f : ℕ → Bool) (at word mask k : ℕ) → mask < 2 ^ 64 → ((i : ℕ) → i < 64 → dones (64 * at + i) ≡ (bit_at mask i == 1)) → ((i : ℕ) → i < 64 → f (64 * at + i) ≡ (bit_at word i == 1))
     → (if k / 64 == at then bit_at (bit_and word (bit_not w64 mask)) (k % 64) == 1 else f k) ≡ cut dones f (64 * at) 64 k
@@ -216,8 +204,8 @@ cut_at t k s = record t {
   marks = changed t.marks k false;
   grays = changed t.grays k false;
   dones = changed t.dones k false;
-  counts = wiped t.counts (next_line k) (line_behind k (word_count s / 2));
-  unlogged = cleared t.unlogged (2 * k + 1) (2 * k + 1 + s.refs);
+  counts = unmarked_between t.counts (next_line k) (line_behind k (word_count s / 2));
+  unlogged = clear_between t.unlogged (2 * k + 1) (2 * k + 1 + s.refs);
 }
 
 pub next_one : (l : Limits) (t : Tables) (w : Roomy Place) (d : Roomy Name) (st : CascadeStage) (g : ℕ) → Handling l t w d st → IsTrue (t.dones g) → (r : Name) × (shape : Shape) × Next l t w d st g r shape

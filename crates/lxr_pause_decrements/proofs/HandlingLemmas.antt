@@ -27,7 +27,8 @@ use Rattle.lxr_invariant.specs.Standing.{place_of}
 use Rattle.lxr_invariant.proofs.EntryLemmas.{changed_here, changed_other, passing_few}
 use Rattle.lxr_invariant.proofs.FrameLemmas.{none_undone}
 use Rattle.lxr_invariant.proofs.NameLemmas.{no_member}
-use Rattle.lxr_pause_decrements.specs.Cascade.{Cascade, CascadeStage, Handling, IsHandling, IsSeeking, Remains, drawn_from, kept, later, seeking, without_object}
+use Rattle.lxr_pause_decrements.specs.Cascade.{Cascade, CascadeStage, Handling, IsHandling, IsSeeking, Remains, drawn_from, kept, later, seeking}
+use Rattle.lxr_blocks.specs.Clearing.{without_object}
 use Rattle.lxr_pause_decrements.proofs.CascadeLemmas.{append_nothing, bare, bare_uncounted, count_stays, granules_differ, has_reversed, in_heap, places_more, refs_reversed, remains_fall, remains_still, started, written_other}
 use Rattle.lxr_pause_decrements.proofs.GrayLemmas.{BeginsAlone, grays_handled, handled_on}
 

@@ -9,6 +9,5 @@ pub mod DropLemmas
 pub mod BridgeLemmas
 pub mod OpenedLemmas
 pub mod HandledLemmas
-pub mod LogLemmas
 pub mod ClearedLemmas
 pub mod BlockLemmas

@@ -18,7 +18,8 @@ use Rattle.lxr_invariant.specs.Counting.{count_at, passing}
 use Rattle.lxr_invariant.specs.Standing.{place_of}
 use Rattle.lxr_invariant.proofs.EntryLemmas.{passing_cleared}
 use Rattle.lxr_invariant.proofs.KeepingLemmas.{keeps_both as lists_both, keeps_same}
-use Rattle.lxr_pause_decrements.specs.Cascade.{Buries, CascadeStage, Keeps, Leaves, Reaches, Reclaims, TablesStay, Waiting, later, to_do, with_lists, without_object}
+use Rattle.lxr_pause_decrements.specs.Cascade.{Buries, CascadeStage, Keeps, Leaves, Reaches, Reclaims, TablesStay, Waiting, later, to_do, with_lists}
+use Rattle.lxr_blocks.specs.Clearing.{without_object}
 use Rattle.lxr_pause_decrements.proofs.CascadeLemmas.{IsPlaced, bare, counted, counted_left, falls, goes_on, in_heap, last_unstuck, placed, same_parts, zero_means}
 
 -- ---- what is left as it was

@@ -1,11 +1,11 @@
 -- What holds of a space in the middle of its decrements.
-use Rattle.std.specs.Prelude.{◌≡◌, ◌≢◌, ℕ, ◌+◌, ◌*◌, ◌/◌, ◌<◌, ◌≤◌, ◌↔◌, ◌⊎◌, ⊤, Bool, true, false, if◌then◌else◌, Option, Some, None, List, [], ◌++◌, IsTrue, length, min, slice_get, map, reverse}
+use Rattle.std.specs.Prelude.{◌≡◌, ◌≢◌, ℕ, ◌+◌, ◌*◌, ◌<◌, ◌≤◌, ◌↔◌, ◌⊎◌, ⊤, Bool, true, false, if◌then◌else◌, Option, Some, None, List, [], ◌++◌, IsTrue, length, min, slice_get, map, reverse}
 use Rattle.lxr_layout.specs.declared.Name.{Name}
 use Rattle.lxr_layout.specs.declared.Place.{Place}
 use Rattle.lxr_layout.specs.declared.Shape.{Shape}
 use Rattle.lxr_layout.specs.declared.limits.Limits.{Limits}
 use Rattle.lxr_layout.specs.declared.TheConstants.{DECREMENT_COUNT, DECREMENT_CURSOR, GRANULES_IN_BLOCK, STUCK, TRACING_WORD}
-use Rattle.lxr_layout.specs.Objects.{FitsShape, header_word, word_count}
+use Rattle.lxr_layout.specs.Objects.{FitsShape, header_word}
 use Rattle.lxr_layout.specs.Places.{first_word}
 use Rattle.lxr_base.specs.Roomy.{Roomy, pushed}
 use Rattle.lxr_graph.specs.Names.{has, same_name, without}
@@ -23,10 +23,11 @@ use Rattle.lxr_model_counting.specs.Distinct.{IsDistinct}
 use Rattle.lxr_model_counting.specs.Lowering.{IsLowered, IsOver, TakenFrom, once}
 use Rattle.lxr_invariant.specs.Keeping.{KeepsListsAndCounters}
 use Rattle.lxr_invariant.specs.Counting.{HasDecrements, count_at, entries_between, is_done, listed_at, occurrences_from, passing, undone, waiting_at}
-use Rattle.lxr_invariant.specs.Lines.{AvoidFree, HasMarks, line_behind, next_line, tracing_word}
+use Rattle.lxr_invariant.specs.Lines.{AvoidFree, HasMarks, tracing_word}
 use Rattle.lxr_invariant.specs.Standing.{HasBits, place_of}
 use Rattle.lxr_invariant.specs.Tracing.{IsGray}
-use Rattle.lxr_pause_decrements.specs.Wipe.{LosesBits, cleared, wiped}
+use Rattle.lxr_pause_decrements.specs.Wipe.{LosesBits}
+use Rattle.lxr_blocks.specs.Clearing.{without_object}
 
 -- A stage of the decrements: what stands for the space while they are done. No code holds it.
 pub record CascadeStage : Type 0 where
@@ -198,16 +199,6 @@ pub record IsHeader (t : Tables) (place : ℕ) (n : Name) (shape : Shape) : Type
   pub name : IsName n
   pub fits : FitsShape shape
   pub header : t.heap (first_word place) ≡ header_word n shape
-
--- the tables without an object of a shape at a place
-abbrev pub without_object : Tables → ℕ → Shape → Tables
-without_object t p shape = record t {
-  starts = changed t.starts (granule_of p) false;
-  marks = changed t.marks (granule_of p) false;
-  grays = changed t.grays (granule_of p) false;
-  counts = wiped t.counts (next_line (granule_of p)) (line_behind (granule_of p) (word_count shape / 2));
-  unlogged = cleared t.unlogged (first_word p + 1) (first_word p + 1 + shape.refs);
-}
 
 -- the space with other words, another worklist and other names of the dead in its report
 abbrev pub with_lists : Space → List ℕ → Roomy Place → Roomy Name → Space

@@ -7,9 +7,9 @@ use Rattle.lxr_layout.specs.Objects.{word_count}
 use Rattle.lxr_image.specs.declared.space.Space.{Space}
 use Rattle.lxr_image.specs.Tables.{Tables, changed}
 use Rattle.lxr_image.specs.Spaces.{IsSpace, tables_of}
-use Rattle.lxr_invariant.specs.Lines.{line_behind, next_line}
+use Rattle.lxr_blocks.specs.Lines.{line_behind, next_line}
 use Rattle.lxr_pause_decrements.specs.Cascade.{CascadeStage, Handling, IsHeader, later, with_lists}
-use Rattle.lxr_pause_decrements.specs.Wipe.{cleared, wiped}
+use Rattle.lxr_blocks.specs.Clearing.{clear_between, unmarked_between}
 
 -- the shape that a header word tells
 abbrev pub shape_in : ℕ → Shape
@@ -18,8 +18,8 @@ shape_in word = record { refs = word / 2 ^ 10 % 2 ^ 10; values = word % 2 ^ 10 }
 -- the tables without the line marks and unlogged bits of the object whose header stands at a granule
 abbrev pub without_reach : Tables → ℕ → Tables
 without_reach t g = record t {
-  counts = wiped t.counts (next_line g) (line_behind g (word_count (shape_in (t.heap (2 * g))) / 2));
-  unlogged = cleared t.unlogged (2 * g + 1) (2 * g + 1 + (shape_in (t.heap (2 * g))).refs);
+  counts = unmarked_between t.counts (next_line g) (line_behind g (word_count (shape_in (t.heap (2 * g))) / 2));
+  unlogged = clear_between t.unlogged (2 * g + 1) (2 * g + 1 + (shape_in (t.heap (2 * g))).refs);
 }
 
 -- the tables without that object

@@ -17,8 +17,8 @@ ghost use Rattle.lxr_pause_decrements.specs.Handled.{HandledStand, MayReport, On
 ghost use Rattle.lxr_pause_decrements.specs.declared.handled.TheConstants.{BIT_WORDS_IN_BLOCK};
 ghost use Rattle.lxr_pause_decrements.specs.Steps.{MayReclaimAllHandled, ReclaimsAllHandled, ReclaimsSomeHandled};
 
-use crate::reclaiming::{clear_line_marks, clear_logs};
 use lxr_base::take_bit;
+use lxr_blocks::{clear_line_marks, clear_logs};
 use lxr_image::Space;
 use lxr_image_search::{Wanted, next_block};
 use lxr_layout::{GRANULES_IN_BLOCK, Header, place_at, unpack, words_of};

@@ -14,4 +14,4 @@ mod reclaiming;
 
 pub use finish::{drain, finish_decrements, lower_place, reference_slots};
 pub use laws::opened_can_finish;
-pub use reclaiming::{bury, clear_object, reclaim};
+pub use reclaiming::{bury, reclaim};

@@ -23,7 +23,6 @@ pub mod ChangedLemmas
 pub mod ShortLemmas
 pub mod EnteredLemmas
 pub mod GrownLemmas
-pub mod StillLemmas
 pub mod DrawnLemmas
 pub mod ScanLemmas
 pub mod RootLemmas

@@ -9,7 +9,8 @@ use Rattle.lxr_graph.proofs.NameSets.{same_itself, same_names}
 use Rattle.lxr_image.specs.Tables.{Tables}
 use Rattle.lxr_image.specs.Reads.{granule_of}
 use Rattle.lxr_image.specs.Image.{granules_of}
-use Rattle.lxr_invariant.specs.Lines.{HasMarks, IsMarkOf, line_behind, next_line}
+use Rattle.lxr_invariant.specs.Lines.{HasMarks, IsMarkOf}
+use Rattle.lxr_blocks.specs.Lines.{line_behind, next_line}
 use Rattle.lxr_invariant.proofs.EntryLemmas.{changed_other}
 use Rattle.lxr_invariant.proofs.PlaceLemmas.{line_mark, mark_line, same_object}
 use Rattle.lxr_pause_promote.specs.Promotion.{with_promotion}

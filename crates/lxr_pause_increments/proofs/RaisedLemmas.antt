@@ -54,7 +54,8 @@ use Rattle.lxr_pause_increments.proofs.EndsLemmas.{AllFixed, copies_end, deferre
 use Rattle.lxr_pause_increments.proofs.MovingLemmas.{AreMade, unreclaimed_still}
 use Rattle.lxr_pause_increments.proofs.RememberedLemmas.{overflowed_on, remembered_on, stays_none}
 use Rattle.lxr_pause_increments.proofs.StageLemmas.{all_made}
-use Rattle.lxr_pause_increments.specs.Clearing.{OutsAvoidFree}
+use Rattle.lxr_blocks.specs.ClearingAll.{AreUnsetInFree}
+use Rattle.lxr_blocks.specs.declared.clearing_all.Bits.TheVariants.{Outs}
 
 -- ---- the first stage
 
@@ -221,12 +222,12 @@ ending s g b grays outs = record {
 }
 
 -- no line of a block that is Free is out at a stage, nor was any before
-pub outs_used : (before s : Space) (m : Moment) (at : Name → ℕ) (st : IncrementStage) → CanRaise before m at → st.found ≡ before → IsIncrementing s m at st → OutsAvoidFree (tables_of s)
+pub outs_used : (before s : Space) (m : Moment) (at : Name → ℕ) (st : IncrementStage) → CanRaise before m at → st.found ≡ before → IsIncrementing s m at st → AreUnsetInFree (tables_of s) Outs
 outs_used before s m at st can found is line out free =
     let was = is.moving.free (line / LINES_IN_BLOCK) free in
     can.holds.unused.outs line (subst (λ x. IsTrue ((tables_of x).outs line)) found (was.1 line refl out)) (subst (λ x. state_in (tables_of x) (line / LINES_IN_BLOCK) ≡ Free) found was.0)
 
-pub outs_grayed : (s g : Space) → Turns s g (with_old_grays (tables_of s) s.logged.items) → OutsAvoidFree (tables_of s) → OutsAvoidFree (tables_of g)
+pub outs_grayed : (s g : Space) → Turns s g (with_old_grays (tables_of s) s.logged.items) → AreUnsetInFree (tables_of s) Outs → AreUnsetInFree (tables_of g) Outs
 outs_grayed s g grays avoid line out free =
     let same : tables_of g ≡ record (tables_of s) { grays = (with_old_grays (tables_of s) s.logged.items).grays } = grays.tables ∙ only_old_grays (tables_of s) s.logged.items in
     avoid line (sym (ap (λ t. t.outs line) same) ∙ out) (sym (ap (λ t. state_of (t.states (line / LINES_IN_BLOCK))) same) ∙ free)

@@ -12,7 +12,7 @@ use Rattle.lxr_image.specs.Spaces.{tables_of}
 use Rattle.lxr_image.specs.Opened.{HasRoom}
 use Rattle.lxr_image.specs.Reads.{granule_of}
 use Rattle.lxr_invariant.specs.Counting.{passing}
-use Rattle.lxr_invariant.specs.Lines.{line_behind, next_line}
+use Rattle.lxr_blocks.specs.Lines.{line_behind, next_line}
 use Rattle.lxr_invariant.proofs.EntryLemmas.{changed_cases, changed_here, passing_few, passing_more, passing_one_more}
 use Rattle.lxr_pause_promote.specs.Promotion.{with_promotion}
 use Rattle.lxr_pause_increments.specs.Increments.{HasRoomToRaise, left}

@@ -27,7 +27,8 @@ use Rattle.lxr_model_counting.proofs.DistinctLemmas.{or_false, tested}
 use Rattle.lxr_invariant.specs.AbstractState.{members}
 use Rattle.lxr_invariant.specs.Standing.{HasBits, place_of, word_of_field}
 use Rattle.lxr_invariant.specs.Counting.{passing}
-use Rattle.lxr_invariant.specs.Lines.{HasMarks, line_behind, next_line}
+use Rattle.lxr_invariant.specs.Lines.{HasMarks}
+use Rattle.lxr_blocks.specs.Lines.{line_behind, next_line}
 use Rattle.lxr_invariant.specs.Raised.{with_promoted}
 use Rattle.lxr_invariant.proofs.EntryLemmas.{changed_cases, changed_here, changed_other, passing_few, passing_set}
 use Rattle.lxr_invariant.proofs.FrameLemmas.{bits_still, marks_still}

@@ -6,4 +6,3 @@ pub mod Accounted
 pub mod Raising
 pub mod Promotion
 pub mod Steps
-pub mod Clearing

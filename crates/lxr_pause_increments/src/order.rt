@@ -3,12 +3,10 @@
 //! The order decides in which order objects are promoted and copied: those that written references hold come first, in the
 //! order of their log entries, and after each root all that it brings along. What is raised may be copied by that, so each
 //! reference and each register that is raised gets the place where its object stands now.
-ghost use Rattle.std.specs.Prelude.{◌≡◌, ℕ, ◌<◌, false};
+ghost use Rattle.std.specs.Prelude.{◌≡◌, ℕ};
 ghost use Rattle.lxr_layout.specs.declared.Name.{Name as NameOf};
-ghost use Rattle.lxr_image.specs.Spaces.{IsSpace, Turns, tables_of};
 ghost use Rattle.lxr_model.specs.Moments.{Moment};
 ghost use Rattle.lxr_pause_promote.specs.Shortages.{IsShortage};
-ghost use Rattle.lxr_pause_increments.specs.Clearing.{OutsAvoidFree, without_outs_of};
 ghost use Rattle.lxr_pause_increments.specs.Raising.{CanRaise, Raises};
 ghost use Rattle.lxr_pause_increments.specs.Increments.{RaisingLeaves, left};
 ghost use Rattle.lxr_pause_increments.specs.Steps.{Empties, FixesFieldWith, HasHolder, HasSlots, MayEmpty, MayFixField, MayRaiseEntries, MayRaiseEntry, MayRaiseField, MayRaiseHeld, MayRaiseRegister, MayRaiseRegisters, MayRaiseWord, MayScan, RaisesEntries, RaisesEntry, RaisesField, RaisesHeldIn, RaisesRegister, RaisesRegisters, RaisesWord, Scans};
@@ -16,7 +14,7 @@ ghost use Rattle.lxr_pause_increments.specs.Steps.{Empties, FixesFieldWith, HasH
 use crate::counts::raise;
 use crate::remembering::remember_held;
 use crate::tracing::gray_old_values;
-use lxr_blocks::next_in_use;
+use lxr_blocks::{Bits, clear_all};
 use lxr_image::Space;
 use lxr_layout::{Place, field_word};
 use lxr_pause_promote::Shortage;
@@ -176,29 +174,6 @@ fn raise_registers(space: &mut Space, shortage: &mut Shortage)
     }
 }
 
-/// Forgets the lines of a block that were handed out, those of a word of their bits at a time.
-fn clear_block(space: &mut Space, block: u32)
-    requires space { IsSpace space.old }
-    requires block { block < space.old.limits.blocks }
-    ensures { Turns space.old space.new (without_outs_of (tables_of space.old) block) }
-{
-    space.clear_out_word(2 * block);
-    space.clear_out_word(2 * block + 1);
-}
-
-/// Forgets all lines that were handed out. Blocks whose state is Free have none, and are passed over.
-fn clear_outs(space: &mut Space)
-    requires space { IsSpace space.old }
-    requires free { OutsAvoidFree (tables_of space.old) }
-    ensures { Turns space.old space.new (record (tables_of space.old) { outs = λ line. false }) }
-{
-    let mut from = 0;
-    while let Some(block) = next_in_use(space, from) {
-        clear_block(space, block);
-        from = block + 1;
-    }
-}
-
 /// Raises counts, in this order: for what logged references hold now, for what registers hold that they didn't at the last
 /// pause, and after each of these for the references of each object that was promoted. While a trace runs, what logged
 /// references held is made gray then. At last no line is out any more.
@@ -210,7 +185,7 @@ pub fn increments(space: &mut Space)
     raise_entries(space, &mut shortage);
     raise_registers(space, &mut shortage);
     gray_old_values(space);
-    clear_outs(space);
+    clear_all(space, Bits::Outs);
     space.rest_next = 0;
     space.rest_end = 0;
 }

@@ -18,7 +18,7 @@ use Rattle.lxr_blocks.specs.Placing.{IsFull, IsPlaced, IsRest, granule_count}
 use Rattle.lxr_blocks.specs.States.{KeepsFree, KeepsState, state_in}
 use Rattle.lxr_blocks.proofs.BesideLemmas.{placed_beside}
 use Rattle.lxr_blocks.proofs.FreeLemmas.{free_joined, free_same}
-use Rattle.lxr_invariant.specs.Lines.{line_behind, next_line}
+use Rattle.lxr_blocks.specs.Lines.{line_behind, next_line}
 use Rattle.lxr_pause_promote.specs.Copying.{Evacuates, StandsAt, StandsKept, with_copy, with_words}
 use Rattle.lxr_pause_promote.specs.Promotion.{Promotes, marked_between, with_promotion}
 use Rattle.lxr_pause_promote.proofs.PlacedLemmas.{KeepsLinesAndBlocks, keeps_both, keeps_fewer, keeps_state, marked_zero, still_kept, still_rest}

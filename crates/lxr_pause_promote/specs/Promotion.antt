@@ -12,7 +12,7 @@ use Rattle.lxr_image.specs.Spaces.{Turns, tables_of}
 use Rattle.lxr_image.specs.Reads.{granule_of, is_tracing}
 use Rattle.lxr_blocks.specs.Handing.{is_between}
 use Rattle.lxr_blocks.specs.Placing.{IsFull}
-use Rattle.lxr_invariant.specs.Lines.{line_behind, next_line}
+use Rattle.lxr_blocks.specs.Lines.{line_behind, next_line}
 use Rattle.lxr_pause_promote.specs.Copying.{Evacuates}
 
 -- the tables with the object at a granule marked while a trace runs

@@ -6,7 +6,6 @@ pub mod MarkingLemmas
 pub mod ScanLemmas
 pub mod PassingLemmas
 pub mod HoldsLemmas
-pub mod ClearLemmas
 pub mod NamedLemmas
 pub mod NameSlotLemmas
 pub mod TraceLemmas

@@ -1,3 +1,2 @@
 pub mod Tracing
 pub mod Marking
-pub mod Clearing

@@ -19,7 +19,7 @@ pub use laws::{
     example_is_renewed, names_are_one_to_one, objects_are_renamed, renewals_are_legal,
     renewals_are_sound,
 };
-use lxr_image::{Space, Tally};
+use lxr_image::{NO_TALLY, Space};
 
 /// Gives each object that is left a new name, and counts from 0 again, right behind a pause that drained and left no trace running, where what
 /// is left was told since. It goes over start bits, 64 granules at once, and looks each name up by halves among what was told; it takes no
@@ -29,14 +29,6 @@ pub fn renew_names(space: &mut Space)
     ensures { (g : AbstractState) (ns : List Name) → MayRenew space.old g ns → Renews space.old space.new g ns }
 {
     renew_heads(space);
-    space.tally = Tally {
-        news: 0,
-        loads: 0,
-        stores: 0,
-        logs: 0,
-        pauses: 0,
-        moved: 0,
-        kept: 0,
-    };
+    space.tally = NO_TALLY;
     space.pauses = 0;
 }

@@ -10,8 +10,8 @@ use Rattle.lxr_words.specs.declared.Options.{Options}
 use Rattle.lxr_words.specs.declared.WordFault.{WordFault}
 use Rattle.lxr_run_history.specs.Left.{IsLeftBy}
 use Rattle.lxr_run_history.specs.Run.{IsHistoryOf, script_terms}
-use Rattle.lxr_run_history.specs.Sights.{Sees}
-use Rattle.lxr_run_history.specs.Tally.{Evacuated, evacuated_in}
+use Rattle.lxr_rounds_history.specs.Sights.{Sees}
+use Rattle.lxr_rounds_history.specs.Tally.{Evacuated, evacuated_in}
 use Rattle.lxr_run_history.specs.Texts.{run_text, told_text}
 use Rattle.lxr_run.specs.Judgings.{IsJudged, IsPartlyJudged}
 use Rattle.lxr_run.specs.LargeRuns.{IsLargeCutOff, IsLargeDone}

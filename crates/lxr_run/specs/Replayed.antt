@@ -5,7 +5,7 @@ use Rattle.lxr_model.specs.Belongs.{Script}
 use Rattle.lxr_words.specs.declared.Options.{Options}
 use Rattle.lxr_run_history.specs.Run.{IsHistoryOf}
 use Rattle.lxr_run_history.specs.Texts.{run_text}
-use Rattle.lxr_run_invariant.specs.LoopInvariant.{Task}
+use Rattle.lxr_run_loop.specs.Tasks.{Task}
 use Rattle.lxr_run_loop.specs.Drawing.{IsDrawnTo}
 use Rattle.lxr_run.specs.Runs.{IsWritten, Run}
 use Rattle.lxr_run.specs.Script.{WasAsked}

@@ -1,7 +1,1 @@
-pub mod HistoryLemmas
-pub mod ThreadSums
-pub mod TallyLemmas
-pub mod SightLemmas
-pub mod RoomLemmas
 pub mod ReplyLemmas
-pub mod SpaceLemmas

@@ -14,11 +14,10 @@ use Rattle.lxr_graph.specs.State.{State, object_at, refs_of, register_at, values
 use Rattle.lxr_graph.specs.Step.{IsReply, add_to, added, get_from, got, load_from, loaded, put_at, put_to, store_to, stored, swap_in, swapped}
 use Rattle.lxr_model.specs.Legal.{IsLegalSoFar, Replies}
 use Rattle.lxr_model.specs.Moments.{moment}
+use Rattle.lxr_model.specs.Terms.{Terms}
 use Rattle.lxr_core_invariant.specs.ThreadStates.{all_of}
 use Rattle.lxr_text_print.specs.Replies.{ArePrintable, replies_text, thread_text}
 use Rattle.lxr_text_print.proofs.HistoryLemmas.{is_of_its_operations}
-use Rattle.lxr_words.specs.declared.Options.{Options}
-use Rattle.lxr_run_history.specs.Run.{run_terms_with}
 
 -- ---- no operation but the end replies with the end
 
@@ -87,9 +86,9 @@ step-goes_on s t op.Collect more e = cc
 step-goes_on s t op.End more e = more refl
 
 -- so it is of each call of a run
-pub goes_on : (renews : Bool) (options : Options) (threads : ℕ) (h : List Item) (t : ℕ) (o : Op) → o ≢ op.End → Replies (run_terms_with renews options threads) h t o reply.Ended → ⊥
-goes_on renews options threads h t (op.New dest shape) more is = step-goes_on (moment threads h).state t (op.New dest shape) more is
-goes_on renews options threads h t o more is = step-goes_on (moment threads h).state t o more is
+pub goes_on : (terms : Terms) (h : List Item) (t : ℕ) (o : Op) → o ≢ op.End → Replies terms h t o reply.Ended → ⊥
+goes_on terms h t (op.New dest shape) more is = step-goes_on (moment terms.threads h).state t (op.New dest shape) more is
+goes_on terms h t o more is = step-goes_on (moment terms.threads h).state t o more is
 
 -- ---- the replies of a thread
 
@@ -113,13 +112,13 @@ EndsReply-more true os rs o r before here = EndsReply-push os rs o r before here
 EndsReply-more false os rs o r before here = before
 
 -- so it is of each thread of a legal history
-pub ends_reply : (renews : Bool) (options : Options) (threads : ℕ) (t : ℕ) (h : List Item) → IsLegalSoFar (run_terms_with renews options threads) h → EndsReply (calls_of t h) (replies_of t h)
-ends_reply renews options threads t [] legal = tt
-ends_reply renews options threads t (Renew ns ∷ h) legal = tt
-ends_reply renews options threads t (Pause report ∷ h) legal = ends_reply renews options threads t h legal.0
-ends_reply renews options threads t (Call u o r ∷ h) legal =
-    EndsReply-more (nat_eq t u) (calls_of t h) (replies_of t h) o r (ends_reply renews options threads t h legal.0)
-    (λ more e. goes_on renews options threads h u o more (subst (Replies (run_terms_with renews options threads) h u o) e legal.2.reply))
+pub ends_reply : (terms : Terms) (t : ℕ) (h : List Item) → IsLegalSoFar terms h → EndsReply (calls_of t h) (replies_of t h)
+ends_reply terms t [] legal = tt
+ends_reply terms t (Renew ns ∷ h) legal = tt
+ends_reply terms t (Pause report ∷ h) legal = ends_reply terms t h legal.0
+ends_reply terms t (Call u o r ∷ h) legal =
+    EndsReply-more (nat_eq t u) (calls_of t h) (replies_of t h) o r (ends_reply terms t h legal.0)
+    (λ more e. goes_on terms h u o more (subst (Replies terms h u o) e legal.2.reply))
 
 -- then no reply of an operation is the end's
 none_ended : (os back : List Op) (rs : List Reply) → EndsReply (os ++ back) rs → All (λ o. o ≢ op.End) os → All (λ r. r ≢ reply.Ended) (take (length os) rs)
@@ -138,10 +137,10 @@ as_many (o ∷ os) (r ∷ rs) is = ap suc (as_many os rs is.1)
 -- ---- the text of a thread
 
 -- where all its operations and its end are done, its replies can be printed
-pub printable : (renews : Bool) (options : Options) (threads : ℕ) (t : ℕ) (h : List Item) (operations : List Op) (replies : List Reply) → IsLegalSoFar (run_terms_with renews options threads) h
+pub printable : (terms : Terms) (t : ℕ) (h : List Item) (operations : List Op) (replies : List Reply) → IsLegalSoFar terms h
     → All (λ o. o ≢ op.End) operations → calls_of t h ≡ all_of operations → replies_of t h ≡ replies → ArePrintable operations replies
-printable renews options threads t h operations replies legal none calls told =
-    let is : EndsReply (all_of operations) replies = subst (EndsReply (all_of operations)) told (subst (λ os. EndsReply os (replies_of t h)) calls (ends_reply renews options threads t h legal)) in
+printable terms t h operations replies legal none calls told =
+    let is : EndsReply (all_of operations) replies = subst (EndsReply (all_of operations)) told (subst (λ os. EndsReply os (replies_of t h)) calls (ends_reply terms t h legal)) in
     record {
       replied = let many = as_many (all_of operations) replies is in let one = length_push operations op.End in omega arith;
       no_end = none;

@@ -1,37 +1,16 @@
--- The space that a history leaves at its last pause.
-use Rattle.std.specs.Prelude.{◌≡◌, ℕ, List, [], ◌∷◌}
+-- The space that a history of a run leaves at its last pause.
+use Rattle.std.specs.Prelude.{ℕ, List}
 use Rattle.lxr_layout.specs.declared.limits.Limits.{Limits}
-use Rattle.lxr_graph.specs.History.{Item, Call, Pause, Renew, PauseReport}
-use Rattle.lxr_model.specs.Moments.{moment}
+use Rattle.lxr_graph.specs.History.{Item}
 use Rattle.lxr_image.specs.declared.space.Space.{Space}
-use Rattle.lxr_invariant.specs.AbstractState.{AbstractState, no_report}
-use Rattle.lxr_invariant.specs.Quiescent.{IsQuiescent}
 use Rattle.lxr_words.specs.declared.Options.{Options}
-use Rattle.lxr_run_history.specs.Tally.{HasNumbersOf}
-
--- the report of the last pause of a history
-abbrev pub last_report : List Item → PauseReport
-last_report [] = no_report
-last_report (Renew ns ∷ h) = last_report h
-last_report (Call t o r ∷ h) = last_report h
-last_report (Pause report ∷ h) = report
-
--- a space stands for what a history led to, with some map of places
-pub record StandsAfter (threads : ℕ) (h : List Item) (g : AbstractState) : Type 0 where
-  pub moment : g.moment ≡ moment threads h
-  pub reported : g.reported ≡ last_report h
+use Rattle.lxr_rounds_history.specs.Left as rounds
+use Rattle.lxr_run_history.specs.Run.{plan_of}
 
 -- the limits of the space of a run
 abbrev pub run_limits : Options → ℕ → Limits
-run_limits options threads = record { blocks = options.blocks; threads = threads; log = options.log; remember = options.remember }
+run_limits options threads = rounds.plan_limits (plan_of options) threads
 
 -- the space that a history leaves at its last pause: it is between epochs, and its tally has the history's numbers
-pub record IsLeftWith (options : Options) (threads : ℕ) (h : List Item) (space : Space) (g : AbstractState) : Type 0 where
-  pub stands : StandsAfter threads h g
-  pub between : IsQuiescent space g
-  pub limits : space.limits ≡ run_limits options threads
-  pub tally : HasNumbersOf threads h space.tally
-
--- so it is with some map of places
 abbrev pub IsLeftBy : Options → ℕ → List Item → Space → Type 0
-IsLeftBy options threads h space = (g : AbstractState) × IsLeftWith options threads h space g
+IsLeftBy options threads h space = rounds.IsLeftBy (plan_of options) threads h space

@@ -23,26 +23,29 @@ use Rattle.lxr_core.proofs.OrderLemmas.{lengths_add}
 use Rattle.lxr_core.proofs.ScriptLemmas.{opened_full, opened_script, scripts_stay}
 use Rattle.lxr_run_replay.proofs.ClosingLemmas.{may_close}
 use Rattle.lxr_run_threads.specs.Running.{CanRun}
-use Rattle.lxr_run_threads.proofs.OpenedLemmas.{opened_can_run, started_helpers}
+use Rattle.lxr_shared.proofs.StartedLemmas.{started_helpers}
+use Rattle.lxr_text_stream.specs.Streams.{Appends}
+use Rattle.lxr_run_threads.proofs.OpenedLemmas.{opened_can_run}
 use Rattle.lxr_sights.specs.Sights.{Sight}
 use Rattle.lxr_words.specs.declared.Options.{Options}
 use Rattle.lxr_words.specs.Ranges.{AreInRange}
-use Rattle.lxr_run_invariant.specs.LoopInvariant.{Task}
-use Rattle.lxr_run_invariant.specs.Laws.{beginning_of}
-use Rattle.lxr_run_invariant.proofs.ActorLemmas.{as_many}
-use Rattle.lxr_run_invariant.proofs.EpochLemmas.{epochs_run, may_open as epoch_begins}
-use Rattle.lxr_run_invariant.proofs.PauseLemmas.{few_threads}
+use Rattle.lxr_run_loop.specs.Tasks.{Task, rounds_of}
+use Rattle.lxr_rounds_invariant.specs.Laws.{beginning_of}
+use Rattle.lxr_rounds_invariant.proofs.ActorLemmas.{as_many}
+use Rattle.lxr_rounds_invariant.proofs.EpochLemmas.{epochs_run, may_open as epoch_begins}
+use Rattle.lxr_rounds_invariant.proofs.PauseLemmas.{few_threads}
 use Rattle.lxr_run_loop.specs.Drawing.{GoesOn}
 use Rattle.lxr_run_loop.specs.Orders.{NotesCalls}
 use Rattle.lxr_run_loop.specs.Progress.{HasMadeEpochInOrder, IsBetweenRounds}
 use Rattle.lxr_run_loop.proofs.OrderLemmas.{calls_follow}
+use Rattle.lxr_run_loop.proofs.TextLemmas.{told_extends, totals_extend}
 use Rattle.lxr_run_loop.proofs.ThreadLemmas.{as_many_helpers}
-use Rattle.lxr_run_loop.proofs.TracerLemmas.{tracers_run}
+use Rattle.lxr_rounds.proofs.TracerLemmas.{tracers_run}
 
 -- ---- an epoch of a run
 
 module _ (task : Task) (space : Space) (written : Option (List ℕ)) (seen : Option (List Sight)) (actors : List AnyActor) (h : List Item) (g : AbstractState) (amid : IsBetweenRounds task space written seen actors h g)
-    (opened : Space) (started : List AnyActor) (opens : Opens space opened actors started) (holds : HoldsExecution (beginning_of task space h g) (execution_at (beginning_of task space h g) opened started)) where
+    (opened : Space) (started : List AnyActor) (opens : Opens space opened actors started) (holds : HoldsExecution (beginning_of (rounds_of task) space h g) (execution_at (beginning_of (rounds_of task) space h g) opened started)) where
   -- there are as many actors as before
   pub started_many : length started ≡ length actors
   started_many = sym (length-map started unfilled) ∙ opens.actors.as_many
@@ -60,11 +63,11 @@ module _ (task : Task) (space : Space) (written : Option (List ℕ)) (seen : Opt
 
   -- so the epoch can run
   pub can_run : (options : Options) → task.options ≡ options → AreInRange options → CanRun options opened started
-  can_run options with_options range = opened_can_run options (beginning_of task space h g) space opened actors started (record {
+  can_run options with_options range = opened_can_run options (beginning_of (rounds_of task) space h g) space opened actors started (record {
     few =
         let all = lengths_add actors in
-        let mutators = as_many task h (mutators_in actors) amid.epochs.actors_rest.mutators in
-        let threads = few_threads task space written seen h g amid.epochs.come in
+        let mutators = as_many (rounds_of task) h (mutators_in actors) amid.epochs.actors_rest.mutators in
+        let threads = few_threads (rounds_of task) space seen h g amid.epochs.come in
         let workers = amid.epochs.actors_rest.workers in
         let few = amid.epochs.actors_rest.few in
         let tracers = amid.epochs.actors_rest.tracers in
@@ -77,11 +80,11 @@ module _ (task : Task) (space : Space) (written : Option (List ℕ)) (seen : Opt
   module _ (gone : Space) (moved : List AnyActor) (x x' : Option ℕ) (on : GoesOn opened gone started moved x x') where
     -- what it has come to
     abbrev pub execution_on : Execution
-    execution_on = tell_all (beginning_of task space h g) (execution_at (beginning_of task space h g) opened started) on.events
+    execution_on = tell_all (beginning_of (rounds_of task) space h g) (execution_at (beginning_of (rounds_of task) space h g) opened started) on.events
 
     -- and may be closed
-    pub may_be_closed : MayClose (beginning_of task space h g) execution_on gone moved
-    may_be_closed = may_close (beginning_of task space h g) (execution_at (beginning_of task space h g) opened started) on.events opened gone started moved (record {
+    pub may_be_closed : MayClose (beginning_of (rounds_of task) space h g) execution_on gone moved
+    may_be_closed = may_close (beginning_of (rounds_of task) space h g) (execution_at (beginning_of (rounds_of task) space h g) opened started) on.events opened gone started moved (record {
       holds = holds;
       core = refl;
       space_is = opens.space.rest;
@@ -112,17 +115,17 @@ module _ (task : Task) (space : Space) (written : Option (List ℕ)) (seen : Opt
     tracers_on = ap (λ (k : Core AnyActor). length (tracers_in k.actors)) (core_is ∙ on.run) ∙ tracers_run (core_of opened.words started) on.events ∙ same_tracers
 
     -- closing leaves as many actors
-    pub closed_many : (after : Space) (actors' : List AnyActor) → Closes (beginning_of task space h g) execution_on gone after actors' → length actors' ≡ length moved
+    pub closed_many : (after : Space) (actors' : List AnyActor) → Closes (beginning_of (rounds_of task) space h g) execution_on gone after actors' → length actors' ≡ length moved
     closed_many after actors' closes = ap length closes.gave ∙ length-map execution_on.core.actors actor_given_up ∙ ap (λ (k : Core AnyActor). length k.actors) core_is
 
     -- once it is closed the run has made an epoch
-    pub has_made_epoch : (after : Space) (actors' : List AnyActor) → Closes (beginning_of task space h g) execution_on gone after actors' → (order order' : Option (List kept.Item)) → NotesCalls (core_of opened.words started) on.events order order'
+    pub has_made_epoch : (after : Space) (actors' : List AnyActor) → Closes (beginning_of (rounds_of task) space h g) execution_on gone after actors' → (order order' : Option (List kept.Item)) → NotesCalls (core_of opened.words started) on.events order order'
         → HasMadeEpochInOrder task space after written seen actors actors' h x x' order order'
     has_made_epoch after actors' closes order order' notes =
         let words : gone ≡ record space { words = gone.words } = on.rest ∙ ap (λ (s : Space). record s { words = gone.words }) opens.space.rest in
         let finished : AreFinished (mutators_in execution_on.core.actors) = subst AreFinished (sym (ap (λ (k : Core AnyActor). mutators_in k.actors) core_is)) on.finished in
         let workers = as_many_helpers actors execution_on.core.actors task.script many_on tracers_on amid.epochs.actors_rest.mutators.script script_on ∙ amid.epochs.actors_rest.workers in
-        let (m, ran, totals) = epochs_run task task.script space gone after written seen actors actors' h g execution_on amid.epochs (goes_on_itself task.script) (record {
+        let (m, ran, extends) = epochs_run (rounds_of task) task.script space gone after seen actors actors' h g execution_on amid.epochs (goes_on_itself task.script) (record {
           words = words;
           script = script_on;
           workers = workers;
@@ -134,12 +137,13 @@ module _ (task : Task) (space : Space) (written : Option (List ℕ)) (seen : Opt
             history = execution_on.history;
             abstract_state = m;
             ran = ran;
+            text = subst (Appends task.written written) (sym (told_extends task.options.command task.options.counts (length task.script) task.options.every h execution_on.history extends)) amid.text;
             makes = record {
               script = amid.epochs.actors_rest.mutators.script;
               workers = amid.epochs.actors_rest.workers;
               tracers = amid.epochs.actors_rest.tracers;
               abstract_state = g;
-              begins = epoch_begins task space written seen actors h g amid.epochs;
+              begins = epoch_begins (rounds_of task) space seen actors h g amid.epochs;
               all_listed = amid.epochs.all_listed;
               unwaiting = amid.epochs.served.unwaiting;
               opened = opened;
@@ -152,8 +156,8 @@ module _ (task : Task) (space : Space) (written : Option (List ℕ)) (seen : Opt
               history = refl;
             };
             full = subst (λ z. AreFull (mutators_in z)) (sym closes.gave) (given_full execution_on.core.actors full_on);
-            totals = totals;
+            totals = totals_extend (length task.script) task.options.every h execution_on.history extends;
             pauses = ap (λ (s : Space). s.pauses) closes.rest ∙ ap (λ (s : Space). s.pauses) words;
           },
-          calls_follow (core_of opened.words started) on.events order order' notes (beginning_of task space h g) (execution_at (beginning_of task space h g) opened started) refl,
+          calls_follow (core_of opened.words started) on.events order order' notes (beginning_of (rounds_of task) space h g) (execution_at (beginning_of (rounds_of task) space h g) opened started) refl,
         )

@@ -29,9 +29,10 @@ use Rattle.lxr_serve.specs.Answering.{Answers, TakeTurns, TakesTurn, begins, nex
 use Rattle.lxr_serve.specs.declared.Served.{Served}
 use Rattle.lxr_serve.specs.declared.Served.TheVariants as outcome
 use Rattle.lxr_run_history.specs.Sums.{totals_of}
-use Rattle.lxr_run_history.proofs.ThreadSums.{counted_in, one}
-use Rattle.lxr_run_invariant.specs.LoopInvariant.{Task, pace_of}
-use Rattle.lxr_run_loop.specs.Answering.{AnswersWaiting, all, collects}
+use Rattle.lxr_rounds_history.proofs.ThreadSums.{counted_in, one}
+use Rattle.lxr_rounds_invariant.specs.LoopInvariant.{pace_of}
+use Rattle.lxr_run_loop.specs.Tasks.{Task, rounds_of}
+use Rattle.lxr_rounds.specs.Answering.{AnswersWaiting, all, collects}
 use Rattle.lxr_run_loop.specs.Drawing.{IsDrawn, at_opening, by_answers, by_epoch, by_listing}
 
 -- ---- one pause
@@ -127,6 +128,6 @@ pub drawn_unrenewed : (task : Task) (h : List Item) (x : Option ℕ) (space : Sp
 drawn_unrenewed task h x space actors (at_opening s a opened made) = tt
 drawn_unrenewed task h x space actors (by_epoch k l y y' s closed paused a a' asked drawn makes right behind) =
     subst IsUnrenewed (sym makes.history) (extends_unrenewed _ _ k _ makes.closes.extends (drawn_unrenewed task k y s a drawn))
-drawn_unrenewed task h x space actors (by_answers k l y g collected s s' a a' written seen drawn begun answers keeps) =
-    waiting_unrenewed (pace_of task.options) collected (mutators_in a) s k (mutators_in a') s' l answers (drawn_unrenewed task k y s a drawn)
+drawn_unrenewed task h x space actors (by_answers k l y g collected s s' a a' seen drawn begun answers keeps) =
+    waiting_unrenewed (pace_of (rounds_of task).plan) collected (mutators_in a) s k (mutators_in a') s' l answers (drawn_unrenewed task k y s a drawn)
 drawn_unrenewed task h x space actors (by_listing k y s s' a drawn lists) = drawn_unrenewed task k y s a drawn

@@ -1,9 +1,9 @@
 -- A run begins between two epochs: the space is opened, and each thread has its mutator.
-use Rattle.std.proofs.Common.{⊎_elim, inl, inr, ◌⊎◌, ◌≡◌, ◌≢◌, ℕ, zero, suc, ◌+◌, ◌*◌, ◌≤◌, refl, sym, ap, subst, ◌∙◌, arith, false, List, [], ◌∷◌, ◌++◌, map, length, append_assoc, length-append}
+use Rattle.std.proofs.Common.{⊎_elim, inr, ◌⊎◌, ◌≡◌, ◌≢◌, ℕ, ◌+◌, ◌*◌, ◌≤◌, refl, sym, ap, subst, ◌∙◌, arith, false, List, [], ◌∷◌, ◌++◌, map, length, length-append}
 use Rattle.std.specs.Prelude.{Option, Some, replicate, slice_get}
 use Rattle.std.specs.List.{All}
-use Rattle.std.proofs.lemmas.List.{append-nil, length-map, length-replicate, map-append}
-use Rattle.std.proofs.lemmas.List.Elements.{All-head, All-replicate, All-tail, All-weaker}
+use Rattle.std.proofs.lemmas.List.{append-nil, length-map, map-append}
+use Rattle.std.proofs.lemmas.List.Elements.{All-head, All-tail, All-weaker}
 use Rattle.std.proofs.Math.Nat.{mul-le-mul}
 use Rattle.lxr_alloc.specs.declared.TheConstants.{MOST_OPERATIONS}
 use Rattle.lxr_layout.specs.declared.limits.Limits.{Limits}
@@ -14,16 +14,15 @@ use Rattle.lxr_graph.specs.declared.Op.TheVariants as op
 use Rattle.lxr_text_script.specs.Limits.{IsScript, IsThread, IsWritten}
 use Rattle.lxr_text_script.specs.Limits as script
 use Rattle.lxr_mutator.specs.Mutating.{Mutating}
-use Rattle.lxr_mutator.specs.Mutators.{HaveIndexes, IsFull, IsHeld, IsMutator, IsOperation, first}
+use Rattle.lxr_mutator.specs.Mutators.{HaveIndexes, IsFull, IsMutator, IsOperation, first}
+use Rattle.lxr_mutator.proofs.RegisterLemmas.{registers_cleared}
 use Rattle.lxr_core.specs.declared.actors.AnyActor.{AnyActor}
 use Rattle.lxr_core.specs.declared.actors.AnyActor.TheVariants as any
-use Rattle.lxr_core.specs.Actors.{decrementers_in, in_order, mutators_in, tracers_in}
-use Rattle.lxr_core.specs.Resting.{HelperRests, HelpersRest, TracerRests}
-use Rattle.lxr_core.proofs.OrderLemmas.{decrementers_of_order, mutators_of_both, mutators_of_order, tracers_of_order}
+use Rattle.lxr_core.specs.Actors.{in_order, mutators_in}
+use Rattle.lxr_core.specs.Resting.{HelpersRest}
+use Rattle.lxr_core.proofs.OrderLemmas.{mutators_of_both, mutators_of_order}
 use Rattle.lxr_decrement.specs.Decrementers.{first as first_decrementer}
-use Rattle.lxr_decrement.proofs.StayLemmas.{stay_so}
 use Rattle.lxr_trace.specs.Tracers.{first as first_tracer}
-use Rattle.lxr_trace.proofs.StayLemmas.{stay_so as tracers_stay}
 use Rattle.lxr_model.specs.Belongs.{Script}
 use Rattle.lxr_words.specs.Ranges.{AreInRange}
 use Rattle.lxr_image.specs.declared.space.Space.{Space}
@@ -37,13 +36,19 @@ use Rattle.lxr_words.specs.declared.Command.{Command}
 use Rattle.lxr_words.specs.declared.Command.TheVariants.{Order}
 use Rattle.lxr_words.specs.declared.Options.{Options}
 use Rattle.lxr_run_history.specs.Left.{run_limits}
-use Rattle.lxr_run_invariant.specs.LoopInvariant.{Task, task_limits, threads_of}
-use Rattle.lxr_run_invariant.proofs.OpeningLemmas.{between_opened}
+use Rattle.lxr_text_stream.specs.Streams.{Appends}
+use Rattle.lxr_text_stream.proofs.StreamLemmas.{Appends-nil}
+use Rattle.lxr_rounds_invariant.specs.LoopInvariant.{task_limits, threads_of}
+use Rattle.lxr_rounds_invariant.proofs.OpeningLemmas.{between_opened}
 use Rattle.lxr_run_loop.specs.Courses.{IsCourseOf, opening_course}
 use Rattle.lxr_run_loop.specs.Orders.{IsOrderOf, opening_order}
 use Rattle.lxr_run_loop.specs.Drawing.{at_opening}
-use Rattle.lxr_run_loop.specs.Made.{AreMade, HelpersStandBehind, MutatorsAreMade}
+use Rattle.lxr_run_loop.specs.Made.{AreMade, MutatorsAreMade}
+use Rattle.lxr_rounds.specs.Helpers.{HelpersStandBehind}
+use Rattle.lxr_rounds.proofs.HelperLemmas.{behind_in_order, helpers_made, pushed_at}
 use Rattle.lxr_run_loop.specs.Opening.{IsOpenedRun}
+use Rattle.lxr_run_loop.specs.Tasks.{Task, rounds_of}
+use Rattle.lxr_run_loop.proofs.TextLemmas.{told_none}
 
 -- ---- a mutator as it is made
 
@@ -63,16 +68,17 @@ indexes l limits =
 first_is : (l : Limits) (every t : ℕ) (operations : List Op) → AreLimits l → (1 ≤ t) × (t ≤ l.threads) → All IsOperation operations → length operations ≤ MOST_OPERATIONS → (1 ≤ every) × (every ≤ 1048576)
     → IsMutator (first t operations l every)
 first_is l every t operations limits thread each few range = record {
-  thread = (thread.0, omega (arith, limits.threads.1));
-  operations = each;
-  few = few;
-  every = range;
-  registers = refl;
-  held = All-replicate IsHeld 16 (record { 0 = 0 }) (omega arith);
+  setup = record {
+    thread = (thread.0, omega (arith, limits.threads.1));
+    operations = each;
+    few = few;
+    room = omega arith;
+    indexes = indexes l limits;
+    every = range;
+    before = omega arith;
+  };
+  registers = registers_cleared;
   spans = (omega arith, omega arith);
-  before = omega arith;
-  indexes = indexes l limits;
-  room = omega arith;
   few_replies = omega arith;
   replies = inr (omega arith);
   busy = λ e. absurd (cc);
@@ -101,17 +107,6 @@ pub thread_of : (threads taken rest : List (Roomy Op)) (o : Roomy Op) → thread
 thread_of threads taken rest o split is = thread_in taken rest o (subst (λ (z : List (Roomy Op)). All IsThread (map (λ (x : Roomy Op). x.items) z)) split is.each)
 
 -- ---- one mutator more
-
--- what stands in a list with one element more: an element of the list, or the one more
-pub pushed_at : {X : Type 0} (xs : List X) (x y : X) (i : ℕ) → slice_get (xs ++ x ∷ []) i ≡ Some y → (slice_get xs i ≡ Some y) ⊎ ((i ≡ length xs) × (x ≡ y))
-pushed_at [] x y zero at = inr (refl, cc)
-pushed_at [] x y (suc i) at = absurd (cc)
-pushed_at (z ∷ xs) x y zero at = inl at
-pushed_at (z ∷ xs) x y (suc i) at =
-    ⊎_elim
-    (λ (before : slice_get xs i ≡ Some y). inl before)
-    (λ (last : (i ≡ length xs) × (x ≡ y)). inr (omega arith, last.1))
-    (pushed_at xs x y i at)
 
 -- the mutators of so many threads, and that of the next
 made_more : (l : Limits) (every : ℕ) (taken : List (Roomy Op)) (o : Roomy Op) (mutators : List Mutating) (m : Mutating) → MutatorsAreMade l every (map (λ (x : Roomy Op). x.items) taken) mutators
@@ -176,30 +171,6 @@ none_made l every = record { mutators = record { script = refl; each = λ i m at
 
 -- ---- helpers behind the mutators
 
--- one element more of the same
-pub same_more : {X : Type 0} (n : ℕ) (x : X) → replicate n x ++ x ∷ [] ≡ replicate (suc n) x
-same_more zero x = refl
-same_more (suc n) x = ap (λ z. x ∷ z) (same_more n x)
-
--- one actor more of the same behind these
-pub one_behind : {X : Type 0} (actor : X → AnyActor) (n k : ℕ) (x y : X) (before actors actors' : List AnyActor) → actors ≡ before ++ map actor (replicate n x) → y ≡ x → k ≡ n + 1 → actors' ≡ actors ++ actor y ∷ []
-    → actors' ≡ before ++ map actor (replicate k x)
-one_behind {X} actor n k x y before actors actors' are is next pushed =
-    let one : suc n ≡ k = omega arith in
-    pushed
-    ∙ ap (λ z. actors ++ actor z ∷ []) is
-    ∙ ap (λ (xs : List AnyActor). xs ++ actor x ∷ []) are
-    ∙ append_assoc before (map actor (replicate n x)) (actor x ∷ [])
-    ∙ ap (λ xs. before ++ xs) (sym (map-append actor (replicate n x) (x ∷ [])) ∙ ap (map actor) (same_more n x ∙ ap (λ j. replicate j x) one))
-
--- helpers that stand behind mutators alone stand behind them in order
-pub behind_in_order : (l : Limits) (w : ℕ) (mutators : List Mutating) (actors actors' : List AnyActor) → actors ≡ map any.Mutator mutators → HelpersStandBehind l w actors actors'
-    → actors' ≡ in_order mutators (replicate w (first_decrementer l)) (replicate w (first_tracer l))
-behind_in_order l w mutators actors actors' alone stand =
-    let ds = map any.Decrementer (replicate w (first_decrementer l)) in
-    let ts = map any.Tracer (replicate w (first_tracer l)) in
-    stand ∙ ap (λ (xs : List AnyActor). xs ++ ds ++ ts) alone ∙ append_assoc (map any.Mutator mutators) ds ts
-
 -- so all actors are made
 pub all_made : (l : Limits) (every w : ℕ) (script : Script) (actors actors' : List AnyActor) → AreMade l every 0 0 script actors → HelpersStandBehind l w actors actors' → AreMade l every w w script actors'
 all_made l every w script actors actors' made stand =
@@ -209,40 +180,6 @@ all_made l every w script actors actors' made stand =
     record {
       mutators = subst (MutatorsAreMade l every script) (sym same) made.mutators;
       helpers = ordered ∙ ap (λ (ms : List Mutating). in_order ms (replicate w (first_decrementer l)) (replicate w (first_tracer l))) (sym same);
-    }
-
--- ---- the helpers rest
-
--- what stands in a list of the same
-same_each : {X : Type 0} (n i : ℕ) (x y : X) → slice_get (replicate n x) i ≡ Some y → y ≡ x
-same_each zero i x y at = absurd (cc)
-same_each (suc n) zero x y at = cc
-same_each (suc n) (suc i) x y at = same_each n i x y at
-
--- such helpers, in order behind the mutators, are those among the actors, and they rest
-pub record HelpersAreMade (l : Limits) (w n : ℕ) (actors : List AnyActor) : Type 0 where
-  pub rest : HelpersRest l actors
-  pub decrementers : length (decrementers_in actors) ≡ w
-  pub tracers : length (tracers_in actors) ≡ n
-
-pub helpers_made : (l : Limits) (w n : ℕ) (actors : List AnyActor) → AreLimits l → actors ≡ in_order (mutators_in actors) (replicate w (first_decrementer l)) (replicate n (first_tracer l)) → HelpersAreMade l w n actors
-helpers_made l w n actors limits ordered =
-    let ds = replicate w (first_decrementer l) in
-    let ts = replicate n (first_tracer l) in
-    let decrementers : decrementers_in actors ≡ ds = ap decrementers_in ordered ∙ decrementers_of_order (mutators_in actors) ds ts in
-    let tracers : tracers_in actors ≡ ts = ap tracers_in ordered ∙ tracers_of_order (mutators_in actors) ds ts in
-    record {
-      rest = record {
-        order = ordered ∙ (ap (λ xs. in_order (mutators_in actors) xs ts) (sym decrementers) ∙ ap (in_order (mutators_in actors) (decrementers_in actors)) (sym tracers));
-        each = λ i d at.
-            let is = same_each w i (first_decrementer l) d (subst (λ xs. slice_get xs i ≡ Some d) decrementers at) in
-            subst (HelperRests l) (sym is) (record { decrementer = record { sound = stay_so.first l limits; regions = refl }; rests = refl });
-        tracers = λ i d at.
-            let is = same_each n i (first_tracer l) d (subst (λ xs. slice_get xs i ≡ Some d) tracers at) in
-            subst (TracerRests l) (sym is) (record { tracer = record { sound = tracers_stay.first l limits; regions = refl }; rests = refl });
-      };
-      decrementers = ap length decrementers ∙ length-replicate w (first_decrementer l);
-      tracers = ap length tracers ∙ length-replicate n (first_tracer l);
     }
 
 -- ---- the opened run
@@ -272,10 +209,10 @@ pub opened_run : (options : Options) (script : List (Roomy Op)) (limits : Limits
 opened_run options script limits space actors same ranges is made opened between listed written seen =
     let task : Task = record { options = options; renews = false; script = map (λ (x : Roomy Op). x.items) script; written = written; seen = seen } in
     let many : length (map (λ (x : Roomy Op). x.items) script) ≡ length script = length-map script (λ (x : Roomy Op). x.items) in
-    let of_task : limits ≡ task_limits task = same ∙ ap (run_limits options) (sym many) in
-    let threads : limits.threads ≡ threads_of task = ap (λ (l : Limits). l.threads) of_task in
+    let of_task : limits ≡ task_limits (rounds_of task) = same ∙ ap (run_limits options) (sym many) in
+    let threads : limits.threads ≡ threads_of (rounds_of task) = ap (λ (l : Limits). l.threads) of_task in
     let helpers = helpers_made limits options.workers options.workers actors (subst AreLimits (sym same) (run_fits options script ranges is)) made.helpers in
-    let between_epochs = between_opened task space (opening_abstract_state limits.threads) actors is.least
+    let between_epochs = between_opened (rounds_of task) space (opening_abstract_state limits.threads) actors is.least
     (record {
       moment = ap opening_moment threads;
       at = refl;
@@ -298,4 +235,4 @@ opened_run options script limits space actors same ranges is made opened between
       tracers = helpers.tracers;
       few = ranges.workers.1;
     }) in
-    ([], opening_abstract_state limits.threads, record { epochs = between_epochs; full = λ i m at. subst IsFull (sym (made.mutators.each i m at)) (omega arith) }, at_opening space actors (subst (IsOpened space) of_task opened) (subst (λ l. AreMade l options.every options.workers options.workers task.script actors) of_task made), none_told options space)
+    ([], opening_abstract_state limits.threads, record { epochs = between_epochs; text = subst (Appends written written) (sym (told_none options.command options.counts)) (Appends-nil written); full = λ i m at. subst IsFull (sym (made.mutators.each i m at)) (omega arith) }, at_opening space actors (subst (IsOpened space) of_task opened) (subst (λ l. AreMade l options.every options.workers options.workers task.script actors) of_task made), none_told options space)

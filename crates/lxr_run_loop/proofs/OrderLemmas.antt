@@ -28,7 +28,7 @@ use Rattle.lxr_core.specs.Executions.{Execution, tell_all}
 use Rattle.lxr_core.proofs.OrderLemmas.{mutator_from}
 use Rattle.lxr_run_replay.specs.Recording.{AreCallsOf, calls_since}
 use Rattle.lxr_run_replay.specs.Replaying.{Replays}
-use Rattle.lxr_run_invariant.proofs.ActorLemmas.{found}
+use Rattle.lxr_rounds_invariant.proofs.ActorLemmas.{found}
 use Rattle.lxr_serve.specs.Answering.{Answers, TakeTurns, TakesTurn, begins, next, passes, refuses, serves}
 use Rattle.lxr_serve.specs.declared.Served.{Served}
 use Rattle.lxr_serve.specs.declared.Served.TheVariants as outcome

@@ -29,19 +29,21 @@ use Rattle.lxr_core.specs.Ordering.{AreFull}
 use Rattle.lxr_core.proofs.OrderLemmas.{mutator_at}
 use Rattle.lxr_text_print.specs.declared.summary.Sums.{Sums}
 use Rattle.lxr_sights.specs.Sights.{Sight}
-use Rattle.lxr_words.specs.declared.Options.{Options}
+use Rattle.lxr_rounds_history.specs.Plan.{Plan}
 use Rattle.lxr_run_history.specs.declared.totals.Totals.{Totals}
-use Rattle.lxr_run_history.specs.Left.{last_report}
-use Rattle.lxr_run_history.specs.Run.{IsHistoryWith, script_terms_with}
+use Rattle.lxr_rounds_history.specs.Left.{last_report}
+use Rattle.lxr_rounds_history.specs.Histories.{IsHistoryWith, script_terms_with}
 use Rattle.lxr_run_history.specs.Sums.{fulls_by, fulls_in, operations_in, pauses_in, sums_of, totals_of}
-use Rattle.lxr_run_history.specs.Tally.{tally_of}
-use Rattle.lxr_run_history.proofs.TallyLemmas.{pauses_stay}
-use Rattle.lxr_run_history.proofs.ThreadSums.{counted_in, one, replied}
-use Rattle.lxr_run_invariant.specs.LoopInvariant.{HasRunTo, Task, done_of, terms_of, threads_of}
-use Rattle.lxr_run_invariant.proofs.ActorLemmas.{calls_are_done, kind_is}
-use Rattle.lxr_run_invariant.proofs.PauseLemmas.{all_done_few}
+use Rattle.lxr_rounds_history.specs.Tally.{tally_of}
+use Rattle.lxr_rounds_history.proofs.TallyLemmas.{pauses_stay}
+use Rattle.lxr_rounds_history.proofs.ThreadSums.{counted_in, one, replied}
+use Rattle.lxr_rounds_invariant.specs.LoopInvariant.{HasRunTo, Task, done_of, terms_of, threads_of}
+use Rattle.lxr_rounds_invariant.proofs.ActorLemmas.{calls_are_done, kind_is}
+use Rattle.lxr_rounds_invariant.proofs.PauseLemmas.{all_done_few}
 use Rattle.lxr_run_loop.specs.declared.course.Course.{Course}
 use Rattle.lxr_run_loop.specs.Progress.{IsComplete}
+use Rattle.lxr_run_loop.specs.Tasks as tasks
+use Rattle.lxr_run_loop.specs.Tasks.{rounds_of}
 use Rattle.lxr_run_loop.specs.Summing.{KeepAll, calls_by, is_full, refusals_by}
 use Rattle.lxr_run_loop.proofs.LiveLemmas.{counts_left, drawn_unrenewed}
 
@@ -103,32 +105,32 @@ pauses_told threads (Pause report ∷ h) = ap (λ n. n + 1) (pauses_told threads
 -- ---- the last pause
 
 -- all threads have ended
-all_ended : (renews : Bool) (options : Options) (script : Script) (h : List Item) → IsHistoryWith renews options script h → ends h ≡ length script
-all_ended renews options script [] whole = absurd whole.belongs.last
-all_ended renews options script (Renew ns ∷ h) whole = absurd whole.belongs.last
-all_ended renews options script (Call t o r ∷ h) whole = absurd whole.belongs.last
-all_ended renews options script (Pause report ∷ h) whole = whole.belongs.last.0
+all_ended : (renews : Bool) (plan : Plan) (script : Script) (h : List Item) → IsHistoryWith renews plan script h → ends h ≡ length script
+all_ended renews plan script [] whole = absurd whole.belongs.last
+all_ended renews plan script (Renew ns ∷ h) whole = absurd whole.belongs.last
+all_ended renews plan script (Call t o r ∷ h) whole = absurd whole.belongs.last
+all_ended renews plan script (Pause report ∷ h) whole = whole.belongs.last.0
 
 -- so the last pause collects
-pub last_collects : (renews : Bool) (options : Options) (script : Script) (h : List Item) → IsHistoryWith renews options script h → IsRightAfterCollecting h
-last_collects renews options script [] whole = absurd whole.belongs.last
-last_collects renews options script (Renew ns ∷ h) whole = absurd whole.belongs.last
-last_collects renews options script (Call t o r ∷ h) whole = absurd whole.belongs.last
-last_collects renews options script (Pause report ∷ h) whole = must report.kind whole.legal.0.2.stands
+pub last_collects : (renews : Bool) (plan : Plan) (script : Script) (h : List Item) → IsHistoryWith renews plan script h → IsRightAfterCollecting h
+last_collects renews plan script [] whole = absurd whole.belongs.last
+last_collects renews plan script (Renew ns ∷ h) whole = absurd whole.belongs.last
+last_collects renews plan script (Call t o r ∷ h) whole = absurd whole.belongs.last
+last_collects renews plan script (Pause report ∷ h) whole = must report.kind whole.legal.0.2.stands
   where
-    must : (k : Kind) → MayStand (script_terms_with renews options script) h (moment (length script) h) report.number k → k ≡ kind.Collect
+    must : (k : Kind) → MayStand (script_terms_with renews plan script) h (moment (length script) h) report.number k → k ≡ kind.Collect
     must kind.Collect stands = refl
     must (kind.End j) stands = absurd (stands.0 (inr whole.belongs.last.0))
     must kind.Begin stands = absurd (stands.0 (inr whole.belongs.last.0))
     must kind.Plain stands = absurd (stands.0 (inr whole.belongs.last.0))
 
 -- and its report has a count for each name that is left
-counts_all : (renews : Bool) (options : Options) (script : Script) (h : List Item) → IsHistoryWith renews options script h → length (last_report h).counts ≡ length (moment (length script) h).unreclaimed
-counts_all renews options script [] whole = absurd whole.belongs.last
-counts_all renews options script (Renew ns ∷ h) whole = absurd whole.belongs.last
-counts_all renews options script (Call t o r ∷ h) whole = absurd whole.belongs.last
-counts_all renews options script (Pause report ∷ h) whole =
-    let counts = subst (AreCounts (moment (length script) h) report) (ap is_draining (last_collects renews options script (Pause report ∷ h) whole)) whole.legal.0.2.reports.1.counts in
+counts_all : (renews : Bool) (plan : Plan) (script : Script) (h : List Item) → IsHistoryWith renews plan script h → length (last_report h).counts ≡ length (moment (length script) h).unreclaimed
+counts_all renews plan script [] whole = absurd whole.belongs.last
+counts_all renews plan script (Renew ns ∷ h) whole = absurd whole.belongs.last
+counts_all renews plan script (Call t o r ∷ h) whole = absurd whole.belongs.last
+counts_all renews plan script (Pause report ∷ h) whole =
+    let counts = subst (AreCounts (moment (length script) h) report) (ap is_draining (last_collects renews plan script (Pause report ∷ h) whole)) whole.legal.0.2.reports.1.counts in
     ap (λ (cs : List Count). length cs) counts
     ∙ length-map (unreclaimed_after (moment (length script) h) report)
     (count_entry (moment (length script) h).state (unreclaimed_after (moment (length script) h) report) (union report.stuck (moment (length script) h).stuck))
@@ -150,10 +152,10 @@ summed threads operations pauses t full live = record {
 }
 
 -- the actors of a run keep their replies, where no mutator has room for a further operation
-pub all_kept : (task : Task) (space : Space) (written : Option (List ℕ)) (seen : Option (List Sight)) (actors : List AnyActor) (h : List Item) → HasRunTo task space written seen actors h → AreFull (mutators_in actors) → KeepAll actors
-all_kept task space written seen actors h run full i (any.Mutator m) at = full i m (mutator_at actors i m run.actors_rest.helpers.order at)
-all_kept task space written seen actors h run full i (any.Decrementer d) at = tt
-all_kept task space written seen actors h run full i (any.Tracer d) at = tt
+pub all_kept : (task : Task) (space : Space) (seen : Option (List Sight)) (actors : List AnyActor) (h : List Item) → HasRunTo task space seen actors h → AreFull (mutators_in actors) → KeepAll actors
+all_kept task space seen actors h run full i (any.Mutator m) at = full i m (mutator_at actors i m run.actors_rest.helpers.order at)
+all_kept task space seen actors h run full i (any.Decrementer d) at = tt
+all_kept task space seen actors h run full i (any.Tracer d) at = tt
 
 same_sums : (threads threads' operations operations' pauses pauses' : ℕ) (t t' : Totals) (full full' live live' : ℕ) → threads ≡ threads' → operations ≡ operations' → pauses ≡ pauses' → t ≡ t' → full ≡ full' → live ≡ live'
     → summed threads operations pauses t full live ≡ summed threads' operations' pauses' t' full' live'
@@ -165,7 +167,7 @@ same_sums threads threads' operations operations' pauses pauses' t t' full full'
     ∙ ap (λ x. summed threads' operations' pauses' t' x live) e
     ∙ ap (λ x. summed threads' operations' pauses' t' full' x) f
 
-module _ (task : Task) (space : Space) (written : Option (List ℕ)) (seen : Option (List Sight)) (actors : List AnyActor) (h : List Item) (run : HasRunTo task space written seen actors h) where
+module _ (task : Task) (space : Space) (seen : Option (List Sight)) (actors : List AnyActor) (h : List Item) (run : HasRunTo task space seen actors h) where
   pub threads_are : space.limits.threads ≡ threads_of task
   threads_are = ap (λ (l : Limits). l.threads) run.left.1.limits
 
@@ -186,7 +188,7 @@ module _ (task : Task) (space : Space) (written : Option (List ℕ)) (seen : Opt
       let same = calls_of_actors actors in
       let done = calls_are_done task h (mutators_in actors) run.history.legal.0 run.actors_rest.mutators in
       let split = calls_are h in
-      let ended = all_ended task.renews task.options task.script h run.history in
+      let ended = all_ended task.renews task.plan task.script h run.history in
       let threads = threads_are in
       omega arith
 
@@ -200,7 +202,7 @@ module _ (task : Task) (space : Space) (written : Option (List ℕ)) (seen : Opt
   all_live : length space.report.counts.items ≡ length (moment (threads_of task) h).unreclaimed
   all_live =
       ap (λ (r : PauseReport). length r.counts) (run.left.1.between.safepoint.numbers.report ∙ run.left.1.stands.reported)
-      ∙ counts_all task.renews task.options task.script h run.history
+      ∙ counts_all task.renews task.plan task.script h run.history
 
   pub sums_are : (totals : Totals) → totals ≡ totals_of h → (calls ended refusals live : ℕ) → calls ≡ sum_by calls_by actors → ended ≡ space.limits.threads → refusals ≡ sum_by refusals_by actors
       → live ≡ length space.report.counts.items → summed space.limits.threads (calls - ended) space.tally.pauses totals refusals live ≡ sums_of (threads_of task) h
@@ -218,14 +220,14 @@ pub record LeavesBy (totals : Totals) (space : Space) : Type 0 where
   pub gone : totals.dead + totals.swept ≤ 1 + totals.promoted
   pub live : 1 + totals.promoted - totals.dead - totals.swept ≡ length space.report.counts.items
 
-pub leaves : (task : Task) (space : Space) (written : Option (List ℕ)) (seen : Option (List Sight)) (actors : List AnyActor) (course : Course) (totals : Totals) → course.totals ≡ totals
+pub leaves : (task : tasks.Task) (space : Space) (written : Option (List ℕ)) (seen : Option (List Sight)) (actors : List AnyActor) (course : Course) (totals : Totals) → course.totals ≡ totals
     → IsComplete task space written seen actors course → LeavesBy totals space
-leaves task space written seen actors course totals same (h, run, drawn, are, noted, full) =
+leaves task space written seen actors course totals same (h, ran, drawn, are, noted, full) =
     subst (λ t. LeavesBy t space) (sym are ∙ same)
-    (let counts = counts_left (terms_of task) h run.history.legal.0 (drawn_unrenewed task h course.generator space actors drawn) in
+    (let counts = counts_left (terms_of (rounds_of task)) h ran.rounds.history.legal.0 (drawn_unrenewed task h course.generator space actors drawn) in
     let left = counts.left in
     let few = counts.few in
-    let live = all_live task space written seen actors h run in
-    let done = calls_are_done task h (mutators_in actors) run.history.legal.0 run.actors_rest.mutators in
-    let calls = few_calls task space written seen actors h run in
+    let live = all_live (rounds_of task) space seen actors h ran.rounds in
+    let done = calls_are_done (rounds_of task) h (mutators_in actors) ran.rounds.history.legal.0 ran.rounds.actors_rest.mutators in
+    let calls = few_calls (rounds_of task) space seen actors h ran.rounds in
     record { room = omega (arith, few, done, calls); gone = omega (arith, left); live = omega (arith, left, live) })

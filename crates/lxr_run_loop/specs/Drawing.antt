@@ -22,14 +22,15 @@ use Rattle.lxr_one_pause.specs.declared.Ask.TheVariants as ask
 use Rattle.lxr_placing.specs.Listing.{ListsAll}
 use Rattle.lxr_serve.specs.Serving.{KeepsHelpers}
 use Rattle.lxr_run_replay.specs.Replaying.{Replays}
-use Rattle.lxr_run_invariant.specs.LoopInvariant.{Task, pace_of, task_limits, terms_of}
-use Rattle.lxr_run_invariant.specs.Laws.{beginning_of}
+use Rattle.lxr_rounds_invariant.specs.LoopInvariant.{pace_of, task_limits, terms_of}
+use Rattle.lxr_rounds_invariant.specs.Laws.{beginning_of}
+use Rattle.lxr_rounds.specs.Answering.{AnswersWaiting}
+use Rattle.lxr_rounds.specs.Pausing.{PausesBehind}
+use Rattle.lxr_rounds.specs.Serving.{BeginsServing}
 use Rattle.lxr_sights.specs.Sights.{Sight}
 use Rattle.lxr_run_loop.specs.Made.{AreMade}
 use Rattle.lxr_run_loop.specs.Orders.{NotesCalls}
-use Rattle.lxr_run_loop.specs.Pausing.{PausesBehind}
-use Rattle.lxr_run_loop.specs.Answering.{AnswersWaiting}
-use Rattle.lxr_run_loop.specs.Serving.{BeginsServing}
+use Rattle.lxr_run_loop.specs.Tasks.{Task, rounds_of}
 
 -- Who made each step of an epoch: where a generator had come to x, its draws, until no mutator had a next step, tracers only where a
 -- trace ran; then helpers finished their units, and the generator came to x'. Where there is no generator, threads ran as they came.
@@ -67,7 +68,7 @@ pub record MakesEpoch (task : Task) (space : Space) (actors : List AnyActor) (h 
   pub workers : length (decrementers_in actors) ≡ task.options.workers
   pub tracers : length (tracers_in actors) ≡ task.options.workers
   pub abstract_state : AbstractState
-  pub begins : Begins (beginning_of task space h abstract_state) space actors
+  pub begins : Begins (beginning_of (rounds_of task) space h abstract_state) space actors
   pub all_listed : FreeBlocksAreListed space
   pub unwaiting : (i : ℕ) (m : Mutating) → slice_get (mutators_in actors) i ≡ Some m → ¬ IsWaiting m
   pub opened : Space
@@ -76,8 +77,8 @@ pub record MakesEpoch (task : Task) (space : Space) (actors : List AnyActor) (h 
   pub gone : Space
   pub moved : List AnyActor
   pub on : GoesOn opened gone started moved x x'
-  pub closes : Closes (beginning_of task space h abstract_state) (tell_all (beginning_of task space h abstract_state) (execution_at (beginning_of task space h abstract_state) opened started) on.events) gone closed actors'
-  pub history : h' ≡ (tell_all (beginning_of task space h abstract_state) (execution_at (beginning_of task space h abstract_state) opened started) on.events).history
+  pub closes : Closes (beginning_of (rounds_of task) space h abstract_state) (tell_all (beginning_of (rounds_of task) space h abstract_state) (execution_at (beginning_of (rounds_of task) space h abstract_state) opened started) on.events) gone closed actors'
+  pub history : h' ≡ (tell_all (beginning_of (rounds_of task) space h abstract_state) (execution_at (beginning_of (rounds_of task) space h abstract_state) opened started) on.events).history
 
 -- The history of a run, whose generator begins with the number that the options give, if they give one, and goes on from epoch to epoch:
 -- behind this history it has come to x, and the run to this space and these actors. It begins with an opened space and actors as they are
@@ -85,12 +86,12 @@ pub record MakesEpoch (task : Task) (space : Space) (actors : List AnyActor) (h 
 -- room is wanted; then runs and free blocks are listed for the next epoch. Epochs alone draw from the generator, and what one of these
 -- steps leaves is what the next one begins with.
 pub data IsDrawn (task : Task) : List Item → Option ℕ → Space → List AnyActor → Type 0 where
-  at_opening : (space : Space) (actors : List AnyActor) → IsOpened space (task_limits task) → AreMade (task_limits task) task.options.every task.options.workers task.options.workers task.script actors
+  at_opening : (space : Space) (actors : List AnyActor) → IsOpened space (task_limits (rounds_of task)) → AreMade (task_limits (rounds_of task)) task.options.every task.options.workers task.options.workers task.script actors
       → IsDrawn task [] task.options.replay space actors
   by_epoch : (h h' : List Item) (x x' : Option ℕ) (space closed paused : Space) (actors actors' : List AnyActor) (asked : Ask) → IsDrawn task h x space actors → MakesEpoch task space actors h x closed actors' h' x'
-      → (asked ≡ ask.Collect) ↔ MustCollect (terms_of task) h' → PausesBehind task asked h' closed paused → IsDrawn task (Pause (report_of paused.report) ∷ h') x' paused actors'
-  by_answers : (h h' : List Item) (x : Option ℕ) (g : AbstractState) (collected : Bool) (space space' : Space) (actors actors' : List AnyActor) (written : Option (List ℕ)) (seen : Option (List Sight)) → IsDrawn task h x space actors
-      → BeginsServing task space written seen collected (mutators_in actors) h g → AnswersWaiting (pace_of task.options) collected (mutators_in actors) space h (mutators_in actors') space' h' → KeepsHelpers actors actors'
+      → (asked ≡ ask.Collect) ↔ MustCollect (terms_of (rounds_of task)) h' → PausesBehind (rounds_of task) asked h' closed paused → IsDrawn task (Pause (report_of paused.report) ∷ h') x' paused actors'
+  by_answers : (h h' : List Item) (x : Option ℕ) (g : AbstractState) (collected : Bool) (space space' : Space) (actors actors' : List AnyActor) (seen : Option (List Sight)) → IsDrawn task h x space actors
+      → BeginsServing (rounds_of task) space seen collected (mutators_in actors) h g → AnswersWaiting (pace_of (rounds_of task).plan) collected (mutators_in actors) space h (mutators_in actors') space' h' → KeepsHelpers actors actors'
       → IsDrawn task h' x space' actors'
   by_listing : (h : List Item) (x : Option ℕ) (space space' : Space) (actors : List AnyActor) → IsDrawn task h x space actors → ListsAll space space' → IsDrawn task h x space' actors
 

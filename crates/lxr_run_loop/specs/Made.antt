@@ -1,5 +1,5 @@
 -- The actors that a run begins with.
-use Rattle.std.specs.Prelude.{◌≡◌, ℕ, ◌+◌, Some, List, ◌++◌, map, replicate, slice_get}
+use Rattle.std.specs.Prelude.{◌≡◌, ℕ, ◌+◌, Some, List, replicate, slice_get}
 use Rattle.lxr_layout.specs.declared.limits.Limits.{Limits}
 use Rattle.lxr_model.specs.Belongs.{Script}
 use Rattle.lxr_mutator.specs.Mutating.{Mutating}
@@ -7,13 +7,7 @@ use Rattle.lxr_mutator.specs.Mutators.{IsMutator, first}
 use Rattle.lxr_decrement.specs.Decrementers.{first as first_decrementer}
 use Rattle.lxr_trace.specs.Tracers.{first as first_tracer}
 use Rattle.lxr_core.specs.declared.actors.AnyActor.{AnyActor}
-use Rattle.lxr_core.specs.declared.actors.AnyActor.TheVariants as any
 use Rattle.lxr_core.specs.Actors.{in_order, mutators_in, script_of}
-
--- behind these actors stand so many decrementers and as many tracers, each as it is made
-abbrev pub HelpersStandBehind : Limits → ℕ → List AnyActor → List AnyActor → Type 0
-HelpersStandBehind limits count actors actors' =
-    actors' ≡ actors ++ map any.Decrementer (replicate count (first_decrementer limits)) ++ map any.Tracer (replicate count (first_tracer limits))
 
 -- there is a mutator for each thread of a script, each as it is made
 pub record MutatorsAreMade (limits : Limits) (every : ℕ) (operations : Script) (mutators : List Mutating) : Type 0 where

@@ -9,12 +9,13 @@ use Rattle.lxr_core.specs.declared.actors.AnyActor.{AnyActor}
 use Rattle.lxr_words.specs.declared.Options.{Options}
 use Rattle.lxr_run_history.specs.declared.totals.Totals.{Totals}
 use Rattle.lxr_run_history.specs.Left.{IsLeftBy}
-use Rattle.lxr_run_history.specs.Run.{IsHistoryWith}
+use Rattle.lxr_rounds_history.specs.Histories.{IsHistoryWith}
+use Rattle.lxr_run_history.specs.Run.{plan_of}
 use Rattle.lxr_run_history.specs.Texts.{run_text}
-use Rattle.lxr_run_history.specs.Sights.{Sees}
-use Rattle.lxr_run_history.specs.Tally.{evacuated_in}
+use Rattle.lxr_rounds_history.specs.Sights.{Sees}
+use Rattle.lxr_rounds_history.specs.Tally.{evacuated_in}
 use Rattle.lxr_text_stream.specs.declared.transfer.WriteError.{WriteError}
-use Rattle.lxr_run_invariant.specs.LoopInvariant.{Task, WasStopped, threads_of}
+use Rattle.lxr_run_loop.specs.Tasks.{Task, WasStopped, threads_of}
 use Rattle.lxr_run_loop.specs.declared.course.Course.{Course}
 use Rattle.lxr_run_loop.specs.Drawing.{IsDrawnTo}
 use Rattle.lxr_run_loop.specs.Progress.{IsComplete}
@@ -27,7 +28,7 @@ SomeIsComplete options space written actors totals order =
 -- the text of a whole history was written, as the command of the run has it, which its generator has drawn where there is one
 pub record IsPrinted (task : Task) (space : Space) (written : Option (List ℕ)) (seen : Option (List Sight)) : Type 0 where
   pub history : List Item
-  pub run : IsHistoryWith task.renews task.options task.script history
+  pub run : IsHistoryWith task.renews (plan_of task.options) task.script history
   pub last : Option ℕ
   pub drawn : IsDrawnTo task history last space
   pub text : Appends task.written written (run_text task.options (threads_of task) history space)
@@ -37,7 +38,7 @@ pub record IsPrinted (task : Task) (space : Space) (written : Option (List ℕ))
 -- a prefix of the text of a whole history was written
 pub record IsPartlyPrinted (task : Task) (space : Space) (written : Option (List ℕ)) (seen : Option (List Sight)) : Type 0 where
   pub history : List Item
-  pub run : IsHistoryWith task.renews task.options task.script history
+  pub run : IsHistoryWith task.renews (plan_of task.options) task.script history
   pub text_front : AppendsFront task.written written (run_text task.options (threads_of task) history space)
   pub space_left : IsLeftBy task.options (threads_of task) history space
   pub sights : Sees (threads_of task) history task.seen seen (evacuated_in space.tally)

@@ -1,46 +1,30 @@
 -- How a run goes on from one epoch to the next.
-use Rattle.std.specs.Prelude.{◌≡◌, ℕ, ◌<◌, ◌≤◌, ⊤, Bool, true, false, Option, Some, List}
+use Rattle.std.specs.Prelude.{◌≡◌, ℕ, ◌<◌, ◌≤◌, Bool, true, false, Option, List}
 use Rattle.lxr_graph.specs.History.{Item}
 use Rattle.lxr_graph.specs.declared.Item as kept
 use Rattle.lxr_image.specs.declared.space.Space.{Space}
 use Rattle.lxr_invariant.specs.AbstractState.{AbstractState}
 use Rattle.lxr_sights.specs.Sights.{Sight}
-use Rattle.lxr_mutator.specs.declared.phases.MutEnd.TheVariants as ends
-use Rattle.lxr_mutator.specs.Mutating.{Mutating, has_collected}
 use Rattle.lxr_core.specs.declared.actors.AnyActor.{AnyActor}
-use Rattle.lxr_core.specs.declared.actors.AnyActor.TheVariants as any
 use Rattle.lxr_core.specs.Actors.{mutators_in}
 use Rattle.lxr_core.specs.Ordering.{AreFull}
 use Rattle.lxr_words.specs.declared.Options.{Options}
 use Rattle.lxr_text_stream.specs.declared.transfer.WriteError.{WriteError}
 use Rattle.lxr_run_history.specs.Sums.{totals_of}
-use Rattle.lxr_run_invariant.specs.LoopInvariant.{HasRunEpoch, HasRunTo, IsBetweenEpochs, Task, WasStopped, left_of}
+use Rattle.lxr_rounds_invariant.specs.LoopInvariant.{HasRunEpoch, IsBetweenEpochs, left_of}
+use Rattle.lxr_run_loop.specs.Tasks.{HasRunTo, HasTold, Task, WasStopped, rounds_of}
 use Rattle.lxr_run_loop.specs.declared.course.Course.{Course}
 use Rattle.lxr_run_loop.specs.Courses.{IsCourseOf}
 use Rattle.lxr_run_loop.specs.Drawing.{IsDrawn, MakesEpoch}
 use Rattle.lxr_run_loop.specs.Orders.{FollowsOrder, IsOrderOf}
 
--- its end is done
-abbrev pub HasEnded : Mutating → Type 0
-HasEnded m = m.end ≡ Some ends.Ended
-
--- the thread of an actor has ended; a helper has none that goes on
-abbrev pub NoneGoesOn : AnyActor → Type 0
-NoneGoesOn (any.Mutator m) = HasEnded m
-NoneGoesOn (any.Decrementer d) = ⊤
-NoneGoesOn (any.Tracer d) = ⊤
-
--- the thread of an actor has called `collect` in this epoch; a helper has none
-abbrev pub actor_collected : AnyActor → Bool
-actor_collected (any.Mutator m) = has_collected m
-actor_collected (any.Decrementer d) = false
-actor_collected (any.Tracer d) = false
-
 -- ---- the run
 
--- The run is between two rounds: it is between two epochs, and no mutator has room for a further operation. So its script stays what it is.
+-- The run is between two rounds: it is between two epochs, the reports of its pauses were written, and no mutator has room for a further operation. So
+-- its script stays what it is.
 pub record IsBetweenRounds (task : Task) (space : Space) (written : Option (List ℕ)) (seen : Option (List Sight)) (actors : List AnyActor) (h : List Item) (g : AbstractState) : Type 0 where
-  pub epochs : IsBetweenEpochs task space written seen actors h g
+  pub epochs : IsBetweenEpochs (rounds_of task) space seen actors h g
+  pub text : HasTold task written h
   pub full : AreFull (mutators_in actors)
 
 -- the run is between two rounds, and has come so far in its course
@@ -73,7 +57,8 @@ CanRunEpoch options space actors = (task : Task) × (task.options ≡ options) �
 pub record HasMadeEpoch (task : Task) (space after : Space) (written : Option (List ℕ)) (seen : Option (List Sight)) (before actors : List AnyActor) (h : List Item) (x x' : Option ℕ) : Type 0 where
   pub history : List Item
   pub abstract_state : AbstractState
-  pub ran : HasRunEpoch task after written seen before actors history abstract_state
+  pub ran : HasRunEpoch (rounds_of task) after seen before actors history abstract_state
+  pub text : HasTold task written history
   pub makes : MakesEpoch task space before h x after actors history x'
   pub full : AreFull (mutators_in actors)
   pub totals : totals_of history ≡ totals_of h

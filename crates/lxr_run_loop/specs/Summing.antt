@@ -11,7 +11,7 @@ use Rattle.lxr_text_print.specs.declared.summary.Sums.{Sums}
 use Rattle.lxr_sights.specs.Sights.{Sight}
 use Rattle.lxr_run_history.specs.declared.totals.Totals.{Totals}
 use Rattle.lxr_run_history.specs.Sums.{sums_of, totals_of}
-use Rattle.lxr_run_invariant.specs.LoopInvariant.{HasRunTo, Task, threads_of}
+use Rattle.lxr_run_loop.specs.Tasks.{HasRunTo, Task, threads_of}
 use Rattle.lxr_run_loop.specs.declared.course.Course.{Course}
 use Rattle.lxr_run_loop.specs.Progress.{IsComplete}
 

@@ -10,29 +10,25 @@
 ghost use Rattle.std.specs.Prelude.{◌≡◌, IfErr, OnOk};
 ghost use Rattle.lxr_text_stream.specs.Streams.{Rose};
 ghost use Rattle.lxr_words.specs.Ranges.{AreInRange};
-ghost use Rattle.lxr_run_invariant.specs.LoopInvariant.{Task};
+ghost use Rattle.lxr_run_loop.specs.Tasks.{Task};
 ghost use Rattle.lxr_run_loop.specs.Courses.{opening_course};
 ghost use Rattle.lxr_run_loop.specs.Progress.{IsUnderWay, SomeIsUnderWay};
 ghost use Rattle.lxr_run_loop.specs.Printed.{IsCutShort, IsPrinted};
 
 mod course;
-mod following;
 mod opening;
 mod order;
-mod pauses;
 mod printing;
 mod run;
-mod serving;
-mod telling;
+mod teller;
 
 pub use course::Course;
-pub use following::follow_epoch;
 use lxr_core::AnyActor;
 use lxr_image::Space;
 use lxr_sights::{Gate, Watch};
 use lxr_text_stream::{Sink, WriteError};
 use lxr_words::Options;
-pub use opening::{add_helpers, open};
+pub use opening::open;
 pub use order::Order;
 use printing::print_end;
 use run::run_threads;

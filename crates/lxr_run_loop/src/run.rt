@@ -5,15 +5,18 @@ ghost use Rattle.lxr_run_replay.specs.Replaying.{CanBeReplayed};
 ghost use Rattle.lxr_text_stream.specs.Streams.{Rose};
 ghost use Rattle.lxr_words.specs.Ranges.{AreInRange};
 ghost use Rattle.lxr_run_threads.specs.Running.{CanRun, HasRun};
-ghost use Rattle.lxr_run_invariant.specs.LoopInvariant.{Task};
+ghost use Rattle.lxr_run_loop.specs.Tasks.{Task};
+ghost use Rattle.lxr_rounds_invariant.specs.LoopInvariant.{pace_of};
+ghost use Rattle.lxr_run_history.specs.Run.{plan_of};
 ghost use Rattle.lxr_run_loop.specs.Drawing.{GoesOnInOrder, ReplaysInOrder};
 ghost use Rattle.lxr_run_loop.specs.Progress.{CanRunEpoch, HasMadeRound, IsComplete, IsStoppedUnderWay, IsUnderWay, RunsEpoch, SomeIsUnderWay};
 
 use crate::course::Course;
-use crate::following::follow_epoch;
 use crate::order::Order;
 use lxr_core::{AnyActor, close_epoch, open_epoch};
 use lxr_image::Space;
+use lxr_one_pause::Pace;
+use lxr_rounds::follow_epoch;
 use lxr_run_threads::run_epoch;
 use lxr_sights::{Gate, Watch};
 use lxr_text_stream::{Sink, WriteError};
@@ -149,15 +152,20 @@ fn make_round<R: Threads + Wait + Sync, G: Gate, W: Watch, O: Sink>(
     ) else {
         return Err(WriteError::Memory);
     };
-    follow_epoch(
-        space,
-        actors,
-        &mut course.totals,
-        &mut course.order,
-        options,
-        watch,
-        output,
-    )
+    let mut teller = course.take_teller(options);
+    let followed = follow_epoch(space, actors, pace_of(options), watch, &mut teller, output);
+    course.put_teller(teller);
+    followed
+}
+
+/// When traces begin and end in a run with these options.
+fn pace_of(options: Options) -> Pace
+    ensures { result ≡ pace_of (plan_of options) }
+{
+    Pace {
+        trace: options.trace,
+        within: options.within,
+    }
 }
 
 /// Runs the threads in a space that was just opened, epoch after epoch with a pause behind each, until all have ended.

@@ -17,7 +17,7 @@ ghost use Rattle.lxr_run_replay.specs.Recording.{PlacedAreCalls};
 ghost use Rattle.lxr_run_replay.specs.Replaying.{CanBeReplayed, SchedulesMayClose};
 
 pub use recording::placed_by;
-pub use replaying::{order_epoch, replay_epoch};
+pub use replaying::{call_gate, order_epoch, replay_epoch};
 
 /// The core of each execution of which the invariant of its epoch holds can be replayed.
 pub fn executions_can_be_replayed()

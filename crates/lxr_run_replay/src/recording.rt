@@ -75,14 +75,10 @@ impl Calls {
         requires { HasRoom self.old (length (calls_since before actor.now)) }
         ensures { self.new ≡ recorded self.old (calls_since before actor.now) }
     {
-        match actor {
-            AnyActor::Mutator(mutator) => {
-                if mutator.placed() > before {
-                    self.push(mutator.thread());
-                }
+        if let Some(mutator) = actor.mutator() {
+            if mutator.placed() > before {
+                self.push(mutator.thread());
             }
-            AnyActor::Decrementer(_) => {}
-            AnyActor::Tracer(_) => {}
         }
     }
 }
@@ -93,10 +89,9 @@ pub fn placed_by(actor: &AnyActor) -> u32
     ensures count { result ≡ placed_by actor.now }
     ensures sound { IsSound actor.now }
 {
-    match actor {
-        AnyActor::Mutator(mutator) => mutator.placed(),
-        AnyActor::Decrementer(_) => 0,
-        AnyActor::Tracer(_) => 0,
+    match actor.mutator() {
+        Some(mutator) => mutator.placed(),
+        None => 0,
     }
 }
 
@@ -105,13 +100,12 @@ fn left_to_place(actor: &AnyActor) -> usize
     ensures left { result ≡ left_to_place actor.now }
     ensures few { result ≤ MOST_OPERATIONS + 1 }
 {
-    match actor {
-        AnyActor::Mutator(mutator) => {
+    match actor.mutator() {
+        Some(mutator) => {
             let placed = mutator.placed() as usize;
             (mutator.ordered() as usize + 1).saturating_sub(placed)
         }
-        AnyActor::Decrementer(_) => 0,
-        AnyActor::Tracer(_) => 0,
+        None => 0,
     }
 }
 

@@ -131,11 +131,7 @@ fn mutators_among(actors: &[AnyActor]) -> usize
 fn count_mutator(actor: &AnyActor) -> usize
     ensures { result ≡ length (mutators_in (actor.now ∷ [])) }
 {
-    match actor {
-        AnyActor::Mutator(_) => 1,
-        AnyActor::Decrementer(_) => 0,
-        AnyActor::Tracer(_) => 0,
-    }
+    usize::from(actor.mutator().is_some())
 }
 
 /// One step, of the actor that the next draw picks. The call that it brings into the history, if it brings one, is recorded.
@@ -189,13 +185,11 @@ fn advance<G: Gate>(
 
 /// Calls the gate where the next step of an actor is the first of an operation of its thread; a helper has none.
 #[inline(always)]
-fn call_gate<G: Gate>(actor: &AnyActor, gate: &G)
+pub fn call_gate<G: Gate>(actor: &AnyActor, gate: &G)
     ensures { (m : Mutating) → actor.now ≡ AnyActor.Mutator m → IsLetPass (G.passed gate.now) m }
 {
-    match actor {
-        AnyActor::Mutator(mutator) => pass_gate(mutator, gate),
-        AnyActor::Decrementer(_) => {}
-        AnyActor::Tracer(_) => {}
+    if let Some(mutator) = actor.mutator() {
+        pass_gate(mutator, gate);
     }
 }
 

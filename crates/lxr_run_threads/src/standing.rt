@@ -43,10 +43,10 @@ impl Standing {
         ensures { MakesTurn table.now most self.old self.new result }
     {
         self.turns = self.turns.saturating_add(1);
-        match self.pass.actor() {
-            AnyActor::Mutator(_) => !mutate(table, &mut self.pass),
-            AnyActor::Decrementer(_) => self.help(table, most),
-            AnyActor::Tracer(_) => self.help(table, most),
+        if self.pass.actor().mutator().is_some() {
+            !mutate(table, &mut self.pass)
+        } else {
+            self.help(table, most)
         }
     }
 
@@ -84,16 +84,9 @@ fn has_worked(end: Turn) -> bool
 fn next_operation(actor: &AnyActor) -> Option<(u8, u32)>
     ensures { result ≡ next_operation actor.now }
 {
-    match actor {
-        AnyActor::Mutator(mutator) => {
-            if mutator.next().is_none() {
-                return None;
-            }
-            Some((mutator.thread(), mutator.operation()))
-        }
-        AnyActor::Decrementer(_) => None,
-        AnyActor::Tracer(_) => None,
-    }
+    let mutator = actor.mutator()?;
+    mutator.next()?;
+    Some((mutator.thread(), mutator.operation()))
 }
 
 /// What threads do with the passes of an epoch: its table, how many turns a helper may make, and the gate.

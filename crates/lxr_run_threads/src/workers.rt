@@ -2,13 +2,11 @@
 ghost use Rattle.std.specs.Prelude.{◌≡◌, ℕ, ◌+◌, ◌*◌, ◌≤◌, List, IfOk, IsSome, false, map, All, vec_len};
 ghost use Rattle.std.specs.Thread.{IsSync};
 ghost use Rattle.lxr_actor.specs.Run.{one_if};
-ghost use Rattle.lxr_mutator.specs.Mutating.{Mutating};
 ghost use Rattle.lxr_core.specs.Actors.{any_machine};
 ghost use Rattle.lxr_shared_passes.specs.Passing.{Turned};
 ghost use Rattle.lxr_shared.specs.Ends.{GoesOnByEnd};
 ghost use Rattle.lxr_run_replay.specs.Replaying.{CanBeReplayed};
 ghost use Rattle.lxr_run_threads.specs.Dealing.{numbers_from, numbers_of};
-ghost use Rattle.lxr_sights.specs.Gates.{IsLetPass};
 ghost use Rattle.lxr_run_threads.specs.Keeping.{KeepsOthers};
 ghost use Rattle.lxr_run_threads.specs.Working.{HasPassed, HasServed, HaveWorked, IsDoneOf, IsPassOf, goes_on, is_finished, is_helper, work_in, work_of};
 
@@ -16,9 +14,10 @@ use crate::dealing::{Dealing, Hand};
 use crate::helping::{Hints, let_help, make_hints};
 use lxr_actor::Actor;
 use lxr_core::AnyActor;
+use lxr_run_replay::call_gate;
 use lxr_shared::Pass;
 use lxr_shared_passes::PassTable;
-use lxr_sights::{Gate, pass_gate};
+use lxr_sights::Gate;
 use std::alloc::{AllocError, Global};
 use std::thread;
 use std::thread::Threads;
@@ -184,7 +183,7 @@ fn take_mutator_turn<G: Gate>(table: &PassTable<AnyActor>, pass: &mut Pass, gate
     ensures passed { HasPassed (G.passed gate.now) pass.old → HasPassed (G.passed gate.now) pass.new }
     ensures nearer { work_of pass.new.actor ≤ work_of pass.old.actor }
 {
-    if let AnyActor::Mutator(_) = pass.actor() {
+    if pass.actor().mutator().is_some() {
         let_mutate(table, pass, gate);
     }
 }
@@ -285,28 +284,14 @@ pub(crate) fn mutate(table: &PassTable<AnyActor>, pass: &mut Pass) -> bool
     goes_on(pass.actor())
 }
 
-/// Calls the gate before the next operation of a mutator that rests; a helper has none.
-#[inline(always)]
-fn call_gate<G: Gate>(actor: &AnyActor, gate: &G)
-    ensures { (m : Mutating) → actor.now ≡ AnyActor.Mutator m → IsLetPass (G.passed gate.now) m }
-{
-    match actor {
-        AnyActor::Mutator(mutator) => pass_gate(mutator, gate),
-        AnyActor::Decrementer(_) => {}
-        AnyActor::Tracer(_) => {}
-    }
-}
-
 /// Whether the actor is a mutator with a further unit before it in this epoch.
 #[inline(always)]
 fn goes_on(actor: &AnyActor) -> bool
     ensures { result ≡ goes_on actor.now }
 {
-    match actor {
-        AnyActor::Mutator(mutator) => mutator.next().is_some(),
-        AnyActor::Decrementer(_) => false,
-        AnyActor::Tracer(_) => false,
-    }
+    actor
+        .mutator()
+        .is_some_and(|mutator| mutator.next().is_some())
 }
 
 /// Whether it is a mutator with none.
@@ -314,9 +299,7 @@ fn goes_on(actor: &AnyActor) -> bool
 fn is_finished(actor: &AnyActor) -> bool
     ensures { result ≡ is_finished actor.now }
 {
-    match actor {
-        AnyActor::Mutator(mutator) => mutator.next().is_none(),
-        AnyActor::Decrementer(_) => false,
-        AnyActor::Tracer(_) => false,
-    }
+    actor
+        .mutator()
+        .is_some_and(|mutator| mutator.next().is_none())
 }

@@ -46,7 +46,7 @@ fits_answered l graph graph' t m m' r fits waits answers name =
     let with_reply = answers_with m m' r fits.mutator.sound answers in
     let named : next_name graph' t ≡ next_made (answered (with_registers m with_reply.registers) r) = name ∙ ap next_made with_reply.mutator in
     subst (FitsThread l graph' t) (sym with_reply.mutator) (record {
-      mutator = answered_mutator l m with_reply.registers r fits.mutator waits with_reply.sixteen with_reply.held;
+      mutator = answered_mutator l m with_reply.registers r fits.mutator waits with_reply.are;
       thread = fits.thread;
       log = fits.log;
       spans = fits.spans;

@@ -1,9 +1,7 @@
 -- A mutator whose `new` was served or refused: it is one still, and no longer waits.
 use Rattle.std.proofs.Common.{◌≡◌, ℕ, ◌+◌, refl, sym, ap, ◌∙◌, inl, inr, arith, Bool, true, false, List, [], ◌∷◌, ◌++◌, length}
 use Rattle.std.specs.Prelude.{◌^◌, None, Option, Some, nat_le, slice_set, if◌then◌else◌}
-use Rattle.std.specs.List.{All, count_by}
-use Rattle.std.proofs.Math.ListN.{length-set}
-use Rattle.std.proofs.lemmas.List.Elements.{All-set}
+use Rattle.std.specs.List.{count_by}
 use Rattle.std.proofs.lemmas.List.Sums.{sum_by_push}
 use Rattle.std.proofs.lemmas.List.{length_push}
 use Rattle.lxr_layout.specs.declared.TheConstants.{MOST_GRANULES}
@@ -20,8 +18,9 @@ use Rattle.lxr_mutator.specs.declared.phases.MutatorPhase.{MutatorPhase}
 use Rattle.lxr_mutator.specs.declared.phases.MutatorPhase.TheVariants as phase
 use Rattle.lxr_mutator.specs.declared.phases.Waiting.{Waiting}
 use Rattle.lxr_mutator.specs.Mutating.{IsWaiting, Mutating, is_new, next_name, nil, op_now, rests_in, waiting_by}
-use Rattle.lxr_mutator.specs.Mutators.{IsAnswered, IsHeld, IsMutator, MayBeIn, answered, held_place}
+use Rattle.lxr_mutator.specs.Mutators.{AreRegisters, IsAnswered, IsHeld, IsMutator, MayBeIn, answered, held_place}
 use Rattle.lxr_mutator.specs.Operating.{dest_of, shape_made}
+use Rattle.lxr_mutator.proofs.RegisterLemmas.{registers_set}
 use Rattle.lxr_core_sim_mutator.specs.Showing.{IsMutatorOf, IsSteadyIn}
 
 -- ---- what it waits for
@@ -70,21 +69,14 @@ abbrev pub with_registers : Mutating → List Place → Mutating
 with_registers m registers = record m { registers = registers }
 
 -- a mutator whose `new` is answered, and whose registers are other ones, is one still
-pub answered_sound : (m : Mutating) (registers : List Place) (r : Reply) → IsMutator m → IsWaiting m → length registers ≡ 16 → All IsHeld registers → IsMutator (answered (with_registers m registers) r)
-answered_sound m registers r is waits sixteen held =
+pub answered_sound : (m : Mutating) (registers : List Place) (r : Reply) → IsMutator m → IsWaiting m → AreRegisters registers → IsMutator (answered (with_registers m registers) r)
+answered_sound m registers r is waits are =
     let more = is.waits waits.0 in
     let many = length_push m.replies.items r in
     record {
-      thread = is.thread;
-      operations = is.operations;
-      few = is.few;
-      every = is.every;
-      registers = sixteen;
-      held = held;
+      setup = is.setup;
+      registers = are;
       spans = is.spans;
-      before = is.before;
-      indexes = is.indexes;
-      room = is.room;
       few_replies = omega arith;
       replies = inr (omega arith);
       busy = λ busy. absurd (cc);
@@ -96,8 +88,7 @@ answered_sound m registers r is waits sixteen held =
 -- its registers, once its `new` is answered, are nil or places, and all else is as it is told with the reply
 pub record AnswersWith (m m' : Mutating) (r : Reply) : Type 0 where
   pub registers : List Place
-  pub sixteen : length registers ≡ 16
-  pub held : All IsHeld registers
+  pub are : AreRegisters registers
   pub mutator : m' ≡ answered (with_registers m registers) r
 
 -- the place that a register may hold
@@ -107,21 +98,20 @@ held_so p false e = omega arith
 
 -- so it is of one that was refused, and of one that was served
 pub answers_with : (m m' : Mutating) (r : Reply) → IsMutator m → IsAnswered m m' r → AnswersWith m m' r
-answers_with m m' r is (inl (e, now)) = record { registers = m.registers; sixteen = is.registers; held = is.held; mutator = now }
+answers_with m m' r is (inl (e, now)) = record { registers = m.registers; are = is.registers; mutator = now }
 answers_with m m' r is (inr (place, e, now)) =
     let dest = dest_of (op_now m) in
     record {
       registers = slice_set m.registers dest (held_place place);
-      sixteen = length-set m.registers dest (held_place place) ∙ is.registers;
-      held = All-set IsHeld m.registers dest (held_place place) (held_so place (nat_le place.0 (MOST_GRANULES)) refl) is.held;
+      are = registers_set m.registers dest (held_place place) is.registers (held_so place (nat_le place.0 (MOST_GRANULES)) refl);
       mutator = now ∙ ap (answered (with_registers m (slice_set m.registers dest (held_place place)))) (sym e);
     }
 
 -- it is a mutator of the same space still
-pub answered_mutator : (l : Limits) (m : Mutating) (registers : List Place) (r : Reply) → IsMutatorOf l m → IsWaiting m → length registers ≡ 16 → All IsHeld registers
+pub answered_mutator : (l : Limits) (m : Mutating) (registers : List Place) (r : Reply) → IsMutatorOf l m → IsWaiting m → AreRegisters registers
     → IsMutatorOf l (answered (with_registers m registers) r)
-answered_mutator l m registers r is waits sixteen held = record {
-  sound = answered_sound m registers r is.sound waits sixteen held;
+answered_mutator l m registers r is waits are = record {
+  sound = answered_sound m registers r is.sound waits are;
   regions = is.regions;
   steady = answered_steady (with_registers m registers) r m.phase waits.1;
 }

@@ -87,8 +87,7 @@ fn serve_actor(
 {
     match actor {
         AnyActor::Mutator(mutator) => take_turn(space, mutator, collected, served),
-        AnyActor::Decrementer(_) => Some(served),
-        AnyActor::Tracer(_) => Some(served),
+        AnyActor::Decrementer(_) | AnyActor::Tracer(_) => Some(served),
     }
 }
 

@@ -1,3 +1,4 @@
 pub mod UnitEnds
 pub mod Openings
 pub mod KindUnits
+pub mod StartedLemmas

@@ -1,33 +1,23 @@
 -- A unit that has come to rest has told how it ended, since each step that leads to rest tells it; and a mutator's end says whether it goes on.
 use Rattle.std.proofs.Common.{◌≡◌, ◌∙◌, ℕ, List, [], ◌∷◌, ◌++◌, ◌+◌, Bool, true, false, Option, Some, None, refl, sym, ap, subst}
-use Rattle.std.specs.Prelude.{◌&&◌, ◌||◌, IsSome, if◌then◌else◌, is_some, nat_eq, nat_le, nat_lt, option_map, slice_index}
+use Rattle.std.specs.Prelude.{IsSome, if◌then◌else◌, is_some, nat_le, option_map, slice_index}
 use Rattle.lxr_layout.specs.declared.Place.{Place}
-use Rattle.lxr_layout.specs.declared.Shape.{Shape}
-use Rattle.lxr_layout.specs.Objects.{header_of, word_count}
-use Rattle.lxr_layout.specs.Places.{place_in}
-use Rattle.lxr_base.specs.Roomy.{Roomy, pushed}
-use Rattle.lxr_layout.specs.declared.LogEntry.{LogEntry}
+use Rattle.lxr_base.specs.Roomy.{pushed}
 use Rattle.lxr_graph.specs.declared.Op.{Op}
-use Rattle.lxr_graph.specs.declared.Op.TheVariants as op
 use Rattle.lxr_graph.specs.declared.Reply.{Reply}
-use Rattle.lxr_graph.specs.declared.Reply.TheVariants as reply
 use Rattle.lxr_actor.specs.declared.Action.{Action}
 use Rattle.lxr_actor.specs.Run.{acted, run, stepped}
-use Rattle.lxr_barrier.specs.declared.StoreEnd.{StoreEnd}
-use Rattle.lxr_barrier.specs.declared.StoreEnd.TheVariants as store_end
-use Rattle.lxr_alloc.specs.declared.Span.{Span}
-use Rattle.lxr_alloc.specs.Spans.{block_span, run_span}
-use Rattle.lxr_barrier.specs.Storing.{Storing, end_of as store_end_of, log_after, store_after}
 use Rattle.lxr_mutator.specs.declared.phases.MutEnd.TheVariants as ends
 use Rattle.lxr_mutator.specs.declared.phases.MutEnd.{MutEnd}
-use Rattle.lxr_mutator.specs.declared.phases.Stop.{Stop}
 use Rattle.lxr_mutator.specs.declared.phases.Stop.TheVariants as stop
 use Rattle.lxr_mutator.specs.declared.phases.MutatorPhase.{MutatorPhase}
 use Rattle.lxr_mutator.specs.declared.phases.MutatorPhase.TheVariants as phase
-use Rattle.lxr_mutator.specs.Operating.{dest_of, found_reply, index_of, indexed_fields}
-use Rattle.lxr_mutator.specs.Mutating.{Mutating, nil, op_now, register, rests_in as mut_rests_in}
+use Rattle.lxr_mutator.specs.Mutating.{Mutating, rests_in as mut_rests_in}
 use Rattle.lxr_mutator.specs.Orders.{takes_order, with_order}
 use Rattle.lxr_mutator.specs.Steps as mutator
+use Rattle.lxr_mutator.specs.Laws.{StepsByRule}
+use Rattle.lxr_mutator.specs.Laws.StepsByRule.{does_one, finds_asked, finds_end, gave_up, goes_on, stands_still}
+use Rattle.lxr_mutator.proofs.StepLemmas.{step_by_rule}
 use Rattle.lxr_helper.specs.Helpers as helper
 use Rattle.lxr_helper.proofs.HelperLemmas as lemma
 use Rattle.lxr_decrement.specs.declared.phases.DecEnd.{DecEnd}
@@ -43,7 +33,7 @@ use Rattle.lxr_core.specs.declared.actors.AnyActor.{AnyActor}
 use Rattle.lxr_core.specs.declared.actors.AnyActor.TheVariants as any
 use Rattle.lxr_core.specs.Actors.{any_machine}
 use Rattle.lxr_shared.specs.declared.turns.Turn.TheVariants as turn
-use Rattle.lxr_shared.specs.Ends.{GoesOnByEnd, IsBetweenUnits, KnowsEnd, end_of, is_op_done}
+use Rattle.lxr_shared.specs.Ends.{GoesOnByEnd, IsBetweenUnits, KnowsEnd, end_of}
 
 -- ---- mutators
 
@@ -63,19 +53,6 @@ through m has = record { told = λ e. has }
 busy : (m : Mutating) → mut_rests_in m.phase ≡ false → MutTells m
 busy m e = record { told = λ r. absurd (cc) }
 
-either : (b : Bool) (x y : Mutating) → MutTells x → MutTells y → MutTells (if b then x else y)
-either true x y first second = first
-either false x y first second = second
-
--- in a phase of a unit
-mut_in : (m : Mutating) (p : MutatorPhase) → mut_rests_in p ≡ false → MutTells (record m { phase = p })
-mut_in m p e = busy (record m { phase = p }) e
-
--- in either of two
-mut_in_either : (m : Mutating) (b : Bool) (p q : MutatorPhase) → mut_rests_in p ≡ false → mut_rests_in q ≡ false → MutTells (record m { phase = if b then p else q })
-mut_in_either m true p q e f = mut_in m p e
-mut_in_either m false p q e f = mut_in m q f
-
 -- an operation is done, the last one in this epoch or not
 done_either : (m : Mutating) (r : Reply) (last : Bool) → HasEnded (record m { phase = if last then phase.Finished else phase.Ready; end = Some (if last then ends.Turns else ends.OpDone r) })
 done_either m r true = record { how = ends.Turns; end = refl; further = refl }
@@ -84,104 +61,15 @@ done_either m r false = record { how = ends.OpDone r; end = refl; further = refl
 done : (m : Mutating) (r : Reply) → MutTells (mutator.done_with m r)
 done m r = through (mutator.done_with m r) (done_either (record m { replies = pushed m.replies r; since = m.since + 1 }) r (nat_le m.every (m.since + 1)))
 
--- in the front of a span
-current : (m : Mutating) (shape : Shape) (span : Span) → MutTells (mutator.in_current m shape span)
-current m shape span = busy (mutator.in_current m shape span) refl
-
-overflow : (m : Mutating) (shape : Shape) (span : Span) → MutTells (mutator.in_overflow m shape span)
-overflow m shape span = busy (mutator.in_overflow m shape span) refl
-
-placed : (m : Mutating) (shape : Shape) → MutTells (mutator.placed m shape)
-placed m shape =
-    either (mutator.has_room m.spans.current shape) _ _ (current m shape m.spans.current)
-    (either (mutator.is_medium shape && mutator.has_room m.spans.overflow shape) _ _ (overflow m shape m.spans.overflow)
-    (mut_in_either m (mutator.is_medium shape) phase.DrawsBlock phase.DrawsRun refl refl))
-
-based : (m : Mutating) (base : Place) → MutTells (mutator.based m base)
-based m base = either (nat_eq base.0 0) _ _ (done m reply.Bad) (mut_in m (phase.Base base) refl)
-
-started : (m : Mutating) (o : Op) → MutTells (mutator.started m o)
-started m (op.New dest shape) = placed m shape
-started m (op.Load dest base index) = based m (register m base)
-started m (op.Store base index source) = based m (register m base)
-started m (op.Put base index value) = based m (register m base)
-started m (op.Get base index) = based m (register m base)
-started m (op.Swap dest base index source) = based m (register m base)
-started m (op.Add base index value) = based m (register m base)
-started m (op.Move dest source) = done (mutator.with_register m dest (register m source)) reply.Moved
-started m (op.Nil dest) = done (mutator.with_register m dest nil) reply.Cleared
-started m (op.Same left right) = done m (reply.Same (nat_eq (register m left).0 (register m right).0))
-started m op.Pause = mut_in m phase.Asking refl
-started m op.Collect = mut_in m phase.Asking refl
-started m op.End = through (mutator.ended m) (record { how = ends.Ended; end = refl; further = refl })
-
-ended : (m : Mutating) (how : MutEnd) → is_op_done (Some how) ≡ false → MutTells (mutator.finished m how)
-ended m how e = through (mutator.finished m how) (record { how = how; end = refl; further = sym e })
-
--- so one ends that gives up
-given_up : (m : Mutating) (why : Stop) → MutTells (mutator.finished m (mutator.end_by why))
-given_up m stop.NoRun = ended m ends.NoRun refl
-given_up m stop.LogFull = ended m ends.LogFull refl
-
--- an operation without a field of this index goes to none
-reaching : (m : Mutating) (base : Place) (shape : Shape) (o : Op) → nat_lt (index_of o) (indexed_fields o shape) ≡ true → mut_rests_in (mutator.reaching m base shape o) ≡ false
-reaching m base shape (op.New dest s) e = absurd (cc)
-reaching m base shape (op.Load dest b index) e = refl
-reaching m base shape (op.Store b index source) e = refl
-reaching m base shape (op.Put b index value) e = refl
-reaching m base shape (op.Get b index) e = refl
-reaching m base shape (op.Swap dest b index source) e = refl
-reaching m base shape (op.Add b index value) e = refl
-reaching m base shape (op.Move dest source) e = absurd (cc)
-reaching m base shape (op.Nil dest) e = absurd (cc)
-reaching m base shape (op.Same left right) e = absurd (cc)
-reaching m base shape op.Pause e = absurd (cc)
-reaching m base shape op.Collect e = absurd (cc)
-reaching m base shape op.End e = absurd (cc)
-
-reached : (m : Mutating) (base : Place) (shape : Shape) (b : Bool) → nat_lt (index_of (op_now m)) (indexed_fields (op_now m) shape) ≡ b
-    → MutTells (if b then record m { phase = mutator.reaching m base shape (op_now m) } else mutator.done_with m reply.Range)
-reached m base shape true e = mut_in m (mutator.reaching m base shape (op_now m)) (reaching m base shape (op_now m) e)
-reached m base shape false e = done m reply.Range
-
-loaded : (m : Mutating) (place : Place) → MutTells (mutator.loaded m place)
-loaded m place =
-    let m' = mutator.with_register m (dest_of (op_now m)) place in
-    either (nat_eq place.0 0) _ _ (done m' (found_reply (op_now m) None)) (mut_in m' (phase.Referent place) refl)
-
-stored : (m : Mutating) (store : Storing) (log : Roomy LogEntry) (e : Option StoreEnd) → MutTells (mutator.stored m store log e)
-stored m store log None = mut_in (record m { log = log }) (phase.Storing store) refl
-stored m store log (Some store_end.Stored) = done (record m { log = log }) reply.Stored
-stored m store log (Some (store_end.Swapped old)) = loaded (record m { log = log }) old
-stored m store log (Some store_end.LogFull) = mut_in (record m { log = log }) (phase.GivingUp stop.LogFull) refl
-
-mut_after_in : (m : Mutating) (p : MutatorPhase) (old : ℕ) → IsSome (mutator.action_in m p) → MutTells (mutator.after_in m p old)
-mut_after_in m phase.Ready old acts = either (nat_eq old 1) _ _ (ended m ends.Asked refl) (started m (op_now m))
-mut_after_in m phase.Finished old acts = absurd (cc)
-mut_after_in m (phase.Base base) old acts =
-    let shape = mutator.shape_told (header_of old) in
-    reached m base shape (nat_lt (index_of (op_now m)) (indexed_fields (op_now m) shape)) refl
-mut_after_in m (phase.Reference base) old acts = loaded m (place_in old)
-mut_after_in m (phase.Referent place) old acts = done m _
-mut_after_in m (phase.Datum base refs) old acts = done m _
-mut_after_in m (phase.Putting base refs) old acts = done m _
-mut_after_in m (phase.Adding base refs) old acts = done m _
-mut_after_in m (phase.Storing store) old acts = stored m (store_after store m.log old) (log_after store m.log old) (store_end_of (store_after store m.log old))
-mut_after_in m phase.DrawsRun old acts = mut_in m (phase.RunNumber old) refl
-mut_after_in m (phase.RunNumber number) old acts = mut_in_either m (nat_lt number old) (phase.Run number) phase.DrawsBlock refl refl
-mut_after_in m (phase.Run number) old acts = current m (mutator.shape_now m) (run_span (mutator.run_in old))
-mut_after_in m phase.DrawsBlock old acts = mut_in m (phase.BlockNumber old) refl
-mut_after_in m (phase.BlockNumber number) old acts = mut_in_either m (nat_lt number old) (phase.Block number) (phase.GivingUp stop.NoRun) refl refl
-mut_after_in m (phase.Block number) old acts =
-    let shape = mutator.shape_now m in
-    either (mutator.is_medium shape) _ _ (overflow m shape (block_span old)) (current m shape (block_span old))
-mut_after_in m (phase.Wiping place next) old acts = mut_in_either m (nat_lt (next + 1) (word_count (mutator.shape_now m))) (phase.Wiping place (next + 1)) (phase.Heading place) refl refl
-mut_after_in m (phase.Heading place) old acts = done (mutator.with_register m (dest_of (op_now m)) place) _
-mut_after_in m phase.Asking old acts = done m _
-mut_after_in m (phase.GivingUp why) old acts = given_up m why
-
-mut_after : (m : Mutating) (old : ℕ) → IsSome (mutator.action m) → MutTells (mutator.after m old)
-mut_after m old acts = either (mutator.accepts_in m m.phase old) _ _ (mut_after_in m m.phase old acts) (done m reply.Bad)
+-- each step tells it that leads to rest
+mut_after : (m : Mutating) (old : ℕ) (to : Mutating) → IsSome (mutator.action m) → StepsByRule m old to → MutTells to
+mut_after m old to acts (goes_on log registers spans p still) = busy (record m { log = log; registers = registers; spans = spans; phase = p }) still
+mut_after m old to acts (finds_asked ready is) = through (mutator.finished m ends.Asked) (record { how = ends.Asked; end = refl; further = refl })
+mut_after m old to acts (finds_end ready unasked is) = through (mutator.ended m) (record { how = ends.Ended; end = refl; further = refl })
+mut_after m old to acts (gave_up stop.NoRun is) = through (mutator.finished m ends.NoRun) (record { how = ends.NoRun; end = refl; further = refl })
+mut_after m old to acts (gave_up stop.LogFull is) = through (mutator.finished m ends.LogFull) (record { how = ends.LogFull; end = refl; further = refl })
+mut_after m old to acts (does_one log registers r) = done (record m { log = log; registers = registers }) r
+mut_after m old to acts (stands_still is) = absurd (let some : IsSome (mutator.action_in m phase.Finished) = subst (λ (p : MutatorPhase). IsSome (mutator.action_in m p)) is acts in cc)
 
 -- ---- actors
 
@@ -197,7 +85,7 @@ pub record HasTold (a : AnyActor) : Type 0 where
 -- a step that leads to rest tells it
 after_tells : (a : AnyActor) (old : ℕ) → IsSome (any_machine.action a) → any_machine.rests (any_machine.after a old) ≡ true → HasTold (any_machine.after a old)
 after_tells (any.Mutator m) old acts rests =
-    let has = (mut_after m old acts).told rests in
+    let has = (mut_after m old (mutator.after m old) acts (step_by_rule m old)).told rests in
     record { some = some_mapped turn.Mutator (mutator.after m old).end (ap is_some has.end); further = has.further }
 after_tells (any.Decrementer d) old acts rests = record { some = some_mapped turn.Decrementer (helper.after decrementer_work d old).end (lemma.after_tells decrementer_work decrementer_lawful d old rests); further = record {} }
 after_tells (any.Tracer t) old acts rests = record { some = some_mapped turn.Tracer (helper.after tracer_work t old).end (lemma.after_tells tracer_work tracer_lawful t old rests); further = record {} }

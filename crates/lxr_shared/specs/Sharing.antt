@@ -1,37 +1,21 @@
 -- A space and its actors while threads share them.
-use Rattle.std.specs.Prelude.{◌≡◌, ℕ, List}
+use Rattle.std.specs.Prelude.{◌≡◌, ℕ}
 use Rattle.atomic_table.specs.Seated.{TableId}
 use Rattle.lxr_actor.specs.declared.Core.{Core}
 use Rattle.lxr_actor.specs.declared.Event.{Event}
+use Rattle.lxr_image.specs.declared.rest.Rest.{Rest}
 use Rattle.lxr_image.specs.declared.space.Space.{Space}
+use Rattle.lxr_image.specs.Parts.{whole}
 use Rattle.lxr_core.specs.declared.actors.AnyActor.{AnyActor}
 use Rattle.lxr_core.specs.declared.actors.AnyActor.TheVariants as any
 use Rattle.lxr_core.specs.Actors.{any_machine}
 use Rattle.lxr_shared_passes.specs.Passing.{Opened, Passing, Told}
-use Rattle.lxr_shared.specs.declared.rest.Rest.{Rest}
 
 -- an epoch on a table: its name, the words and actors that it was opened with, and the space that it was opened from
 pub record Sharing : Type 0 where
   pub id : TableId
   pub opening : Core AnyActor
   pub space : Space
-
--- the space of a rest, with these words
-abbrev pub whole : List ℕ → Rest → Space
-whole words rest = record {
-  words = words;
-  limits = rest.limits;
-  registers = rest.registers;
-  deferred = rest.deferred;
-  logged = rest.logged;
-  work = rest.work;
-  report = rest.report;
-  tally = rest.tally;
-  pauses = rest.pauses;
-  trace = rest.trace;
-  rest_next = rest.rest_next;
-  rest_end = rest.rest_end;
-}
 
 -- what is kept beside the table: the rest of the space, and for how many passes there is room
 pub record Kept : Type 0 where

@@ -25,7 +25,7 @@ pub fn close_shared(epoch: Epoch, passes: Vec<Pass>) -> (Space, Vec<AnyActor>)
     } = epoch;
     unseal(passes, &mut opened);
     let (words, actors) = close_passes(table, opened);
-    (rest.with_words(words), actors)
+    (Space::from_parts(words, rest), actors)
 }
 
 /// Makes passes of any actors of passes of a space's actors.

@@ -7,10 +7,10 @@ ghost use Rattle.lxr_shared.specs.Ends.{GoesOnByEnd, end_of};
 ghost use Rattle.lxr_shared.specs.Sharing.{ToldOfHelper};
 
 use crate::kinds::ByKind;
-use crate::rest::Rest;
 use crate::turns::{Turn, last_turn, unit_is_short};
 use lxr_core::AnyActor;
 use lxr_graph::Op;
+use lxr_image::Rest;
 use lxr_layout::Place;
 use lxr_shared_passes::{ActorPass, PassTable};
 use std::marker::Model;
@@ -28,7 +28,8 @@ pub struct Epoch {
 
 impl Model for Epoch {
     ghost use Rattle.std.specs.Prelude.{◌≡◌, ◌≤◌, [], length, vec_capacity};
-    ghost use Rattle.lxr_shared.specs.Sharing.{Sharing, whole};
+    ghost use Rattle.lxr_image.specs.Parts.{whole};
+    ghost use Rattle.lxr_shared.specs.Sharing.{Sharing};
 
     ghost Value = { Sharing };
 

@@ -11,7 +11,6 @@ mod epoch;
 mod kinds;
 mod open;
 mod parts;
-mod rest;
 mod turns;
 
 pub use close::close_shared;

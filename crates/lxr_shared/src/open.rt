@@ -7,7 +7,6 @@ ghost use Rattle.lxr_core.specs.Closing.{AreResting};
 ghost use Rattle.lxr_shared.specs.Ends.{HaveEnds, IsBetweenUnits};
 
 use crate::epoch::{Epoch, Pass};
-use crate::rest::Rest;
 use lxr_core::AnyActor;
 use lxr_image::Space;
 use lxr_shared_passes::{ActorPass, open_passes};
@@ -30,7 +29,7 @@ pub fn open_shared(
 {
     let spare = Vec::with_capacity(alloc, actors.len())?;
     let mut sealed = Vec::with_capacity(alloc, actors.len())?;
-    let (words, rest) = Rest::of(space);
+    let (words, rest) = space.into_parts();
     let (epoch, passes) = open_passes(alloc, words, actors)?;
     seal(passes, &mut sealed);
     let epoch = Epoch {

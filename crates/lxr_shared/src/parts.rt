@@ -3,8 +3,8 @@ ghost use Rattle.std.specs.Prelude.{◌≡◌, ◌≤◌, length};
 ghost use Rattle.lxr_shared.specs.Sharing.{sharing};
 
 use crate::epoch::Epoch;
-use crate::rest::Rest;
 use lxr_core::AnyActor;
+use lxr_image::Rest;
 use lxr_shared_passes::{ActorPass, PassTable};
 use std::marker::Model;
 

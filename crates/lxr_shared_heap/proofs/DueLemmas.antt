@@ -21,8 +21,8 @@ use Rattle.lxr_core.specs.declared.actors.AnyActor.{AnyActor}
 use Rattle.lxr_core.specs.declared.actors.AnyActor.TheVariants as any
 use Rattle.lxr_core.specs.Actors.{mutators_in}
 use Rattle.lxr_core.specs.Resting.{RestsAfter}
-use Rattle.lxr_run_history.specs.Left.{last_report}
-use Rattle.lxr_run_invariant.specs.LoopInvariant.{HasCome, IsBetweenEpochs, Task, terms_of}
+use Rattle.lxr_rounds_history.specs.Left.{last_report}
+use Rattle.lxr_rounds_invariant.specs.LoopInvariant.{HasCome, IsBetweenEpochs, Task, terms_of}
 use Rattle.lxr_shared_heap.specs.declared.settings.Settings.{Settings}
 use Rattle.lxr_shared_heap.specs.Renewing.{IsRenewalDue, has_drained, is_at_end, is_renewal_due, is_worn, waits}
 use Rattle.lxr_shared_heap.specs.Resting.{HasRested}
@@ -104,10 +104,10 @@ pause_counts task report calls legal = let one = legal.2.reports.1.number in ome
 
 module _ (settings : Settings) (script : Script) (calls : List Item) (actors : List AnyActor) (space : Space) (actors' : List AnyActor) (rested : HasRested (run_of settings script) calls actors space actors' false) (waited : Bool)
     (waited_is : waited ≡ list_any waits actors) where
-  abbrev amid : IsBetweenEpochs (run_of settings script) space None None actors' rested.history rested.stands.0
+  abbrev amid : IsBetweenEpochs (run_of settings script) space None actors' rested.history rested.stands.0
   amid = rested.stands.1
 
-  abbrev come : HasCome (run_of settings script) space None None rested.history rested.stands.0
+  abbrev come : HasCome (run_of settings script) space None rested.history rested.stands.0
   come = amid.come
 
   reported : report_of space.report ≡ last_report rested.history

@@ -25,7 +25,7 @@ use Rattle.lxr_core.proofs.ExecutionLemmas.{epoch_invariant_holds}
 use Rattle.lxr_core.proofs.MappedLemmas.{mapped}
 use Rattle.lxr_shared.specs.Sharing.{Sharing}
 use Rattle.lxr_shared_passes.specs.Passing.{Every, IsEnd, Passing}
-use Rattle.lxr_run_threads.proofs.OpenedLemmas.{started_helpers}
+use Rattle.lxr_shared.proofs.StartedLemmas.{started_helpers}
 use Rattle.lxr_core.proofs.ScriptLemmas.{opened_script, unfilled_mutators}
 use Rattle.lxr_shared_heap.specs.Living.{AreLive}
 use Rattle.lxr_shared_heap.specs.Running.{BeganWith, IsRunning, shown_of}

@@ -6,7 +6,7 @@ use Rattle.std.proofs.lemmas.List.{length-map}
 use Rattle.lxr_mutator.specs.Mutating.{Mutating}
 use Rattle.lxr_graph.specs.History.{Item, Pause, PauseReport, Renew, report_of}
 use Rattle.lxr_model.specs.Moments.{Moment, moment}
-use Rattle.lxr_run_history.specs.Left.{last_report}
+use Rattle.lxr_rounds_history.specs.Left.{last_report}
 use Rattle.lxr_image.specs.declared.space.Space.{Space}
 use Rattle.lxr_layout.specs.declared.limits.Limits.{Limits}
 use Rattle.lxr_model.proofs.CollectLemmas.{whole_so_far}
@@ -32,12 +32,12 @@ use Rattle.lxr_core.proofs.OrderLemmas.{lengths_add, mutator_at, mutator_from}
 use Rattle.lxr_core.proofs.ScriptLemmas.{scripts_go_on}
 use Rattle.lxr_shared.specs.Sharing.{Sharing}
 use Rattle.lxr_shared_passes.specs.Passing.{IsSeen}
-use Rattle.lxr_run_invariant.specs.Laws.{HasClosed, asked_for, beginning_of}
-use Rattle.lxr_run_invariant.specs.LoopInvariant.{HasRunEpoch, HasRunTo, IsBetweenEpochs, Task, pace_of, terms_of}
+use Rattle.lxr_rounds_invariant.specs.Laws.{HasClosed, asked_for, beginning_of}
+use Rattle.lxr_rounds_invariant.specs.LoopInvariant.{HasRunEpoch, HasRunTo, IsBetweenEpochs, Task, pace_of, terms_of}
 use Rattle.lxr_model.specs.Kinds.{ends}
-use Rattle.lxr_run_invariant.proofs.ActorLemmas.{ends_are_fewer}
-use Rattle.lxr_run_invariant.proofs.EpochLemmas.{epochs_run, may_open}
-use Rattle.lxr_run_loop.proofs.TracerLemmas.{tracers_run}
+use Rattle.lxr_rounds_invariant.proofs.ActorLemmas.{ends_are_fewer}
+use Rattle.lxr_rounds_invariant.proofs.EpochLemmas.{epochs_run, may_open}
+use Rattle.lxr_rounds.proofs.TracerLemmas.{tracers_run}
 use Rattle.lxr_shared_heap.specs.declared.heap.Paused.{Paused}
 use Rattle.lxr_shared_heap.specs.declared.heap.Paused.TheVariants as paused
 use Rattle.lxr_shared_heap.specs.declared.heap.Resumed.{Resumed}
@@ -80,14 +80,14 @@ heaps_have_histories script h heap of = so_far (run_of heap.settings script) h h
 -- ---- the next epoch
 
 -- between epochs the next one may begin
-pub some_begins : (task : Task) (h : List Item) (space : Space) (actors : List AnyActor) → ((g : AbstractState) × IsBetweenEpochs task space None None actors h g) → (b : Beginning) × Begins b space actors
-some_begins task h space actors (g, amid) = (beginning_of task space h g, may_open task space None None actors h g amid)
+pub some_begins : (task : Task) (h : List Item) (space : Space) (actors : List AnyActor) → ((g : AbstractState) × IsBetweenEpochs task space None actors h g) → (b : Beginning) × Begins b space actors
+some_begins task h space actors (g, amid) = (beginning_of task space h g, may_open task space None actors h g amid)
 
 -- once it has, it is open
-pub has_opened : (task : Task) (h : List Item) (space : Space) (actors : List AnyActor) (epoch : Sharing) → ((g : AbstractState) × IsBetweenEpochs task space None None actors h g) → AreLive (mutators_in actors)
+pub has_opened : (task : Task) (h : List Item) (space : Space) (actors : List AnyActor) (epoch : Sharing) → ((g : AbstractState) × IsBetweenEpochs task space None actors h g) → AreLive (mutators_in actors)
     → EndByNewest h (mutators_in actors) → ((b : Beginning) → Begins b space actors → IsRunning b epoch) → BeganWith actors epoch → HasOpened task h epoch
 has_opened task h space actors epoch (g, amid) live newest runs began =
-    let running = runs (beginning_of task space h g) (may_open task space None None actors h g amid) in record {
+    let running = runs (beginning_of task space h g) (may_open task space None actors h g amid) in record {
       space = space;
       actors = actors;
       abstract_state = g;
@@ -127,7 +127,7 @@ pub record RunsOn (settings : Settings) (script : Script) (h : List Item) (epoch
   pub extends : Extends (length script) settings.every h calls
   pub before : List AnyActor
   pub abstract_state : AbstractState
-  pub ran : HasRunEpoch (run_of settings script') space None None before actors calls abstract_state
+  pub ran : HasRunEpoch (run_of settings script') space None before actors calls abstract_state
   pub live : AreLive (mutators_in actors)
   pub newest : EndByNewest calls (mutators_in actors)
 
@@ -198,7 +198,7 @@ module _ (settings : Settings) (script : Script) (h : List Item) (epoch : Sharin
 
   pub runs_on : RunsOn settings script h epoch open_epoch handed space actors
   runs_on =
-      let (m, ran, totals) = epochs_run (run_of settings script) asked_now open_epoch.space closes.middle space None None open_epoch.actors actors h open_epoch.abstract_state end open_epoch.before on closed in record {
+      let (m, ran, totals) = epochs_run (run_of settings script) asked_now open_epoch.space closes.middle space None open_epoch.actors actors h open_epoch.abstract_state end open_epoch.before on closed in record {
         script' = asked_now;
         goes_on = on;
         schedule = closes.schedule;
@@ -249,7 +249,7 @@ pub record StandsRenewed (Due : Type 0) (settings : Settings) (script : Script) 
   pub renewed_history : List Item
   pub renewed : IsRenewed Due mutators script h renewed_script renewed_history
   pub abstract_state : AbstractState
-  pub between : IsBetweenEpochs (run_of settings renewed_script) space None None actors renewed_history abstract_state
+  pub between : IsBetweenEpochs (run_of settings renewed_script) space None actors renewed_history abstract_state
   pub live : AreLive (mutators_in actors)
   pub newest : EndByNewest renewed_history (mutators_in actors)
 
@@ -270,7 +270,7 @@ stands_renewed false is tells settings script h g space actors idle space' actor
   renewed_history = h;
   renewed = inl (λ due. (let wrong : false ≡ true = tells due in absurd (cc)), refl, refl);
   abstract_state = g;
-  between = subst (λ s. IsBetweenEpochs (run_of settings script) s None None actors' h g) (sym renews.0) (subst (λ xs. IsBetweenEpochs (run_of settings script) space None None xs h g) (sym renews.1) stands.between);
+  between = subst (λ s. IsBetweenEpochs (run_of settings script) s None actors' h g) (sym renews.0) (subst (λ xs. IsBetweenEpochs (run_of settings script) space None xs h g) (sym renews.1) stands.between);
   live = subst (λ xs. AreLive (mutators_in xs)) (sym renews.1) stands.live;
   newest = subst (λ xs. EndByNewest h (mutators_in xs)) (sym renews.1) newest;
 }
@@ -297,18 +297,18 @@ idle_stands settings script calls actors space actors' rested live b is = record
 
 -- behind what waited each mutator's last unit ended with its thread's newest reply, if it ended with one
 pub newest_behind : (task : Task) (report : PauseReport) (calls : List Item) (mutators : List Mutating) (space : Space) (actors : List AnyActor) (h : List Item) (g : AbstractState) → GoesOnBehind task report calls mutators (mutators_in actors) h
-    → IsBetweenEpochs task space None None actors h g → EndByNewest calls mutators → EndByNewest h (mutators_in actors)
+    → IsBetweenEpochs task space None actors h g → EndByNewest calls mutators → EndByNewest h (mutators_in actors)
 newest_behind task report calls mutators space actors h g (inl (ended, last)) amid newest =
     let fewer = ends_are_fewer task h (mutators_in actors) amid.come.history.0 amid.actors_rest.mutators amid.more in
     let same = ap ends last in
     absurd (omega (arith, fewer, same, ended))
 newest_behind task report calls mutators space actors h g (inr behind) amid newest =
-    answers_newest (pace_of task.options) behind.collected mutators (mutators_in actors) behind.paused behind.answered (Pause report ∷ calls) h behind.answers newest
+    answers_newest (pace_of task.plan) behind.collected mutators (mutators_in actors) behind.paused behind.answered (Pause report ∷ calls) h behind.answers newest
 
 -- and once the pause is made behind it, the heap stands for what that has led to
 pub has_paused : (handed : List (Option Arrival)) (settings : Settings) (script : Script) (h : List Item) (live : Lived) (now : Stage) (of : IsHeapOf script h (record { settings = settings; stage = stage.Within live })) (space : Space) (actors : List AnyActor)
     → RunsOn settings script h live.epoch of.stands handed space actors
-    → ((script : Script) (earlier : List AnyActor) (calls : List Item) (g : AbstractState) → HasRunEpoch (run_of settings script) space None None earlier actors calls g → EndByNewest calls (mutators_in actors) → ComesToRest settings script calls (mutators_in actors) now)
+    → ((script : Script) (earlier : List AnyActor) (calls : List Item) (g : AbstractState) → HasRunEpoch (run_of settings script) space None earlier actors calls g → EndByNewest calls (mutators_in actors) → ComesToRest settings script calls (mutators_in actors) now)
     → HasPaused script h (record { settings = settings; stage = stage.Within live }) of (record { settings = settings; stage = now })
 has_paused handed settings script h live now of space actors on comes =
     let rest = comes on.script' on.before on.calls on.abstract_state on.ran on.newest in record {
@@ -330,7 +330,7 @@ has_paused handed settings script h live now of space actors on comes =
 -- so it is with mutators that were handed in
 pub has_paused_with : (handed : List (Option Arrival)) (settings : Settings) (script : Script) (h : List Item) (live : Lived) (now : Stage) (of : IsHeapOf script h (record { settings = settings; stage = stage.Within live })) (space : Space) (actors : List AnyActor)
     → RunsOn settings script h live.epoch of.stands handed space actors
-    → ((script : Script) (earlier : List AnyActor) (calls : List Item) (g : AbstractState) → HasRunEpoch (run_of settings script) space None None earlier actors calls g → EndByNewest calls (mutators_in actors) → ComesToRest settings script calls (mutators_in actors) now)
+    → ((script : Script) (earlier : List AnyActor) (calls : List Item) (g : AbstractState) → HasRunEpoch (run_of settings script) space None earlier actors calls g → EndByNewest calls (mutators_in actors) → ComesToRest settings script calls (mutators_in actors) now)
     → AreAsHandedIn handed (mutators_in actors) → HasPausedWith handed script h (record { settings = settings; stage = stage.Within live }) of (record { settings = settings; stage = now })
 unfolding has_paused
 has_paused_with handed settings script h live now of space actors on comes same = record {
@@ -391,13 +391,13 @@ pub record IsAtRestIn (task : Task) (h : List Item) (space : Space) : Type 0 whe
   pub pauses : space.pauses ≡ (moment (length task.script) h).number
   pub report : report_of space.report ≡ last_report h
 
-pub between_rest : (task : Task) (h : List Item) (space : Space) (actors : List AnyActor) → ((g : AbstractState) × IsBetweenEpochs task space None None actors h g) → IsAtRestIn task h space
+pub between_rest : (task : Task) (h : List Item) (space : Space) (actors : List AnyActor) → ((g : AbstractState) × IsBetweenEpochs task space None actors h g) → IsAtRestIn task h space
 between_rest task h space actors (g, amid) = record {
   pauses = amid.between.safepoint.numbers.pauses ∙ ap (λ (m : Moment). m.number) amid.come.stands.moment;
   report = amid.between.safepoint.numbers.report ∙ amid.come.stands.reported;
 }
 
-pub ended_rest : (task : Task) (h : List Item) (space : Space) (actors : List AnyActor) → HasRunTo task space None None actors h → IsAtRestIn task h space
+pub ended_rest : (task : Task) (h : List Item) (space : Space) (actors : List AnyActor) → HasRunTo task space None actors h → IsAtRestIn task h space
 ended_rest task h space actors ran =
     let (g, left) = ran.left in record {
       pauses = left.between.safepoint.numbers.pauses ∙ ap (λ (m : Moment). m.number) left.stands.moment;
@@ -408,7 +408,7 @@ some_space : (a b : Space) → Some a ≡ Some b → a ≡ b
 some_space a b e = cc
 
 -- where a heap is at rest its mutators have been ordered what the script says
-pub asked_between : (task : Task) (h : List Item) (space : Space) (actors : List AnyActor) → ((g : AbstractState) × IsBetweenEpochs task space None None actors h g) → script_of (mutators_in actors) ≡ task.script
+pub asked_between : (task : Task) (h : List Item) (space : Space) (actors : List AnyActor) → ((g : AbstractState) × IsBetweenEpochs task space None actors h g) → script_of (mutators_in actors) ≡ task.script
 asked_between task h space actors (g, amid) = amid.actors_rest.mutators.script
 
 -- where a heap is at rest its space has the numbers of its history
@@ -436,9 +436,11 @@ is_rest stage.Lost space is = absurd (cc)
 -- why an epoch keeps a pass is why its heap does
 kept_by : (settings : Settings) (live : Lived) (number : ℕ) → length live.epoch.opening.actors ≡ actors_of settings → (why : NotOut) → IsNotOut (length live.epoch.opening.actors) number why → IsKept (record { settings = settings; stage = stage.Within live }) number why
 kept_by settings live number many kept.NotRunning is = absurd is
+kept_by settings live number many kept.Ended is = absurd is
+kept_by settings live number many kept.Lost is = absurd is
 kept_by settings live number many kept.NoSuch is = (tt, subst (λ n. n ≤ number) many is)
 kept_by settings live number many kept.Away is = (tt, subst (λ n. number < n) many is)
-kept_by settings live number many kept.Memory is = (tt, subst (λ n. number < n) many is)
+kept_by settings live number many (kept.Memory refused) is = (tt, subst (λ n. number < n) many is)
 
 pub kept_for : {A : Type 0} (settings : Settings) (script : Script) (h : List Item) (live : Lived) (number : ℕ) (r : Result A NotOut) → IsHeapOf script h (record { settings = settings; stage = stage.Within live })
     → IfErr r (λ why. IsNotOut (length live.epoch.opening.actors) number why) → IfErr r (λ why. IsKept (record { settings = settings; stage = stage.Within live }) number why)

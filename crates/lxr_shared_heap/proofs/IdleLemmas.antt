@@ -15,8 +15,8 @@ use Rattle.lxr_core.specs.declared.actors.AnyActor.TheVariants as any
 use Rattle.lxr_core.specs.Actors.{mutators_in}
 use Rattle.lxr_one_pause.specs.declared.Pace.{Pace}
 use Rattle.lxr_serve.specs.Answering.{TakesTurn, TakeTurns, begins, next, passes, refuses, serves}
-use Rattle.lxr_run_invariant.specs.LoopInvariant.{Task, pace_of}
-use Rattle.lxr_run_loop.specs.Answering.{AnswersWaiting, all, collects}
+use Rattle.lxr_rounds_invariant.specs.LoopInvariant.{Task, pace_of}
+use Rattle.lxr_rounds.specs.Answering.{AnswersWaiting, all, collects}
 use Rattle.lxr_shared_heap.specs.Renewing.{waits}
 use Rattle.lxr_shared_heap.specs.Resting.{GoesOnBehind}
 use Rattle.lxr_shared_heap.proofs.RenewingLemmas.{or_right_false}
@@ -81,7 +81,7 @@ pub idle_last : (task : Task) (report : PauseReport) (calls : List Item) (actors
     → list_any waits actors ≡ false → h ≡ Pause report ∷ calls
 idle_last task report calls actors mutators' h (inl (ended, last)) none = last
 idle_last task report calls actors mutators' h (inr behind) none =
-    idle_answers (pace_of task.options) behind.collected (mutators_in actors) mutators' behind.paused behind.answered (Pause report ∷ calls) h (none_wait actors none) behind.answers
+    idle_answers (pace_of task.plan) behind.collected (mutators_in actors) mutators' behind.paused behind.answered (Pause report ∷ calls) h (none_wait actors none) behind.answers
 
 -- nothing stands behind it
 pub idle_behind : (task : Task) (report : PauseReport) (calls : List Item) (actors : List AnyActor) (mutators' : List Mutating) (h : List Item) → GoesOnBehind task report calls (mutators_in actors) mutators' h

@@ -1,31 +1,23 @@
 -- A live mutator stays live: no step, order or beginning of an epoch changes what room it has for replies.
-use Rattle.std.proofs.Common.{◌≡◌, ℕ, zero, suc, ◌<◌, refl, sym, ap, subst, ◌∙◌, inl, inr, arith, Bool, true, false, List, [], ◌∷◌, length, map, nat_eq}
-use Rattle.std.specs.Prelude.{⊤, Option, Some, None, slice_get, slice_index, slice_set, if◌then◌else◌, nat_lt, ◌&&◌, option_map}
+use Rattle.std.proofs.Common.{◌≡◌, ℕ, zero, suc, ◌<◌, refl, sym, ap, subst, ◌∙◌, inl, inr, arith, Bool, true, false, List, [], ◌∷◌, length, map}
+use Rattle.std.specs.Prelude.{⊤, Option, Some, None, slice_get, slice_index, slice_set, if◌then◌else◌, option_map}
 use Rattle.std.proofs.lemmas.List.{length-map}
 use Rattle.std.proofs.lemmas.Bool.{cases_eq}
 use Rattle.std.proofs.lemmas.Option.{slice_get-map, slice_get_within}
-use Rattle.lxr_layout.specs.Places.{place_in}
 use Rattle.lxr_layout.specs.declared.Place.{Place}
-use Rattle.lxr_layout.specs.declared.Shape.{Shape}
-use Rattle.lxr_layout.specs.declared.LogEntry.{LogEntry}
-use Rattle.lxr_base.specs.Roomy.{Roomy}
 use Rattle.lxr_graph.specs.declared.Op.{Op}
-use Rattle.lxr_graph.specs.declared.Op.TheVariants as op
 use Rattle.lxr_image.specs.declared.space.Space.{Space}
 use Rattle.lxr_actor.specs.declared.Action.{Action}
 use Rattle.lxr_actor.specs.declared.Core.{Core}
 use Rattle.lxr_actor.specs.declared.Event.{Event}
 use Rattle.lxr_actor.specs.declared.Event.TheVariants.{Step, Give, Out, Order}
 use Rattle.lxr_actor.specs.Run.{acted, change, event, happened, of_event, run}
-use Rattle.lxr_barrier.specs.declared.StoreEnd.{StoreEnd}
-use Rattle.lxr_barrier.specs.declared.StoreEnd.TheVariants as store_end
-use Rattle.lxr_barrier.specs.Storing.{Storing, end_of, log_after, store_after}
-use Rattle.lxr_mutator.specs.declared.phases.MutatorPhase.{MutatorPhase}
-use Rattle.lxr_mutator.specs.declared.phases.MutatorPhase.TheVariants as phase
-use Rattle.lxr_mutator.specs.Mutating.{Mutating, op_now, register}
-use Rattle.lxr_mutator.specs.Operating.{indexed_fields, index_of}
-use Rattle.lxr_mutator.specs.Steps.{accepts_in, after_in, based, has_room, is_medium, loaded, placed, started, stored}
+use Rattle.lxr_mutator.specs.Mutating.{Mutating}
+use Rattle.lxr_mutator.specs.Steps.{after, started}
 use Rattle.lxr_mutator.specs.Orders.{takes_order, with_order}
+use Rattle.lxr_mutator.specs.Laws.{StepsByRule}
+use Rattle.lxr_mutator.specs.Laws.StepsByRule.{does_one, finds_asked, finds_end, gave_up, goes_on, stands_still}
+use Rattle.lxr_mutator.proofs.StepLemmas.{step_by_rule}
 use Rattle.lxr_core_invariant.proofs.ShowingLemmas.{set_elsewhere, set_here}
 use Rattle.lxr_core.specs.declared.actors.AnyActor.{AnyActor}
 use Rattle.lxr_core.specs.declared.actors.AnyActor.TheVariants as any
@@ -43,62 +35,14 @@ use Rattle.lxr_shared_heap.specs.Living.{AreLive, IsLive}
 abbrev Leaves : Mutating → Mutating → Type 0
 Leaves m x = x.replies.room ≡ m.replies.room
 
--- each step of a mutator leaves it that room, by its phase
-either_leaves : (b : Bool) (m x y : Mutating) → Leaves m x → Leaves m y → Leaves m (if b then x else y)
-either_leaves true m x y p q = p
-either_leaves false m x y p q = q
-
-based_leaves : (m : Mutating) (base : Place) → Leaves m (based m base)
-based_leaves m base = either_leaves (nat_eq base.0 0) m _ _ refl refl
-
-placed_leaves : (m : Mutating) (shape : Shape) → Leaves m (placed m shape)
-placed_leaves m shape =
-    either_leaves (has_room m.spans.current shape) m _ _ refl (either_leaves (is_medium shape && has_room m.spans.overflow shape) m _ _ refl refl)
-
-started_leaves : (m : Mutating) (o : Op) → Leaves m (started m o)
-started_leaves m (op.New dest shape) = placed_leaves m shape
-started_leaves m (op.Load dest base index) = based_leaves m (register m base)
-started_leaves m (op.Store base index source) = based_leaves m (register m base)
-started_leaves m (op.Put base index value) = based_leaves m (register m base)
-started_leaves m (op.Get base index) = based_leaves m (register m base)
-started_leaves m (op.Swap dest base index source) = based_leaves m (register m base)
-started_leaves m (op.Add base index value) = based_leaves m (register m base)
-started_leaves m (op.Move dest source) = refl
-started_leaves m (op.Nil dest) = refl
-started_leaves m (op.Same left right) = refl
-started_leaves m op.Pause = refl
-started_leaves m op.Collect = refl
-started_leaves m op.End = refl
-
-loaded_leaves : (m : Mutating) (place : Place) → Leaves m (loaded m place)
-loaded_leaves m place = either_leaves (nat_eq place.0 0) m _ _ refl refl
-
-stored_leaves : (m : Mutating) (s : Storing) (log : Roomy LogEntry) (e : Option StoreEnd) → Leaves m (stored m s log e)
-stored_leaves m s log None = refl
-stored_leaves m s log (Some store_end.Stored) = refl
-stored_leaves m s log (Some (store_end.Swapped old)) = loaded_leaves (record m { log = log }) old
-stored_leaves m s log (Some store_end.LogFull) = refl
-
-after_leaves : (m : Mutating) (p : MutatorPhase) (old : ℕ) → Leaves m (after_in m p old)
-after_leaves m phase.Ready old = either_leaves (nat_eq old 1) m _ _ refl (started_leaves m (op_now m))
-after_leaves m phase.Finished old = refl
-after_leaves m (phase.Base base) old = either_leaves (nat_lt (index_of (op_now m)) (indexed_fields (op_now m) _)) m _ _ refl refl
-after_leaves m (phase.Reference base) old = loaded_leaves m (place_in old)
-after_leaves m (phase.Referent place) old = refl
-after_leaves m (phase.Datum base refs) old = refl
-after_leaves m (phase.Putting base refs) old = refl
-after_leaves m (phase.Adding base refs) old = refl
-after_leaves m (phase.Storing s) old = stored_leaves m (store_after s m.log old) (log_after s m.log old) (end_of (store_after s m.log old))
-after_leaves m phase.DrawsRun old = refl
-after_leaves m (phase.RunNumber number) old = refl
-after_leaves m (phase.Run number) old = refl
-after_leaves m phase.DrawsBlock old = refl
-after_leaves m (phase.BlockNumber number) old = refl
-after_leaves m (phase.Block number) old = either_leaves (is_medium _) m _ _ refl refl
-after_leaves m (phase.Wiping place next) old = refl
-after_leaves m (phase.Heading place) old = refl
-after_leaves m phase.Asking old = refl
-after_leaves m (phase.GivingUp why) old = refl
+-- each step of a mutator leaves it that room
+step_leaves : (m : Mutating) (old : ℕ) (to : Mutating) → StepsByRule m old to → Leaves m to
+step_leaves m old to (goes_on log registers spans p busy) = refl
+step_leaves m old to (finds_asked ready is) = refl
+step_leaves m old to (finds_end ready unasked is) = refl
+step_leaves m old to (gave_up why is) = refl
+step_leaves m old to (does_one log registers r) = refl
+step_leaves m old to (stands_still is) = refl
 
 -- ---- actors
 
@@ -134,7 +78,7 @@ acted_lives : (words : List ℕ) (a : AnyActor) (o : Option Action) → Lives a 
 acted_lives words (any.Mutator m) None live = live
 acted_lives words (any.Mutator m) (Some act) live =
     let old = slice_index words act.word in
-    either_leaves (accepts_in m m.phase old) m _ _ (after_leaves m m.phase old) refl ∙ live
+    step_leaves m old (after m old) (step_by_rule m old) ∙ live
 acted_lives words (any.Decrementer d) None live = tt
 acted_lives words (any.Decrementer d) (Some act) live = tt
 acted_lives words (any.Tracer d) None live = tt

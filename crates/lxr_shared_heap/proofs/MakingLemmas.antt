@@ -21,10 +21,10 @@ use Rattle.lxr_core.specs.Actors.{in_order, mutators_in, script_of}
 use Rattle.lxr_core.specs.Resting.{HelpersRest}
 use Rattle.lxr_core.proofs.OrderLemmas.{mutators_of_both, mutators_of_order}
 use Rattle.lxr_placing.specs.Opening.{opening_abstract_state}
-use Rattle.lxr_run_invariant.specs.LoopInvariant.{IsBetweenEpochs, task_limits, threads_of}
-use Rattle.lxr_run_invariant.proofs.OpeningLemmas.{AreFirst, between_opened}
-use Rattle.lxr_run_loop.specs.Made.{HelpersStandBehind}
-use Rattle.lxr_run_loop.proofs.OpeningLemmas.{behind_in_order, helpers_made, pushed_at, same_more}
+use Rattle.lxr_rounds_invariant.specs.LoopInvariant.{IsBetweenEpochs, task_limits, threads_of}
+use Rattle.lxr_rounds_invariant.proofs.OpeningLemmas.{AreFirst, between_opened}
+use Rattle.lxr_rounds.specs.Helpers.{HelpersStandBehind}
+use Rattle.lxr_rounds.proofs.HelperLemmas.{behind_in_order, helpers_made, pushed_at, same_more}
 use Rattle.lxr_shared_heap.specs.declared.settings.Settings.{Settings}
 use Rattle.lxr_shared_heap.specs.Living.{AreLive, IsLive}
 use Rattle.lxr_shared_heap.specs.Making.{AreNew}
@@ -77,12 +77,12 @@ new_pushed l every n actors actors' m new is sound pushed =
 
 -- the limits of its space
 pub settings_fit : (settings : Settings) → AreSettings settings → AreLimits (limits_in settings)
-settings_fit settings ranges = record { blocks = (ranges.blocks.0, let few = ranges.blocks.1 in omega (arith, few)); threads = ranges.threads; log = ranges.log; remember = ranges.remember }
+settings_fit settings ranges = record { blocks = (ranges.blocks.0, let few = ranges.blocks.1 in omega (arith, few)); threads = ranges.mutators; log = ranges.log; remember = ranges.remember }
 
 -- it is between two epochs
 pub new_between : (settings : Settings) (space : Space) (mutators actors : List AnyActor) → AreSettings settings → AreNew (limits_in settings) settings.every settings.mutators mutators
     → HelpersStandBehind (limits_in settings) settings.helpers mutators actors → IsOpened space (limits_in settings) → IsQuiescent space (opening_abstract_state settings.mutators) → IsListedWhole space
-    → IsBetweenEpochs (run_of settings (replicate settings.mutators [])) space None None actors [] (opening_abstract_state settings.mutators)
+    → IsBetweenEpochs (run_of settings (replicate settings.mutators [])) space None actors [] (opening_abstract_state settings.mutators)
 new_between settings space mutators actors ranges new stand opened between listed =
     let task = run_of settings (replicate settings.mutators []) in
     let l = limits_in settings in
@@ -93,7 +93,7 @@ new_between settings space mutators actors ranges new stand opened between liste
     let threads : settings.mutators ≡ threads_of task = sym (length-replicate settings.mutators []) in
     let of_task : l ≡ task_limits task = ap (λ n. record l { threads = n }) threads in
     let helpers = helpers_made l w w actors (settings_fit settings ranges) (ordered ∙ ap (λ (xs : List Mutating). in_order xs (replicate w (first_decrementer l)) (replicate w (first_tracer l))) (sym same)) in
-    let some : 1 ≤ threads_of task = subst (λ n. 1 ≤ n) threads ranges.threads.0 in
+    let some : 1 ≤ threads_of task = subst (λ n. 1 ≤ n) threads ranges.mutators.0 in
     between_opened task space (opening_abstract_state settings.mutators) actors some
     (record {
       moment = ap opening_moment threads;
@@ -118,7 +118,7 @@ new_between settings space mutators actors ranges new stand opened between liste
       helpers = subst (λ k. HelpersRest k actors) of_task helpers.rest;
       workers = helpers.decrementers;
       tracers = helpers.tracers;
-      few = ranges.workers.1;
+      few = ranges.helpers.1;
     })
 
 -- and its mutators are live

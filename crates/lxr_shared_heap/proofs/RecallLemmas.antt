@@ -1,19 +1,13 @@
 -- The reply by which a mutator's last unit ended is its thread's newest, for a unit that ends with a reply adds it to the replies, and nothing else changes either.
 use Rattle.std.proofs.Common.{Bool, true, false, ◌≡◌, ◌≢◌, ◌∙◌, ℕ, suc, ◌+◌, ◌-◌, ◌≤◌, ◌⊎◌, zero, inl, inr, refl, sym, ap, subst, arith, List, [], ◌∷◌, ◌++◌, length, map, nat_eq}
-use Rattle.std.specs.Prelude.{⊤, ◌&&◌, Option, Some, None, if◌then◌else◌, nat_le, nat_lt, slice_get, slice_index, slice_set}
+use Rattle.std.specs.Prelude.{⊤, Option, Some, None, if◌then◌else◌, nat_le, slice_get, slice_index, slice_set}
 use Rattle.std.specs.Option.{option_or}
 use Rattle.std.proofs.lemmas.Bool.{cases_eq, eq-eqb}
 use Rattle.std.proofs.lemmas.Bool.Decides.{nat_tests}
 use Rattle.std.proofs.lemmas.List.{length-append}
 use Rattle.std.proofs.lemmas.Option.{slice_get_within}
-use Rattle.lxr_layout.specs.Places.{place_in}
-use Rattle.lxr_layout.specs.declared.LogEntry.{LogEntry}
 use Rattle.lxr_layout.specs.declared.Name.{Name}
-use Rattle.lxr_layout.specs.declared.Place.{Place}
-use Rattle.lxr_layout.specs.declared.Shape.{Shape}
-use Rattle.lxr_base.specs.Roomy.{Roomy}
 use Rattle.lxr_graph.specs.declared.Op.{Op}
-use Rattle.lxr_graph.specs.declared.Op.TheVariants as op
 use Rattle.lxr_graph.specs.declared.Reply.{Reply}
 use Rattle.lxr_graph.specs.declared.Reply.TheVariants as reply
 use Rattle.lxr_graph.specs.History.{Call, Item, Pause, Renew, replies_of, report_of}
@@ -23,18 +17,16 @@ use Rattle.lxr_actor.specs.declared.Core.{Core}
 use Rattle.lxr_actor.specs.declared.Event.{Event}
 use Rattle.lxr_actor.specs.declared.Event.TheVariants.{Give, Order, Out, Step}
 use Rattle.lxr_actor.specs.Run.{acted, change, event, happened, of_event, run}
-use Rattle.lxr_barrier.specs.declared.StoreEnd.{StoreEnd}
-use Rattle.lxr_barrier.specs.declared.StoreEnd.TheVariants as store_end
-use Rattle.lxr_barrier.specs.Storing.{Storing, end_of, log_after, store_after}
 use Rattle.lxr_mutator.specs.declared.phases.MutEnd.TheVariants as ends
-use Rattle.lxr_mutator.specs.declared.phases.MutatorPhase.{MutatorPhase}
-use Rattle.lxr_mutator.specs.declared.phases.MutatorPhase.TheVariants as phase
 use Rattle.lxr_mutator.specs.declared.phases.Stop.TheVariants as stop
-use Rattle.lxr_mutator.specs.Mutating.{Mutating, last_reply, next_name, nil, op_now, register, reply_in}
+use Rattle.lxr_mutator.specs.Mutating.{Mutating, last_reply, next_name, op_now, reply_in}
 use Rattle.lxr_mutator.specs.Mutators.{answered, held_place, renewed}
-use Rattle.lxr_mutator.specs.Operating.{dest_of, indexed_fields, index_of}
-use Rattle.lxr_mutator.specs.Steps.{accepts_in, after_in, based, done_with, has_room, is_medium, loaded, placed, started, stored, with_register}
+use Rattle.lxr_mutator.specs.Operating.{dest_of}
+use Rattle.lxr_mutator.specs.Steps.{after, done_with, with_register}
 use Rattle.lxr_mutator.specs.Orders.{takes_order, with_order}
+use Rattle.lxr_mutator.specs.Laws.{StepsByRule}
+use Rattle.lxr_mutator.specs.Laws.StepsByRule.{does_one, finds_asked, finds_end, gave_up, goes_on, stands_still}
+use Rattle.lxr_mutator.proofs.StepLemmas.{step_by_rule}
 use Rattle.lxr_core_invariant.specs.EpochStates.{Extends, called, same}
 use Rattle.lxr_core_invariant.proofs.ShowingLemmas.{set_elsewhere, set_here}
 use Rattle.lxr_core.specs.declared.actors.AnyActor.{AnyActor}
@@ -45,7 +37,7 @@ use Rattle.lxr_core.proofs.ClosingLemmas.{given_mutators}
 use Rattle.lxr_core.proofs.MappedLemmas.{mapped_from}
 use Rattle.lxr_one_pause.specs.declared.Pace.{Pace}
 use Rattle.lxr_serve.specs.Answering.{TakesTurn, TakeTurns, begins, next, passes, refuses, serves}
-use Rattle.lxr_run_loop.specs.Answering.{AnswersWaiting, all, collects}
+use Rattle.lxr_rounds.specs.Answering.{AnswersWaiting, all, collects}
 use Rattle.lxr_shared_heap.specs.Renewing.{actor_renewed}
 use Rattle.lxr_shared_heap.specs.Telling.{EndByNewest, EndsByNewest, newest_reply}
 use Rattle.lxr_shared_heap.proofs.NewestLemmas.{last_stands, newest_told, replies_grow}
@@ -63,10 +55,6 @@ still m x ended replied = record { tells = λ r is. inr (ap reply_in (sym ended)
 silent : (m x : Mutating) → reply_in x.end ≡ None → Recalls m x
 silent m x none = record { tells = λ r is. absurd (let wrong : None ≡ Some r = sym none ∙ is in cc) }
 
-either_recalls : (b : Bool) (m x y : Mutating) → Recalls m x → Recalls m y → Recalls m (if b then x else y)
-either_recalls true m x y p q = p
-either_recalls false m x y p q = q
-
 done_recalls : (m y : Mutating) (r : Reply) → Recalls m (done_with y r)
 done_recalls m y r = record { tells = by_turn (nat_le y.every (y.since + 1)) }
   where
@@ -74,59 +62,15 @@ done_recalls m y r = record { tells = by_turn (nat_le y.every (y.since + 1)) }
     by_turn true q is = absurd (cc)
     by_turn false q is = inl (last_stands y.replies.items r ∙ is)
 
-based_recalls : (m : Mutating) (base : Place) → Recalls m (based m base)
-based_recalls m base = either_recalls (nat_eq base.0 0) m _ _ (done_recalls m m reply.Bad) (still m _ refl refl)
-
-placed_recalls : (m : Mutating) (shape : Shape) → Recalls m (placed m shape)
-placed_recalls m shape =
-    either_recalls (has_room m.spans.current shape) m _ _ (still m _ refl refl) (either_recalls (is_medium shape && has_room m.spans.overflow shape) m _ _ (still m _ refl refl) (still m _ refl refl))
-
-started_recalls : (m : Mutating) (o : Op) → Recalls m (started m o)
-started_recalls m (op.New dest shape) = placed_recalls m shape
-started_recalls m (op.Load dest base index) = based_recalls m (register m base)
-started_recalls m (op.Store base index source) = based_recalls m (register m base)
-started_recalls m (op.Put base index value) = based_recalls m (register m base)
-started_recalls m (op.Get base index) = based_recalls m (register m base)
-started_recalls m (op.Swap dest base index source) = based_recalls m (register m base)
-started_recalls m (op.Add base index value) = based_recalls m (register m base)
-started_recalls m (op.Move dest source) = done_recalls m (with_register m dest (register m source)) reply.Moved
-started_recalls m (op.Nil dest) = done_recalls m (with_register m dest nil) reply.Cleared
-started_recalls m (op.Same left right) = done_recalls m m _
-started_recalls m op.Pause = still m _ refl refl
-started_recalls m op.Collect = still m _ refl refl
-started_recalls m op.End = silent m _ refl
-
-loaded_recalls : (m n : Mutating) (place : Place) → n.end ≡ m.end → n.replies.items ≡ m.replies.items → Recalls m (loaded n place)
-loaded_recalls m n place ended replied = either_recalls (nat_eq place.0 0) m _ _ (done_recalls m (with_register n (dest_of (op_now n)) place) _) (still m _ ended replied)
-
-stored_recalls : (m : Mutating) (s : Storing) (log : Roomy LogEntry) (e : Option StoreEnd) → Recalls m (stored m s log e)
-stored_recalls m s log None = still m _ refl refl
-stored_recalls m s log (Some store_end.Stored) = done_recalls m (record m { log = log }) reply.Stored
-stored_recalls m s log (Some (store_end.Swapped old)) = loaded_recalls m (record m { log = log }) old refl refl
-stored_recalls m s log (Some store_end.LogFull) = still m _ refl refl
-
--- so does each step, by its phase
-after_recalls : (m : Mutating) (p : MutatorPhase) (old : ℕ) → Recalls m (after_in m p old)
-after_recalls m phase.Ready old = either_recalls (nat_eq old 1) m _ _ (silent m _ refl) (started_recalls m (op_now m))
-after_recalls m phase.Finished old = still m m refl refl
-after_recalls m (phase.Base base) old = either_recalls (nat_lt (index_of (op_now m)) (indexed_fields (op_now m) _)) m _ _ (still m _ refl refl) (done_recalls m m reply.Range)
-after_recalls m (phase.Reference base) old = loaded_recalls m m (place_in old) refl refl
-after_recalls m (phase.Referent place) old = done_recalls m m _
-after_recalls m (phase.Datum base refs) old = done_recalls m m _
-after_recalls m (phase.Putting base refs) old = done_recalls m m _
-after_recalls m (phase.Adding base refs) old = done_recalls m m _
-after_recalls m (phase.Storing s) old = stored_recalls m (store_after s m.log old) (log_after s m.log old) (end_of (store_after s m.log old))
-after_recalls m phase.DrawsRun old = still m _ refl refl
-after_recalls m (phase.RunNumber number) old = still m _ refl refl
-after_recalls m (phase.Run number) old = still m _ refl refl
-after_recalls m phase.DrawsBlock old = still m _ refl refl
-after_recalls m (phase.BlockNumber number) old = still m _ refl refl
-after_recalls m (phase.Block number) old = either_recalls (is_medium _) m _ _ (still m _ refl refl) (still m _ refl refl)
-after_recalls m (phase.Wiping place at) old = still m _ refl refl
-after_recalls m (phase.Heading place) old = done_recalls m (with_register m (dest_of (op_now m)) place) _
-after_recalls m phase.Asking old = done_recalls m m _
-after_recalls m (phase.GivingUp stop.NoRun) old = silent m _ refl
-after_recalls m (phase.GivingUp stop.LogFull) old = silent m _ refl
+-- so does each step
+step_recalls : (m : Mutating) (old : ℕ) (to : Mutating) → StepsByRule m old to → Recalls m to
+step_recalls m old to (goes_on log registers spans p busy) = still m _ refl refl
+step_recalls m old to (finds_asked ready is) = silent m _ refl
+step_recalls m old to (finds_end ready unasked is) = silent m _ refl
+step_recalls m old to (gave_up stop.NoRun is) = silent m _ refl
+step_recalls m old to (gave_up stop.LogFull is) = silent m _ refl
+step_recalls m old to (does_one log registers r) = done_recalls m (record m { log = log; registers = registers }) r
+step_recalls m old to (stands_still is) = still m m refl refl
 
 -- ---- a schedule
 
@@ -165,7 +109,7 @@ acted_from : (words : List ℕ) (a : AnyActor) (o : Option Action) → ComesFrom
 acted_from words (any.Mutator m) None = (m, refl, still m m refl refl)
 acted_from words (any.Mutator m) (Some act) =
     let old = slice_index words act.word in
-    (m, refl, either_recalls (accepts_in m m.phase old) m _ _ (after_recalls m m.phase old) (done_recalls m m reply.Bad))
+    (m, refl, step_recalls m old (after m old) (step_by_rule m old))
 acted_from words (any.Decrementer d) None = tt
 acted_from words (any.Decrementer d) (Some act) = tt
 acted_from words (any.Tracer d) None = tt

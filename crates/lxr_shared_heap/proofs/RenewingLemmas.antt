@@ -42,10 +42,10 @@ use Rattle.lxr_core.specs.declared.actors.AnyActor.{AnyActor}
 use Rattle.lxr_core.specs.declared.actors.AnyActor.TheVariants as any
 use Rattle.lxr_core.specs.Actors.{AreInOrder, decrementers_in, in_order, mutators_in, tracers_in}
 use Rattle.lxr_core.proofs.OrderLemmas.{decrementers_of_order, mutator_at, mutators_of_order, tracers_of_order}
-use Rattle.lxr_run_history.specs.Left.{last_report}
-use Rattle.lxr_run_invariant.specs.Renewing.{AreRenewed}
-use Rattle.lxr_run_invariant.proofs.RenewingLemmas.{run_renewed}
-use Rattle.lxr_run_invariant.specs.LoopInvariant.{HasCome, IsBetweenEpochs, Task, terms_of, threads_of}
+use Rattle.lxr_rounds_history.specs.Left.{last_report}
+use Rattle.lxr_rounds_invariant.specs.Renewing.{AreRenewed}
+use Rattle.lxr_rounds_invariant.proofs.RenewingLemmas.{run_renewed}
+use Rattle.lxr_rounds_invariant.specs.LoopInvariant.{HasCome, IsBetweenEpochs, Task, terms_of, threads_of}
 use Rattle.lxr_shared_heap.specs.declared.settings.Settings.{Settings}
 use Rattle.lxr_shared_heap.specs.Living.{AreLive, IsLive}
 use Rattle.lxr_shared_heap.specs.Renewing.{CanActorRenew, HasRenewed, StandsIdle, actor_renewed, has_drained, is_at_end, is_renewal_due, is_worn}
@@ -188,10 +188,10 @@ module _ (settings : Settings) (script : Script) (space : Space) (actors : List 
   abbrev task : Task
   task = run_of settings script
 
-  abbrev amid : IsBetweenEpochs task space None None actors h g
+  abbrev amid : IsBetweenEpochs task space None actors h g
   amid = stands.between
 
-  abbrev come : HasCome task space None None h g
+  abbrev come : HasCome task space None h g
   come = amid.come
 
   abbrev asked : IsTrue (has_drained space) × IsTrue (list_any is_worn actors && not (list_any is_at_end actors))
@@ -247,8 +247,8 @@ module _ (settings : Settings) (script : Script) (space : Space) (actors : List 
       few = (let k = few in omega (arith, k));
     }
 
-    pub still_amid : IsBetweenEpochs task (with_told space entries) None None actors h g
-    still_amid = between_told task space None None actors h g entries amid
+    pub still_amid : IsBetweenEpochs task (with_told space entries) None actors h g
+    still_amid = between_told task space None actors h g entries amid
 
     pub may_renew : MayRenew listing g ns
     may_renew = subst (λ s. MayRenew s g ns) (sym tells.space) (record {
@@ -282,7 +282,7 @@ module _ (settings : Settings) (script : Script) (space : Space) (actors : List 
   each_can left all i (any.Mutator m) at =
       let there = mutator_at actors i m amid.actors_rest.helpers.order at in
       let rests = amid.actors_rest.mutators.rest.each i m there in
-      let operations = rests.mutator.sound.few in
+      let operations = rests.mutator.sound.setup.few in
       let room = stands.live i m there in
       let fit = few in
       record {
@@ -332,7 +332,7 @@ module _ (settings : Settings) (script : Script) (space : Space) (actors : List 
           names = ns;
           begin_anew = ap (λ k. map (actor_renewed k) actors) all;
           abstract_state = record { moment = renewed_moment space.limits.threads ns g.moment; at = r.at; reported = g.reported };
-          between = run_renewed task (with_told space (entries listing tells)) after None None actors actors' h g ns (still_amid listing tells)
+          between = run_renewed task (with_told space (entries listing tells)) after None actors actors' h g ns (still_amid listing tells)
               (record { renews = refl; behind = drained.behind; untraced = untraced; left = left_names.1; go_on = go_on }) r are;
           live = still_live;
         }

@@ -1,33 +1,21 @@
 -- A unit of an actor changes nothing of what it was asked for, and leaves its replies or adds one to them.
 use Rattle.std.proofs.Common.{◌≡◌, ◌∙◌, ℕ, ◌+◌, ◌-◌, Bool, true, false, Option, Some, None, List, [], ◌∷◌, ◌++◌, length, length-append, inl, inr, ⊎_elim, refl, sym, ap, subst, arith}
-use Rattle.std.specs.Prelude.{◌&&◌, ◌⊎◌, if◌then◌else◌, nat_eq, nat_le, nat_lt, slice_get, slice_index}
-use Rattle.lxr_layout.specs.declared.LogEntry.{LogEntry}
-use Rattle.lxr_layout.specs.declared.Place.{Place}
-use Rattle.lxr_layout.specs.declared.Shape.{Shape}
-use Rattle.lxr_layout.specs.Objects.{header_of, word_count}
-use Rattle.lxr_layout.specs.Places.{place_in}
-use Rattle.lxr_base.specs.Roomy.{Roomy}
+use Rattle.std.specs.Prelude.{◌⊎◌, if◌then◌else◌, nat_le, slice_get, slice_index}
 use Rattle.lxr_graph.specs.declared.Op.{Op}
-use Rattle.lxr_graph.specs.declared.Op.TheVariants as op
 use Rattle.lxr_graph.specs.declared.Reply.{Reply}
 use Rattle.lxr_graph.specs.declared.Reply.TheVariants as reply
 use Rattle.lxr_actor.specs.declared.Event.TheVariants.{Order}
 use Rattle.lxr_actor.specs.Run.{run}
-use Rattle.lxr_alloc.specs.Spans.{block_span, run_span}
-use Rattle.lxr_barrier.specs.declared.StoreEnd.{StoreEnd}
-use Rattle.lxr_barrier.specs.declared.StoreEnd.TheVariants as store_end
-use Rattle.lxr_barrier.specs.Storing.{Storing, end_of as store_end_of, log_after, store_after}
-use Rattle.lxr_mutator.specs.declared.phases.MutEnd.TheVariants as ends
-use Rattle.lxr_mutator.specs.declared.phases.MutatorPhase.{MutatorPhase}
 use Rattle.lxr_mutator.specs.declared.phases.MutatorPhase.TheVariants as phase
-use Rattle.lxr_mutator.specs.declared.phases.Stop.TheVariants as stop
 use Rattle.std.specs.Option.{option_or}
-use Rattle.lxr_mutator.specs.Mutating.{Mutating, nil, op_now, register, reply_in, rests_in}
+use Rattle.lxr_mutator.specs.Mutating.{Mutating, reply_in}
 use Rattle.lxr_mutator.specs.Orders.{takes_order, with_order}
 use Rattle.lxr_mutator.specs.Mutators.{MayTakeOrder}
 use Rattle.lxr_mutator.proofs.OrderLemmas.{takes_order_decides}
-use Rattle.lxr_mutator.specs.Operating.{dest_of, found_reply, index_of, indexed_fields}
 use Rattle.lxr_mutator.specs.Steps as mutator
+use Rattle.lxr_mutator.specs.Laws.{StepsByRule}
+use Rattle.lxr_mutator.specs.Laws.StepsByRule.{does_one, finds_asked, finds_end, gave_up, goes_on, stands_still}
+use Rattle.lxr_mutator.proofs.StepLemmas.{done_rests, step_by_rule}
 use Rattle.lxr_core.specs.declared.actors.AnyActor.{AnyActor}
 use Rattle.lxr_core.specs.declared.actors.AnyActor.TheVariants as any
 use Rattle.lxr_core.specs.Actors.{any_machine}
@@ -47,95 +35,18 @@ pub record Grows (a b : AnyActor) : Type 0 where
 abbrev Goes : Mutating → Mutating → Type 0
 Goes m x = Grows (any.Mutator m) (any.Mutator x)
 
--- nothing of the two changes
-stays : (m x : Mutating) → x.operations ≡ m.operations → x.replies.items ≡ m.replies.items → Goes m x
-stays m x same items = record { same = same; replies = inl items }
-
-either : (m x y : Mutating) (b : Bool) → Goes m x → Goes m y → Goes m (if b then x else y)
-either m x y true first second = first
-either m x y false first second = second
-
-in_either : (m : Mutating) (p q : MutatorPhase) (b : Bool) → Goes m (record m { phase = if b then p else q })
-in_either m p q true = stays m (record m { phase = p }) refl refl
-in_either m p q false = stays m (record m { phase = q }) refl refl
-
--- where an operation is done the mutator rests
-done_rests : (b : Bool) → rests_in (if b then phase.Finished else phase.Ready) ≡ true
-done_rests true = refl
-done_rests false = refl
-
--- an operation is done, behind changes to other parts of the mutator
-done : (m doing : Mutating) (r : Reply) → doing.operations ≡ m.operations → doing.replies.items ≡ m.replies.items → Goes m (mutator.done_with doing r)
-done m doing r same items = record { same = same; replies = inr (r, ap (λ rs. rs ++ r ∷ []) items, done_rests (nat_le doing.every (doing.since + 1))) }
-
-placed : (m : Mutating) (shape : Shape) → Goes m (mutator.placed m shape)
-placed m shape =
-    either m _ _ (mutator.has_room m.spans.current shape) (stays m (mutator.in_current m shape m.spans.current) refl refl)
-    (either m _ _ (mutator.is_medium shape && mutator.has_room m.spans.overflow shape) (stays m (mutator.in_overflow m shape m.spans.overflow) refl refl)
-    (stays m (record m { phase = mutator.draws_for shape }) refl refl))
-
-based : (m : Mutating) (base : Place) → Goes m (mutator.based m base)
-based m base = either m _ _ (nat_eq base.0 0) (done m m reply.Bad refl refl) (stays m (record m { phase = phase.Base base }) refl refl)
-
-started : (m : Mutating) (o : Op) → Goes m (mutator.started m o)
-started m (op.New dest shape) = placed m shape
-started m (op.Load dest base index) = based m (register m base)
-started m (op.Store base index source) = based m (register m base)
-started m (op.Put base index value) = based m (register m base)
-started m (op.Get base index) = based m (register m base)
-started m (op.Swap dest base index source) = based m (register m base)
-started m (op.Add base index value) = based m (register m base)
-started m (op.Move dest source) = done m (mutator.with_register m dest (register m source)) reply.Moved refl refl
-started m (op.Nil dest) = done m (mutator.with_register m dest nil) reply.Cleared refl refl
-started m (op.Same left right) = done m m (reply.Same (nat_eq (register m left).0 (register m right).0)) refl refl
-started m op.Pause = stays m (record m { phase = phase.Asking }) refl refl
-started m op.Collect = stays m (record m { phase = phase.Asking }) refl refl
-started m op.End = record { same = refl; replies = inr (reply.Ended, refl, refl) }
-
-loaded : (m doing : Mutating) (place : Place) → doing.operations ≡ m.operations → doing.replies.items ≡ m.replies.items → Goes m (mutator.loaded doing place)
-loaded m doing place same items =
-    let named = mutator.with_register doing (dest_of (op_now doing)) place in
-    either m _ _ (nat_eq place.0 0) (done m named (found_reply (op_now doing) None) same items) (stays m (record named { phase = phase.Referent place }) same items)
-
-stored : (m : Mutating) (store : Storing) (log : Roomy LogEntry) (e : Option StoreEnd) → Goes m (mutator.stored m store log e)
-stored m store log None = stays m (record m { log = log; phase = phase.Storing store }) refl refl
-stored m store log (Some store_end.Stored) = done m (record m { log = log }) reply.Stored refl refl
-stored m store log (Some (store_end.Swapped old)) = loaded m (record m { log = log }) old refl refl
-stored m store log (Some store_end.LogFull) = stays m (record m { log = log; phase = phase.GivingUp stop.LogFull }) refl refl
-
-after_in : (m : Mutating) (p : MutatorPhase) (old : ℕ) → Goes m (mutator.after_in m p old)
-after_in m phase.Ready old = either m _ _ (nat_eq old 1) (stays m (mutator.finished m ends.Asked) refl refl) (started m (op_now m))
-after_in m phase.Finished old = stays m m refl refl
-after_in m (phase.Base base) old =
-    let shape = mutator.shape_told (header_of old) in
-    either m _ _ (nat_lt (index_of (op_now m)) (indexed_fields (op_now m) shape)) (stays m (record m { phase = mutator.reaching m base shape (op_now m) }) refl refl) (done m m reply.Range refl refl)
-after_in m (phase.Reference base) old = loaded m m (place_in old) refl refl
-after_in m (phase.Referent place) old = done m m _ refl refl
-after_in m (phase.Datum base refs) old = done m m _ refl refl
-after_in m (phase.Putting base refs) old = done m m _ refl refl
-after_in m (phase.Adding base refs) old = done m m _ refl refl
-after_in m (phase.Storing store) old = stored m (store_after store m.log old) (log_after store m.log old) (store_end_of (store_after store m.log old))
-after_in m phase.DrawsRun old = stays m (record m { phase = phase.RunNumber old }) refl refl
-after_in m (phase.RunNumber number) old = in_either m (phase.Run number) phase.DrawsBlock (nat_lt number old)
-after_in m (phase.Run number) old = stays m (mutator.in_current m (mutator.shape_now m) (run_span (mutator.run_in old))) refl refl
-after_in m phase.DrawsBlock old = stays m (record m { phase = phase.BlockNumber old }) refl refl
-after_in m (phase.BlockNumber number) old = in_either m (phase.Block number) (phase.GivingUp stop.NoRun) (nat_lt number old)
-after_in m (phase.Block number) old =
-    let shape = mutator.shape_now m in
-    either m _ _ (mutator.is_medium shape) (stays m (mutator.in_overflow m shape (block_span old)) refl refl) (stays m (mutator.in_current m shape (block_span old)) refl refl)
-after_in m (phase.Wiping place next) old = in_either m (phase.Wiping place (next + 1)) (phase.Heading place) (nat_lt (next + 1) (word_count (mutator.shape_now m)))
-after_in m (phase.Heading place) old = done m (mutator.with_register m (dest_of (op_now m)) place) _ refl refl
-after_in m phase.Asking old = done m m _ refl refl
-after_in m (phase.GivingUp why) old = stays m (mutator.finished m (mutator.end_by why)) refl refl
-
--- whatever the word was
-after : (m : Mutating) (old : ℕ) → Goes m (mutator.after m old)
-after m old = either m _ _ (mutator.accepts_in m m.phase old) (after_in m m.phase old) (done m m reply.Bad refl refl)
+after : (m : Mutating) (old : ℕ) (to : Mutating) → StepsByRule m old to → Goes m to
+after m old to (goes_on log registers spans p busy) = record { same = refl; replies = inl refl }
+after m old to (finds_asked ready is) = record { same = refl; replies = inl refl }
+after m old to (finds_end ready unasked is) = record { same = refl; replies = inr (reply.Ended, refl, refl) }
+after m old to (gave_up why is) = record { same = refl; replies = inl refl }
+after m old to (does_one log registers r) = record { same = refl; replies = inr (r, refl, done_rests (nat_le m.every (m.since + 1))) }
+after m old to (stands_still is) = record { same = refl; replies = inl refl }
 
 -- ---- a unit of an actor
 
 after_actor : (a : AnyActor) (old : ℕ) → Grows a (any_machine.after a old)
-after_actor (any.Mutator m) old = after m old
+after_actor (any.Mutator m) old = after m old (mutator.after m old) (step_by_rule m old)
 after_actor (any.Decrementer d) old = record { same = refl; replies = inl refl }
 after_actor (any.Tracer t) old = record { same = refl; replies = inl refl }
 

@@ -33,16 +33,16 @@ use Rattle.lxr_core.proofs.OrderLemmas.{mutator_at, mutator_from}
 use Rattle.lxr_core.proofs.ScriptLemmas.{scripts_go_on}
 use Rattle.lxr_shared.specs.Sharing.{Sharing}
 use Rattle.lxr_shared_passes.specs.Passing.{IsAt, Passing}
-use Rattle.lxr_run_history.specs.Growing.{CallsBeginScript}
-use Rattle.lxr_run_history.proofs.HistoryLemmas.{history_extends}
-use Rattle.lxr_run_invariant.specs.Laws.{beginning_of}
-use Rattle.lxr_run_invariant.specs.LoopInvariant.{HaveMutators, Task, terms_of}
-use Rattle.lxr_run_invariant.proofs.ActorLemmas.{found, operations_at}
+use Rattle.lxr_rounds_history.specs.Growing.{CallsBeginScript}
+use Rattle.lxr_rounds_history.proofs.HistoryLemmas.{history_extends}
+use Rattle.lxr_rounds_invariant.specs.Laws.{beginning_of}
+use Rattle.lxr_rounds_invariant.specs.LoopInvariant.{HaveMutators, Task, terms_of}
+use Rattle.lxr_rounds_invariant.proofs.ActorLemmas.{found, operations_at}
 use Rattle.lxr_shared_heap.specs.declared.settings.Settings.{Settings}
 use Rattle.lxr_shared_heap.specs.declared.heap.Stage.{Stage as HeapStage}
 use Rattle.lxr_shared_heap.specs.declared.heap.Stage.TheVariants as stage
 use Rattle.lxr_shared_heap.specs.Heaps.{DoneIsTold, HasOpened, IsPassOf, MutatorsComeFirst, OpenIsTold, StandsFor, StationsTellHistories, told_behind}
-use Rattle.lxr_shared_heap.specs.Settings.{options_of, run_of}
+use Rattle.lxr_shared_heap.specs.Settings.{plan_in, run_of}
 use Rattle.lxr_shared_heap.specs.Telling.{EndsByNewest, HasReplied, HaveReplied, TellsAnswer, TellsHistory, newest_reply}
 use Rattle.lxr_shared_heap.specs.Stations.{Stationed, asked, is_mutator, replied}
 use Rattle.lxr_shared_heap.proofs.RecallLemmas.{all_come, newest_recalled}
@@ -189,7 +189,7 @@ module _ (settings : Settings) (script : Script) (h : List Item) (epoch : Sharin
       (n, subst (λ z. calls_of t now.history ≡ take n z) (sym operations) calls)
 
   history : IsHistorySoFar (terms_of (run_of settings asked_now)) asked_now now.history
-  history = history_extends true (options_of settings) script asked_now h now.history open_epoch.before.come.history open_epoch.before.owes_none on extends begun
+  history = history_extends true (plan_in settings) script asked_now h now.history open_epoch.before.come.history open_epoch.before.owes_none on extends begun
 
   -- there is a mutator for each thread
   pub mutator_of : (number : ℕ) → number < length script → (m : Mutating) × (slice_get now.core.actors number ≡ Some (any.Mutator m))

@@ -1,5 +1,5 @@
 -- A run whose space lists what is left stays between two epochs.
-use Rattle.std.proofs.Common.{ℕ, List}
+use Rattle.std.proofs.Common.{List}
 use Rattle.std.specs.Prelude.{Option}
 use Rattle.lxr_graph.specs.declared.report.Count.{Count}
 use Rattle.lxr_graph.specs.History.{Item}
@@ -9,15 +9,15 @@ use Rattle.lxr_pause_queue.specs.Entries.{with_told}
 use Rattle.lxr_core.specs.declared.actors.AnyActor.{AnyActor}
 use Rattle.lxr_one_pause.proofs.TellingLemmas.{quiescent_told}
 use Rattle.lxr_sights.specs.Sights.{Sight}
-use Rattle.lxr_run_invariant.specs.LoopInvariant.{IsBetweenEpochs, Task}
-use Rattle.lxr_run_loop.proofs.TellingLemmas.{come_told}
+use Rattle.lxr_rounds_invariant.specs.LoopInvariant.{IsBetweenEpochs, Task}
+use Rattle.lxr_rounds.proofs.TellingLemmas.{come_told}
 
-pub between_told : (task : Task) (space : Space) (written : Option (List ℕ)) (seen : Option (List Sight)) (actors : List AnyActor) (h : List Item) (g : AbstractState) (told : List Count) → IsBetweenEpochs task space written seen actors h g
-    → IsBetweenEpochs task (with_told space told) written seen actors h g
-between_told task space written seen actors h g told amid =
+pub between_told : (task : Task) (space : Space) (seen : Option (List Sight)) (actors : List AnyActor) (h : List Item) (g : AbstractState) (told : List Count) → IsBetweenEpochs task space seen actors h g
+    → IsBetweenEpochs task (with_told space told) seen actors h g
+between_told task space seen actors h g told amid =
     let listed = amid.listed in
     record {
-      come = come_told task space written seen h g told amid.come;
+      come = come_told task space seen h g told amid.come;
       between = quiescent_told space g told amid.between;
       listed = record {
         no_runs_drawn = listed.no_runs_drawn;

@@ -92,19 +92,13 @@ module _ (s : State) (t : ℕ) where
       by_found (Some old) = refl
 
   replied_so : (o : Op) → is_asked_pause (Some (step s t o).1) ≡ asks_for_pause o
-  replied_so (op.New dest shape) = refl
   replied_so (op.Load dest base index) = loads_other dest index (register_at s t base)
   replied_so (op.Store base index source) = stores_other index (register_at s t source) (register_at s t base)
   replied_so (op.Put base index value) = puts_other index value (register_at s t base)
   replied_so (op.Get base index) = gets_other index (register_at s t base)
   replied_so (op.Swap dest base index source) = swaps_other dest index (register_at s t source) (register_at s t base)
   replied_so (op.Add base index value) = adds_other index value (register_at s t base)
-  replied_so (op.Move dest source) = refl
-  replied_so (op.Nil dest) = refl
-  replied_so (op.Same left right) = refl
-  replied_so op.Pause = refl
-  replied_so op.Collect = refl
-  replied_so op.End = refl
+  replied_so o = refl
 
 -- ---- histories
 

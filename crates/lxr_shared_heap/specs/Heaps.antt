@@ -21,8 +21,8 @@ use Rattle.lxr_core.specs.Collecting.{given_up}
 use Rattle.lxr_core.specs.Executions.{tell_all}
 use Rattle.lxr_shared.specs.Sharing.{Sharing}
 use Rattle.lxr_shared_passes.specs.Passing.{IsSeen}
-use Rattle.lxr_run_invariant.specs.Laws.{beginning_of}
-use Rattle.lxr_run_invariant.specs.LoopInvariant.{HasRunTo, IsBetweenEpochs, Task, terms_of}
+use Rattle.lxr_rounds_invariant.specs.Laws.{beginning_of}
+use Rattle.lxr_rounds_invariant.specs.LoopInvariant.{HasRunTo, IsBetweenEpochs, Task, terms_of}
 use Rattle.lxr_shared_heap.specs.declared.heap.Paused.{Paused}
 use Rattle.lxr_shared_heap.specs.declared.heap.Paused.TheVariants as paused
 use Rattle.lxr_shared_heap.specs.declared.heap.Resumed.{Resumed}
@@ -98,11 +98,11 @@ pub record HasOpened (task : Task) (h : List Item) (epoch : Sharing) : Type 0 wh
   pub space : Space
   pub actors : List AnyActor
   pub abstract_state : AbstractState
-  pub before : IsBetweenEpochs task space None None actors h abstract_state
+  pub before : IsBetweenEpochs task space None actors h abstract_state
   pub running : IsRunning (beginning_of task space h abstract_state) epoch
   pub script : script_of (mutators_in running.opened.core.actors) ≡ task.script
-  pub workers : length (decrementers_in running.opened.core.actors) ≡ task.options.workers
-  pub tracers : length (tracers_in running.opened.core.actors) ≡ task.options.workers
+  pub workers : length (decrementers_in running.opened.core.actors) ≡ task.plan.workers
+  pub tracers : length (tracers_in running.opened.core.actors) ≡ task.plan.workers
   pub live : AreLive (mutators_in running.opened.core.actors)
   pub shown : shown_of (mutators_in running.opened.core.actors) ≡ shown_of (mutators_in actors)
   pub newest : EndByNewest h (mutators_in actors)
@@ -110,9 +110,9 @@ pub record HasOpened (task : Task) (h : List Item) (epoch : Sharing) : Type 0 wh
 -- Where it stands it stands for a history of what was asked by the end of the last epoch. While it goes on its mutators may be ordered operations, and
 -- where the last unit of one ended with a reply, that is the newest of its thread.
 abbrev pub StandsFor : Task → List Item → Stage → Type 0
-StandsFor task h (stage.Between space actors) = ((g : AbstractState) × IsBetweenEpochs task space None None actors.items h g) × AreLive (mutators_in actors.items) × EndByNewest h (mutators_in actors.items)
+StandsFor task h (stage.Between space actors) = ((g : AbstractState) × IsBetweenEpochs task space None actors.items h g) × AreLive (mutators_in actors.items) × EndByNewest h (mutators_in actors.items)
 StandsFor task h (stage.Within live) = HasOpened task h live.epoch
-StandsFor task h (stage.Ended space actors) = HasRunTo task space None None actors.items h
+StandsFor task h (stage.Ended space actors) = HasRunTo task space None actors.items h
 StandsFor task h stage.Lost = IsHistorySoFar (terms_of task) task.script h
 
 -- the history that these events have led to in an epoch that was opened behind h; h, where none is open
@@ -169,12 +169,15 @@ IsPassOf _ number s = ⊥
 abbrev pub StaysPassOf : Stationed → Stationed → Type 0
 StaysPassOf s t = (at : Stage) (number : ℕ) → IsPassOf at number s → IsPassOf at number t
 
--- why a pass is not let out
+-- why a pass is not let out: where no epoch is open, by where the heap stands; and for want of a share of the epoch only by a refusal of one (`NoShare`),
+-- which `another_share` alone makes
 abbrev pub IsKept : Heaped → ℕ → NotOut → Type 0
-IsKept heap number kept.NotRunning = ¬ IsWithin heap.stage
+IsKept heap number kept.NotRunning = IsBetween heap.stage
+IsKept heap number kept.Ended = IsEnded heap.stage
+IsKept heap number kept.Lost = heap.stage ≡ stage.Lost
 IsKept heap number kept.NoSuch = IsWithin heap.stage × (actors_of heap.settings ≤ number)
 IsKept heap number kept.Away = IsWithin heap.stage × (number < actors_of heap.settings)
-IsKept heap number kept.Memory = IsWithin heap.stage × (number < actors_of heap.settings)
+IsKept heap number (kept.Memory refused) = IsWithin heap.stage × (number < actors_of heap.settings)
 
 -- ---- what stations show
 

@@ -16,7 +16,7 @@ use Rattle.lxr_core_invariant.specs.Through.{JustPaused}
 use Rattle.lxr_core.specs.declared.actors.AnyActor.{AnyActor}
 use Rattle.lxr_core.specs.declared.actors.AnyActor.TheVariants as any
 use Rattle.lxr_core.specs.Actors.{mutators_in, script_of}
-use Rattle.lxr_run_invariant.specs.LoopInvariant.{IsBetweenEpochs}
+use Rattle.lxr_rounds_invariant.specs.LoopInvariant.{IsBetweenEpochs}
 use Rattle.lxr_shared_heap.specs.declared.settings.Settings.{Settings}
 use Rattle.lxr_shared_heap.specs.Living.{AreLive}
 use Rattle.lxr_shared_heap.specs.Settings.{run_of}
@@ -82,7 +82,7 @@ CanActorRenew left a = Unit {0}
 
 -- between two epochs, with live mutators; and where it is told to be idle, nothing stands behind the last pause
 pub record StandsIdle (settings : Settings) (script : Script) (space : Space) (actors : List AnyActor) (h : List Item) (g : AbstractState) (idle : Bool) : Type 0 where
-  pub between : IsBetweenEpochs (run_of settings script) space None None actors h g
+  pub between : IsBetweenEpochs (run_of settings script) space None actors h g
   pub live : AreLive (mutators_in actors)
   pub paused : IsTrue idle → JustPaused h
 
@@ -91,7 +91,7 @@ pub record HasRenewed (settings : Settings) (actors : List AnyActor) (space' : S
   pub names : List Name
   pub begin_anew : actors' ≡ map (actor_renewed (length names)) actors
   pub abstract_state : AbstractState
-  pub between : IsBetweenEpochs (run_of settings (script_of (mutators_in actors'))) space' None None actors' (Renew names ∷ h) abstract_state
+  pub between : IsBetweenEpochs (run_of settings (script_of (mutators_in actors'))) space' None actors' (Renew names ∷ h) abstract_state
   pub live : AreLive (mutators_in actors')
 
 -- so it is for each history where names are to be renewed; else nothing changes

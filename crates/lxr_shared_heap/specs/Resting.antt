@@ -9,8 +9,8 @@ use Rattle.lxr_mutator.specs.Mutating.{Mutating}
 use Rattle.lxr_core.specs.declared.actors.AnyActor.{AnyActor}
 use Rattle.lxr_core.specs.Actors.{mutators_in}
 use Rattle.lxr_core.specs.Ordering.{orders_of}
-use Rattle.lxr_run_loop.specs.Answering.{AnswersWaiting}
-use Rattle.lxr_run_invariant.specs.LoopInvariant.{HasRunEpoch, HasRunTo, HaveEnded, HaveMutators, IsBetweenEpochs, Task, pace_of, terms_of}
+use Rattle.lxr_rounds.specs.Answering.{AnswersWaiting}
+use Rattle.lxr_rounds_invariant.specs.LoopInvariant.{HasRunEpoch, HasRunTo, HaveEnded, HaveMutators, IsBetweenEpochs, Task, pace_of, terms_of}
 use Rattle.lxr_shared_heap.specs.declared.settings.Settings.{Settings}
 use Rattle.lxr_shared_heap.specs.Settings.{run_of}
 use Rattle.lxr_model.specs.Belongs.{Script}
@@ -24,7 +24,7 @@ pub record AnswersBehind (task : Task) (report : PauseReport) (calls : List Item
   pub paused : Space
   pub reported : report_of paused.report ≡ report
   pub answered : Space
-  pub answers : AnswersWaiting (pace_of task.options) collected mutators paused (Pause report ∷ calls) mutators' answered h
+  pub answers : AnswersWaiting (pace_of task.plan) collected mutators paused (Pause report ∷ calls) mutators' answered h
 
 -- where all threads have ended that pause is the last item; else what waited was answered
 abbrev pub GoesOnBehind : Task → PauseReport → List Item → List Mutating → List Mutating → List Item → Type 0
@@ -32,8 +32,8 @@ GoesOnBehind task report calls mutators mutators' h = ((ends calls ≡ (terms_of
 
 -- the run is at its end, or between two epochs again
 abbrev pub StandsBehind : Bool → Task → Space → List AnyActor → List Item → Type 0
-StandsBehind true task space actors h = HasRunTo task space None None actors h
-StandsBehind false task space actors h = (g : AbstractState) × IsBetweenEpochs task space None None actors h g
+StandsBehind true task space actors h = HasRunTo task space None actors h
+StandsBehind false task space actors h = (g : AbstractState) × IsBetweenEpochs task space None actors h g
 
 -- The pause behind an epoch was made, which collects exactly where it must, and what waited is answered. Nobody was asked for anything. It is the last one
 -- where all mutators have ended.
@@ -48,9 +48,9 @@ pub record HasRested (task : Task) (calls : List Item) (actors : List AnyActor) 
 
 -- a run with these settings has made an epoch that came to this space and these actors
 abbrev pub HasMadeEpoch : Settings → Space → List AnyActor → Type 0
-HasMadeEpoch settings space actors = (script : Script) × (before : List AnyActor) × (calls : List Item) × (g : AbstractState) × HasRunEpoch (run_of settings script) space None None before actors calls g
+HasMadeEpoch settings space actors = (script : Script) × (before : List AnyActor) × (calls : List Item) × (g : AbstractState) × HasRunEpoch (run_of settings script) space None before actors calls g
 
 -- each such run has rested
 abbrev pub RestsEach : Settings → Space → List AnyActor → Space → List AnyActor → Bool → Type 0
 RestsEach settings space actors space' actors' ended =
-    (script : Script) (before : List AnyActor) (calls : List Item) (g : AbstractState) → HasRunEpoch (run_of settings script) space None None before actors calls g → HasRested (run_of settings script) calls actors space' actors' ended
+    (script : Script) (before : List AnyActor) (calls : List Item) (g : AbstractState) → HasRunEpoch (run_of settings script) space None before actors calls g → HasRested (run_of settings script) calls actors space' actors' ended

@@ -1,41 +1,43 @@
--- The settings of a heap, as those of a run.
-use Rattle.std.specs.Prelude.{false, true, None}
+-- The settings of a heap: their ranges, and what its rounds go by.
+use Rattle.std.specs.Prelude.{ℕ, ◌≤◌, true, None}
 use Rattle.lxr_layout.specs.declared.limits.Limits.{Limits}
 use Rattle.lxr_model.specs.Belongs.{Script}
-use Rattle.lxr_words.specs.declared.Command.TheVariants as command
-use Rattle.lxr_words.specs.declared.Options.{Options}
-use Rattle.lxr_words.specs.Ranges.{AreInRange}
-use Rattle.lxr_run_history.specs.Left.{run_limits}
-use Rattle.lxr_run_invariant.specs.LoopInvariant.{Task}
+use Rattle.lxr_rounds_history.specs.Left.{plan_limits}
+use Rattle.lxr_rounds_history.specs.Plan.{Plan}
+use Rattle.lxr_rounds_invariant.specs.LoopInvariant.{Task}
 use Rattle.lxr_shared_heap.specs.declared.settings.Settings.{Settings}
 
--- the options of a run with these settings, which tells nothing
-abbrev pub options_of : Settings → Options
-options_of settings = record {
-  command = command.Load 0;
-  blocks = settings.blocks;
-  workers = settings.helpers;
-  every = settings.every;
-  log = settings.log;
-  trace = settings.trace;
-  within = settings.within;
-  remember = settings.remember;
-  counts = false;
-  replay = None;
-  stand = false;
-  threads = settings.mutators;
-  rounds = 1;
-  bodies = 1;
-}
+-- a number is at least 1 and at most so much
+abbrev pub IsWithin : ℕ → ℕ → Type 0
+IsWithin number most = (1 ≤ number) × (number ≤ most)
 
 -- each number is in its range
-abbrev pub AreSettings : Settings → Type 0
-AreSettings settings = AreInRange (options_of settings)
+pub record AreSettings (settings : Settings) : Type 0 where
+  pub blocks : IsWithin settings.blocks 1024
+  pub mutators : IsWithin settings.mutators 16
+  pub helpers : IsWithin settings.helpers 8
+  pub log : IsWithin settings.log 65536
+  pub remember : IsWithin settings.remember 1048576
+  pub every : IsWithin settings.every 1048576
+  pub trace : IsWithin settings.trace 1000000
+  pub within : IsWithin settings.within 1000000
+
+-- what rounds with these settings go by
+abbrev pub plan_in : Settings → Plan
+plan_in settings = record {
+  blocks = settings.blocks;
+  log = settings.log;
+  remember = settings.remember;
+  every = settings.every;
+  trace = settings.trace;
+  within = settings.within;
+  workers = settings.helpers;
+}
 
 -- the limits of the space
 abbrev pub limits_in : Settings → Limits
-limits_in settings = run_limits (options_of settings) settings.mutators
+limits_in settings = plan_limits (plan_in settings) settings.mutators
 
--- a run with these settings whose mutators were asked for this so far; its names may be renewed
+-- rounds with these settings whose mutators were asked for this so far; names may be renewed
 abbrev pub run_of : Settings → Script → Task
-run_of settings script = record { options = options_of settings; renews = true; script = script; written = None; seen = None }
+run_of settings script = record { plan = plan_in settings; renews = true; script = script; seen = None }

@@ -69,12 +69,14 @@ pub record IsOut (epoch : Housed) (a : Absence) (p : Passing AnyActor) : Type 0 
 abbrev pub homed_in : TableId → Note → Option Stationed
 homed_in homes told = option_map (λ p. record { pass = p; homes = homes }) (brought_in told)
 
--- why a pass of this number is not let out, where there are so many
+-- why a pass of this number is not let out, where there are so many; for want of a share only by a refusal of one
 abbrev pub IsNotOut : ℕ → ℕ → NotOut → Type 0
 IsNotOut count number kept.NotRunning = ⊥
+IsNotOut count number kept.Ended = ⊥
+IsNotOut count number kept.Lost = ⊥
 IsNotOut count number kept.NoSuch = count ≤ number
 IsNotOut count number kept.Away = number < count
-IsNotOut count number kept.Memory = number < count
+IsNotOut count number (kept.Memory refused) = number < count
 
 -- ---- what an actor was asked for
 

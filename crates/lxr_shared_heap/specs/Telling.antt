@@ -11,7 +11,7 @@ use Rattle.lxr_core_invariant.specs.ThreadStates.{all_of}
 use Rattle.lxr_core_invariant.specs.EpochStates.{Extends, IsStepCall}
 use Rattle.lxr_core.specs.declared.actors.AnyActor.{AnyActor}
 use Rattle.lxr_core.specs.declared.actors.AnyActor.TheVariants as any
-use Rattle.lxr_run_invariant.specs.LoopInvariant.{terms_of}
+use Rattle.lxr_rounds_invariant.specs.LoopInvariant.{terms_of}
 use Rattle.lxr_shared_heap.specs.declared.settings.Settings.{Settings}
 use Rattle.lxr_shared_heap.specs.Settings.{run_of}
 

@@ -4,8 +4,8 @@ ghost use Rattle.lxr_graph.specs.History.{Item, report_of};
 ghost use Rattle.lxr_model.specs.Belongs.{Script};
 ghost use Rattle.lxr_model.specs.Moments.{moment};
 ghost use Rattle.lxr_invariant.specs.AbstractState.{AbstractState};
-ghost use Rattle.lxr_run_history.specs.Left.{last_report};
-ghost use Rattle.lxr_run_invariant.specs.LoopInvariant.{HasRunEpoch};
+ghost use Rattle.lxr_rounds_history.specs.Left.{last_report};
+ghost use Rattle.lxr_rounds_invariant.specs.LoopInvariant.{HasRunEpoch};
 ghost use Rattle.lxr_shared_heap.specs.Heaps.{ComesToRest, DoneIsTold, HeapsHaveHistories, IsAtRest, IsHeapOf, IsKept, IsOpened, IsPassOf, MutatorsComeFirst, OpenIsTold, Pauses, PausesWith, Resumes, StationsTellHistories, most_asked, paused_for, space_at};
 ghost use Rattle.lxr_core.specs.Actors.{mutators_in, script_of};
 ghost use Rattle.lxr_shared_heap.specs.Living.{AreLive};
@@ -157,7 +157,9 @@ impl Heap {
     {
         match &self.stage {
             Stage::Within(live) => live.let_out(number),
-            _ => Err(NotOut::NotRunning),
+            Stage::Between { .. } => Err(NotOut::NotRunning),
+            Stage::Ended { .. } => Err(NotOut::Ended),
+            Stage::Lost => Err(NotOut::Lost),
         }
     }
 
@@ -328,7 +330,7 @@ fn pause_behind<W: Watch>(
     requires settings { AreSettings settings }
     requires made { HasMadeEpoch settings space actors.items }
     requires live { AreLive (mutators_in actors.items) }
-    ensures { (script : Script) (before : List AnyActor) (calls : List Item) (g : AbstractState) → HasRunEpoch (run_of settings script) space None None before actors.items calls g → EndByNewest calls (mutators_in actors.items) → ComesToRest settings script calls (mutators_in actors.items) result }
+    ensures { (script : Script) (before : List AnyActor) (calls : List Item) (g : AbstractState) → HasRunEpoch (run_of settings script) space None before actors.items calls g → EndByNewest calls (mutators_in actors.items) → ComesToRest settings script calls (mutators_in actors.items) result }
 {
     let idle = !some_waits(&actors);
     if rest(&mut space, &mut actors, settings, watch) {
@@ -406,9 +408,5 @@ fn most_ordered(actors: &[AnyActor]) -> u32
 fn ordered_of(actor: &AnyActor) -> u32
     ensures { result ≡ most_asked (script_of (mutators_in (actor.now ∷ []))) }
 {
-    match actor {
-        AnyActor::Mutator(mutator) => mutator.ordered(),
-        AnyActor::Decrementer(_) => 0,
-        AnyActor::Tracer(_) => 0,
-    }
+    actor.mutator().map_or(0, |mutator| mutator.ordered())
 }

@@ -3,7 +3,7 @@ ghost use Rattle.std.specs.Prelude.{◌≡◌, ◌+◌, ◌≤◌, [], IfOk, Non
 ghost use Rattle.lxr_layout.specs.Spaces.{AreLimits};
 ghost use Rattle.lxr_invariant.specs.AbstractState.{AbstractState};
 ghost use Rattle.lxr_core.specs.Actors.{mutators_in};
-ghost use Rattle.lxr_run_invariant.specs.LoopInvariant.{IsBetweenEpochs};
+ghost use Rattle.lxr_rounds_invariant.specs.LoopInvariant.{IsBetweenEpochs};
 ghost use Rattle.lxr_shared_heap.specs.Living.{AreLive};
 ghost use Rattle.lxr_shared_heap.specs.Making.{AreNew};
 ghost use Rattle.lxr_shared_heap.specs.Settings.{AreSettings, run_of};
@@ -14,7 +14,7 @@ use lxr_core::AnyActor;
 use lxr_image::Space;
 use lxr_layout::Limits;
 use lxr_mutator::Mutator;
-use lxr_run_loop::add_helpers;
+use lxr_rounds::add_helpers;
 use std::alloc::{AllocError, Global};
 
 /// A live mutator for each thread, in order, in a list with room for some more actors.
@@ -46,7 +46,7 @@ pub(crate) fn new_heap(
     settings: Settings,
 ) -> Result<(Space, Vec<AnyActor>), AllocError>
     requires { AreSettings settings }
-    ensures { IfOk result (λ made. ((g : AbstractState) × IsBetweenEpochs (run_of settings (replicate settings.mutators [])) made.0 None None made.1.items [] g) × AreLive (mutators_in made.1.items) × EndByNewest [] (mutators_in made.1.items)) }
+    ensures { IfOk result (λ made. ((g : AbstractState) × IsBetweenEpochs (run_of settings (replicate settings.mutators [])) made.0 None made.1.items [] g) × AreLive (mutators_in made.1.items) × EndByNewest [] (mutators_in made.1.items)) }
 {
     let limits = settings.limits();
     let more = 2 * usize::from(settings.helpers);

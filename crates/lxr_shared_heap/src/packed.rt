@@ -6,8 +6,7 @@ ghost use Rattle.std.specs.Prelude.{◌≡◌, ◌<◌, length};
 
 use atomic_table::{Seat, Table, TableRule};
 use lxr_graph::Report;
-use lxr_image::{Entries, Places, Space, Tally};
-use lxr_layout::Limits;
+use lxr_image::{Rest, Space};
 use lxr_tables::{KeyFrom, PlainWords, Words};
 use std::alloc::Global;
 use std::marker::Model;
@@ -71,26 +70,17 @@ impl StillWords {
 pub(crate) struct Packed {
     /// None where there are no words.
     words: Option<StillWords>,
-    limits: Limits,
-    registers: Places,
-    deferred: Places,
-    logged: Entries,
-    work: Places,
-    report: Report,
-    tally: Tally,
-    pauses: u32,
-    trace: Option<u32>,
-    rest_next: u32,
-    rest_end: u32,
+    rest: Rest,
 }
 
 impl Model for Packed {
     ghost use Rattle.lxr_image.specs.declared.space.Space.{Space};
+    ghost use Rattle.lxr_image.specs.Parts.{whole};
     ghost use Rattle.lxr_tables.specs.Words.{words_in};
 
     ghost Value = { Space };
 
-    ghost view = { λ p. record { words = words_in p.words; limits = p.limits; registers = p.registers; deferred = p.deferred; logged = p.logged; work = p.work; report = p.report; tally = p.tally; pauses = p.pauses; trace = p.trace; rest_next = p.rest_next; rest_end = p.rest_end } };
+    ghost view = { λ p. whole (words_in p.words) p.rest };
 }
 
 impl Packed {
@@ -98,90 +88,38 @@ impl Packed {
     pub(crate) fn of(space: Space) -> Packed
         ensures { result ≡ space }
     {
-        let Space {
-            words,
-            limits,
-            registers,
-            deferred,
-            logged,
-            work,
-            report,
-            tally,
-            pauses,
-            trace,
-            rest_next,
-            rest_end,
-        } = space;
+        let (words, rest) = space.into_parts();
         let words = if words.count() == 0 {
             None
         } else {
             Some(StillWords::of(words))
         };
-        Packed {
-            words,
-            limits,
-            registers,
-            deferred,
-            logged,
-            work,
-            report,
-            tally,
-            pauses,
-            trace,
-            rest_next,
-            rest_end,
-        }
+        Packed { words, rest }
     }
 
     /// Unpacks it. It takes no memory.
     pub(crate) fn into_space(self, alloc: Global) -> Space
         ensures { result ≡ self }
     {
-        let Packed {
-            words,
-            limits,
-            registers,
-            deferred,
-            logged,
-            work,
-            report,
-            tally,
-            pauses,
-            trace,
-            rest_next,
-            rest_end,
-        } = self;
+        let Packed { words, rest } = self;
         let words = match words {
             Some(words) => words.into_words(),
             None => PlainWords::empty(alloc),
         };
-        Space {
-            words,
-            limits,
-            registers,
-            deferred,
-            logged,
-            work,
-            report,
-            tally,
-            pauses,
-            trace,
-            rest_next,
-            rest_end,
-        }
+        Space::from_parts(words, rest)
     }
 
     /// The report of the last pause.
     pub(crate) fn report(&self) -> &Report
         ensures { result.now ≡ self.now.report }
     {
-        &self.report
+        &self.rest.report
     }
 
     /// The number of the last pause.
     pub(crate) fn pauses(&self) -> u32
         ensures { result ≡ self.now.pauses }
     {
-        self.pauses
+        self.rest.pauses
     }
 }

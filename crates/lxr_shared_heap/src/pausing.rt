@@ -1,30 +1,13 @@
 //! What is done between two epochs: the pause, and what waits for it.
-ghost use Rattle.std.specs.Prelude.{None, length};
-ghost use Rattle.lxr_text_stream.specs.Streams.{Writes};
+ghost use Rattle.std.specs.Prelude.{None};
 ghost use Rattle.lxr_shared_heap.specs.Resting.{HasMadeEpoch, RestsEach};
 ghost use Rattle.lxr_shared_heap.specs.Settings.{AreSettings};
 
 use crate::settings::Settings;
 use lxr_core::AnyActor;
 use lxr_image::Space;
-use lxr_run_history::Totals;
-use lxr_run_loop::{Order, follow_epoch};
+use lxr_rounds::{Nobody, follow_epoch};
 use lxr_sights::Watch;
-use lxr_text_stream::{Put, Sink};
-
-/// A sink that keeps nothing and never fails.
-#[derive(Drop)]
-struct Silence;
-
-impl Sink for Silence {
-    ghost written = { λ _. None };
-
-    ghost faults = { λ _. 0 };
-
-    fn put(&mut self, piece: &[u8]) -> Put {
-        Put::Bytes(piece.len())
-    }
-}
 
 /// A watch that shows what it sees to another one, and tells nothing itself.
 #[derive(Drop)]
@@ -53,20 +36,16 @@ pub(crate) fn rest<W: Watch>(
     requires made { HasMadeEpoch settings space.old actors.old.items }
     ensures { RestsEach settings space.old actors.old.items space.new actors.new.items result }
 {
-    let mut totals = Totals::none();
-    let mut order = Order::none();
     let mut onlooker = Onlooker { watch };
-    let options = settings.options();
     match follow_epoch(
         space,
         actors,
-        &mut totals,
-        &mut order,
-        options,
+        settings.pace(),
         &mut onlooker,
-        &mut Silence,
+        &mut Nobody,
+        &mut (),
     ) {
         Ok(ended) => ended,
-        Err(_) => unreachable!(),
+        Err(never) => match never {},
     }
 }

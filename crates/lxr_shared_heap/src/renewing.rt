@@ -43,11 +43,9 @@ pub(crate) fn some_waits(actors: &[AnyActor]) -> bool
 fn waits(actor: &AnyActor) -> bool
     ensures { result ≡ waits actor.now }
 {
-    match actor {
-        AnyActor::Mutator(mutator) => mutator.waiting().is_some(),
-        AnyActor::Decrementer(_) => false,
-        AnyActor::Tracer(_) => false,
-    }
+    actor
+        .mutator()
+        .is_some_and(|mutator| mutator.waiting().is_some())
 }
 
 /// Whether names are to be renewed behind the last pause of this space, as far as that and the actors tell.
@@ -87,11 +85,9 @@ fn some_is_worn(actors: &[AnyActor]) -> bool
 fn is_worn(actor: &AnyActor) -> bool
     ensures { result ≡ is_worn actor.now }
 {
-    match actor {
-        AnyActor::Mutator(mutator) => mutator.ordered() > MOST_OPERATIONS / 2,
-        AnyActor::Decrementer(_) => false,
-        AnyActor::Tracer(_) => false,
-    }
+    actor
+        .mutator()
+        .is_some_and(|mutator| mutator.ordered() > MOST_OPERATIONS / 2)
 }
 
 /// Whether some mutator's thread has ended.
@@ -105,11 +101,9 @@ fn some_is_at_end(actors: &[AnyActor]) -> bool
 fn is_at_end(actor: &AnyActor) -> bool
     ensures { result ≡ is_at_end actor.now }
 {
-    match actor {
-        AnyActor::Mutator(mutator) => matches!(mutator.ended(), Some(MutEnd::Ended)),
-        AnyActor::Decrementer(_) => false,
-        AnyActor::Tracer(_) => false,
-    }
+    actor
+        .mutator()
+        .is_some_and(|mutator| matches!(mutator.ended(), Some(MutEnd::Ended)))
 }
 
 /// Each mutator begins anew, that of thread 1 behind so many objects.
@@ -132,7 +126,6 @@ fn renew_actor(actor: &mut AnyActor, left: u32)
             let before = if mutator.thread() == 1 { left } else { 0 };
             mutator.renew(before);
         }
-        AnyActor::Decrementer(_) => {}
-        AnyActor::Tracer(_) => {}
+        AnyActor::Decrementer(_) | AnyActor::Tracer(_) => {}
     }
 }

@@ -1,9 +1,10 @@
 //! What a host settles once for a heap.
 ghost use Rattle.std.specs.Prelude.{◌≡◌, ◌≤◌, ◌↔◌, IsTrue};
-ghost use Rattle.lxr_shared_heap.specs.Settings.{AreSettings, limits_in, options_of};
+ghost use Rattle.lxr_rounds_invariant.specs.LoopInvariant.{pace_of};
+ghost use Rattle.lxr_shared_heap.specs.Settings.{AreSettings, limits_in, plan_in};
 
 use lxr_layout::Limits;
-use lxr_words::{Command, Options};
+use lxr_one_pause::Pace;
 
 /// What a heap is opened with.
 #[derive(Clone, Copy, Debug, PartialEq, Eq)]
@@ -55,25 +56,13 @@ impl Settings {
         }
     }
 
-    /// The options of a run by these settings that tells nothing.
-    pub(crate) fn options(self) -> Options
-        ensures { result ≡ options_of self }
+    /// When traces begin and end.
+    pub(crate) fn pace(self) -> Pace
+        ensures { result ≡ pace_of (plan_in self) }
     {
-        Options {
-            command: Command::Load(0),
-            blocks: self.blocks,
-            workers: self.helpers,
-            every: self.every,
-            log: self.log,
+        Pace {
             trace: self.trace,
             within: self.within,
-            remember: self.remember,
-            counts: false,
-            replay: None,
-            stand: false,
-            threads: self.mutators,
-            rounds: 1,
-            bodies: 1,
         }
     }
 }

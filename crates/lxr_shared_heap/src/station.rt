@@ -10,6 +10,7 @@ ghost use Rattle.lxr_shared_heap.specs.Stations.{Ends, HasAnswered, HasGoneOn, H
 ghost use Rattle.lxr_shared_heap.specs.Wanting.{HasEnded, IsHeldUp};
 
 use crate::homes::{Absence, Homecoming};
+use crate::share::{NoShare, another_share};
 use crate::shared::Shared;
 use crate::wanted::{has_ended, is_held_up};
 use lxr_actor::Actor;
@@ -42,14 +43,18 @@ pub enum Answer {
 /// Why a pass is not let out of its home.
 #[derive(Clone, Copy, Debug, PartialEq, Eq)]
 pub enum NotOut {
-    /// No epoch is open.
+    /// No epoch is open, and the next one may be.
     NotRunning,
+    /// All mutators have ended, and the last pause is made.
+    Ended,
+    /// The heap is lost, since memory ran out as an epoch was to be opened.
+    Lost,
     /// There is no actor of this number.
     NoSuch,
     /// The pass is not at home: some thread has it.
     Away,
-    /// There is not enough memory: there are too many stations.
-    Memory,
+    /// There are too many stations: a share of the epoch was asked for, and their count is full.
+    Memory(NoShare),
 }
 
 /// The pass of an actor, which one thread has, with its share of the epoch. Dropping it brings the pass home.
@@ -88,8 +93,9 @@ impl Station {
         if number >= shared.count() {
             return Err(NotOut::NoSuch);
         }
-        let Ok(shared) = Arc::try_clone(shared) else {
-            return Err(NotOut::Memory);
+        let shared = match another_share(shared) {
+            Ok(share) => share,
+            Err(refused) => return Err(NotOut::Memory(refused)),
         };
         match shared.take(number) {
             Some((pass, absence)) => Ok(Station {
@@ -146,7 +152,7 @@ impl Station {
     pub fn is_mutator(&self) -> bool
         ensures { result ≡ is_mutator self.now.pass.actor }
     {
-        matches!(self.actor(), AnyActor::Mutator(_))
+        self.actor().mutator().is_some()
     }
 
     /// Whether an operation that was ordered has no reply yet.
@@ -155,12 +161,12 @@ impl Station {
         ensures open { IsTrue result ↔ IsOpen self.now.pass.actor }
         ensures no_more { HasNoMore self.now.pass.actor }
     {
-        match self.actor() {
-            AnyActor::Mutator(mutator) => {
+        match self.actor().mutator() {
+            Some(mutator) => {
                 mutator.operation();
                 mutator.is_open()
             }
-            _ => false,
+            None => false,
         }
     }
 
@@ -170,10 +176,7 @@ impl Station {
     pub fn newest(&self) -> Option<Reply>
         ensures { result ≡ newest_of self.now.pass.actor }
     {
-        match self.actor() {
-            AnyActor::Mutator(mutator) => mutator.newest(),
-            _ => None,
-        }
+        self.actor().mutator()?.newest()
     }
 
     /// How many operations of a mutator are done since names were renewed, its end among them; 0 for a helper.
@@ -181,9 +184,9 @@ impl Station {
     pub fn done(&self) -> u32
         ensures { result ≡ length (replied self.now.pass.actor) }
     {
-        match self.actor() {
-            AnyActor::Mutator(mutator) => mutator.operation(),
-            _ => 0,
+        match self.actor().mutator() {
+            Some(mutator) => mutator.operation(),
+            None => 0,
         }
     }
 
@@ -202,12 +205,12 @@ impl Station {
         ensures held_up { IsHeldUp self.now.pass.actor → IsTrue result }
         ensures no_wish { (is_mutator self.now.pass.actor ≡ false) ⊎ HasEnded self.now.pass.actor → result ≡ false }
     {
-        match self.actor() {
-            AnyActor::Mutator(mutator) => match mutator.next() {
-                Some(action) => self.shared.table().look(action.word as usize) == Some(1),
-                None => !self.has_ended(),
-            },
-            _ => false,
+        let Some(mutator) = self.actor().mutator() else {
+            return false;
+        };
+        match mutator.next() {
+            Some(action) => self.shared.table().look(action.word as usize) == Some(1),
+            None => !self.has_ended(),
         }
     }
 

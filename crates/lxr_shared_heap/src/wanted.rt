@@ -34,24 +34,18 @@ fn some_is_unended(passes: &[Pass]) -> bool
 fn wants(pass: &Pass) -> bool
     ensures { result ≡ pass_wants pass.now }
 {
-    match pass.actor() {
-        AnyActor::Mutator(mutator) => {
-            (is_finished(mutator) && !is_ended(mutator)) || mutator.wants_pause()
-        }
-        AnyActor::Decrementer(_) => false,
-        AnyActor::Tracer(_) => false,
-    }
+    pass.actor().mutator().is_some_and(|mutator| {
+        (is_finished(mutator) && !is_ended(mutator)) || mutator.wants_pause()
+    })
 }
 
 /// Whether it is the pass of a mutator that has not ended.
 fn is_unended(pass: &Pass) -> bool
     ensures { result ≡ pass_is_unended pass.now }
 {
-    match pass.actor() {
-        AnyActor::Mutator(mutator) => !(is_finished(mutator) && is_ended(mutator)),
-        AnyActor::Decrementer(_) => false,
-        AnyActor::Tracer(_) => false,
-    }
+    pass.actor()
+        .mutator()
+        .is_some_and(|mutator| !(is_finished(mutator) && is_ended(mutator)))
 }
 
 /// Whether it is a mutator that does nothing more before a pause: it has no further step, and has not ended.
@@ -59,11 +53,9 @@ fn is_unended(pass: &Pass) -> bool
 pub(crate) fn is_held_up(actor: &AnyActor) -> bool
     ensures { IsTrue result ↔ IsHeldUp actor.now }
 {
-    match actor {
-        AnyActor::Mutator(mutator) => is_finished(mutator) && !is_ended(mutator),
-        AnyActor::Decrementer(_) => false,
-        AnyActor::Tracer(_) => false,
-    }
+    actor
+        .mutator()
+        .is_some_and(|mutator| is_finished(mutator) && !is_ended(mutator))
 }
 
 /// Whether it is a mutator that has ended.
@@ -71,11 +63,9 @@ pub(crate) fn is_held_up(actor: &AnyActor) -> bool
 pub(crate) fn has_ended(actor: &AnyActor) -> bool
     ensures { IsTrue result ↔ HasEnded actor.now }
 {
-    match actor {
-        AnyActor::Mutator(mutator) => is_finished(mutator) && is_ended(mutator),
-        AnyActor::Decrementer(_) => false,
-        AnyActor::Tracer(_) => false,
-    }
+    actor
+        .mutator()
+        .is_some_and(|mutator| is_finished(mutator) && is_ended(mutator))
 }
 
 /// Whether a mutator has no further step in this epoch.

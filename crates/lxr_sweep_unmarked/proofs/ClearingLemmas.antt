@@ -39,7 +39,8 @@ use Rattle.lxr_pause_decrements.specs.Wipe.{LosesBits}
 use Rattle.lxr_pause_decrements.proofs.CascadeLemmas.{BeginsAt, IsPlaced, append_group, append_nothing, bare, bits_fall, count_bare, granules_differ, has_reversed, in_heap, marks_fall, placed, places_more, written_other}
 use Rattle.lxr_pause_decrements.proofs.LeftLemmas.{still_left}
 use Rattle.lxr_pause_decrements.proofs.WipeLemmas.{loses_more, loses_none}
-use Rattle.lxr_sweep_unmarked.specs.Clearing.{ClearingStage, IsClearing, TakesOut, UnmarkedAt, cleared_too, clearing, extended, with_swept, without_any}
+use Rattle.lxr_sweep_unmarked.specs.Clearing.{ClearingStage, IsClearing, TakesOut, UnmarkedAt, cleared_too, clearing, extended, with_swept}
+use Rattle.lxr_blocks.specs.Clearing.{without_counted}
 use Rattle.lxr_sweep_unmarked.specs.Sweeping.{CanSweep}
 use Rattle.lxr_blocks.specs.States.{state_in, state_of}
 
@@ -181,7 +182,7 @@ mark_before s st is r in_r not_swept = is.lost_marks.others (granule_of (st.at r
 extended_more : {A : Type 0} (l : Roomy A) (xs ys : List A) (x : A) → xs ++ x ∷ [] ≡ ys → pushed (extended l xs) x ≡ extended l ys
 extended_more {A = A} l xs ys x e = ap {A = List A} (λ z. record l { items = z }) (sym (append_group l.items xs (x ∷ [])) ∙ ap (λ z. l.items ++ z) e)
 
-taken_stay : (t u v : Tables) (p : ℕ) (shape : Shape) → TablesStay t u → v ≡ without_any u p shape → TablesStay t v
+taken_stay : (t u v : Tables) (p : ℕ) (shape : Shape) → TablesStay t u → v ≡ without_counted u p shape → TablesStay t v
 taken_stay t u v p shape stay e = record {
   keeps = record {
     heap = ap (λ z. z.heap) e ∙ stay.keeps.heap;
@@ -220,7 +221,7 @@ module _ (a e : Space) (p : Place) (granule : ℕ) (st : ClearingStage) (h : Unm
   same_place = λ i. record { 0 = at_r i }
 
   tables : tables_of e ≡ bare t st.at r ro
-  tables = takes.tables ∙ ap (λ q. without_any t q (shape_of ro)) at_r
+  tables = takes.tables ∙ ap (λ q. without_counted t q (shape_of ro)) at_r
 
   reversed : reverse st.swept ++ r ∷ [] ≡ reverse (r ∷ st.swept)
   reversed = sym (reverse-append (r ∷ []) st.swept)

@@ -7,7 +7,6 @@ use Rattle.lxr_layout.specs.declared.TheConstants.{GRANULES_IN_BLOCK}
 use Rattle.lxr_base.specs.Roomy.{Roomy, pushed}
 use Rattle.lxr_graph.specs.Names.{has, without}
 use Rattle.lxr_image.specs.declared.space.Space.{Space}
-use Rattle.lxr_image.specs.Tables.{Tables, changed}
 use Rattle.lxr_image.specs.Spaces.{IsSpace, tables_of}
 use Rattle.lxr_image.specs.Reads.{granule_of}
 use Rattle.lxr_model.specs.Moments.{Moment}
@@ -17,7 +16,8 @@ use Rattle.lxr_invariant.specs.Counting.{count_at, passing}
 use Rattle.lxr_invariant.specs.Lines.{HasMarks}
 use Rattle.lxr_invariant.specs.Standing.{HasBits, place_of}
 use Rattle.lxr_invariant.specs.Tracing.{IsUnmarked}
-use Rattle.lxr_pause_decrements.specs.Cascade.{TablesStay, without_object}
+use Rattle.lxr_pause_decrements.specs.Cascade.{TablesStay}
+use Rattle.lxr_blocks.specs.Clearing.{without_counted}
 use Rattle.lxr_pause_decrements.specs.Wipe.{LosesBits}
 use Rattle.lxr_sweep_unmarked.specs.Sweeping.{CanSweep}
 
@@ -52,13 +52,9 @@ extended l xs = record l { items = l.items ++ xs }
 abbrev pub with_swept : Space → List ℕ → Roomy Place → Roomy Name → Space
 with_swept s words work swept = record s { words = words; work = work; report = record s.report { swept = swept } }
 
--- the tables without an object of a shape at a place, whatever its count was
-abbrev pub without_any : Tables → ℕ → Shape → Tables
-without_any t p shape = without_object (record t { counts = changed t.counts (granule_of p) 0 }) p shape
-
 -- the object at a place begins no more, is reported as swept and waits in the worklist
 pub record TakesOut (before after : Space) (p : Place) (n : Name) (shape : Shape) : Type 0 where
-  pub tables : tables_of after ≡ without_any (tables_of before) p.0 shape
+  pub tables : tables_of after ≡ without_counted (tables_of before) p.0 shape
   pub rest : after ≡ with_swept before after.words (pushed before.work p) (pushed before.report.swept n)
 
 -- Unmarked objects are taken out so far: what is left has its bits, marks and counts, and what is taken out is reported and waits in

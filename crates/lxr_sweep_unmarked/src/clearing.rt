@@ -10,10 +10,10 @@ ghost use Rattle.lxr_image.specs.Spaces.{IsSpace, tables_of};
 ghost use Rattle.lxr_pause_decrements.specs.Cascade.{IsHeader};
 ghost use Rattle.lxr_sweep_unmarked.specs.Clearing.{Clears, ClearsAll, MayClear, MaySweep, TakesOut};
 
+use lxr_blocks::clear_counted;
 use lxr_image::Space;
 use lxr_image_search::{Wanted, next_wanted};
-use lxr_layout::{Header, Place, granule_of, place_at, unpack, word_of};
-use lxr_pause_decrements::clear_object;
+use lxr_layout::{Header, Place, place_at, unpack, word_of};
 
 /// Takes the object at a place out of the heap, whatever its count is: it begins no more, is reported as swept, and waits in
 /// the worklist. Its words stay as they are.
@@ -26,8 +26,7 @@ fn take_out(space: &mut Space, place: Place)
     ensures { (n : NameOf) (shape : ShapeOf) → IsHeader (tables_of space.old) place.0 n shape → TakesOut space.old space.new place n shape }
 {
     if let Header::Object(name, shape) = unpack(space.heap_word(word_of(place))) {
-        space.set_count(granule_of(place), 0);
-        clear_object(space, place, shape);
+        clear_counted(space, place, shape);
         space.report.swept.push(name);
         space.work.push(place);
     }

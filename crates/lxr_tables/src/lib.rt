@@ -7,9 +7,10 @@
 //!
 //! The words themselves ([`PlainWords`], over [`ClosedWords`]) lie in the memory of a closed table of atomic words. The library closes
 //! a table in place and opens one only by copying words in. Here a table is made of a closed one where it lies, so that words which are
-//! used by turns from threads and from one owner are never copied. That takes four small functions that are unsafe inside (`closed_fields`,
-//! `closed_rows`, `reserving`): they read a value as that of other types, laid out alike. Their proofs compare the layouts, so a
-//! library that lays its fields otherwise is refused by the check.
+//! used by turns from threads and from one owner are never copied. That takes seven small functions that are unsafe inside. Four
+//! (`closed_fields`, `closed_rows`, `reserving`) read a value as that of other types, laid out alike; their proofs compare the layouts, so a
+//! library that lays its fields otherwise is refused by the check. Three of `memory` keep a value that is read so from being dropped, or
+//! reserve a row of no places.
 #![tactic(auto)]
 
 mod bits;

@@ -15,6 +15,6 @@ pub use lxr_text_script::{
     Lists, Script, ScriptError, ScriptFault, error_line, make_load, read_script,
 };
 pub use lxr_text_stream::{
-    Bytes, Faults, Kept, Out, Plenty, Put, ReadError, Sink, Source, Standard, Taken, Whole,
-    WriteError, put_all, read_all,
+    Bytes, Faults, Kept, Out, Plenty, Put, ReadError, Reader, ReaderSource, Sink, Source, Standard,
+    Taken, Whole, WriteError, Writer, WriterSink, put_all, read_all,
 };

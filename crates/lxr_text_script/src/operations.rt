@@ -8,7 +8,7 @@ use crate::lines::split_word;
 use crate::numbers::{number_of, register_of};
 use crate::{ScriptFault, Version};
 use lxr_graph::Op;
-use lxr_layout::Shape;
+use lxr_layout::{MOST_FIELDS, Shape};
 
 /// A word in a number's place.
 pub fn number_at(line: u32, word: &[u8]) -> Result<u64, ScriptFault>
@@ -30,7 +30,7 @@ fn size_at(line: u32, word: &[u8]) -> Result<u16, ScriptFault>
     ensures { result ≡ read.size_at line word.now }
 {
     let size = number_at(line, word)?;
-    if size <= 1023 {
+    if size <= u64::from(MOST_FIELDS) {
         Ok(size as u16)
     } else {
         Err(ScriptFault::Shape { line })
@@ -43,7 +43,7 @@ fn index_at(line: u32, word: &[u8]) -> Result<u16, ScriptFault>
     ensures { result ≡ read.index_at line word.now }
 {
     let index = number_at(line, word)?;
-    if index <= 1023 {
+    if index <= u64::from(MOST_FIELDS) {
         Ok(index as u16)
     } else {
         Err(ScriptFault::Field { line })

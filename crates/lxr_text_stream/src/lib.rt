@@ -2,7 +2,8 @@
 //!
 //! A source has the bytes that are left in it, a sink those that are written to it, and each counts its faults. A stream
 //! need not tell its bytes, as the real ones do not; its faults are always counted, so that a fault is answered only
-//! where one happened. The streams in memory tell all, and can be made to fail at chosen calls.
+//! where one happened. The streams in memory tell all, and can be made to fail at chosen calls. Of a real stream each
+//! call hands on what the stream's own call answered.
 #![tactic(auto)]
 
 ghost use Rattle.std.specs.Prelude.{◌≡◌, ℕ, ◌<◌, ◌≤◌, List, Option, length, min, take};
@@ -15,7 +16,7 @@ mod transfer;
 
 pub use memory::{Plenty, Whole};
 pub use planned::{Bytes, Kept};
-pub use real::{Faults, Out, Standard};
+pub use real::{Faults, Out, Reader, ReaderSource, Standard, Writer, WriterSink};
 pub use transfer::{ReadError, WriteError, put_all, read_all};
 
 /// What a read gave.

@@ -4,7 +4,6 @@
 #![tactic(auto)]
 
 mod fitting;
-mod live;
 mod repeater;
 mod run;
 mod stores;
@@ -12,7 +11,6 @@ mod stores;
 mod tests;
 
 pub use fitting::run_repeaters;
-pub use live::Host;
 pub use repeater::Repeater;
 pub use run::run_passes;
 pub use stores::run_storers;

@@ -4,7 +4,7 @@ ghost use Rattle.std.specs.Prelude.{◌≡◌, ◌<◌, length, IfOk};
 use crate::fitting::run_repeaters;
 use crate::repeater::Repeater;
 use lxr_actor::Kindred;
-use lxr_hints::hinters;
+use lxr_hints::{Hinter, hinters};
 use lxr_layout::Place;
 use lxr_tables::{PlainWords, Words};
 use std::alloc::{AllocError, Global};
@@ -62,6 +62,26 @@ fn every_kind_of_step(rt: HostRuntime) -> Result<(), Fail> {
     Ok(())
 }
 
+/// What a hinter takes.
+fn taken(hinter: &mut Hinter) -> Option<Place> {
+    hinter.take()
+}
+
+/// Whether a hinter takes this place, and nothing then.
+fn is_taken_once(hinter: &mut Hinter, place: Place) -> bool {
+    taken(hinter) == Some(place) && taken(hinter).is_none()
+}
+
+/// How many places a hinter takes that has none, of at most 1,025.
+fn room_in(hinter: &mut Hinter) -> u32 {
+    for number in 0..1025_u32 {
+        if !hinter.push(Place(number + 1)) {
+            return number;
+        }
+    }
+    1025
+}
+
 #[test]
 fn hints_are_shared(rt: HostRuntime) -> Result<(), Fail> {
     let mut set = hinters(rt.alloc(), 3)?;
@@ -69,22 +89,29 @@ fn hints_are_shared(rt: HostRuntime) -> Result<(), Fail> {
     else {
         panic!(rt; "a set for three workers has three hinters")
     };
-    assert_eq!(rt;
-        (first.push(Place(5)), first.take(), first.take()),
-        (true, Some(Place(5)), None)
-    );
-    assert_eq!(rt;
-        (first.push(Place(7)), second.take(), second.take()),
-        (true, Some(Place(7)), None)
-    );
-    assert_eq!(rt;
-        (second.push(Place(9)), first.take(), first.take()),
-        (true, Some(Place(9)), None)
-    );
-    for number in 0..1025_u32 {
-        assert!(rt; fresh.push(Place(number + 1)) == (number < 1024));
-    }
+    assert!(rt; first.push(Place(5)) && is_taken_once(&mut first, Place(5)));
+    assert!(rt; first.push(Place(7)) && is_taken_once(&mut second, Place(7)));
+    assert!(rt; second.push(Place(9)) && is_taken_once(&mut first, Place(9)));
+    assert_eq!(rt; room_in(&mut fresh), 1024);
     Ok(())
+}
+
+/// Whether of 8,193 words the first is 6, word 4,096 is 5, and each other 0.
+fn are_as_written(words: &PlainWords) -> bool {
+    if words.count() != 8193 {
+        return false;
+    }
+    for at in 0..8193 {
+        let wanted = match at {
+            0 => 6,
+            4096 => 5,
+            _ => 0,
+        };
+        if words.get(at) != wanted {
+            return false;
+        }
+    }
+    true
 }
 
 /// Of three pages of words the middle one is written, then all are shared twice: each word is there each time.
@@ -99,18 +126,10 @@ fn partly_written_words_are_shared(rt: HostRuntime) -> Result<(), Fail> {
         assert!(rt; actors.len() == 1 && actors[0].found == found);
         words = after;
     }
+    assert!(rt; are_as_written(&words));
     assert!(rt; words.count() == 8193);
-    for at in 0..8193 {
-        let wanted = match at {
-            0 => 6,
-            4096 => 5,
-            _ => 0,
-        };
-        assert!(rt; words.get(at) == wanted);
-    }
     words.set(8192, 9);
-    assert!(rt; words.count() == 8193);
-    assert!(rt; words.get(8191) == 0 && words.get(8192) == 9);
+    assert!(rt; words.count() == 8193 && words.get(8191) == 0 && words.get(8192) == 9);
     Ok(())
 }
 

@@ -39,14 +39,14 @@ struct pass {
     bool helps, through, open, replied, lacks;
     uint32_t done, ordered;
     struct operation operation;
-    uint32_t code;
+    lxr_code code;
     uint64_t word, dice;
     struct object *registers[LXR_REGISTERS], *newest;
 };
 
 struct heap {
     atomic_uint shares, wanted, collect;
-    lxr_settings settings;
+    lxr_passes_settings settings;
     bool within, lost, waited;
     uint64_t pauses, before, since, kind;
     void *epoch;
@@ -100,16 +100,16 @@ static uint64_t address_of(const struct object *object) { return (uint64_t)(uint
 
 /* ---- Operations ---- */
 
-static uint32_t do_new(struct pass *pass, const struct operation *asked) {
+static lxr_code do_new(struct pass *pass, const struct operation *asked) {
     struct object *made = make(&pass->newest, asked->index, asked->source);
-    if (!made) return LXR_FULL;
+    if (!made) return LXR_E_FULL;
     pass->registers[asked->dest] = made;
     return LXR_OK;
 }
 
 /* An operation on a reference of an object. */
-static uint32_t do_reference(struct pass *pass, const struct operation *asked, struct object *base) {
-    if (asked->index >= base->refs) return LXR_INDEX;
+static lxr_code do_reference(struct pass *pass, const struct operation *asked, struct object *base) {
+    if (asked->index >= base->refs) return LXR_E_INDEX;
     _Atomic(uint64_t) *field = &base->fields[asked->index];
     uint64_t source = address_of(pass->registers[asked->source]);
     switch (asked->deed) {
@@ -121,8 +121,8 @@ static uint32_t do_reference(struct pass *pass, const struct operation *asked, s
 }
 
 /* An operation on a data word of an object. */
-static uint32_t do_word(struct pass *pass, const struct operation *asked, struct object *base) {
-    if (asked->index >= base->words) return LXR_INDEX;
+static lxr_code do_word(struct pass *pass, const struct operation *asked, struct object *base) {
+    if (asked->index >= base->words) return LXR_E_INDEX;
     _Atomic(uint64_t) *field = &base->fields[base->refs + asked->index];
     switch (asked->deed) {
     case GET: pass->word = atomic_load(field); break;
@@ -132,17 +132,17 @@ static uint32_t do_word(struct pass *pass, const struct operation *asked, struct
     return LXR_OK;
 }
 
-static uint32_t act(struct heap *heap, struct pass *pass) {
+static lxr_code act(struct heap *heap, struct pass *pass) {
     const struct operation *asked = &pass->operation;
     struct object *base = pass->registers[asked->base];
     switch (asked->deed) {
     case NEW: return do_new(pass, asked);
     case LOAD:
     case STORE:
-    case SWAP: return base ? do_reference(pass, asked, base) : LXR_NIL;
+    case SWAP: return base ? do_reference(pass, asked, base) : LXR_E_NIL;
     case GET:
     case PUT:
-    case ADD: return base ? do_word(pass, asked, base) : LXR_NIL;
+    case ADD: return base ? do_word(pass, asked, base) : LXR_E_NIL;
     case SAME: pass->word = base == pass->registers[asked->source]; return LXR_OK;
     case MOVE: pass->registers[asked->dest] = pass->registers[asked->source]; return LXR_OK;
     case NIL: pass->registers[asked->dest] = NULL; return LXR_OK;
@@ -154,7 +154,7 @@ static uint32_t act(struct heap *heap, struct pass *pass) {
 }
 
 /* Does the operation that is open, unless a pause is wanted first; a `new`, `store` or `swap` may want one itself. */
-static uint32_t go_on(struct heap *heap, struct pass *pass) {
+static lxr_code go_on(struct heap *heap, struct pass *pass) {
     bool wanted = atomic_load(&heap->wanted) != 0;
     pass->lacks = false;
     if (!wanted && (pass->operation.deed <= SWAP && pass->operation.deed != LOAD) && one_in(pass, GIVES_UP)) {
@@ -164,7 +164,7 @@ static uint32_t go_on(struct heap *heap, struct pass *pass) {
     }
     if (wanted) {
         pass->through = true;
-        return LXR_WAITS;
+        return LXR_E_WAITS;
     }
     pass->code = act(heap, pass);
     pass->open = false;
@@ -179,144 +179,137 @@ static bool tells(const struct pass *pass) {
 }
 
 /* Orders an operation whose numbers fit. */
-static uint32_t order(lxr_station *station, const struct operation *asked, uint64_t *word) {
+static lxr_code order(lxr_station *station, const struct operation *asked, uint64_t *word) {
     struct post *post = station->block;
     struct pass *pass = post->pass;
-    if (!pass) return LXR_HOME;
-    if (pass->helps) return LXR_KIND;
-    if (pass->through) return LXR_HELD;
-    if (pass->open) return LXR_BUSY;
-    if (pass->ordered >= LXR_OPERATIONS) return LXR_USED_UP;
+    if (!pass) return LXR_E_HOME;
+    if (pass->helps) return LXR_E_KIND;
+    if (pass->through) return LXR_E_HELD;
+    if (pass->open) return LXR_E_BUSY;
+    if (pass->ordered >= LXR_OPERATIONS) return LXR_E_USED_UP;
     pass->ordered++;
     pass->operation = *asked;
     pass->open = true;
-    uint32_t code = go_on(post->heap, pass);
+    lxr_code code = go_on(post->heap, pass);
     if (code == LXR_OK && tells(pass)) *word = pass->word;
     return code;
 }
 
-static uint32_t operate(lxr_station *station, struct operation asked, uint64_t *word) {
-    if (!station->live) return LXR_NO_HEAP;
+static lxr_code operate(lxr_station *station, struct operation asked, uint64_t *word) {
+    if (!station->live) return LXR_E_NO_HEAP;
     uint32_t least = asked.deed == NEW ? 0 : asked.source;
-    if (asked.dest >= LXR_REGISTERS || asked.base >= LXR_REGISTERS || least >= LXR_REGISTERS) return LXR_REGISTER;
-    if (asked.deed == NEW && (asked.index > LXR_MOST_REFS || asked.source > LXR_MOST_WORDS)) return LXR_SIZE;
+    if (asked.dest >= LXR_REGISTERS || asked.base >= LXR_REGISTERS || least >= LXR_REGISTERS) return LXR_E_REGISTER;
+    if (asked.deed == NEW && (asked.index > LXR_MOST_REFS || asked.source > LXR_MOST_WORDS)) return LXR_E_SIZE;
     return order(station, &asked, word);
 }
 
-static uint32_t operate_quietly(lxr_station *station, struct operation asked) {
+static lxr_code operate_quietly(lxr_station *station, struct operation asked) {
     uint64_t word = 0;
     return operate(station, asked, &word);
 }
 
-uint32_t lxr_station_new(lxr_station *station, uint32_t dest, uint32_t refs, uint32_t words) {
+lxr_code lxr_station_new(lxr_station *station, uint32_t dest, uint32_t refs, uint32_t words) {
     return operate_quietly(station, (struct operation){ NEW, dest, 0, refs, words, 0 });
 }
 
-uint32_t lxr_station_load(lxr_station *station, uint32_t dest, uint32_t base, uint32_t index) {
+lxr_code lxr_station_load(lxr_station *station, uint32_t dest, uint32_t base, uint32_t index) {
     return operate_quietly(station, (struct operation){ LOAD, dest, base, index, 0, 0 });
 }
 
-uint32_t lxr_station_store(lxr_station *station, uint32_t base, uint32_t index, uint32_t source) {
+lxr_code lxr_station_store(lxr_station *station, uint32_t base, uint32_t index, uint32_t source) {
     return operate_quietly(station, (struct operation){ STORE, 0, base, index, source, 0 });
 }
 
-uint32_t lxr_station_swap(lxr_station *station, uint32_t dest, uint32_t base, uint32_t index, uint32_t source) {
+lxr_code lxr_station_swap(lxr_station *station, uint32_t dest, uint32_t base, uint32_t index, uint32_t source) {
     return operate_quietly(station, (struct operation){ SWAP, dest, base, index, source, 0 });
 }
 
-uint32_t lxr_station_get(lxr_station *station, uint32_t base, uint32_t index, uint64_t *word) {
+lxr_code lxr_station_get(lxr_station *station, uint32_t base, uint32_t index, uint64_t *word) {
     return operate(station, (struct operation){ GET, 0, base, index, 0, 0 }, word);
 }
 
-uint32_t lxr_station_put(lxr_station *station, uint32_t base, uint32_t index, uint64_t word) {
+lxr_code lxr_station_put(lxr_station *station, uint32_t base, uint32_t index, uint64_t word) {
     return operate_quietly(station, (struct operation){ PUT, 0, base, index, 0, word });
 }
 
-uint32_t lxr_station_add(lxr_station *station, uint32_t base, uint32_t index, uint64_t word, uint64_t *old) {
+lxr_code lxr_station_add(lxr_station *station, uint32_t base, uint32_t index, uint64_t word, uint64_t *old) {
     return operate(station, (struct operation){ ADD, 0, base, index, 0, word }, old);
 }
 
-uint32_t lxr_station_same(lxr_station *station, uint32_t left, uint32_t right, uint32_t *same) {
+lxr_code lxr_station_same(lxr_station *station, uint32_t left, uint32_t right, uint32_t *same) {
     uint64_t word = 0;
-    uint32_t code = operate(station, (struct operation){ SAME, 0, left, 0, right, 0 }, &word);
+    lxr_code code = operate(station, (struct operation){ SAME, 0, left, 0, right, 0 }, &word);
     if (code == LXR_OK) *same = (uint32_t)word;
     return code;
 }
 
-uint32_t lxr_station_move(lxr_station *station, uint32_t dest, uint32_t source) {
+lxr_code lxr_station_move(lxr_station *station, uint32_t dest, uint32_t source) {
     return operate_quietly(station, (struct operation){ MOVE, dest, 0, 0, source, 0 });
 }
 
-uint32_t lxr_station_nil(lxr_station *station, uint32_t dest) {
+lxr_code lxr_station_nil(lxr_station *station, uint32_t dest) {
     return operate_quietly(station, (struct operation){ NIL, dest, 0, 0, 0, 0 });
 }
 
-uint32_t lxr_station_ask_pause(lxr_station *station) { return operate_quietly(station, (struct operation){ PAUSE, 0, 0, 0, 0, 0 }); }
+lxr_code lxr_station_ask_pause(lxr_station *station) { return operate_quietly(station, (struct operation){ PAUSE, 0, 0, 0, 0, 0 }); }
 
-uint32_t lxr_station_ask_collect(lxr_station *station) {
-    return operate_quietly(station, (struct operation){ COLLECT, 0, 0, 0, 0, 0 });
-}
+lxr_code lxr_station_ask_collect(lxr_station *station) { return operate_quietly(station, (struct operation){ COLLECT, 0, 0, 0, 0, 0 }); }
 
-uint32_t lxr_station_answer(lxr_station *station, uint64_t *word) {
-    if (!station->live) return LXR_NO_HEAP;
+lxr_code lxr_station_answer(lxr_station *station, uint64_t *word) {
+    if (!station->live) return LXR_E_NO_HEAP;
     struct post *post = station->block;
     struct pass *pass = post->pass;
-    if (!pass) return LXR_HOME;
-    if (pass->helps) return LXR_KIND;
-    if (!pass->open && !pass->replied) return LXR_NOTHING;
-    uint32_t code = pass->code;
-    if (pass->open) code = pass->through ? LXR_WAITS : go_on(post->heap, pass);
+    if (!pass) return LXR_E_HOME;
+    if (pass->helps) return LXR_E_KIND;
+    if (!pass->open && !pass->replied) return LXR_E_NOTHING;
+    lxr_code code = pass->code;
+    if (pass->open) code = pass->through ? LXR_E_WAITS : go_on(post->heap, pass);
     if (!pass->open && tells(pass)) *word = pass->word;
     return code;
 }
 
 /* ---- Stations ---- */
 
-static uint32_t stage_of(const struct heap *heap) {
-    if (heap->lost) return LXR_LOST;
-    return heap->within ? LXR_OK : LXR_EPOCH;
+/* Takes a pass out of its home, or says why not. */
+static lxr_code take_pass(struct heap *heap, uint32_t number) {
+    if (heap->lost) return LXR_E_LOST;
+    if (!heap->within) return LXR_E_EPOCH;
+    if (number >= heap->settings.mutators + 2 * heap->settings.helpers) return LXR_E_NUMBER;
+    return atomic_exchange(&heap->passes[number].away, 1) ? LXR_E_AWAY : LXR_OK;
 }
 
-/* Takes a pass out of its home, for a post. */
-static uint32_t leave(struct heap *heap, uint32_t number, struct post *post) {
-    uint32_t code = stage_of(heap);
+lxr_code lxr_station_leave(lxr_passes *handle, uint32_t number, lxr_station *station) {
+    if (!handle->live) return LXR_E_NO_HEAP;
+    struct heap *heap = handle->block;
+    struct post *post = station->block;
+    if (post && post->pass) return LXR_E_IN_USE;
+    lxr_code code = take_pass(heap, number);
     if (code != LXR_OK) return code;
-    if (number >= heap->settings.mutators + 2 * heap->settings.helpers) return LXR_NUMBER;
-    if (atomic_exchange(&heap->passes[number].away, 1)) return LXR_AWAY;
+    if (!post) post = calloc(1, sizeof *post);
+    if (!post) {
+        atomic_store(&heap->passes[number].away, 0);
+        return LXR_E_MEMORY;
+    }
     atomic_fetch_add(&heap->shares, 1);
     post->heap = heap;
     post->pass = &heap->passes[number];
+    station->live = 1;
+    station->block = post;
     return LXR_OK;
 }
 
-uint32_t lxr_station_leave(lxr_shared *handle, uint32_t number, lxr_station *station) {
-    if (!handle->live) return LXR_NO_HEAP;
-    struct post *post = station->block, *made = NULL;
-    if (post && post->pass) return LXR_IN_USE;
-    if (!post) post = made = calloc(1, sizeof *post);
-    if (!post) return LXR_MEMORY;
-    uint32_t code = leave(handle->block, number, post);
-    if (code != LXR_OK) {
-        free(made);
-    } else {
-        station->live = 1;
-        station->block = post;
-    }
-    return code;
-}
-
-uint32_t lxr_station_come_home(lxr_station *station) {
-    if (!station->live) return LXR_NO_HEAP;
+lxr_code lxr_station_come_home(lxr_station *station) {
+    if (!station->live) return LXR_E_NO_HEAP;
     struct post *post = station->block;
-    if (!post->pass) return LXR_HOME;
+    if (!post->pass) return LXR_E_HOME;
     atomic_store(&post->pass->away, 0);
     post->pass = NULL;
     let_go(post->heap);
     return LXR_OK;
 }
 
-uint32_t lxr_station_close(lxr_station *station) {
-    if (!station->live) return LXR_NO_HEAP;
+lxr_code lxr_station_close(lxr_station *station) {
+    if (!station->live) return LXR_E_NO_HEAP;
     lxr_station_come_home(station);
     free(station->block);
     station->live = 0;
@@ -324,19 +317,19 @@ uint32_t lxr_station_close(lxr_station *station) {
     return LXR_OK;
 }
 
-uint32_t lxr_station_wants_pause(lxr_station *station, uint32_t *wants) {
-    if (!station->live) return LXR_NO_HEAP;
+lxr_code lxr_station_wants_pause(lxr_station *station, uint32_t *wants) {
+    if (!station->live) return LXR_E_NO_HEAP;
     struct post *post = station->block;
-    if (!post->pass) return LXR_HOME;
+    if (!post->pass) return LXR_E_HOME;
     *wants = !post->pass->helps && (post->pass->through || atomic_load(&post->heap->wanted));
     return LXR_OK;
 }
 
-uint32_t lxr_station_help(lxr_station *station, uint32_t units, uint32_t *more) {
-    if (!station->live) return LXR_NO_HEAP;
+lxr_code lxr_station_help(lxr_station *station, uint32_t units, uint32_t *more) {
+    if (!station->live) return LXR_E_NO_HEAP;
     struct post *post = station->block;
-    if (!post->pass) return LXR_HOME;
-    if (!post->pass->helps) return LXR_KIND;
+    if (!post->pass) return LXR_E_HOME;
+    if (!post->pass->helps) return LXR_E_KIND;
     for (uint32_t done = 0; done < units && !post->pass->through; done++) post->pass->through = one_in(post->pass, MOSTLY);
     *more = !post->pass->through;
     return LXR_OK;
@@ -346,22 +339,22 @@ uint32_t lxr_station_help(lxr_station *station, uint32_t units, uint32_t *more) 
 
 static bool is_within(uint32_t number, uint32_t least, uint32_t most) { return number >= least && number <= most; }
 
-static bool are_settings(const lxr_settings *settings) {
-    return is_within(settings->blocks, 1, 1024) && is_within(settings->mutators, 1, 16) && is_within(settings->helpers, 1, 8) &&
-           is_within(settings->log, 1, 65536) && is_within(settings->remember, 1, 1048576) && is_within(settings->every, 1, 1048576) &&
-           is_within(settings->trace, 1, 1000000) && is_within(settings->within, 1, 1000000);
+static bool are_settings(const lxr_passes_settings *settings) {
+    return settings->size == sizeof *settings && is_within(settings->blocks, 1, 1024) && is_within(settings->mutators, 1, 16) &&
+           is_within(settings->helpers, 1, 8) && is_within(settings->log, 1, 65536) && is_within(settings->remember, 1, 1048576) &&
+           is_within(settings->every, 1, 1048576) && is_within(settings->trace, 1, 1000000) && is_within(settings->within, 1, 1000000);
 }
 
-uint32_t lxr_shared_open(lxr_shared *handle, const lxr_settings *settings) {
-    if (handle->live) return LXR_IN_USE;
-    if (!are_settings(settings)) return LXR_SIZE;
+lxr_code lxr_passes_open(lxr_passes *handle, const lxr_passes_settings *settings) {
+    if (handle->live) return LXR_E_IN_USE;
+    if (!are_settings(settings)) return LXR_E_SIZE;
     struct object *none = NULL;
     struct heap *heap = calloc(1, sizeof *heap);
-    if (!heap) return LXR_MEMORY;
+    if (!heap) return LXR_E_MEMORY;
     heap->world = make(&none, WORLD_REFS, 0);
     if (!heap->world) {
         free(heap);
-        return LXR_MEMORY;
+        return LXR_E_MEMORY;
     }
     heap->settings = *settings;
     atomic_init(&heap->shares, 1);
@@ -375,42 +368,42 @@ uint32_t lxr_shared_open(lxr_shared *handle, const lxr_settings *settings) {
     return LXR_OK;
 }
 
-uint32_t lxr_shared_close(lxr_shared *handle) {
-    if (!handle->live) return LXR_NO_HEAP;
+lxr_code lxr_passes_close(lxr_passes *handle) {
+    if (!handle->live) return LXR_E_NO_HEAP;
     let_go(handle->block);
     handle->live = 0;
     handle->block = NULL;
     return LXR_OK;
 }
 
-uint32_t lxr_shared_resume(lxr_shared *handle) {
-    if (!handle->live) return LXR_NO_HEAP;
+lxr_code lxr_passes_resume(lxr_passes *handle) {
+    if (!handle->live) return LXR_E_NO_HEAP;
     struct heap *heap = handle->block;
-    if (heap->lost) return LXR_LOST;
-    if (heap->within) return LXR_EPOCH;
+    if (heap->lost) return LXR_E_LOST;
+    if (heap->within) return LXR_E_EPOCH;
     free(heap->epoch);
     heap->epoch = malloc(64);
     heap->lost = !heap->epoch;
     heap->within = !heap->lost;
-    return heap->lost ? LXR_MEMORY : LXR_OK;
+    return heap->lost ? LXR_E_MEMORY : LXR_OK;
 }
 
 /* Why no pause is made, if none is. */
-static uint32_t find_refusal(struct heap *heap) {
+static lxr_code find_refusal(struct heap *heap) {
     uint32_t through = atomic_load(&heap->wanted);
-    if (heap->lost) return LXR_LOST;
-    if (!heap->within) return LXR_EPOCH;
+    if (heap->lost) return LXR_E_LOST;
+    if (!heap->within) return LXR_E_EPOCH;
     for (size_t at = 0; at < PASSES; at++) {
-        if (atomic_load(&heap->passes[at].away)) return LXR_AWAY;
+        if (atomic_load(&heap->passes[at].away)) return LXR_E_AWAY;
         if (heap->passes[at].through && !heap->passes[at].helps) through = 1;
     }
-    return through ? LXR_OK : LXR_NOT_WANTED;
+    return through ? LXR_OK : LXR_E_NOT_WANTED;
 }
 
 /* Answers a `new` that lacks room, which may want a collecting pause first; whether it is answered. */
 static bool serve(struct heap *heap, struct pass *pass, bool collected) {
     if (!collected && one_in(pass, COLLECTS)) return false;
-    pass->code = one_in(pass, FULL) ? LXR_FULL : act(heap, pass);
+    pass->code = one_in(pass, FULL) ? LXR_E_FULL : act(heap, pass);
     pass->open = false;
     pass->replied = true;
     return true;
@@ -419,7 +412,7 @@ static bool serve(struct heap *heap, struct pass *pass, bool collected) {
 /* One pause; whether each `new` is answered that lacked room. */
 static bool pause_once(struct heap *heap, bool collect) {
     bool served = true;
-    heap->kind = collect ? LXR_COLLECTS : LXR_PLAIN;
+    heap->kind = collect ? LXR_KIND_COLLECT : LXR_KIND_PLAIN;
     heap->pauses++;
     for (size_t at = 0; at < PASSES; at++) {
         struct pass *pass = &heap->passes[at];
@@ -443,15 +436,15 @@ static uint32_t find_most(const struct heap *heap) {
 
 /* Renews names, behind a collecting pause that nobody waited for to have room. */
 static void renew_where_due(struct heap *heap) {
-    if (heap->kind != LXR_COLLECTS || heap->waited || find_most(heap) <= LXR_OPERATIONS / 2) return;
+    if (heap->kind != LXR_KIND_COLLECT || heap->waited || find_most(heap) <= LXR_OPERATIONS / 2) return;
     for (size_t at = 0; at < PASSES; at++) heap->passes[at].ordered = heap->passes[at].open;
     heap->since = heap->pauses;
 }
 
-uint32_t lxr_shared_pause(lxr_shared *handle) {
-    if (!handle->live) return LXR_NO_HEAP;
+lxr_code lxr_passes_pause(lxr_passes *handle) {
+    if (!handle->live) return LXR_E_NO_HEAP;
     struct heap *heap = handle->block;
-    uint32_t code = find_refusal(heap);
+    lxr_code code = find_refusal(heap);
     if (code != LXR_OK) return code;
     heap->waited = false;
     heap->before = heap->since;
@@ -463,15 +456,15 @@ uint32_t lxr_shared_pause(lxr_shared *handle) {
     return LXR_OK;
 }
 
-uint32_t lxr_shared_count(lxr_shared *handle, uint32_t what, uint64_t *number) {
-    if (!handle->live) return LXR_NO_HEAP;
+lxr_code lxr_passes_count(lxr_passes *handle, uint32_t what, uint64_t *number) {
+    if (!handle->live) return LXR_E_NO_HEAP;
     const struct heap *heap = handle->block;
-    if (what > LXR_SWEPT && what != LXR_LAST_KIND && what != LXR_ASKED) return LXR_WHAT;
-    if (heap->within || heap->lost) return LXR_EPOCH;
+    if (what > LXR_COUNT_SWEPT && what != LXR_COUNT_LAST_KIND && what != LXR_COUNT_ASKED) return LXR_E_WHAT;
+    if (heap->within || heap->lost) return LXR_E_EPOCH;
     switch (what) {
-    case LXR_PAUSES: *number = heap->pauses - heap->before; break;
-    case LXR_LAST_KIND: *number = heap->kind; break;
-    case LXR_ASKED: *number = find_most(heap); break;
+    case LXR_COUNT_PAUSES: *number = heap->pauses - heap->before; break;
+    case LXR_COUNT_LAST_KIND: *number = heap->kind; break;
+    case LXR_COUNT_ASKED: *number = find_most(heap); break;
     default: *number = 0;
     }
     return LXR_OK;

@@ -36,10 +36,10 @@ static void is_untouched(int line) {
 /* A refused call. */
 #define REFUSED(call, code) (check(call, code, #call, __LINE__), is_untouched(__LINE__))
 
-static const lxr_settings good = { 8, 2, 1, 64, 1024, 100, 4, 2 };
+static const lxr_passes_settings good = { sizeof(lxr_passes_settings), 8, 2, 1, 64, 1024, 100, 4, 2 };
 
 /* Each operation, with numbers that would do. */
-static void refuse_operations(lxr_station *station, uint32_t code) {
+static void refuse_operations(lxr_station *station, lxr_code code) {
     REFUSED(lxr_station_new(station, 1, 1, 1), code);
     REFUSED(lxr_station_load(station, 1, 0, 0), code);
     REFUSED(lxr_station_store(station, 0, 0, 1), code);
@@ -55,7 +55,7 @@ static void refuse_operations(lxr_station *station, uint32_t code) {
 }
 
 /* Each call of a station that has no pass away. */
-static void refuse_all(lxr_station *station, uint32_t code) {
+static void refuse_all(lxr_station *station, lxr_code code) {
     refuse_operations(station, code);
     REFUSED(lxr_station_answer(station, &wide), code);
     REFUSED(lxr_station_wants_pause(station, &narrow), code);
@@ -66,16 +66,28 @@ static void refuse_all(lxr_station *station, uint32_t code) {
 /* ---- A heap ---- */
 
 static void try_empty(void) {
-    lxr_shared heap = { 0, 0 };
+    lxr_passes heap = { 0, 0 };
     lxr_station station = { 0, 0 };
-    IS(lxr_shared_close(&heap), LXR_NO_HEAP);
-    IS(lxr_shared_resume(&heap), LXR_NO_HEAP);
-    IS(lxr_shared_pause(&heap), LXR_NO_HEAP);
-    REFUSED(lxr_shared_count(&heap, LXR_PAUSES, &wide), LXR_NO_HEAP);
-    IS(lxr_station_leave(&heap, 0, &station), LXR_NO_HEAP);
-    IS(lxr_station_close(&station), LXR_NO_HEAP);
-    refuse_all(&station, LXR_NO_HEAP);
+    IS(lxr_passes_close(&heap), LXR_E_NO_HEAP);
+    IS(lxr_passes_resume(&heap), LXR_E_NO_HEAP);
+    IS(lxr_passes_pause(&heap), LXR_E_NO_HEAP);
+    REFUSED(lxr_passes_count(&heap, LXR_COUNT_PAUSES, &wide), LXR_E_NO_HEAP);
+    IS(lxr_station_leave(&heap, 0, &station), LXR_E_NO_HEAP);
+    IS(lxr_station_close(&station), LXR_E_NO_HEAP);
+    refuse_all(&station, LXR_E_NO_HEAP);
     IS(station.live, 0);
+}
+
+/* Settings of another size than there is are refused, whatever else they have. */
+static void try_sizes(void) {
+    const uint64_t wrong[] = { 0, 8, sizeof good - 8, sizeof good + 1, sizeof good + 8, UINT64_MAX };
+    for (size_t at = 0; at < sizeof wrong / sizeof wrong[0]; at++) {
+        lxr_passes heap = { 0, 0 };
+        lxr_passes_settings settings = good;
+        settings.size = wrong[at];
+        IS(lxr_passes_open(&heap, &settings), LXR_E_SIZE);
+        IS(heap.live, 0);
+    }
 }
 
 static void try_settings(void) {
@@ -83,94 +95,94 @@ static void try_settings(void) {
         size_t field;
         uint32_t most;
     } ranges[] = {
-        { offsetof(lxr_settings, blocks), 1024 },      { offsetof(lxr_settings, mutators), 16 },
-        { offsetof(lxr_settings, helpers), 8 },        { offsetof(lxr_settings, log), 65536 },
-        { offsetof(lxr_settings, remember), 1048576 }, { offsetof(lxr_settings, every), 1048576 },
-        { offsetof(lxr_settings, trace), 1000000 },    { offsetof(lxr_settings, within), 1000000 },
+        { offsetof(lxr_passes_settings, blocks), 1024 },      { offsetof(lxr_passes_settings, mutators), 16 },
+        { offsetof(lxr_passes_settings, helpers), 8 },        { offsetof(lxr_passes_settings, log), 65536 },
+        { offsetof(lxr_passes_settings, remember), 1048576 }, { offsetof(lxr_passes_settings, every), 1048576 },
+        { offsetof(lxr_passes_settings, trace), 1000000 },    { offsetof(lxr_passes_settings, within), 1000000 },
     };
     for (size_t at = 0; at < sizeof ranges / sizeof ranges[0]; at++) {
         const uint32_t tried[] = { 0, 1, ranges[at].most, ranges[at].most + 1, 256 + 1, LAST };
         for (size_t it = 0; it < 6; it++) {
-            lxr_shared heap = { 0, 0 };
-            lxr_settings settings = good;
+            lxr_passes heap = { 0, 0 };
+            lxr_passes_settings settings = good;
             uint32_t fits = tried[it] >= 1 && tried[it] <= ranges[at].most;
             *(uint32_t *)(void *)((char *)&settings + ranges[at].field) = tried[it];
-            IS(lxr_shared_open(&heap, &settings), fits ? LXR_OK : LXR_SIZE);
+            IS(lxr_passes_open(&heap, &settings), fits ? LXR_OK : LXR_E_SIZE);
             IS(heap.live != 0, fits);
-            IS(lxr_shared_close(&heap), fits ? LXR_OK : LXR_NO_HEAP);
+            IS(lxr_passes_close(&heap), fits ? LXR_OK : LXR_E_NO_HEAP);
         }
     }
 }
 
 /* Between epochs nothing leaves, and the numbers of the last pause stand. */
-static void try_between(lxr_shared *heap, uint64_t pauses) {
+static void try_between(lxr_passes *heap, uint64_t pauses) {
     lxr_station station = { 0, 0 };
-    IS(lxr_shared_open(heap, &good), LXR_IN_USE);
-    IS(lxr_shared_pause(heap), LXR_EPOCH);
-    IS(lxr_station_leave(heap, 0, &station), LXR_EPOCH);
-    IS(lxr_station_leave(heap, LAST, &station), LXR_EPOCH);
+    IS(lxr_passes_open(heap, &good), LXR_E_IN_USE);
+    IS(lxr_passes_pause(heap), LXR_E_EPOCH);
+    IS(lxr_station_leave(heap, 0, &station), LXR_E_EPOCH);
+    IS(lxr_station_leave(heap, LAST, &station), LXR_E_EPOCH);
     IS(station.live, 0);
     for (uint32_t what = 0; what < 20; what++) {
-        uint32_t known = what <= LXR_SWEPT || what == LXR_LAST_KIND || what == LXR_ASKED;
-        IS(lxr_shared_count(heap, what, &wide), known ? LXR_OK : LXR_WHAT);
-        if (what == LXR_PAUSES) IS(wide, pauses);
+        uint32_t known = what <= LXR_COUNT_SWEPT || what == LXR_COUNT_LAST_KIND || what == LXR_COUNT_ASKED;
+        IS(lxr_passes_count(heap, what, &wide), known ? LXR_OK : LXR_E_WHAT);
+        if (what == LXR_COUNT_PAUSES) IS(wide, pauses);
         if (!known) is_untouched(__LINE__);
         wide = UNTOUCHED;
     }
-    REFUSED(lxr_shared_count(heap, LAST, &wide), LXR_WHAT);
+    REFUSED(lxr_passes_count(heap, LAST, &wide), LXR_E_WHAT);
 }
 
-static void try_within(lxr_shared *heap) {
-    IS(lxr_shared_open(heap, &good), LXR_IN_USE);
-    IS(lxr_shared_resume(heap), LXR_EPOCH);
-    IS(lxr_shared_pause(heap), LXR_NOT_WANTED);
-    REFUSED(lxr_shared_count(heap, LXR_PAUSES, &wide), LXR_EPOCH);
-    REFUSED(lxr_shared_count(heap, LXR_WHAT, &wide), LXR_WHAT);
+static void try_within(lxr_passes *heap) {
+    IS(lxr_passes_open(heap, &good), LXR_E_IN_USE);
+    IS(lxr_passes_resume(heap), LXR_E_EPOCH);
+    IS(lxr_passes_pause(heap), LXR_E_NOT_WANTED);
+    REFUSED(lxr_passes_count(heap, LXR_COUNT_PAUSES, &wide), LXR_E_EPOCH);
+    REFUSED(lxr_passes_count(heap, LXR_E_WHAT, &wide), LXR_E_WHAT);
 }
 
 /* ---- Stations ---- */
 
 /* Passes have the numbers of two threads and of two helpers; each leaves once. */
-static void try_leaving(lxr_shared *heap) {
+static void try_leaving(lxr_passes *heap) {
     lxr_station stations[4] = { { 0, 0 }, { 0, 0 }, { 0, 0 }, { 0, 0 } }, other = { 0, 0 };
     for (uint32_t at = 0; at < 4; at++) IS(lxr_station_leave(heap, at, &stations[at]), LXR_OK);
     for (uint32_t at = 0; at < 4; at++) {
-        IS(lxr_station_leave(heap, at, &other), LXR_AWAY);
+        IS(lxr_station_leave(heap, at, &other), LXR_E_AWAY);
         IS(other.live, 0);
-        IS(lxr_station_leave(heap, at, &stations[0]), LXR_IN_USE);
-        IS(lxr_shared_pause(heap), LXR_AWAY);
+        IS(lxr_station_leave(heap, at, &stations[0]), LXR_E_IN_USE);
+        IS(lxr_passes_pause(heap), LXR_E_AWAY);
     }
-    IS(lxr_station_leave(heap, 4, &other), LXR_NUMBER);
-    IS(lxr_station_leave(heap, LAST, &other), LXR_NUMBER);
+    IS(lxr_station_leave(heap, 4, &other), LXR_E_NUMBER);
+    IS(lxr_station_leave(heap, LAST, &other), LXR_E_NUMBER);
     for (uint32_t at = 2; at < 4; at++) {
-        refuse_operations(&stations[at], LXR_KIND);
-        REFUSED(lxr_station_answer(&stations[at], &wide), LXR_KIND);
+        refuse_operations(&stations[at], LXR_E_KIND);
+        REFUSED(lxr_station_answer(&stations[at], &wide), LXR_E_KIND);
         IS(lxr_station_wants_pause(&stations[at], &narrow), LXR_OK);
         IS(narrow, 0);
         IS(lxr_station_help(&stations[at], 5, &narrow), LXR_OK);
         narrow = UNTOUCHED;
     }
-    REFUSED(lxr_station_help(&stations[1], 5, &narrow), LXR_KIND);
+    REFUSED(lxr_station_help(&stations[1], 5, &narrow), LXR_E_KIND);
     for (uint32_t at = 0; at < 4; at++) {
         IS(lxr_station_come_home(&stations[at]), LXR_OK);
-        refuse_all(&stations[at], LXR_HOME);
-        IS(lxr_station_leave(heap, 3 - at, &stations[at]), at < 2 ? LXR_AWAY : LXR_OK);
+        refuse_all(&stations[at], LXR_E_HOME);
+        IS(lxr_station_leave(heap, 3 - at, &stations[at]), at < 2 ? LXR_E_AWAY : LXR_OK);
         IS(lxr_station_close(&stations[at]), LXR_OK);
-        IS(lxr_station_close(&stations[at]), LXR_NO_HEAP);
+        IS(lxr_station_close(&stations[at]), LXR_E_NO_HEAP);
     }
 }
 
 /* Registers and sizes are looked at before the station's pass. */
-static void try_numbers(lxr_shared *heap) {
+static void try_numbers(lxr_passes *heap) {
     lxr_station station = { 0, 0 };
     IS(lxr_station_leave(heap, 0, &station), LXR_OK);
     for (uint32_t again = 0; again < 2; again++) {
-        REFUSED(lxr_station_new(&station, 16, 1, 1), LXR_REGISTER);
-        REFUSED(lxr_station_new(&station, 1, 1024, 1), LXR_SIZE);
-        REFUSED(lxr_station_new(&station, 1, 1, LAST), LXR_SIZE);
-        REFUSED(lxr_station_swap(&station, 1, 0, 0, LAST), LXR_REGISTER);
-        REFUSED(lxr_station_add(&station, 16, 0, 0, &wide), LXR_REGISTER);
-        REFUSED(lxr_station_same(&station, 0, 16, &narrow), LXR_REGISTER);
+        REFUSED(lxr_station_new(&station, 16, 1, 1), LXR_E_REGISTER);
+        REFUSED(lxr_station_new(&station, 1, 1024, 1), LXR_E_SIZE);
+        REFUSED(lxr_station_new(&station, 1, 1, LAST), LXR_E_SIZE);
+        REFUSED(lxr_station_swap(&station, 1, 0, 0, LAST), LXR_E_REGISTER);
+        REFUSED(lxr_station_add(&station, 16, 0, 0, &wide), LXR_E_REGISTER);
+        REFUSED(lxr_station_same(&station, 0, 16, &narrow), LXR_E_REGISTER);
         if (!again) IS(lxr_station_come_home(&station), LXR_OK);
     }
     IS(lxr_station_close(&station), LXR_OK);
@@ -178,24 +190,24 @@ static void try_numbers(lxr_shared *heap) {
 
 /* What is read and compared is told once, and again by the answer. */
 static void try_answers(lxr_station *station) {
-    REFUSED(lxr_station_answer(station, &wide), LXR_NOTHING);
-    uint32_t code = lxr_station_same(station, 0, 0, &narrow);
+    REFUSED(lxr_station_answer(station, &wide), LXR_E_NOTHING);
+    lxr_code code = lxr_station_same(station, 0, 0, &narrow);
     IS(code, LXR_OK);
     IS(narrow, 1);
     narrow = UNTOUCHED;
     IS(lxr_station_answer(station, &wide), LXR_OK);
     IS(wide, 1);
     wide = UNTOUCHED;
-    REFUSED(lxr_station_get(station, 2, 0, &wide), LXR_NIL);
-    REFUSED(lxr_station_answer(station, &wide), LXR_NIL);
-    REFUSED(lxr_station_get(station, 0, 0, &wide), LXR_INDEX);
-    REFUSED(lxr_station_answer(station, &wide), LXR_INDEX);
+    REFUSED(lxr_station_get(station, 2, 0, &wide), LXR_E_NIL);
+    REFUSED(lxr_station_answer(station, &wide), LXR_E_NIL);
+    REFUSED(lxr_station_get(station, 0, 0, &wide), LXR_E_INDEX);
+    REFUSED(lxr_station_answer(station, &wide), LXR_E_INDEX);
     IS(lxr_station_move(station, 1, 0), LXR_OK);
     REFUSED(lxr_station_answer(station, &wide), LXR_OK);
 }
 
 /* A pause that is asked for: who asked is done, the next operation of each is held or waits, and behind the pause it is answered. */
-static void try_pause(lxr_shared *heap) {
+static void try_pause(lxr_passes *heap) {
     lxr_station one = { 0, 0 }, other = { 0, 0 };
     IS(lxr_station_leave(heap, 0, &one), LXR_OK);
     IS(lxr_station_leave(heap, 1, &other), LXR_OK);
@@ -204,21 +216,21 @@ static void try_pause(lxr_shared *heap) {
     IS(lxr_station_wants_pause(&other, &narrow), LXR_OK);
     IS(narrow, 1);
     narrow = UNTOUCHED;
-    IS(lxr_station_same(&other, 0, 0, &narrow), LXR_WAITS);
+    IS(lxr_station_same(&other, 0, 0, &narrow), LXR_E_WAITS);
     is_untouched(__LINE__);
-    refuse_operations(&other, LXR_HELD);
-    REFUSED(lxr_station_answer(&other, &wide), LXR_WAITS);
+    refuse_operations(&other, LXR_E_HELD);
+    REFUSED(lxr_station_answer(&other, &wide), LXR_E_WAITS);
     IS(lxr_station_come_home(&one), LXR_OK);
-    IS(lxr_shared_pause(heap), LXR_AWAY);
+    IS(lxr_passes_pause(heap), LXR_E_AWAY);
     IS(lxr_station_come_home(&other), LXR_OK);
-    IS(lxr_shared_pause(heap), LXR_OK);
+    IS(lxr_passes_pause(heap), LXR_OK);
     try_between(heap, 1);
-    IS(lxr_shared_count(heap, LXR_LAST_KIND, &wide), LXR_OK);
-    IS(wide, LXR_COLLECTS);
+    IS(lxr_passes_count(heap, LXR_COUNT_LAST_KIND, &wide), LXR_OK);
+    IS(wide, LXR_KIND_COLLECT);
     wide = UNTOUCHED;
-    IS(lxr_shared_resume(heap), LXR_OK);
+    IS(lxr_passes_resume(heap), LXR_OK);
     IS(lxr_station_leave(heap, 1, &one), LXR_OK);
-    refuse_operations(&one, LXR_BUSY);
+    refuse_operations(&one, LXR_E_BUSY);
     IS(lxr_station_answer(&one, &wide), LXR_OK);
     IS(wide, 1);
     wide = UNTOUCHED;
@@ -228,27 +240,28 @@ static void try_pause(lxr_shared *heap) {
 }
 
 /* A thread has had its turn behind so many operations; a closed heap leaves what is away as it is. */
-static void try_every(lxr_shared *heap) {
+static void try_every(lxr_passes *heap) {
     lxr_station station = { 0, 0 };
     IS(lxr_station_leave(heap, 0, &station), LXR_OK);
     for (uint32_t left = good.every; left--;) IS(lxr_station_nil(&station, 1), LXR_OK);
-    uint32_t code = lxr_station_nil(&station, 1);
-    IS(code == LXR_HELD || code == LXR_WAITS, 1);
+    lxr_code code = lxr_station_nil(&station, 1);
+    IS(code == LXR_E_HELD || code == LXR_E_WAITS, 1);
     IS(lxr_station_wants_pause(&station, &narrow), LXR_OK);
     IS(narrow, 1);
     narrow = UNTOUCHED;
-    IS(lxr_shared_close(heap), LXR_OK);
+    IS(lxr_passes_close(heap), LXR_OK);
     IS(lxr_station_come_home(&station), LXR_OK);
     IS(lxr_station_close(&station), LXR_OK);
 }
 
 int main(void) {
-    lxr_shared heap = { 0, 0 };
+    lxr_passes heap = { 0, 0 };
     try_empty();
+    try_sizes();
     try_settings();
-    IS(lxr_shared_open(&heap, &good), LXR_OK);
+    IS(lxr_passes_open(&heap, &good), LXR_OK);
     try_between(&heap, 0);
-    IS(lxr_shared_resume(&heap), LXR_OK);
+    IS(lxr_passes_resume(&heap), LXR_OK);
     try_within(&heap);
     try_leaving(&heap);
     try_numbers(&heap);

@@ -21,9 +21,7 @@
 #define CALLS  20000u
 #define BUFFER 64u
 
-static struct {
-    uint64_t rounds, calls, full, pauses;
-} sums;
+static struct { uint64_t rounds, calls, full, pauses; } sums;
 
 /* A round: its two heaps, and the sizes of the archive's. */
 static struct {
@@ -132,8 +130,8 @@ static void call_new(void) {
     uint32_t dest = some_dest(), large = below(20);
     uint32_t refs = one_in(300) ? wild() : large == 0 ? below(1024) : below(6);
     uint32_t words = one_in(300) ? wild() : large == 0 ? below(1024) : large < 4 ? below(64) : below(5);
-    uint32_t code = calls_lxr.new(&now.lxr, dest, refs, words);
-    if (code == LXR_FULL)
+    lxr_code code = calls_lxr.new(&now.lxr, dest, refs, words);
+    if (code == LXR_E_FULL)
         may_be_full(refs, words, 0);
     else
         agree("new", code, calls_plain.new(&now.plain, dest, refs, words));
@@ -141,11 +139,11 @@ static void call_new(void) {
 
 static void call_big(void) {
     uint32_t dest = some_dest(), blocks = one_in(100) ? wild() : one_in(10) ? below(129) : 1 + below(4);
-    uint32_t code = calls_lxr.big(&now.lxr, dest, blocks);
-    if (code == LXR_FULL)
+    lxr_code code = calls_lxr.large_new(&now.lxr, dest, blocks);
+    if (code == LXR_E_FULL)
         may_be_full(0, 0, blocks);
     else
-        agree("big", code, calls_plain.big(&now.plain, dest, blocks));
+        agree("large_new", code, calls_plain.large_new(&now.plain, dest, blocks));
 }
 
 static void call_load(void) {
@@ -174,20 +172,21 @@ static void call_put(void) {
 static void call_bget(void) {
     uint32_t base = some_base(BODY), index = some_index(base, BODY);
     uint64_t on_lxr = 1, on_plain = 1;
-    agree("bget", calls_lxr.bget(&now.lxr, base, index, &on_lxr), calls_plain.bget(&now.plain, base, index, &on_plain));
+    agree("large_get", calls_lxr.large_get(&now.lxr, base, index, &on_lxr), calls_plain.large_get(&now.plain, base, index, &on_plain));
     agree("the word of bget", on_lxr, on_plain);
 }
 
 static void call_bput(void) {
     uint32_t base = some_base(BODY), index = some_index(base, BODY);
     uint64_t word = some_word();
-    agree("bput", calls_lxr.bput(&now.lxr, base, index, word), calls_plain.bput(&now.plain, base, index, word));
+    agree("large_put", calls_lxr.large_put(&now.lxr, base, index, word), calls_plain.large_put(&now.plain, base, index, word));
 }
 
 static void call_bread(void) {
     uint32_t base = some_base(BODY), index = some_index(base, BODY), count = below(BUFFER + 1);
     uint64_t on_lxr[BUFFER] = { 0 }, on_plain[BUFFER] = { 0 };
-    agree("bread", calls_lxr.bread(&now.lxr, base, index, on_lxr, count), calls_plain.bread(&now.plain, base, index, on_plain, count));
+    agree("large_read", calls_lxr.large_read(&now.lxr, base, index, on_lxr, count),
+          calls_plain.large_read(&now.plain, base, index, on_plain, count));
     if (memcmp(on_lxr, on_plain, sizeof on_lxr) != 0) differ("bread: other words");
 }
 
@@ -195,7 +194,8 @@ static void call_bwrite(void) {
     uint32_t base = some_base(BODY), index = some_index(base, BODY), count = below(BUFFER + 1);
     uint64_t words[BUFFER];
     for (uint32_t at = 0; at < BUFFER; at++) words[at] = some_word();
-    agree("bwrite", calls_lxr.bwrite(&now.lxr, base, index, words, count), calls_plain.bwrite(&now.plain, base, index, words, count));
+    agree("large_write", calls_lxr.large_write(&now.lxr, base, index, words, count),
+          calls_plain.large_write(&now.plain, base, index, words, count));
 }
 
 static void call_same(void) {
@@ -214,20 +214,24 @@ static void call_nil(void) {
     agree("nil", calls_lxr.nil(&now.lxr, dest), calls_plain.nil(&now.plain, dest));
 }
 
-static void call_pause(void) {
-    agree("pause", calls_lxr.pause(&now.lxr), calls_plain.pause(&now.plain));
+/* A pace: never, by the room there is, each object, or so many bytes. */
+static uint64_t some_pace(void) {
+    uint32_t drawn = below(4);
+    return drawn == 0 ? LXR_PACE_NEVER : drawn == 1 ? LXR_PACE_ROOM : drawn == 2 ? below(50) : below(20000);
 }
+
+static void call_pause(void) { agree("pause", calls_lxr.pause(&now.lxr), calls_plain.pause(&now.plain)); }
 
 static void call_collect(void) {
     uint64_t on_lxr = 0, on_plain = 0;
     agree("collect", calls_lxr.collect(&now.lxr), calls_plain.collect(&now.plain));
-    agree("count", calls_lxr.count(&now.lxr, LXR_LIVE, &on_lxr), calls_plain.count(&now.plain, LXR_LIVE, &on_plain));
+    agree("count", calls_lxr.count(&now.lxr, LXR_COUNT_LIVE, &on_lxr), calls_plain.count(&now.plain, LXR_COUNT_LIVE, &on_plain));
     agree("the objects that are left", on_lxr, on_plain);
 }
 
-static void call_pause_every(void) {
-    uint32_t news = one_in(2) ? 0 : below(500);
-    agree("pause_every", calls_lxr.pause_every(&now.lxr, news), calls_plain.pause_every(&now.plain, news));
+static void call_set_pace(void) {
+    uint64_t bytes = some_pace();
+    agree("set_pace", calls_lxr.set_pace(&now.lxr, bytes), calls_plain.set_pace(&now.plain, bytes));
 }
 
 /* Whether all registers hold the like on both heaps. */
@@ -249,9 +253,9 @@ static const struct {
     void (*call)(void);
     uint32_t share;
 } kinds[] = {
-    { call_new, 200 }, { call_load, 200 }, { call_store, 250 }, { call_get, 80 }, { call_put, 80 }, { call_move, 40 }, { call_nil, 60 },
-    { call_same, 20 }, { call_big, 20 }, { call_bget, 20 }, { call_bput, 20 }, { call_bread, 10 }, { call_bwrite, 10 }, { call_pause, 4 },
-    { call_collect, 2 }, { call_pause_every, 1 }, { agree_on_registers, 2 },
+    { call_new, 200 },   { call_load, 200 }, { call_store, 250 }, { call_get, 80 },     { call_put, 80 },          { call_move, 40 },
+    { call_nil, 60 },    { call_same, 20 },  { call_big, 20 },    { call_bget, 20 },    { call_bput, 20 },         { call_bread, 10 },
+    { call_bwrite, 10 }, { call_pause, 4 },  { call_collect, 2 }, { call_set_pace, 1 }, { agree_on_registers, 2 },
 };
 
 static void make_call(void) {
@@ -269,11 +273,13 @@ static void play_round(uint64_t seed) {
     now.blocks = one_in(3) ? 1 + below(3) : 1 + below(64);
     now.body_blocks = one_in(3) ? 1 + below(6) : 1 + below(200);
     uint32_t calls = 1 + below(CALLS);
-    agree("open", calls_lxr.open(&now.lxr, now.blocks, now.body_blocks), calls_plain.open(&now.plain, now.blocks, now.body_blocks));
+    lxr_settings settings = LXR_SETTINGS(now.blocks, now.body_blocks);
+    settings.pace = some_pace();
+    agree("open", calls_lxr.open(&now.lxr, &settings), calls_plain.open(&now.plain, &settings));
     while (now.calls < calls) make_call();
     agree_on_registers();
     call_collect();
-    agree("count", calls_lxr.count(&now.lxr, LXR_PAUSES, &pauses), LXR_OK);
+    agree("count", calls_lxr.count(&now.lxr, LXR_COUNT_PAUSES, &pauses), LXR_OK);
     agree("close", calls_lxr.close(&now.lxr), calls_plain.close(&now.plain));
     sums.rounds++;
     sums.calls += now.calls;

@@ -2,7 +2,7 @@
  * refused.c: what the archive does where memory is refused. SPDX: MIT OR Apache-2.0
  *
  * Linked with -Wl,--wrap=malloc,--wrap=calloc,--wrap=realloc,--wrap=free, so that each request of the archive's comes through here. The
- * Nth request is refused, and all behind it, for N from 0 until none is: an opening then says LXR_MEMORY, leaves the handle empty and
+ * Nth request is refused, and all behind it, for N from 0 until none is: an opening then says LXR_E_MEMORY, leaves the handle empty and
  * returns what it got; and no other call asks for memory at all.
  */
 #include "../lxr.h"
@@ -59,7 +59,7 @@ static void check(bool holds, const char *what) {
     exit(1);
 }
 
-static void done(uint32_t code, const char *what) { check(code == LXR_OK, what); }
+static void done(lxr_code code, const char *what) { check(code == LXR_OK, what); }
 
 /* ---- What a heap does in its life ---- */
 
@@ -96,10 +96,10 @@ static void fill_log(lxr_heap *heap, uint32_t length) {
 static void make_bodies(lxr_heap *heap, uint32_t count) {
     uint64_t words[64] = { 0 };
     while (count--) {
-        done(lxr_big(heap, 4, 1 + count % 3), "big");
-        done(lxr_bwrite(heap, 4, 4032, words, 64), "bwrite");
-        done(lxr_bread(heap, 4, 4032, words, 64), "bread");
-        done(lxr_bput(heap, 4, 4095, count), "bput");
+        done(lxr_large_new(heap, 4, 1 + count % 3), "big");
+        done(lxr_large_write(heap, 4, 4032, words, 64), "bwrite");
+        done(lxr_large_read(heap, 4, 4032, words, 64), "bread");
+        done(lxr_large_put(heap, 4, 4095, count), "bput");
     }
 }
 
@@ -110,18 +110,18 @@ static void drop_many(lxr_heap *heap, uint32_t count) {
 
 static void live(lxr_heap *heap) {
     uint64_t number = 0;
-    done(lxr_pause_every(heap, 500), "pause_every");
+    done(lxr_set_pace(heap, 16000), "set_pace");
     make_list(heap, 3000);
     fill_log(heap, 3000);
     read_list(heap, 3000);
     make_bodies(heap, 50);
-    done(lxr_pause_every(heap, 0), "pause_every");
+    done(lxr_set_pace(heap, LXR_PACE_NEVER), "set_pace");
     drop_many(heap, 10000);
     done(lxr_pause(heap), "pause");
     for (uint32_t at = 0; at < LXR_REGISTERS; at++) done(lxr_nil(heap, at), "nil");
     done(lxr_collect(heap), "collect");
-    for (uint32_t what = LXR_PAUSES; what <= LXR_FREE_BODY_BYTES; what++) done(lxr_count(heap, what, &number), "count");
-    done(lxr_count(heap, LXR_LIVE, &number), "count");
+    for (uint32_t what = LXR_COUNT_PAUSES; what <= LXR_COUNT_FREE_BODY_BYTES; what++) done(lxr_count(heap, what, &number), "count");
+    done(lxr_count(heap, LXR_COUNT_LIVE, &number), "count");
     check(number == 0, "objects are left that nothing holds");
 }
 
@@ -131,7 +131,8 @@ static bool is_opened(size_t requests) {
     memset(&memory, 0, sizeof memory);
     memory.granted = requests;
     memory.watched = true;
-    uint32_t code = lxr_open(&heap, 24, 16);
+    const lxr_settings settings = LXR_SETTINGS(24, 16);
+    lxr_code code = lxr_open(&heap, &settings);
     if (!memory.refused) {
         done(code, "an opening is refused for want of memory that there was");
         memory.granted = memory.asked;
@@ -139,9 +140,9 @@ static bool is_opened(size_t requests) {
         check(!memory.refused, "a call asks for memory behind the opening");
         done(lxr_close(&heap), "close");
     } else {
-        check(code == LXR_MEMORY, "an opening doesn't say that memory was refused");
+        check(code == LXR_E_MEMORY, "an opening doesn't say that memory was refused");
         check(heap.live == 0, "a refused opening leaves a handle that isn't empty");
-        check(lxr_close(&heap) == LXR_NO_HEAP, "a refused opening leaves a heap that can be closed");
+        check(lxr_close(&heap) == LXR_E_NO_HEAP, "a refused opening leaves a heap that can be closed");
     }
     check(memory.held == 0, "memory is held by nobody");
     memory.watched = false;

@@ -32,8 +32,8 @@ enum kind { NEW, LOAD, STORE, PUT, GET, MOVE, NIL, SAME, PAUSE, COLLECT, BIG, BP
 static const struct {
     const char *word, *parts;
 } kinds[KINDS] = {
-    { "new", "rss" }, { "load", "rrf" }, { "store", "rfr" }, { "put", "rfn" }, { "get", "rf" }, { "move", "rr" }, { "nil", "r" },
-    { "same", "rr" }, { "pause", "" }, { "collect", "" }, { "big", "rk" }, { "bput", "rbn" }, { "bget", "rb" },
+    { "new", "rss" }, { "load", "rrf" }, { "store", "rfr" }, { "put", "rfn" }, { "get", "rf" },   { "move", "rr" }, { "nil", "r" },
+    { "same", "rr" }, { "pause", "" },   { "collect", "" },  { "big", "rk" },  { "bput", "rbn" }, { "bget", "rb" },
 };
 
 struct operation {
@@ -171,7 +171,7 @@ static void agree(const struct host *host, const char *what, uint64_t on_script,
         stop(3, "script: operation %zu: the heaps disagree on %s: %" PRIu64 " and %" PRIu64, host->at, what, on_script, on_names);
 }
 
-static void must(const struct host *host, uint32_t code) {
+static void must(const struct host *host, lxr_code code) {
     if (code != LXR_OK) stop(3, "script: operation %zu: %s", host->at, lxr_message(code));
 }
 
@@ -189,12 +189,16 @@ static void agree_on_register(struct host *host, uint32_t one) {
 }
 
 /* Prints the reply of a call that answered no object and no word. */
-static void tell(const char *word, uint32_t code) {
-    const char *reply = code == LXR_OK ? "ok" : code == LXR_NIL ? "bad" : code == LXR_INDEX ? "range" : code == LXR_FULL ? "full" : "?";
+static void tell(const char *word, lxr_code code) {
+    const char *reply = code == LXR_OK        ? "ok"
+                        : code == LXR_E_NIL   ? "bad"
+                        : code == LXR_E_INDEX ? "range"
+                        : code == LXR_E_FULL  ? "full"
+                                              : "?";
     printf("%s %s\n", word, reply);
 }
 
-static void tell_word(const char *word, uint32_t code, uint64_t found) {
+static void tell_word(const char *word, lxr_code code, uint64_t found) {
     if (code == LXR_OK)
         printf("%s %" PRIu64 "\n", word, found);
     else
@@ -202,7 +206,7 @@ static void tell_word(const char *word, uint32_t code, uint64_t found) {
 }
 
 /* Gives a new object its name on the second heap, where the first one made it. */
-static void tell_made(struct host *host, const char *word, uint32_t code, uint32_t dest, uint32_t refs) {
+static void tell_made(struct host *host, const char *word, lxr_code code, uint32_t dest, uint32_t refs) {
     if (code != LXR_OK) {
         tell(word, code);
         return;
@@ -214,7 +218,7 @@ static void tell_made(struct host *host, const char *word, uint32_t code, uint32
 }
 
 /* Tells what a `load` found, by the name that it has on the second heap. The world alone has no word there. */
-static void tell_loaded(struct host *host, uint32_t code, uint32_t dest) {
+static void tell_loaded(struct host *host, lxr_code code, uint32_t dest) {
     uint32_t is_nil = 0;
     uint64_t name = 0;
     if (code != LXR_OK) {
@@ -225,7 +229,7 @@ static void tell_loaded(struct host *host, uint32_t code, uint32_t dest) {
     must(host, lxr_is_nil(&host->script, dest, &is_nil));
     if (is_nil)
         printf("load nil\n");
-    else if (lxr_get(&host->names, dest, 0, &name) == LXR_INDEX)
+    else if (lxr_get(&host->names, dest, 0, &name) == LXR_E_INDEX)
         printf("load 0.0\n");
     else
         printf("load 1.%" PRIu64 "\n", name);
@@ -242,28 +246,65 @@ static void play_same(struct host *host, uint32_t left, uint32_t right) {
 /* Makes a call on both heaps, and answers the code that both gave. */
 #define BOTH(call, ...) both(host, #call, call(&host->script, __VA_ARGS__), call(&host->names, __VA_ARGS__))
 
-static uint32_t both(const struct host *host, const char *what, uint32_t on_script, uint32_t on_names) {
+static lxr_code both(const struct host *host, const char *what, lxr_code on_script, lxr_code on_names) {
     agree(host, what, on_script, on_names);
     return on_script;
 }
 
 static void play(struct host *host, const struct operation *it) {
     uint64_t word = 0, last = it->parts[2];
-    uint32_t a = (uint32_t)it->parts[0], b = (uint32_t)it->parts[1], c = (uint32_t)it->parts[2], code;
+    uint32_t a = (uint32_t)it->parts[0], b = (uint32_t)it->parts[1], c = (uint32_t)it->parts[2];
+    lxr_code code;
     switch (it->kind) {
-    case NEW: code = lxr_new(&host->script, a, b, c); tell_made(host, "new", code, a, b); break;
-    case BIG: code = lxr_big(&host->script, a, b); tell_made(host, "big", code, a, 0); break;
-    case LOAD: code = BOTH(lxr_load, a, b, c); tell_loaded(host, code, a); break;
-    case STORE: code = BOTH(lxr_store, a, b, c); tell("store", code); break;
-    case MOVE: code = BOTH(lxr_move, a, b); tell("move", code); break;
-    case NIL: code = BOTH(lxr_nil, a); tell("nil", code); break;
+    case NEW:
+        code = lxr_new(&host->script, a, b, c);
+        tell_made(host, "new", code, a, b);
+        break;
+    case BIG:
+        code = lxr_large_new(&host->script, a, b);
+        tell_made(host, "big", code, a, 0);
+        break;
+    case LOAD:
+        code = BOTH(lxr_load, a, b, c);
+        tell_loaded(host, code, a);
+        break;
+    case STORE:
+        code = BOTH(lxr_store, a, b, c);
+        tell("store", code);
+        break;
+    case MOVE:
+        code = BOTH(lxr_move, a, b);
+        tell("move", code);
+        break;
+    case NIL:
+        code = BOTH(lxr_nil, a);
+        tell("nil", code);
+        break;
     case SAME: play_same(host, a, b); break;
-    case PUT: code = lxr_put(&host->script, a, b, last); tell("put", code); break;
-    case GET: code = lxr_get(&host->script, a, b, &word); tell_word("get", code, word); break;
-    case BPUT: code = lxr_bput(&host->script, a, b, last); tell("bput", code); break;
-    case BGET: code = lxr_bget(&host->script, a, b, &word); tell_word("bget", code, word); break;
-    case PAUSE: code = lxr_pause(&host->script); tell("pause", code); break;
-    case COLLECT: code = lxr_collect(&host->script); tell("collect", code); break;
+    case PUT:
+        code = lxr_put(&host->script, a, b, last);
+        tell("put", code);
+        break;
+    case GET:
+        code = lxr_get(&host->script, a, b, &word);
+        tell_word("get", code, word);
+        break;
+    case BPUT:
+        code = lxr_large_put(&host->script, a, b, last);
+        tell("bput", code);
+        break;
+    case BGET:
+        code = lxr_large_get(&host->script, a, b, &word);
+        tell_word("bget", code, word);
+        break;
+    case PAUSE:
+        code = lxr_pause(&host->script);
+        tell("pause", code);
+        break;
+    case COLLECT:
+        code = lxr_collect(&host->script);
+        tell("collect", code);
+        break;
     case KINDS: break;
     }
 }
@@ -273,16 +314,23 @@ static void agree_at_the_end(struct host *host) {
     uint64_t on_script = 0, on_names = 0;
     must(host, lxr_collect(&host->script));
     must(host, lxr_collect(&host->names));
-    must(host, lxr_count(&host->script, LXR_LIVE, &on_script));
-    must(host, lxr_count(&host->names, LXR_LIVE, &on_names));
+    must(host, lxr_count(&host->script, LXR_COUNT_LIVE, &on_script));
+    must(host, lxr_count(&host->names, LXR_COUNT_LIVE, &on_names));
     agree(host, "what can be reached", on_script, on_names);
+}
+
+/* Opens a heap whose pauses are those of the script, and those that are needed. */
+static void open_heap(lxr_heap *heap, uint32_t blocks, uint32_t bodies) {
+    lxr_settings settings = LXR_SETTINGS(blocks, bodies);
+    settings.pace = LXR_PACE_NEVER;
+    if (lxr_open(heap, &settings) != LXR_OK) stop(5, "lxr: out of memory");
 }
 
 static void play_script(const struct script *script, uint32_t blocks, uint32_t bodies) {
     struct host host = { LXR_HEAP_INIT, LXR_HEAP_INIT, 0, 0 };
     /* An object takes at most one line more for its name, so at most twice its own. */
-    if (lxr_open(&host.script, blocks, bodies) != LXR_OK) stop(5, "lxr: out of memory");
-    if (lxr_open(&host.names, 4 * blocks + 4, 1) != LXR_OK) stop(5, "lxr: out of memory");
+    open_heap(&host.script, blocks, bodies);
+    open_heap(&host.names, 4 * blocks + 4, 1);
     puts("thread 1");
     while (host.at < script->count) play(&host, &script->operations[host.at++]);
     agree_at_the_end(&host);

@@ -45,23 +45,21 @@ struct node {
 /* A thread of the round. */
 struct player {
     uint32_t number;
-    uint64_t dice, adds[COUNTER_WORDS], least[COUNTER_WORDS], published, seen[LXR_MOST_THREADS];
+    uint64_t dice, adds[COUNTER_WORDS], least[COUNTER_WORDS], published, seen[LXR_MOST_MUTATORS];
     uint64_t token; /* the token that it holds, or 0 */
     struct node *registers[LXR_REGISTERS], *newest;
-    lxr_thread *thread;
+    lxr_mutator *mutator;
     uint64_t operations, fulls, pauses;
 };
 
 static struct {
     uint64_t seed;
-    lxr_threads *heap;
+    lxr_shared_heap *heap;
     uint32_t players, tokens;
-    struct player player[LXR_MOST_THREADS];
+    struct player player[LXR_MOST_MUTATORS];
 } now;
 
-static struct {
-    uint64_t rounds, operations, fulls, pauses;
-} sums;
+static struct { uint64_t rounds, operations, fulls, pauses; } sums;
 
 static void differ(const struct player *player, const char *form, ...) {
     va_list parts;
@@ -78,7 +76,7 @@ static void agree(const struct player *player, const char *what, uint64_t found,
     if (found != wanted) differ(player, "%s: %" PRIu64 ", and %" PRIu64 " is wanted", what, found, wanted);
 }
 
-static void done(const struct player *player, const char *what, uint32_t code) {
+static void done(const struct player *player, const char *what, lxr_code code) {
     if (code != LXR_OK) differ(player, "%s: %s", what, lxr_message(code));
 }
 
@@ -133,7 +131,7 @@ static void let_go(struct player *player) {
     player->fulls++;
     for (uint32_t at = OWN; at < NIL_REGISTER; at++) {
         if (one_in(player, 3)) continue;
-        done(player, "nil", lxr_thread_nil(player->thread, at));
+        done(player, "nil", lxr_mutator_nil(player->mutator, at));
         player->registers[at] = NULL;
     }
 }
@@ -141,9 +139,9 @@ static void let_go(struct player *player) {
 static void play_new(struct player *player) {
     uint32_t dest = own(player), refs = below(player, MOST_FIELDS + 1), words = below(player, MOST_FIELDS + 1);
     bool wild = one_in(player, 300);
-    uint32_t code = lxr_thread_new(player->thread, dest, wild ? 1024 + refs : refs, words);
-    uint32_t wanted = dest >= LXR_REGISTERS ? LXR_REGISTER : wild ? LXR_SIZE : LXR_OK;
-    if (code == LXR_FULL && wanted == LXR_OK) {
+    lxr_code code = lxr_mutator_new(player->mutator, dest, wild ? 1024 + refs : refs, words);
+    uint32_t wanted = dest >= LXR_REGISTERS ? LXR_E_REGISTER : wild ? LXR_E_SIZE : LXR_OK;
+    if (code == LXR_E_FULL && wanted == LXR_OK) {
         let_go(player);
         return;
     }
@@ -152,33 +150,33 @@ static void play_new(struct player *player) {
 }
 
 /* The code that an operation has whose base and field are these. */
-static uint32_t field_code(const struct player *player, uint32_t base, uint32_t index, bool words) {
+static lxr_code field_code(const struct player *player, uint32_t base, uint32_t index, bool words) {
     const struct node *node = player->registers[base];
-    if (!node) return LXR_NIL;
-    return index < (words ? node->words : node->refs) ? LXR_OK : LXR_INDEX;
+    if (!node) return LXR_E_NIL;
+    return index < (words ? node->words : node->refs) ? LXR_OK : LXR_E_INDEX;
 }
 
 static void play_load(struct player *player) {
     uint32_t dest = own(player), base = own(player), index = below(player, MOST_FIELDS);
     bool fits = dest < LXR_REGISTERS && base < LXR_REGISTERS;
-    uint32_t wanted = fits ? field_code(player, base, index, false) : LXR_REGISTER;
-    agree(player, "load", lxr_thread_load(player->thread, dest, base, index), wanted);
+    uint32_t wanted = fits ? field_code(player, base, index, false) : LXR_E_REGISTER;
+    agree(player, "load", lxr_mutator_load(player->mutator, dest, base, index), wanted);
     if (wanted == LXR_OK) player->registers[dest] = player->registers[base]->ref[index];
 }
 
 static void play_store(struct player *player) {
     uint32_t base = own(player), index = below(player, MOST_FIELDS), source = own(player);
     bool fits = source < LXR_REGISTERS && base < LXR_REGISTERS;
-    uint32_t wanted = fits ? field_code(player, base, index, false) : LXR_REGISTER;
-    agree(player, "store", lxr_thread_store(player->thread, base, index, source), wanted);
+    uint32_t wanted = fits ? field_code(player, base, index, false) : LXR_E_REGISTER;
+    agree(player, "store", lxr_mutator_store(player->mutator, base, index, source), wanted);
     if (wanted == LXR_OK) player->registers[base]->ref[index] = player->registers[source];
 }
 
 static void play_swap(struct player *player) {
     uint32_t dest = own(player), base = own(player), index = below(player, MOST_FIELDS), source = own(player);
     bool fits = dest < LXR_REGISTERS && source < LXR_REGISTERS && base < LXR_REGISTERS;
-    uint32_t wanted = fits ? field_code(player, base, index, false) : LXR_REGISTER;
-    agree(player, "swap", lxr_thread_swap(player->thread, dest, base, index, source), wanted);
+    uint32_t wanted = fits ? field_code(player, base, index, false) : LXR_E_REGISTER;
+    agree(player, "swap", lxr_mutator_swap(player->mutator, dest, base, index, source), wanted);
     if (wanted != LXR_OK) return;
     struct node *it = player->registers[base], *old = it->ref[index];
     it->ref[index] = player->registers[source];
@@ -188,10 +186,10 @@ static void play_swap(struct player *player) {
 static void play_word(struct player *player) {
     uint32_t base = own(player), index = below(player, MOST_FIELDS), which = below(player, 3);
     uint64_t word = draw(&player->dice), old = 0xA5A5;
-    uint32_t wanted = base < LXR_REGISTERS ? field_code(player, base, index, true) : LXR_REGISTER;
-    uint32_t code = which == 0   ? lxr_thread_get(player->thread, base, index, &old)
-                    : which == 1 ? lxr_thread_add(player->thread, base, index, word, &old)
-                                 : lxr_thread_put(player->thread, base, index, word);
+    uint32_t wanted = base < LXR_REGISTERS ? field_code(player, base, index, true) : LXR_E_REGISTER;
+    lxr_code code = which == 0   ? lxr_mutator_get(player->mutator, base, index, &old)
+                    : which == 1 ? lxr_mutator_add(player->mutator, base, index, word, &old)
+                                 : lxr_mutator_put(player->mutator, base, index, word);
     agree(player, "get, add or put", code, wanted);
     uint64_t *there = wanted == LXR_OK ? &player->registers[base]->word[index] : NULL;
     agree(player, "the word of get or add", old, there && which < 2 ? *there : 0xA5A5);
@@ -204,15 +202,15 @@ static void play_registers(struct player *player) {
     bool fits = dest < LXR_REGISTERS && source < LXR_REGISTERS;
     switch (below(player, 3)) {
     case 0:
-        agree(player, "move", lxr_thread_move(player->thread, dest, source), fits ? LXR_OK : LXR_REGISTER);
+        agree(player, "move", lxr_mutator_move(player->mutator, dest, source), fits ? LXR_OK : LXR_E_REGISTER);
         if (fits) player->registers[dest] = player->registers[source];
         break;
     case 1:
-        agree(player, "nil", lxr_thread_nil(player->thread, dest), dest < LXR_REGISTERS ? LXR_OK : LXR_REGISTER);
+        agree(player, "nil", lxr_mutator_nil(player->mutator, dest), dest < LXR_REGISTERS ? LXR_OK : LXR_E_REGISTER);
         if (dest < LXR_REGISTERS) player->registers[dest] = NULL;
         break;
     default:
-        agree(player, "same", lxr_thread_same(player->thread, dest, source, &same), fits ? LXR_OK : LXR_REGISTER);
+        agree(player, "same", lxr_mutator_same(player->mutator, dest, source, &same), fits ? LXR_OK : LXR_E_REGISTER);
         agree(player, "same", same, fits ? player->registers[dest] == player->registers[source] : 7);
     }
 }
@@ -222,24 +220,24 @@ static void play_registers(struct player *player) {
 /* The token in the thread's register for it is the one that it holds. */
 static void see_token(struct player *player) {
     uint64_t word = 0;
-    uint32_t code = lxr_thread_get(player->thread, TOKEN, 0, &word);
-    if (code != LXR_NIL) done(player, "get of a token", code);
+    lxr_code code = lxr_mutator_get(player->mutator, TOKEN, 0, &word);
+    if (code != LXR_E_NIL) done(player, "get of a token", code);
     player->token = word;
     if (word > now.tokens) differ(player, "there is no token %" PRIu64, word);
 }
 
 static void play_token(struct player *player) {
     uint64_t word = 0, before = player->token;
-    if (before) done(player, "get of a token", lxr_thread_get(player->thread, TOKEN, 0, &word));
+    if (before) done(player, "get of a token", lxr_mutator_get(player->mutator, TOKEN, 0, &word));
     agree(player, "the token that is held", word, before);
-    done(player, "swap of a token", lxr_thread_swap(player->thread, TOKEN, WORLD, below(player, TOKEN_PLACES), TOKEN));
+    done(player, "swap of a token", lxr_mutator_swap(player->mutator, TOKEN, WORLD, below(player, TOKEN_PLACES), TOKEN));
     see_token(player);
 }
 
 /* Puts the token back, into a place that may have one; then that is the one that is held. */
 static void bring_token(struct player *player) {
     for (uint32_t at = 0; player->token; at = (at + 1) % TOKEN_PLACES) {
-        done(player, "swap of a token", lxr_thread_swap(player->thread, TOKEN, WORLD, at, TOKEN));
+        done(player, "swap of a token", lxr_mutator_swap(player->mutator, TOKEN, WORLD, at, TOKEN));
         see_token(player);
     }
 }
@@ -247,8 +245,8 @@ static void bring_token(struct player *player) {
 static void play_counter(struct player *player) {
     uint32_t at = below(player, COUNTER_WORDS);
     uint64_t by = below(player, 100) + 1, old = 0;
-    done(player, "load of the counter", lxr_thread_load(player->thread, COUNTER, WORLD, COUNTER_PLACE));
-    done(player, "add to the counter", lxr_thread_add(player->thread, COUNTER, at, by, &old));
+    done(player, "load of the counter", lxr_mutator_load(player->mutator, COUNTER, WORLD, COUNTER_PLACE));
+    done(player, "add to the counter", lxr_mutator_add(player->mutator, COUNTER, at, by, &old));
     if (old < player->least[at]) differ(player, "a counter fell");
     player->least[at] = old + by;
     player->adds[at] += by;
@@ -256,26 +254,26 @@ static void play_counter(struct player *player) {
 
 static void publish(struct player *player) {
     uint64_t word = ++player->published;
-    uint32_t code = lxr_thread_new(player->thread, FOUND, 1, 2);
-    if (code == LXR_FULL) {
+    lxr_code code = lxr_mutator_new(player->mutator, FOUND, 1, 2);
+    if (code == LXR_E_FULL) {
         let_go(player);
         return;
     }
     done(player, "new of an object to publish", code);
-    done(player, "put", lxr_thread_put(player->thread, FOUND, 0, word));
-    done(player, "put", lxr_thread_put(player->thread, FOUND, 1, seal(player->number, word)));
-    done(player, "store", lxr_thread_store(player->thread, WORLD, PUBLISHED + player->number, FOUND));
-    if (one_in(player, 2)) done(player, "nil", lxr_thread_nil(player->thread, FOUND));
+    done(player, "put", lxr_mutator_put(player->mutator, FOUND, 0, word));
+    done(player, "put", lxr_mutator_put(player->mutator, FOUND, 1, seal(player->number, word)));
+    done(player, "store", lxr_mutator_store(player->mutator, WORLD, PUBLISHED + player->number, FOUND));
+    if (one_in(player, 2)) done(player, "nil", lxr_mutator_nil(player->mutator, FOUND));
 }
 
 static void find_published(struct player *player) {
     uint32_t owner = below(player, now.players);
     uint64_t word = 0, sealed = 0;
-    done(player, "load", lxr_thread_load(player->thread, FOUND, WORLD, PUBLISHED + owner));
-    uint32_t code = lxr_thread_get(player->thread, FOUND, 0, &word);
-    if (code == LXR_NIL && player->seen[owner] == 0) return;
+    done(player, "load", lxr_mutator_load(player->mutator, FOUND, WORLD, PUBLISHED + owner));
+    lxr_code code = lxr_mutator_get(player->mutator, FOUND, 0, &word);
+    if (code == LXR_E_NIL && player->seen[owner] == 0) return;
     done(player, "get of a published object", code);
-    done(player, "get of a published object", lxr_thread_get(player->thread, FOUND, 1, &sealed));
+    done(player, "get of a published object", lxr_mutator_get(player->mutator, FOUND, 1, &sealed));
     agree(player, "what a published object has", sealed, seal(owner, word));
     if (word < player->seen[owner]) differ(player, "an older object of thread %" PRIu32 " is found", owner);
     player->seen[owner] = word;
@@ -284,49 +282,49 @@ static void find_published(struct player *player) {
 /* ---- Threads that come and go ---- */
 
 static void enter(struct player *player) {
-    uint32_t code = LXR_NUMBER;
-    while (code == LXR_NUMBER) {
-        code = lxr_thread_enter(now.heap, &player->thread);
-        if (code == LXR_NUMBER) nap(player);
+    lxr_code code = LXR_E_NUMBER;
+    while (code == LXR_E_NUMBER) {
+        code = lxr_mutator_enter(now.heap, &player->mutator);
+        if (code == LXR_E_NUMBER) nap(player);
     }
     done(player, "enter", code);
     uint32_t same = 0;
     for (uint32_t at = 1; at < LXR_REGISTERS; at++) {
-        done(player, "same", lxr_thread_same(player->thread, at, NIL_REGISTER, &same));
+        done(player, "same", lxr_mutator_same(player->mutator, at, NIL_REGISTER, &same));
         agree(player, "a register of a thread that has entered", same, 1);
     }
-    done(player, "same", lxr_thread_same(player->thread, WORLD, NIL_REGISTER, &same));
+    done(player, "same", lxr_mutator_same(player->mutator, WORLD, NIL_REGISTER, &same));
     agree(player, "the world of a thread that has entered", same, 0);
 }
 
 static void leave(struct player *player, bool rests) {
     bring_token(player);
     drop_own(player);
-    if (rests) done(player, "rest", lxr_thread_rest(player->thread));
-    done(player, "leave", lxr_thread_leave(&player->thread));
-    agree(player, "a thread that has left", lxr_thread_leave(&player->thread), LXR_NO_HEAP);
+    if (rests) done(player, "rest", lxr_mutator_rest(player->mutator));
+    done(player, "leave", lxr_mutator_leave(&player->mutator));
+    agree(player, "a thread that has left", lxr_mutator_leave(&player->mutator), LXR_E_NO_HEAP);
 }
 
 static void rest(struct player *player) {
-    done(player, "rest", lxr_thread_rest(player->thread));
-    agree(player, "an operation at rest", lxr_thread_nil(player->thread, OWN), LXR_RESTS);
-    agree(player, "a rest at rest", lxr_thread_rest(player->thread), LXR_RESTS);
+    done(player, "rest", lxr_mutator_rest(player->mutator));
+    agree(player, "an operation at rest", lxr_mutator_nil(player->mutator, OWN), LXR_E_RESTS);
+    agree(player, "a rest at rest", lxr_mutator_rest(player->mutator), LXR_E_RESTS);
     if (one_in(player, 4)) nap(player);
-    done(player, "wake", lxr_thread_wake(player->thread));
-    agree(player, "a wake awake", lxr_thread_wake(player->thread), LXR_AWAKE);
+    done(player, "wake", lxr_mutator_wake(player->mutator));
+    agree(player, "a wake awake", lxr_mutator_wake(player->mutator), LXR_E_AWAKE);
 }
 
 static void play_rarely(struct player *player) {
     player->pauses++;
     switch (below(player, 8)) {
-    case 0: done(player, "pause", lxr_thread_pause(player->thread)); break;
-    case 1: done(player, "collect", lxr_thread_collect(player->thread)); break;
+    case 0: done(player, "pause", lxr_mutator_pause(player->mutator)); break;
+    case 1: done(player, "collect", lxr_mutator_collect(player->mutator)); break;
     case 2: nap(player); break;
     case 3:
         leave(player, one_in(player, 2));
         enter(player);
         break;
-    case 4: agree(player, "a write to the world's register", lxr_thread_nil(player->thread, WORLD), LXR_REGISTER); break;
+    case 4: agree(player, "a write to the world's register", lxr_mutator_nil(player->mutator, WORLD), LXR_E_REGISTER); break;
     default: rest(player);
     }
 }
@@ -348,7 +346,7 @@ static void play_once(struct player *player) {
     case 10: publish(player); break;
     default: find_published(player);
     }
-    if (one_in(player, 50)) done(player, "poll", lxr_thread_poll(player->thread));
+    if (one_in(player, 50)) done(player, "poll", lxr_mutator_poll(player->mutator));
 }
 
 static void *play(void *with) {
@@ -363,8 +361,8 @@ static void *play(void *with) {
 
 /* Makes an object in a heap that has room for it; the mock of the archive may say once and again that it is full. */
 static void make_object(struct player *player, uint32_t dest, uint32_t words) {
-    uint32_t code = LXR_FULL;
-    for (uint32_t left = 100; code == LXR_FULL && left--;) code = lxr_thread_new(player->thread, dest, 0, words);
+    lxr_code code = LXR_E_FULL;
+    for (uint32_t left = 100; code == LXR_E_FULL && left--;) code = lxr_mutator_new(player->mutator, dest, 0, words);
     done(player, "new", code);
 }
 
@@ -372,14 +370,14 @@ static void make_object(struct player *player, uint32_t dest, uint32_t words) {
 static void set_out(struct player *player) {
     enter(player);
     make_object(player, COUNTER, COUNTER_WORDS);
-    done(player, "store", lxr_thread_store(player->thread, WORLD, COUNTER_PLACE, COUNTER));
+    done(player, "store", lxr_mutator_store(player->mutator, WORLD, COUNTER_PLACE, COUNTER));
     for (uint32_t at = 0; at < now.tokens; at++) {
         make_object(player, TOKEN, 1);
-        done(player, "put", lxr_thread_put(player->thread, TOKEN, 0, at + 1));
-        done(player, "store", lxr_thread_store(player->thread, WORLD, at, TOKEN));
+        done(player, "put", lxr_mutator_put(player->mutator, TOKEN, 0, at + 1));
+        done(player, "store", lxr_mutator_store(player->mutator, WORLD, at, TOKEN));
     }
-    done(player, "nil", lxr_thread_nil(player->thread, TOKEN));
-    done(player, "leave", lxr_thread_leave(&player->thread));
+    done(player, "nil", lxr_mutator_nil(player->mutator, TOKEN));
+    done(player, "leave", lxr_mutator_leave(&player->mutator));
 }
 
 /* What stands there as it ends: each token once, and all that was added. */
@@ -387,38 +385,38 @@ static void take_stock(struct player *player) {
     uint64_t word = 0, found = 0;
     enter(player);
     for (uint32_t at = 0; at < TOKEN_PLACES; at++) {
-        done(player, "load", lxr_thread_load(player->thread, TOKEN, WORLD, at));
-        uint32_t code = lxr_thread_get(player->thread, TOKEN, 0, &word);
-        if (code == LXR_NIL) continue;
+        done(player, "load", lxr_mutator_load(player->mutator, TOKEN, WORLD, at));
+        lxr_code code = lxr_mutator_get(player->mutator, TOKEN, 0, &word);
+        if (code == LXR_E_NIL) continue;
         done(player, "get", code);
         if (found & (UINT64_C(1) << word)) differ(player, "token %" PRIu64 " is in two places", word);
         found |= UINT64_C(1) << word;
     }
     agree(player, "the tokens that are left", found, ((UINT64_C(1) << now.tokens) - 1) << 1);
-    done(player, "load", lxr_thread_load(player->thread, COUNTER, WORLD, COUNTER_PLACE));
+    done(player, "load", lxr_mutator_load(player->mutator, COUNTER, WORLD, COUNTER_PLACE));
     for (uint32_t at = 0; at < COUNTER_WORDS; at++) {
         uint64_t sum = 0;
         for (uint32_t it = 0; it < now.players; it++) sum += now.player[it].adds[at];
-        done(player, "get", lxr_thread_get(player->thread, COUNTER, at, &word));
+        done(player, "get", lxr_mutator_get(player->mutator, COUNTER, at, &word));
         agree(player, "the sum of a counter", word, sum);
     }
-    done(player, "leave", lxr_thread_leave(&player->thread));
+    done(player, "leave", lxr_mutator_leave(&player->mutator));
 }
 
-static lxr_threads_settings draw_settings(uint64_t *dice) {
-    lxr_threads_settings settings = LXR_THREADS_SETTINGS(8 + (uint32_t)draw(dice) % 24, now.players);
+static lxr_shared_heap_settings draw_settings(uint64_t *dice) {
+    lxr_shared_heap_settings settings = LXR_SHARED_HEAP_SETTINGS(8 + (uint32_t)draw(dice) % 24, now.players);
     settings.helpers = (uint32_t)draw(dice) % 3;
     settings.every = RENEWS ? 20 + (uint32_t)draw(dice) % 100 : draw(dice) % 2 ? 20 + (uint32_t)draw(dice) % 500 : 65536;
     settings.log = draw(dice) % 2 ? 8 : 1024;
     settings.trace = 1 + (uint32_t)draw(dice) % 8;
     settings.within = 1 + (uint32_t)draw(dice) % 4;
-    if (now.players > 2 && draw(dice) % 4 == 0) settings.threads = now.players - 1;
+    if (now.players > 2 && draw(dice) % 4 == 0) settings.mutators = now.players - 1;
     return settings;
 }
 
 static void count_round(struct player *keeper) {
     uint64_t number = 0;
-    done(keeper, "count", lxr_threads_count(now.heap, LXR_PAUSES, &number));
+    done(keeper, "count", lxr_shared_heap_count(now.heap, LXR_COUNT_PAUSES, &number));
     sums.pauses += number;
     sums.rounds++;
     for (uint32_t at = 0; at < now.players; at++) {
@@ -432,11 +430,11 @@ static void play_round(uint64_t seed) {
     struct player keeper = { .number = 99, .dice = seed };
     memset(&now, 0, sizeof now);
     now.seed = seed;
-    now.players = 1 + (uint32_t)draw(&dice) % LXR_MOST_THREADS;
+    now.players = 1 + (uint32_t)draw(&dice) % LXR_MOST_MUTATORS;
     now.tokens = (uint32_t)draw(&dice) % TOKEN_PLACES;
-    lxr_threads_settings settings = draw_settings(&dice);
-    pthread_t threads[LXR_MOST_THREADS];
-    done(&keeper, "open", lxr_threads_open(&now.heap, &settings));
+    lxr_shared_heap_settings settings = draw_settings(&dice);
+    pthread_t threads[LXR_MOST_MUTATORS];
+    done(&keeper, "open", lxr_shared_heap_open(&now.heap, &settings));
     set_out(&keeper);
     for (uint32_t at = 0; at < now.players; at++) {
         now.player[at].number = at;
@@ -446,7 +444,7 @@ static void play_round(uint64_t seed) {
     for (uint32_t at = 0; at < now.players; at++) pthread_join(threads[at], NULL);
     take_stock(&keeper);
     count_round(&keeper);
-    done(&keeper, "close", lxr_threads_close(&now.heap));
+    done(&keeper, "close", lxr_shared_heap_close(&now.heap));
 }
 
 int main(int count, char **words) {

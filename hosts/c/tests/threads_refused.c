@@ -2,8 +2,8 @@
  * threads_refused.c: what a heap that threads share does where memory is refused. SPDX: MIT OR Apache-2.0
  *
  * Linked with -Wl,--wrap=malloc,--wrap=calloc,--wrap=realloc,--wrap=free, so that each request of the library's and the archive's comes
- * through here. The Nth request is refused, and all behind it, for N from 0 until none is: then an opening or an entering says LXR_MEMORY,
- * or operations say LXR_LOST, behind a pause; the thread can leave, the heap can be closed, and all memory is returned.
+ * through here. The Nth request is refused, and all behind it, for N from 0 until none is: then an opening or an entering says
+ * LXR_E_MEMORY, or operations say LXR_E_LOST, behind a pause; the thread can leave, the heap can be closed, and all memory is returned.
  */
 #include "../lxr_threads.h"
 
@@ -67,48 +67,48 @@ static void check(bool holds, const char *what) {
 }
 
 /* Whether an operation was done; else the heap is lost, which it is for want of memory alone. */
-static bool is_done(uint32_t code) {
-    if (code == LXR_OK || code == LXR_FULL || code == LXR_NIL) return true;
-    check(code == LXR_LOST && memory.refused, "an operation says something else than LXR_LOST");
+static bool is_done(lxr_code code) {
+    if (code == LXR_OK || code == LXR_E_FULL || code == LXR_E_NIL) return true;
+    check(code == LXR_E_LOST && memory.refused, "an operation says something else than LXR_E_LOST");
     return false;
 }
 
 /* Makes objects and pauses; whether it came to the end. */
-static bool live(lxr_thread *thread) {
+static bool live(lxr_mutator *mutator) {
     for (uint32_t at = 0; at < 60; at++) {
-        if (!is_done(lxr_thread_new(thread, 1, 2, 40))) return false;
-        if (!is_done(lxr_thread_store(thread, 1, 0, 2))) return false;
-        if (!is_done(lxr_thread_move(thread, 2, 1))) return false;
-        if (at % 10 == 5 && !is_done(lxr_thread_pause(thread))) return false;
-        if (at % 20 == 5 && !is_done(lxr_thread_collect(thread))) return false;
-        if (at % 12 == 7 && (!is_done(lxr_thread_rest(thread)) || !is_done(lxr_thread_wake(thread)))) return false;
+        if (!is_done(lxr_mutator_new(mutator, 1, 2, 40))) return false;
+        if (!is_done(lxr_mutator_store(mutator, 1, 0, 2))) return false;
+        if (!is_done(lxr_mutator_move(mutator, 2, 1))) return false;
+        if (at % 10 == 5 && !is_done(lxr_mutator_pause(mutator))) return false;
+        if (at % 20 == 5 && !is_done(lxr_mutator_collect(mutator))) return false;
+        if (at % 12 == 7 && (!is_done(lxr_mutator_rest(mutator)) || !is_done(lxr_mutator_wake(mutator)))) return false;
     }
     return true;
 }
 
 /* A heap that is lost says so to every operation. */
-static void see_loss(lxr_thread *thread) {
-    check(lxr_thread_nil(thread, 1) == LXR_LOST, "nil in a heap that is lost");
-    check(lxr_thread_rest(thread) == LXR_LOST, "rest in a heap that is lost");
-    check(lxr_thread_poll(thread) == LXR_LOST, "poll in a heap that is lost");
-    check(lxr_thread_wake(thread) == LXR_LOST, "wake in a heap that is lost");
+static void see_loss(lxr_mutator *mutator) {
+    check(lxr_mutator_nil(mutator, 1) == LXR_E_LOST, "nil in a heap that is lost");
+    check(lxr_mutator_rest(mutator) == LXR_E_LOST, "rest in a heap that is lost");
+    check(lxr_mutator_poll(mutator) == LXR_E_LOST, "poll in a heap that is lost");
+    check(lxr_mutator_wake(mutator) == LXR_E_LOST, "wake in a heap that is lost");
 }
 
 /* Opens a heap, and lives in it for a while; whether no request was refused. */
 static bool is_enough(void) {
-    lxr_threads *heap = NULL;
-    lxr_thread *thread = NULL;
-    const lxr_threads_settings settings = LXR_THREADS_SETTINGS(8, 2);
-    uint32_t code = lxr_threads_open(&heap, &settings);
-    check(code == (heap ? LXR_OK : LXR_MEMORY), "an opening says something else than LXR_MEMORY");
+    lxr_shared_heap *heap = NULL;
+    lxr_mutator *mutator = NULL;
+    const lxr_shared_heap_settings settings = LXR_SHARED_HEAP_SETTINGS(8, 2);
+    lxr_code code = lxr_shared_heap_open(&heap, &settings);
+    check(code == (heap ? LXR_OK : LXR_E_MEMORY), "an opening says something else than LXR_E_MEMORY");
     if (!heap) return false;
-    code = lxr_thread_enter(heap, &thread);
-    check(code == (thread ? LXR_OK : LXR_MEMORY), "an entering says something else than LXR_MEMORY");
-    if (thread) {
-        if (!live(thread)) see_loss(thread);
-        check(lxr_thread_leave(&thread) == LXR_OK, "a thread can't leave");
+    code = lxr_mutator_enter(heap, &mutator);
+    check(code == (mutator ? LXR_OK : LXR_E_MEMORY), "an entering says something else than LXR_E_MEMORY");
+    if (mutator) {
+        if (!live(mutator)) see_loss(mutator);
+        check(lxr_mutator_leave(&mutator) == LXR_OK, "a thread can't leave");
     }
-    check(lxr_threads_close(&heap) == LXR_OK, "a heap can't be closed");
+    check(lxr_shared_heap_close(&heap) == LXR_OK, "a heap can't be closed");
     return !memory.refused;
 }
 

@@ -23,10 +23,10 @@ enum { MOCKED = 100 };
 enum { MOCKED = 1 };
 #endif
 
-static lxr_threads *heap;
+static lxr_shared_heap *heap;
 static uint32_t turns;
 
-static void done(uint32_t code, const char *what) {
+static void done(lxr_code code, const char *what) {
     if (code == LXR_OK) return;
     fprintf(stderr, "threads_waits: %s: %s\n", what, lxr_message(code));
     _Exit(1);
@@ -34,7 +34,7 @@ static void done(uint32_t code, const char *what) {
 
 static uint64_t count(uint32_t what) {
     uint64_t number = 0;
-    done(lxr_threads_count(heap, what, &number), "count");
+    done(lxr_shared_heap_count(heap, what, &number), "count");
     return number;
 }
 
@@ -44,24 +44,24 @@ static void nap(long microseconds) {
 }
 
 /* Makes an object in a heap that has room for it. */
-static void make(lxr_thread *thread, uint32_t dest, uint32_t refs, uint32_t words) {
-    uint32_t code = LXR_FULL;
-    for (uint32_t left = MOCKED; code == LXR_FULL && left--;) code = lxr_thread_new(thread, dest, refs, words);
+static void make(lxr_mutator *mutator, uint32_t dest, uint32_t refs, uint32_t words) {
+    lxr_code code = LXR_E_FULL;
+    for (uint32_t left = MOCKED; code == LXR_E_FULL && left--;) code = lxr_mutator_new(mutator, dest, refs, words);
     done(code, "new");
 }
 
 /* Opens a heap, lets so many threads do a thing each, and closes it. */
 static void together(uint32_t blocks, uint32_t places, uint32_t helpers, uint32_t threads, void *(*what)(void *)) {
-    lxr_threads_settings settings = LXR_THREADS_SETTINGS(blocks, places);
+    lxr_shared_heap_settings settings = LXR_SHARED_HEAP_SETTINGS(blocks, places);
     pthread_t started[2 * ALL];
     settings.helpers = helpers;
     turns = 0;
-    done(lxr_threads_open(&heap, &settings), "open");
+    done(lxr_shared_heap_open(&heap, &settings), "open");
     for (uint32_t at = 0; at < threads; at++) {
-        if (pthread_create(&started[at], NULL, what, NULL) != 0) done(LXR_MEMORY, "a further thread");
+        if (pthread_create(&started[at], NULL, what, NULL) != 0) done(LXR_E_MEMORY, "a further thread");
     }
     for (uint32_t at = 0; at < threads; at++) pthread_join(started[at], NULL);
-    done(lxr_threads_close(&heap), "close");
+    done(lxr_shared_heap_close(&heap), "close");
 }
 
 /* The number of the calling thread among those of `together`, from 0 on. */
@@ -78,33 +78,33 @@ static uint32_t take_turn(void) {
 static pthread_barrier_t begun;
 
 static void *pause_often(void *unused) {
-    lxr_thread *thread = NULL;
-    done(lxr_thread_enter(heap, &thread), "enter");
-    done(lxr_thread_rest(thread), "rest");
+    lxr_mutator *mutator = NULL;
+    done(lxr_mutator_enter(heap, &mutator), "enter");
+    done(lxr_mutator_rest(mutator), "rest");
     pthread_barrier_wait(&begun);
-    done(lxr_thread_wake(thread), "wake");
+    done(lxr_mutator_wake(mutator), "wake");
     for (uint32_t left = PAUSES; left--;) {
-        make(thread, 1, 1, 1);
-        done(lxr_thread_pause(thread), "pause");
+        make(mutator, 1, 1, 1);
+        done(lxr_mutator_pause(mutator), "pause");
     }
-    done(lxr_thread_leave(&thread), "leave");
+    done(lxr_mutator_leave(&mutator), "leave");
     return unused;
 }
 
 /* It keeps an object at rest, and finds it again. */
 static void *sleep_long(void *unused) {
-    lxr_thread *thread = NULL;
+    lxr_mutator *mutator = NULL;
     uint64_t word = 0;
-    done(lxr_thread_enter(heap, &thread), "enter");
-    make(thread, 1, 0, 1);
-    done(lxr_thread_put(thread, 1, 0, 42), "put");
-    done(lxr_thread_rest(thread), "rest");
+    done(lxr_mutator_enter(heap, &mutator), "enter");
+    make(mutator, 1, 0, 1);
+    done(lxr_mutator_put(mutator, 1, 0, 42), "put");
+    done(lxr_mutator_rest(mutator), "rest");
     pthread_barrier_wait(&begun);
-    while (count(LXR_PAUSES) < PAUSES) nap(200);
-    done(lxr_thread_wake(thread), "wake");
-    done(lxr_thread_get(thread, 1, 0, &word), "get");
-    if (word != 42) done(LXR_NIL, "what a thread kept that slept");
-    done(lxr_thread_leave(&thread), "leave");
+    while (count(LXR_COUNT_PAUSES) < PAUSES) nap(200);
+    done(lxr_mutator_wake(mutator), "wake");
+    done(lxr_mutator_get(mutator, 1, 0, &word), "get");
+    if (word != 42) done(LXR_E_NIL, "what a thread kept that slept");
+    done(lxr_mutator_leave(&mutator), "leave");
     return unused;
 }
 
@@ -120,34 +120,34 @@ static void try_sleep(void) {
 
 /* One asks for a pause; the other, which makes no operation, rests meanwhile. */
 static void *wait_or_rest(void *unused) {
-    lxr_thread *thread = NULL;
+    lxr_mutator *mutator = NULL;
     bool waits = take_turn() == 0;
-    done(lxr_thread_enter(heap, &thread), "enter");
+    done(lxr_mutator_enter(heap, &mutator), "enter");
     pthread_barrier_wait(&begun);
     if (waits) {
-        done(lxr_thread_pause(thread), "pause");
+        done(lxr_mutator_pause(mutator), "pause");
     } else {
         nap(2000);
-        done(lxr_thread_rest(thread), "rest");
-        while (count(LXR_PAUSES) == 0) nap(200);
-        done(lxr_thread_wake(thread), "wake");
+        done(lxr_mutator_rest(mutator), "rest");
+        while (count(LXR_COUNT_PAUSES) == 0) nap(200);
+        done(lxr_mutator_wake(mutator), "wake");
     }
-    done(lxr_thread_leave(&thread), "leave");
+    done(lxr_mutator_leave(&mutator), "leave");
     return unused;
 }
 
 /* One asks for a pause, and the other leaves. */
 static void *wait_or_leave(void *unused) {
-    lxr_thread *thread = NULL;
+    lxr_mutator *mutator = NULL;
     bool waits = take_turn() == 0;
-    done(lxr_thread_enter(heap, &thread), "enter");
+    done(lxr_mutator_enter(heap, &mutator), "enter");
     pthread_barrier_wait(&begun);
     if (waits) {
-        done(lxr_thread_pause(thread), "pause");
+        done(lxr_mutator_pause(mutator), "pause");
     } else {
         nap(2000);
     }
-    done(lxr_thread_leave(&thread), "leave");
+    done(lxr_mutator_leave(&mutator), "leave");
     return unused;
 }
 
@@ -162,22 +162,22 @@ static void try_last(void) {
 
 /* Makes a list until the heap is full, lets go of it, and makes a short one. */
 static void *fill(void *unused) {
-    lxr_thread *thread = NULL;
-    uint32_t code = LXR_OK;
+    lxr_mutator *mutator = NULL;
+    lxr_code code = LXR_OK;
     uint64_t made = 0;
-    done(lxr_thread_enter(heap, &thread), "enter");
+    done(lxr_mutator_enter(heap, &mutator), "enter");
     while (code == LXR_OK) {
-        code = lxr_thread_new(thread, 1, 1, 30);
+        code = lxr_mutator_new(mutator, 1, 1, 30);
         if (code != LXR_OK) break;
-        done(lxr_thread_store(thread, 1, 0, 2), "store");
-        done(lxr_thread_move(thread, 2, 1), "move");
+        done(lxr_mutator_store(mutator, 1, 0, 2), "store");
+        done(lxr_mutator_move(mutator, 2, 1), "move");
         made++;
     }
-    if (code != LXR_FULL) done(code, "new in a heap that fills");
-    done(lxr_thread_nil(thread, 1), "nil");
-    done(lxr_thread_nil(thread, 2), "nil");
-    while (lxr_thread_new(thread, 1, 1, 30) != LXR_OK) done(lxr_thread_poll(thread), "poll");
-    done(lxr_thread_leave(&thread), "leave");
+    if (code != LXR_E_FULL) done(code, "new in a heap that fills");
+    done(lxr_mutator_nil(mutator, 1), "nil");
+    done(lxr_mutator_nil(mutator, 2), "nil");
+    while (lxr_mutator_new(mutator, 1, 1, 30) != LXR_OK) done(lxr_mutator_poll(mutator), "poll");
+    done(lxr_mutator_leave(&mutator), "leave");
     return unused;
 }
 
@@ -185,26 +185,26 @@ static void *fill(void *unused) {
 
 /* Without an operation of its own it comes to each pause that others ask for. */
 static void *poll_or_pause(void *unused) {
-    lxr_thread *thread = NULL;
+    lxr_mutator *mutator = NULL;
     bool polls = take_turn() % 2 == 0;
-    done(lxr_thread_enter(heap, &thread), "enter");
-    while (count(LXR_PAUSES) < POLLED) done(polls ? lxr_thread_poll(thread) : lxr_thread_pause(thread), "poll or pause");
-    done(lxr_thread_leave(&thread), "leave");
+    done(lxr_mutator_enter(heap, &mutator), "enter");
+    while (count(LXR_COUNT_PAUSES) < POLLED) done(polls ? lxr_mutator_poll(mutator) : lxr_mutator_pause(mutator), "poll or pause");
+    done(lxr_mutator_leave(&mutator), "leave");
     return unused;
 }
 
 static void *visit(void *unused) {
     for (uint32_t left = VISITS; left--;) {
-        lxr_thread *thread = NULL;
-        uint32_t code = LXR_NUMBER;
-        while (code == LXR_NUMBER) {
-            code = lxr_thread_enter(heap, &thread);
-            if (code == LXR_NUMBER) nap(20);
+        lxr_mutator *mutator = NULL;
+        lxr_code code = LXR_E_NUMBER;
+        while (code == LXR_E_NUMBER) {
+            code = lxr_mutator_enter(heap, &mutator);
+            if (code == LXR_E_NUMBER) nap(20);
         }
         done(code, "enter");
-        make(thread, 1 + left % 15, 2, 2);
-        if (left % 5 == 0) done(lxr_thread_pause(thread), "pause");
-        done(lxr_thread_leave(&thread), "leave");
+        make(mutator, 1 + left % 15, 2, 2);
+        if (left % 5 == 0) done(lxr_mutator_pause(mutator), "pause");
+        done(lxr_mutator_leave(&mutator), "leave");
     }
     return unused;
 }
@@ -213,18 +213,18 @@ static void *visit(void *unused) {
 
 /* Each asks for pauses, and the first, or each, for collecting ones, which have to be made. */
 static void *ask_at_once(uint32_t collectors) {
-    lxr_thread *thread = NULL;
+    lxr_mutator *mutator = NULL;
     bool collects = take_turn() < collectors;
-    done(lxr_thread_enter(heap, &thread), "enter");
+    done(lxr_mutator_enter(heap, &mutator), "enter");
     for (uint32_t left = ASKED; left--;) {
-        done(lxr_thread_pause(thread), "pause");
+        done(lxr_mutator_pause(mutator), "pause");
         if (!collects) continue;
         nap(100); /* so that others have asked for a plain one */
-        uint64_t before = count(LXR_COLLECTED);
-        done(lxr_thread_collect(thread), "collect");
-        if (count(LXR_COLLECTED) == before) done(LXR_NOT_WANTED, "a collecting pause");
+        uint64_t before = count(LXR_COUNT_COLLECTING);
+        done(lxr_mutator_collect(mutator), "collect");
+        if (count(LXR_COUNT_COLLECTING) == before) done(LXR_E_NOT_WANTED, "a collecting pause");
     }
-    done(lxr_thread_leave(&thread), "leave");
+    done(lxr_mutator_leave(&mutator), "leave");
     return NULL;
 }
 

@@ -27,8 +27,7 @@ void check(bool holds, const char* what, int line) {
 #define CHECK(what) check(static_cast<bool>(what), #what, __LINE__)
 
 /// Whether a call throws an error of such a code.
-template <typename Call>
-bool throws(lxr::errc code, Call call) {
+template <typename Call> bool throws(lxr::errc code, Call call) {
     try {
         call();
     } catch (const lxr::error& thrown) {
@@ -52,7 +51,7 @@ lxr::root list_of(lxr::heap& heap, std::uint64_t end) {
 void lists() {
     lxr::heap heap(2);
     lxr::root list = list_of(heap, 200);
-    for (int garbage = 0; garbage < 20000; ++garbage) heap.make(1, 8);
+    for (int garbage = 0; garbage < 20000; ++garbage) (void)heap.make(1, 8);
     CHECK(heap.pauses() > 0);
     lxr::root at = list.copy();
     CHECK(at.same(list));
@@ -69,7 +68,7 @@ void roots() {
     lxr::heap heap(1);
     std::vector<lxr::root> held;
     for (int at = 0; at < 14; ++at) held.push_back(heap.make(0, 1));
-    CHECK(throws(lxr::errc::no_register, [&] { heap.make(0, 1); }));
+    CHECK(throws(lxr::errc::no_register, [&] { (void)(heap.make(0, 1)); }));
     held.pop_back();
     lxr::root made = heap.make(2, 0);
     lxr::root moved = std::move(made);
@@ -109,8 +108,8 @@ void large_objects() {
     body.body_put(3001, 4);
     body.body_read(3000, found.data(), found.size());
     CHECK(found[0] == 3 && found[1] == 4 && found[4999] == 3 && body.body_get(2999) == 0);
-    CHECK(throws(lxr::errc::index, [&] { body.body_write(3193, words.data(), words.size()); }));
-    CHECK(throws(lxr::errc::full, [&] { heap.make_large(4); }));
+    CHECK(throws(lxr::errc::index, [&] { (void)(body.body_write(3193, words.data(), words.size())); }));
+    CHECK(throws(lxr::errc::full, [&] { (void)(heap.make_large(4)); }));
     CHECK(!heap.try_make_large(4) && heap.try_make_large(3));
     CHECK(heap.free_body_bytes() == 0);
 }
@@ -119,15 +118,15 @@ void errors() {
     lxr::heap heap(1), other(1);
     lxr::root nil, pair = heap.make(1, 1), foreign = other.make(1, 1);
     CHECK(throws(lxr::errc::size, [] { lxr::heap none(0); }));
-    CHECK(throws(lxr::errc::size, [&] { heap.make(1024, 0); }));
-    CHECK(throws(lxr::errc::nil, [&] { nil.load(0); }));
-    CHECK(throws(lxr::errc::nil, [&] { pair.load(0).get(0); }));
-    CHECK(throws(lxr::errc::index, [&] { pair.get(1); }));
-    CHECK(throws(lxr::errc::index, [&] { pair.load(1); }));
-    CHECK(throws(lxr::errc::no_register, [&] { pair.store(0, foreign); }));
+    CHECK(throws(lxr::errc::size, [&] { (void)(heap.make(1024, 0)); }));
+    CHECK(throws(lxr::errc::nil, [&] { (void)(nil.load(0)); }));
+    CHECK(throws(lxr::errc::nil, [&] { (void)(pair.load(0).get(0)); }));
+    CHECK(throws(lxr::errc::index, [&] { (void)(pair.get(1)); }));
+    CHECK(throws(lxr::errc::index, [&] { (void)(pair.load(1)); }));
+    CHECK(throws(lxr::errc::no_register, [&] { (void)(pair.store(0, foreign)); }));
     CHECK(!pair.same(foreign) && !pair.load(0));
     CHECK(make_error_code(lxr::errc::full) == std::errc::not_enough_memory);
-    CHECK(lxr::error(lxr::errc::full).code().message() == lxr_message(LXR_FULL));
+    CHECK(lxr::error(lxr::errc::full).code().message() == lxr_message(LXR_E_FULL));
 }
 
 void moved_heaps() {
@@ -135,7 +134,7 @@ void moved_heaps() {
     lxr::root kept = heap.make(0, 1);
     kept.put(0, 5);
     lxr::heap moved = std::move(heap);
-    CHECK(throws(lxr::errc::no_heap, [&] { heap.make(0, 0); }));
+    CHECK(throws(lxr::errc::no_heap, [&] { (void)(heap.make(0, 0)); }));
     moved.collect();
     CHECK(moved.live() == 1 && kept.get(0) == 5);
     kept.reset();
@@ -152,7 +151,7 @@ void full_heaps() {
         list = std::move(pair);
     }
     CHECK(made == 125 && heap.live() == made);
-    heap.pause_every(10);
+    heap.set_pace(160);
     list.reset();
     CHECK(heap.try_make(1023, 1023));
 }

@@ -12,14 +12,14 @@
 #include <utility>
 #include <vector>
 
-static_assert(!std::is_copy_constructible_v<lxr::threads> && !std::is_copy_assignable_v<lxr::threads>);
-static_assert(std::is_nothrow_move_constructible_v<lxr::threads> && std::is_nothrow_move_assignable_v<lxr::threads>);
-static_assert(!std::is_copy_constructible_v<lxr::thread> && !std::is_copy_assignable_v<lxr::thread>);
-static_assert(std::is_nothrow_move_constructible_v<lxr::thread> && std::is_nothrow_move_assignable_v<lxr::thread>);
+static_assert(!std::is_copy_constructible_v<lxr::shared_heap> && !std::is_copy_assignable_v<lxr::shared_heap>);
+static_assert(std::is_nothrow_move_constructible_v<lxr::shared_heap> && std::is_nothrow_move_assignable_v<lxr::shared_heap>);
+static_assert(!std::is_copy_constructible_v<lxr::mutator> && !std::is_copy_assignable_v<lxr::mutator>);
+static_assert(std::is_nothrow_move_constructible_v<lxr::mutator> && std::is_nothrow_move_assignable_v<lxr::mutator>);
 static_assert(!std::is_copy_constructible_v<lxr::local> && !std::is_copy_assignable_v<lxr::local>);
 static_assert(std::is_nothrow_move_constructible_v<lxr::local> && std::is_nothrow_move_assignable_v<lxr::local>);
 static_assert(!std::is_move_constructible_v<lxr::resting> && !std::is_copy_constructible_v<lxr::resting>);
-static_assert(std::is_nothrow_destructible_v<lxr::thread> && std::is_nothrow_destructible_v<lxr::local>);
+static_assert(std::is_nothrow_destructible_v<lxr::mutator> && std::is_nothrow_destructible_v<lxr::local>);
 
 namespace {
 
@@ -33,8 +33,7 @@ void check(bool holds, const char* what, int line) {
 #define CHECK(what) check(static_cast<bool>(what), #what, __LINE__)
 
 /// Whether a call throws an error of such a code.
-template <typename Call>
-bool throws(lxr::errc code, Call call) {
+template <typename Call> bool throws(lxr::errc code, Call call) {
     try {
         call();
     } catch (const lxr::error& thrown) {
@@ -44,8 +43,7 @@ bool throws(lxr::errc code, Call call) {
 }
 
 /// Runs a function on so many threads, each told its number, and throws what the first of them threw.
-template <typename Work>
-void on_threads(unsigned count, Work work) {
+template <typename Work> void on_threads(unsigned count, Work work) {
     std::vector<std::exception_ptr> thrown(count);
     std::vector<std::thread> running;
     for (unsigned number = 0; number < count; ++number) {
@@ -71,9 +69,9 @@ enum : std::uint32_t { last = 0, first = 1, counters = 2, own = 8 };
 
 /// Each thread has a list of its own, and makes much garbage: it finds its list as it was.
 void own_lists() {
-    lxr::threads heap(8, hosts);
+    lxr::shared_heap heap(8, hosts);
     on_threads(hosts, [&](unsigned number) {
-        lxr::thread self(heap);
+        lxr::mutator self(heap);
         lxr::local list;
         for (std::uint64_t n = 0; n < rounds; ++n) {
             lxr::local pair = self.make(1, 2);
@@ -91,8 +89,8 @@ void own_lists() {
 
 /// All threads append to one queue: `exchange` puts an object at its end, and the one that stood there is linked to it.
 void one_queue() {
-    lxr::threads heap(8, hosts + 1);
-    lxr::thread self(heap);
+    lxr::shared_heap heap(8, hosts + 1);
+    lxr::mutator self(heap);
     {
         const lxr::local stub = self.make(1, 1);
         self.world().store(last, stub);
@@ -101,7 +99,7 @@ void one_queue() {
     {
         const lxr::resting rest(self);
         on_threads(hosts, [&](unsigned number) {
-            lxr::thread other(heap);
+            lxr::mutator other(heap);
             for (std::uint64_t n = 0; n < rounds; ++n) {
                 lxr::local node = other.make(1, 1);
                 if (n % listed != 0) continue;
@@ -122,13 +120,13 @@ void one_queue() {
 
 /// All threads add to the same words, and each sees them grow.
 void one_counter() {
-    lxr::threads heap(4, hosts);
+    lxr::shared_heap heap(4, hosts);
     {
-        lxr::thread self(heap);
+        lxr::mutator self(heap);
         self.world().store(counters, self.make(0, 2));
     }
     on_threads(hosts, [&](unsigned) {
-        lxr::thread self(heap);
+        lxr::mutator self(heap);
         lxr::local counter = self.world().load(counters);
         std::uint64_t seen = 0;
         for (std::uint64_t n = 0; n < rounds; ++n) {
@@ -138,15 +136,15 @@ void one_counter() {
             counter.fetch_add(1, ~std::uint64_t{0});
         }
     });
-    lxr::thread self(heap);
+    lxr::mutator self(heap);
     const lxr::local counter = self.world().load(counters);
     CHECK(counter.get(0) == hosts * rounds && counter.get(1) == 0 - hosts * rounds);
 }
 
 /// A thread that rests holds up no pause; what its registers hold is kept.
 void resting_threads() {
-    lxr::threads heap(4, 2);
-    lxr::thread self(heap);
+    lxr::shared_heap heap(4, 2);
+    lxr::mutator self(heap);
     lxr::local kept = self.make(0, 1);
     kept.put(0, 6);
     const std::uint64_t before = heap.pauses();
@@ -154,11 +152,11 @@ void resting_threads() {
         const lxr::resting rest(self);
         CHECK(heap.entered() == 1 && heap.resting() == 1);
         std::thread([&heap] {
-            lxr::thread other(heap);
+            lxr::mutator other(heap);
             for (int n = 0; n < 100; ++n) n % 10 == 0 ? other.collect() : other.pause();
         }).join();
-        CHECK(throws(lxr::errc::rests, [&] { self.poll(); }));
-        CHECK(throws(lxr::errc::rests, [&] { kept.get(0); }));
+        CHECK(throws(lxr::errc::rests, [&] { (void)(self.poll()); }));
+        CHECK(throws(lxr::errc::rests, [&] { (void)(kept.get(0)); }));
         CHECK(throws(lxr::errc::rests, [&] { const lxr::resting again(self); }));
     }
     CHECK(heap.pauses() >= before + 100 && heap.collected() >= 10 && heap.resting() == 0 && kept.get(0) == 6);
@@ -167,56 +165,56 @@ void resting_threads() {
 
 /// Numbers are taken, given back, and taken again, and a thread may go to another thread of the host.
 void comings_and_goings() {
-    lxr::threads heap(4, 2);
+    lxr::shared_heap heap(4, 2);
     for (int n = 0; n < 50; ++n) {
-        lxr::thread one(heap);
+        lxr::mutator one(heap);
         {
             lxr::local made = one.make(1, 1);
             made.put(0, 5);
             one.world().store(own, made);
         }
         const lxr::resting rest(one);
-        lxr::thread two(heap);
-        CHECK(throws(lxr::errc::number, [&] { lxr::thread three(heap); }));
+        lxr::mutator two(heap);
+        CHECK(throws(lxr::errc::number, [&] { lxr::mutator three(heap); }));
         std::thread([moved = std::move(two)]() mutable {
             CHECK(moved.world().load(own).get(0) == 5);
             moved.world().clear(own);
         }).join();
-        CHECK(throws(lxr::errc::no_heap, [&] { two.poll(); }));
+        CHECK(throws(lxr::errc::no_heap, [&] { (void)(two.poll()); }));
     }
-    lxr::threads moved = std::move(heap);
-    CHECK(throws(lxr::errc::no_heap, [&] { lxr::thread none(heap); }));
-    lxr::thread self(moved);
+    lxr::shared_heap moved = std::move(heap);
+    CHECK(throws(lxr::errc::no_heap, [&] { lxr::mutator none(heap); }));
+    lxr::mutator self(moved);
     CHECK(moved.entered() == 1 && !self.world().load(own) && self.world().same(self.world()));
 }
 
 void errors() {
-    lxr::threads heap(1, 2);
-    lxr::thread one(heap);
+    lxr::shared_heap heap(1, 2);
+    lxr::mutator one(heap);
     lxr::local nil, pair = one.make(1, 1);
-    CHECK(throws(lxr::errc::size, [] { lxr::threads none(0, 1); }));
-    CHECK(throws(lxr::errc::size, [] { lxr::threads none(1, 17); }));
-    CHECK(throws(lxr::errc::size, [&] { one.make(1024, 0); }));
-    CHECK(throws(lxr::errc::nil, [&] { nil.fetch_add(0, 1); }));
-    CHECK(throws(lxr::errc::nil, [&] { pair.load(0).get(0); }));
-    CHECK(throws(lxr::errc::index, [&] { pair.fetch_add(1, 1); }));
-    CHECK(throws(lxr::errc::index, [&] { pair.exchange(1, nil); }));
+    CHECK(throws(lxr::errc::size, [] { lxr::shared_heap none(0, 1); }));
+    CHECK(throws(lxr::errc::size, [] { lxr::shared_heap none(1, 17); }));
+    CHECK(throws(lxr::errc::size, [&] { (void)(one.make(1024, 0)); }));
+    CHECK(throws(lxr::errc::nil, [&] { (void)(nil.fetch_add(0, 1)); }));
+    CHECK(throws(lxr::errc::nil, [&] { (void)(pair.load(0).get(0)); }));
+    CHECK(throws(lxr::errc::index, [&] { (void)(pair.fetch_add(1, 1)); }));
+    CHECK(throws(lxr::errc::index, [&] { (void)(pair.exchange(1, nil)); }));
     CHECK(!pair.exchange(0, pair) && pair.exchange(0, nil).same(pair) && !pair.load(0));
     CHECK(pair.fetch_add(0, 3) == 0 && pair.fetch_add(0, 4) == 3 && pair.get(0) == 7);
     const lxr::resting rest(one);
-    lxr::thread two(heap);
+    lxr::mutator two(heap);
     lxr::local other = two.make(1, 1);
-    CHECK(throws(lxr::errc::rests, [&] { other.exchange(0, pair); }));
+    CHECK(throws(lxr::errc::rests, [&] { (void)(other.exchange(0, pair)); }));
     CHECK(!other.load(0) && !other.exchange(0, nil));
     CHECK(make_error_code(lxr::errc::number) == std::errc::resource_unavailable_try_again);
-    CHECK(lxr::error(lxr::errc::rests).code().message() == lxr_message(LXR_RESTS));
+    CHECK(lxr::error(lxr::errc::rests).code().message() == lxr_message(LXR_E_RESTS));
 }
 
 /// Each thread holds as much as there is room for: the heap is full for all of them, and has room again.
 void full_heaps() {
-    lxr::threads heap(2, hosts);
+    lxr::shared_heap heap(2, hosts);
     on_threads(hosts, [&](unsigned) {
-        lxr::thread self(heap);
+        lxr::mutator self(heap);
         for (int round = 0; round < 3; ++round) {
             lxr::local list;
             std::uint64_t made = 0;
@@ -228,7 +226,7 @@ void full_heaps() {
             CHECK(made == 0);
         }
     });
-    lxr::thread self(heap);
+    lxr::mutator self(heap);
     self.collect();
     CHECK(self.try_make(1000, 1000));
 }

@@ -16,13 +16,13 @@ pub enum Error {
     Full,
     /// The machine has no memory for the heap, or starts no further thread.
     Memory,
-    /// The register keeps the world: register 0 of a thread isn't written to.
+    /// The register keeps the world: register 0 of a mutator isn't written to.
     Register,
-    /// As many threads are in the heap as may be.
+    /// As many mutators are in the heap as may be.
     Number,
-    /// The heap was so full for so long that names could not be renewed, and the thread has no operation left: it is to leave.
+    /// The heap was so full for so long that names could not be renewed, and the mutator has no operation left: it is to leave.
     UsedUp,
-    /// There was no memory to go on behind a pause: the heap is only to be left.
+    /// There was no memory to go on after a pause: the heap is only to be left.
     Lost,
     /// Another code of the library. No call of this crate meets one.
     Other(u32),
@@ -37,7 +37,7 @@ impl fmt::Display for Error {
             Error::Full => f.write_str("the heap is full"),
             Error::Memory => f.write_str("out of memory"),
             Error::Register => f.write_str("the register keeps the world"),
-            Error::Number => f.write_str("no place for a further thread"),
+            Error::Number => f.write_str("no place for a further mutator"),
             Error::UsedUp => f.write_str("names are to be renewed first"),
             Error::Lost => f.write_str("the heap is lost for want of memory"),
             Error::Other(code) => write!(f, "the library answers code {code}"),

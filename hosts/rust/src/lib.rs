@@ -5,10 +5,10 @@
 //! and the program where it likes. Objects have no addresses here, since pauses move them.
 //!
 //! ```
-//! use kogyulen::{Heap, R1, R2};
+//! use kogyulen::{Count, Heap, Settings, R1, R2};
 //!
 //! # fn main() -> Result<(), kogyulen::Error> {
-//! let mut heap = Heap::open(64, 1)?; // 64 blocks of 32 KB for objects
+//! let mut heap = Heap::open(&Settings::new(64))?; // 64 blocks of 32 KB for objects
 //! for number in 0..10 {
 //!     heap.make(R1, 1, 1)?; // one reference, one data word
 //!     heap.put(R1, 0, number)?;
@@ -20,29 +20,36 @@
 //! heap.clear(R1);
 //! heap.clear(R2);
 //! heap.collect();
-//! assert_eq!(heap.live(), 0);
+//! assert_eq!(heap.count(Count::Live), 0);
 //! # Ok(())
 //! # }
 //! ```
 //!
 //! **What is proved** is the library behind this crate: what each of its functions answers and changes. This crate is some hundred lines of
 //! plain Rust over it; it owns the handles, so nothing that a safe caller does breaks what the library asks of a host, but that a thread
-//! which blocks outside of [`threads::Thread::rest`] holds up the others. What waits for pauses, where threads share a heap, is plain C.
+//! which blocks outside of [`threads::Mutator::rest`] holds up the others. What waits for pauses, where threads share a heap, is plain C.
 //!
-//! Linking: the build script takes `liblxr.a` from the folder that the environment variable `LXR_LIB_DIR` names, or else from the
+//! Linking: the build script of `kogyulen-sys` takes `liblxr.a` from the folder that the environment variable `LXR_LIB_DIR` names, or else from the
 //! installation, the release or the repository that this crate is a part of.
 
 #![warn(missing_docs)]
 
+/// The README's program is compiled and run as those of the pages are.
+#[cfg(doctest)]
+#[doc = include_str!("../README.md")]
+struct Readme;
+
 mod error;
-mod raw;
 mod register;
+mod settings;
 pub mod threads;
 
 pub use error::Error;
 pub use register::{Register, R0, R1, R10, R11, R12, R13, R14, R15, R2, R3, R4, R5, R6, R7, R8, R9};
+pub use settings::{Count, Pace, Settings};
 
 use error::done;
+use kogyulen_sys as raw;
 
 /// The references of the world.
 pub const WORLD_REFS: u32 = 64;
@@ -66,12 +73,12 @@ pub struct Shape {
 /// At first [`R0`] holds the world, an object with [`WORLD_REFS`] references that is kept for good, and the other registers are nil.
 ///
 /// ```compile_fail
-/// let heap = kogyulen::Heap::open(1, 1).unwrap();
+/// let heap = kogyulen::Heap::open(&kogyulen::Settings::new(1)).unwrap();
 /// std::thread::spawn(move || drop(heap)); // it isn't `Send`
 /// ```
 ///
 /// ```compile_fail
-/// let heap = kogyulen::Heap::open(1, 1).unwrap();
+/// let heap = kogyulen::Heap::open(&kogyulen::Settings::new(1)).unwrap();
 /// let other = heap.clone(); // it has one owner
 /// ```
 pub struct Heap {
@@ -79,15 +86,14 @@ pub struct Heap {
 }
 
 impl Heap {
-    /// Opens a heap of so many blocks of 32 KB for objects, and so many for the bodies of large ones, 1 to 65,536 each. All memory that it
-    /// will ever use is reserved now.
+    /// Opens a heap of these settings. All memory that it will ever use is reserved now.
     ///
     /// # Errors
     /// [`Error::Size`] and [`Error::Memory`].
-    pub fn open(blocks: u32, body_blocks: u32) -> Result<Heap, Error> {
+    pub fn open(settings: &Settings) -> Result<Heap, Error> {
         let mut heap = Heap { handle: raw::Handle::EMPTY };
-        // SAFETY: the handle is empty, this thread's, and written by the library alone; so it is in each call below.
-        done(unsafe { raw::lxr_open(&mut heap.handle, blocks, body_blocks) })?;
+        // SAFETY: the handle is empty, this thread's, and written by the library alone; so it is in each call below. The settings outlive it.
+        done(unsafe { raw::lxr_open(&mut heap.handle, &settings.raw()) })?;
         Ok(heap)
     }
 
@@ -105,7 +111,7 @@ impl Heap {
     /// # Errors
     /// [`Error::Size`] and [`Error::Full`].
     pub fn make_large(&mut self, dest: Register, blocks: u32) -> Result<(), Error> {
-        done(unsafe { raw::lxr_big(&mut self.handle, dest.number(), blocks) })
+        done(unsafe { raw::lxr_large_new(&mut self.handle, dest.number(), blocks) })
     }
 
     /// The register holds what a reference of the base's object refers to, or becomes nil.
@@ -128,9 +134,9 @@ impl Heap {
     ///
     /// # Errors
     /// [`Error::Nil`] and [`Error::Index`].
-    pub fn get(&mut self, base: Register, index: u32) -> Result<u64, Error> {
+    pub fn get(&self, base: Register, index: u32) -> Result<u64, Error> {
         let mut word = 0;
-        done(unsafe { raw::lxr_get(&mut self.handle, base.number(), index, &mut word) })?;
+        done(unsafe { raw::lxr_get(&self.handle, base.number(), index, &mut word) })?;
         Ok(word)
     }
 
@@ -146,9 +152,9 @@ impl Heap {
     ///
     /// # Errors
     /// [`Error::Nil`] and [`Error::Index`].
-    pub fn body_get(&mut self, base: Register, index: u32) -> Result<u64, Error> {
+    pub fn body_get(&self, base: Register, index: u32) -> Result<u64, Error> {
         let mut word = 0;
-        done(unsafe { raw::lxr_bget(&mut self.handle, base.number(), index, &mut word) })?;
+        done(unsafe { raw::lxr_large_get(&self.handle, base.number(), index, &mut word) })?;
         Ok(word)
     }
 
@@ -157,15 +163,15 @@ impl Heap {
     /// # Errors
     /// [`Error::Nil`] and [`Error::Index`].
     pub fn body_put(&mut self, base: Register, index: u32, word: u64) -> Result<(), Error> {
-        done(unsafe { raw::lxr_bput(&mut self.handle, base.number(), index, word) })
+        done(unsafe { raw::lxr_large_put(&mut self.handle, base.number(), index, word) })
     }
 
     /// Reads words of the body from an index on: all that fit the slice, or none.
     ///
     /// # Errors
     /// [`Error::Nil`], and [`Error::Index`] where the body doesn't have them all.
-    pub fn body_read(&mut self, base: Register, index: u32, into: &mut [u64]) -> Result<(), Error> {
-        done(unsafe { raw::lxr_bread(&mut self.handle, base.number(), index, into.as_mut_ptr(), into.len()) })
+    pub fn body_read(&self, base: Register, index: u32, into: &mut [u64]) -> Result<(), Error> {
+        done(unsafe { raw::lxr_large_read(&self.handle, base.number(), index, into.as_mut_ptr(), into.len()) })
     }
 
     /// Writes words of the body from an index on: all of the slice, or none.
@@ -173,27 +179,27 @@ impl Heap {
     /// # Errors
     /// [`Error::Nil`], and [`Error::Index`] where the body doesn't have them all.
     pub fn body_write(&mut self, base: Register, index: u32, from: &[u64]) -> Result<(), Error> {
-        done(unsafe { raw::lxr_bwrite(&mut self.handle, base.number(), index, from.as_ptr(), from.len()) })
+        done(unsafe { raw::lxr_large_write(&mut self.handle, base.number(), index, from.as_ptr(), from.len()) })
     }
 
     /// How many fields the base's object has; `None` where the register is nil.
-    pub fn shape(&mut self, base: Register) -> Option<Shape> {
+    pub fn shape(&self, base: Register) -> Option<Shape> {
         let mut shape = Shape { refs: 0, words: 0, blocks: 0 };
-        let code = unsafe { raw::lxr_shape(&mut self.handle, base.number(), &mut shape.refs, &mut shape.words, &mut shape.blocks) };
+        let code = unsafe { raw::lxr_shape(&self.handle, base.number(), &mut shape.refs, &mut shape.words, &mut shape.blocks) };
         done(code).ok().map(|()| shape)
     }
 
     /// Whether both registers are nil or hold one object.
-    pub fn same(&mut self, left: Register, right: Register) -> bool {
+    pub fn same(&self, left: Register, right: Register) -> bool {
         let mut same = 0;
-        sure(unsafe { raw::lxr_same(&mut self.handle, left.number(), right.number(), &mut same) });
+        sure(unsafe { raw::lxr_same(&self.handle, left.number(), right.number(), &mut same) });
         same != 0
     }
 
     /// Whether the register is nil.
-    pub fn is_nil(&mut self, source: Register) -> bool {
+    pub fn is_nil(&self, source: Register) -> bool {
         let mut is_nil = 0;
-        sure(unsafe { raw::lxr_is_nil(&mut self.handle, source.number(), &mut is_nil) });
+        sure(unsafe { raw::lxr_is_nil(&self.handle, source.number(), &mut is_nil) });
         is_nil != 0
     }
 
@@ -217,54 +223,15 @@ impl Heap {
         sure(unsafe { raw::lxr_collect(&mut self.handle) });
     }
 
-    /// From now on a plain pause is made once so many objects were made since the last; 0: only where it is asked for or needed.
-    pub fn pause_every(&mut self, news: u32) {
-        sure(unsafe { raw::lxr_pause_every(&mut self.handle, news) });
+    /// Sets when plain pauses come by themselves, from now on.
+    pub fn set_pace(&mut self, pace: Pace) {
+        sure(unsafe { raw::lxr_set_pace(&mut self.handle, pace.bytes()) });
     }
 
-    /// Pauses so far.
-    pub fn pauses(&mut self) -> u64 {
-        self.count(0)
-    }
-
-    /// Objects made before the last pause and behind the one before it that the last pause kept.
-    pub fn promoted(&mut self) -> u64 {
-        self.count(1)
-    }
-
-    /// Objects that counts reclaimed at the last pause.
-    pub fn dead(&mut self) -> u64 {
-        self.count(2)
-    }
-
-    /// Objects whose count stands from the last pause on, since it has reached fifteen.
-    pub fn stuck(&mut self) -> u64 {
-        self.count(3)
-    }
-
-    /// Objects that only a collecting pause reclaims, and the last one did.
-    pub fn swept(&mut self) -> u64 {
-        self.count(4)
-    }
-
-    /// Objects that the last pause left, and those made since; without the world.
-    pub fn live(&mut self) -> u64 {
-        self.count(5)
-    }
-
-    /// Wholly free blocks for objects.
-    pub fn free_blocks(&mut self) -> u64 {
-        self.count(6)
-    }
-
-    /// Bytes of the free blocks for bodies.
-    pub fn free_body_bytes(&mut self) -> u64 {
-        self.count(7)
-    }
-
-    fn count(&mut self, what: u32) -> u64 {
+    /// How many there are of what is counted.
+    pub fn count(&self, what: Count) -> u64 {
         let mut number = 0;
-        sure(unsafe { raw::lxr_count(&mut self.handle, what, &mut number) });
+        sure(unsafe { raw::lxr_count(&self.handle, what as u32, &mut number) });
         number
     }
 }

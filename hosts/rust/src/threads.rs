@@ -1,15 +1,15 @@
 //! A heap that threads share.
 //!
-//! [`Threads`] has the objects, and each thread of the program that calls the heap is in it by a [`Thread`] of its own, with sixteen
+//! [`SharedHeap`] has the objects, and each thread of the program that calls the heap is in it by a [`Mutator`] of its own, with sixteen
 //! registers. Register 0 holds the world for good, which is the same object for all: what threads share they find from there. Operations
 //! that meet at one field are atomic and in one order for all threads. No operation waits for another thread, but where a pause is wanted.
 //!
 //! ```
-//! use kogyulen::threads::{Settings, Threads};
+//! use kogyulen::threads::{Settings, SharedHeap};
 //! use kogyulen::{R0, R1};
 //!
 //! # fn main() -> Result<(), kogyulen::Error> {
-//! let heap = Threads::open(&Settings::new(64, 4))?; // 64 blocks of 32 KB, and up to four threads at once
+//! let heap = SharedHeap::open(&Settings::new(64, 4))?; // 64 blocks of 32 KB, and up to four threads at once
 //! let mut first = heap.enter()?;
 //! first.make(R1, 0, 1)?;
 //! first.store(R0, 0, R1)?;
@@ -32,29 +32,40 @@
 use std::ffi::c_void;
 use std::fmt;
 use std::marker::PhantomData;
+use std::mem::size_of;
 use std::panic::{self, AssertUnwindSafe};
 use std::process;
 use std::ptr::{self, NonNull};
 use std::time::Duration;
 
 use crate::error::{done, Error};
-use crate::raw;
 use crate::register::Register;
+use kogyulen_sys as raw;
 
-/// What a heap is made of.
+/// What a heap is made of. [`Settings::new`] has settings that mostly do, and each method changes one of them.
+///
+/// ```
+/// use kogyulen::threads::{Settings, SharedHeap};
+///
+/// # fn main() -> Result<(), kogyulen::Error> {
+/// let heap = SharedHeap::open(&Settings::new(64, 4).helpers(2).every(4096))?;
+/// # Ok(())
+/// # }
+/// ```
 #[derive(Clone, Debug, PartialEq, Eq, Hash)]
+#[non_exhaustive]
 pub struct Settings {
     /// Blocks of 32 KB, 1 to 1,024.
     pub blocks: u32,
-    /// Threads that may be in it at once, 1 to 16.
-    pub threads: u32,
+    /// Mutators that may be in it at once, 1 to 16.
+    pub mutators: u32,
     /// Threads of its own that do work of pauses ahead, 0 to 8.
     pub helpers: u32,
-    /// Overwritten references that a thread records between two pauses, 1 to 65,536.
+    /// Overwritten references that a mutator records between two pauses, 1 to 65,536.
     pub log: u32,
     /// References that a trace remembers, 1 to 1,048,576.
     pub remember: u32,
-    /// A thread wants a pause behind so many operations since the last one, 1 to 1,000,000.
+    /// A mutator wants a pause after so many operations since the last one, 1 to 1,000,000.
     pub every: u32,
     /// Each pause whose number is a multiple of it begins a trace, where none runs, 1 to 1,000,000.
     pub trace: u32,
@@ -63,17 +74,77 @@ pub struct Settings {
 }
 
 impl Settings {
-    /// Settings that mostly do, for so many blocks and threads.
-    pub const fn new(blocks: u32, threads: u32) -> Settings {
-        Settings { blocks, threads, helpers: 1, log: 1024, remember: 65_536, every: 65_536, trace: 16, within: 4 }
+    /// Settings that mostly do, for so many blocks and mutators.
+    pub const fn new(blocks: u32, mutators: u32) -> Settings {
+        Settings { blocks, mutators, helpers: 1, log: 1024, remember: 65_536, every: 65_536, trace: 16, within: 4 }
     }
 
-    fn raw(&self, watch: Option<&Watch>) -> raw::Settings {
-        let &Settings { blocks, threads, helpers, log, remember, every, trace, within } = self;
+    /// So many helpers.
+    pub const fn helpers(mut self, helpers: u32) -> Settings {
+        self.helpers = helpers;
+        self
+    }
+
+    /// So many entries of a mutator's log.
+    pub const fn log(mut self, log: u32) -> Settings {
+        self.log = log;
+        self
+    }
+
+    /// So many references that a trace remembers.
+    pub const fn remember(mut self, remember: u32) -> Settings {
+        self.remember = remember;
+        self
+    }
+
+    /// So many operations of a mutator between two pauses.
+    pub const fn every(mut self, every: u32) -> Settings {
+        self.every = every;
+        self
+    }
+
+    /// So many pauses from one trace to the next.
+    pub const fn trace(mut self, trace: u32) -> Settings {
+        self.trace = trace;
+        self
+    }
+
+    /// So many pauses within which a trace ends.
+    pub const fn within(mut self, within: u32) -> Settings {
+        self.within = within;
+        self
+    }
+
+    fn raw(&self, watch: Option<&Watch>) -> raw::SharedSettings {
+        let &Settings { blocks, mutators, helpers, log, remember, every, trace, within } = self;
+        let size = size_of::<raw::SharedSettings>() as u64;
         let with = watch.map_or(ptr::null_mut(), |watch| (watch as *const Watch).cast_mut().cast());
         let paused = watch.map(|_| tell_of_pause as extern "C" fn(*mut c_void, *const raw::PauseTimes));
-        raw::Settings { blocks, threads, helpers, log, remember, every, trace, within, paused, with }
+        raw::SharedSettings { size, blocks, mutators, helpers, log, remember, every, trace, within, paused, with }
     }
+}
+
+/// What a heap counts.
+#[derive(Clone, Copy, Debug, PartialEq, Eq, Hash)]
+#[non_exhaustive]
+#[repr(u32)]
+pub enum Count {
+    /// Pauses so far.
+    Pauses = 0,
+    /// By the last pause: objects made since the pause before that were kept.
+    Promoted = 1,
+    /// By the last pause: objects that counts reclaimed.
+    Dead = 2,
+    /// By the last pause: objects whose count has reached fifteen, where it stands from now on.
+    Stuck = 3,
+    /// By the last pause: objects that a trace or a collecting pause reclaimed.
+    Swept = 4,
+    /// Collecting pauses so far.
+    Collecting = 8,
+    /// Mutators that are in the heap now.
+    Entered = 9,
+    /// Mutators that are in the heap, and rest now.
+    Resting = 10,
 }
 
 /// How long a pause took; where a collecting one came right behind it, both.
@@ -100,154 +171,115 @@ extern "C" fn tell_of_pause(with: *mut c_void, times: *const raw::PauseTimes) {
     }
 }
 
-/// A heap that threads share: it is lent to them, and closed once none is in it.
+/// A heap that threads share: it is lent to them, and closed once no mutator is in it.
 ///
 /// ```compile_fail
-/// let heap = kogyulen::threads::Threads::open(&kogyulen::threads::Settings::new(1, 1)).unwrap();
-/// let thread = heap.enter().unwrap();
-/// drop(heap); // a thread is in it
-/// drop(thread);
+/// let heap = kogyulen::threads::SharedHeap::open(&kogyulen::threads::Settings::new(1, 1)).unwrap();
+/// let mutator = heap.enter().unwrap();
+/// drop(heap); // a mutator is in it
+/// drop(mutator);
 /// ```
-pub struct Threads {
-    handle: NonNull<raw::Threads>,
+pub struct SharedHeap {
+    handle: NonNull<raw::SharedHeap>,
     watch: Option<Box<Watch>>,
 }
 
 // SAFETY: by lxr_threads.h any thread may make a call on a heap, while others do, but for its closing; that takes the owner.
-unsafe impl Send for Threads {}
-unsafe impl Sync for Threads {}
+unsafe impl Send for SharedHeap {}
+unsafe impl Sync for SharedHeap {}
 
-impl Threads {
+impl SharedHeap {
     /// Opens a heap, and starts its helpers. All memory for objects is reserved now.
     ///
     /// # Errors
     /// [`Error::Size`] where a setting is out of its range, and [`Error::Memory`].
-    pub fn open(settings: &Settings) -> Result<Threads, Error> {
-        Threads::open_with(settings, None)
+    pub fn open(settings: &Settings) -> Result<SharedHeap, Error> {
+        SharedHeap::open_with(settings, None)
     }
 
-    /// Opens a heap as [`Threads::open`] does, with a function that is told of each pause right behind it, by the thread that made it. It
-    /// calls nothing of this heap, and waits for no thread.
+    /// Opens a heap as [`SharedHeap::open`] does, with a function that is told of each pause right after it, by the thread that made it.
+    /// It calls nothing of this heap, and waits for no thread.
     ///
     /// # Errors
-    /// Those of [`Threads::open`].
-    pub fn open_watched(settings: &Settings, paused: impl Fn(PauseTimes) + Send + Sync + 'static) -> Result<Threads, Error> {
-        Threads::open_with(settings, Some(Box::new(Box::new(paused))))
+    /// Those of [`SharedHeap::open`].
+    pub fn open_watched(settings: &Settings, paused: impl Fn(PauseTimes) + Send + Sync + 'static) -> Result<SharedHeap, Error> {
+        SharedHeap::open_with(settings, Some(Box::new(Box::new(paused))))
     }
 
-    fn open_with(settings: &Settings, watch: Option<Box<Watch>>) -> Result<Threads, Error> {
+    fn open_with(settings: &Settings, watch: Option<Box<Watch>>) -> Result<SharedHeap, Error> {
         let mut handle = ptr::null_mut();
         // SAFETY: the handle is null, the settings outlive the call, and the watch outlives the heap.
-        done(unsafe { raw::lxr_threads_open(&mut handle, &settings.raw(watch.as_deref())) })?;
-        NonNull::new(handle).map(|handle| Threads { handle, watch }).ok_or(Error::Memory)
+        done(unsafe { raw::lxr_shared_heap_open(&mut handle, &settings.raw(watch.as_deref())) })?;
+        NonNull::new(handle).map(|handle| SharedHeap { handle, watch }).ok_or(Error::Memory)
     }
 
-    /// Enters the heap: a thread whose registers are nil, but for [`R0`](crate::R0), which holds the world. Where a pause is wanted, this
+    /// Enters the heap: a mutator whose registers are nil, but for [`R0`](crate::R0), which holds the world. Where a pause is wanted, this
     /// waits for it.
     ///
     /// # Errors
-    /// [`Error::Number`] where as many threads are in it as may be, [`Error::Memory`] and [`Error::Lost`].
-    pub fn enter(&self) -> Result<Thread<'_>, Error> {
+    /// [`Error::Number`] where as many mutators are in it as may be, [`Error::Memory`] and [`Error::Lost`].
+    pub fn enter(&self) -> Result<Mutator<'_>, Error> {
         let mut handle = ptr::null_mut();
-        // SAFETY: the heap is open, and the thread's handle is null.
-        done(unsafe { raw::lxr_thread_enter(self.handle.as_ptr(), &mut handle) })?;
-        NonNull::new(handle).map(|handle| Thread { handle, heap: PhantomData }).ok_or(Error::Memory)
+        // SAFETY: the heap is open, and the mutator's handle is null.
+        done(unsafe { raw::lxr_mutator_enter(self.handle.as_ptr(), &mut handle) })?;
+        NonNull::new(handle).map(|handle| Mutator { handle, heap: PhantomData }).ok_or(Error::Memory)
     }
 
-    /// Pauses so far.
-    pub fn pauses(&self) -> u64 {
-        self.count(0)
-    }
-
-    /// Collecting pauses so far.
-    pub fn collected(&self) -> u64 {
-        self.count(8)
-    }
-
-    /// Objects made before the last pause and behind the one before it that the last pause kept.
-    pub fn promoted(&self) -> u64 {
-        self.count(1)
-    }
-
-    /// Objects that counts reclaimed at the last pause.
-    pub fn dead(&self) -> u64 {
-        self.count(2)
-    }
-
-    /// Objects whose count stands from the last pause on, since it has reached fifteen.
-    pub fn stuck(&self) -> u64 {
-        self.count(3)
-    }
-
-    /// Objects that a trace or a collecting pause reclaimed at the last pause.
-    pub fn swept(&self) -> u64 {
-        self.count(4)
-    }
-
-    /// Threads that are in the heap now.
-    pub fn entered(&self) -> u64 {
-        self.count(9)
-    }
-
-    /// Threads that are in the heap, and rest now.
-    pub fn resting(&self) -> u64 {
-        self.count(10)
-    }
-
-    fn count(&self, what: u32) -> u64 {
+    /// How many there are of what is counted.
+    pub fn count(&self, what: Count) -> u64 {
         let mut number = 0;
         // SAFETY: the heap is open.
-        let code = unsafe { raw::lxr_threads_count(self.handle.as_ptr(), what, &mut number) };
+        let code = unsafe { raw::lxr_shared_heap_count(self.handle.as_ptr(), what as u32, &mut number) };
         debug_assert_eq!(done(code), Ok(()));
         number
     }
 }
 
-impl Drop for Threads {
+impl Drop for SharedHeap {
     fn drop(&mut self) {
         let mut handle = self.handle.as_ptr();
-        // SAFETY: the heap is open, and its owner is in no other call. A thread that was forgotten is still in it: then it stays open.
-        if done(unsafe { raw::lxr_threads_close(&mut handle) }).is_err() {
+        // SAFETY: the heap is open, and its owner is in no other call. A mutator that was forgotten is still in it: then it stays open.
+        if done(unsafe { raw::lxr_shared_heap_close(&mut handle) }).is_err() {
             std::mem::forget(self.watch.take());
         }
     }
 }
 
-impl fmt::Debug for Threads {
+impl fmt::Debug for SharedHeap {
     fn fmt(&self, f: &mut fmt::Formatter<'_>) -> fmt::Result {
-        f.debug_struct("Threads").finish_non_exhaustive()
+        f.debug_struct("SharedHeap").finish_non_exhaustive()
     }
 }
 
-/// A thread in a heap, and its sixteen registers. It may go to another thread of the program, and is in one at a time. It leaves the heap
+/// A thread's right to call a heap, and its sixteen registers there. It may go to another thread, and is in one at a time. It leaves the heap
 /// as it is dropped, and lets go of what its registers hold.
 ///
 /// While it is in the heap, pauses wait until it makes an operation, polls, rests or leaves. So whatever blocks, or is long, goes into
-/// [`Thread::rest`].
+/// [`Mutator::rest`].
 ///
 /// Besides those that are named, each operation answers [`Error::UsedUp`] and [`Error::Lost`].
 ///
 /// ```compile_fail
 /// fn is_sync<T: Sync>() {}
-/// is_sync::<kogyulen::threads::Thread>(); // it is in one thread at a time
+/// is_sync::<kogyulen::threads::Mutator>(); // it is in one thread at a time
 /// ```
-pub struct Thread<'t> {
-    handle: NonNull<raw::Thread>,
-    heap: PhantomData<&'t Threads>,
+pub struct Mutator<'h> {
+    handle: NonNull<raw::Mutator>,
+    heap: PhantomData<&'h SharedHeap>,
 }
 
-// SAFETY: by lxr_threads.h a thread is in one call at a time, in whichever thread of the system.
-unsafe impl Send for Thread<'_> {}
+// SAFETY: by lxr_threads.h a mutator is in one call at a time, in whichever thread of the system.
+unsafe impl Send for Mutator<'_> {}
 
-impl Thread<'_> {
+impl Mutator<'_> {
     /// The register holds a new object with nil references and words of 0; at most 1,023 of each. Where there is no room, this waits for a
     /// pause, and for a collecting one.
     ///
     /// # Errors
     /// [`Error::Register`] for [`R0`](crate::R0), [`Error::Size`], and [`Error::Full`] where what can be reached leaves no room even so.
     pub fn make(&mut self, dest: Register, refs: u32, words: u32) -> Result<(), Error> {
-        // SAFETY: the thread is in its heap, and in no other call; so it is in each call below.
-        done(unsafe { raw::lxr_thread_new(self.raw(), dest.number(), refs, words) })
+        // SAFETY: the mutator is in its heap, and in no other call; so it is in each call below.
+        done(unsafe { raw::lxr_mutator_new(self.raw(), dest.number(), refs, words) })
     }
 
     /// The register holds what a reference of the base's object refers to, or becomes nil.
@@ -255,7 +287,7 @@ impl Thread<'_> {
     /// # Errors
     /// [`Error::Register`] for [`R0`](crate::R0), [`Error::Nil`] and [`Error::Index`].
     pub fn load(&mut self, dest: Register, base: Register, index: u32) -> Result<(), Error> {
-        done(unsafe { raw::lxr_thread_load(self.raw(), dest.number(), base.number(), index) })
+        done(unsafe { raw::lxr_mutator_load(self.raw(), dest.number(), base.number(), index) })
     }
 
     /// A reference of the base's object becomes what the source holds, or nil.
@@ -263,7 +295,7 @@ impl Thread<'_> {
     /// # Errors
     /// [`Error::Nil`] and [`Error::Index`].
     pub fn store(&mut self, base: Register, index: u32, source: Register) -> Result<(), Error> {
-        done(unsafe { raw::lxr_thread_store(self.raw(), base.number(), index, source.number()) })
+        done(unsafe { raw::lxr_mutator_store(self.raw(), base.number(), index, source.number()) })
     }
 
     /// A reference of the base's object becomes what the source holds, and `dest` holds what it was, in one step of all threads.
@@ -271,7 +303,7 @@ impl Thread<'_> {
     /// # Errors
     /// [`Error::Register`] for [`R0`](crate::R0), [`Error::Nil`] and [`Error::Index`].
     pub fn swap(&mut self, dest: Register, base: Register, index: u32, source: Register) -> Result<(), Error> {
-        done(unsafe { raw::lxr_thread_swap(self.raw(), dest.number(), base.number(), index, source.number()) })
+        done(unsafe { raw::lxr_mutator_swap(self.raw(), dest.number(), base.number(), index, source.number()) })
     }
 
     /// A data word of the base's object.
@@ -280,7 +312,7 @@ impl Thread<'_> {
     /// [`Error::Nil`] and [`Error::Index`].
     pub fn get(&mut self, base: Register, index: u32) -> Result<u64, Error> {
         let mut word = 0;
-        done(unsafe { raw::lxr_thread_get(self.raw(), base.number(), index, &mut word) })?;
+        done(unsafe { raw::lxr_mutator_get(self.raw(), base.number(), index, &mut word) })?;
         Ok(word)
     }
 
@@ -289,7 +321,7 @@ impl Thread<'_> {
     /// # Errors
     /// [`Error::Nil`] and [`Error::Index`].
     pub fn put(&mut self, base: Register, index: u32, word: u64) -> Result<(), Error> {
-        done(unsafe { raw::lxr_thread_put(self.raw(), base.number(), index, word) })
+        done(unsafe { raw::lxr_mutator_put(self.raw(), base.number(), index, word) })
     }
 
     /// A data word of the base's object becomes its sum with `word`, modulo 2^64, in one step of all threads. Answers what it was.
@@ -298,7 +330,7 @@ impl Thread<'_> {
     /// [`Error::Nil`] and [`Error::Index`].
     pub fn add(&mut self, base: Register, index: u32, word: u64) -> Result<u64, Error> {
         let mut old = 0;
-        done(unsafe { raw::lxr_thread_add(self.raw(), base.number(), index, word, &mut old) })?;
+        done(unsafe { raw::lxr_mutator_add(self.raw(), base.number(), index, word, &mut old) })?;
         Ok(old)
     }
 
@@ -308,7 +340,7 @@ impl Thread<'_> {
     /// Those of each operation.
     pub fn same(&mut self, left: Register, right: Register) -> Result<bool, Error> {
         let mut same = 0;
-        done(unsafe { raw::lxr_thread_same(self.raw(), left.number(), right.number(), &mut same) })?;
+        done(unsafe { raw::lxr_mutator_same(self.raw(), left.number(), right.number(), &mut same) })?;
         Ok(same != 0)
     }
 
@@ -317,7 +349,7 @@ impl Thread<'_> {
     /// # Errors
     /// [`Error::Register`] for [`R0`](crate::R0).
     pub fn copy(&mut self, dest: Register, source: Register) -> Result<(), Error> {
-        done(unsafe { raw::lxr_thread_move(self.raw(), dest.number(), source.number()) })
+        done(unsafe { raw::lxr_mutator_move(self.raw(), dest.number(), source.number()) })
     }
 
     /// The register becomes nil.
@@ -325,7 +357,7 @@ impl Thread<'_> {
     /// # Errors
     /// [`Error::Register`] for [`R0`](crate::R0).
     pub fn clear(&mut self, dest: Register) -> Result<(), Error> {
-        done(unsafe { raw::lxr_thread_nil(self.raw(), dest.number()) })
+        done(unsafe { raw::lxr_mutator_nil(self.raw(), dest.number()) })
     }
 
     /// Makes a pause, which waits until all other threads have come to an operation or rest.
@@ -333,7 +365,7 @@ impl Thread<'_> {
     /// # Errors
     /// Those of each operation.
     pub fn pause(&mut self) -> Result<(), Error> {
-        done(unsafe { raw::lxr_thread_pause(self.raw()) })
+        done(unsafe { raw::lxr_mutator_pause(self.raw()) })
     }
 
     /// Makes a collecting pause: exactly what can be reached is left.
@@ -341,7 +373,7 @@ impl Thread<'_> {
     /// # Errors
     /// Those of each operation.
     pub fn collect(&mut self) -> Result<(), Error> {
-        done(unsafe { raw::lxr_thread_collect(self.raw()) })
+        done(unsafe { raw::lxr_mutator_collect(self.raw()) })
     }
 
     /// Takes part in a pause, where one is wanted: for what goes on for long without operations.
@@ -349,46 +381,46 @@ impl Thread<'_> {
     /// # Errors
     /// Those of each operation.
     pub fn poll(&mut self) -> Result<(), Error> {
-        done(unsafe { raw::lxr_thread_poll(self.raw()) })
+        done(unsafe { raw::lxr_mutator_poll(self.raw()) })
     }
 
-    /// Does something that may block or is long, while the thread holds up no pause. Its registers hold what they held.
+    /// Does something that may block or is long, while the mutator holds up no pause. Its registers hold what they held.
     ///
     /// # Errors
     /// [`Error::Lost`]; where the heap was lost before, nothing is done.
     pub fn rest<T>(&mut self, what: impl FnOnce() -> T) -> Result<T, Error> {
-        done(unsafe { raw::lxr_thread_rest(self.raw()) })?;
+        done(unsafe { raw::lxr_mutator_rest(self.raw()) })?;
         let resting = Resting(self);
         let answer = what();
         resting.wake()?;
         Ok(answer)
     }
 
-    fn raw(&self) -> *mut raw::Thread {
+    fn raw(&self) -> *mut raw::Mutator {
         self.handle.as_ptr()
     }
 }
 
-impl Drop for Thread<'_> {
+impl Drop for Mutator<'_> {
     fn drop(&mut self) {
         let mut handle = self.raw();
-        // SAFETY: the thread is in its heap, and in no other call.
-        unsafe { raw::lxr_thread_leave(&mut handle) };
+        // SAFETY: the mutator is in its heap, and in no other call.
+        unsafe { raw::lxr_mutator_leave(&mut handle) };
     }
 }
 
-impl fmt::Debug for Thread<'_> {
+impl fmt::Debug for Mutator<'_> {
     fn fmt(&self, f: &mut fmt::Formatter<'_>) -> fmt::Result {
-        f.debug_struct("Thread").finish_non_exhaustive()
+        f.debug_struct("Mutator").finish_non_exhaustive()
     }
 }
 
-/// A thread that rests, and wakes at the latest where this is dropped, as by a panic.
-struct Resting<'a, 't>(&'a Thread<'t>);
+/// A mutator that rests, and wakes at the latest where this is dropped, as by a panic.
+struct Resting<'a, 'h>(&'a Mutator<'h>);
 
 impl Resting<'_, '_> {
     fn wake(self) -> Result<(), Error> {
-        let code = unsafe { raw::lxr_thread_wake(self.0.raw()) };
+        let code = unsafe { raw::lxr_mutator_wake(self.0.raw()) };
         std::mem::forget(self);
         done(code)
     }
@@ -396,6 +428,6 @@ impl Resting<'_, '_> {
 
 impl Drop for Resting<'_, '_> {
     fn drop(&mut self) {
-        unsafe { raw::lxr_thread_wake(self.0.raw()) };
+        unsafe { raw::lxr_mutator_wake(self.0.raw()) };
     }
 }

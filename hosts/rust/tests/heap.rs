@@ -1,6 +1,6 @@
 //! Calls on heaps, and what they answer.
 
-use kogyulen::{Error, Heap, Register, Shape, BLOCK_WORDS, R0, R1, R15, R2, R3, WORLD_REFS};
+use kogyulen::{Count, Error, Heap, Pace, Register, Settings, Shape, BLOCK_WORDS, R0, R1, R15, R2, R3, WORLD_REFS};
 
 /// Makes a list of the numbers below an end in R2, the last one first.
 fn make_list(heap: &mut Heap, end: u64) -> Result<(), Error> {
@@ -16,24 +16,24 @@ fn make_list(heap: &mut Heap, end: u64) -> Result<(), Error> {
 
 #[test]
 fn an_opened_heap_has_the_world_alone() -> Result<(), Error> {
-    let mut heap = Heap::open(3, 2)?;
+    let heap = Heap::open(&Settings::new(3).body_blocks(2))?;
     assert_eq!(heap.shape(R0), Some(Shape { refs: WORLD_REFS, words: 0, blocks: 0 }));
     assert!(Register::all().skip(1).all(|register| heap.is_nil(register) && heap.shape(register).is_none()));
-    assert_eq!((heap.pauses(), heap.live(), heap.free_blocks()), (0, 0, 2));
-    assert_eq!(heap.free_body_bytes(), 2 * 8 * u64::from(BLOCK_WORDS));
+    assert_eq!((heap.count(Count::Pauses), heap.count(Count::Live), heap.count(Count::FreeBlocks)), (0, 0, 2));
+    assert_eq!(heap.count(Count::FreeBodyBytes), 2 * 8 * u64::from(BLOCK_WORDS));
     Ok(())
 }
 
 #[test]
 fn what_a_register_leads_to_is_kept_and_all_else_reclaimed() -> Result<(), Error> {
-    let mut heap = Heap::open(2, 1)?;
+    let mut heap = Heap::open(&Settings::new(2))?;
     make_list(&mut heap, 200)?;
     for _ in 0..20_000 {
         heap.make(R3, 1, 8)?;
         heap.store(R3, 0, R3)?;
     }
     heap.clear(R3);
-    assert!(heap.pauses() > 0);
+    assert!(heap.count(Count::Pauses) > 0);
     heap.copy(R1, R2);
     for number in (0..200).rev() {
         assert_eq!(heap.get(R1, 0), Ok(number));
@@ -41,16 +41,16 @@ fn what_a_register_leads_to_is_kept_and_all_else_reclaimed() -> Result<(), Error
     }
     assert!(heap.is_nil(R1) && heap.same(R1, R3) && !heap.same(R1, R2));
     heap.collect();
-    assert_eq!(heap.live(), 200);
+    assert_eq!(heap.count(Count::Live), 200);
     heap.clear(R2);
     heap.collect();
-    assert_eq!((heap.live(), heap.dead() + heap.swept()), (0, 200));
+    assert_eq!((heap.count(Count::Live), heap.count(Count::Dead) + heap.count(Count::Swept)), (0, 200));
     Ok(())
 }
 
 #[test]
 fn large_objects_have_bodies() -> Result<(), Error> {
-    let mut heap = Heap::open(1, 4)?;
+    let mut heap = Heap::open(&Settings::new(1).body_blocks(4))?;
     heap.make_large(R1, 3)?;
     let words: Vec<u64> = (0..5000).collect();
     let mut found = vec![0; 5000];
@@ -69,10 +69,10 @@ fn large_objects_have_bodies() -> Result<(), Error> {
 
 #[test]
 fn what_cannot_be_done_is_told() -> Result<(), Error> {
-    let mut heap = Heap::open(1, 1)?;
+    let mut heap = Heap::open(&Settings::new(1))?;
     heap.make(R1, 2, 3)?;
-    assert_eq!(Heap::open(0, 1).err(), Some(Error::Size));
-    assert_eq!(Heap::open(1, u32::MAX).err(), Some(Error::Size));
+    assert_eq!(Heap::open(&Settings::new(0)).err(), Some(Error::Size));
+    assert_eq!(Heap::open(&Settings::new(1).body_blocks(u32::MAX)).err(), Some(Error::Size));
     assert_eq!(heap.make(R1, 1024, 0), Err(Error::Size));
     assert_eq!(heap.make_large(R1, 0), Err(Error::Size));
     assert_eq!(heap.load(R1, R15, 0), Err(Error::Nil));
@@ -87,36 +87,36 @@ fn what_cannot_be_done_is_told() -> Result<(), Error> {
 
 #[test]
 fn a_full_heap_has_room_again() -> Result<(), Error> {
-    let mut heap = Heap::open(1, 1)?;
+    let mut heap = Heap::open(&Settings::new(1))?;
     for _ in 0..125 {
         heap.make(R1, 1, 30)?;
         heap.store(R1, 0, R2)?;
         heap.copy(R2, R1);
     }
-    assert_eq!((heap.make(R1, 1, 30), heap.live()), (Err(Error::Full), 125));
+    assert_eq!((heap.make(R1, 1, 30), heap.count(Count::Live)), (Err(Error::Full), 125));
     heap.clear(R1);
     heap.clear(R2);
     heap.make(R1, 1023, 1023)?;
-    assert_eq!(heap.live(), 1);
+    assert_eq!(heap.count(Count::Live), 1);
     Ok(())
 }
 
 #[test]
 fn pauses_come_after_so_many_objects() -> Result<(), Error> {
-    let mut heap = Heap::open(64, 1)?;
-    heap.pause_every(10);
+    let mut heap = Heap::open(&Settings::new(64))?;
+    heap.set_pace(Pace::Bytes(160));
     for _ in 0..101 {
         heap.make(R1, 0, 1)?;
     }
-    assert_eq!(heap.pauses(), 10);
+    assert_eq!(heap.count(Count::Pauses), 10);
     heap.pause();
-    assert_eq!((heap.pauses(), heap.promoted()), (11, 1));
+    assert_eq!((heap.count(Count::Pauses), heap.count(Count::Promoted)), (11, 1));
     Ok(())
 }
 
 #[test]
 fn heaps_are_apart() -> Result<(), Error> {
-    let (mut left, mut right) = (Heap::open(1, 1)?, Heap::open(1, 1)?);
+    let (mut left, right) = (Heap::open(&Settings::new(1))?, Heap::open(&Settings::new(1))?);
     left.make(R1, 0, 1)?;
     left.put(R1, 0, 5)?;
     assert!(right.is_nil(R1));

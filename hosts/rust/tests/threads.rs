@@ -3,7 +3,7 @@
 use std::sync::{Arc, Mutex};
 use std::thread;
 
-use kogyulen::threads::{Settings, Thread, Threads};
+use kogyulen::threads::{Count, Mutator, Settings, SharedHeap};
 use kogyulen::{Error, R0, R1, R15, R2, R3, R4};
 
 const HOSTS: u32 = 4;
@@ -15,12 +15,12 @@ const LAST: u32 = 0;
 const FIRST: u32 = 1;
 const COUNTER: u32 = 2;
 
-fn open(blocks: u32, threads: u32) -> Threads {
-    Threads::open(&Settings::new(blocks, threads)).expect("these are good settings")
+fn open(blocks: u32, mutators: u32) -> SharedHeap {
+    SharedHeap::open(&Settings::new(blocks, mutators)).expect("these are good settings")
 }
 
 /// Runs a function in four threads, each told its number, and answers the first error that there is.
-fn on_threads(heap: &Threads, work: impl Fn(Thread, u64) -> Result<(), Error> + Sync) -> Result<(), Error> {
+fn on_threads(heap: &SharedHeap, work: impl Fn(Mutator, u64) -> Result<(), Error> + Sync) -> Result<(), Error> {
     thread::scope(|scope| {
         let running: Vec<_> = (0..u64::from(HOSTS))
             .map(|number| {
@@ -35,7 +35,7 @@ fn on_threads(heap: &Threads, work: impl Fn(Thread, u64) -> Result<(), Error> + 
 }
 
 /// The numbers of the list in R1, which is followed to its end.
-fn numbers_from(it: &mut Thread, mut next: impl FnMut(u64)) -> Result<(), Error> {
+fn numbers_from(it: &mut Mutator, mut next: impl FnMut(u64)) -> Result<(), Error> {
     while !it.same(R1, R15)? {
         next(it.get(R1, 0)?);
         it.load(R1, R1, 0)?;
@@ -60,7 +60,7 @@ fn each_thread_finds_its_list_as_it_was() -> Result<(), Error> {
         assert!(found.into_iter().eq((0..LISTED).rev().map(|n| n * 4 + number)));
         Ok(())
     })?;
-    assert!(heap.pauses() > 0);
+    assert!(heap.count(Count::Pauses) > 0);
     Ok(())
 }
 
@@ -127,9 +127,9 @@ fn who_rests_holds_up_no_pause() -> Result<(), Error> {
     let mut kept = heap.enter()?;
     kept.make(R1, 0, 1)?;
     kept.put(R1, 0, 6)?;
-    let before = heap.pauses();
+    let before = heap.count(Count::Pauses);
     kept.rest(|| -> Result<(), Error> {
-        assert_eq!((heap.entered(), heap.resting()), (1, 1));
+        assert_eq!((heap.count(Count::Entered), heap.count(Count::Resting)), (1, 1));
         let mut other = heap.enter()?;
         for n in 0..100 {
             if n % 10 == 0 {
@@ -140,15 +140,15 @@ fn who_rests_holds_up_no_pause() -> Result<(), Error> {
         }
         Ok(())
     })??;
-    assert!(heap.pauses() >= before + 100 && heap.collected() >= 10);
-    assert_eq!((heap.resting(), kept.get(R1, 0)), (0, Ok(6)));
+    assert!(heap.count(Count::Pauses) >= before + 100 && heap.count(Count::Collecting) >= 10);
+    assert_eq!((heap.count(Count::Resting), kept.get(R1, 0)), (0, Ok(6)));
     kept.poll()
 }
 
 #[test]
 fn each_pause_is_told() -> Result<(), Error> {
     let told = Arc::new(Mutex::new(Vec::new()));
-    let heap = Threads::open_watched(&Settings::new(4, 1), {
+    let heap = SharedHeap::open_watched(&Settings::new(4, 1), {
         let told = Arc::clone(&told);
         move |times| told.lock().unwrap().push(times)
     })?;
@@ -157,17 +157,17 @@ fn each_pause_is_told() -> Result<(), Error> {
         own.collect()?;
     }
     let told = told.lock().unwrap();
-    assert!(told.len() >= 5 && told.last().map(|times| times.number) == Some(heap.pauses()));
+    assert!(told.len() >= 5 && told.last().map(|times| times.number) == Some(heap.count(Count::Pauses)));
     assert!(told.windows(2).all(|two| two[0].number < two[1].number));
     assert!(told.iter().all(|times| !times.pausing.is_zero()));
     Ok(())
 }
 
 #[test]
-fn a_forgotten_thread_keeps_its_heap_open() -> Result<(), Error> {
+fn a_forgotten_mutator_keeps_its_heap_open() -> Result<(), Error> {
     let heap = open(1, 2);
     std::mem::forget(heap.enter()?);
-    assert_eq!(heap.entered(), 1);
+    assert_eq!(heap.count(Count::Entered), 1);
     Ok(())
 }
 
@@ -177,7 +177,7 @@ fn a_panic_ends_a_rest() -> Result<(), Error> {
     let mut own = heap.enter()?;
     let resting = std::panic::AssertUnwindSafe(|| own.rest(|| panic!("as it rests")));
     std::panic::catch_unwind(resting).map(|_| ()).expect_err("it panics");
-    assert_eq!(heap.resting(), 0);
+    assert_eq!(heap.count(Count::Resting), 0);
     own.make(R1, 0, 0)
 }
 
@@ -200,7 +200,7 @@ fn threads_come_and_go() -> Result<(), Error> {
             });
         })?;
     }
-    assert_eq!(heap.entered(), 0);
+    assert_eq!(heap.count(Count::Entered), 0);
     let mut last = heap.enter()?;
     assert_eq!(last.same(R1, R2), Ok(true));
     Ok(())
@@ -208,8 +208,8 @@ fn threads_come_and_go() -> Result<(), Error> {
 
 #[test]
 fn what_cannot_be_done_is_told() -> Result<(), Error> {
-    assert_eq!(Threads::open(&Settings::new(0, 1)).err(), Some(Error::Size));
-    assert_eq!(Threads::open(&Settings::new(1, 17)).err(), Some(Error::Size));
+    assert_eq!(SharedHeap::open(&Settings::new(0, 1)).err(), Some(Error::Size));
+    assert_eq!(SharedHeap::open(&Settings::new(1, 17)).err(), Some(Error::Size));
     let heap = open(1, 1);
     let mut own = heap.enter()?;
     own.make(R1, 2, 3)?;

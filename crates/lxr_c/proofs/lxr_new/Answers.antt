@@ -1,6 +1,6 @@
 use Rattle.std.proofs.Common.{subst}
-use Rattle.lxr_c.specs.Calling.{Asks}
-use Rattle.lxr_c.specs.Hosting.{Makes}
+use Rattle.lxr_c_heap.specs.Calling.{Asks}
+use Rattle.lxr_c_heap.specs.Hosting.{Makes}
 use Rattle.lxr_c.proofs.lxr_new.Goals as goal
 
 pub returns : goal.returns

@@ -1,7 +1,5 @@
 use Rattle.std.proofs.Common.{◌∙◌, ap, sym}
-use Rattle.lxr_c.specs.Calling.{written_over}
-use Rattle.lxr_c.specs.Codes.{number_of}
-use Rattle.lxr_c.specs.Looking.{code_in, told}
+use Rattle.lxr_c_base.specs.Codes.{code_in, number_of, told, written_over}
 use Rattle.lxr_c.proofs.lxr_shape.Goals as goal
 
 pub returns-in-Err : goal.returns-in-Err

@@ -1,7 +1,7 @@
 use Rattle.std.proofs.Common.{inl, inr, refl, subst, sym}
 use Rattle.std.proofs.lemmas.Result.{on_ok_weaker}
 use Rattle.lxr_run_loop.specs.Progress.{IsComplete, IsUnderWay, SomeIsUnderWay}
-use Rattle.lxr_run_loop.proofs.ProgressLemmas.{passed_on, told_at_err}
+use Rattle.lxr_rounds.proofs.ResultLemmas.{passed_on, told_at_err}
 use Rattle.lxr_run_loop.proofs.run_and_print.Goals as goal
 
 pub run_threads-requires-clause-under_way : goal.run_threads-requires-clause-under_way

@@ -7,7 +7,6 @@ use super::*;
 use lxr_barrier::{Log, StoreMachine, replay_stores};
 use lxr_layout::{Limits, LogEntry, Place, regions};
 use lxr_tables::Words;
-use std::process::Abort;
 use std::test::Fail;
 
 const LIMITS: Limits = Limits {
@@ -97,14 +96,26 @@ fn one_log_keeps_the_first_value(rt: HostRuntime) -> Result<(), Fail> {
     Ok(())
 }
 
-/// Runs a store of `A` and one of `B` by a schedule, and looks at what the reference holds and who recorded its old value.
-fn race(
-    rt: &impl Abort,
-    alloc: Global,
-    schedule: &[u8],
-    stored: Place,
-    winner: usize,
-) -> Result<(), AllocError> {
+/// What a race leaves: what the reference holds, the word of its unlogged bit, and what each log has recorded.
+#[derive(Clone, Copy, PartialEq, Eq)]
+struct Raced {
+    stored: u64,
+    bits: u64,
+    logged: [Option<LogEntry>; 2],
+}
+
+/// What a storer has recorded.
+fn logged(storer: &Storer) -> Option<LogEntry> {
+    let log = storer.log();
+    if log.len() == 0 {
+        None
+    } else {
+        Some(log.entry(0))
+    }
+}
+
+/// Runs a store of `A` and one of `B` by a schedule.
+fn race(alloc: Global, schedule: &[u8]) -> Result<Raced, AllocError> {
     let mut words = opened(alloc)?;
     let mut storers = [
         Storer::new(
@@ -117,75 +128,102 @@ fn race(
         ),
     ];
     replay_stores(&mut words, &mut storers, schedule);
-    assert_eq!(rt; words.get(FIELD), u64::from(stored.0));
-    assert_eq!(rt; words.get(BITS), 1);
-    for (number, storer) in storers.iter().enumerate() {
-        let log = storer.log();
-        if number == winner {
-            assert_eq!(rt; log.len(), 1);
-            assert!(rt; log.entry(0) == ENTRY);
-        } else {
-            assert_eq!(rt; log.len(), 0);
-        }
-    }
-    Ok(())
+    Ok(Raced {
+        stored: words.get(FIELD),
+        bits: words.get(BITS),
+        logged: [logged(&storers[0]), logged(&storers[1])],
+    })
 }
 
 #[test]
 fn races(rt: HostRuntime) -> Result<(), Fail> {
-    for (schedule, stored, winner) in [
-        ([0, 0, 0, 1, 1, 0, 9, 9], A, 0),
-        ([0, 0, 1, 1, 1, 1, 0, 0], A, 1),
-        ([0, 1, 0, 1, 0, 1, 0, 1], B, 0),
-        ([0, 1, 0, 1, 1, 0, 0, 1], B, 1),
-        ([0, 0, 0, 1, 0, 1, 9, 9], B, 0),
-        ([0, 1, 1, 1, 1, 0, 0, 0], A, 1),
-        ([2, 0, 0, 0, 0, 1, 255, 1], B, 0),
+    let first = [Some(ENTRY), None];
+    let second = [None, Some(ENTRY)];
+    for (schedule, stored, logged) in [
+        ([0, 0, 0, 1, 1, 0, 9, 9], A, first),
+        ([0, 0, 1, 1, 1, 1, 0, 0], A, second),
+        ([0, 1, 0, 1, 0, 1, 0, 1], B, first),
+        ([0, 1, 0, 1, 1, 0, 0, 1], B, second),
+        ([0, 0, 0, 1, 0, 1, 9, 9], B, first),
+        ([0, 1, 1, 1, 1, 0, 0, 0], A, second),
+        ([2, 0, 0, 0, 0, 1, 255, 1], B, first),
     ] {
-        race(&rt, rt.alloc(), &schedule, stored, winner)?;
+        let stored = u64::from(stored.0);
+        let wanted = Raced {
+            stored,
+            bits: 1,
+            logged,
+        };
+        assert!(rt; race(rt.alloc(), &schedule)? == wanted);
     }
     Ok(())
 }
 
-/// Does the next step of a machine on words that have it, with a log that has room.
-fn step(machine: &mut StoreMachine, log: &mut Log, words: &mut PlainWords) {
-    let Some(action) = machine.next() else {
-        return;
-    };
-    let at = action.word as usize;
-    if at < words.count() && !log.is_full() {
-        let old = words.get(at);
-        words.set(at, action.kind.apply(old, action.operand));
-        machine.take(old, log);
+/// A swap of the reference, with its log.
+#[derive(Drop)]
+struct Swap {
+    machine: StoreMachine,
+    log: Log,
+}
+
+impl Swap {
+    /// A swap before its first step, with a log for two entries.
+    fn new(alloc: Global, source: Place) -> Result<Swap, AllocError> {
+        Ok(Swap {
+            machine: StoreMachine::swapping(regions(LIMITS), PLACE, INDEX, source),
+            log: Log::new(alloc, 2)?,
+        })
+    }
+
+    /// Does the next step on words that have it, if the log has room.
+    fn step(&mut self, words: &mut PlainWords) {
+        let Some(action) = self.machine.next() else {
+            return;
+        };
+        let at = action.word as usize;
+        if at < words.count() && !self.log.is_full() {
+            let old = words.get(at);
+            words.set(at, action.kind.apply(old, action.operand));
+            self.machine.take(old, &mut self.log);
+        }
     }
 }
 
-/// Runs a swap of `A` and one of `B` by a schedule, and looks at what each has found, what the reference holds then, and how
-/// many entries each has recorded.
-fn swap_race(
-    rt: &impl Abort,
-    alloc: Global,
-    schedule: &[u8],
+/// What a race of swaps leaves: what each has found and how many entries it has recorded, and what the reference holds.
+#[derive(Clone, Copy, PartialEq, Eq)]
+struct Swapped {
     olds: [Option<Place>; 2],
-    left: Place,
     recorded: [u32; 2],
-) -> Result<(), AllocError> {
-    let mut words = opened(alloc)?;
-    let mut first = StoreMachine::swapping(regions(LIMITS), PLACE, INDEX, A);
-    let mut second = StoreMachine::swapping(regions(LIMITS), PLACE, INDEX, B);
-    let mut first_log = Log::new(alloc, 2)?;
-    let mut second_log = Log::new(alloc, 2)?;
+    left: u64,
+}
+
+/// Runs two swaps by a schedule.
+fn play(words: &mut PlainWords, first: &mut Swap, second: &mut Swap, schedule: &[u8]) {
     for turn in schedule {
         match *turn {
-            0 => step(&mut first, &mut first_log, &mut words),
-            1 => step(&mut second, &mut second_log, &mut words),
+            0 => first.step(words),
+            1 => second.step(words),
             _ => {}
         }
     }
-    assert!(rt; [first.old(), second.old()] == olds);
-    assert_eq!(rt; [first_log.len(), second_log.len()], recorded);
-    assert!(rt; words.count() == 5000 && words.get(FIELD) == u64::from(left.0));
-    Ok(())
+}
+
+/// Runs a swap of `A` and one of `B` by a schedule.
+fn swap_race(alloc: Global, schedule: &[u8]) -> Result<Swapped, AllocError> {
+    let mut words = opened(alloc)?;
+    let mut first = Swap::new(alloc, A)?;
+    let mut second = Swap::new(alloc, B)?;
+    play(&mut words, &mut first, &mut second, schedule);
+    let left = if FIELD < words.count() {
+        words.get(FIELD)
+    } else {
+        0
+    };
+    Ok(Swapped {
+        olds: [first.machine.old(), second.machine.old()],
+        recorded: [first.log.len(), second.log.len()],
+        left,
+    })
 }
 
 #[test]
@@ -198,7 +236,13 @@ fn swaps_tell_what_they_find(rt: HostRuntime) -> Result<(), Fail> {
         ([0, 0, 0, 1, 9, 9, 9, 9], [None, None], P, [1, 0]),
         ([1, 1, 1, 1, 0, 9, 9, 9], [None, Some(P)], B, [0, 1]),
     ] {
-        swap_race(&rt, rt.alloc(), &schedule, olds, left, recorded)?;
+        let left = u64::from(left.0);
+        let wanted = Swapped {
+            olds,
+            recorded,
+            left,
+        };
+        assert!(rt; swap_race(rt.alloc(), &schedule)? == wanted);
     }
     Ok(())
 }

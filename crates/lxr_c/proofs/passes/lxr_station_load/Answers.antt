@@ -1,8 +1,8 @@
 use Rattle.std.proofs.Common.{◌∙◌, ap, subst}
-use Rattle.lxr_c.specs.declared.codes.Code.TheVariants as code
-use Rattle.lxr_c.specs.Holding.{At}
-use Rattle.lxr_c.specs.Passing.{Operates, only}
-use Rattle.lxr_c.specs.Requests.{small_of}
+use Rattle.lxr_c_base.specs.declared.codes.Code.TheVariants as code
+use Rattle.lxr_c_shared.specs.Holding.{At}
+use Rattle.lxr_c_shared.specs.Passing.{Operates, only}
+use Rattle.lxr_c_base.specs.Requests.{small_of}
 use Rattle.lxr_c.proofs.passes.lxr_station_load.Goals as goal
 
 pub returns : goal.returns

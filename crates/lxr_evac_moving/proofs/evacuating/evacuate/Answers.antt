@@ -24,8 +24,8 @@ fix_registers-requires c =
       then_registers s x.new.space y.new.space s s x.result x.ensures y.ensures c.requires.0 c.requires.1 can,
     )
 
-pub fix_deferred-requires : goal.fix_deferred-requires
-fix_deferred-requires c =
+pub fix_registers-requires-2 : goal.fix_registers-requires-2
+fix_registers-requires-2 c =
     let can = can_move c.args.space.now c.requires.0 c.requires.1 c.overflowed.result c.requires.2 c.overflowed.ensures c.if-overflowed.false in
     let x = c.move_objects-evacuated in
     let y = c.fix_references in
@@ -42,7 +42,7 @@ clear_old_places-requires c =
     let x = c.move_objects-evacuated in
     let y = c.fix_references in
     let z = c.fix_registers in
-    let w = c.fix_deferred in
+    let w = c.fix_registers-2 in
     let s = c.args.space.now in (
       c.requires.0,
       moved_stage s x.new.space y.new.space z.new.space w.new.space x.result x.ensures c.requires.0 c.requires.1 can,
@@ -55,6 +55,6 @@ returns c = λ m at is.
     let x = c.move_objects-evacuated in
     let y = c.fix_references in
     let z = c.fix_registers in
-    let w = c.fix_deferred in
+    let w = c.fix_registers-2 in
     let v = c.clear_old_places in
     then_done c.args.space.now x.new.space y.new.space z.new.space w.new.space x.result x.ensures y.ensures z.ensures.fixes z.ensures.rest w.ensures.fixes w.ensures.rest v.new.space v.ensures.clears v.ensures.tables v.ensures.rest m at can

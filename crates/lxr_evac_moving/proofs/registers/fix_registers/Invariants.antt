@@ -1,11 +1,11 @@
 use Rattle.std.proofs.Common.{◌≡◌}
 use Rattle.lxr_model.specs.Moments.{Moment}
 use Rattle.lxr_evac_moving.specs.Stages.{EvacuationStage, IsEvacuating}
-use Rattle.lxr_evac_moving.specs.Steps.{HoldNow}
+use Rattle.lxr_evac_moving.specs.Steps.{HoldNow, held_names, held_places, with_places}
 use Rattle.lxr_evac_moving.proofs.registers.fix_registers.Given as goal
 
 abbrev pub invariant-loop-register : goal.invariant-loop-register
 invariant-loop-register l = record {
-  fixes : (m : Moment) (st : EvacuationStage) → IsEvacuating l.fn.space m st → IsEvacuating l.space m st × HoldNow st l.space.registers.items m.state.registers l.register;
-  rest : l.space ≡ record l.fn.space { registers = record l.fn.space.registers { items = l.space.registers.items } };
+  fixes : (m : Moment) (st : EvacuationStage) → IsEvacuating l.fn.space m st → IsEvacuating l.space m st × HoldNow st (held_places l.registers l.space) (held_names l.registers m) l.register;
+  rest : l.space ≡ with_places l.registers l.fn.space (held_places l.registers l.space);
 }

@@ -1,12 +1,14 @@
-use Rattle.std.proofs.Common.{sym, ap, subst}
+use Rattle.std.proofs.Common.{ℕ, sym, ap, subst}
+use Rattle.lxr_layout.specs.declared.Name.{Name}
 use Rattle.lxr_graph.specs.declared.Reply.TheVariants as reply
+use Rattle.lxr_direct.specs.declared.Operated.TheVariants as operated
 use Rattle.lxr_direct.specs.Operating.{Operates}
 use Rattle.lxr_large_model.specs.declared.LargeOp.TheVariants as large_op
 use Rattle.lxr_large_model.specs.declared.LargeReply.TheVariants as large_reply
 use Rattle.lxr_heap.specs.Acting.{Acts}
-use Rattle.lxr_heap.specs.Holding.{abstract_after}
+use Rattle.lxr_heap.specs.Holding.{StandAt, abstract_after}
 use Rattle.lxr_heap.proofs.ActingLemmas.{no_place_small, refusal, replied_small}
-use Rattle.lxr_heap.proofs.HeapLemmas.{may_operate}
+use Rattle.lxr_heap.proofs.HeapLemmas.{may_operate, standing}
 use Rattle.lxr_heap.proofs.acting.act_small.Goals as goal
 
 pub operate-requires-clause-state : goal.operate-requires-clause-state
@@ -15,8 +17,10 @@ operate-requires-clause-state c = let (h, is) = c.requires.holds in (abstract_af
 pub returns-in-Replied : goal.returns-in-Replied
 returns-in-Replied c = λ h is.
     let x = c.args.heap.now in
-    let came = subst (Operates x.space c.operate.new.space (abstract_after h is.at) 1 c.args.op) c.in-Replied.is (c.operate.ensures (abstract_after h is.at) (may_operate x h is)) in
-    replied_small x h is c.operate.new.space c.args.op c.in-Replied.reply c.made_with-heap.result c.requires.op.0 c.requires.op.1 c.made_with-heap.ensures came
+    let came : (at : Name → ℕ) → StandAt x.space h at → Operates x.space c.operate.new.space (abstract_after h at) 1 c.args.op (operated.Replied c.in-Replied.reply) = λ at stands.
+    subst (Operates x.space c.operate.new.space (abstract_after h at) 1 c.args.op) c.in-Replied.is (c.operate.ensures (abstract_after h at) (may_operate x h (standing x h is at stands))) in
+    replied_small x h is c.operate.new.space c.args.op c.in-Replied.reply c.made_with-heap.result c.requires.op.0 c.requires.op.1 c.made_with-heap.ensures
+    (λ at stands. (came at stands).0) (let here = came is.at is.rests in (here.1, here.2))
 
 pub returns-in-NoRoom : goal.returns-in-NoRoom
 returns-in-NoRoom c = λ h is.

@@ -8,7 +8,7 @@ use Rattle.lxr_large_model.specs.State.{handle}
 use Rattle.lxr_heap.specs.Acting.{Acts, HasRun}
 use Rattle.lxr_heap.specs.Holding.{abstract_after}
 use Rattle.lxr_heap.proofs.ActingLemmas.{next_has_none, no_place_big, refusal, replied_big}
-use Rattle.lxr_heap.proofs.HeapLemmas.{may_operate, one_thread}
+use Rattle.lxr_heap.proofs.HeapLemmas.{may_operate, one_thread, standing}
 use Rattle.lxr_heap.proofs.acting.make_large.Goals as goal
 
 pub serve-requires-clause-stands : goal.serve-requires-clause-stands
@@ -33,13 +33,12 @@ returns-in-None c = λ h is.
 pub returns-in-Some-serve : goal.returns-in-Some-serve
 returns-in-Some-serve c = λ h is.
     let x = c.args.heap.now in
-    let g = abstract_after h is.at in
     let n : Name = record { thread = 1; serial = x.made + 1 } in
     let served = subst (Serves x.space c.serve.new.space n c.args.dest handle) c.in-Some-serve.is c.serve.ensures.serves in
     let run : HasRun x.bodies c.args.blocks = (c.in-Some.first, c.in-Some.ensures.run) in
     replied_big x h is c.serve.new.space c.place.new.self n c.args.dest c.args.blocks c.in-Some.first c.requires.dest c.requires.blocks c.in-Some.ensures.run c.place.ensures
     (λ none. elim none [ inl full ↦ served.room full | inr gone ↦ gone run ]) refl
-    (make_done x.space c.serve.new.space g 1 (x.made + 1) c.args.dest handle c.in-Some-serve.field-0 (may_operate x h is) served)
+    (λ at stands. make_done x.space c.serve.new.space (abstract_after h at) 1 (x.made + 1) c.args.dest handle c.in-Some-serve.field-0 (may_operate x h (standing x h is at stands)) served)
 
 pub returns-in_default : goal.returns-in_default
 returns-in_default c = λ h is.

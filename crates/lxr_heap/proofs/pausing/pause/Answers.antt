@@ -3,7 +3,8 @@ use Rattle.lxr_large_bodies.specs.Bodies.{Held}
 use Rattle.lxr_one_pause.specs.Pausing.{Pauses}
 use Rattle.lxr_heap.specs.Holding.{abstract_after}
 use Rattle.lxr_heap.specs.Pausing.{PausesHeap}
-use Rattle.lxr_heap.proofs.PausingLemmas.{can_pause, numbers_behind, pauses_heap}
+use Rattle.lxr_heap.proofs.HeapLemmas.{standing}
+use Rattle.lxr_heap.proofs.PausingLemmas.{PausesAnywhere, can_pause, numbers_behind, pauses_heap}
 use Rattle.lxr_heap.proofs.pausing.pause.Goals as goal
 
 pub one_pause-requires-clause-space : goal.one_pause-requires-clause-space
@@ -32,7 +33,7 @@ left_after-heap-requires-clause-gone c =
 pub returns-clause-pauses : goal.returns-clause-pauses
 returns-clause-pauses c = λ h is.
     let x = c.args.heap.now in
-    let (at', p) = c.one_pause.ensures.pauses (abstract_after h is.at) (can_pause x h is c.requires.number) in
     subst (λ (b : Held). PausesHeap x (record x { space = c.one_pause.new.space; bodies = b; made_before = x.made; left = c.left_after-heap.result; fresh = c.args.collect }) h c.args.collect) (sym c.after_pause.ensures)
-    (pauses_heap x h is c.one_pause.new.space c.left_after-heap.result c.args.collect c.untraced_pace-pace.result at' c.untraced_pace-pace.ensures.apart
-    (subst (λ a. Pauses x.space c.one_pause.new.space (abstract_after h is.at) at' a c.untraced_pace-pace.result) c.asked-ask.ensures p) c.left_after-heap.ensures)
+    (pauses_heap x h is c.one_pause.new.space c.left_after-heap.result c.args.collect c.untraced_pace-pace.result c.untraced_pace-pace.ensures.apart
+    (subst (λ a. PausesAnywhere x h c.one_pause.new.space a c.untraced_pace-pace.result) c.asked-ask.ensures
+    (λ at stands. c.one_pause.ensures.pauses (abstract_after h at) (can_pause x h (standing x h is at stands) c.requires.number))) c.left_after-heap.ensures)

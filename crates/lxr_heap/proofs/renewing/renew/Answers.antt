@@ -26,7 +26,7 @@ renew_names-requires c =
     let tells = c.tell.ensures h is in
     let x = c.args.heap.now in
     let y = c.tell.new.heap in
-    (abstract_after h tells.holds.at, ns x y h c.requires.fresh tells, may_renew x y h c.requires.fresh tells)
+    (abstract_after h tells.holds.at, ns x y h c.requires.fresh tells, may_renew x y h c.requires.fresh tells tells.holds.at tells.holds.rests)
 
 pub overflow_cast-left : goal.overflow_cast-left
 overflow_cast-left c =
@@ -34,7 +34,7 @@ overflow_cast-left c =
     let tells = c.tell.ensures h is in
     let x = c.args.heap.now in
     let y = c.tell.new.heap in
-    let r = c.renew_names.ensures (abstract_after h tells.holds.at) (ns x y h c.requires.fresh tells) (may_renew x y h c.requires.fresh tells) in
+    let r = c.renew_names.ensures (abstract_after h tells.holds.at) (ns x y h c.requires.fresh tells) (may_renew x y h c.requires.fresh tells tells.holds.at tells.holds.rests) in
     let long = c.len.ensures in
     let same = ap (λ (s : Space). length s.report.told.items) r.space in
     let few = counted_few x y h c.requires.fresh tells in
@@ -46,7 +46,7 @@ overflow_sub-left c =
     let tells = c.tell.ensures h is in
     let x = c.args.heap.now in
     let y = c.tell.new.heap in
-    let r = c.renew_names.ensures (abstract_after h tells.holds.at) (ns x y h c.requires.fresh tells) (may_renew x y h c.requires.fresh tells) in
+    let r = c.renew_names.ensures (abstract_after h tells.holds.at) (ns x y h c.requires.fresh tells) (may_renew x y h c.requires.fresh tells tells.holds.at tells.holds.rests) in
     let long = c.len.ensures in
     let same = ap (λ (s : Space). length s.report.told.items) r.space in
     let many = counted_many x y h c.requires.fresh tells in
@@ -57,7 +57,7 @@ returns c = λ h is.
     let tells = c.tell.ensures h is in
     let x = c.args.heap.now in
     let y = c.tell.new.heap in
-    let r = c.renew_names.ensures (abstract_after h tells.holds.at) (ns x y h c.requires.fresh tells) (may_renew x y h c.requires.fresh tells) in
+    let r = c.renew_names.ensures (abstract_after h tells.holds.at) (ns x y h c.requires.fresh tells) (may_renew x y h c.requires.fresh tells tells.holds.at tells.holds.rests) in
     let left = c.len.result - 1 in
     let long = c.len.ensures in
     let same = ap (λ (s : Space). length s.report.told.items) r.space in
@@ -66,4 +66,5 @@ returns c = λ h is.
     let bodies = c.renew.ensures (ns x y h c.requires.fresh tells)
     (subst (λ cs. AreCounted cs (ns x y h c.requires.fresh tells)) (sym c.as_slice.ensures) (counted x y h c.requires.fresh tells)) in
     subst (λ (b : Held). RenewsHeap x (record y { space = c.renew_names.new.space; bodies = b; made = left; made_before = left; left = left }) h) (sym bodies)
-    (renews_heap x y h c.requires.fresh tells c.renew_names.new.space r (c.len.result - 1) all)
+    (renews_heap x y h c.requires.fresh tells c.renew_names.new.space
+    (λ at stands. c.renew_names.ensures (abstract_after h at) (ns x y h c.requires.fresh tells) (may_renew x y h c.requires.fresh tells at stands)) (c.len.result - 1) all)

@@ -1,8 +1,7 @@
 use Rattle.std.proofs.Common.{◌∷◌, subst, sym, arith, true, false}
 use Rattle.std.proofs.lemmas.Result.{IfOk-weaker, on_err_weaker}
 use Rattle.lxr_heap.specs.declared.heap.Heap.{Heap}
-use Rattle.lxr_heap.specs.Acting.{Acts}
-use Rattle.lxr_large_run.specs.Asking.{WantsPause}
+use Rattle.lxr_heap.specs.Acting.{Acts, WantsPause}
 use Rattle.lxr_large_run.specs.Playing.{IsPlaying}
 use Rattle.lxr_large_run.proofs.EndLemmas.{few_replies}
 use Rattle.lxr_large_run.proofs.PlayLemmas.{came_directly}

@@ -3,9 +3,11 @@ use Rattle.lxr_graph.specs.History.{report_of}
 use Rattle.lxr_text_print.specs.Reports.{report_text}
 use Rattle.lxr_text_print.proofs.PageLemmas.{OnErr-always}
 use Rattle.lxr_text_stream.specs.Streams.{Appends, AppendsFront}
+use Rattle.lxr_large_run.specs.Playing.{TellsPrinted}
 use Rattle.lxr_large_run.proofs.EndLemmas.{few_replies}
 use Rattle.lxr_large_run.proofs.PlayLemmas.{came_behind, cut_before}
-use Rattle.lxr_large_run.proofs.RoomLemmas.{wanted_made, wanted_wants_none}
+use Rattle.lxr_heap.proofs.WantingLemmas.{wanted_wants_none}
+use Rattle.lxr_large_run.proofs.RoomLemmas.{wanted_made}
 use Rattle.lxr_large_run.proofs.playing.act_after_pause.Goals as goal
 
 pub pause-requires : goal.pause-requires
@@ -41,5 +43,6 @@ returns-clause-ok g c = λ task same rest h p wants.
       _,
       came_behind task c.args.op rest c.args.heap.now (g.O.Sink.written c.args.output.now) c.args.replies.now.items h p c.args.collect made c.pause.new.heap paused c.act_behind.new.heap (g.O.Sink.written c.pause.new.output) c.act_behind.result
           c.requires.op (c.act_behind.ensures _ (wanted_wants_none c.args.heap.now c.pause.new.heap h c.args.op c.args.collect wants paused))
-          (subst (λ b. Appends (g.O.Sink.written c.args.output.now) (g.O.Sink.written c.pause.new.output) (report_text b (report_of c.pause.new.heap.space.report))) (sym same) c.in_ok-pause.ensures.ok),
+          (subst (λ b. Appends (g.O.Sink.written c.args.output.now) (g.O.Sink.written c.pause.new.output) (report_text b (report_of c.pause.new.heap.space.report))) (sym same) c.in_ok-pause.ensures.ok)
+          (subst (λ b. TellsPrinted b c.pause.new.heap.space.report) (sym same) (c.pause.ensures.told h p.holds)),
     )

@@ -9,7 +9,7 @@ use Rattle.lxr_large_run.proofs.playing.pause.Goals as goal
 pub print_pause-requires : goal.print_pause-requires
 print_pause-requires g c =
     let (h, is) = c.requires.holds in
-    record { told = may_print c.args.heap.now c.pause_and_tell.new.heap c.report.result.now h c.args.collect c.args.counts c.report.ensures (c.pause_and_tell.ensures.pauses h is) (c.pause_and_tell.ensures.told h is) }
+    record { told = may_print c.pause_and_tell.new.heap c.report.result.now c.args.counts c.report.ensures (c.pause_and_tell.ensures.told h is) }
 
 pub returns-clause-err : goal.returns-clause-err
 returns-clause-err g c =

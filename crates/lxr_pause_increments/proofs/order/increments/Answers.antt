@@ -30,8 +30,8 @@ gray_old_values-requires-clause-fit c =
     let y = c.raise_registers.ensures.settles r.0 r.1 x.0 x.2 in
     old_values_fit c.raise_registers.new.space r.0 r.1 y.0 y.2.settled.accounted.incrementing
 
-pub clear_outs-requires : goal.clear_outs-requires
-clear_outs-requires c =
+pub clear_all-requires : goal.clear_all-requires
+clear_all-requires c =
     let r = c.requires in
     let x = c.raise_entries.ensures.settles r.0 r.1 (first_stage r.1 c.args.space.now) (begun c.args.space.now r.0 r.1 r.2) in
     let y = c.raise_registers.ensures.settles r.0 r.1 x.0 x.2 in
@@ -47,8 +47,8 @@ returns c = λ m at can.
     let y = c.raise_registers.ensures.settles m at x.0 x.2 in
     let count = same_registers c.raise_entries.new.space c.raise_registers.new.space m at x.0 y.0 x.2.settled.accounted.incrementing y.2.settled.accounted.incrementing in (
       y.0.now,
-      raises c.args.space.now c.raise_registers.new.space c.clear_outs.new.space m at y.0 can
+      raises c.args.space.now c.raise_registers.new.space c.clear_all.new.space m at y.0 can
           (leaves_both c.args.space.now c.raise_entries.new.space c.raise_registers.new.space c.raise_entries.ensures.leaves c.raise_registers.ensures.leaves) (y.1 ∙ x.1)
           (subst (HasRaisedRoots c.raise_registers.new.space m at y.0) (sym count) y.2)
-          (ending c.raise_registers.new.space c.gray_old_values.new.space c.clear_outs.new.space c.gray_old_values.ensures c.clear_outs.ensures),
+          (ending c.raise_registers.new.space c.gray_old_values.new.space c.clear_all.new.space c.gray_old_values.ensures c.clear_all.ensures),
     )

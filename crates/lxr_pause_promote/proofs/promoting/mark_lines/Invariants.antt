@@ -1,5 +1,5 @@
 use Rattle.lxr_image.specs.Spaces.{IsSpace, Turns, tables_of}
-use Rattle.lxr_invariant.specs.Lines.{next_line}
+use Rattle.lxr_blocks.specs.Lines.{next_line}
 use Rattle.lxr_pause_promote.specs.Promotion.{marked_between}
 use Rattle.lxr_pause_promote.proofs.promoting.mark_lines.Given as goal
 

@@ -2,7 +2,7 @@ use Rattle.std.proofs.Common.{sym, ap, ◌∙◌, option_map, refl}
 use Rattle.lxr_text_stream.proofs.StreamLemmas.{Appends-nil}
 use Rattle.lxr_graph.specs.Order.{order_of}
 use Rattle.lxr_run_history.specs.Sums.{sums_of}
-use Rattle.lxr_run_invariant.specs.LoopInvariant.{threads_of}
+use Rattle.lxr_run_loop.specs.Tasks.{threads_of}
 use Rattle.lxr_words.specs.declared.Command.TheVariants.{Judge, Large, Load, Map, Order, Run}
 use Rattle.lxr_words.specs.declared.Options.{Options}
 use Rattle.lxr_run_loop.specs.Printed.{SomeIsComplete}

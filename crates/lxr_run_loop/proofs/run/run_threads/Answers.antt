@@ -1,5 +1,6 @@
 use Rattle.std.proofs.Common.{arith}
-use Rattle.lxr_run_loop.proofs.ProgressLemmas.{complete_from, nearer, passed_on, under_way_from}
+use Rattle.lxr_rounds.proofs.ResultLemmas.{passed_on}
+use Rattle.lxr_run_loop.proofs.ProgressLemmas.{complete_from, nearer, under_way_from}
 use Rattle.lxr_run_loop.proofs.run.run_threads.Goals as goal
 
 pub make_round-requires-clause-under_way : goal.make_round-requires-clause-under_way

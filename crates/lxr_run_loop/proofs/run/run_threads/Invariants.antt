@@ -1,6 +1,7 @@
 use Rattle.std.proofs.Common.{◌≡◌, ℕ, ◌+◌, ◌≤◌, true, false, cond}
 use Rattle.lxr_core.specs.Actors.{mutators_in}
-use Rattle.lxr_run_invariant.specs.LoopInvariant.{Task, left_of}
+use Rattle.lxr_rounds_invariant.specs.LoopInvariant.{left_of}
+use Rattle.lxr_run_loop.specs.Tasks.{Task}
 use Rattle.lxr_run_loop.specs.Progress.{IsComplete, IsUnderWay}
 use Rattle.lxr_run_loop.proofs.run.run_threads.Given as goal
 

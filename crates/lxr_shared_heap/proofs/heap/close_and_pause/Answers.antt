@@ -1,5 +1,5 @@
 use Rattle.std.proofs.Common.{subst, sym}
-use Rattle.lxr_run_invariant.specs.Laws.{beginning_of}
+use Rattle.lxr_rounds_invariant.specs.Laws.{beginning_of}
 use Rattle.lxr_shared_heap.specs.declared.heap.Stage.TheVariants as stage
 use Rattle.lxr_shared_heap.specs.Heaps.{Heaped, PausesWith}
 use Rattle.lxr_shared_heap.specs.Settings.{run_of}

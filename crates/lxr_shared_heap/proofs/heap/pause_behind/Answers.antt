@@ -6,7 +6,7 @@ use Rattle.std.specs.Vec.{with_items}
 use Rattle.lxr_image.specs.declared.space.Space.{Space}
 use Rattle.lxr_core.specs.Actors.{mutators_in}
 use Rattle.lxr_model.proofs.CollectLemmas.{whole_so_far}
-use Rattle.lxr_run_invariant.specs.LoopInvariant.{IsBetweenEpochs, terms_of}
+use Rattle.lxr_rounds_invariant.specs.LoopInvariant.{IsBetweenEpochs, terms_of}
 use Rattle.lxr_shared_heap.specs.declared.heap.Stage.TheVariants as stage
 use Rattle.lxr_shared_heap.specs.Heaps.{ComesToRest}
 use Rattle.lxr_shared_heap.specs.Living.{AreLive}
@@ -83,7 +83,7 @@ returns-else-rest g c = λ script before calls m ran newest. (
       belongs = rested.stands.1.come.history;
       renewed = anew.renewed;
       stands = (
-        (anew.abstract_state, subst (λ xs. IsBetweenEpochs (run_of c.args.settings anew.renewed_script) c.renew_where_due.new.space None None xs anew.renewed_history anew.abstract_state) (sym same) anew.between),
+        (anew.abstract_state, subst (λ xs. IsBetweenEpochs (run_of c.args.settings anew.renewed_script) c.renew_where_due.new.space None xs anew.renewed_history anew.abstract_state) (sym same) anew.between),
         subst (λ xs. AreLive (mutators_in xs)) (sym same) anew.live,
         subst (λ xs. EndByNewest anew.renewed_history (mutators_in xs)) (sym same) anew.newest,
       );

@@ -5,7 +5,7 @@ use Rattle.lxr_invariant.specs.Quiescent.{IsQuiescent}
 use Rattle.lxr_placing.specs.Opening.{opening_abstract_state}
 use Rattle.lxr_placing.proofs.OpenedListLemmas.{opened_is_listed}
 use Rattle.lxr_placing.proofs.OpeningLemmas.{opened_is_quiescent}
-use Rattle.lxr_run_loop.specs.Made.{HelpersStandBehind}
+use Rattle.lxr_rounds.specs.Helpers.{HelpersStandBehind}
 use Rattle.lxr_shared_heap.specs.Making.{AreNew}
 use Rattle.lxr_shared_heap.specs.Settings.{limits_in}
 use Rattle.lxr_shared_heap.proofs.MakingLemmas.{new_between, new_live, new_newest}

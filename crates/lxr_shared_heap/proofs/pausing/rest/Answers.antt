@@ -1,11 +1,17 @@
-use Rattle.std.proofs.Common.{subst}
-use Rattle.std.specs.Prelude.{None}
-use Rattle.lxr_run_loop.specs.Following.{FollowsEach}
+use Rattle.std.proofs.Common.{subst, sym}
+use Rattle.lxr_one_pause.specs.Deciding.{IsPace}
+use Rattle.lxr_shared_heap.specs.Settings.{run_of}
 use Rattle.lxr_shared_heap.proofs.RestingLemmas.{rests_each}
 use Rattle.lxr_shared_heap.proofs.pausing.rest.Goals as goal
 
+pub follow_epoch-requires-clause-pace : goal.follow_epoch-requires-clause-pace
+follow_epoch-requires-clause-pace g c = subst IsPace (sym c.pace.ensures) (record { trace = c.requires.settings.trace; within = c.requires.settings.within })
+
+pub follow_epoch-requires-clause-ran : goal.follow_epoch-requires-clause-ran
+follow_epoch-requires-clause-ran g c =
+    let (script, before, calls, m, ran) = c.requires.made in
+    (run_of c.args.settings script, sym c.pace.ensures, before, calls, m, ran)
+
 pub returns : goal.returns
 returns g c =
-    rests_each c.args.settings c.args.space.now c.follow_epoch.new.space c.args.actors.now.items c.follow_epoch.new.actors.items c.none-totals.result c.follow_epoch.new.totals c.none-order.result c.follow_epoch.new.order c.in-Ok.ended
-    (subst (λ options. FollowsEach options c.args.space.now None None c.args.actors.now.items c.none-totals.result c.none-order.result c.follow_epoch.new.space None None c.follow_epoch.new.actors.items c.follow_epoch.new.totals c.follow_epoch.new.order c.in-Ok.ended)
-    c.options-options.ensures c.in-Ok.ensures.ok)
+    rests_each _ c.args.settings c.pace.result c.args.space.now c.follow_epoch.new.space c.args.actors.now.items c.follow_epoch.new.actors.items c.in-Ok.ended c.pace.ensures c.in-Ok.ensures.ok

@@ -1,7 +1,0 @@
-use Rattle.std.proofs.Common.{subst}
-use Rattle.lxr_c.specs.Calling.{Asks}
-use Rattle.lxr_c.specs.Hosting.{Replies}
-use Rattle.lxr_c.proofs.lxr_bput.Goals as goal
-
-pub returns : goal.returns
-returns c = (c.reply.result, subst (λ q. Asks Replies c.args.heap.now.block.value c.reply.new.self.block.value q c.reply.result) c.big_put.ensures.asked c.reply.ensures, c.answered.ensures)

@@ -1,0 +1,7 @@
+use Rattle.std.proofs.Common.{subst}
+use Rattle.lxr_c_heap.specs.Calling.{Asks}
+use Rattle.lxr_c_heap.specs.Hosting.{Replies}
+use Rattle.lxr_c.proofs.lxr_large_put.Goals as goal
+
+pub returns : goal.returns
+returns c = (c.reply.result, subst (λ q. Asks Replies c.args.heap.now.block.value c.reply.new.self.block.value q c.reply.result) c.big_put.ensures.asked c.reply.ensures, c.answered.ensures)

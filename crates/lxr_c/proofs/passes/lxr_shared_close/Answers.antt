@@ -1,4 +1,0 @@
-use Rattle.lxr_c.proofs.passes.lxr_shared_close.Goals as goal
-
-pub returns : goal.returns
-returns c = (c.close_heap.result, c.close_heap.ensures, c.number.ensures)

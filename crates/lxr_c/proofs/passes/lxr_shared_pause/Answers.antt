@@ -1,4 +1,0 @@
-use Rattle.lxr_c.proofs.passes.lxr_shared_pause.Goals as goal
-
-pub returns : goal.returns
-returns c = (c.pause.result, c.pause.ensures, c.number.ensures)

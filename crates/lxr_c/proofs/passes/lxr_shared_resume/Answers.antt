@@ -1,4 +1,0 @@
-use Rattle.lxr_c.proofs.passes.lxr_shared_resume.Goals as goal
-
-pub returns : goal.returns
-returns c = (c.resume.result, c.resume.ensures, c.number.ensures)

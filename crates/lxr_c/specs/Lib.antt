@@ -1,9 +1,0 @@
-pub mod Codes
-pub mod Requests
-pub mod Hosting
-pub mod Keeping
-pub mod Calling
-pub mod Looking
-pub mod Holding
-pub mod Sharing
-pub mod Passing

@@ -1,0 +1,5 @@
+pub mod AsBox
+pub mod OperationLemmas
+pub mod PacingLemmas
+pub mod RoomLemmas
+pub mod CallLemmas

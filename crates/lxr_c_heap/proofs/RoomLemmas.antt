@@ -1,0 +1,278 @@
+-- Room for objects and pauses that are to come: what a pause, a renewal and an operation leave of it, and that no pause is needed behind one.
+use Rattle.std.proofs.Common.{◌≡◌, ℕ, ◌+◌, ◌*◌, ◌<◌, ◌≤◌, ◌∙◌, refl, sym, ap, subst, arith, true≢false, Bool, true, false, ◌^◌, List, [], ◌∷◌, inl, inr, Option}
+use mathlib.Core.Bool.{Bool-set}
+use Rattle.std.specs.Coded.{le_prop}
+use Rattle.std.proofs.lemmas.Bool.{cases_lt}
+use mathlib.Core.Logic.{∥∥₁_elim, ∥∥₁_prop}
+use Rattle.lxr_graph.specs.declared.Op.TheVariants as op
+use Rattle.lxr_large_model.specs.declared.Acted.{Acted}
+use Rattle.lxr_large_model.specs.declared.Acted.TheVariants as acted
+use Rattle.lxr_large_model.specs.declared.LargeOp.{LargeOp}
+use Rattle.lxr_large_model.specs.declared.LargeOp.TheVariants as large_op
+use Rattle.lxr_large_model.specs.declared.LargeReply.{LargeReply}
+use Rattle.lxr_large_model.specs.declared.LargeReply.TheVariants as large_reply
+use Rattle.lxr_large_model.specs.Full.{LargeReplies, LargeTerms}
+use Rattle.lxr_large_model.specs.History.{LargeItem, Called, large_moment, large_state}
+use Rattle.lxr_large_model.specs.Step.{IsLargeReply}
+use Rattle.lxr_heap.specs.declared.heap.Heap.{Heap}
+use Rattle.lxr_heap.specs.Acting.{IsReplied, MayBeCalled, WantsNoPause, WantsPause, made_by, Acts as HeapActs}
+use Rattle.lxr_heap.specs.Holding.{IsHeapOf, IsOpenedHeap, terms_of}
+use Rattle.lxr_heap.specs.declared.bulk.BodyReply.{BodyReply}
+use Rattle.lxr_heap.specs.declared.bulk.BodyReply.TheVariants as body_reply
+use Rattle.lxr_heap.specs.Bulk.{WritesWords, with_puts, with_written}
+use Rattle.lxr_heap.specs.Renewing.{RenewsHeap}
+use Rattle.lxr_heap.proofs.NumberLemmas.{called_makes, called_pauses, paused_pauses, pauses_are}
+use Rattle.lxr_heap.proofs.WantingLemmas.{wanted_wants_none}
+use Rattle.lxr_c_heap.specs.declared.host.Ends.{Ends}
+use Rattle.lxr_c_heap.specs.declared.host.HostHeap.{HostHeap}
+use Rattle.lxr_c_heap.specs.declared.settings.Settings.{Settings}
+use Rattle.lxr_c_heap.specs.Hosting.{Acts, HasRoom, IsAtEnd, IsHostOf, IsOpened, IsServing, IsWithin, Needs, Pauses, PausesWhere, Replies, SettlesAt, behind_pause}
+use Rattle.lxr_c_heap.specs.declared.pacing.Pace.{Pace}
+use Rattle.lxr_c_heap.specs.Pacing.{bytes_by, limit_of, pace_of}
+use Rattle.lxr_c_base.specs.Requests.{IsQuiet}
+use Rattle.lxr_c_heap.proofs.OperationLemmas.{quiet_makes, quiet_may}
+use Rattle.lxr_c_heap.proofs.PacingLemmas.{bytes_bound, bytes_few, paused_host, quiet_bytes, renewed_host, replied_host, written_bytes}
+
+-- some history that a program's heap is of
+abbrev pub SomeHistory : HostHeap → Type 0
+SomeHistory x = ∥ ((h : List LargeItem) × IsHostOf x h) ∥₁
+
+-- ---- pauses
+
+-- behind a pause no bytes were made
+pub paused_none : (x y : HostHeap) (collect : Bool) → SomeHistory x → ((h : List LargeItem) → IsHeapOf x.heap h → Pauses x y h collect) → y.bytes ≤ 0
+paused_none x y collect some paused = ∥∥₁_elim some le_prop (λ of. let none = ap (λ (z : HostHeap). z.bytes) (paused of.0 of.1.heap).rest in omega (arith, none))
+
+-- and one less can be made
+pub paused_room : (objects pauses : ℕ) (x y : HostHeap) (collect : Bool) → HasRoom objects (pauses + 1) x → ((h : List LargeItem) → IsHeapOf x.heap h → Pauses x y h collect) → HasRoom objects pauses y
+paused_room objects pauses x y collect room paused = record {
+  holds = ∥∥₁_elim room.holds ∥∥₁_prop (λ of. ∣ (behind_pause y of.0, paused_host x y of.0 collect (paused of.0 of.1.heap)) ∣₁);
+  made = ∥∥₁_elim room.holds le_prop (λ of. let same = (paused of.0 of.1.heap).heap.made in let few = room.made in omega (arith, same, few));
+  paused = ∥∥₁_elim room.holds le_prop (λ of.
+      let one = paused_pauses x.heap y.heap of.0 collect of.1.heap (paused of.0 of.1.heap).heap in
+      let few = room.paused in
+      omega (arith, one, few));
+  bytes = let none = paused_none x y collect room.holds paused in omega (arith, none);
+}
+
+-- a pause that collects is fresh
+pub paused_fresh : (x y : HostHeap) → SomeHistory x → ((h : List LargeItem) → IsHeapOf x.heap h → Pauses x y h true) → y.heap.fresh ≡ true
+paused_fresh x y some paused = ∥∥₁_elim some (Bool-set _ _) (λ of. let p = (paused of.0 of.1.heap).heap in p.holds.fresh.1 p.kind)
+
+-- it is of some history
+pub paused_some : (x y : HostHeap) (collect : Bool) → SomeHistory x → ((h : List LargeItem) → IsHeapOf x.heap h → Pauses x y h collect) → SomeHistory y
+paused_some x y collect some paused = ∥∥₁_elim some ∥∥₁_prop (λ of. ∣ (behind_pause y of.0, paused_host x y of.0 collect (paused of.0 of.1.heap)) ∣₁)
+
+-- a heap that was renewed behind a pause has room
+pub renewed_room : (x : HostHeap) (heap : Heap) → SomeHistory x → x.bytes ≤ 0 → ((h : List LargeItem) → IsHeapOf x.heap h → RenewsHeap x.heap heap h) → HasRoom 2 3 (record x { heap = heap })
+renewed_room x heap some none renewed = record {
+  holds = ∥∥₁_elim some ∥∥₁_prop (λ of. let came = renewed of.0 of.1.heap in
+      ∣ (_, renewed_host x (record x { heap = heap }) of.0 _ of.1 (record { heap = came; history = refl; rest = refl })) ∣₁);
+  made = ∥∥₁_elim some le_prop (λ of. let few = (renewed of.0 of.1.heap).few in omega (arith, few));
+  paused = ∥∥₁_elim some le_prop (λ of. let no = (renewed of.0 of.1.heap).pauses in omega (arith, no));
+  bytes = omega (arith, none);
+}
+
+below : (a b : ℕ) → (b ≤ a → ⊥) → a < b
+below a b not = elim (cases_lt a b) [ inl less ↦ less | inr over ↦ absurd (not over) ]
+
+-- so has one that isn't at an end
+pub early_room : (ends : Ends) (x : HostHeap) → IsWithin ends → IsServing x → ¬ IsAtEnd ends x → HasRoom 2 3 x
+early_room ends x within serving early = record {
+  holds = serving.holds;
+  made =
+      let end = within.made in
+      let few = below x.heap.made ends.made (λ over. early (inl over)) in
+      omega (arith, end, few);
+  paused =
+      let end = within.pauses in
+      let few = below x.heap.space.pauses ends.pauses (λ over. early (inr over)) in
+      omega (arith, end, few);
+  bytes = serving.bytes;
+}
+
+-- where it has room, it has less room too
+pub weaker_room : (objects pauses : ℕ) (x : HostHeap) → HasRoom objects pauses x → 1 ≤ objects → 1 ≤ pauses → IsServing x
+weaker_room objects pauses x room one some = record {
+  holds = room.holds;
+  made = let few = room.made in omega (arith, few, one);
+  paused = let few = room.paused in omega (arith, few, some);
+  bytes = room.bytes;
+}
+
+pub with_less : (objects pauses : ℕ) (x : HostHeap) → HasRoom objects (pauses + 1) x → HasRoom objects pauses x
+with_less objects pauses x room = record { holds = room.holds; made = room.made; paused = let few = room.paused in omega (arith, few); bytes = room.bytes }
+
+-- a heap that was opened has its pace from the first object on
+pub opened_with : (heap : Heap) (wanted : Settings) (pace : Pace) (limit : Option ℕ) → IsOpenedHeap heap wanted.blocks wanted.body_blocks → pace ≡ pace_of wanted.pace → limit ≡ limit_of pace heap
+    → IsOpened (record { heap = heap; pace = pace; limit = limit; bytes = 0; pauses = 0 }) wanted
+opened_with heap wanted pace limit opened is within = record {
+  heap = opened;
+  rest = ap (λ (p : Pace). record { heap = heap; pace = p; limit = limit; bytes = 0; pauses = 0 }) is
+      ∙ ap (λ (l : Option ℕ). record { heap = heap; pace = pace_of wanted.pace; limit = l; bytes = 0; pauses = 0 }) (within ∙ ap (λ p. limit_of p heap) is);
+}
+
+-- a heap without a history serves
+pub opened_serves : (x : HostHeap) (wanted : Settings) → IsOpened x wanted → IsServing x
+opened_serves x wanted opened = record {
+  holds = ∣ ([], record { heap = opened.heap.holds; bytes = ap (λ (z : HostHeap). z.bytes) opened.rest }) ∣₁;
+  made = let none = opened.heap.made in omega (arith, none);
+  paused = let none = pauses_are x.heap [] opened.heap.holds in omega (arith, none);
+  bytes = let none = ap (λ (z : HostHeap). z.bytes) opened.rest in omega (arith, none);
+}
+
+-- what is behind a pause for a cause, and behind settling, is the heap of the history that is told
+pub paused_holds : (cause : Type 0) (collect : Bool) (x y : HostHeap) (h k : List LargeItem) → IsHostOf x h → PausesWhere cause collect x h y k → IsHostOf y k
+paused_holds cause collect x y h k is (inl (there, paused, same)) = subst (IsHostOf y) (sym same) (paused_host x y h collect paused)
+paused_holds cause collect x y h k is (inr (none, left, same)) = subst (IsHostOf y) (sym same) (subst (λ (z : HostHeap). IsHostOf z h) (sym left) is)
+
+pub settled_holds : (ends : Ends) (x y : HostHeap) (h k : List LargeItem) → IsHostOf x h → SettlesAt ends x h y k → IsHostOf y k
+settled_holds ends x y h k is (inl (there, m, paused, renewed)) = renewed_host m y (behind_pause m h) k (paused_host x m h true paused) renewed
+settled_holds ends x y h k is (inr (none, left, same)) = subst (IsHostOf y) (sym same) (subst (λ (z : HostHeap). IsHostOf z h) (sym left) is)
+
+-- ---- operations
+
+-- what an operation takes has a number
+pub bytes_room : (x : HostHeap) (o : LargeOp) (r : LargeReply) → MayBeCalled o → x.heap.made < 2 ^ 32 → x.bytes ≤ 8388608 * x.heap.made → x.bytes + bytes_by o r < 2 ^ 64
+bytes_room x o r may few all = let one = bytes_few o r may in omega (arith, one, few, all)
+
+-- it counts what it takes
+replied_bytes : (x y : HostHeap) (h : List LargeItem) (o : LargeOp) (r : LargeReply) → MayBeCalled o → x.bytes ≤ 8388608 * x.heap.made → Replies x y h o r → y.bytes ≤ 8388608 * y.heap.made
+replied_bytes x y h o r may before replies =
+    let bytes = ap (λ (z : HostHeap). z.bytes) replies.rest in
+    let made = replies.heap.made in
+    let bound = bytes_bound o r x.heap.made may in
+    omega (arith, bytes, made, bound, before)
+
+-- an operation takes one object at most, and no pause
+pub replied_room : (objects pauses : ℕ) (x y : HostHeap) (o : LargeOp) (r : LargeReply) → MayBeCalled o → HasRoom (objects + 1) pauses x → ∥ ((h : List LargeItem) × IsHostOf x h × Replies x y h o r) ∥₁ → HasRoom objects pauses y
+replied_room objects pauses x y o r may room some = record {
+  holds = ∥∥₁_elim some ∥∥₁_prop (λ of. ∣ (Called o r ∷ of.0, replied_host x y of.0 o r of.1 of.2) ∣₁);
+  made = ∥∥₁_elim some le_prop (λ of.
+      let one = called_makes x.heap y.heap of.0 o r of.1.heap of.2.heap.holds may in
+      let few = room.made in
+      omega (arith, one, few));
+  paused = ∥∥₁_elim some le_prop (λ of.
+      let same = called_pauses x.heap y.heap of.0 o r of.1.heap of.2.heap.holds in
+      let few = room.paused in
+      omega (arith, same, few));
+  bytes = ∥∥₁_elim some le_prop (λ of. replied_bytes x y of.0 o r may room.bytes of.2);
+}
+
+-- the reply of one that makes nothing is that of a step
+quiet_steps : (terms : LargeTerms) (h : List LargeItem) (o : LargeOp) (r : LargeReply) → IsQuiet o → LargeReplies terms h o r → IsLargeReply (large_state h) o r
+quiet_steps terms h (large_op.Small (op.New dest shape)) r is replies = absurd is
+quiet_steps terms h (large_op.Big dest blocks) r is replies = absurd is
+quiet_steps terms h o r is replies = replies
+
+-- and so it takes no object
+pub quiet_room : (x y : HostHeap) (o : LargeOp) (r : LargeReply) → IsQuiet o → IsServing x → ((h : List LargeItem) → IsHeapOf x.heap h → Replies x y h o r) → IsServing y
+quiet_room x y o r is room replies = record {
+  holds = ∥∥₁_elim room.holds ∥∥₁_prop (λ of. ∣ (Called o r ∷ of.0, replied_host x y of.0 o r of.1 (replies of.0 of.1.heap)) ∣₁);
+  made = ∥∥₁_elim room.holds le_prop (λ of.
+      let came = (replies of.0 of.1.heap).heap in
+      let step = quiet_steps (terms_of y.heap) of.0 o r is came.holds.legal.1.reply in
+      let same = came.made ∙ ap (made_by x.heap.made) (sym step) ∙ quiet_makes (large_state of.0) o x.heap.made is in
+      let few = room.made in
+      omega (arith, same, few));
+  paused = ∥∥₁_elim room.holds le_prop (λ of.
+      let same = called_pauses x.heap y.heap of.0 o r of.1.heap (replies of.0 of.1.heap).heap.holds in
+      let few = room.paused in
+      omega (arith, same, few));
+  bytes = ∥∥₁_elim room.holds le_prop (λ of. replied_bytes x y of.0 o r (quiet_may o is) room.bytes (replies of.0 of.1.heap));
+}
+
+-- an operation that makes nothing leaves the bytes
+pub quiet_same : (x : HostHeap) (heap : Heap) (o : LargeOp) (r : LargeReply) → IsQuiet o → record x { heap = heap } ≡ record x { heap = heap; bytes = x.bytes + bytes_by o r }
+quiet_same x heap o r is = ap (λ n. record x { heap = heap; bytes = n }) (let none = quiet_bytes o r is in omega (arith, none))
+
+-- words that are put make no pause
+puts_number : (h : List LargeItem) (base i : ℕ) (words : List ℕ) → (large_moment (with_puts h base i words)).number ≡ (large_moment h).number
+puts_number h base i [] = refl
+puts_number h base i (w ∷ words) = puts_number (Called (large_op.BigPut base i w) large_reply.Put ∷ h) base (i + 1) words
+
+written_number : (r : BodyReply) (h : List LargeItem) (base i : ℕ) (words : List ℕ) → (large_moment (with_written r h base i words)).number ≡ (large_moment h).number
+written_number body_reply.Done h base i words = puts_number h base i words
+written_number body_reply.Bad h base i words = refl
+written_number body_reply.Range h base i words = refl
+
+-- so words that are written in a row take neither objects nor pauses
+pub written_room : (x : HostHeap) (heap : Heap) (base i : ℕ) (words : List ℕ) (r : BodyReply) → IsServing x → ((h : List LargeItem) → IsHeapOf x.heap h → WritesWords x.heap heap h base i words r) → IsServing (record x { heap = heap })
+written_room x heap base i words r room writes = record {
+  holds = ∥∥₁_elim room.holds ∥∥₁_prop (λ of. ∣ (_, record { heap = (writes of.0 of.1.heap).holds; bytes = of.1.bytes ∙ sym (written_bytes r of.0 base i words) }) ∣₁);
+  made = ∥∥₁_elim room.holds le_prop (λ of. let same = (writes of.0 of.1.heap).made in let few = room.made in omega (arith, same, few));
+  paused = ∥∥₁_elim room.holds le_prop (λ of.
+      let after = pauses_are heap (with_written r of.0 base i words) (writes of.0 of.1.heap).holds in
+      let before = pauses_are x.heap of.0 of.1.heap in
+      let same = written_number r of.0 base i words in
+      let few = room.paused in
+      omega (arith, after, before, same, few));
+  bytes = ∥∥₁_elim room.holds le_prop (λ of. let same = (writes of.0 of.1.heap).made in let few = room.bytes in omega (arith, same, few));
+}
+
+-- what was replied to needed no pause
+pub replied_needs_none : (x : HostHeap) (y : Heap) (h : List LargeItem) (o : LargeOp) (r : LargeReply) → IsReplied x.heap y h o r → (collect : Bool) → Needs x h o collect → ⊥
+replied_needs_none x y h o r came true needs = true≢false (sym (came.fresh (came.refused.1 needs.0)).0 ∙ needs.1)
+replied_needs_none x y h o r came false needs = came.logged needs
+
+-- ---- an operation that asks for a pause
+
+-- what comes of an operation that asks for a pause: one that collects, or a plain one
+abbrev pub asked : Bool → Acted
+asked true = acted.Room
+asked false = acted.Log
+
+-- it has changed nothing
+stays : (x a : Heap) (h : List LargeItem) (o : LargeOp) (collect : Bool) → HeapActs x a h o (asked collect) → a ≡ x
+stays x a h o true came = came.2
+stays x a h o false came = came.1
+
+wants : (x a : Heap) (h : List LargeItem) (o : LargeOp) (collect : Bool) → HeapActs x a h o (asked collect) → WantsPause x h o collect
+wants x a h o true came = came.0
+wants x a h o false came = came.0
+
+needs : (x : HostHeap) (a : Heap) (h : List LargeItem) (o : LargeOp) (collect : Bool) → HeapActs x.heap a h o (asked collect) → Needs x h o collect
+needs x a h o true came = (came.0, came.1)
+needs x a h o false came = came.0
+
+-- so the pause can be made
+pub asked_number : (x : HostHeap) (a : Heap) (o : LargeOp) (collect : Bool) → HasRoom 2 2 x → ((h : List LargeItem) → IsHeapOf x.heap h → HeapActs x.heap a h o (asked collect)) → a.space.pauses + 1 < 2 ^ 32
+asked_number x a o collect room acts = ∥∥₁_elim room.holds le_prop (λ of.
+    let same = ap (λ (z : Heap). z.space.pauses) (stays x.heap a of.0 o collect (acts of.0 of.1.heap)) in
+    let few = room.paused in
+    omega (arith, same, few))
+
+module _ (x : HostHeap) (a : Heap) (m : HostHeap) (o : LargeOp) (collect : Bool) (acts : (h : List LargeItem) → IsHeapOf x.heap h → HeapActs x.heap a h o (asked collect))
+    (paused : (h : List LargeItem) → IsHeapOf a h → Pauses (record x { heap = a }) m h collect) where
+  same_heap : (h : List LargeItem) → IsHeapOf x.heap h → a ≡ x.heap
+  same_heap h is = stays x.heap a h o collect (acts h is)
+
+  -- the pause was made of the heap as it was
+  pub paused_same : (h : List LargeItem) → IsHeapOf x.heap h → Pauses x m h collect
+  paused_same h is =
+      let same = same_heap h is in
+      subst (λ z. Pauses (record x { heap = z }) m h collect) same (paused h (subst (λ z. IsHeapOf z h) (sym same) is))
+
+  -- behind it the operation wants none
+  pub behind_wants_none : (h : List LargeItem) → IsHeapOf x.heap h → WantsNoPause m.heap (behind_pause m h) o
+  behind_wants_none h is = wanted_wants_none x.heap m.heap h o collect (wants x.heap a h o collect (acts h is)) (paused_same h is).heap
+
+  -- and is done
+  pub acts_behind : (y : HostHeap) (r : LargeReply) → ((h : List LargeItem) → WantsNoPause m.heap h o → Replies m y h o r) → (h : List LargeItem) → IsHeapOf x.heap h → Acts x y h o r
+  acts_behind y r replies h is = record {
+    middle = m;
+    history = behind_pause m h;
+    pauses = inl (collect, needs x a h o collect (acts h is), paused_same h is, refl);
+    replies = replies (behind_pause m h) (behind_wants_none h is);
+  }
+
+  pub some_wants_none : SomeHistory x → ∥ ((h : List LargeItem) × WantsNoPause m.heap h o) ∥₁
+  some_wants_none some = ∥∥₁_elim some ∥∥₁_prop (λ of. ∣ (behind_pause m of.0, behind_wants_none of.0 of.1.heap) ∣₁)
+
+  pub behind_room : HasRoom 2 2 x → HasRoom 2 1 m
+  behind_room room = paused_room 2 1 x m collect room paused_same
+
+  pub behind_serves : (y : HostHeap) (r : LargeReply) → MayBeCalled o → HasRoom 2 2 x → ((h : List LargeItem) → WantsNoPause m.heap h o → Replies m y h o r) → IsServing y
+  behind_serves y r may room replies = replied_room 1 1 m y o r may (behind_room room)
+      (∥∥₁_elim room.holds ∥∥₁_prop (λ of.
+      ∣ (behind_pause m of.0, paused_host x m of.0 collect (paused_same of.0 of.1.heap), replies (behind_pause m of.0) (behind_wants_none of.0 of.1.heap)) ∣₁))

@@ -1,0 +1,11 @@
+use Rattle.std.proofs.Common.{◌∙◌, refl, sym, Some}
+use Rattle.lxr_c_heap.specs.Looking.{Counts, counted_by}
+use Rattle.lxr_c_heap.proofs.CallLemmas.{looks_seen}
+use Rattle.lxr_c_heap.proofs.handle.Handle.count.Goals as goal
+
+pub invariant_of-self-clause-serving : goal.invariant_of-self-clause-serving
+invariant_of-self-clause-serving c = λ x is. c.args.self.now.serving x (c.lend.ensures.heap ∙ is)
+
+pub returns : goal.returns
+returns c =
+    looks_seen Counts c.args.self.now.block.value (Some c.lend.result.now) c.lend.result.now (counted_by c.args.what) c.in_ok-what.what c.count.result c.lend.ensures.heap refl (sym c.counted_by.ensures ∙ c.in_ok-what.was) c.count.ensures

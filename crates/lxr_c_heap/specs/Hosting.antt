@@ -1,0 +1,142 @@
+-- What a program's heap does at a call, with the pauses that it makes by itself: each for a cause.
+use Rattle.std.specs.Prelude.{◌≡◌, ℕ, ◌+◌, ◌*◌, ◌%◌, ◌^◌, ◌<◌, ◌≤◌, ◌⊎◌, Bool, true, false, List, ◌∷◌}
+use Rattle.lxr_layout.specs.declared.TheConstants.{MOST_BLOCKS}
+use Rattle.lxr_graph.specs.History.{report_of}
+use Rattle.lxr_large_model.specs.declared.LargeOp.{LargeOp}
+use Rattle.lxr_large_model.specs.declared.LargeReply.{LargeReply}
+use Rattle.lxr_large_model.specs.History.{LargeItem, Paused, Renewed, large_moment}
+use Rattle.lxr_heap.specs.Acting.{FindsNoLog, FindsNoPlace, IsReplied}
+use Rattle.lxr_heap.specs.Holding.{IsHeapOf, IsOpenedHeap}
+use Rattle.lxr_heap.specs.Pausing.{PausesHeap}
+use Rattle.lxr_heap.specs.Renewing.{RenewsHeap}
+use Rattle.lxr_c_heap.specs.declared.host.Ends.{Ends}
+use Rattle.lxr_c_heap.specs.declared.host.TheConstants.{ENDS}
+use Rattle.lxr_c_heap.specs.declared.host.HostHeap.{HostHeap}
+use Rattle.lxr_c_heap.specs.declared.settings.Settings.{Settings}
+use Rattle.lxr_c_heap.specs.declared.settings.TheConstants.{SETTINGS_BYTES}
+use Rattle.lxr_c_heap.specs.Pacing.{IsReached, bytes_by, bytes_made, limit_of, pace_of}
+
+-- ---- a heap that serves
+
+-- The heap of a program is that of a history: so is the heap in it, and the bytes are those of the objects that were made since the last pause.
+pub record IsHostOf (x : HostHeap) (h : List LargeItem) : Type 0 where
+  pub heap : IsHeapOf x.heap h
+  pub bytes : x.bytes ≡ bytes_made h
+
+-- A heap of some history, of which so many more objects and pauses can be made: names have serials, and reports numbers, of 32 bits. No object
+-- takes 8 MB, so the bytes of new ones have a number of 64 bits.
+pub record HasRoom (objects pauses : ℕ) (x : HostHeap) : Type 0 where
+  pub holds : ∥ ((h : List LargeItem) × IsHostOf x h) ∥₁
+  pub made : x.heap.made + objects < 2 ^ 32
+  pub paused : x.heap.space.pauses + pauses < 2 ^ 32
+  pub bytes : x.bytes ≤ 8388608 * x.heap.made
+
+-- It can serve each call: an object can be made, and a pause.
+abbrev pub IsServing : HostHeap → Type 0
+IsServing = HasRoom 1 1
+
+-- so many blocks a heap may have, of either kind
+abbrev pub IsBlockCount : ℕ → Type 0
+IsBlockCount n = (1 ≤ n) × (n ≤ MOST_BLOCKS)
+
+-- settings of a size that is known, with such blocks as a heap may have
+pub record AreSettings (s : Settings) : Type 0 where
+  pub size : s.size ≡ SETTINGS_BYTES
+  pub blocks : IsBlockCount s.blocks
+  pub bodies : IsBlockCount s.body_blocks
+
+-- a heap that was opened with settings: of their blocks, and with their pace from the first object on
+pub record IsOpened (x : HostHeap) (s : Settings) : Type 0 where
+  pub heap : IsOpenedHeap x.heap s.blocks s.body_blocks
+  pub rest : x ≡ record { heap = x.heap; pace = pace_of s.pace; limit = limit_of (pace_of s.pace) x.heap; bytes = 0; pauses = 0 }
+
+-- ---- pauses
+
+-- A pause was made, of the kind that was asked for, and is counted. No bytes were made since, and the limit is that of the heap that it left.
+pub record Pauses (x y : HostHeap) (h : List LargeItem) (collect : Bool) : Type 0 where
+  pub heap : PausesHeap x.heap y.heap h collect
+  pub rest : y ≡ record x { heap = y.heap; limit = limit_of x.pace y.heap; bytes = 0; pauses = (x.pauses + 1) % 2 ^ 64 }
+
+-- the history behind the pause that a heap has just made
+abbrev pub behind_pause : HostHeap → List LargeItem → List LargeItem
+behind_pause y h = Paused (report_of y.heap.space.report) ∷ h
+
+-- A pause for a cause: it was made where the cause is there, and else nothing has changed. x and h are the heap and its history before it, and y
+-- and k behind it.
+abbrev pub PausesWhere : Type 0 → Bool → HostHeap → List LargeItem → HostHeap → List LargeItem → Type 0
+PausesWhere cause collect x h y k = (cause × Pauses x y h collect × (k ≡ behind_pause y h)) ⊎ (¬ cause × (y ≡ x) × (k ≡ h))
+
+-- the ends at which a heap is renewed leave room for what one call makes: an object, and three pauses
+pub record IsWithin (ends : Ends) : Type 0 where
+  pub made : ends.made + 2 < 2 ^ 32
+  pub pauses : ends.pauses + 3 < 2 ^ 32
+
+-- a heap has made as many objects, or as many pauses, as it makes before it is renewed
+abbrev pub IsAtEnd : Ends → HostHeap → Type 0
+IsAtEnd ends x = (ends.made ≤ x.heap.made) ⊎ (ends.pauses ≤ x.heap.space.pauses)
+
+-- All names were renewed, and k is the history behind that.
+pub record Renews (x y : HostHeap) (h k : List LargeItem) : Type 0 where
+  pub heap : RenewsHeap x.heap y.heap h
+  pub history : k ≡ Renewed heap.names ∷ h
+  pub rest : y ≡ record x { heap = y.heap }
+
+-- A heap that is at an end collects and is renewed; else nothing has changed.
+abbrev pub SettlesAt : Ends → HostHeap → List LargeItem → HostHeap → List LargeItem → Type 0
+SettlesAt ends x h y k = (IsAtEnd ends x × (m : HostHeap) × Pauses x m h true × Renews m y (behind_pause m h) k) ⊎ (¬ IsAtEnd ends x × (y ≡ x) × (k ≡ h))
+
+-- so it does before an operation that makes an object or stores a reference, and before a pause that is asked for
+abbrev pub Settles : HostHeap → List LargeItem → HostHeap → List LargeItem → Type 0
+Settles = SettlesAt ENDS
+
+-- a pause is due before an object is made: those that were made since the last one have as many bytes as the pace allows
+abbrev pub IsDue : HostHeap → List LargeItem → Type 0
+IsDue x h = IsReached x.limit (bytes_made h)
+
+-- An operation needs a pause that collects where it finds no place and no such pause stands before it, and a plain one where it has to record what
+-- it overwrites and the log is full.
+abbrev pub Needs : HostHeap → List LargeItem → LargeOp → Bool → Type 0
+Needs x h o true = FindsNoPlace x.heap o × (x.heap.fresh ≡ false)
+Needs x h o false = FindsNoLog x.heap (large_moment h) o
+
+-- the pause that an operation needs was made, or it needs none and nothing has changed
+abbrev pub PausesFor : LargeOp → HostHeap → List LargeItem → HostHeap → List LargeItem → Type 0
+PausesFor o x h y k = ((collect : Bool) × Needs x h o collect × Pauses x y h collect × (k ≡ behind_pause y h)) ⊎ (((collect : Bool) → ¬ Needs x h o collect) × (y ≡ x) × (k ≡ h))
+
+-- ---- operations
+
+-- An operation was done, or refused as full: the heap is that of the history with it in front. The bytes of an object that it made are counted.
+pub record Replies (x y : HostHeap) (h : List LargeItem) (o : LargeOp) (r : LargeReply) : Type 0 where
+  pub heap : IsReplied x.heap y.heap h o r
+  pub rest : y ≡ record x { heap = y.heap; bytes = x.bytes + bytes_by o r }
+
+-- It was done behind the pause that it needs.
+pub record Acts (x y : HostHeap) (h : List LargeItem) (o : LargeOp) (r : LargeReply) : Type 0 where
+  pub middle : HostHeap
+  pub history : List LargeItem
+  pub pauses : PausesFor o x h middle history
+  pub replies : Replies middle y history o r
+
+-- A reference was stored: the heap settles, and the store is done.
+pub record Stores (x y : HostHeap) (h : List LargeItem) (o : LargeOp) (r : LargeReply) : Type 0 where
+  pub settled : HostHeap
+  pub history : List LargeItem
+  pub settles : Settles x h settled history
+  pub acts : Acts settled y history o r
+
+-- An object was made, or refused as full: the heap settles, a pause that is due is made, and the operation is done.
+pub record Makes (x y : HostHeap) (h : List LargeItem) (o : LargeOp) (r : LargeReply) : Type 0 where
+  pub settled : HostHeap
+  pub settled_history : List LargeItem
+  pub settles : Settles x h settled settled_history
+  pub paused : HostHeap
+  pub paused_history : List LargeItem
+  pub pauses : PausesWhere (IsDue settled settled_history) false settled settled_history paused paused_history
+  pub acts : Acts paused y paused_history o r
+
+-- A pause was made that was asked for.
+pub record PausesAsked (x y : HostHeap) (h : List LargeItem) (collect : Bool) : Type 0 where
+  pub settled : HostHeap
+  pub history : List LargeItem
+  pub settles : Settles x h settled history
+  pub pauses : Pauses settled y history collect

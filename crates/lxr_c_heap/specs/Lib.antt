@@ -1,0 +1,6 @@
+pub mod Pacing
+pub mod Hosting
+pub mod Keeping
+pub mod Lending
+pub mod Calling
+pub mod Looking

@@ -1,0 +1,125 @@
+//! What the calls of a program do at its handle.
+ghost use Rattle.std.specs.Prelude.{◌≡◌, ◌↔◌, None, IsTrue, IfOk, IfSome};
+ghost use Rattle.lxr_c_base.specs.Requests.{IsMaking, IsQuiet, IsStoring};
+ghost use Rattle.lxr_c_heap.specs.Calling.{Asks, AsksPause, Closes, Opens, SetsPace};
+ghost use Rattle.lxr_c_heap.specs.Hosting.{AreSettings, IsOpened, IsServing, Makes, Replies, Stores};
+
+use crate::handle::Handle;
+use crate::host::HostHeap;
+use crate::pacing::Pace;
+use crate::settings::Settings;
+use lxr_c_base::Code;
+use lxr_large_model::{LargeOp, LargeReply};
+use std::alloc::Global;
+
+/// A heap in a box; none where there is no memory for it.
+fn boxed(alloc: Global, wanted: &Settings) -> Option<Box<HostHeap, Global>>
+    requires { AreSettings wanted.now }
+    ensures opened { IfSome result (λ b. IsOpened b.value wanted.now) }
+    ensures serving { IfSome result (λ b. IsServing b.value) }
+{
+    let Ok(heap) = HostHeap::open(alloc, wanted) else {
+        return None;
+    };
+    match Box::new(alloc, heap) {
+        Ok(heap) => Some(heap),
+        Err(_) => None,
+    }
+}
+
+impl Handle {
+    /// Opens a heap, on the condition that there is none.
+    fn fill(&mut self, alloc: Global, wanted: &Settings) -> Code
+        requires none { self.old.block.value ≡ None }
+        ensures { Opens None self.new.block.value wanted.now result }
+    {
+        if !wanted.fit() {
+            return Code::Size;
+        }
+        match boxed(alloc, wanted) {
+            None => Code::Memory,
+            Some(heap) => {
+                self.put(heap);
+                Code::Done
+            }
+        }
+    }
+
+    /// Opens a heap of these settings.
+    pub fn open(&mut self, alloc: Global, wanted: &Settings) -> Code
+        ensures { Opens self.old.block.value self.new.block.value wanted.now result }
+    {
+        if self.has_heap() {
+            return Code::InUse;
+        }
+        self.fill(alloc, wanted)
+    }
+
+    /// Closes the heap.
+    pub fn close(&mut self, alloc: Global) -> Code
+        ensures { Closes self.old.block.value self.new.block.value result }
+    {
+        match self.take(alloc) {
+            None => Code::NoHeap,
+            Some(heap) => {
+                drop(heap);
+                Code::Done
+            }
+        }
+    }
+
+    /// Does an operation that makes no object and stores no reference.
+    #[inline(always)]
+    pub fn reply(&mut self, request: Result<LargeOp, Code>) -> Result<LargeReply, Code>
+        requires { IfOk request IsQuiet }
+        ensures { Asks Replies self.old.block.value self.new.block.value request result }
+    {
+        self.found()?;
+        let op = request?;
+        Ok(self.block.lend().reply(op))
+    }
+
+    /// Stores a reference.
+    #[inline(always)]
+    pub fn store(&mut self, request: Result<LargeOp, Code>) -> Result<LargeReply, Code>
+        requires { IfOk request IsStoring }
+        ensures { Asks Stores self.old.block.value self.new.block.value request result }
+    {
+        self.found()?;
+        let op = request?;
+        Ok(self.block.lend().store(op))
+    }
+
+    /// Makes an object.
+    #[inline(always)]
+    pub fn make(&mut self, request: Result<LargeOp, Code>) -> Result<LargeReply, Code>
+        requires { IfOk request IsMaking }
+        ensures { Asks Makes self.old.block.value self.new.block.value request result }
+    {
+        self.found()?;
+        let op = request?;
+        Ok(self.block.lend().make(op))
+    }
+
+    /// Makes a pause.
+    pub fn pause(&mut self, collect: bool) -> Code
+        ensures { AsksPause self.old.block.value self.new.block.value collect result }
+    {
+        if !self.has_heap() {
+            return Code::NoHeap;
+        }
+        self.block.lend().pause_asked(collect);
+        Code::Done
+    }
+
+    /// Sets how many bytes of new objects are made between two pauses at most.
+    pub fn set_pace(&mut self, bytes: u64) -> Code
+        ensures { SetsPace self.old.block.value self.new.block.value bytes result }
+    {
+        if !self.has_heap() {
+            return Code::NoHeap;
+        }
+        self.block.lend().set_pace(Pace::of(bytes));
+        Code::Done
+    }
+}

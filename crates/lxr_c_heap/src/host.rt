@@ -1,0 +1,228 @@
+//! The heap of a program, with the pauses that it makes by itself.
+ghost use Rattle.std.specs.Prelude.{◌≡◌, ◌+◌, ◌-◌, ◌*◌, ◌^◌, ◌<◌, ◌≤◌, ◌↔◌, false, List, IsTrue, IfOk};
+ghost use Rattle.lxr_large_model.specs.History.{LargeItem};
+ghost use Rattle.lxr_heap.specs.Holding.{IsHeapOf};
+ghost use Rattle.lxr_heap.specs.Acting.{MayBeCalled, WantsNoPause};
+ghost use Rattle.lxr_c_heap.specs.Hosting.{Acts, AreSettings, HasRoom, IsAtEnd, IsDue, IsHostOf, IsOpened, IsServing, IsWithin, Makes, Pauses, PausesAsked, PausesWhere, Replies, SettlesAt, Stores};
+ghost use Rattle.lxr_c_heap.specs.Pacing.{bytes_by, limit_of};
+ghost use Rattle.lxr_c_base.specs.Requests.{IsMaking, IsQuiet, IsStoring};
+
+use crate::pacing::{Pace, bytes_of, is_reached};
+use crate::settings::Settings;
+use lxr_heap::LargeHeap;
+use lxr_large_model::{Acted, LargeOp, LargeReply};
+use std::alloc::{AllocError, Global};
+
+/// How many objects, and how many pauses, a heap makes before it is renewed: its names have serials, and its reports numbers, of 32 bits.
+#[derive(Clone, Copy, Debug, PartialEq, Eq)]
+pub struct Ends {
+    pub made: u32,
+    pub pauses: u32,
+}
+
+/// The ends of each heap: a call makes one object and two pauses at most, and there is room for these.
+pub const ENDS: Ends = Ends {
+    made: 4_294_967_000,
+    pauses: 4_294_967_000,
+};
+
+/// The heap of a program.
+#[derive(Drop)]
+pub struct HostHeap {
+    pub heap: LargeHeap,
+    /// When a plain pause is due before an object is made.
+    pub pace: Pace,
+    /// The bytes of new objects after which the next one is due.
+    pub limit: Option<u64>,
+    /// The bytes of the objects that were made since the last pause.
+    pub bytes: u64,
+    /// How many pauses were made since the heap was opened, modulo 2^64.
+    pub pauses: u64,
+}
+
+impl HostHeap {
+    /// A heap of these settings.
+    pub(crate) fn open(alloc: Global, wanted: &Settings) -> Result<HostHeap, AllocError>
+        requires { AreSettings wanted.now }
+        ensures opened { IfOk result (λ x. IsOpened x wanted.now) }
+        ensures serving { IfOk result IsServing }
+    {
+        let heap = LargeHeap::open(alloc, wanted.blocks, wanted.body_blocks)?;
+        let pace = Pace::of(wanted.pace);
+        Ok(HostHeap {
+            limit: pace.limit(&heap),
+            heap,
+            pace,
+            bytes: 0,
+            pauses: 0,
+        })
+    }
+
+    /// Makes a pause.
+    #[inline(never)]
+    pub(crate) fn pause(&mut self, collect: bool)
+        requires number { self.old.heap.space.pauses + 1 < 2 ^ 32 }
+        ensures { (h : List LargeItem) → IsHeapOf self.old.heap h → Pauses self.old self.new h collect }
+    {
+        self.heap.pause(collect);
+        self.limit = self.pace.limit(&self.heap);
+        self.bytes = 0;
+        self.pauses = self.pauses.wrapping_add(1);
+    }
+
+    /// Whether it has made as many objects, or as many pauses, as it makes before it is renewed.
+    #[inline(always)]
+    fn is_at_end(&self, ends: Ends) -> bool
+        ensures { IsTrue result ↔ IsAtEnd ends self.now }
+    {
+        self.heap.made() >= ends.made || self.heap.pauses() >= ends.pauses
+    }
+
+    /// Where it is at an end, collects and gives all objects that are left new names.
+    #[inline(always)]
+    pub(crate) fn settle(&mut self, ends: Ends)
+        requires serving { IsServing self.old }
+        requires ends { IsWithin ends }
+        ensures settled { (h : List LargeItem) → IsHeapOf self.old.heap h → (k : List LargeItem) × SettlesAt ends self.old h self.new k }
+        ensures room { HasRoom 2 3 self.new }
+    {
+        if !self.is_at_end(ends) {
+            return;
+        }
+        self.pause(true);
+        self.heap.renew();
+    }
+
+    /// Whether a pause is due before an object is made.
+    #[inline(always)]
+    fn is_due(&self) -> bool
+        ensures { (h : List LargeItem) → IsHostOf self.now h → IsTrue result ↔ IsDue self.now h }
+    {
+        is_reached(self.limit, self.bytes)
+    }
+
+    /// Makes a plain pause where one is due before an object is made.
+    #[inline(always)]
+    fn pause_if_due(&mut self)
+        requires room { HasRoom 2 3 self.old }
+        ensures pauses { (h : List LargeItem) → IsHostOf self.old h → (k : List LargeItem) × PausesWhere (IsDue self.old h) false self.old h self.new k }
+        ensures room { HasRoom 2 2 self.new }
+    {
+        if !self.is_due() {
+            return;
+        }
+        self.pause(false);
+    }
+
+    /// Counts the bytes of the object that an operation made, if it made one.
+    #[inline(always)]
+    fn count_bytes(&mut self, op: LargeOp, reply: LargeReply)
+        requires op { MayBeCalled op }
+        requires room { self.old.bytes + bytes_by op reply < 2 ^ 64 }
+        ensures { self.new ≡ record self.old { bytes = self.old.bytes + bytes_by op reply } }
+    {
+        self.bytes += bytes_of(op, reply);
+    }
+
+    /// Does an operation that needs no pause before it, since one was just made for it.
+    #[cold]
+    #[inline(never)]
+    fn act_behind(&mut self, op: LargeOp) -> LargeReply
+        requires made { self.old.heap.made < 2 ^ 32 - 1 }
+        requires bytes { self.old.bytes ≤ 8388608 * self.old.heap.made }
+        requires op { MayBeCalled op }
+        requires ready { ∥ ((h : List LargeItem) × WantsNoPause self.old.heap h op) ∥₁ }
+        ensures { (h : List LargeItem) → WantsNoPause self.old.heap h op → Replies self.old self.new h op result }
+    {
+        match self.heap.act(op) {
+            Acted::Replied(reply) => {
+                self.count_bytes(op, reply);
+                reply
+            }
+            Acted::Room | Acted::Log => unreachable!(),
+        }
+    }
+
+    /// Does an operation, behind the pause that it needs.
+    #[inline(always)]
+    fn act(&mut self, op: LargeOp) -> LargeReply
+        requires room { HasRoom 2 2 self.old }
+        requires op { MayBeCalled op }
+        ensures acts { (h : List LargeItem) → IsHeapOf self.old.heap h → Acts self.old self.new h op result }
+        ensures serving { IsServing self.new }
+    {
+        match self.heap.act(op) {
+            Acted::Replied(reply) => {
+                self.count_bytes(op, reply);
+                reply
+            }
+            Acted::Room => {
+                self.pause(true);
+                self.act_behind(op)
+            }
+            Acted::Log => {
+                self.pause(false);
+                self.act_behind(op)
+            }
+        }
+    }
+
+    /// Does an operation that makes no object and stores no reference.
+    #[inline(always)]
+    pub(crate) fn reply(&mut self, op: LargeOp) -> LargeReply
+        requires serving { IsServing self.old }
+        requires op { IsQuiet op }
+        ensures replies { (h : List LargeItem) → IsHeapOf self.old.heap h → Replies self.old self.new h op result }
+        ensures serving { IsServing self.new }
+    {
+        match self.heap.act(op) {
+            Acted::Replied(reply) => reply,
+            Acted::Room | Acted::Log => unreachable!(),
+        }
+    }
+
+    /// Stores a reference.
+    #[inline(always)]
+    pub(crate) fn store(&mut self, op: LargeOp) -> LargeReply
+        requires serving { IsServing self.old }
+        requires op { IsStoring op }
+        ensures stores { (h : List LargeItem) → IsHostOf self.old h → Stores self.old self.new h op result }
+        ensures serving { IsServing self.new }
+    {
+        self.settle(ENDS);
+        self.act(op)
+    }
+
+    /// Makes an object.
+    #[inline(always)]
+    pub(crate) fn make(&mut self, op: LargeOp) -> LargeReply
+        requires serving { IsServing self.old }
+        requires op { IsMaking op }
+        ensures makes { (h : List LargeItem) → IsHostOf self.old h → Makes self.old self.new h op result }
+        ensures serving { IsServing self.new }
+    {
+        self.settle(ENDS);
+        self.pause_if_due();
+        self.act(op)
+    }
+
+    /// Sets when plain pauses are due, from now on.
+    pub(crate) fn set_pace(&mut self, pace: Pace)
+        requires serving { IsServing self.old }
+        ensures set { self.new ≡ record self.old { pace = pace; limit = limit_of pace self.old.heap } }
+        ensures serving { IsServing self.new }
+    {
+        self.pace = pace;
+        self.limit = pace.limit(&self.heap);
+    }
+
+    /// Makes a pause that was asked for.
+    pub(crate) fn pause_asked(&mut self, collect: bool)
+        requires serving { IsServing self.old }
+        ensures pauses { (h : List LargeItem) → IsHostOf self.old h → PausesAsked self.old self.new h collect }
+        ensures serving { IsServing self.new }
+    {
+        self.settle(ENDS);
+        self.pause(collect);
+    }
+}

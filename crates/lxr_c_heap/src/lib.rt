@@ -1,0 +1,17 @@
+//! The heap for one thread behind a handle that a program in C holds: what each call does at it, with the pauses that the heap makes by itself.
+//!
+//! The heap stands in a block of its own, whose address the handle keeps, and is lent to each call.
+#![tactic(auto)]
+
+mod block;
+mod calls;
+mod counts;
+mod handle;
+mod host;
+mod looks;
+mod pacing;
+mod settings;
+
+pub use handle::Handle;
+pub use host::Ends;
+pub use settings::Settings;

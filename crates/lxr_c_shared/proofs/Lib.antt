@@ -1,0 +1,3 @@
+pub mod AsHeld
+pub mod HolderLemmas
+pub mod OpeningLemmas

@@ -1,0 +1,56 @@
+//! A heap that threads share, or a station, in a block of its own, by its address alone, so that a program in C can keep it.
+ghost use Rattle.std.specs.Prelude.{◌≡◌, None, Some, IsSome};
+ghost use Rattle.lxr_c_shared.specs.Holding.{held_owns, MayHold};
+
+use crate::owned::Owned;
+use lxr_c_base::Parts;
+use std::alloc::Global;
+use std::marker::Model;
+
+/// What is at an address, or nothing.
+#[repr(C)]
+#[derive(Drop)]
+pub struct Held {
+    ptr: *mut u8,
+    alloc: Global,
+    pub ghost value: { MayHold },
+}
+
+impl Model for Held {
+    ghost also_owns = { λ h. held_owns h.alloc h.ptr h.value };
+}
+
+impl Held {
+    /// Nothing.
+    pub(crate) fn empty(alloc: Global) -> Held
+        ensures { result.value ≡ None }
+    {
+        Held {
+            ptr: std::ptr::null_mut(),
+            alloc,
+        }
+    }
+
+    /// Keeps what is in a box.
+    pub(crate) fn of_parts(parts: Parts<Owned, Global>) -> Held
+        ensures { result.value ≡ Some parts.value }
+    {
+        let Parts { ptr, alloc } = parts;
+        Held {
+            ptr: ptr as *mut u8,
+            alloc,
+        }
+    }
+
+    /// Gives the box back, on the condition that there is one.
+    pub(crate) fn into_parts(self) -> Parts<Owned, Global>
+        requires { IsSome self.value }
+        ensures { self.value ≡ Some result.value }
+    {
+        let Held { ptr, alloc } = self;
+        Parts {
+            ptr: ptr as *mut Owned,
+            alloc,
+        }
+    }
+}

@@ -1,0 +1,376 @@
+//! What the calls of a program do at a station.
+ghost use Rattle.std.specs.Prelude.{◌≡◌, Some, Err, IfErr, IfOk};
+ghost use Rattle.lxr_shared_heap.specs.Heaps.{IsPassOf};
+ghost use Rattle.lxr_c_shared.specs.Holding.{At};
+ghost use Rattle.lxr_c_shared.specs.Passing.{Answers, AnswersPass, ClosesStation, ComesHome, HelpsBy, HelpsPass, IsNotSent, IsRefusal, IsSentBy, LetsOut, LetsOutOf, Operates, Orders, SeesWanted, SendsPass, is_post, not_out_code as is_not_out_code, only as is_only, told_by as is_told_by, told_going as is_told_going, told_newest as is_told_newest, word_of as is_word_of};
+
+use crate::holder::Holder;
+use crate::owned::Owned;
+use lxr_c_base::{Code, code_of};
+use lxr_graph::{Op, Reply};
+use lxr_large_model::LargeReply;
+use lxr_shared_heap::{Answer, Heap, NotOut, Station};
+use std::alloc::Global;
+use std::mem;
+
+/// What a call tells: its code, and a word, if there is one to tell.
+#[derive(Clone, Copy, Debug, PartialEq, Eq)]
+pub struct Told {
+    pub code: Code,
+    pub word: Option<u64>,
+}
+
+/// What a code tells alone.
+#[inline(always)]
+fn only(code: Code) -> Told
+    ensures { result ≡ is_only code }
+{
+    Told { code, word: None }
+}
+
+/// The word that a reply tells.
+#[inline(always)]
+fn word_of(reply: Reply) -> Option<u64>
+    ensures { result ≡ is_word_of reply }
+{
+    match reply {
+        Reply::Got(word) => Some(word),
+        Reply::Added(word) => Some(word),
+        Reply::Same(same) => Some(if same { 1 } else { 0 }),
+        _ => None,
+    }
+}
+
+/// What a reply tells.
+#[inline(always)]
+fn told_by(reply: Reply) -> Told
+    ensures { result ≡ is_told_by reply }
+{
+    Told {
+        code: code_of(LargeReply::Small(reply)),
+        word: word_of(reply),
+    }
+}
+
+/// What is told where an operation is gone on with that is open.
+fn told_going(reply: Option<Reply>) -> Told
+    ensures { result ≡ is_told_going reply }
+{
+    match reply {
+        Some(reply) => told_by(reply),
+        None => only(Code::Waits),
+    }
+}
+
+/// What is told of the newest reply.
+fn told_newest(reply: Option<Reply>) -> Told
+    ensures { result ≡ is_told_newest reply }
+{
+    match reply {
+        Some(reply) => told_by(reply),
+        None => only(Code::Nothing),
+    }
+}
+
+/// The code of why a pass is not let out.
+fn not_out_code(why: NotOut) -> Code
+    ensures { result ≡ is_not_out_code why }
+{
+    match why {
+        NotOut::NotRunning => Code::Epoch,
+        NotOut::Ended => Code::Ended,
+        NotOut::Lost => Code::Lost,
+        NotOut::NoSuch => Code::Number,
+        NotOut::Away => Code::Away,
+        NotOut::Memory(_) => Code::Memory,
+    }
+}
+
+/// Lets a pass out, or says why not.
+fn let_out(heap: &Heap, number: u32) -> Result<Station, Code>
+    ensures sent { IfOk result (λ station. IsPassOf heap.now.stage number station) }
+    ensures not { IfErr result (IsNotSent heap.now number) }
+{
+    match heap.let_out(number as usize) {
+        Ok(station) => Ok(station),
+        Err(why) => Err(not_out_code(why)),
+    }
+}
+
+/// A station in a box, with a pass that is let out.
+fn boxed_station(alloc: Global, heap: &Heap, number: u32) -> Result<Box<Owned, Global>, Code>
+    ensures sent { IfOk result (λ b. IsSentBy heap.now number b.value) }
+    ensures not { IfErr result (IsNotSent heap.now number) }
+{
+    let station = let_out(heap, number)?;
+    match Box::new(alloc, Owned::Away(station)) {
+        Ok(owned) => Ok(owned),
+        Err(_) => Err(Code::Memory),
+    }
+}
+
+/// Why a station refuses an operation of a thread.
+#[cold]
+fn refusal(station: &Station) -> Code
+    ensures { IsRefusal station.now.pass.actor result }
+{
+    if !station.is_mutator() {
+        return Code::Kind;
+    }
+    if station.is_open() {
+        Code::Busy
+    } else {
+        Code::UsedUp
+    }
+}
+
+/// Orders an operation.
+#[inline(always)]
+fn order(station: &mut Station, op: Op) -> Told
+    ensures { Orders station.old op station.new result }
+{
+    match station.operate(op) {
+        Answer::Done(reply) => told_by(reply),
+        Answer::Waits => only(Code::Waits),
+        Answer::Pause => only(Code::Held),
+        Answer::Ended => only(Code::Ended),
+        Answer::Refused => only(refusal(station)),
+    }
+}
+
+/// The newest reply, or that of the operation that is open, which goes on.
+fn answer(station: &mut Station) -> Told
+    ensures { AnswersPass station.old station.new result }
+{
+    if !station.is_mutator() {
+        return only(Code::Kind);
+    }
+    if station.is_open() {
+        return told_going(station.go_on());
+    }
+    told_newest(station.newest())
+}
+
+impl Owned {
+    /// Whether it is a station.
+    fn is_station(&self) -> bool
+        ensures { result ≡ is_post self.now }
+    {
+        !matches!(self, Owned::Shared(_))
+    }
+
+    /// Lets a pass of a heap out of its home, for this station.
+    fn send(&mut self, heap: &Heap, number: u32) -> Code
+        ensures { SendsPass heap.now number (Some self.old) (Some self.new) result }
+    {
+        match self {
+            Owned::Shared(_) => Code::InUse,
+            Owned::Away(_) => Code::InUse,
+            Owned::Home => match let_out(heap, number) {
+                Ok(station) => {
+                    *self = Owned::Away(station);
+                    Code::Done
+                }
+                Err(code) => code,
+            },
+        }
+    }
+
+    /// Lets the pass of a number out of its home, for a station.
+    fn let_out(&self, alloc: Global, number: u32, station: &mut Holder) -> Code
+        ensures { LetsOutOf number station.old.held.value station.new.held.value self.now result }
+    {
+        match self {
+            Owned::Shared(heap) => station.send(alloc, heap, number),
+            Owned::Home => Code::NoHeap,
+            Owned::Away(_) => Code::NoHeap,
+        }
+    }
+
+    /// Brings the pass home.
+    fn come_home(&mut self) -> Code
+        ensures { ComesHome self.old self.new result }
+    {
+        match mem::replace(self, Owned::Home) {
+            Owned::Away(station) => {
+                station.come_home();
+                Code::Done
+            }
+            Owned::Home => Code::Home,
+            Owned::Shared(heap) => {
+                *self = Owned::Shared(heap);
+                Code::NoHeap
+            }
+        }
+    }
+
+    /// Whether a pause is wanted.
+    fn wants_pause(&self) -> Result<bool, Code>
+        ensures { SeesWanted self.now self.now result }
+    {
+        match self {
+            Owned::Away(station) => Ok(station.wants_pause()),
+            Owned::Home => Err(Code::Home),
+            Owned::Shared(_) => Err(Code::NoHeap),
+        }
+    }
+
+    /// Does up to so many units of a helper; whether each found work.
+    fn help(&mut self, units: u32) -> Result<bool, Code>
+        ensures { HelpsBy units self.old self.new result }
+    {
+        match self {
+            Owned::Away(station) => help(station, units),
+            Owned::Home => Err(Code::Home),
+            Owned::Shared(_) => Err(Code::NoHeap),
+        }
+    }
+
+    /// Orders an operation.
+    #[inline(always)]
+    fn operate(&mut self, request: Result<Op, Code>) -> Told
+        ensures { Operates request self.old self.new result }
+    {
+        match self {
+            Owned::Away(station) => match request {
+                Ok(op) => order(station, op),
+                Err(code) => only(code),
+            },
+            Owned::Home => match request {
+                Ok(_) => only(Code::Home),
+                Err(code) => only(code),
+            },
+            Owned::Shared(_) => only(Code::NoHeap),
+        }
+    }
+
+    /// Answers with the newest reply, or goes on with the operation that is open.
+    fn answer(&mut self) -> Told
+        ensures { Answers self.old self.new result }
+    {
+        match self {
+            Owned::Away(station) => answer(station),
+            Owned::Home => only(Code::Home),
+            Owned::Shared(_) => only(Code::NoHeap),
+        }
+    }
+}
+
+/// Does up to so many units of a helper; whether each found work.
+fn help(station: &mut Station, units: u32) -> Result<bool, Code>
+    ensures { HelpsPass units station.old station.new result }
+{
+    if station.is_mutator() {
+        return Err(Code::Kind);
+    }
+    Ok(station.help(units))
+}
+
+impl Holder {
+    /// Lets a pass of a heap out of its home, for this station.
+    fn send(&mut self, alloc: Global, heap: &Heap, number: u32) -> Code
+        ensures { SendsPass heap.now number self.old.held.value self.new.held.value result }
+    {
+        if let Some(mut owned) = self.take(alloc) {
+            let code = owned.send(heap, number);
+            self.put(owned);
+            return code;
+        }
+        match boxed_station(alloc, heap, number) {
+            Ok(owned) => {
+                self.put(owned);
+                Code::Done
+            }
+            Err(code) => code,
+        }
+    }
+
+    /// Lets the pass of a number out of its home, for a station.
+    pub fn let_out(&mut self, alloc: Global, number: u32, station: &mut Holder) -> Code
+        ensures done { LetsOut number station.old.held.value station.new.held.value self.old.held.value result }
+        ensures kept { self.new.held.value ≡ self.old.held.value }
+    {
+        let Some(owned) = self.take(alloc) else {
+            return Code::NoHeap;
+        };
+        let code = owned.let_out(alloc, number, station);
+        self.put(owned);
+        code
+    }
+
+    /// Brings the pass home.
+    pub fn come_home(&mut self, alloc: Global) -> Code
+        ensures { At Code.NoHeap ComesHome self.old.held.value self.new.held.value result }
+    {
+        let Some(mut owned) = self.take(alloc) else {
+            return Code::NoHeap;
+        };
+        let code = owned.come_home();
+        self.put(owned);
+        code
+    }
+
+    /// Ends the station; its pass comes home.
+    pub fn close_station(&mut self, alloc: Global) -> Code
+        ensures { ClosesStation self.old.held.value self.new.held.value result }
+    {
+        let Some(owned) = self.take(alloc) else {
+            return Code::NoHeap;
+        };
+        if !owned.is_station() {
+            self.put(owned);
+            return Code::NoHeap;
+        }
+        drop(owned);
+        Code::Done
+    }
+
+    /// Whether a pause is wanted.
+    pub fn wants_pause(&mut self, alloc: Global) -> Result<bool, Code>
+        ensures { At (Err Code.NoHeap) SeesWanted self.old.held.value self.new.held.value result }
+    {
+        let Some(owned) = self.take(alloc) else {
+            return Err(Code::NoHeap);
+        };
+        let wants = owned.wants_pause();
+        self.put(owned);
+        wants
+    }
+
+    /// Does up to so many units of a helper; whether each found work.
+    pub fn help(&mut self, alloc: Global, units: u32) -> Result<bool, Code>
+        ensures { At (Err Code.NoHeap) (HelpsBy units) self.old.held.value self.new.held.value result }
+    {
+        let Some(mut owned) = self.take(alloc) else {
+            return Err(Code::NoHeap);
+        };
+        let more = owned.help(units);
+        self.put(owned);
+        more
+    }
+
+    /// Orders an operation.
+    #[inline(always)]
+    pub fn operate(&mut self, alloc: Global, request: Result<Op, Code>) -> Told
+        ensures { At (is_only Code.NoHeap) (Operates request) self.old.held.value self.new.held.value result }
+    {
+        let Some(mut owned) = self.take(alloc) else {
+            return only(Code::NoHeap);
+        };
+        let told = owned.operate(request);
+        self.put(owned);
+        told
+    }
+
+    /// Answers with the newest reply, or goes on with the operation that is open.
+    pub fn answer(&mut self, alloc: Global) -> Told
+        ensures { At (is_only Code.NoHeap) Answers self.old.held.value self.new.held.value result }
+    {
+        let Some(mut owned) = self.take(alloc) else {
+            return only(Code::NoHeap);
+        };
+        let told = owned.answer();
+        self.put(owned);
+        told
+    }
+}

@@ -1,0 +1,45 @@
+//! What a program in C says of a heap that threads share.
+ghost use Rattle.std.specs.Prelude.{◌≡◌};
+ghost use Rattle.lxr_c_shared.specs.Sharing.{settings_of as is_settings_of};
+
+use lxr_shared_heap::Settings;
+
+/// The bytes of the settings that are known.
+pub const WISHES_BYTES: u64 = 40;
+
+/// The settings of a heap, as `lxr_passes_settings` has them: first how many bytes they are.
+#[repr(C)]
+#[derive(Drop)]
+pub struct Wishes {
+    pub size: u64,
+    pub blocks: u32,
+    pub mutators: u32,
+    pub helpers: u32,
+    pub log: u32,
+    pub remember: u32,
+    pub every: u32,
+    pub trace: u32,
+    pub within: u32,
+}
+
+/// The settings of a heap that are wished for; none where their size isn't known, or there are more threads or helpers than any heap has.
+pub(crate) fn settings_of(wishes: &Wishes) -> Option<Settings>
+    ensures { result ≡ is_settings_of wishes.now }
+{
+    if wishes.size != WISHES_BYTES {
+        return None;
+    }
+    if wishes.mutators > 16 || wishes.helpers > 8 {
+        return None;
+    }
+    Some(Settings {
+        blocks: wishes.blocks,
+        mutators: wishes.mutators as u8,
+        helpers: wishes.helpers as u8,
+        log: wishes.log,
+        remember: wishes.remember,
+        every: wishes.every,
+        trace: wishes.trace,
+        within: wishes.within,
+    })
+}

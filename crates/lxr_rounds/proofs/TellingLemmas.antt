@@ -1,0 +1,69 @@
+-- A pause behind which counts are told is the pause that it was, and so is the run that made it. What is told is what the pause counted.
+use Rattle.std.proofs.Common.{◌≡◌, ℕ, sym, ap, subst, Bool, IsTrue, List}
+use Rattle.std.specs.Prelude.{Option}
+use Rattle.lxr_layout.specs.declared.Name.{Name}
+use Rattle.lxr_graph.specs.declared.report.Count.{Count}
+use Rattle.lxr_graph.specs.declared.report.Kind.{Kind}
+use Rattle.lxr_graph.specs.History.{HasToldCounts, Item, report_of}
+use Rattle.lxr_image.specs.declared.space.Space.{Space}
+use Rattle.lxr_model.specs.Moments.{Moment}
+use Rattle.lxr_model.specs.Reports.{is_draining}
+use Rattle.lxr_invariant.specs.AbstractState.{AbstractState, paused}
+use Rattle.lxr_invariant.specs.Quiescent.{HoldsMoment}
+use Rattle.lxr_pause_queue.specs.Counting.{ListsCounts}
+use Rattle.lxr_pause_queue.specs.Entries.{with_told}
+use Rattle.lxr_one_pause.specs.declared.Ask.{Ask}
+use Rattle.lxr_one_pause.specs.declared.Pace.{Pace}
+use Rattle.lxr_one_pause.specs.Pausing.{CanPause, Pauses}
+use Rattle.lxr_one_pause.proofs.TellingLemmas.{pauses_told, quiescent_told, safepoint_told, told_behind}
+use Rattle.lxr_sights.specs.Sights.{Sight}
+use Rattle.lxr_rounds_invariant.specs.LoopInvariant.{HasCome, IsPaused, Task}
+use Rattle.lxr_rounds.specs.Pausing.{MakesPause, with_logs_counted}
+
+-- ---- a run whose space tells of what is left
+
+pub come_told : (task : Task) (space : Space) (seen : Option (List Sight)) (h : List Item) (g : AbstractState) (told : List Count) → HasCome task space seen h g
+    → HasCome task (with_told space told) seen h g
+come_told task space seen h g told come = record {
+  history = come.history;
+  stands = come.stands;
+  safepoint = safepoint_told space g told come.safepoint;
+  limits = come.limits;
+  tally = come.tally;
+  evacuated = come.evacuated;
+  places = come.places;
+  sights = come.sights;
+  kept = come.kept;
+}
+
+module _ (before amid after : Space) (alone : after ≡ with_told amid after.report.told.items) where
+  -- it was told behind a pause that was made
+  pub makes_told : (asked : Ask) (pace : Pace) → MakesPause asked pace before amid → MakesPause asked pace before after
+  makes_told asked pace makes = λ g can.
+      let (at', pauses) = makes g can in
+      (at', subst (λ s. Pauses (with_logs_counted before) s g at' asked pace) (sym alone) (pauses_told (with_logs_counted before) amid g at' asked pace pauses after.report.told.items))
+
+  -- its run has paused so
+  pub paused_told : (task : Task) (seen : Option (List Sight)) (h : List Item) (asked : Ask) → IsPaused task amid seen h asked → IsPaused task after seen h asked
+  paused_told task seen h asked (report, g, is) =
+      subst (λ s. IsPaused task s seen h asked) (sym alone) (
+        report,
+        g,
+        record {
+          come = come_told task amid seen _ g after.report.told.items is.come;
+          between = quiescent_told amid g after.report.told.items is.between;
+          collects = is.collects;
+        },
+      )
+
+-- ---- what is told
+
+-- the counts of a pause that drained are told where they are wanted
+pub counts_told : (before amid after : Space) (g : AbstractState) (asked : Ask) (pace : Pace) (wants : Kind → Bool) → CanPause (with_logs_counted before) g → MakesPause asked pace before amid
+    → after ≡ with_told amid after.report.told.items → (IsTrue (wants amid.report.kind) → (m : Moment) (at : Name → ℕ) → HoldsMoment amid m at → ListsCounts amid after m at)
+    → IsTrue (wants after.report.kind) → IsTrue (is_draining after.report.kind) → HasToldCounts after.report
+counts_told before amid after g asked pace wants can makes alone tells wanted drains =
+    let (at', pauses) = makes g can in
+    let same : after.report.kind ≡ amid.report.kind = ap (λ (s : Space). s.report.kind) alone in
+    let left : Moment = (paused g at' (report_of amid.report)).moment in
+    told_behind (with_logs_counted before) amid g at' asked pace pauses (subst (λ k. IsTrue (is_draining k)) same drains) after (tells (subst (λ k. IsTrue (wants k)) same wanted) left at' pauses.between.safepoint.holds)

@@ -1,0 +1,103 @@
+//! What follows an epoch, until the next one may begin.
+ghost use Rattle.std.specs.Prelude.{◌≡◌, ◌↔◌, ◌||◌, IfErr, IfOk, IsTrue, OnOk};
+ghost use Rattle.std.specs.List.{All, list_any};
+ghost use Rattle.lxr_one_pause.specs.Deciding.{IsPace};
+ghost use Rattle.lxr_rounds_invariant.specs.LoopInvariant.{asked_by};
+ghost use Rattle.lxr_rounds.specs.Ending.{NoneGoesOn, actor_collected};
+ghost use Rattle.lxr_rounds.specs.Following.{CutsOffEach, FollowsEach, SomeHasRunEpoch};
+ghost use Rattle.lxr_rounds.specs.Observing.{Fails, Tells};
+
+use crate::observing::Observer;
+use crate::pauses::pause;
+use crate::serving::answer_waiting;
+use lxr_core::AnyActor;
+use lxr_image::Space;
+use lxr_mutator::MutEnd;
+use lxr_one_pause::{Ask, Pace};
+use lxr_placing::list_for_epoch;
+use lxr_sights::Watch;
+
+/// Whether the thread of an actor has done its end; a helper has none that goes on.
+fn has_ended(actor: &AnyActor) -> bool
+    ensures { IsTrue result ↔ NoneGoesOn actor.now }
+{
+    match actor {
+        AnyActor::Mutator(mutator) => matches!(mutator.ended(), Some(MutEnd::Ended)),
+        AnyActor::Decrementer(_) => true,
+        AnyActor::Tracer(_) => true,
+    }
+}
+
+/// Whether each thread has done its end.
+fn have_ended(actors: &[AnyActor]) -> bool
+    ensures { IsTrue result ↔ All NoneGoesOn actors.now }
+{
+    actors.iter().all(|actor| has_ended(actor))
+}
+
+/// Whether the thread of an actor has called `collect` in this epoch; a helper has none.
+fn has_collected(actor: &AnyActor) -> bool
+    ensures { result ≡ actor_collected actor.now }
+{
+    match actor {
+        AnyActor::Mutator(mutator) => mutator.has_collected(),
+        AnyActor::Decrementer(_) => false,
+        AnyActor::Tracer(_) => false,
+    }
+}
+
+/// Whether some thread has.
+fn have_collected(actors: &[AnyActor]) -> bool
+    ensures { result ≡ list_any actor_collected actors.now }
+{
+    actors.iter().any(|actor| has_collected(actor))
+}
+
+/// Whether the pause behind an epoch shall collect, by whether each thread has done its end: it shall where each has, or where
+/// some thread has called `collect`.
+fn shall_collect(actors: &[AnyActor], ended: bool) -> bool
+    ensures { result ≡ (ended || list_any actor_collected actors.now) }
+{
+    ended || have_collected(actors)
+}
+
+/// What a pause is asked for, by whether it shall collect.
+fn ask_of(collects: bool) -> Ask
+    ensures { result ≡ asked_by collects }
+{
+    if collects {
+        Ask::Collect
+    } else {
+        Ask::Ordinary
+    }
+}
+
+/// Makes the pause behind an epoch, at which the watch looks right before and right after it, and of whose report the observer is told.
+/// Where not all threads have ended, waiting `new`s are served or refused, with more pauses where they need room, and free lines and
+/// blocks are listed for the next epoch. Whether all have. It takes no memory, and fails where the observer does.
+pub fn follow_epoch<W: Watch, S, O: Observer<S>>(
+    space: &mut Space,
+    actors: &mut Vec<AnyActor>,
+    pace: Pace,
+    watch: &mut W,
+    observer: &mut O,
+    output: &mut S,
+) -> Result<bool, O::Error>
+    requires pace { IsPace pace }
+    requires ran { SomeHasRunEpoch pace space.old (W.seen watch.old) actors.old.items }
+    requires room { O.has_room observer.old space.old.pauses }
+    ensures ok { IfOk result (λ ended. FollowsEach (λ h h'. Tells O.began O.served O.told observer.old output.old h observer.new output.new h') pace space.old (W.seen watch.old) actors.old.items space.new (W.seen watch.new) actors.new.items ended) }
+    ensures room { OnOk result (O.has_room observer.new space.new.pauses) }
+    ensures err { IfErr result (λ why. CutsOffEach (λ h k report. Fails O.began O.served O.told O.failed observer.old output.old h why output.new k report) pace space.old (W.seen watch.old) actors.old.items space.new (W.seen watch.new)) }
+{
+    let ended = have_ended(actors);
+    let collects = shall_collect(actors, ended);
+    let ask = ask_of(collects);
+    pause(space, ask, pace, watch, observer, output)?;
+    if ended {
+        return Ok(true);
+    }
+    answer_waiting(space, actors, collects, pace, watch, observer, output)?;
+    list_for_epoch(space);
+    Ok(false)
+}

@@ -1,0 +1,22 @@
+//! The counts of a pause, told where an observer wants them.
+ghost use Rattle.std.specs.Prelude.{◌≡◌, ℕ, IsTrue};
+ghost use Rattle.lxr_layout.specs.declared.Name.{Name};
+ghost use Rattle.lxr_model.specs.Moments.{Moment};
+ghost use Rattle.lxr_invariant.specs.Quiescent.{HoldsMoment};
+ghost use Rattle.lxr_pause_queue.specs.Counting.{ListsCounts};
+ghost use Rattle.lxr_pause_queue.specs.Entries.{with_told};
+
+use crate::observing::Observer;
+use lxr_image::Space;
+use lxr_pause_queue::tell_counts;
+
+/// Lists the counts of the pause that was just made, where the observer wants them. It takes no memory.
+pub(crate) fn tell_where_wanted<S, O: Observer<S>>(space: &mut Space, observer: &O)
+    requires { (m : Moment) × (at : Name → ℕ) × HoldsMoment space.old m at }
+    ensures told { IsTrue (O.wants observer.now space.old.report.kind) → (m : Moment) (at : Name → ℕ) → HoldsMoment space.old m at → ListsCounts space.old space.new m at }
+    ensures rest { space.new ≡ with_told space.old space.new.report.told.items }
+{
+    if observer.wants_counts(space.report.kind) {
+        tell_counts(space);
+    }
+}

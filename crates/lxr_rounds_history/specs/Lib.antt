@@ -1,0 +1,6 @@
+pub mod Plan
+pub mod Tally
+pub mod Histories
+pub mod Left
+pub mod Sights
+pub mod Growing

@@ -1,0 +1,11 @@
+pub mod ActorLemmas
+pub mod KindLemmas
+pub mod EvacuatedLemmas
+pub mod PauseLemmas
+pub mod ServingLemmas
+pub mod TurnLemmas
+pub mod AnsweringLemmas
+pub mod EpochLemmas
+pub mod EndLemmas
+pub mod OpeningLemmas
+pub mod RenewingLemmas

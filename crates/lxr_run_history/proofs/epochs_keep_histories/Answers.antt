@@ -1,5 +1,0 @@
-use Rattle.lxr_run_history.proofs.HistoryLemmas.{history_extends}
-use Rattle.lxr_run_history.proofs.epochs_keep_histories.Goals as goal
-
-pub returns : goal.returns
-returns c = history_extends

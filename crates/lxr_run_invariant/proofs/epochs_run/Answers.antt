@@ -1,5 +1,0 @@
-use Rattle.lxr_run_invariant.proofs.EpochLemmas.{epochs_run}
-use Rattle.lxr_run_invariant.proofs.epochs_run.Goals as goal
-
-pub returns : goal.returns
-returns c = epochs_run

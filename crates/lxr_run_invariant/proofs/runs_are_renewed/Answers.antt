@@ -1,5 +1,0 @@
-use Rattle.lxr_run_invariant.proofs.RenewingLemmas.{runs_renewed}
-use Rattle.lxr_run_invariant.proofs.runs_are_renewed.Goals as goal
-
-pub returns : goal.returns
-returns c = runs_renewed
